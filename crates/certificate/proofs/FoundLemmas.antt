@@ -15,22 +15,18 @@ use Rattle.certificate.specs.Found.{newest_first, starts, from_place, all_said, 
 use Rattle.certificate.proofs.TextLemmas.{newest_both}
 use Rattle.certificate.proofs.GatherLemmas.{Follow, follows}
 
+picked : {X : Type 0} (b : Bool) (x : X) (xs ys zs : List X) → xs ≡ ys ++ zs → (if b then xs else x ∷ xs) ≡ (if b then ys else x ∷ ys) ++ zs
+picked true x xs ys zs e = e
+picked {X} false x xs ys zs e = ap (λ (l : List X). x ∷ l) e
+
 pub heads_more : (ls ms : List Line) → heads (ls ++ ms) ≡ heads ls ++ heads ms
 heads_more [] ms = refl
-heads_more (l ∷ ls) ms = pick (is_detail l) (heads (ls ++ ms)) (heads ls) (heads ms) (heads_more ls ms)
-  where
-    pick : (b : Bool) (xs ys zs : List Line) → xs ≡ ys ++ zs → (if b then xs else l ∷ xs) ≡ (if b then ys else l ∷ ys) ++ zs
-    pick true xs ys zs e = e
-    pick false xs ys zs e = ap (λ (x : List Line). l ∷ x) e
+heads_more (l ∷ ls) ms = picked (is_detail l) l (heads (ls ++ ms)) (heads ls) (heads ms) (heads_more ls ms)
 
 pub starts_both : (n m : ℕ) (ls ms : List Line) → m ≡ n + length ls → starts n (ls ++ ms) ≡ starts n ls ++ starts m ms
 starts_both n m [] ms e = let z : n ≡ m = omega arith in rw z refl
 starts_both n m (k ∷ ls) ms e =
-    pick (is_detail k) (starts (n + 1) (ls ++ ms)) (starts (n + 1) ls) (starts m ms) (starts_both (n + 1) m ls ms (omega arith))
-  where
-    pick : (b : Bool) (xs ys zs : List ℕ) → xs ≡ ys ++ zs → (if b then xs else n ∷ xs) ≡ (if b then ys else n ∷ ys) ++ zs
-    pick true xs ys zs e = e
-    pick false xs ys zs e = ap (λ (x : List ℕ). n ∷ x) e
+    picked (is_detail k) n (starts (n + 1) (ls ++ ms)) (starts (n + 1) ls) (starts m ms) (starts_both (n + 1) m ls ms (omega arith))
 
 starts_count : (n : ℕ) (ls : List Line) → length (starts n ls) ≡ length (map place (heads ls))
 starts_count n [] = refl
@@ -238,8 +234,7 @@ sought_none k xs p i r same is found_by h rise =
       | inr a ↦ (let z : p < get_or k.places.items j 0 = n.2 j a b in omega arith)
     ])
 
--- The place of a search is between two numbers where the first one was found, and is before the other.
--- Where it wasn't found, the line at which it would stand is before the other.
+-- A place is between two numbers, of which the first one wasn't found, where the line at which it would stand is before the other.
 pub between_missed : (xs places : List ℕ) (first end i : ℕ) (r : Result ℕ ℕ) → xs ≡ places → r ≡ Err i →
     IsBinarySearchResult (λ y. nat_cmp y first) xs r → RiseFrom 0 places → ((i < length places) × (get_or places i 0 < end)) ↔ HasBetween places first end
 between_missed xs places first end i r same is found_by rise =
@@ -253,8 +248,7 @@ between_missed xs places first end i r same is found_by rise =
           (let t = h.there in omega arith, let w = h.before in omega arith),
     )
 
--- A place that was found is the next one from itself on.
--- Where it wasn't found, that of the line at which it would stand is.
+-- From a place on that wasn't found the next one is that of the line at which it would stand.
 pub next_missed : (xs places : List ℕ) (from i : ℕ) (r : Result ℕ ℕ) → xs ≡ places → r ≡ Err i →
     IsBinarySearchResult (λ y. nat_cmp y from) xs r → RiseFrom 0 places → from ≤ 40960 →
     (i < length places → IsNextPlace places from (get_or places i 0)) × (length places ≤ i → IsNextPlace places from 40960)

@@ -196,24 +196,19 @@ none_added v k new w e i = record {
 }
 
 -- The lists of places and of where they stand, with a line more and its details.
-pub indexed_more : {A : Type 0} (k new : KeptLines A) (head : Line) (cs : List TrackedCell) (es : List Equation) → is_detail head ≡ false → IsIndexed k →
-    all_said new ≡ all_said k ++ (head ∷ (map CellIs cs ++ map EquationIs es)) → new.places.items ≡ k.places.items ++ place head ∷ [] →
-    new.starts.items ≡ k.starts.items ++ length (all_said k) ∷ [] → IsIndexed new
-indexed_more k new head cs es d h e p s = record {
-  places = p ∙ rw (h.places, e, heads_more (all_said k) (head ∷ (map CellIs cs ++ map EquationIs es)), d, no_heads cs es)
+pub index_more : {A : Type 0} (k new : KeptLines A) (head : Line) (cs : List TrackedCell) (es : List Equation) → is_detail head ≡ false →
+    IsIndexed k → HasMore k new head cs es → IsIndexed new
+index_more k new head cs es d h m = record {
+  places = m.places ∙ rw (h.places, m.lines, heads_more (all_said k) (head ∷ (map CellIs cs ++ map EquationIs es)), d, no_heads cs es)
       (sym (map_push place (heads (all_said k)) head));
-  starts = s ∙ rw (
+  starts = m.starts ∙ rw (
     h.starts,
-    e,
+    m.lines,
     starts_both 0 (length (all_said k)) (all_said k) (head ∷ (map CellIs cs ++ map EquationIs es)) (omega arith),
     d,
     no_starts (length (all_said k) + 1) cs es,
   ) refl;
 }
-
-pub index_more : {A : Type 0} (k new : KeptLines A) (head : Line) (cs : List TrackedCell) (es : List Equation) → is_detail head ≡ false →
-    IsIndexed k → HasMore k new head cs es → IsIndexed new
-index_more k new head cs es d h m = indexed_more k new head cs es d h m.lines m.places m.starts
 
 -- What follows where a call succeeded.
 pub on_ok : {X E : Type 0} (r : Result X E) (P Q : Type 0) → (P → Q) → OnOk r P → OnOk r Q
@@ -224,7 +219,7 @@ on_ok (Err e) P Q to h = tt
 pub begins_both : {X : Type 0} (xs ys zs : List X) → Begins xs ys → Begins ys zs → Begins xs zs
 begins_both xs ys zs a b = (a.0 ++ b.0, b.1 ∙ (ap (λ l. l ++ b.0) a.1 ∙ append_assoc xs a.0 b.0))
 
--- The same in version 2.
+-- Lines in order are so in version 2 too.
 fits_two : (v : Version) (mq : Words) → FitsVersion v mq → FitsVersion Two mq
 fits_two One mq h = some_from 4096 mq 0 (omega arith) (h 0 (omega arith))
 fits_two Two mq h = h

@@ -1,6 +1,7 @@
 -- Two ways to read one text go through the same lines.
 use Rattle.std.proofs.Common.{◌≡◌, ◌⊎◌, ℕ, suc, ◌+◌, ◌-◌, ◌<◌, ◌≤◌, Bool, true, false, List, [], ◌∷◌, ◌++◌, length, refl, ap, ◌∙◌, sym, subst, inl, inr, arith, append_assoc, append-nil, length-append}
 use Rattle.std.specs.Prelude.{if◌then◌else◌, take}
+use Rattle.std.proofs.Math.Seq.{take-append-add}
 use Rattle.std.proofs.lemmas.Bool.{true≢false, false≢true}
 use Rattle.certificate.specs.declared.Version.{Version}
 use Rattle.certificate.specs.declared.Version.TheVariants.{One, Two}
@@ -335,12 +336,6 @@ cut_cut bytes n m f g =
     let b : m ≡ length g.lines.before + 2 = g.number in omega arith
 
 -- The bytes that are read have the line too.
-take_past : (a b : List ℕ) (k : ℕ) → take (length a + k) (a ++ b) ≡ a ++ take k b
-take_past [] b k = let e : 0 + k ≡ k = omega arith in ap (λ i. take i b) e
-take_past (x ∷ xs) b k =
-    let e : suc (length xs) + k ≡ suc (length xs + k) = omega arith in
-    ap (λ i. take i (x ∷ (xs ++ b))) e ∙ ap (λ (z : List ℕ). x ∷ z) (take_past xs b k)
-
 line_taken : (bytes whole line : List ℕ) → HasLine bytes whole line → HasLine (take most_bytes bytes) whole line
 line_taken bytes whole line h =
     let w : length whole + length line < most_bytes = h.within in
@@ -353,7 +348,7 @@ line_taken bytes whole line h =
       split =
           ap (λ (x : List ℕ). take most_bytes x) (h.split ∙ seam (whole ++ line) h.rest) ∙
           (ap (λ i. take i (whole ++ line ++ 10 ∷ [] ++ h.rest)) e ∙
-          (take_past (whole ++ line ++ 10 ∷ []) h.rest (most_bytes - (length whole + length line + 1)) ∙
+          (take-append-add (whole ++ line ++ 10 ∷ []) h.rest (most_bytes - (length whole + length line + 1)) ∙
           sym (seam (whole ++ line) (take (most_bytes - (length whole + length line + 1)) h.rest))));
       feed = h.feed;
       within = h.within;

@@ -53,7 +53,6 @@ kept_parts new_kept text line new_text new_line bytes new long p e a b c d h = r
 pub was_read : {A : Type 0} (p : Parser A) (bytes : List ℕ) → Seen p bytes → WasRead p.progress p.kept
 was_read p bytes s = record { text = s.text; read = s.parts.read }
 
--- Before the first byte.
 -- The line so far, where it isn't too long.
 line_split : {A : Type 0} (kept : KeptLines A) (text line bytes : List ℕ) (progress : Option Progress) → (h : Parts text kept progress line false bytes) → bytes ≡ text ++ line
 line_split kept text line bytes progress h = rw (h.same refl) h.split
@@ -193,6 +192,18 @@ long_refused kept text line bytes old p long n is e h small number =
     g : Reached p text kept
     g = let z : HasRead (Some p) text kept = rw is at h.read in z
 
+-- The lines that were read, and the bytes after them.
+abbrev pub rest_of : {A : Type 0} (kept : KeptLines A) (text line bytes : List ℕ) (long : Bool) (p : Progress) →
+    Parts text kept (Some p) line long bytes → HasRest bytes
+rest_of kept text line bytes long p h = record {
+  version = p.version;
+  before = h.read.before;
+  order = h.read.order;
+  rest = h.tail;
+  split = h.split ∙ ap (λ (x : List ℕ). x ++ h.tail) h.read.is;
+  feed = h.feed;
+}
+
 -- Bytes more of which none is a line feed.
 pub added : {A : Type 0} (kept : KeptLines A) (text line new_line bytes piece : List ℕ) (progress : Option Progress) (long : Bool) → Parts text kept progress line long bytes →
     NoFeed piece → new_line ≡ line ++ piece → Parts text kept progress new_line long (bytes ++ piece)
@@ -243,14 +254,7 @@ one_too_many kept text line bytes progress long b count h most e =
   where
     whole : (o : Option Progress) → Parts text kept o line long bytes → NoFeed bytes ⊎ HasRest bytes
     whole None h = inl (let z : text ≡ [] = h.read.0 in let w : bytes ≡ h.tail = h.split ∙ rw z refl in rw w h.feed)
-    whole (Some p) h = inr (record {
-      version = p.version;
-      before = h.read.before;
-      order = h.read.order;
-      rest = h.tail;
-      split = h.split ∙ ap (λ (x : List ℕ). x ++ h.tail) h.read.is;
-      feed = h.feed;
-    })
+    whole (Some p) h = inr (rest_of kept text line bytes long p h)
 
 pub is_full : (n most : ℕ) → true ≡ (n == most) → most ≤ n
 is_full n most e = let z : n ≡ most = eqb-true n most (sym e) in omega arith
@@ -260,25 +264,18 @@ pub cut : {A : Type 0} (kept : KeptLines A) (text line bytes : List ℕ) (long :
     length bytes ≤ most_bytes → n ≡ p.number →
     ((before : List Line) → Tracks p before → any is_end before ≡ true → long ≡ false → line ≡ [] → ⊥) → IsCut bytes n
 cut kept text line bytes long o p n is h few number lacks = record {
-  lines = record {
-    version = p.version;
-    before = g.before;
-    order = g.order;
-    rest = h.tail;
-    split = h.split ∙ ap (λ (x : List ℕ). x ++ h.tail) g.is;
-    feed = h.feed;
-  };
+  lines = rest_of kept text line bytes long p k;
   few = few;
-  number = number ∙ g.tracks.number;
-  lacks = λ ended none. go long refl none (λ q e. lacks g.before g.tracks ended q e);
+  number = number ∙ k.read.tracks.number;
+  lacks = λ ended none. go long refl none (λ q e. lacks k.read.before k.read.tracks ended q e);
 }
   where
-    g : Reached p text kept
-    g = let z : HasRead (Some p) text kept = rw is at h.read in z
+    k : Parts text kept (Some p) line long bytes
+    k = rw is at h
 
-    go : (c : Bool) → long ≡ c → h.tail ≡ [] → (long ≡ false → line ≡ [] → ⊥) → ⊥
-    go false q none lacks = lacks q (h.same q ∙ none)
-    go true q none lacks = let a : 32768 < length h.tail = h.long q in let b : length h.tail ≡ 0 = ap length none in omega arith
+    go : (c : Bool) → long ≡ c → k.tail ≡ [] → (long ≡ false → line ≡ [] → ⊥) → ⊥
+    go false q none lacks = lacks q (k.same q ∙ none)
+    go true q none lacks = let a : 32768 < length k.tail = k.long q in let b : length k.tail ≡ 0 = ap length none in omega arith
 
 pub not_empty : (line : List ℕ) → false ≡ (length line == 0) → line ≡ [] → ⊥
 not_empty line e f = true≢false (sym (eq-eqb (length line) 0 (ap length f)) ∙ sym e)

@@ -108,31 +108,23 @@ no_exit v (x ∷ xs) e p h g =
     go true i = i
     go false i = i
 
+fits_picked : (d : Bool) (xs ys : List Line) → FitUnderFirst xs → FitUnderFirst ys → FitUnderFirst (if d then xs else ys)
+fits_picked true xs ys f g = f
+fits_picked false xs ys f g = g
+
 fits_first : (v : Version) (ls : List Line) (p : ℕ) → Each (IsFactLine v) (facts_of ls) → Each (IsExit v) (exits_of ls) →
     FitUnderFirst (from_place p ls)
 fits_first v [] p f x = tt
-fits_first v (RoutineIs r ∷ ls) p f x = go (r.entry == p) (fits_first v ls p f x)
-  where
-    go : (d : Bool) → FitUnderFirst (from_place p ls) → FitUnderFirst (if d then RoutineIs r ∷ ls else from_place p ls)
-    go true i = tt
-    go false i = i
-fits_first v (FactIs a r m ∷ ls) p f x = go (4096 + a == p) (fits_first v ls p f.1 x)
-  where
-    go : (d : Bool) → FitUnderFirst (from_place p ls) → FitUnderFirst (if d then FactIs a r m ∷ ls else from_place p ls)
-    go true i = (f.0.statement.few_cells, f.0.statement.few_equations)
-    go false i = i
-fits_first v (ExitIs e o r ∷ ls) p f x = go (8192 + (8 * e + o) == p) (fits_first v ls p f x.1)
-  where
-    go : (d : Bool) → FitUnderFirst (from_place p ls) → FitUnderFirst (if d then ExitIs e o r ∷ ls else from_place p ls)
-    go true i = (x.0.statement.few_cells, x.0.statement.few_equations)
-    go false i = i
+fits_first v (RoutineIs r ∷ ls) p f x = fits_picked (r.entry == p) (RoutineIs r ∷ ls) (from_place p ls) tt (fits_first v ls p f x)
+fits_first v (FactIs a r m ∷ ls) p f x =
+    fits_picked (4096 + a == p) (FactIs a r m ∷ ls) (from_place p ls) (f.0.statement.few_cells, f.0.statement.few_equations)
+    (fits_first v ls p f.1 x)
+fits_first v (ExitIs e o r ∷ ls) p f x =
+    fits_picked (8192 + (8 * e + o) == p) (ExitIs e o r ∷ ls) (from_place p ls) (x.0.statement.few_cells, x.0.statement.few_equations)
+    (fits_first v ls p f x.1)
 fits_first v (CellIs c ∷ ls) p f x = fits_first v ls p f x
 fits_first v (EquationIs q ∷ ls) p f x = fits_first v ls p f x
-fits_first v (End ∷ ls) p f x = go (40960 == p) (fits_first v ls p f x)
-  where
-    go : (d : Bool) → FitUnderFirst (from_place p ls) → FitUnderFirst (if d then End ∷ ls else from_place p ls)
-    go true i = tt
-    go false i = i
+fits_first v (End ∷ ls) p f x = fits_picked (40960 == p) (End ∷ ls) (from_place p ls) tt (fits_first v ls p f x)
 
 -- What follows for an answer.
 pub told : {X : Type 0} (o : Option X) (P Q : X → Type 0) → ((x : X) → P x → Q x) → IfSome o P → IfSome o Q

@@ -21,6 +21,7 @@ use Rattle.certificate.specs.Serving.{Settles, IsUnanswered, is_read_fault, fail
 use Rattle.certificate.specs.Served.{CameTo, IsAnswered, Serves}
 use Rattle.certificate.proofs.OneLineLemmas.{no_feed_both, feed_taken}
 use Rattle.certificate.proofs.OneFaultLemmas.{no_fault, one_fault}
+use Rattle.certificate.proofs.ParserLemmas.{rest_of}
 
 -- Bytes with no line feed.
 zeros_feed : (n : ℕ) → NoFeed (replicate n 0)
@@ -91,22 +92,12 @@ module _ {A : Type 0} (kept : KeptLines A) (text line bytes : List ℕ) (long : 
   other_end : (p : Progress) → Parts text kept (Some p) line long bytes → length bytes ≤ most_bytes → HasFault bytes faults.TooMany → ⊥
   other_end p h few most = go h.tail (any is_end h.read.before) refl refl
     where
-      whole : HasRest bytes
-      whole = record {
-        version = p.version;
-        before = h.read.before;
-        order = h.read.order;
-        rest = h.tail;
-        split = h.split ∙ ap (λ (x : List ℕ). x ++ h.tail) h.read.is;
-        feed = h.feed;
-      }
-
       other : faults.BadLine (length h.read.before + 2) ≡ faults.TooMany → ⊥
       other e = cc
 
       lacking : (any is_end h.read.before ≡ true → h.tail ≡ [] → ⊥) → ⊥
       lacking lacks = other (one_fault bytes (faults.BadLine (length h.read.before + 2)) faults.TooMany
-          (inr (record { lines = whole; few = few; number = refl; lacks = lacks })) most)
+          (inr (record { lines = rest_of kept text line bytes long p h; few = few; number = refl; lacks = lacks })) most)
 
       go : (tail : List ℕ) (ended : Bool) → h.tail ≡ tail → any is_end h.read.before ≡ ended → ⊥
       go tail false e f = lacking (λ g none. true≢false (sym g ∙ f))

@@ -58,7 +58,7 @@ returns-in-Err-take_all g c =
     let front : List ℕ = take c.in-Ok.count c.read.new.piece in
     let is : length front ≡ c.in-Ok.count = length-take-le c.in-Ok.count c.read.new.piece within in
     let seen = c.in-Err-take_all.ensures.seen came.given came.seen came.count in
-    let refused = rw (take-append-le c.in-Ok.count c.read.new.piece _ within) at seen in
+    let refused = rw (take-append-le c.in-Ok.count c.read.new.piece (drop c.min-room.result c.loop-parser.piece) within) at seen in
     let unmarked : g.R.ByteSource.mark c.read.new.self ≡ false = search (rules, c.loop-parser.invariant.unmarked, c.in-Ok.ensures.marks) in
     record {
       serves = serve_refused _ _ _ c.loop-parser.parser front came c.in-Ok.ensures.bytes.0 c.in-Err-take_all.fault

@@ -10,8 +10,8 @@ use Rattle.certificate.specs.declared.Version.{Version}
 use Rattle.certificate.specs.declared.lines.KeptLines.{KeptLines}
 use Rattle.certificate.specs.Reading.{RiseFrom}
 use Rattle.certificate.specs.Line.{Line, RoutineIs, FactIs, ExitIs, CellIs, EquationIs, End}
-use Rattle.certificate.specs.Order.{is_detail, is_end, heads, place, next_place, AreInOrder}
-use Rattle.certificate.specs.Found.{newest_first, starts, from_place, all_said, IsIndexed, HasBetween, IsNextPlace, Keeps, unended}
+use Rattle.certificate.specs.Order.{is_detail, is_end, heads, place, next_place}
+use Rattle.certificate.specs.Found.{newest_first, starts, from_place, all_said, IsIndexed, IsWhole, HasBetween, IsNextPlace, Keeps, unended}
 use Rattle.certificate.proofs.TextLemmas.{newest_both}
 use Rattle.certificate.proofs.GatherLemmas.{Follow, follows}
 
@@ -192,9 +192,8 @@ places_rise v before (End ∷ ls) low f h = (
   places_rise v (End ∷ before) ls (40960 + 1) f.2 (omega arith),
 )
 
-pub places_of_order : {A : Type 0} (v : Version) (k : KeptLines A) → IsIndexed k → AreInOrder v (newest_first [] (all_said k)) →
-    RiseFrom 0 k.places.items
-places_of_order v k h o = rw h.places (places_rise v [] (all_said k) 0 (follows v [] (all_said k) o) (omega arith))
+pub places_of_order : {A : Type 0} (v : Version) (k : KeptLines A) → IsWhole v k → RiseFrom 0 k.places.items
+places_of_order v k w = rw w.indexed.places (places_rise v [] (all_said k) 0 (follows v [] (all_said k) w.order) (omega arith))
 
 -- What a search among the places answers.
 abbrev Hit : List ℕ → ℕ → ℕ → Type 0

@@ -1,6 +1,6 @@
 -- A certificate's text taken byte by byte.
-use Rattle.std.proofs.Common.{◌≡◌, ◌⊎◌, ℕ, ◌+◌, ◌<◌, ◌≤◌, ◌==◌, Bool, true, false, List, [], ◌∷◌, ◌++◌, length, Option, Some, None, Result, Ok, Err, refl, ap, ◌∙◌, sym, subst, inl, inr, arith, append_assoc, append-nil, length-append}
-use Rattle.std.specs.Prelude.{not, ◌&&◌, ◌||◌, MatchResult, take}
+use Rattle.std.proofs.Common.{◌≡◌, ◌⊎◌, ℕ, ◌+◌, ◌<◌, ◌≤◌, ◌==◌, Bool, true, false, List, [], ◌∷◌, ◌++◌, length, Option, Some, None, refl, ap, ◌∙◌, sym, subst, inl, inr, arith, append_assoc, append-nil, length-append}
+use Rattle.std.specs.Prelude.{not, ◌&&◌, ◌||◌, take}
 use Rattle.std.proofs.lemmas.Bool.{true≢false, eqb-true, eq-eqb, cases_lt}
 use Rattle.std.proofs.Math.Seq.{take-append_seam}
 use Rattle.certificate.specs.declared.Version.{Version}
@@ -29,24 +29,20 @@ long_bad v before bytes h l spells stands =
     let a : length (line_text v l) ≤ 32768 = line_short v l in
     let b : length bytes ≡ length (line_text v l) = ap length spells.1 in omega arith
 
--- What a call that keeps a line answers.
-abbrev pub Kept : Result Unit CertificateFault → List ℕ → List ℕ → Option Progress → List ℕ → List ℕ → Option Progress → Bool → Progress → Type 0
-Kept r text line old new_text new_line new long p =
-    MatchResult r
-    (λ u. (new_text ≡ text ++ line ++ 10 ∷ []) × (new_line ≡ []) × (new ≡ Some p) × (long ≡ false))
-    (λ e. ⊥)
+-- What a call that keeps a line leaves.
+abbrev pub Kept : List ℕ → List ℕ → List ℕ → List ℕ → Option Progress → Bool → Progress → Type 0
+Kept text line new_text new_line new long p = (new_text ≡ text ++ line ++ 10 ∷ []) × (new_line ≡ []) × (new ≡ Some p) × (long ≡ false)
 
--- After a line was kept.
 kept_parts : {A : Type 0} (new_kept : KeptLines A) (text line new_text new_line bytes : List ℕ) (new : Option Progress) (long : Bool) (p : Progress) →
-    bytes ≡ text ++ line → new_text ≡ text ++ line ++ 10 ∷ [] → new_line ≡ [] → new ≡ Some p → long ≡ false →
-    Reached p new_text new_kept → Parts new_text new_kept new new_line long (bytes ++ 10 ∷ [])
-kept_parts new_kept text line new_text new_line bytes new long p e a b c d h = record {
+    bytes ≡ text ++ line → Kept text line new_text new_line new long p → Reached p new_text new_kept →
+    Parts new_text new_kept new new_line long (bytes ++ 10 ∷ [])
+kept_parts new_kept text line new_text new_line bytes new long p e k h = record {
   tail = [];
-  split = rw (e, a) (sym (append-nil (text ++ line ++ 10 ∷ [])));
-  read = rw c h;
+  split = rw (e, k.0) (sym (append-nil (text ++ line ++ 10 ∷ [])));
+  read = rw k.2 h;
   feed = tt;
-  same = λ q. b;
-  long = λ q. absurd (true≢false (sym q ∙ d));
+  same = λ q. k.1;
+  long = λ q. absurd (true≢false (sym q ∙ k.3));
 }
 
 -- The whole lines that were seen were read.
@@ -61,12 +57,11 @@ line_feed : {A : Type 0} (kept : KeptLines A) (text line bytes : List ℕ) (prog
 line_feed kept text line bytes progress h = rw (h.same refl) h.feed
 
 -- The first line.
-pub first_kept : {A : Type 0} (kept new_kept : KeptLines A) (r : Result Unit CertificateFault) (text line new_text new_line bytes : List ℕ) (new : Option Progress) (long : Bool) (p : Progress) (v : Version) →
-    Parts text kept None line false bytes → line ≡ version_text v → p.version ≡ v → Tracks p [] → Kept r text line None new_text new_line new long p →
-    new_kept ≡ kept → MatchResult r (λ u. Parts new_text new_kept new new_line long (bytes ++ 10 ∷ [])) (Refuses (bytes ++ 10 ∷ []))
-first_kept kept new_kept (Err f) text line new_text new_line bytes new long p v h e w t k same = absurd k
-first_kept kept new_kept (Ok u) text line new_text new_line bytes new long p v h e w t k same =
-    kept_parts new_kept text line new_text new_line bytes new long p (line_split kept text line bytes None h) k.0 k.1 k.2 k.3
+pub first_kept : {A : Type 0} (kept new_kept : KeptLines A) (text line new_text new_line bytes : List ℕ) (new : Option Progress) (long : Bool) (p : Progress) (v : Version) →
+    Parts text kept None line false bytes → line ≡ version_text v → p.version ≡ v → Tracks p [] → Kept text line new_text new_line new long p →
+    new_kept ≡ kept → Parts new_text new_kept new new_line long (bytes ++ 10 ∷ [])
+first_kept kept new_kept text line new_text new_line bytes new long p v h e w t k same =
+    kept_parts new_kept text line new_text new_line bytes new long p (line_split kept text line bytes None h) k
     (record { before = []; order = tt; tracks = t; keeps = rw same h.read.1; is = (let z : text ≡ [] = h.read.0 in k.0 ∙ rw (z, e, w) refl) })
 
 -- A line at the end of what was seen.
@@ -107,14 +102,13 @@ ended_last v (End ∷ ls) h e = record { is = refl; order = h.2; no_end = not_en
 ended_last v (l ∷ ls) h e = absurd (true≢false (sym e ∙ not_ended (any is_end ls) _ h.1.stands))
 
 -- A further line.
-pub next_kept : {A : Type 0} (kept mid new_kept : KeptLines A) (r : Result Unit CertificateFault) (text line new_text new_line bytes : List ℕ) (old new : Option Progress) (long : Bool)
+pub next_kept : {A : Type 0} (kept mid new_kept : KeptLines A) (text line new_text new_line bytes : List ℕ) (old new : Option Progress) (long : Bool)
     (p q : Progress) (l : Line) → old ≡ Some p → Parts text kept old line false bytes → q.version ≡ p.version →
-    ((before : List Line) → Tracks p before → Continues p.version before line l × Tracks q (l ∷ before)) → Kept r text line old new_text new_line new long q →
+    ((before : List Line) → Tracks p before → Continues p.version before line l × Tracks q (l ∷ before)) → Kept text line new_text new_line new long q →
     ((before : List Line) → Keeps kept before → Keeps mid (unended (l ∷ before))) → new_kept ≡ mid →
-    MatchResult r (λ u. Parts new_text new_kept new new_line long (bytes ++ 10 ∷ [])) (Refuses (bytes ++ 10 ∷ []))
-next_kept kept mid new_kept (Err f) text line new_text new_line bytes old new long p q l is h w t k more same = absurd k
-next_kept kept mid new_kept (Ok u) text line new_text new_line bytes old new long p q l is h w t k more same =
-    kept_parts new_kept text line new_text new_line bytes new long q (line_split kept text line bytes old h) k.0 k.1 k.2 k.3
+    Parts new_text new_kept new new_line long (bytes ++ 10 ∷ [])
+next_kept kept mid new_kept text line new_text new_line bytes old new long p q l is h w t k more same =
+    kept_parts new_kept text line new_text new_line bytes new long q (line_split kept text line bytes old h) k
     (made (let z : HasRead (Some p) text kept = rw is at h.read in z))
   where
     made : Reached p text kept → Reached q new_text new_kept

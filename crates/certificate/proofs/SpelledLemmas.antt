@@ -1,14 +1,14 @@
 -- The text of a line while it's written.
-use Rattle.std.proofs.Common.{◌≡◌, ◌⊎◌, ℕ, zero, suc, Option, drop, length-append, ◌+◌, ◌<◌, ◌≤◌, ◌==◌, Bool, true, false, List, [], ◌∷◌, ◌++◌, length, refl, ap, ◌∙◌, sym, inl, inr, arith, append_assoc, append-nil, get_or, length-take-le}
+use Rattle.std.proofs.Common.{◌≡◌, ◌⊎◌, ℕ, Option, drop, length-append, ◌+◌, ◌<◌, ◌≤◌, ◌==◌, Bool, true, false, List, [], ◌∷◌, ◌++◌, length, refl, ap, ◌∙◌, sym, inl, inr, arith, append_assoc, append-nil, get_or, length-take-le}
 use Rattle.std.specs.Prelude.{take, not, ◌&&◌, if◌then◌else◌, IsTrue}
 use Rattle.std.proofs.lemmas.Bool.{true≢false, eq-eqb, ne_eqb, cases_lt}
 use Rattle.std.proofs.lemmas.List.{take_all, take-append-le, take_more, take-append-drop}
+use Rattle.std.proofs.Math.Seq.{take-add}
 use Rattle.std.specs.Io.KnownBytes.{Appends}
 use Rattle.std.proofs.KnownBytes.{Appends-trans}
 use Rattle.streams.specs.Bytes.{AppendsFront}
 use Rattle.streams.proofs.BytesLemmas.{front_after}
 use Rattle.certificate.specs.declared.Version.{Version}
-use Rattle.certificate.specs.Reading.{Each}
 use Rattle.certificate.specs.Line.{Line, line_text, ended, all_ended}
 use Rattle.wordset.specs.Words.{Words, all_words, difference, IsFirstFrom, HasNoneFrom}
 use Rattle.wordset.proofs.Tests.{IsSome}
@@ -147,14 +147,11 @@ pub some_offset : (old now : List ℕ) (s : Words) → (((o : ℕ) → o < 8 →
 some_offset old now s some h = rw (some_offsets s (has_offset s some)) h
 
 -- Lines one after another.
-pub each_at : {A : Type 0} (P : A → Type 0) (xs : List A) (i : ℕ) (d : A) → Each P xs → i < length xs → P (get_or xs i d)
-each_at P [] i d h b = absurd (omega arith)
-each_at P (x ∷ xs) zero d h b = h.0
-each_at P (x ∷ xs) (suc i) d h b = each_at P xs i d h.1 (omega arith)
-
-lines_more : (v : Version) (ls : List Line) (i : ℕ) (d : Line) → i < length ls →
-    all_ended v (take (i + 1) ls) ≡ all_ended v (take i ls) ++ ended (line_text v (get_or ls i d))
-lines_more v ls i d h = rw (take_more ls i d h) (both_ended v (take i ls) (get_or ls i d ∷ []) ∙ ap (λ (x : List ℕ). all_ended v (take i ls) ++ x) (append-nil _))
+lines_more : (v : Version) (ls : List Line) (i : ℕ) (l : Line) → drop i ls ≡ l ∷ drop (i + 1) ls →
+    all_ended v (take (i + 1) ls) ≡ all_ended v (take i ls) ++ ended (line_text v l)
+lines_more v ls i l at =
+    ap (all_ended v) (take-add i 1 ls ∙ ap (λ (x : List Line). take i ls ++ take 1 x) at) ∙
+    (both_ended v (take i ls) (l ∷ []) ∙ ap (λ (x : List ℕ). all_ended v (take i ls) ++ x) (append-nil (ended (line_text v l))))
 
 pub front_more : (a b : Option (List ℕ)) (first second : List ℕ) → AppendsFront a b first → AppendsFront a b (first ++ second)
 front_more a b first second front = record {
@@ -163,17 +160,15 @@ front_more a b first second front = record {
   out = (let f : front.count ≤ length first = (let g = front.within in omega (arith, g)) in rw (take-append-le front.count first second f) front.out);
 }
 
-pub line_put : (a b c : Option (List ℕ)) (v : Version) (ls : List Line) (i : ℕ) (d : Line) (text : List ℕ) → i < length ls →
-    Appends a b (all_ended v (take i ls)) → text ≡ ended (line_text v (get_or ls i d)) → Appends b c text →
-    Appends a c (all_ended v (take (i + 1) ls))
-line_put a b c v ls i d text h p e q =
-    rw (lines_more v ls i d h) (Appends-trans a b c (all_ended v (take i ls)) (ended (line_text v (get_or ls i d))) p (rw e at q))
+pub line_put : (a b c : Option (List ℕ)) (v : Version) (ls : List Line) (i : ℕ) (l : Line) (text : List ℕ) → drop i ls ≡ l ∷ drop (i + 1) ls →
+    Appends a b (all_ended v (take i ls)) → text ≡ ended (line_text v l) → Appends b c text → Appends a c (all_ended v (take (i + 1) ls))
+line_put a b c v ls i l text at p e q =
+    rw (lines_more v ls i l at) (Appends-trans a b c (all_ended v (take i ls)) (ended (line_text v l)) p (rw e at q))
 
-pub line_cut : (a b c : Option (List ℕ)) (v : Version) (ls : List Line) (i : ℕ) (d : Line) (text : List ℕ) → i < length ls →
-    Appends a b (all_ended v (take i ls)) → text ≡ ended (line_text v (get_or ls i d)) → AppendsFront b c text →
-    AppendsFront a c (all_ended v ls)
-line_cut a b c v ls i d text h p e q =
+pub line_cut : (a b c : Option (List ℕ)) (v : Version) (ls : List Line) (i : ℕ) (l : Line) (text : List ℕ) → drop i ls ≡ l ∷ drop (i + 1) ls →
+    Appends a b (all_ended v (take i ls)) → text ≡ ended (line_text v l) → AppendsFront b c text → AppendsFront a c (all_ended v ls)
+line_cut a b c v ls i l text at p e q =
     let f : AppendsFront a c (all_ended v (take (i + 1) ls)) =
-    rw (lines_more v ls i d h) (front_after a b c (all_ended v (take i ls)) (ended (line_text v (get_or ls i d))) p (rw e at q)) in
+    rw (lines_more v ls i l at) (front_after a b c (all_ended v (take i ls)) (ended (line_text v l)) p (rw e at q)) in
     rw (sym (both_ended v (take (i + 1) ls) (drop (i + 1) ls)) ∙ ap (λ (x : List Line). all_ended v x) (take-append-drop (i + 1) ls))
     at (front_more a c (all_ended v (take (i + 1) ls)) (all_ended v (drop (i + 1) ls)) f)

@@ -5,7 +5,7 @@ use Rattle.certificate.proofs.ReaderLemmas.{fact_claims, fits}
 use Rattle.certificate.proofs.Certificate.fact_into.Goals as goal
 
 pub from-start-requires-clause-order : goal.from-start-requires-clause-order
-from-start-requires-clause-order g c = places_of_order c.self.inside.version c.self.inside.kept c.self.invariant.indexed c.self.invariant.order
+from-start-requires-clause-order g c = places_of_order c.self.inside.version c.self.inside.kept c.self.invariant
 
 pub first_fact-requires : goal.first_fact-requires
 first_fact-requires g c = record {

@@ -9,7 +9,7 @@ use Rattle.certificate.proofs.ReaderLemmas.{told, routine_claims}
 use Rattle.certificate.proofs.Certificate.routine.Goals as goal
 
 pub from-requires-clause-order : goal.from-requires-clause-order
-from-requires-clause-order g c = places_of_order c.self.inside.version c.self.inside.kept c.self.invariant.indexed c.self.invariant.order
+from-requires-clause-order g c = places_of_order c.self.inside.version c.self.inside.kept c.self.invariant
 
 pub returns : goal.returns
 returns g c =

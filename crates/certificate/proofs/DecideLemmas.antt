@@ -187,8 +187,8 @@ spells v bytes l = both (is_line v l) (same_bytes bytes (line_text v l))
 spells_kept : (v : Version) (bytes : List ℕ) (l m : Line) → SameLine l m → Spells v l bytes → Spells v m bytes
 spells_kept v bytes l m e h = (line_kept v l m e h.0, h.1 ∙ same_line_text v l m e)
 
--- Things of a kind of which one has a property, or none has: where it's decided of each, those that say the same have it too, and
--- those that have it are few.
+-- A search through things of a kind: one has a property, or none has. It is decided of each thing, things that say the same have it
+-- alike, and those that have it are among few.
 record Finds (A : Type 0) : Type 1 where
   same : A → A → Type 0
   few : A → Type 0

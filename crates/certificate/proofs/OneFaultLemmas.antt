@@ -4,7 +4,6 @@ use Rattle.std.specs.Prelude.{if◌then◌else◌, take}
 use Rattle.std.proofs.Math.Seq.{take-append-add}
 use Rattle.std.proofs.lemmas.Bool.{true≢false, false≢true}
 use Rattle.certificate.specs.declared.Version.{Version}
-use Rattle.certificate.specs.declared.Version.TheVariants.{One, Two}
 use Rattle.certificate.specs.declared.CertificateFault.{CertificateFault}
 use Rattle.certificate.specs.declared.CertificateFault.TheVariants as faults
 use Rattle.certificate.specs.Spelling.{version_text}
@@ -190,16 +189,9 @@ stop_version v w bytes a b =
     version_one v w (first_one (version_text v) (version_text w) _ _ (version_feed v) (version_feed w) (sym (begins v bytes a) ∙ begins w bytes b)).0
 
 same_stops : (v w : Version) (bytes : List ℕ) (a : Stop v bytes) (b : Stop w bytes) → Alike SameLine a.before b.before × (a.rest ≡ b.rest)
-same_stops One One bytes a b = same_stop One bytes a b
-same_stops One Two bytes a b = absurd (other (stop_version One Two bytes a b))
-  where
-    other : One ≡ Two → ⊥
-    other e = cc
-same_stops Two One bytes a b = absurd (other (stop_version Two One bytes a b))
-  where
-    other : Two ≡ One → ⊥
-    other e = cc
-same_stops Two Two bytes a b = same_stop Two bytes a b
+same_stops v w bytes a b =
+    subst (λ (u : Version). (s : Stop u bytes) → Alike SameLine a.before s.before × (a.rest ≡ s.rest)) (stop_version v w bytes a b)
+    (same_stop v bytes a) b
 
 -- What a line does that none may be.
 data LineKind : Type 0 where

@@ -1,5 +1,5 @@
 -- What a call that adds a line leaves of a certificate.
-use Rattle.std.proofs.Common.{◌≡◌, ℕ, ◌+◌, ◌<◌, Bool, true, false, List, [], ◌∷◌, ◌++◌, length, refl, ap, ◌∙◌, arith}
+use Rattle.std.proofs.Common.{◌≡◌, ◌+◌, ◌<◌, Bool, true, false, List, [], ◌∷◌, ◌++◌, length, refl, ap, ◌∙◌, arith}
 use Rattle.std.specs.Prelude.{map, if◌then◌else◌}
 use Rattle.wordset.specs.Words.{Words}
 use Rattle.facts.specs.Facts.{Equation}
@@ -19,37 +19,22 @@ pub routine_kept : {A : Type 0} (v : Version) (k new : KeptLines A) (r : Routine
 routine_kept v k new r true w small m e i = routine_added v k new r w small m e i
 routine_kept v k new r false w small m e i = none_added v k new w e i
 
--- The parts of a fact.
-pub record IsOfFact (a : ℕ) (r : Registers) (m : Words) (cs : List TrackedCell) (es : List Equation) (f : FactLine) : Type 0 where
-  pub address : a ≡ f.address
-  pub registers : r ≡ registers_of f.statement
-  pub offsets : m ≡ f.offsets
-  pub cells : cs ≡ f.statement.cells
-  pub equations : es ≡ f.statement.equations
-
-pub fact_kept : {A : Type 0} (v : Version) (k new : KeptLines A) (f : FactLine) (b : Bool) (a : ℕ) (r : Registers) (m : Words) (cs : List TrackedCell)
-    (es : List Equation) → IsWhole v k → f.address < 4096 → MayAddFact (gathered v (all_said k)) f → IsOfFact a r m cs es f →
-    all_said new ≡ (if b then all_said k ++ (FactIs a r m ∷ (map CellIs cs ++ map EquationIs es)) else all_said k) → IsIndexed new →
+-- The lines of a fact, or of an exit, by their parts.
+pub fact_kept : {A : Type 0} (v : Version) (k new : KeptLines A) (f : FactLine) (b : Bool) (r : Registers) (m : Words) (cs : List TrackedCell)
+    (es : List Equation) → IsWhole v k → f.address < 4096 → MayAddFact (gathered v (all_said k)) f → r ≡ registers_of f.statement → m ≡ f.offsets →
+    cs ≡ f.statement.cells → es ≡ f.statement.equations →
+    all_said new ≡ (if b then all_said k ++ (FactIs f.address r m ∷ (map CellIs cs ++ map EquationIs es)) else all_said k) → IsIndexed new →
     Added v new (if b then with_fact (gathered v (all_said k)) f else gathered v (all_said k))
-fact_kept v k new f true a r m cs es w small may p e i =
-    fact_added v k new f w small may (e ∙ rw (p.address, p.registers, p.offsets, p.cells, p.equations) refl) i
-fact_kept v k new f false a r m cs es w small may p e i = none_added v k new w e i
+fact_kept v k new f true r m cs es w small may er em ec ee e i = fact_added v k new f w small may (e ∙ rw (er, em, ec, ee) refl) i
+fact_kept v k new f false r m cs es w small may er em ec ee e i = none_added v k new w e i
 
--- The parts of an exit.
-pub record IsOfExit (a o : ℕ) (r : Registers) (cs : List TrackedCell) (es : List Equation) (x : ExitLine) : Type 0 where
-  pub entry : a ≡ x.entry
-  pub offset : o ≡ x.offset
-  pub registers : r ≡ registers_of x.statement
-  pub cells : cs ≡ x.statement.cells
-  pub equations : es ≡ x.statement.equations
-
-pub exit_kept : {A : Type 0} (v : Version) (k new : KeptLines A) (x : ExitLine) (b : Bool) (a o : ℕ) (r : Registers) (cs : List TrackedCell)
-    (es : List Equation) → IsWhole v k → x.entry < 4096 → MayAddExit (gathered v (all_said k)) x → IsOfExit a o r cs es x →
-    all_said new ≡ (if b then all_said k ++ (ExitIs a o r ∷ (map CellIs cs ++ map EquationIs es)) else all_said k) → IsIndexed new →
+pub exit_kept : {A : Type 0} (v : Version) (k new : KeptLines A) (x : ExitLine) (b : Bool) (r : Registers) (cs : List TrackedCell)
+    (es : List Equation) → IsWhole v k → x.entry < 4096 → MayAddExit (gathered v (all_said k)) x → r ≡ registers_of x.statement →
+    cs ≡ x.statement.cells → es ≡ x.statement.equations →
+    all_said new ≡ (if b then all_said k ++ (ExitIs x.entry x.offset r ∷ (map CellIs cs ++ map EquationIs es)) else all_said k) → IsIndexed new →
     Added v new (if b then with_exit (gathered v (all_said k)) x else gathered v (all_said k))
-exit_kept v k new x true a o r cs es w small may p e i =
-    exit_added v k new x w small may (e ∙ rw (p.entry, p.offset, p.registers, p.cells, p.equations) refl) i
-exit_kept v k new x false a o r cs es w small may p e i = none_added v k new w e i
+exit_kept v k new x true r cs es w small may er ec ee e i = exit_added v k new x w small may (e ∙ rw (er, ec, ee) refl) i
+exit_kept v k new x false r cs es w small may er ec ee e i = none_added v k new w e i
 
 -- No line is kept.
 newest_length : (before ls : List Line) → length (newest_first before ls) ≡ length before + length ls

@@ -8,7 +8,7 @@ use Rattle.facts.specs.Statements.{Statement, fact_of}
 use Rattle.certificate.specs.declared.Routine.{Routine}
 use Rattle.certificate.specs.Spelling.{RoutineLine}
 use Rattle.certificate.specs.declared.packed.Run.{Run}
-use Rattle.certificate.specs.Line.{Line, RoutineIs, FactIs, ExitIs, CellIs, EquationIs, End}
+use Rattle.certificate.specs.Line.{Line, RoutineIs, FactIs, ExitIs, CellIs, EquationIs}
 use Rattle.certificate.specs.Order.{is_detail}
 use Rattle.certificate.specs.Gathered.{cells_under, equations_under}
 use Rattle.certificate.specs.Packed.{set_of_runs}
@@ -36,29 +36,20 @@ room_left s whole ls all e h =
 
 -- There is room for the first line.
 room_for : (s : Statement) (l : Line) (ls : List Line) → HasRoomUnder s (l ∷ ls) → HasRoomFor s l
-room_for s (RoutineIs r) ls h = tt
-room_for s (FactIs a r m) ls h = tt
-room_for s (ExitIs x o r) ls h = tt
 room_for s (CellIs c) ls h = let k : length s.cells + suc (length (cells_under ls)) ≤ 64 = h.0 in omega arith
 room_for s (EquationIs q) ls h = let k : length s.equations + suc (length (equations_under ls)) ≤ 32 = h.1 in omega arith
-room_for s End ls h = tt
+room_for s l ls h = tt
 
 -- The first line is added, or it's neither a cell nor an equation.
 added : (s : Statement) (l : Line) (ls : List Line) → is_detail l ≡ true → with_details (with_line s l) ls ≡ with_details s (l ∷ ls)
-added s (RoutineIs r) ls e = absurd (true≢false (sym e))
-added s (FactIs a r m) ls e = absurd (true≢false (sym e))
-added s (ExitIs x o r) ls e = absurd (true≢false (sym e))
 added s (CellIs c) ls e = cell_added s c ls
 added s (EquationIs q) ls e = equation_added s q ls
-added s End ls e = absurd (true≢false (sym e))
+added s l ls e = absurd (true≢false (sym e))
 
 unchanged : (s : Statement) (l : Line) → is_detail l ≡ false → with_line s l ≡ s
-unchanged s (RoutineIs r) e = refl
-unchanged s (FactIs a r m) e = refl
-unchanged s (ExitIs x o r) e = refl
 unchanged s (CellIs c) e = absurd (true≢false e)
 unchanged s (EquationIs q) e = absurd (true≢false e)
-unchanged s End e = refl
+unchanged s l e = refl
 
 pub room_there : (s : Statement) (lines : List Line) (i : ℕ) (l : Line) → drop i lines ≡ l ∷ drop (i + 1) lines → HasRoomUnder s (drop i lines) → HasRoomFor s l
 room_there s lines i l e h = room_for s l (drop (i + 1) lines) (rw e at h)
@@ -73,28 +64,16 @@ done_there s new lines i l e n d = n ∙ (unchanged s l d ∙ rw e (sym (none_un
 
 -- The first line alone tells what begins.
 pub fact_first : (l : Line) (ls : List Line) → begins_fact (l ∷ []) ≡ begins_fact (l ∷ ls)
-fact_first (RoutineIs r) ls = refl
 fact_first (FactIs a r m) ls = refl
-fact_first (ExitIs x o r) ls = refl
-fact_first (CellIs c) ls = refl
-fact_first (EquationIs q) ls = refl
-fact_first End ls = refl
+fact_first l ls = refl
 
 pub exit_first : (l : Line) (ls : List Line) → begins_exit (l ∷ []) ≡ begins_exit (l ∷ ls)
-exit_first (RoutineIs r) ls = refl
-exit_first (FactIs a r m) ls = refl
 exit_first (ExitIs x o r) ls = refl
-exit_first (CellIs c) ls = refl
-exit_first (EquationIs q) ls = refl
-exit_first End ls = refl
+exit_first l ls = refl
 
 pub routine_first : (l : Line) (ls : List Line) → begins_routine (l ∷ []) ≡ begins_routine (l ∷ ls)
 routine_first (RoutineIs r) ls = refl
-routine_first (FactIs a r m) ls = refl
-routine_first (ExitIs x o r) ls = refl
-routine_first (CellIs c) ls = refl
-routine_first (EquationIs q) ls = refl
-routine_first End ls = refl
+routine_first l ls = refl
 
 -- A fact's line at a place.
 record FactSaid (l : Line) (ls : List Line) (s : Statement) (offsets : Words) : Type 0 where
@@ -103,16 +82,12 @@ record FactSaid (l : Line) (ls : List Line) (s : Statement) (offsets : Words) : 
   room : FitUnderFirst (l ∷ ls) → HasRoomUnder s ls
 
 fact_said : (l : Line) (ls : List Line) (s : Statement) (offsets : Words) → IsFactLine l s offsets → FactSaid l ls s offsets
-fact_said (RoutineIs r) ls s offsets h = absurd h
 fact_said (FactIs a r m) ls s offsets h = record {
   fact = rw (h.0, h.1) refl;
   statement = rw h.0 refl;
   room = λ q. rw h.0 (let x : length (cells_under ls) ≤ 64 = q.0 in let y : length (equations_under ls) ≤ 32 = q.1 in ((omega arith), (omega arith)));
 }
-fact_said (ExitIs x o r) ls s offsets h = absurd h
-fact_said (CellIs c) ls s offsets h = absurd h
-fact_said (EquationIs q) ls s offsets h = absurd h
-fact_said End ls s offsets h = absurd h
+fact_said l ls s offsets h = absurd h
 
 pub fact_there : (lines : List Line) (i : ℕ) (l : Line) (s : Statement) (offsets : Words) → drop i lines ≡ l ∷ drop (i + 1) lines → IsFactLine l s offsets →
     SaysFactAt i lines s offsets
@@ -127,16 +102,12 @@ record ExitSaid (l : Line) (ls : List Line) (s : Statement) : Type 0 where
   room : FitUnderFirst (l ∷ ls) → HasRoomUnder s ls
 
 exit_said : (l : Line) (ls : List Line) (s : Statement) → IsExitLine l s → ExitSaid l ls s
-exit_said (RoutineIs r) ls s h = absurd h
-exit_said (FactIs a r m) ls s h = absurd h
 exit_said (ExitIs x o r) ls s h = record {
   fact = rw h refl;
   statement = rw h refl;
   room = λ q. rw h (let x : length (cells_under ls) ≤ 64 = q.0 in let y : length (equations_under ls) ≤ 32 = q.1 in ((omega arith), (omega arith)));
 }
-exit_said (CellIs c) ls s h = absurd h
-exit_said (EquationIs q) ls s h = absurd h
-exit_said End ls s h = absurd h
+exit_said l ls s h = absurd h
 
 pub exit_there : (lines : List Line) (i : ℕ) (l : Line) (s : Statement) → drop i lines ≡ l ∷ drop (i + 1) lines → IsExitLine l s → SaysExitAt i lines s
 exit_there lines i l s e h =
@@ -147,11 +118,7 @@ exit_there lines i l s e h =
 is_routine : (l : Line) (ls : List Line) (given : Routine) (rs : List RoutineLine) (e : ℕ) → IsRoutineLine l given → SaysFirst rs e (l ∷ ls) → IsRoutineOf rs e given
 is_routine (RoutineIs r) ls given rs e h says =
     record { rank = h.0 ∙ sym says.rank; sites = h.1 ∙ sym says.sites; writes = h.2 ∙ sym says.writes }
-is_routine (FactIs a r m) ls given rs e h says = absurd h
-is_routine (ExitIs x o r) ls given rs e h says = absurd h
-is_routine (CellIs c) ls given rs e h says = absurd h
-is_routine (EquationIs q) ls given rs e h says = absurd h
-is_routine End ls given rs e h says = absurd h
+is_routine l ls given rs e h says = absurd h
 
 pub routine_there : (lines : List Line) (i : ℕ) (l : Line) (given : Option Routine) (rs : List RoutineLine) (e : ℕ) → drop i lines ≡ l ∷ drop (i + 1) lines →
     IfSome given (λ r. IsRoutineLine l r) → SaysFirst rs e (drop i lines) → IfSome given (λ r. IsRoutineOf rs e r)

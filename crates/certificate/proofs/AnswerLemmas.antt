@@ -1,22 +1,21 @@
 -- Each text is that of a certificate or has a fault.
-use Rattle.std.proofs.Common.{◌≡◌, ◌⊎◌, ℕ, zero, suc, ◌+◌, ◌-◌, ◌<◌, ◌≤◌, Bool, true, false, List, [], ◌∷◌, ◌++◌, length, refl, ap, ◌∙◌, sym, subst, inl, inr, arith, append_assoc, append-nil, length-append}
-use Rattle.std.specs.Prelude.{if◌then◌else◌, take, flat_map}
+use Rattle.std.proofs.Common.{◌≡◌, ◌⊎◌, ℕ, ◌+◌, ◌-◌, ◌<◌, ◌≤◌, Bool, true, false, List, [], ◌∷◌, ◌++◌, length, refl, ap, ◌∙◌, sym, subst, inl, inr, arith, append_assoc, append-nil, length-append}
+use Rattle.std.specs.Prelude.{take, flat_map}
 use Rattle.std.proofs.lemmas.Bool.{cases_lt, true≢false}
 use Rattle.std.proofs.lemmas.Bool.Decides.{eqb_tells}
 use Rattle.certificate.specs.declared.Version.{Version}
 use Rattle.certificate.specs.declared.Version.TheVariants.{One, Two}
-use Rattle.certificate.specs.declared.CertificateFault.{CertificateFault}
 use Rattle.certificate.specs.declared.CertificateFault.TheVariants as faults
 use Rattle.certificate.specs.Spelling.{version_text}
 use Rattle.certificate.specs.Reading.{Each}
-use Rattle.certificate.specs.Line.{Line, RoutineIs, FactIs, ExitIs, CellIs, EquationIs, End, line_text, ended}
+use Rattle.certificate.specs.Line.{Line, RoutineIs, CellIs, EquationIs, ended}
 use Rattle.certificate.specs.Order.{is_end, any, how_many, is_routine, is_cell, is_equation, details_of_last, may_stand, place, next_place, fellows, InOrder, HasRoom, Spells, IsNext, AreInOrder, front, IsBad, IsMisplaced, IsOneTooMany}
-use Rattle.certificate.specs.Faults.{most_bytes, NoFeed, IsText, HasLine, HasFaultyLine, HasNoVersion, HasRest, IsCut, IsTooLong, HasFault}
+use Rattle.certificate.specs.Faults.{most_bytes, NoFeed, HasLine, HasFaultyLine, IsTooLong}
 use Rattle.certificate.specs.Exact.{FaultLaw, IsAnswered}
 use Rattle.std.proofs.lemmas.List.{take-append-le}
 use Rattle.std.proofs.Math.Seq.{take-append-add}
 use Rattle.certificate.proofs.TextLemmas.{seam}
-use Rattle.certificate.proofs.OneLineLemmas.{line_one}
+use Rattle.certificate.proofs.OneLineLemmas.{line_one, feed_taken}
 use Rattle.certificate.proofs.OneFaultLemmas.{alike_self, stand_same, no_fault, one_fault}
 use Rattle.certificate.proofs.DecideLemmas.{Decided, is_less, same_bytes, some_line}
 
@@ -38,11 +37,9 @@ in_order before l = elim (cases_lt (place l) (next_place (fellows before l))) [
 
 has_room : (before : List Line) (l : Line) → Decided (HasRoom before l)
 has_room before (RoutineIs r) = is_less (how_many is_routine before) 64
-has_room before (FactIs a r m) = inl tt
-has_room before (ExitIs e o r) = inl tt
 has_room before (CellIs c) = is_less (how_many is_cell (details_of_last before)) 64
 has_room before (EquationIs e) = is_less (how_many is_equation (details_of_last before)) 32
-has_room before End = inl tt
+has_room before l = inl tt
 
 -- One of the two.
 line_next : (v : Version) (before : List Line) (bytes : List ℕ) → Next v before bytes ⊎ Fails v before bytes
@@ -108,12 +105,6 @@ first_line x ls rest =
 taken : (n : ℕ) (a b : List ℕ) → length a ≤ n → take n (a ++ b) ≡ a ++ take (n - length a) b
 taken n a b h =
     let e : n ≡ length a + (n - length a) = omega arith in ap (λ i. take i (a ++ b)) e ∙ take-append-add a b (n - length a)
-
-feed_taken : (k : ℕ) (xs : List ℕ) → NoFeed xs → NoFeed (take k xs)
-feed_taken zero [] h = tt
-feed_taken zero (x ∷ xs) h = tt
-feed_taken (suc k) [] h = tt
-feed_taken (suc k) (x ∷ xs) h = (h.0, feed_taken k xs h.1)
 
 -- There are more bytes than are read, after lines in order.
 too_long : (v : Version) (before : List Line) (bytes rest : List ℕ) → AreInOrder v before → bytes ≡ front v before ++ rest →

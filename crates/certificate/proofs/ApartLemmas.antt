@@ -1,8 +1,9 @@
 -- Runs that stand apart: they are the maximal ones of their set.
-use Rattle.std.proofs.Common.{◌≡◌, ℕ, ◌+◌, ◌-◌, ◌<◌, ◌≤◌, ◌==◌, Bool, true, false, ◌||◌, List, [], ◌∷◌, ◌++◌, take, refl, ap, ◌∙◌, sym, inl, inr, arith, append_assoc, append-nil, length, get_or, drop}
+use Rattle.std.proofs.Common.{◌≡◌, ℕ, ◌+◌, ◌<◌, ◌≤◌, ◌==◌, true, false, ◌||◌, List, [], ◌∷◌, ◌++◌, take, refl, ap, ◌∙◌, sym, arith, append_assoc, append-nil, length, get_or, drop}
 use Rattle.std.specs.Prelude.{if◌then◌else◌}
-use Rattle.std.proofs.lemmas.Bool.{true≢false, eq-eqb, ne_eqb, cases_lt}
+use Rattle.std.proofs.lemmas.Bool.{true≢false}
 use Rattle.std.proofs.lemmas.List.{take_all, take_more, drop_more, drop_all}
+use Rattle.std.proofs.Math.Bool.{or-false, or_assoc}
 use Rattle.wordset.specs.Words.{Words, nothing, between, union, has_some, HasNoneFrom}
 use Rattle.wordset.proofs.Tests.{some_from}
 use Rattle.certificate.specs.declared.packed.Run.{Run}
@@ -10,14 +11,11 @@ use Rattle.certificate.specs.Spelling.{marks, set_text}
 use Rattle.certificate.specs.Fields.{run_text}
 use Rattle.certificate.specs.Spelled.{Adds}
 use Rattle.certificate.specs.Packed.{joined, set_of_runs, StandApart}
-use Rattle.certificate.proofs.SetLemmas.{Run as SetRun, StartsAt}
-use Rattle.certificate.proofs.PackedLemmas.{in_between, below_between, above_between, runs_within}
+use Rattle.certificate.proofs.SetLemmas.{Run as SetRun, StartsAt, a_run}
+use Rattle.certificate.proofs.PackedLemmas.{or_with, in_between, below_between, above_between, runs_within}
 use Rattle.certificate.proofs.SpelledLemmas.{SetSofar, set_begun, run_written, set_written}
 
 -- More runs may stand after those up to an index.
-pub none_yet : (rest : List Run) → StandApart 0 rest → StandApart 0 (take 0 rest ++ rest)
-none_yet rest h = h
-
 pub one_apart : (runs rest : List Run) (i n : ℕ) (r : Run) → i < length runs → r ≡ get_or runs i r →
     ((rest : List Run) → StandApart n rest → StandApart 0 (take i runs ++ rest)) → n ≤ r.first → r.first ≤ r.last → r.last < 4096 →
     StandApart (r.last + 2) rest → StandApart 0 (take (i + 1) runs ++ rest)
@@ -31,26 +29,15 @@ all_apart runs i n h so = rw (take_all i runs h, append-nil runs) at (so [] tt)
 
 -- A set and more runs.
 joined_or : (t : Words) (rs : List Run) (v : ℕ) → joined t rs v ≡ (t v || joined nothing rs v)
-joined_or t [] v = sym (or_false (t v))
-  where
-    or_false : (b : Bool) → (b || false) ≡ b
-    or_false true = refl
-    or_false false = refl
+joined_or t [] v = sym (or-false (t v))
 joined_or t (r ∷ rs) v =
     joined_or (union t (between r.first r.last)) rs v ∙
     (or_assoc (t v) (between r.first r.last v) (joined nothing rs v) ∙
     ap (λ x. t v || x) (sym (joined_or (union nothing (between r.first r.last)) rs v)))
-  where
-    or_assoc : (a b c : Bool) → ((a || b) || c) ≡ (a || (b || c))
-    or_assoc true b c = refl
-    or_assoc false b c = refl
 
 -- A word is in the first run or in the others.
 first_or : (r : Run) (rs : List Run) (v : ℕ) → joined nothing (r ∷ rs) v ≡ (between r.first r.last v || joined nothing rs v)
 first_or r rs v = joined_or (union nothing (between r.first r.last)) rs v
-
-or_with : (a b c d : Bool) → a ≡ c → b ≡ d → (a || b) ≡ (c || d)
-or_with a b c d e f = ap (λ x. x || b) e ∙ ap (λ x. c || x) f
 
 -- No word stands before the first run.
 before_all : (n : ℕ) (rs : List Run) (v : ℕ) → StandApart n rs → v < n → joined nothing rs v ≡ false
@@ -79,22 +66,15 @@ past_one s n r rs h = record {
 
 -- The first one that is left is the next run of the set.
 found : (s : Words) (n : ℕ) (r : Run) (rs : List Run) → StartsAt s n → RunsLeft s n (r ∷ rs) → SetRun s n r.first r.last
-found s n r rs starts h = record {
-  reached = reached;
-  order = order;
-  small = small;
-  before = before;
-  inside = λ v a b. h.left v (omega (arith, reached)) (omega (arith, small)) ∙
-      (first_or r rs v ∙ or_with _ _ true (joined nothing rs v) (in_between r.first r.last v a b) refl);
-  starts = elim (cases_lt n r.first) [
-    | inl w ↦ rw (before (r.first - 1) (omega arith) (omega arith), ne_eqb r.first 0 (λ z. omega arith)) refl
-    | inr w ↦ (let z : r.first ≡ n = omega (arith, reached) in rw z (starts (omega (arith, order, small))))
-  ];
-  stops = elim (cases_lt r.last 4095) [
-    | inl w ↦ rw (after w) (or_true (r.last == 4095))
-    | inr w ↦ rw (eq-eqb r.last 4095 (omega (arith, small))) refl
-  ];
-}
+found s n r rs starts h =
+    a_run s n r.first r.last starts reached order small
+    (λ v a b. h.left v (omega arith) (omega (arith, order, small)) ∙
+    (first_or r rs v ∙ or_with _ _ false false (below_between r.first r.last v b) (before_all (r.last + 2) rs v h.apart.3 (omega (arith, order)))))
+    (λ v a b. h.left v (omega (arith, reached)) (omega (arith, small)) ∙
+    (first_or r rs v ∙ or_with _ _ true (joined nothing rs v) (in_between r.first r.last v a b) refl))
+    (λ w. h.left (r.last + 1) (omega (arith, reached, order)) (omega arith) ∙
+    (first_or r rs (r.last + 1) ∙
+    or_with _ _ false false (above_between r.first r.last (r.last + 1) (omega arith)) (before_all (r.last + 2) rs (r.last + 1) h.apart.3 (omega arith))))
   where
     reached : n ≤ r.first
     reached = h.apart.0
@@ -104,18 +84,6 @@ found s n r rs starts h = record {
 
     small : r.last < 4096
     small = h.apart.2
-
-    or_true : (b : Bool) → (b || true) ≡ true
-    or_true true = refl
-    or_true false = refl
-
-    before : (v : ℕ) → n ≤ v → v < r.first → s v ≡ false
-    before v a b = h.left v (omega arith) (omega (arith, order, small)) ∙
-        (first_or r rs v ∙ or_with _ _ false false (below_between r.first r.last v b) (before_all (r.last + 2) rs v h.apart.3 (omega (arith, order))))
-
-    after : r.last < 4095 → s (r.last + 1) ≡ false
-    after w = h.left (r.last + 1) (omega (arith, reached, order)) (omega arith) ∙
-        (first_or r rs (r.last + 1) ∙ or_with _ _ false false (above_between r.first r.last (r.last + 1) (omega arith)) (before_all (r.last + 2) rs (r.last + 1) h.apart.3 (omega arith)))
 
 -- Runs as far as they're written.
 pub record RunsWritten (old now : List ℕ) (s : Words) (n : ℕ) (rs : List Run) : Type 0 where

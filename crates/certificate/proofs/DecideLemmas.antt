@@ -5,11 +5,9 @@ use Rattle.std.proofs.lemmas.Bool.{cases_lt, true≢false, false≢true}
 use Rattle.std.proofs.lemmas.Bool.Decides.{eqb_tells}
 use Rattle.wordset.specs.Words.{Words, SameWords, nothing, everything, some_below, has_some}
 use Rattle.facts.specs.Facts.{Name, Ac, Cell, Equation}
-use Rattle.facts.specs.Statements.{TrackedCell}
 use Rattle.certificate.specs.declared.Version.{Version}
 use Rattle.certificate.specs.declared.Version.TheVariants.{One, Two}
-use Rattle.certificate.specs.Spelling.{RoutineLine}
-use Rattle.certificate.specs.Reading.{FitsVersion, IsRoutine, IsTracked, IsEquation, place_of_name}
+use Rattle.certificate.specs.Reading.{FitsVersion, IsEquation, place_of_name}
 use Rattle.certificate.specs.Line.{Registers, Line, RoutineIs, FactIs, ExitIs, CellIs, EquationIs, End, IsLine, IsRegisters, SameRegisters, SameLine, line_text}
 use Rattle.certificate.specs.Order.{Spells}
 use Rattle.certificate.proofs.DigitLemmas.{some_same}
@@ -189,154 +187,104 @@ spells v bytes l = both (is_line v l) (same_bytes bytes (line_text v l))
 spells_kept : (v : Version) (bytes : List ℕ) (l m : Line) → SameLine l m → Spells v l bytes → Spells v m bytes
 spells_kept v bytes l m e h = (line_kept v l m e h.0, h.1 ∙ same_line_text v l m e)
 
--- Of numbers, if those that have it are below another, one has it, or none.
-within : (n : ℕ) (P : ℕ → Type 0) → ((k : ℕ) → Decided (P k)) → ((k : ℕ) → P k → k < n) → Decided ((k : ℕ) × P k)
-within n P each small = as_much (λ (h : (k : ℕ) × (k < n) × P k). (h.0, h.2)) (λ h. (h.0, small h.0 h.1, h.1)) (among_numbers n P each)
+-- A search through things of a kind: one has a property, or none has. It is decided of each thing, things that say the same have it
+-- alike, and those that have it are among few.
+record Finds (A : Type 0) : Type 1 where
+  same : A → A → Type 0
+  few : A → Type 0
+  itself : (x : A) → same x x
+  find : (P : A → Type 0) → ((x y : A) → same x y → P x → P y) → ((x : A) → Decided (P x)) → ((x : A) → P x → few x) → Decided ((x : A) × P x)
 
--- Of registers one has it, or none.
-abbrev SomeLink : (Registers → Type 0) → Words → Words → Type 0
-SomeLink P a m = (l : Words) × P (record { ac = a; mq = m; link = l })
+abbrev numbers : ℕ → Finds ℕ
+numbers n = record {
+  same = λ a b. a ≡ b;
+  few = λ k. k < n;
+  itself = λ k. refl;
+  find = λ P kept each few. as_much (λ (h : (k : ℕ) × (k < n) × P k). (h.0, h.2)) (λ h. (h.0, few h.0 h.1, h.1)) (among_numbers n P each);
+}
 
-abbrev SomeMq : (Registers → Type 0) → Words → Type 0
-SomeMq P a = (m : Words) × SomeLink P a m
+abbrev sets : ℕ → Finds Words
+sets n = record {
+  same = AgreeBelow n;
+  few = λ s. Unit {0};
+  itself = λ s v small. refl;
+  find = λ P kept each few. among_sets n P kept each;
+}
 
-among_registers : (P : Registers → Type 0) → ((r s : Registers) → SameRegisters r s → P r → P s) → ((r : Registers) → Decided (P r)) →
-    Decided ((r : Registers) × P r)
-among_registers P kept each =
-    as_much (λ (h : (a : Words) × SomeMq P a). (record { ac = h.0; mq = h.1.0; link = h.1.1.0 }, h.1.1.1)) (λ h. (h.0.ac, (h.0.mq, (h.0.link, h.1))))
-    (among_sets 4096 (SomeMq P)
-    (λ a b same h. (h.0, (h.1.0, kept _ _ (record { ac = same; mq = λ v small. refl; link = λ v small. refl }) h.1.1)))
-    (λ a. among_sets 4096 (SomeLink P a)
-    (λ m n same h. (h.0, kept _ _ (record { ac = λ v small. refl; mq = same; link = λ v small. refl }) h.1))
-    (λ m. among_sets 2 (λ l. P (record { ac = a; mq = m; link = l }))
-    (λ l k same. kept _ _ (record { ac = λ v small. refl; mq = λ v small. refl; link = same }))
-    (λ l. each (record { ac = a; mq = m; link = l })))))
+abbrev names : Finds Name
+names = record {
+  same = λ a b. a ≡ b;
+  few = λ m. place_of_name m < 4097;
+  itself = λ m. refl;
+  find = λ P kept each few. among_names P each (λ a h. let small : a + 1 < 4097 = few (Cell a) h in omega arith);
+}
 
-same_registers : (r : Registers) → SameRegisters r r
-same_registers r = record { ac = λ v small. refl; mq = λ v small. refl; link = λ v small. refl }
-
--- The bytes spell a line of a kind, or none.
-module _ (v : Version) (bytes : List ℕ) where
-  abbrev OfRoutine : ℕ → ℕ → Words → Words → Type 0
-  OfRoutine e k s w = Spells v (RoutineIs (record { entry = e; rank = k; sites = s; writes = w })) bytes
-
-  abbrev WithSites : ℕ → ℕ → Words → Type 0
-  WithSites e k s = (w : Words) × OfRoutine e k s w
-
-  abbrev WithRank : ℕ → ℕ → Type 0
-  WithRank e k = (s : Words) × WithSites e k s
-
-  abbrev WithEntry : ℕ → Type 0
-  WithEntry e = (k : ℕ) × WithRank e k
-
-  some_routine : Decided ((e : ℕ) × WithEntry e)
-  some_routine =
-      within 4096 WithEntry
-      (λ e. within 64 (WithRank e)
-      (λ k. among_sets 4096 (WithSites e k)
-      (λ s t same h. (
-        h.0,
-        spells_kept v bytes (RoutineIs (record { entry = e; rank = k; sites = s; writes = h.0 }))
-            (RoutineIs (record { entry = e; rank = k; sites = t; writes = h.0 })) (refl, refl, same, λ a small. refl) h.1,
-      ))
-      (λ s. among_sets 4096 (OfRoutine e k s)
-      (λ w x same. spells_kept v bytes (RoutineIs (record { entry = e; rank = k; sites = s; writes = w }))
-      (RoutineIs (record { entry = e; rank = k; sites = s; writes = x })) (refl, refl, (λ a small. refl), same))
-      (λ w. spells v bytes (RoutineIs (record { entry = e; rank = k; sites = s; writes = w })))))
-      (λ k h. h.1.1.0.rank))
-      (λ e h. h.1.1.1.0.entry)
-
-  abbrev WithRegisters : ℕ → Registers → Type 0
-  WithRegisters a r = (m : Words) × Spells v (FactIs a r m) bytes
-
-  abbrev WithAddress : ℕ → Type 0
-  WithAddress a = (r : Registers) × WithRegisters a r
-
-  some_fact : Decided ((a : ℕ) × WithAddress a)
-  some_fact =
-      within 4096 WithAddress
-      (λ a. among_registers (WithRegisters a)
-      (λ r s same h. (h.0, spells_kept v bytes (FactIs a r h.0) (FactIs a s h.0) (refl, same, λ o small. refl) h.1))
-      (λ r. among_sets 8 (λ m. Spells v (FactIs a r m) bytes)
-      (λ m n same. spells_kept v bytes (FactIs a r m) (FactIs a r n) (refl, same_registers r, same))
-      (λ m. spells v bytes (FactIs a r m))))
-      (λ a h. h.1.1.0.0)
-
-  abbrev WithOffset : ℕ → ℕ → Type 0
-  WithOffset e o = (r : Registers) × Spells v (ExitIs e o r) bytes
-
-  abbrev OfExit : ℕ → Type 0
-  OfExit e = (o : ℕ) × WithOffset e o
-
-  some_exit : Decided ((e : ℕ) × OfExit e)
-  some_exit =
-      within 4096 OfExit
-      (λ e. within 8 (WithOffset e)
-      (λ o. among_registers (λ r. Spells v (ExitIs e o r) bytes)
-      (λ r s same. spells_kept v bytes (ExitIs e o r) (ExitIs e o s) (refl, refl, same))
-      (λ r. spells v bytes (ExitIs e o r)))
-      (λ o h. h.1.0.1))
-      (λ e h. h.1.1.0.0)
-
-  abbrev OfCell : ℕ → Words → Type 0
-  OfCell a s = Spells v (CellIs (record { address = a; set = s })) bytes
-
-  abbrev SomeSet : ℕ → Type 0
-  SomeSet a = (s : Words) × OfCell a s
-
-  some_cell : Decided ((a : ℕ) × SomeSet a)
-  some_cell =
-      within 4096 SomeSet
-      (λ a. among_sets 4096 (OfCell a)
-      (λ s t same. spells_kept v bytes (CellIs (record { address = a; set = s })) (CellIs (record { address = a; set = t })) (refl, same))
-      (λ s. spells v bytes (CellIs (record { address = a; set = s }))))
-      (λ a h. h.1.0.address)
-
-  abbrev OfEquation : Name → Name → ℕ → Type 0
-  OfEquation m n k = Spells v (EquationIs (record { left = m; right = n; more = k })) bytes
-
-  abbrev WithRight : Name → Name → Type 0
-  WithRight m n = (k : ℕ) × OfEquation m n k
-
-  abbrev WithLeft : Name → Type 0
-  WithLeft m = (n : Name) × WithRight m n
-
-  some_equation : Decided ((m : Name) × WithLeft m)
-  some_equation =
-      among_names WithLeft
-      (λ m. among_names (WithRight m)
-      (λ n. within 4096 (OfEquation m n) (λ k. spells v bytes (EquationIs (record { left = m; right = n; more = k }))) (λ k h. h.0.more))
-      (λ a h. right_small (h.1.0.right)))
-      (λ a h. left_small h.0 h.1.0 h.1.1)
-    where
-      right_small : {a : ℕ} → a + 1 < 4097 → a < 4096
-      right_small b = omega arith
-
-      left_small : {a : ℕ} (n : Name) (k : ℕ) → OfEquation (Cell a) n k → a < 4096
-      left_small {a} n k h = let o : a + 1 < place_of_name n = h.0.order in let r : place_of_name n < 4097 = h.0.right in omega arith
-
-  some_end : Decided (Spells v End bytes)
-  some_end = spells v bytes End
+abbrev pair : {A B : Type 0} → Finds A → Finds B → Finds (A × B)
+pair {A} {B} a b = record {
+  same = λ p q. a.same p.0 q.0 × b.same p.1 q.1;
+  few = λ p. a.few p.0 × b.few p.1;
+  itself = λ p. (a.itself p.0, b.itself p.1);
+  find = λ P kept each few.
+      as_much (λ (h : (x : A) × ((y : B) × P (x, y))). ((h.0, h.1.0), h.1.1)) (λ (h : (p : A × B) × P p). (h.0.0, (h.0.1, h.1)))
+      (a.find (λ x. (y : B) × P (x, y)) (λ x z same h. (h.0, kept (x, h.0) (z, h.0) (same, b.itself h.0) h.1))
+      (λ x. b.find (λ y. P (x, y)) (λ y z same. kept (x, y) (x, z) (a.itself x, same)) (λ y. each (x, y)) (λ y h. (few (x, y) h).1))
+      (λ x h. (few (x, h.0) h.1).0));
+}
 
 -- The bytes spell a line, or none.
-pub some_line : (v : Version) (bytes : List ℕ) → Decided ((l : Line) × Spells v l bytes)
-some_line v bytes = go (some_routine v bytes) (some_fact v bytes) (some_exit v bytes) (some_cell v bytes) (some_equation v bytes) (some_end v bytes)
-  where
-    go : Decided ((e : ℕ) × WithEntry v bytes e) → Decided ((a : ℕ) × WithAddress v bytes a) → Decided ((e : ℕ) × OfExit v bytes e) →
-        Decided ((a : ℕ) × SomeSet v bytes a) → Decided ((m : Name) × WithLeft v bytes m) → Decided (Spells v End bytes) →
-        Decided ((l : Line) × Spells v l bytes)
-    go (inl h) f x c e n = inl (RoutineIs (record { entry = h.0; rank = h.1.0; sites = h.1.1.0; writes = h.1.1.1.0 }), h.1.1.1.1)
-    go (inr r) (inl h) x c e n = inl (FactIs h.0 h.1.0 h.1.1.0, h.1.1.1)
-    go (inr r) (inr f) (inl h) c e n = inl (ExitIs h.0 h.1.0 h.1.1.0, h.1.1.1)
-    go (inr r) (inr f) (inr x) (inl h) e n = inl (CellIs (record { address = h.0; set = h.1.0 }), h.1.1)
-    go (inr r) (inr f) (inr x) (inr c) (inl h) n = inl (EquationIs (record { left = h.0; right = h.1.0; more = h.1.1.0 }), h.1.1.1)
-    go (inr r) (inr f) (inr x) (inr c) (inr e) (inl h) = inl (End, h)
-    go (inr r) (inr f) (inr x) (inr c) (inr e) (inr n) = inr (λ h. by h.0 h.1)
-      where
-        by : (l : Line) → Spells v l bytes → ⊥
-        by (RoutineIs q) h = r (q.entry, (q.rank, (q.sites, (q.writes, h))))
-        by (FactIs a q m) h = f (a, (q, (m, h)))
-        by (ExitIs a o q) h = x (a, (o, (q, h)))
-        by (CellIs q) h = c (q.address, (q.set, h))
-        by (EquationIs q) h = e (q.left, (q.right, (q.more, h)))
-        by End h = n h
+module _ (v : Version) (bytes : List ℕ) where
+  spelled : {A : Type 0} (finds : Finds A) (line : A → Line) → ((x y : A) → finds.same x y → SameLine (line x) (line y)) →
+      ((x : A) → IsLine v (line x) → finds.few x) → Decided ((x : A) × Spells v (line x) bytes)
+  spelled finds line same few =
+      finds.find (λ x. Spells v (line x) bytes) (λ x y s. spells_kept v bytes (line x) (line y) (same x y s)) (λ x. spells v bytes (line x))
+      (λ x h. few x h.0)
+
+  abbrev a_routine : ℕ × (ℕ × (Words × Words)) → Line
+  a_routine p = RoutineIs (record { entry = p.0; rank = p.1.0; sites = p.1.1.0; writes = p.1.1.1 })
+
+  abbrev a_fact : ℕ × (Words × (Words × (Words × Words))) → Line
+  a_fact p = FactIs p.0 (record { ac = p.1.0; mq = p.1.1.0; link = p.1.1.1.0 }) p.1.1.1.1
+
+  abbrev an_exit : ℕ × (ℕ × (Words × (Words × Words))) → Line
+  an_exit p = ExitIs p.0 p.1.0 (record { ac = p.1.1.0; mq = p.1.1.1.0; link = p.1.1.1.1 })
+
+  abbrev a_cell : ℕ × Words → Line
+  a_cell p = CellIs (record { address = p.0; set = p.1 })
+
+  abbrev an_equation : Name × (Name × ℕ) → Line
+  an_equation p = EquationIs (record { left = p.0; right = p.1.0; more = p.1.1 })
+
+  pub some_line : Decided ((l : Line) × Spells v l bytes)
+  some_line =
+      go
+      (spelled (pair (numbers 4096) (pair (numbers 64) (pair (sets 4096) (sets 4096)))) a_routine
+      (λ x y s. (s.0, s.1.0, s.1.1.0, s.1.1.1)) (λ x h. (h.entry, (h.rank, (tt, tt)))))
+      (spelled (pair (numbers 4096) (pair (sets 4096) (pair (sets 4096) (pair (sets 2) (sets 8))))) a_fact
+      (λ x y s. (s.0, record { ac = s.1.0; mq = s.1.1.0; link = s.1.1.1.0 }, s.1.1.1.1)) (λ x h. (h.0, (tt, (tt, (tt, tt))))))
+      (spelled (pair (numbers 4096) (pair (numbers 8) (pair (sets 4096) (pair (sets 4096) (sets 2))))) an_exit
+      (λ x y s. (s.0, s.1.0, record { ac = s.1.1.0; mq = s.1.1.1.0; link = s.1.1.1.1 })) (λ x h. (h.0, (h.1, (tt, (tt, tt))))))
+      (spelled (pair (numbers 4096) (sets 4096)) a_cell (λ x y s. s) (λ x h. (h.address, tt)))
+      (spelled (pair names (pair names (numbers 4096))) an_equation (λ x y s. rw (s.0, s.1.0, s.1.1) refl)
+      (λ x h. let order : place_of_name x.0 < place_of_name x.1.0 = h.order in let right : place_of_name x.1.0 < 4097 = h.right in (omega arith, (right, h.more))))
+      (spells v bytes End)
+    where
+      go : Decided ((p : ℕ × (ℕ × (Words × Words))) × Spells v (a_routine p) bytes) →
+          Decided ((p : ℕ × (Words × (Words × (Words × Words)))) × Spells v (a_fact p) bytes) →
+          Decided ((p : ℕ × (ℕ × (Words × (Words × Words)))) × Spells v (an_exit p) bytes) →
+          Decided ((p : ℕ × Words) × Spells v (a_cell p) bytes) → Decided ((p : Name × (Name × ℕ)) × Spells v (an_equation p) bytes) →
+          Decided (Spells v End bytes) → Decided ((l : Line) × Spells v l bytes)
+      go (inl h) f x c e n = inl (a_routine h.0, h.1)
+      go (inr r) (inl h) x c e n = inl (a_fact h.0, h.1)
+      go (inr r) (inr f) (inl h) c e n = inl (an_exit h.0, h.1)
+      go (inr r) (inr f) (inr x) (inl h) e n = inl (a_cell h.0, h.1)
+      go (inr r) (inr f) (inr x) (inr c) (inl h) n = inl (an_equation h.0, h.1)
+      go (inr r) (inr f) (inr x) (inr c) (inr e) (inl h) = inl (End, h)
+      go (inr r) (inr f) (inr x) (inr c) (inr e) (inr n) = inr (λ h. by h.0 h.1)
+        where
+          by : (l : Line) → Spells v l bytes → ⊥
+          by (RoutineIs q) h = r ((q.entry, (q.rank, (q.sites, q.writes))), h)
+          by (FactIs a q m) h = f ((a, (q.ac, (q.mq, (q.link, m)))), h)
+          by (ExitIs a o q) h = x ((a, (o, (q.ac, (q.mq, q.link)))), h)
+          by (CellIs q) h = c ((q.address, q.set), h)
+          by (EquationIs q) h = e ((q.left, (q.right, q.more)), h)
+          by End h = n h

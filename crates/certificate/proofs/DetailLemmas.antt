@@ -3,7 +3,7 @@ use Rattle.std.proofs.Common.{◌≡◌, ℕ, ◌≤◌, List, [], ◌∷◌, �
 use Rattle.std.proofs.lemmas.List.{drop_all}
 use Rattle.facts.specs.Facts.{Equation}
 use Rattle.facts.specs.Statements.{TrackedCell, Statement}
-use Rattle.certificate.specs.Line.{Line, RoutineIs, FactIs, ExitIs, CellIs, EquationIs, End}
+use Rattle.certificate.specs.Line.{Line, CellIs, EquationIs}
 use Rattle.certificate.specs.Order.{is_detail}
 use Rattle.certificate.specs.Gathered.{cells_under, equations_under}
 use Rattle.certificate.specs.Found.{with_details}
@@ -17,17 +17,10 @@ pub equation_added : (s : Statement) (e : Equation) (ls : List Line) →
     with_details (record s { equations = s.equations ++ e ∷ [] }) ls ≡ with_details s (EquationIs e ∷ ls)
 equation_added s e ls = rw (append_assoc s.equations (e ∷ []) (equations_under ls)) refl
 
--- Nothing more.
-pub none_added : (s : Statement) → with_details s [] ≡ s
-none_added s = rw (append-nil s.cells, append-nil s.equations) refl
-
 pub none_under : (s : Statement) (l : Line) (ls : List Line) → is_detail l ≡ false → with_details s (l ∷ ls) ≡ s
-none_under s (RoutineIs r) ls e = rw (append-nil s.cells, append-nil s.equations) refl
-none_under s (FactIs a r m) ls e = rw (append-nil s.cells, append-nil s.equations) refl
-none_under s (ExitIs x o r) ls e = rw (append-nil s.cells, append-nil s.equations) refl
 none_under s (CellIs c) ls e = absurd (cc)
 none_under s (EquationIs q) ls e = absurd (cc)
-none_under s End ls e = rw (append-nil s.cells, append-nil s.equations) refl
+none_under s l ls e = rw (append-nil s.cells, append-nil s.equations) refl
 
 -- Lines past the last one.
 pub nothing_from : (lines : List Line) (i : ℕ) → length lines ≤ i → drop i lines ≡ []

@@ -3,6 +3,7 @@ use Rattle.std.proofs.Common.{◌≡◌, ◌≢◌, ◌⊎◌, ℕ, zero, suc, �
 use Rattle.std.specs.Prelude.{if◌then◌else◌, IfSome, IsTrue}
 use Rattle.std.specs.Option.{IsSomeAnd}
 use Rattle.std.proofs.lemmas.Bool.{true≢false, false≢true, eq-eqb, ne_eqb, cases_lt}
+use Rattle.std.proofs.Math.Bool.{or-true, or-false}
 use Rattle.wordset.specs.Words.{Words, some_below}
 use Rattle.wordset.proofs.Tests.{some_none_of, none_of_some}
 use Rattle.certificate.specs.Spelling.{digits, offsets_text}
@@ -84,14 +85,6 @@ no_digits c old t none = record { none = λ v a b. none v b; read = reads old; o
         ap (λ k. digits_from k 0 s) (sym z))) in
         (λ v h. absurd (omega arith), e ∙ ap (λ (x : List ℕ). Some (x ++ tail)) f)
 
-or_true : (b : Bool) → (b || true) ≡ true
-or_true true = refl
-or_true false = refl
-
-or_false : (b : Bool) → (b || false) ≡ b
-or_false true = refl
-or_false false = refl
-
 -- What is left at the digit n, where it's in the set and where it isn't.
 with_digit : (c n : ℕ) (s : Words) → n < c → s n ≡ true → digits_from (c - n) n s ≡ (48 + n) ∷ digits_from (c - (n + 1)) (n + 1) s
 with_digit c n s h e =
@@ -112,7 +105,7 @@ by_digit s n = go (s n)
     go true = inl refl
     go false = inr refl
 
-at_some : {X : Type 0} (P : X → Type 0) (o : Option X) (x : X) → IfSome o P → o ≡ Some x → P x
+pub at_some : {X : Type 0} (P : X → Type 0) (o : Option X) (x : X) → IfSome o P → o ≡ Some x → P x
 at_some P None x h e = absurd (cc)
 at_some P (Some y) x h e = let z : y ≡ x = cc in subst P z h
 
@@ -124,10 +117,10 @@ digit_there c n old now None t u small few h took begins more = absurd took
 digit_there c n old now (Some r) t u small few h took begins more = record { none = none; read = reads; only = only }
   where
     other : (v : ℕ) → v < 8 → v ≢ n → u v ≡ t v
-    other v a b = more v a ∙ rw (ne_eqb v n b) (or_false (t v))
+    other v a b = more v a ∙ rw (ne_eqb v n b) (or-false (t v))
 
     here : u n ≡ true
-    here = more n (omega arith) ∙ rw (eq-eqb n n refl) (or_true (t n))
+    here = more n (omega arith) ∙ rw (eq-eqb n n refl) (or-true (t n))
 
     none : (v : ℕ) → n + 1 ≤ v → v < 8 → u v ≡ false
     none v a b = other v b (λ z. omega arith) ∙ h.none v (omega arith) b

@@ -1,54 +1,38 @@
 -- The lines of one fact among those of a certificate.
-use Rattle.std.proofs.Common.{◌≡◌, ℕ, ◌+◌, ◌*◌, ◌<◌, ◌≤◌, true, false, List, [], ◌∷◌, ◌++◌, refl, ap, ◌∙◌, sym, arith, append_assoc, append-nil, inl, inr, length, drop, subst, Option}
+use Rattle.std.proofs.Common.{◌≡◌, ℕ, ◌+◌, ◌*◌, ◌<◌, ◌≤◌, true, false, List, [], ◌∷◌, ◌++◌, refl, ap, ◌∙◌, sym, arith, append_assoc, append-nil, inl, inr, drop, subst, Option}
 use Rattle.std.specs.Prelude.{map, flat_map}
-use Rattle.std.proofs.Math.ListN.{drop_of_length-le}
 use Rattle.std.specs.Io.KnownBytes.{Appends}
 use Rattle.streams.specs.Bytes.{AppendsFront}
+use Rattle.streams.proofs.BytesLemmas.{front_after}
 use Rattle.std.proofs.lemmas.Bool.{eq-eqb, ne_eqb, cases_eq}
 use Rattle.facts.specs.Facts.{Equation}
-use Rattle.facts.specs.Statements.{TrackedCell, Statement}
+use Rattle.facts.specs.Statements.{TrackedCell}
 use Rattle.certificate.specs.declared.Version.{Version}
 use Rattle.certificate.specs.Spelling.{RoutineLine, FactLine, ExitLine, Lines, fact_text, fact_text_in, fact_text_at}
 use Rattle.certificate.specs.Reading.{RiseFrom, Each, IsRoutine, AreLines}
-use Rattle.certificate.specs.Line.{Line, RoutineIs, FactIs, CellIs, EquationIs, registers_of, details, lines_of_fact, lines_of_exit, line_text, ended, all_ended}
+use Rattle.certificate.specs.Line.{Line, RoutineIs, FactIs, CellIs, EquationIs, registers_of, lines_of_fact, lines_of_exit, line_text, ended, all_ended}
 use Rattle.certificate.specs.Order.{any, is_end, is_detail, details_of_last, AreInOrder}
 use Rattle.certificate.specs.Gathered.{gathered}
 use Rattle.certificate.specs.Found.{newest_first, from_place, first_with_details}
 use Rattle.certificate.proofs.TextLemmas.{fact_ended}
-use Rattle.certificate.proofs.TextOrderLemmas.{body_of}
+use Rattle.certificate.proofs.GatherLemmas.{body_of}
 use Rattle.certificate.proofs.FormLemmas.{gathered_formed}
 use Rattle.certificate.proofs.MakerLemmas.{kept_body}
-use Rattle.certificate.proofs.SpelledLemmas.{front_after, front_more}
+use Rattle.certificate.proofs.SpelledLemmas.{front_more}
 
 -- The cells and equations that come first.
-cells_first : (cs : List TrackedCell) (ls : List Line) → details_of_last (map CellIs cs ++ ls) ≡ map CellIs cs ++ details_of_last ls
-cells_first [] ls = refl
-cells_first (c ∷ cs) ls = ap (λ (x : List Line). CellIs c ∷ x) (cells_first cs ls)
-
-equations_first : (es : List Equation) (ls : List Line) → details_of_last (map EquationIs es ++ ls) ≡ map EquationIs es ++ details_of_last ls
-equations_first [] ls = refl
-equations_first (e ∷ es) ls = ap (λ (x : List Line). EquationIs e ∷ x) (equations_first es ls)
-
-details_first : (s : Statement) (ls : List Line) → details_of_last ls ≡ [] → details_of_last (details s ++ ls) ≡ details s
-details_first s ls none =
-    ap (λ (x : List Line). details_of_last x) (append_assoc (map CellIs s.cells) (map EquationIs s.equations) ls) ∙
-    (cells_first s.cells (map EquationIs s.equations ++ ls) ∙
-    ap (λ (x : List Line). map CellIs s.cells ++ x)
-    (equations_first s.equations ls ∙ (ap (λ (x : List Line). map EquationIs s.equations ++ x) none ∙ append-nil (map EquationIs s.equations))))
+details_first : (cs : List TrackedCell) (es : List Equation) (ls : List Line) → details_of_last ls ≡ [] →
+    details_of_last (map CellIs cs ++ map EquationIs es ++ ls) ≡ map CellIs cs ++ map EquationIs es
+details_first [] [] ls none = none
+details_first [] (e ∷ es) ls none = ap (λ (x : List Line). EquationIs e ∷ x) (details_first [] es ls none)
+details_first (c ∷ cs) es ls none = ap (λ (x : List Line). CellIs c ∷ x) (details_first cs es ls none)
 
 -- What has another place is passed over, and so are cells and equations.
-cells_passed : (p : ℕ) (cs : List TrackedCell) (ls : List Line) → from_place p (map CellIs cs ++ ls) ≡ from_place p ls
-cells_passed p [] ls = refl
-cells_passed p (c ∷ cs) ls = cells_passed p cs ls
-
-equations_passed : (p : ℕ) (es : List Equation) (ls : List Line) → from_place p (map EquationIs es ++ ls) ≡ from_place p ls
-equations_passed p [] ls = refl
-equations_passed p (e ∷ es) ls = equations_passed p es ls
-
-details_passed : (p : ℕ) (s : Statement) (ls : List Line) → from_place p (details s ++ ls) ≡ from_place p ls
-details_passed p s ls =
-    ap (λ (x : List Line). from_place p x) (append_assoc (map CellIs s.cells) (map EquationIs s.equations) ls) ∙
-    (cells_passed p s.cells (map EquationIs s.equations ++ ls) ∙ equations_passed p s.equations ls)
+details_passed : (p : ℕ) (cs : List TrackedCell) (es : List Equation) (ls : List Line) →
+    from_place p (map CellIs cs ++ map EquationIs es ++ ls) ≡ from_place p ls
+details_passed p [] [] ls = refl
+details_passed p [] (e ∷ es) ls = details_passed p [] es ls
+details_passed p (c ∷ cs) es ls = details_passed p cs es ls
 
 routines_passed : (a : ℕ) (rs : List RoutineLine) (ls : List Line) → Each IsRoutine rs → from_place (4096 + a) (map RoutineIs rs ++ ls) ≡ from_place (4096 + a) ls
 routines_passed a [] ls h = refl
@@ -59,7 +43,7 @@ exits_passed : (a : ℕ) (es : List ExitLine) → a < 4096 → from_place (4096 
 exits_passed a [] small = refl
 exits_passed a (e ∷ es) small =
     rw (ne_eqb (8192 + (8 * e.entry + e.offset)) (4096 + a) (λ q. omega arith))
-    (details_passed (4096 + a) e.statement (flat_map lines_of_exit es) ∙ exits_passed a es small)
+    (details_passed (4096 + a) e.statement.cells e.statement.equations (flat_map lines_of_exit es) ∙ exits_passed a es small)
 
 -- A fact or an exit comes next, or nothing.
 no_detail : (fs : List FactLine) (es : List ExitLine) → details_of_last (flat_map lines_of_fact fs ++ flat_map lines_of_exit es) ≡ []
@@ -83,13 +67,13 @@ facts_found v a low (f ∷ fs) es small rise =
     elim (cases_eq f.address a) [
       | inl e ↦
           rw (eq-eqb (4096 + f.address) (4096 + a) (ap (λ n. 4096 + n) e), eq-eqb f.address a e)
-          (ap (λ (x : List Line). all_ended v (FactIs f.address (registers_of f.statement) f.offsets ∷ x)) (details_first f.statement later (no_detail fs es)) ∙
+          (ap (λ (x : List Line). all_ended v (FactIs f.address (registers_of f.statement) f.offsets ∷ x)) (details_first f.statement.cells f.statement.equations later (no_detail fs es)) ∙
           (sym (fact_ended v f) ∙
           (sym (append-nil (fact_text v f)) ∙
           ap (λ (x : List ℕ). fact_text v f ++ x) (sym (none_after v a (f.address + 1) fs (omega arith) rise.1)))))
       | inr n ↦
           rw (ne_eqb (4096 + f.address) (4096 + a) (λ q. n (omega arith)), ne_eqb f.address a n)
-          (ap (λ (x : List Line). all_ended v (first_with_details x)) (details_passed (4096 + a) f.statement later) ∙
+          (ap (λ (x : List Line). all_ended v (first_with_details x)) (details_passed (4096 + a) f.statement.cells f.statement.equations later) ∙
           facts_found v a (f.address + 1) fs es small rise.1)
     ]
 
@@ -110,9 +94,6 @@ fact_found v a ls small order unended =
 one_more : (v : Version) (l : Line) (rest : List Line) → is_detail l ≡ true → all_ended v (details_of_last (l ∷ rest)) ≡ ended (line_text v l) ++ all_ended v (details_of_last rest)
 one_more v l rest is = rw is refl
 
-none_more : (v : Version) (l : Line) (rest : List Line) → is_detail l ≡ false → all_ended v (details_of_last (l ∷ rest)) ≡ []
-none_more v l rest is = rw is refl
-
 abbrev left : Version → List Line → ℕ → List ℕ
 left v ls i = all_ended v (details_of_last (drop i ls))
 
@@ -121,17 +102,6 @@ pub detail_next : (v : Version) (ls : List Line) (i : ℕ) (l : Line) (wrote all
 detail_next v ls i l wrote all at is so =
     append_assoc wrote (ended (line_text v l)) (left v ls (i + 1)) ∙
     (ap (λ (x : List ℕ). wrote ++ x) (sym (ap (λ (x : List Line). all_ended v (details_of_last x)) at ∙ one_more v l (drop (i + 1) ls) is)) ∙ so)
-
-pub detail_over : (v : Version) (ls : List Line) (i : ℕ) (l : Line) (wrote all : List ℕ) → drop i ls ≡ l ∷ drop (i + 1) ls → is_detail l ≡ false →
-    wrote ++ all_ended v (details_of_last (drop i ls)) ≡ all → wrote ≡ all
-detail_over v ls i l wrote all at is so =
-    sym (append-nil wrote) ∙
-    (ap (λ (x : List ℕ). wrote ++ x) (sym (ap (λ (x : List Line). all_ended v (details_of_last x)) at ∙ none_more v l (drop (i + 1) ls) is)) ∙ so)
-
-pub detail_past : (v : Version) (ls : List Line) (i : ℕ) (wrote all : List ℕ) → length ls ≤ i →
-    wrote ++ all_ended v (details_of_last (drop i ls)) ≡ all → wrote ≡ all
-detail_past v ls i wrote all past so =
-    sym (append-nil wrote) ∙ (ap (λ (x : List ℕ). wrote ++ x) (sym (ap (λ (x : List Line). all_ended v (details_of_last x)) (drop_of_length-le ls past))) ∙ so)
 
 pub detail_cut : (a b c : Option (List ℕ)) (v : Version) (ls : List Line) (i : ℕ) (l : Line) (wrote all piece : List ℕ) → drop i ls ≡ l ∷ drop (i + 1) ls → is_detail l ≡ true →
     wrote ++ all_ended v (details_of_last (drop i ls)) ≡ all → Appends a b wrote → piece ≡ ended (line_text v l) → AppendsFront b c piece → AppendsFront a c all
@@ -142,6 +112,3 @@ detail_cut a b c v ls i l wrote all piece at is so whole same front =
 pub first_line_of : (v : Version) (ls : List Line) (i : ℕ) (l : Line) → drop i ls ≡ l ∷ drop (i + 1) ls →
     ended (line_text v l) ++ all_ended v (details_of_last (drop (i + 1) ls)) ≡ all_ended v (first_with_details (drop i ls))
 first_line_of v ls i l at = sym (ap (λ (x : List Line). all_ended v (first_with_details x)) at)
-
-pub nothing_past : (v : Version) (ls : List Line) (i : ℕ) → length ls ≤ i → all_ended v (first_with_details (drop i ls)) ≡ []
-nothing_past v ls i past = ap (λ (x : List Line). all_ended v (first_with_details x)) (drop_of_length-le ls past)

@@ -1,7 +1,10 @@
 -- What lines in order say together is of its form, rises and keeps the limits.
 use Rattle.std.proofs.Common.{◌≡◌, ℕ, ◌+◌, ◌*◌, ◌<◌, ◌≤◌, List, [], ◌∷◌, length, refl, arith}
 use Rattle.std.specs.Prelude.{map}
+use Rattle.facts.specs.Facts.{Equation}
+use Rattle.facts.specs.Statements.{TrackedCell}
 use Rattle.certificate.specs.declared.Version.{Version}
+use Rattle.certificate.specs.Spelling.{RoutineLine, FactLine, ExitLine}
 use Rattle.certificate.specs.Reading.{RiseFrom, place_of_equation, Each, IsTracked, IsEquation, IsStatement, IsRoutine, IsFactLine, IsExit, AreLines}
 use Rattle.certificate.specs.Line.{Registers, Line, RoutineIs, FactIs, ExitIs, CellIs, EquationIs, End, IsRegisters}
 use Rattle.certificate.specs.Order.{how_many, is_routine, is_cell, is_equation, heads, details_of_last, next_place, AreInOrder}
@@ -9,219 +12,165 @@ use Rattle.certificate.specs.Gathered.{cells_under, equations_under, stated, rou
 use Rattle.certificate.specs.Found.{newest_first}
 use Rattle.certificate.proofs.GatherLemmas.{Follow, follows}
 
--- The cells under a fact or an exit.
-cells_tracked : (v : Version) (before ls : List Line) → Follow v before ls → Each IsTracked (cells_under ls)
-cells_tracked v before [] f = tt
-cells_tracked v before (CellIs c ∷ ls) f = (f.0, cells_tracked v (CellIs c ∷ before) ls f.2)
-cells_tracked v before (EquationIs q ∷ ls) f = cells_tracked v (EquationIs q ∷ before) ls f.2
-cells_tracked v before (RoutineIs r ∷ ls) f = tt
-cells_tracked v before (FactIs a r m ∷ ls) f = tt
-cells_tracked v before (ExitIs x o r ∷ ls) f = tt
-cells_tracked v before (End ∷ ls) f = tt
+-- The cells and equations under a fact or an exit are formed, after others of which this is the next place and these the numbers.
+record Under (next many_cells many_equations : ℕ) (cs : List TrackedCell) (es : List Equation) : Type 0 where
+  cells : Each IsTracked cs
+  cells_rise : (low : ℕ) → low ≤ next → RiseFrom low (map (λ c. c.address) cs)
+  few_cells : many_cells ≤ 64 → many_cells + length cs ≤ 64
+  equations : Each IsEquation es
+  equations_rise : (low : ℕ) → ((p : ℕ) → next ≤ 4096 + p → low ≤ p) → RiseFrom low (map place_of_equation es)
+  few_equations : many_equations ≤ 32 → many_equations + length es ≤ 32
 
-cells_rise : (v : Version) (before ls : List Line) (low : ℕ) → Follow v before ls → low ≤ next_place (details_of_last before) →
-    RiseFrom low (map (λ c. c.address) (cells_under ls))
-cells_rise v before [] low f h = tt
-cells_rise v before (CellIs c ∷ ls) low f h = (
-  let o : next_place (details_of_last before) ≤ c.address = f.1.order in omega arith,
-  cells_rise v (CellIs c ∷ before) ls (c.address + 1) f.2 (omega arith),
-)
-cells_rise v before (EquationIs q ∷ ls) low f h =
-    cells_rise v (EquationIs q ∷ before) ls low f.2
-    (let o : next_place (details_of_last before) ≤ 4096 + place_of_equation q = f.1.order in omega arith)
-cells_rise v before (RoutineIs r ∷ ls) low f h = tt
-cells_rise v before (FactIs a r m ∷ ls) low f h = tt
-cells_rise v before (ExitIs x o r ∷ ls) low f h = tt
-cells_rise v before (End ∷ ls) low f h = tt
+none_under : (next many_cells many_equations : ℕ) → Under next many_cells many_equations [] []
+none_under next many_cells many_equations = record {
+  cells = tt;
+  cells_rise = λ low h. tt;
+  few_cells = λ h. omega arith;
+  equations = tt;
+  equations_rise = λ low h. tt;
+  few_equations = λ h. omega arith;
+}
 
-few_cells : (v : Version) (before ls : List Line) → Follow v before ls → how_many is_cell (details_of_last before) ≤ 64 →
-    how_many is_cell (details_of_last before) + length (cells_under ls) ≤ 64
-few_cells v before [] f h = omega arith
-few_cells v before (CellIs c ∷ ls) f h =
-    let o : how_many is_cell (details_of_last before) < 64 = f.1.room in
-    let i : how_many is_cell (details_of_last (CellIs c ∷ before)) + length (cells_under ls) ≤ 64 =
-    few_cells v (CellIs c ∷ before) ls f.2 (omega arith) in omega arith
-few_cells v before (EquationIs q ∷ ls) f h =
-    let i : how_many is_cell (details_of_last (EquationIs q ∷ before)) + length (cells_under ls) ≤ 64 =
-    few_cells v (EquationIs q ∷ before) ls f.2 (omega arith) in omega arith
-few_cells v before (RoutineIs r ∷ ls) f h = omega arith
-few_cells v before (FactIs a r m ∷ ls) f h = omega arith
-few_cells v before (ExitIs x o r ∷ ls) f h = omega arith
-few_cells v before (End ∷ ls) f h = omega arith
-
--- And the equations.
-equations_formed : (v : Version) (before ls : List Line) → Follow v before ls → Each IsEquation (equations_under ls)
-equations_formed v before [] f = tt
-equations_formed v before (CellIs c ∷ ls) f = equations_formed v (CellIs c ∷ before) ls f.2
-equations_formed v before (EquationIs q ∷ ls) f = (f.0, equations_formed v (EquationIs q ∷ before) ls f.2)
-equations_formed v before (RoutineIs r ∷ ls) f = tt
-equations_formed v before (FactIs a r m ∷ ls) f = tt
-equations_formed v before (ExitIs x o r ∷ ls) f = tt
-equations_formed v before (End ∷ ls) f = tt
-
-equations_rise : (v : Version) (before ls : List Line) (low : ℕ) → Follow v before ls →
-    ((p : ℕ) → next_place (details_of_last before) ≤ 4096 + p → low ≤ p) →
-    RiseFrom low (map place_of_equation (equations_under ls))
-equations_rise v before [] low f h = tt
-equations_rise v before (CellIs c ∷ ls) low f h =
-    equations_rise v (CellIs c ∷ before) ls low f.2
-    (λ p g. h p (let o : next_place (details_of_last before) ≤ c.address = f.1.order in omega arith))
-equations_rise v before (EquationIs q ∷ ls) low f h = (
-  h (place_of_equation q) f.1.order,
-  equations_rise v (EquationIs q ∷ before) ls (place_of_equation q + 1) f.2 (λ p g. omega arith),
-)
-equations_rise v before (RoutineIs r ∷ ls) low f h = tt
-equations_rise v before (FactIs a r m ∷ ls) low f h = tt
-equations_rise v before (ExitIs x o r ∷ ls) low f h = tt
-equations_rise v before (End ∷ ls) low f h = tt
-
-few_equations : (v : Version) (before ls : List Line) → Follow v before ls → how_many is_equation (details_of_last before) ≤ 32 →
-    how_many is_equation (details_of_last before) + length (equations_under ls) ≤ 32
-few_equations v before [] f h = omega arith
-few_equations v before (CellIs c ∷ ls) f h =
-    let i : how_many is_equation (details_of_last (CellIs c ∷ before)) + length (equations_under ls) ≤ 32 =
-    few_equations v (CellIs c ∷ before) ls f.2 (omega arith) in omega arith
-few_equations v before (EquationIs q ∷ ls) f h =
-    let o : how_many is_equation (details_of_last before) < 32 = f.1.room in
-    let i : how_many is_equation (details_of_last (EquationIs q ∷ before)) + length (equations_under ls) ≤ 32 =
-    few_equations v (EquationIs q ∷ before) ls f.2 (omega arith) in omega arith
-few_equations v before (RoutineIs r ∷ ls) f h = omega arith
-few_equations v before (FactIs a r m ∷ ls) f h = omega arith
-few_equations v before (ExitIs x o r ∷ ls) f h = omega arith
-few_equations v before (End ∷ ls) f h = omega arith
+under_formed : (v : Version) (before ls : List Line) → Follow v before ls →
+    Under (next_place (details_of_last before)) (how_many is_cell (details_of_last before)) (how_many is_equation (details_of_last before))
+    (cells_under ls) (equations_under ls)
+under_formed v before (CellIs c ∷ ls) f =
+    let o : next_place (details_of_last before) ≤ c.address = f.1.order in
+    let room : how_many is_cell (details_of_last before) < 64 = f.1.room in
+    let u = under_formed v (CellIs c ∷ before) ls f.2 in
+    record {
+      cells = (f.0, u.cells);
+      cells_rise = λ low h. (omega arith, u.cells_rise (c.address + 1) (omega arith));
+      few_cells = λ h. let i = u.few_cells (omega arith) in omega arith;
+      equations = u.equations;
+      equations_rise = λ low h. u.equations_rise low (λ p g. h p (omega arith));
+      few_equations = λ h. let i = u.few_equations (omega arith) in omega arith;
+    }
+under_formed v before (EquationIs q ∷ ls) f =
+    let o : next_place (details_of_last before) ≤ 4096 + place_of_equation q = f.1.order in
+    let room : how_many is_equation (details_of_last before) < 32 = f.1.room in
+    let u = under_formed v (EquationIs q ∷ before) ls f.2 in
+    record {
+      cells = u.cells;
+      cells_rise = λ low h. u.cells_rise low (omega arith);
+      few_cells = λ h. let i = u.few_cells (omega arith) in omega arith;
+      equations = (f.0, u.equations);
+      equations_rise = λ low h. (h (place_of_equation q) o, u.equations_rise (place_of_equation q + 1) (λ p g. omega arith));
+      few_equations = λ h. let i = u.few_equations (omega arith) in omega arith;
+    }
+under_formed v before [] f = none_under _ _ _
+under_formed v before (l ∷ ls) f = none_under _ _ _
 
 -- What is said after a fact's or an exit's line.
-statement_formed : (v : Version) (before ls : List Line) (r : Registers) → IsRegisters v r → Follow v before ls → details_of_last before ≡ [] →
+statement_formed : (v : Version) (r : Registers) (ls : List Line) → IsRegisters v r → Under 0 0 0 (cells_under ls) (equations_under ls) →
     IsStatement v (stated r ls)
-statement_formed v before ls r h f e = record {
+statement_formed v r ls h u = record {
   ac = h.ac;
   mq = h.mq;
   link = h.link;
-  cells = cells_tracked v before ls f;
-  cells_rise = cells_rise v before ls 0 f (omega arith);
-  few_cells = let z : how_many is_cell (details_of_last before) ≡ 0 = rw e refl in
-      let i : how_many is_cell (details_of_last before) + length (cells_under ls) ≤ 64 = few_cells v before ls f (omega arith) in omega arith;
-  equations = equations_formed v before ls f;
-  equations_rise = equations_rise v before ls 0 f (λ p g. omega arith);
-  few_equations = let z : how_many is_equation (details_of_last before) ≡ 0 = rw e refl in
-      let i : how_many is_equation (details_of_last before) + length (equations_under ls) ≤ 32 = few_equations v before ls f (omega arith) in omega arith;
+  cells = u.cells;
+  cells_rise = u.cells_rise 0 (omega arith);
+  few_cells = (let i = u.few_cells (omega arith) in omega arith);
+  equations = u.equations;
+  equations_rise = u.equations_rise 0 (λ p g. omega arith);
+  few_equations = (let i = u.few_equations (omega arith) in omega arith);
 }
 
--- The routines.
-routines_formed : (v : Version) (before ls : List Line) → Follow v before ls → Each IsRoutine (routines_of ls)
-routines_formed v before [] f = tt
-routines_formed v before (RoutineIs r ∷ ls) f = (f.0, routines_formed v (RoutineIs r ∷ before) ls f.2)
-routines_formed v before (FactIs a r m ∷ ls) f = routines_formed v (FactIs a r m ∷ before) ls f.2
-routines_formed v before (ExitIs x o r ∷ ls) f = routines_formed v (ExitIs x o r ∷ before) ls f.2
-routines_formed v before (CellIs c ∷ ls) f = routines_formed v (CellIs c ∷ before) ls f.2
-routines_formed v before (EquationIs q ∷ ls) f = routines_formed v (EquationIs q ∷ before) ls f.2
-routines_formed v before (End ∷ ls) f = routines_formed v (End ∷ before) ls f.2
+-- The routines, facts and exits are formed, after lines of which this is the next place and this the number of routines.
+record Heads (v : Version) (next many : ℕ) (rs : List RoutineLine) (fs : List FactLine) (xs : List ExitLine) : Type 0 where
+  routines : Each IsRoutine rs
+  routines_rise : (low : ℕ) → low ≤ next → RiseFrom low (map (λ r. r.entry) rs)
+  few_routines : many ≤ 64 → many + length rs ≤ 64
+  facts : Each (IsFactLine v) fs
+  facts_rise : (low : ℕ) → ((a : ℕ) → next ≤ 4096 + a → low ≤ a) → RiseFrom low (map (λ f. f.address) fs)
+  exits : Each (IsExit v) xs
+  exits_rise : (low : ℕ) → ((p : ℕ) → next ≤ 8192 + p → low ≤ p) → RiseFrom low (map (λ x. 8 * x.entry + x.offset) xs)
 
-routines_rise : (v : Version) (before ls : List Line) (low : ℕ) → Follow v before ls → low ≤ next_place (heads before) →
-    RiseFrom low (map (λ r. r.entry) (routines_of ls))
-routines_rise v before [] low f h = tt
-routines_rise v before (RoutineIs r ∷ ls) low f h = (
-  let o : next_place (heads before) ≤ r.entry = f.1.order in omega arith,
-  routines_rise v (RoutineIs r ∷ before) ls (r.entry + 1) f.2 (omega arith),
-)
-routines_rise v before (FactIs a r m ∷ ls) low f h =
-    routines_rise v (FactIs a r m ∷ before) ls low f.2 (let o : next_place (heads before) ≤ 4096 + a = f.1.order in omega arith)
-routines_rise v before (ExitIs x o r ∷ ls) low f h =
-    routines_rise v (ExitIs x o r ∷ before) ls low f.2 (let o : next_place (heads before) ≤ 8192 + (8 * x + o) = f.1.order in omega arith)
-routines_rise v before (CellIs c ∷ ls) low f h = routines_rise v (CellIs c ∷ before) ls low f.2 h
-routines_rise v before (EquationIs q ∷ ls) low f h = routines_rise v (EquationIs q ∷ before) ls low f.2 h
-routines_rise v before (End ∷ ls) low f h =
-    routines_rise v (End ∷ before) ls low f.2 (let o : next_place (heads before) ≤ 40960 = f.1.order in omega arith)
+lower : {v : Version} {next many : ℕ} {rs : List RoutineLine} {fs : List FactLine} {xs : List ExitLine} (low same : ℕ) → low ≤ next → same ≡ many →
+    Heads v next many rs fs xs → Heads v low same rs fs xs
+lower low same less e h = record {
+  routines = h.routines;
+  routines_rise = λ n g. h.routines_rise n (omega arith);
+  few_routines = λ g. let i = h.few_routines (omega arith) in omega arith;
+  facts = h.facts;
+  facts_rise = λ n g. h.facts_rise n (λ a k. g a (omega arith));
+  exits = h.exits;
+  exits_rise = λ n g. h.exits_rise n (λ p k. g p (omega arith));
+}
 
-few_routines : (v : Version) (before ls : List Line) → Follow v before ls → how_many is_routine before ≤ 64 →
-    how_many is_routine before + length (routines_of ls) ≤ 64
-few_routines v before [] f h = omega arith
-few_routines v before (RoutineIs r ∷ ls) f h =
-    let o : how_many is_routine before < 64 = f.1.room in
-    let i : how_many is_routine (RoutineIs r ∷ before) + length (routines_of ls) ≤ 64 =
-    few_routines v (RoutineIs r ∷ before) ls f.2 (omega arith) in omega arith
-few_routines v before (FactIs a r m ∷ ls) f h =
-    let i : how_many is_routine (FactIs a r m ∷ before) + length (routines_of ls) ≤ 64 =
-    few_routines v (FactIs a r m ∷ before) ls f.2 (omega arith) in omega arith
-few_routines v before (ExitIs x o r ∷ ls) f h =
-    let i : how_many is_routine (ExitIs x o r ∷ before) + length (routines_of ls) ≤ 64 =
-    few_routines v (ExitIs x o r ∷ before) ls f.2 (omega arith) in omega arith
-few_routines v before (CellIs c ∷ ls) f h =
-    let i : how_many is_routine (CellIs c ∷ before) + length (routines_of ls) ≤ 64 =
-    few_routines v (CellIs c ∷ before) ls f.2 (omega arith) in omega arith
-few_routines v before (EquationIs q ∷ ls) f h =
-    let i : how_many is_routine (EquationIs q ∷ before) + length (routines_of ls) ≤ 64 =
-    few_routines v (EquationIs q ∷ before) ls f.2 (omega arith) in omega arith
-few_routines v before (End ∷ ls) f h =
-    let i : how_many is_routine (End ∷ before) + length (routines_of ls) ≤ 64 =
-    few_routines v (End ∷ before) ls f.2 (omega arith) in omega arith
-
--- The facts.
-facts_formed : (v : Version) (before ls : List Line) → Follow v before ls → Each (IsFactLine v) (facts_of ls)
-facts_formed v before [] f = tt
-facts_formed v before (FactIs a r m ∷ ls) f = (
-  record { address = f.0.0; statement = statement_formed v (FactIs a r m ∷ before) ls r f.0.1 f.2 refl },
-  facts_formed v (FactIs a r m ∷ before) ls f.2,
-)
-facts_formed v before (RoutineIs r ∷ ls) f = facts_formed v (RoutineIs r ∷ before) ls f.2
-facts_formed v before (ExitIs x o r ∷ ls) f = facts_formed v (ExitIs x o r ∷ before) ls f.2
-facts_formed v before (CellIs c ∷ ls) f = facts_formed v (CellIs c ∷ before) ls f.2
-facts_formed v before (EquationIs q ∷ ls) f = facts_formed v (EquationIs q ∷ before) ls f.2
-facts_formed v before (End ∷ ls) f = facts_formed v (End ∷ before) ls f.2
-
-facts_rise : (v : Version) (before ls : List Line) (low : ℕ) → Follow v before ls →
-    ((a : ℕ) → next_place (heads before) ≤ 4096 + a → low ≤ a) → RiseFrom low (map (λ f. f.address) (facts_of ls))
-facts_rise v before [] low f h = tt
-facts_rise v before (FactIs a r m ∷ ls) low f h =
-    (h a f.1.order, facts_rise v (FactIs a r m ∷ before) ls (a + 1) f.2 (λ b g. omega arith))
-facts_rise v before (RoutineIs r ∷ ls) low f h =
-    facts_rise v (RoutineIs r ∷ before) ls low f.2 (λ b g. h b (let o : next_place (heads before) ≤ r.entry = f.1.order in omega arith))
-facts_rise v before (ExitIs x o r ∷ ls) low f h =
-    facts_rise v (ExitIs x o r ∷ before) ls low f.2
-    (λ b g. h b (let o : next_place (heads before) ≤ 8192 + (8 * x + o) = f.1.order in omega arith))
-facts_rise v before (CellIs c ∷ ls) low f h = facts_rise v (CellIs c ∷ before) ls low f.2 h
-facts_rise v before (EquationIs q ∷ ls) low f h = facts_rise v (EquationIs q ∷ before) ls low f.2 h
-facts_rise v before (End ∷ ls) low f h =
-    facts_rise v (End ∷ before) ls low f.2 (λ b g. h b (let o : next_place (heads before) ≤ 40960 = f.1.order in omega arith))
-
--- The exits.
-exits_formed : (v : Version) (before ls : List Line) → Follow v before ls → Each (IsExit v) (exits_of ls)
-exits_formed v before [] f = tt
-exits_formed v before (ExitIs x o r ∷ ls) f = (
-  record { entry = f.0.0; offset = f.0.1; statement = statement_formed v (ExitIs x o r ∷ before) ls r f.0.2 f.2 refl },
-  exits_formed v (ExitIs x o r ∷ before) ls f.2,
-)
-exits_formed v before (RoutineIs r ∷ ls) f = exits_formed v (RoutineIs r ∷ before) ls f.2
-exits_formed v before (FactIs a r m ∷ ls) f = exits_formed v (FactIs a r m ∷ before) ls f.2
-exits_formed v before (CellIs c ∷ ls) f = exits_formed v (CellIs c ∷ before) ls f.2
-exits_formed v before (EquationIs q ∷ ls) f = exits_formed v (EquationIs q ∷ before) ls f.2
-exits_formed v before (End ∷ ls) f = exits_formed v (End ∷ before) ls f.2
-
-exits_rise : (v : Version) (before ls : List Line) (low : ℕ) → Follow v before ls →
-    ((p : ℕ) → next_place (heads before) ≤ 8192 + p → low ≤ p) → RiseFrom low (map (λ e. 8 * e.entry + e.offset) (exits_of ls))
-exits_rise v before [] low f h = tt
-exits_rise v before (ExitIs x o r ∷ ls) low f h =
-    (h (8 * x + o) f.1.order, exits_rise v (ExitIs x o r ∷ before) ls (8 * x + o + 1) f.2 (λ b g. omega arith))
-exits_rise v before (RoutineIs r ∷ ls) low f h =
-    exits_rise v (RoutineIs r ∷ before) ls low f.2 (λ b g. h b (let o : next_place (heads before) ≤ r.entry = f.1.order in omega arith))
-exits_rise v before (FactIs a r m ∷ ls) low f h =
-    exits_rise v (FactIs a r m ∷ before) ls low f.2
-    (λ b g. h b (let o : next_place (heads before) ≤ 4096 + a = f.1.order in omega arith))
-exits_rise v before (CellIs c ∷ ls) low f h = exits_rise v (CellIs c ∷ before) ls low f.2 h
-exits_rise v before (EquationIs q ∷ ls) low f h = exits_rise v (EquationIs q ∷ before) ls low f.2 h
-exits_rise v before (End ∷ ls) low f h =
-    exits_rise v (End ∷ before) ls low f.2 (λ b g. h b (let o : next_place (heads before) ≤ 40960 = f.1.order in omega arith))
+heads_formed : (v : Version) (before ls : List Line) → Follow v before ls →
+    Heads v (next_place (heads before)) (how_many is_routine before) (routines_of ls) (facts_of ls) (exits_of ls)
+heads_formed v before [] f = record {
+  routines = tt;
+  routines_rise = λ low h. tt;
+  few_routines = λ h. omega arith;
+  facts = tt;
+  facts_rise = λ low h. tt;
+  exits = tt;
+  exits_rise = λ low h. tt;
+}
+heads_formed v before (RoutineIs r ∷ ls) f =
+    let o : next_place (heads before) ≤ r.entry = f.1.order in
+    let room : how_many is_routine before < 64 = f.1.room in
+    let i = heads_formed v (RoutineIs r ∷ before) ls f.2 in
+    let l = lower (next_place (heads before)) (1 + how_many is_routine before) (omega arith) refl i in
+    record {
+      routines = (f.0, i.routines);
+      routines_rise = λ low h. (omega arith, i.routines_rise (r.entry + 1) (omega arith));
+      few_routines = λ h. let k = i.few_routines (omega arith) in omega arith;
+      facts = l.facts;
+      facts_rise = l.facts_rise;
+      exits = l.exits;
+      exits_rise = l.exits_rise;
+    }
+heads_formed v before (FactIs a r m ∷ ls) f =
+    let o : next_place (heads before) ≤ 4096 + a = f.1.order in
+    let i = heads_formed v (FactIs a r m ∷ before) ls f.2 in
+    let l = lower (next_place (heads before)) (how_many is_routine before) (omega arith) (omega arith) i in
+    record {
+      routines = l.routines;
+      routines_rise = l.routines_rise;
+      few_routines = l.few_routines;
+      facts = (
+        record { address = f.0.0; statement = statement_formed v r ls f.0.1 (under_formed v (FactIs a r m ∷ before) ls f.2) },
+        i.facts,
+      );
+      facts_rise = λ low h. (h a o, i.facts_rise (a + 1) (λ b g. omega arith));
+      exits = l.exits;
+      exits_rise = l.exits_rise;
+    }
+heads_formed v before (ExitIs x n r ∷ ls) f =
+    let o : next_place (heads before) ≤ 8192 + (8 * x + n) = f.1.order in
+    let i = heads_formed v (ExitIs x n r ∷ before) ls f.2 in
+    let l = lower (next_place (heads before)) (how_many is_routine before) (omega arith) (omega arith) i in
+    record {
+      routines = l.routines;
+      routines_rise = l.routines_rise;
+      few_routines = l.few_routines;
+      facts = l.facts;
+      facts_rise = l.facts_rise;
+      exits = (
+        record { entry = f.0.0; offset = f.0.1; statement = statement_formed v r ls f.0.2 (under_formed v (ExitIs x n r ∷ before) ls f.2) },
+        i.exits,
+      );
+      exits_rise = λ low h. (h (8 * x + n) o, i.exits_rise (8 * x + n + 1) (λ p g. omega arith));
+    }
+heads_formed v before (CellIs c ∷ ls) f = lower _ _ (omega arith) (omega arith) (heads_formed v (CellIs c ∷ before) ls f.2)
+heads_formed v before (EquationIs q ∷ ls) f = lower _ _ (omega arith) (omega arith) (heads_formed v (EquationIs q ∷ before) ls f.2)
+heads_formed v before (End ∷ ls) f =
+    let o : next_place (heads before) ≤ 40960 = f.1.order in
+    lower (next_place (heads before)) (how_many is_routine before) (omega arith) (omega arith) (heads_formed v (End ∷ before) ls f.2)
 
 -- What is said together.
 pub gathered_formed : (v : Version) (ls : List Line) → AreInOrder v (newest_first [] ls) → AreLines (gathered v ls)
 gathered_formed v ls h =
-    let f : Follow v [] ls = follows v [] ls h in
+    let f = heads_formed v [] ls (follows v [] ls h) in
     record {
-      routines = routines_formed v [] ls f;
-      routines_rise = routines_rise v [] ls 0 f (omega arith);
-      few_routines = (let i : 0 + length (routines_of ls) ≤ 64 = few_routines v [] ls f (omega arith) in omega arith);
-      facts = facts_formed v [] ls f;
-      facts_rise = facts_rise v [] ls 0 f (λ a g. omega arith);
-      exits = exits_formed v [] ls f;
-      exits_rise = exits_rise v [] ls 0 f (λ a g. omega arith);
+      routines = f.routines;
+      routines_rise = f.routines_rise 0 (omega arith);
+      few_routines = (let i = f.few_routines (omega arith) in omega arith);
+      facts = f.facts;
+      facts_rise = f.facts_rise 0 (λ a g. omega arith);
+      exits = f.exits;
+      exits_rise = f.exits_rise 0 (λ p g. omega arith);
     }

@@ -1,5 +1,5 @@
 -- Lines that are kept, and are found by their places.
-use Rattle.std.proofs.Common.{◌≡◌, ◌≢◌, ℕ, ◌+◌, ◌<◌, ◌≤◌, ◌==◌, Bool, true, false, List, [], ◌∷◌, ◌++◌, length, get_or, drop, Result, Ok, Err, nat_cmp, zero, suc, refl, ap, ◌∙◌, sym, inl, inr, arith, append-nil}
+use Rattle.std.proofs.Common.{◌≡◌, ◌≢◌, ℕ, ◌+◌, ◌<◌, ◌≤◌, ◌==◌, Bool, true, false, List, [], ◌∷◌, ◌++◌, length, get_or, drop, Result, Ok, Err, nat_cmp, zero, suc, refl, ap, ◌∙◌, sym, subst, inl, inr, arith, append-nil}
 use Rattle.std.specs.Prelude.{◌*◌, ◌↔◌, if◌then◌else◌, map, MatchResult}
 use Rattle.std.proofs.lemmas.Bool.{eq-eqb, cases_lt}
 use Rattle.std.proofs.lemmas.Bool.Decides.{eqb_tells}
@@ -10,32 +10,23 @@ use Rattle.certificate.specs.declared.Version.{Version}
 use Rattle.certificate.specs.declared.lines.KeptLines.{KeptLines}
 use Rattle.certificate.specs.Reading.{RiseFrom}
 use Rattle.certificate.specs.Line.{Line, RoutineIs, FactIs, ExitIs, CellIs, EquationIs, End}
-use Rattle.certificate.specs.Order.{is_detail, is_end, heads, place, next_place, AreInOrder}
-use Rattle.certificate.specs.Found.{newest_first, starts, from_place, all_said, IsIndexed, HasBetween, IsNextPlace, Keeps, unended}
+use Rattle.certificate.specs.Order.{is_detail, is_end, heads, place, next_place}
+use Rattle.certificate.specs.Found.{newest_first, starts, from_place, all_said, IsIndexed, IsWhole, HasBetween, IsNextPlace, Keeps, unended}
+use Rattle.certificate.proofs.TextLemmas.{newest_both}
 use Rattle.certificate.proofs.GatherLemmas.{Follow, follows}
 
-pub reversed_more : (before ls : List Line) (l : Line) → newest_first before (ls ++ l ∷ []) ≡ l ∷ newest_first before ls
-reversed_more before [] l = refl
-reversed_more before (m ∷ ls) l = reversed_more (m ∷ before) ls l
+picked : {X : Type 0} (b : Bool) (x : X) (xs ys zs : List X) → xs ≡ ys ++ zs → (if b then xs else x ∷ xs) ≡ (if b then ys else x ∷ ys) ++ zs
+picked true x xs ys zs e = e
+picked {X} false x xs ys zs e = ap (λ (l : List X). x ∷ l) e
 
 pub heads_more : (ls ms : List Line) → heads (ls ++ ms) ≡ heads ls ++ heads ms
 heads_more [] ms = refl
-heads_more (l ∷ ls) ms = pick (is_detail l) (heads (ls ++ ms)) (heads ls) (heads ms) (heads_more ls ms)
-  where
-    pick : (b : Bool) (xs ys zs : List Line) → xs ≡ ys ++ zs → (if b then xs else l ∷ xs) ≡ (if b then ys else l ∷ ys) ++ zs
-    pick true xs ys zs e = e
-    pick false xs ys zs e = ap (λ (x : List Line). l ∷ x) e
+heads_more (l ∷ ls) ms = picked (is_detail l) l (heads (ls ++ ms)) (heads ls) (heads ms) (heads_more ls ms)
 
-starts_more : (n m : ℕ) (ls : List Line) (l : Line) → m ≡ n + length ls →
-    starts n (ls ++ l ∷ []) ≡ starts n ls ++ (if is_detail l then [] else m ∷ [])
-starts_more n m [] l e = let z : n ≡ m = omega arith in rw z refl
-starts_more n m (k ∷ ls) l e =
-    pick (is_detail k) (starts (n + 1) (ls ++ l ∷ [])) (starts (n + 1) ls) (if is_detail l then [] else m ∷ [])
-    (starts_more (n + 1) m ls l (omega arith))
-  where
-    pick : (b : Bool) (xs ys zs : List ℕ) → xs ≡ ys ++ zs → (if b then xs else n ∷ xs) ≡ (if b then ys else n ∷ ys) ++ zs
-    pick true xs ys zs e = e
-    pick false xs ys zs e = ap (λ (x : List ℕ). n ∷ x) e
+pub starts_both : (n m : ℕ) (ls ms : List Line) → m ≡ n + length ls → starts n (ls ++ ms) ≡ starts n ls ++ starts m ms
+starts_both n m [] ms e = let z : n ≡ m = omega arith in rw z refl
+starts_both n m (k ∷ ls) ms e =
+    picked (is_detail k) n (starts (n + 1) (ls ++ ms)) (starts (n + 1) ls) (starts m ms) (starts_both (n + 1) m ls ms (omega arith))
 
 starts_count : (n : ℕ) (ls : List Line) → length (starts n ls) ≡ length (map place (heads ls))
 starts_count n [] = refl
@@ -50,24 +41,16 @@ lines_more : {A : Type 0} (k new : KeptLines A) (l : Line) (before : List Line) 
     Keeps k before → newest_first [] (all_said new) ≡ l ∷ before
 lines_more k new l before e h =
     ap (λ (x : List Line). newest_first [] x) e ∙
-    (reversed_more [] (all_said k) l ∙ ap (λ (x : List Line). l ∷ x) h.lines)
+    (newest_both [] (all_said k) (l ∷ []) ∙ ap (λ (x : List Line). l ∷ x) h.lines)
 
 -- The end is known without being kept.
 pub end_kept : {A : Type 0} (k : KeptLines A) (l : Line) (before : List Line) → is_end l ≡ true → Keeps k before → Keeps k (unended (l ∷ before))
-end_kept k (RoutineIs r) before e h = absurd (cc)
-end_kept k (FactIs a r m) before e h = absurd (cc)
-end_kept k (ExitIs x o r) before e h = absurd (cc)
-end_kept k (CellIs c) before e h = absurd (cc)
-end_kept k (EquationIs q) before e h = absurd (cc)
 end_kept k End before e h = h
+end_kept k l before e h = absurd (cc)
 
 pub not_end : (l : Line) (before : List Line) → is_end l ≡ false → unended (l ∷ before) ≡ l ∷ before
-not_end (RoutineIs r) before e = refl
-not_end (FactIs a r m) before e = refl
-not_end (ExitIs x o r) before e = refl
-not_end (CellIs c) before e = refl
-not_end (EquationIs q) before e = refl
 not_end End before e = absurd (cc)
+not_end l before e = refl
 
 -- A detail was kept.
 pub detail_kept : {A : Type 0} (k new : KeptLines A) (l : Line) (before : List Line) → is_detail l ≡ true →
@@ -77,7 +60,7 @@ detail_kept k new l before d e p s h = record {
   lines = lines_more k new l before e h;
   indexed = record {
     places = p ∙ (h.indexed.places ∙ rw (e, heads_more (all_said k) (l ∷ []), d, append-nil) refl);
-    starts = s ∙ (h.indexed.starts ∙ rw (e, starts_more 0 (length (all_said k)) (all_said k) l (omega arith), d, append-nil) refl);
+    starts = s ∙ (h.indexed.starts ∙ rw (e, starts_both 0 (length (all_said k)) (all_said k) (l ∷ []) (omega arith), d, append-nil) refl);
   };
 }
 
@@ -89,7 +72,7 @@ head_kept k new l before d e p s h = record {
   lines = lines_more k new l before e h;
   indexed = record {
     places = p ∙ rw (h.indexed.places, e, heads_more (all_said k) (l ∷ []), d) (sym (map_push place (heads (all_said k)) l));
-    starts = s ∙ rw (h.indexed.starts, e, starts_more 0 (length (all_said k)) (all_said k) l (omega arith), d) refl;
+    starts = s ∙ rw (h.indexed.starts, e, starts_both 0 (length (all_said k)) (all_said k) (l ∷ []) (omega arith), d) refl;
   };
 }
 
@@ -209,90 +192,73 @@ places_rise v before (End ∷ ls) low f h = (
   places_rise v (End ∷ before) ls (40960 + 1) f.2 (omega arith),
 )
 
-pub places_of_order : {A : Type 0} (v : Version) (k : KeptLines A) → IsIndexed k → AreInOrder v (newest_first [] (all_said k)) →
-    RiseFrom 0 k.places.items
-places_of_order v k h o = rw h.places (places_rise v [] (all_said k) 0 (follows v [] (all_said k) o) (omega arith))
+pub places_of_order : {A : Type 0} (v : Version) (k : KeptLines A) → IsWhole v k → RiseFrom 0 k.places.items
+places_of_order v k w = rw w.indexed.places (places_rise v [] (all_said k) 0 (follows v [] (all_said k) w.order) (omega arith))
 
 -- What a search among the places answers.
+abbrev Hit : List ℕ → ℕ → ℕ → Type 0
+Hit places p i = (i < length places) × (get_or places i 0 ≡ p)
+
+abbrev Missed : List ℕ → ℕ → ℕ → Type 0
+Missed places p i =
+    (i ≤ length places) × ((k : ℕ) → k < i → get_or places k 0 < p) × ((k : ℕ) → i ≤ k → k < length places → p < get_or places k 0)
+
+told : (xs places : List ℕ) (p : ℕ) (r : Result ℕ ℕ) → xs ≡ places → IsBinarySearchResult (λ y. nat_cmp y p) xs r → RiseFrom 0 places →
+    MatchResult r (Hit places p) (Missed places p)
+told xs places p r same found_by rise =
+    subst (λ (ys : List ℕ). MatchResult r (Hit ys p) (Missed ys p)) same (searched xs p r found_by (rising xs (rw same rise)))
+
+hit : (xs places : List ℕ) (p i : ℕ) (r : Result ℕ ℕ) → xs ≡ places → r ≡ Ok i → IsBinarySearchResult (λ y. nat_cmp y p) xs r →
+    RiseFrom 0 places → Hit places p i
+hit xs places p i r same is found_by rise = rw is at (told xs places p r same found_by rise)
+
+missed : (xs places : List ℕ) (p i : ℕ) (r : Result ℕ ℕ) → xs ≡ places → r ≡ Err i → IsBinarySearchResult (λ y. nat_cmp y p) xs r →
+    RiseFrom 0 places → Missed places p i
+missed xs places p i r same is found_by rise = rw is at (told xs places p r same found_by rise)
+
 pub sought : {A : Type 0} (k : KeptLines A) (xs : List ℕ) (p i d : ℕ) (r : Result ℕ ℕ) → xs ≡ k.places.items → r ≡ Ok i →
     IsBinarySearchResult (λ y. nat_cmp y p) xs r → IsIndexed k → RiseFrom 0 k.places.items →
     (i < length k.starts.items) × IsFound k p (get_or k.starts.items i d)
 sought k xs p i d r same is found_by h rise =
-    let m : MatchResult r (λ i. (i < length xs) × (get_or xs i 0 ≡ p)) (λ i. (i ≤ length xs) × ((k : ℕ) → k < i → get_or xs k 0 < p) × ((k : ℕ) → i ≤ k → k < length xs → p < get_or xs k 0)) =
-    searched xs p r found_by (rising xs (rw same rise)) in
-    let n : (i < length xs) × (get_or xs i 0 ≡ p) = rw is at m in
-    let b : i < length k.places.items = rw same at n.0 in
-    let e : get_or k.places.items i 0 ≡ p = rw same at n.1 in
-    let c : i < length k.starts.items = in_range k i h b in
-    (c, rw (get_or_default k.starts.items i d 0 c) (found k i p h rise b e))
+    let n : Hit k.places.items p i = hit xs k.places.items p i r same is found_by rise in
+    let c : i < length k.starts.items = in_range k i h n.0 in
+    (c, rw (get_or_default k.starts.items i d 0 c) (found k i p h rise n.0 n.1))
 
 pub sought_none : {A : Type 0} (k : KeptLines A) (xs : List ℕ) (p i : ℕ) (r : Result ℕ ℕ) → xs ≡ k.places.items → r ≡ Err i →
     IsBinarySearchResult (λ y. nat_cmp y p) xs r → IsIndexed k → RiseFrom 0 k.places.items → from_place p (all_said k) ≡ []
 sought_none k xs p i r same is found_by h rise =
-    let m : MatchResult r (λ i. (i < length xs) × (get_or xs i 0 ≡ p)) (λ i. (i ≤ length xs) × ((k : ℕ) → k < i → get_or xs k 0 < p) × ((k : ℕ) → i ≤ k → k < length xs → p < get_or xs k 0)) =
-    searched xs p r found_by (rising xs (rw same rise)) in
-    let n : (i ≤ length xs) × ((k : ℕ) → k < i → get_or xs k 0 < p) × ((k : ℕ) → i ≤ k → k < length xs → p < get_or xs k 0) = rw is at m in
+    let n : Missed k.places.items p i = missed xs k.places.items p i r same is found_by rise in
     not_found k p h (λ j b e. elim (cases_lt j i) [
-      | inl a ↦ (let z : get_or xs j 0 < p = n.1 j a in let w : get_or xs j 0 ≡ p = rw same e in omega arith)
-      | inr a ↦ (let z : p < get_or xs j 0 = n.2 j a (rw same b) in let w : get_or xs j 0 ≡ p = rw same e in omega arith)
+      | inl a ↦ (let z : get_or k.places.items j 0 < p = n.1 j a in omega arith)
+      | inr a ↦ (let z : p < get_or k.places.items j 0 = n.2 j a b in omega arith)
     ])
 
--- The place of a search is between two numbers where the first one was found, and is before the other.
-pub between_found : (xs places : List ℕ) (first end i : ℕ) (r : Result ℕ ℕ) → xs ≡ places → r ≡ Ok i →
-    IsBinarySearchResult (λ y. nat_cmp y first) xs r → RiseFrom 0 places → (first < end) ↔ HasBetween places first end
-between_found xs places first end i r same is found_by rise =
-    let m : MatchResult r (λ i. (i < length xs) × (get_or xs i 0 ≡ first)) (λ i. (i ≤ length xs) × ((k : ℕ) → k < i → get_or xs k 0 < first) × ((k : ℕ) → i ≤ k → k < length xs → first < get_or xs k 0)) =
-    searched xs first r found_by (rising xs (rw same rise)) in
-    let n : (i < length xs) × (get_or xs i 0 ≡ first) = rw is at m in
-    let b : i < length places = rw same at n.0 in
-    let e : get_or places i 0 ≡ first = rw same at n.1 in
-    (λ h. record { at = i; there = b; reached = omega arith; before = omega arith }, λ h. (let x = h.reached in let y = h.before in omega arith))
-
--- Where it wasn't found, the line at which it would stand is before the other.
+-- A place is between two numbers, of which the first one wasn't found, where the line at which it would stand is before the other.
 pub between_missed : (xs places : List ℕ) (first end i : ℕ) (r : Result ℕ ℕ) → xs ≡ places → r ≡ Err i →
     IsBinarySearchResult (λ y. nat_cmp y first) xs r → RiseFrom 0 places → ((i < length places) × (get_or places i 0 < end)) ↔ HasBetween places first end
 between_missed xs places first end i r same is found_by rise =
-    let m : MatchResult r (λ i. (i < length xs) × (get_or xs i 0 ≡ first)) (λ i. (i ≤ length xs) × ((k : ℕ) → k < i → get_or xs k 0 < first) × ((k : ℕ) → i ≤ k → k < length xs → first < get_or xs k 0)) =
-    searched xs first r found_by (rising xs (rw same rise)) in
-    let n : (i ≤ length xs) × ((k : ℕ) → k < i → get_or xs k 0 < first) × ((k : ℕ) → i ≤ k → k < length xs → first < get_or xs k 0) = rw is at m in (
-      λ h. let g : first < get_or places i 0 = rw same at (n.2 i (omega arith) (rw same h.0)) in record { at = i; there = h.0; reached = omega arith; before = h.1 },
+    let n : Missed places first i = missed xs places first i r same is found_by rise in (
+      λ h. let g : first < get_or places i 0 = n.2 i (omega arith) h.0 in record { at = i; there = h.0; reached = omega arith; before = h.1 },
       λ h. let late : i ≤ h.at = elim (cases_lt h.at i) [
-        | inl a ↦ absurd (let z : get_or places h.at 0 < first = rw same at (n.1 h.at a) in let w = h.reached in omega arith)
+        | inl a ↦ absurd (let z : get_or places h.at 0 < first = n.1 h.at a in let w = h.reached in omega arith)
         | inr a ↦ a
       ] in
           let u : get_or places i 0 ≤ get_or places h.at 0 = rising places rise i h.at late h.there in
           (let t = h.there in omega arith, let w = h.before in omega arith),
     )
 
--- A place that was found is the next one from itself on.
-pub next_found : (xs places : List ℕ) (from i : ℕ) (r : Result ℕ ℕ) → xs ≡ places → r ≡ Ok i →
-    IsBinarySearchResult (λ y. nat_cmp y from) xs r → RiseFrom 0 places → IsNextPlace places from from
-next_found xs places from i r same is found_by rise =
-    let m : MatchResult r (λ i. (i < length xs) × (get_or xs i 0 ≡ from)) (λ i. (i ≤ length xs) × ((k : ℕ) → k < i → get_or xs k 0 < from) × ((k : ℕ) → i ≤ k → k < length xs → from < get_or xs k 0)) =
-    searched xs from r found_by (rising xs (rw same rise)) in
-    let n : (i < length xs) × (get_or xs i 0 ≡ from) = rw is at m in
-    let b : i < length places = rw same at n.0 in
-    let e : get_or places i 0 ≡ from = rw same at n.1 in
-    record {
-      reached = omega arith;
-      there = λ l. record { at = i; there = b; reached = omega arith; before = omega arith };
-      before = λ h. (let x = h.reached in let y = h.before in omega arith);
-    }
-
--- Where it wasn't found, that of the line at which it would stand is.
+-- From a place on that wasn't found the next one is that of the line at which it would stand.
 pub next_missed : (xs places : List ℕ) (from i : ℕ) (r : Result ℕ ℕ) → xs ≡ places → r ≡ Err i →
     IsBinarySearchResult (λ y. nat_cmp y from) xs r → RiseFrom 0 places → from ≤ 40960 →
     (i < length places → IsNextPlace places from (get_or places i 0)) × (length places ≤ i → IsNextPlace places from 40960)
 next_missed xs places from i r same is found_by rise small =
-    let m : MatchResult r (λ i. (i < length xs) × (get_or xs i 0 ≡ from)) (λ i. (i ≤ length xs) × ((k : ℕ) → k < i → get_or xs k 0 < from) × ((k : ℕ) → i ≤ k → k < length xs → from < get_or xs k 0)) =
-    searched xs from r found_by (rising xs (rw same rise)) in
-    let n : (i ≤ length xs) × ((k : ℕ) → k < i → get_or xs k 0 < from) × ((k : ℕ) → i ≤ k → k < length xs → from < get_or xs k 0) = rw is at m in
+    let n : Missed places from i = missed xs places from i r same is found_by rise in
     let late : (k : ℕ) → from ≤ get_or places k 0 → k < length places → i ≤ k = λ k h b. elim (cases_lt k i) [
-      | inl a ↦ absurd (let z : get_or places k 0 < from = rw same at (n.1 k a) in omega arith)
+      | inl a ↦ absurd (let z : get_or places k 0 < from = n.1 k a in omega arith)
       | inr a ↦ a
     ] in (
       λ b. record {
-        reached = (let z : from < get_or places i 0 = rw same at (n.2 i (omega arith) (rw same b)) in omega arith);
+        reached = (let z : from < get_or places i 0 = n.2 i (omega arith) b in omega arith);
         there = λ l. record { at = i; there = b; reached = omega arith; before = omega arith };
         before = λ h. (let z : get_or places i 0 ≤ get_or places h.at 0 = rising places rise i h.at (late h.at h.reached h.there) h.there in
             let y = h.before in omega arith);

@@ -1,74 +1,58 @@
 -- Whether a routine of an entry is listed or has an exit, and where something is claimed, is told by the places of the lines.
 use Rattle.std.proofs.Common.{◌≡◌, ℕ, zero, suc, ◌+◌, ◌-◌, ◌*◌, ◌<◌, ◌≤◌, Bool, true, false, List, [], ◌∷◌, length, get_or, refl, sym, ap, ◌∙◌, inl, inr, arith}
-use Rattle.std.specs.Prelude.{◌↔◌, ◌||◌, ◌⊎◌, map, min}
-use Rattle.std.proofs.lemmas.Bool.{eq-eqb, false≢true, cases_lt}
+use Rattle.std.specs.Prelude.{◌↔◌, ◌||◌, ◌⊎◌, ◌==◌, if◌then◌else◌, map, min}
+use Rattle.std.proofs.lemmas.Bool.{true≢false, false≢true, cases_lt}
 use Rattle.std.proofs.lemmas.Bool.Decides.{eqb_tells}
 use Rattle.wordset.specs.Words.{some_below, IsFirstFrom, HasNoneFrom}
 use Rattle.wordset.proofs.Tests.{some_from, some_none_of, or_left, or_right}
 use Rattle.certificate.specs.declared.Version.{Version}
 use Rattle.certificate.specs.declared.lines.KeptLines.{KeptLines}
 use Rattle.certificate.specs.Reading.{Each, has_routine, has_fact_in, has_exit_in}
-use Rattle.certificate.specs.Line.{Line, RoutineIs, FactIs, ExitIs, CellIs, EquationIs, End, IsLine}
-use Rattle.certificate.specs.Order.{heads, place}
+use Rattle.certificate.specs.Line.{Line, RoutineIs, FactIs, ExitIs, End, IsLine}
+use Rattle.certificate.specs.Order.{is_detail, heads, place}
 use Rattle.certificate.specs.Gathered.{routines_of, facts_of, exits_of}
 use Rattle.certificate.specs.Found.{from_place, all_said, IsWhole, IsIndexed, HasBetween, IsNextPlace, begins_routine, begins_fact, begins_exit}
 use Rattle.certificate.proofs.FoundLemmas.{not_found}
-use Rattle.certificate.proofs.ReaderLemmas.{untrue, formed, routine_named, exit_named, fact_claims}
+use Rattle.certificate.proofs.ReaderLemmas.{formed, routine_named, exit_named, fact_claims}
 
 -- where a line has the place of a routine, that of a fact or that of an exit, it is one
 abbrev Places : List Line → List ℕ
 Places ls = map place (heads ls)
 
-routine_there : (v : Version) (ls : List Line) (p i : ℕ) → Each (IsLine v) ls → p < 4096 → i < length (Places ls) → get_or (Places ls) i 0 ≡ p → begins_routine (from_place p ls) ≡ true
-routine_there v [] p i h small b e = absurd (omega arith)
-routine_there v (RoutineIs r ∷ ls) p zero h small b e = rw (eq-eqb r.entry p e) refl
-routine_there v (RoutineIs r ∷ ls) p (suc i) h small b e = elim (eqb_tells r.entry p) [
-  | inl t ↦ rw t.0 refl
-  | inr t ↦ rw t.0 (routine_there v ls p i h.1 small (omega arith) e)
-]
-routine_there v (FactIs a r m ∷ ls) p zero h small b e = absurd (omega arith)
-routine_there v (FactIs a r m ∷ ls) p (suc i) h small b e = rw (untrue (4096 + a) p (λ q. omega arith)) (routine_there v ls p i h.1 small (omega arith) e)
-routine_there v (ExitIs x o r ∷ ls) p zero h small b e = absurd (omega arith)
-routine_there v (ExitIs x o r ∷ ls) p (suc i) h small b e = rw (untrue (8192 + (8 * x + o)) p (λ q. omega arith)) (routine_there v ls p i h.1 small (omega arith) e)
-routine_there v (CellIs c ∷ ls) p i h small b e = routine_there v ls p i h.1 small b e
-routine_there v (EquationIs q ∷ ls) p i h small b e = routine_there v ls p i h.1 small b e
-routine_there v (End ∷ ls) p zero h small b e = absurd (omega arith)
-routine_there v (End ∷ ls) p (suc i) h small b e = rw (untrue 40960 p (λ q. omega arith)) (routine_there v ls p i h.1 small (omega arith) e)
+abbrev IsAt : Version → ℕ → List Line → Type 0
+IsAt v p [] = ⊥
+IsAt v p (l ∷ ls) = IsLine v l × (is_detail l ≡ false) × (place l ≡ p)
 
-fact_there : (v : Version) (ls : List Line) (p i : ℕ) → Each (IsLine v) ls → 4096 ≤ p → p < 8192 → i < length (Places ls) → get_or (Places ls) i 0 ≡ p → begins_fact (from_place p ls) ≡ true
-fact_there v [] p i h low small b e = absurd (omega arith)
-fact_there v (RoutineIs r ∷ ls) p zero h low small b e = absurd (let z : r.entry < 4096 = h.0.entry in omega arith)
-fact_there v (RoutineIs r ∷ ls) p (suc i) h low small b e =
-    rw (untrue r.entry p (λ q. let z : r.entry < 4096 = h.0.entry in omega arith)) (fact_there v ls p i h.1 low small (omega arith) e)
-fact_there v (FactIs a r m ∷ ls) p zero h low small b e = rw (eq-eqb (4096 + a) p e) refl
-fact_there v (FactIs a r m ∷ ls) p (suc i) h low small b e = elim (eqb_tells (4096 + a) p) [
-  | inl t ↦ rw t.0 refl
-  | inr t ↦ rw t.0 (fact_there v ls p i h.1 low small (omega arith) e)
-]
-fact_there v (ExitIs x o r ∷ ls) p zero h low small b e = absurd (omega arith)
-fact_there v (ExitIs x o r ∷ ls) p (suc i) h low small b e = rw (untrue (8192 + (8 * x + o)) p (λ q. omega arith)) (fact_there v ls p i h.1 low small (omega arith) e)
-fact_there v (CellIs c ∷ ls) p i h low small b e = fact_there v ls p i h.1 low small b e
-fact_there v (EquationIs q ∷ ls) p i h low small b e = fact_there v ls p i h.1 low small b e
-fact_there v (End ∷ ls) p zero h low small b e = absurd (omega arith)
-fact_there v (End ∷ ls) p (suc i) h low small b e = rw (untrue 40960 p (λ q. omega arith)) (fact_there v ls p i h.1 low small (omega arith) e)
+line_at : (v : Version) (ls : List Line) (p i : ℕ) → Each (IsLine v) ls → i < length (Places ls) → get_or (Places ls) i 0 ≡ p → IsAt v p (from_place p ls)
+line_at v [] p i h b e = absurd (omega arith)
+line_at v (l ∷ ls) p i h b e = go (λ j. line_at v ls p j h.1) (is_detail l) refl i b e
+  where
+    later : ((j : ℕ) → j < length (Places ls) → get_or (Places ls) j 0 ≡ p → IsAt v p (from_place p ls)) → (place l ≡ p → ⊥) → (i : ℕ) →
+        i < length (place l ∷ Places ls) → get_or (place l ∷ Places ls) i 0 ≡ p → IsAt v p (from_place p ls)
+    later more other zero b e = absurd (other e)
+    later more other (suc j) b e = more j (omega arith) e
 
-exit_there : (v : Version) (ls : List Line) (p i : ℕ) → Each (IsLine v) ls → 8192 ≤ p → p < 40960 → i < length (Places ls) → get_or (Places ls) i 0 ≡ p → begins_exit (from_place p ls) ≡ true
-exit_there v [] p i h low small b e = absurd (omega arith)
-exit_there v (RoutineIs r ∷ ls) p zero h low small b e = absurd (let z : r.entry < 4096 = h.0.entry in omega arith)
-exit_there v (RoutineIs r ∷ ls) p (suc i) h low small b e =
-    rw (untrue r.entry p (λ q. let z : r.entry < 4096 = h.0.entry in omega arith)) (exit_there v ls p i h.1 low small (omega arith) e)
-exit_there v (FactIs a r m ∷ ls) p zero h low small b e = absurd (let z : a < 4096 = h.0.0 in omega arith)
-exit_there v (FactIs a r m ∷ ls) p (suc i) h low small b e =
-    rw (untrue (4096 + a) p (λ q. let z : a < 4096 = h.0.0 in omega arith)) (exit_there v ls p i h.1 low small (omega arith) e)
-exit_there v (ExitIs x o r ∷ ls) p zero h low small b e = rw (eq-eqb (8192 + (8 * x + o)) p e) refl
-exit_there v (ExitIs x o r ∷ ls) p (suc i) h low small b e = elim (eqb_tells (8192 + (8 * x + o)) p) [
-  | inl t ↦ rw t.0 refl
-  | inr t ↦ rw t.0 (exit_there v ls p i h.1 low small (omega arith) e)
-]
-exit_there v (CellIs c ∷ ls) p i h low small b e = exit_there v ls p i h.1 low small b e
-exit_there v (EquationIs q ∷ ls) p i h low small b e = exit_there v ls p i h.1 low small b e
-exit_there v (End ∷ ls) p zero h low small b e = absurd (omega arith)
-exit_there v (End ∷ ls) p (suc i) h low small b e = rw (untrue 40960 p (λ q. omega arith)) (exit_there v ls p i h.1 low small (omega arith) e)
+    go : ((j : ℕ) → j < length (Places ls) → get_or (Places ls) j 0 ≡ p → IsAt v p (from_place p ls)) → (d : Bool) → is_detail l ≡ d → (i : ℕ) →
+        i < length (map place (if d then heads ls else l ∷ heads ls)) → get_or (map place (if d then heads ls else l ∷ heads ls)) i 0 ≡ p →
+        IsAt v p (if d then from_place p ls else (if place l == p then l ∷ ls else from_place p ls))
+    go more true d i b e = more i b e
+    go more false d i b e = elim (eqb_tells (place l) p) [
+      | inl t ↦ rw t.0 (h.0, d, t.1)
+      | inr t ↦ rw t.0 (later more t.1 i b e)
+    ]
+
+kind_at : (v : Version) (p : ℕ) (ls : List Line) → IsAt v p ls →
+    (p < 4096 → begins_routine ls ≡ true) × (4096 ≤ p → p < 8192 → begins_fact ls ≡ true) × (8192 ≤ p → p < 40960 → begins_exit ls ≡ true)
+kind_at v p [] h = absurd h
+kind_at v p (RoutineIs r ∷ ls) h =
+    let b : r.entry < 4096 = h.0.entry in let e : r.entry ≡ p = h.2 in (λ s. refl, λ l s. absurd (omega arith), λ l s. absurd (omega arith))
+kind_at v p (FactIs a r m ∷ ls) h =
+    let b : a < 4096 = h.0.0 in let e : 4096 + a ≡ p = h.2 in (λ s. absurd (omega arith), λ l s. refl, λ l s. absurd (omega arith))
+kind_at v p (ExitIs x o r ∷ ls) h =
+    let e : 8192 + (8 * x + o) ≡ p = h.2 in (λ s. absurd (omega arith), λ l s. absurd (omega arith), λ l s. refl)
+kind_at v p (End ∷ ls) h =
+    let e : 40960 ≡ p = h.2 in (λ s. absurd (omega arith), λ l s. absurd (omega arith), λ l s. absurd (omega arith))
+kind_at v p (l ∷ ls) h = absurd (true≢false h.1)
 
 -- no line has a place of a range where none is between
 none_there : {A : Type 0} (k : KeptLines A) (p first end : ℕ) → IsIndexed k → (HasBetween k.places.items first end → ⊥) → first ≤ p → p < end → from_place p (all_said k) ≡ []
@@ -81,7 +65,7 @@ listed_between v k e w small true tells =
     let h : HasBetween k.places.items e (e + 1) = tells.0 refl in
     let it : get_or k.places.items h.at 0 ≡ e = omega (arith, h.reached, h.before) in
     let there : begins_routine (from_place e (all_said k)) ≡ true =
-    routine_there v (all_said k) e h.at (formed v k w) small (rw w.indexed.places at h.there) (rw w.indexed.places at it) in
+    (kind_at v e _ (line_at v (all_said k) e h.at (formed v k w) (rw w.indexed.places at h.there) (rw w.indexed.places at it))).0 small in
     sym (routine_named v k e w small ∙ there)
 listed_between v k e w small false tells =
     let none : from_place e (all_said k) ≡ [] = none_there k e e (e + 1) w.indexed (λ h. false≢true (tells.1 h)) (omega arith) (omega arith) in
@@ -92,7 +76,8 @@ exit_at : {A : Type 0} (v : Version) (k : KeptLines A) (e o i : ℕ) → IsWhole
     get_or k.places.items i 0 ≡ 8192 + (8 * e + o) → some_below 8 (has_exit_in (exits_of (all_said k)) e) ≡ true
 exit_at v k e o i w small few b it =
     let there : begins_exit (from_place (8192 + (8 * e + o)) (all_said k)) ≡ true =
-    exit_there v (all_said k) (8192 + (8 * e + o)) i (formed v k w) (omega arith) (omega (arith, small, few)) (rw w.indexed.places at b) (rw w.indexed.places at it) in
+    (kind_at v (8192 + (8 * e + o)) _ (line_at v (all_said k) (8192 + (8 * e + o)) i (formed v k w) (rw w.indexed.places at b) (rw w.indexed.places at it))).2
+    (omega arith) (omega (arith, small, few)) in
     some_from 8 (has_exit_in (exits_of (all_said k)) e) o few (exit_named v k e o w small few ∙ there)
 
 -- and whether one has an exit
@@ -118,7 +103,8 @@ fact_at : {A : Type 0} (v : Version) (k : KeptLines A) (a : ℕ) → IsWhole v k
 fact_at v k a w small h =
     let it : get_or k.places.items h.at 0 ≡ 4096 + a = omega (arith, h.reached, h.before) in
     let there : begins_fact (from_place (4096 + a) (all_said k)) ≡ true =
-    fact_there v (all_said k) (4096 + a) h.at (formed v k w) (omega arith) (omega arith) (rw w.indexed.places at h.there) (rw w.indexed.places at it) in
+    (kind_at v (4096 + a) _ (line_at v (all_said k) (4096 + a) h.at (formed v k w) (rw w.indexed.places at h.there) (rw w.indexed.places at it))).1
+    (omega arith) (omega arith) in
     sym (fact_claims v k a (from_place (4096 + a) (all_said k)) w small refl).0 ∙ there
 
 -- what a search for the next line of each kind tells of an address before all three

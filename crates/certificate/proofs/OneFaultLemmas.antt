@@ -1,21 +1,22 @@
 -- Two ways to read one text go through the same lines.
 use Rattle.std.proofs.Common.{◌≡◌, ◌⊎◌, ℕ, suc, ◌+◌, ◌-◌, ◌<◌, ◌≤◌, Bool, true, false, List, [], ◌∷◌, ◌++◌, length, refl, ap, ◌∙◌, sym, subst, inl, inr, arith, append_assoc, append-nil, length-append}
 use Rattle.std.specs.Prelude.{if◌then◌else◌, take}
+use Rattle.std.proofs.Math.Seq.{take-append-add}
 use Rattle.std.proofs.lemmas.Bool.{true≢false, false≢true}
 use Rattle.certificate.specs.declared.Version.{Version}
-use Rattle.certificate.specs.declared.Version.TheVariants.{One, Two}
 use Rattle.certificate.specs.declared.CertificateFault.{CertificateFault}
 use Rattle.certificate.specs.declared.CertificateFault.TheVariants as faults
 use Rattle.certificate.specs.Spelling.{version_text}
 use Rattle.certificate.specs.Reading.{place_of_equation}
 use Rattle.certificate.specs.Line.{Line, RoutineIs, FactIs, ExitIs, CellIs, EquationIs, End, IsLine, line_text, SameLine, ended, all_ended}
 use Rattle.certificate.specs.Order.{is_detail, has_details, is_end, any, how_many, may_stand, heads, details_of_last, place, next_place, fellows, InOrder, is_routine, is_cell, is_equation, HasRoom, IsNext, AreInOrder, front, IsBad, IsMisplaced, IsOneTooMany}
+use Rattle.certificate.specs.Found.{newest_first}
 use Rattle.certificate.specs.Faults.{most_bytes, NoFeed, IsText, HasLine, HasFaultyLine, HasNoVersion, HasRest, IsCut, IsTooLong, HasFault}
 use Rattle.certificate.specs.Exact.{Alike}
-use Rattle.certificate.proofs.TextLemmas.{seam}
+use Rattle.certificate.proofs.TextLemmas.{along, seam, front_newest}
 use Rattle.certificate.proofs.OneLineLemmas.{line_one, line_feed, version_feed, first_one}
-use Rattle.certificate.proofs.OneTextLemmas.{version_one, routine_kept, cell_kept, equation_kept}
-use Rattle.certificate.proofs.TextOrderLemmas.{onto, onto_both, front_onto}
+use Rattle.certificate.proofs.OneTextLemmas.{no_line, version_one}
+use Rattle.certificate.proofs.GatherLemmas.{Follow, follows, oldest, newest_oldest}
 
 -- Lines that say the same.
 same_self : (l : Line) → SameLine l l
@@ -42,38 +43,25 @@ alike_self [] = tt
 alike_self (l ∷ ls) = (same_self l, alike_self ls)
 
 alike_back : (ls ms : List Line) → Alike SameLine ls ms → Alike SameLine ms ls
-alike_back [] [] h = tt
-alike_back [] (m ∷ ms) h = absurd h
-alike_back (l ∷ ls) [] h = absurd h
-alike_back (l ∷ ls) (m ∷ ms) h = (same_back l m h.0, alike_back ls ms h.1)
+alike_back = along SameLine (λ ls ms. Alike SameLine ms ls) tt (λ l m ls ms h g. (same_back l m h, g))
 
 -- What they have in common.
-detail_kept : (l m : Line) → SameLine l m → is_detail l ≡ is_detail m
-detail_kept (RoutineIs r) (RoutineIs s) h = refl
-detail_kept (FactIs a r m) (FactIs b s n) h = refl
-detail_kept (ExitIs a m r) (ExitIs b n s) h = refl
-detail_kept (CellIs a) (CellIs b) h = refl
-detail_kept (EquationIs a) (EquationIs b) h = refl
-detail_kept End End h = refl
-detail_kept l m h = absurd h
+record OfOneKind (l m : Line) : Type 0 where
+  detail : is_detail l ≡ is_detail m
+  details : has_details l ≡ has_details m
+  end : is_end l ≡ is_end m
+  routine : is_routine l ≡ is_routine m
+  cell : is_cell l ≡ is_cell m
+  equation : is_equation l ≡ is_equation m
 
-has_kept : (l m : Line) → SameLine l m → has_details l ≡ has_details m
-has_kept (RoutineIs r) (RoutineIs s) h = refl
-has_kept (FactIs a r m) (FactIs b s n) h = refl
-has_kept (ExitIs a m r) (ExitIs b n s) h = refl
-has_kept (CellIs a) (CellIs b) h = refl
-has_kept (EquationIs a) (EquationIs b) h = refl
-has_kept End End h = refl
-has_kept l m h = absurd h
-
-end_kept : (l m : Line) → SameLine l m → is_end l ≡ is_end m
-end_kept (RoutineIs r) (RoutineIs s) h = refl
-end_kept (FactIs a r m) (FactIs b s n) h = refl
-end_kept (ExitIs a m r) (ExitIs b n s) h = refl
-end_kept (CellIs a) (CellIs b) h = refl
-end_kept (EquationIs a) (EquationIs b) h = refl
-end_kept End End h = refl
-end_kept l m h = absurd h
+one_kind : (l m : Line) → SameLine l m → OfOneKind l m
+one_kind (RoutineIs r) (RoutineIs s) h = record { detail = refl; details = refl; end = refl; routine = refl; cell = refl; equation = refl }
+one_kind (FactIs a r m) (FactIs b s n) h = record { detail = refl; details = refl; end = refl; routine = refl; cell = refl; equation = refl }
+one_kind (ExitIs a m r) (ExitIs b n s) h = record { detail = refl; details = refl; end = refl; routine = refl; cell = refl; equation = refl }
+one_kind (CellIs a) (CellIs b) h = record { detail = refl; details = refl; end = refl; routine = refl; cell = refl; equation = refl }
+one_kind (EquationIs a) (EquationIs b) h = record { detail = refl; details = refl; end = refl; routine = refl; cell = refl; equation = refl }
+one_kind End End h = record { detail = refl; details = refl; end = refl; routine = refl; cell = refl; equation = refl }
+one_kind l m h = absurd h
 
 place_kept : (l m : Line) → SameLine l m → place l ≡ place m
 place_kept (RoutineIs r) (RoutineIs s) h = h.0
@@ -87,29 +75,17 @@ place_kept l m h = absurd h
 -- Lists of such lines.
 any_same : (test : Line → Bool) → ((l m : Line) → SameLine l m → test l ≡ test m) → (b c : List Line) → Alike SameLine b c →
     any test b ≡ any test c
-any_same test kept [] [] h = refl
-any_same test kept [] (m ∷ ms) h = absurd h
-any_same test kept (l ∷ ls) [] h = absurd h
-any_same test kept (l ∷ ls) (m ∷ ms) h = rw (kept l m h.0, any_same test kept ls ms h.1) refl
+any_same test kept = along SameLine (λ b c. any test b ≡ any test c) refl (λ l m ls ms h e. rw (kept l m h, e) refl)
 
 many_same : (test : Line → Bool) → ((l m : Line) → SameLine l m → test l ≡ test m) → (b c : List Line) → Alike SameLine b c →
     how_many test b ≡ how_many test c
-many_same test kept [] [] h = refl
-many_same test kept [] (m ∷ ms) h = absurd h
-many_same test kept (l ∷ ls) [] h = absurd h
-many_same test kept (l ∷ ls) (m ∷ ms) h = rw (kept l m h.0, many_same test kept ls ms h.1) refl
+many_same test kept = along SameLine (λ b c. how_many test b ≡ how_many test c) refl (λ l m ls ms h e. rw (kept l m h, e) refl)
 
 length_same : (b c : List Line) → Alike SameLine b c → length b ≡ length c
-length_same [] [] h = refl
-length_same [] (m ∷ ms) h = absurd h
-length_same (l ∷ ls) [] h = absurd h
-length_same (l ∷ ls) (m ∷ ms) h = ap suc (length_same ls ms h.1)
+length_same = along SameLine (λ b c. length b ≡ length c) refl (λ l m ls ms h e. ap suc e)
 
 next_same : (b c : List Line) → Alike SameLine b c → next_place b ≡ next_place c
-next_same [] [] h = refl
-next_same [] (m ∷ ms) h = absurd h
-next_same (l ∷ ls) [] h = absurd h
-next_same (l ∷ ls) (m ∷ ms) h = ap (λ k. k + 1) (place_kept l m h.0)
+next_same = along SameLine (λ b c. next_place b ≡ next_place c) refl (λ l m ls ms h e. ap (λ k. k + 1) (place_kept l m h))
 
 if_alike : (p q : Bool) (a b c d : List Line) → p ≡ q → Alike SameLine a c → Alike SameLine b d →
     Alike SameLine (if p then a else b) (if q then c else d)
@@ -119,41 +95,36 @@ if_alike false true a b c d e f g = absurd (false≢true e)
 if_alike false false a b c d e f g = g
 
 heads_same : (b c : List Line) → Alike SameLine b c → Alike SameLine (heads b) (heads c)
-heads_same [] [] h = tt
-heads_same [] (m ∷ ms) h = absurd h
-heads_same (l ∷ ls) [] h = absurd h
-heads_same (l ∷ ls) (m ∷ ms) h =
-    if_alike (is_detail l) (is_detail m) (heads ls) (l ∷ heads ls) (heads ms) (m ∷ heads ms) (detail_kept l m h.0)
-    (heads_same ls ms h.1) (h.0, heads_same ls ms h.1)
+heads_same =
+    along SameLine (λ b c. Alike SameLine (heads b) (heads c)) tt
+    (λ l m ls ms h g. if_alike (is_detail l) (is_detail m) (heads ls) (l ∷ heads ls) (heads ms) (m ∷ heads ms) (one_kind l m h).detail g (h, g))
 
 last_same : (b c : List Line) → Alike SameLine b c → Alike SameLine (details_of_last b) (details_of_last c)
-last_same [] [] h = tt
-last_same [] (m ∷ ms) h = absurd h
-last_same (l ∷ ls) [] h = absurd h
-last_same (l ∷ ls) (m ∷ ms) h =
-    if_alike (is_detail l) (is_detail m) (l ∷ details_of_last ls) [] (m ∷ details_of_last ms) [] (detail_kept l m h.0)
-    (h.0, last_same ls ms h.1) tt
+last_same =
+    along SameLine (λ b c. Alike SameLine (details_of_last b) (details_of_last c)) tt
+    (λ l m ls ms h g.
+    if_alike (is_detail l) (is_detail m) (l ∷ details_of_last ls) [] (m ∷ details_of_last ms) [] (one_kind l m h).detail (h, g) tt)
 
 -- What may come next.
 pub stand_same : (b c : List Line) (l m : Line) → Alike SameLine b c → SameLine l m → may_stand b l ≡ may_stand c m
 stand_same b c l m h g =
-    rw (any_same is_end end_kept b c h, any_same has_details has_kept b c h, detail_kept l m g) refl
+    rw (any_same is_end (λ x y s. (one_kind x y s).end) b c h, any_same has_details (λ x y s. (one_kind x y s).details) b c h, (one_kind l m g).detail) refl
 
 order_same : (b c : List Line) (l m : Line) → Alike SameLine b c → SameLine l m → InOrder b l → InOrder c m
 order_same b c l m h g o =
     let e : next_place (fellows b l) ≡ next_place (fellows c m) = next_same (fellows b l) (fellows c m)
-    (if_alike (is_detail l) (is_detail m) (details_of_last b) (heads b) (details_of_last c) (heads c) (detail_kept l m g)
+    (if_alike (is_detail l) (is_detail m) (details_of_last b) (heads b) (details_of_last c) (heads c) (one_kind l m g).detail
     (last_same b c h) (heads_same b c h)) in
     let f : place l ≡ place m = place_kept l m g in omega arith
 
 room_same : (b c : List Line) (l m : Line) → Alike SameLine b c → SameLine l m → HasRoom b l → HasRoom c m
-room_same b c (RoutineIs r) (RoutineIs s) h g o = let e : how_many is_routine b ≡ how_many is_routine c = many_same is_routine routine_kept b c h in omega arith
+room_same b c (RoutineIs r) (RoutineIs s) h g o = let e : how_many is_routine b ≡ how_many is_routine c = many_same is_routine (λ x y s. (one_kind x y s).routine) b c h in omega arith
 room_same b c (FactIs a r m) (FactIs d s n) h g o = tt
 room_same b c (ExitIs a m r) (ExitIs d n s) h g o = tt
 room_same b c (CellIs x) (CellIs y) h g o =
-    let e : how_many is_cell (details_of_last b) ≡ how_many is_cell (details_of_last c) = many_same is_cell cell_kept _ _ (last_same b c h) in omega arith
+    let e : how_many is_cell (details_of_last b) ≡ how_many is_cell (details_of_last c) = many_same is_cell (λ x y s. (one_kind x y s).cell) _ _ (last_same b c h) in omega arith
 room_same b c (EquationIs x) (EquationIs y) h g o =
-    let e : how_many is_equation (details_of_last b) ≡ how_many is_equation (details_of_last c) = many_same is_equation equation_kept _ _ (last_same b c h) in
+    let e : how_many is_equation (details_of_last b) ≡ how_many is_equation (details_of_last c) = many_same is_equation (λ x y s. (one_kind x y s).equation) _ _ (last_same b c h) in
     omega arith
 room_same b c End End h g o = tt
 room_same b c l m h g o = absurd g
@@ -169,45 +140,27 @@ may_follow v b c l h n = record {
 Stuck : Version → List Line → List ℕ → Type 0
 Stuck v before rest = (l : Line) (r : List ℕ) → IsLine v l → IsNext v before l → rest ≡ line_text v l ++ 10 ∷ r → ⊥
 
-reached : (v : Version) (b ls : List Line) → AreInOrder v (onto b ls) → AreInOrder v b
-reached v b [] h = h
-reached v b (l ∷ ls) h = (reached v (l ∷ b) ls h).2
-
-walk : (v : Version) (b c ls ms : List Line) (x y : List ℕ) → Alike SameLine b c → AreInOrder v (onto b ls) → AreInOrder v (onto c ms) →
-    Stuck v (onto b ls) x → Stuck v (onto c ms) y → all_ended v ls ++ x ≡ all_ended v ms ++ y →
-    Alike SameLine (onto b ls) (onto c ms) × (x ≡ y)
+walk : (v : Version) (b c ls ms : List Line) (x y : List ℕ) → Alike SameLine b c → Follow v b ls → Follow v c ms →
+    Stuck v (newest_first b ls) x → Stuck v (newest_first c ms) y → all_ended v ls ++ x ≡ all_ended v ms ++ y →
+    Alike SameLine (newest_first b ls) (newest_first c ms) × (x ≡ y)
 unfolding Stuck
 walk v b c [] [] x y h f g s t e = (h, e)
 walk v b c [] (m ∷ ms) x y h f g s t e =
-    let k : AreInOrder v (m ∷ c) = reached v (m ∷ c) ms g in
-    absurd (s m (all_ended v ms ++ y) k.0 (may_follow v c b m (alike_back b c h) k.1)
+    absurd (s m (all_ended v ms ++ y) g.0 (may_follow v c b m (alike_back b c h) g.1)
     (e ∙ (append_assoc (ended (line_text v m)) (all_ended v ms) y ∙ sym (seam (line_text v m) (all_ended v ms ++ y)))))
 walk v b c (l ∷ ls) [] x y h f g s t e =
-    let k : AreInOrder v (l ∷ b) = reached v (l ∷ b) ls f in
-    absurd (t l (all_ended v ls ++ x) k.0 (may_follow v b c l h k.1)
+    absurd (t l (all_ended v ls ++ x) f.0 (may_follow v b c l h f.1)
     (sym e ∙ (append_assoc (ended (line_text v l)) (all_ended v ls) x ∙ sym (seam (line_text v l) (all_ended v ls ++ x)))))
 walk v b c (l ∷ ls) (m ∷ ms) x y h f g s t e =
-    let i : AreInOrder v (l ∷ b) = reached v (l ∷ b) ls f in
-    let k : AreInOrder v (m ∷ c) = reached v (m ∷ c) ms g in
     let p = first_one (line_text v l) (line_text v m) (all_ended v ls ++ x) (all_ended v ms ++ y) (line_feed v l) (line_feed v m)
     (seam (line_text v l) (all_ended v ls ++ x) ∙ (sym (append_assoc (ended (line_text v l)) (all_ended v ls) x) ∙ (e ∙
     (append_assoc (ended (line_text v m)) (all_ended v ms) y ∙ sym (seam (line_text v m) (all_ended v ms ++ y)))))) in
-    walk v (l ∷ b) (m ∷ c) ls ms x y (line_one v l m i.0 k.0 p.0, h) f g s t p.1
-
--- Lines oldest first.
-oldest : List Line → List Line
-oldest [] = []
-oldest (l ∷ ls) = oldest ls ++ l ∷ []
-
-onto_oldest : (b : List Line) → onto [] (oldest b) ≡ b
-unfolding oldest
-onto_oldest [] = refl
-onto_oldest (l ∷ ls) = onto_both [] (oldest ls) (l ∷ []) ∙ ap (λ (x : List Line). l ∷ x) (onto_oldest ls)
+    walk v (l ∷ b) (m ∷ c) ls ms x y (line_one v l m f.0 g.0 p.0, h) f.2 g.2 s t p.1
 
 front_oldest : (v : Version) (b : List Line) (x : List ℕ) → front v b ++ x ≡ version_text v ++ 10 ∷ (all_ended v (oldest b) ++ x)
 front_oldest v b x =
-    ap (λ (z : List Line). front v z ++ x) (sym (onto_oldest b)) ∙
-    (ap (λ (z : List ℕ). z ++ x) (front_onto v [] (oldest b)) ∙
+    ap (λ (z : List Line). front v z ++ x) (sym (newest_oldest b)) ∙
+    (ap (λ (z : List ℕ). z ++ x) (front_newest v [] (oldest b)) ∙
     (append_assoc (ended (version_text v)) (all_ended v (oldest b)) x ∙ sym (seam (version_text v) (all_ended v (oldest b) ++ x))))
 
 -- A text after lines in order after which none comes.
@@ -224,14 +177,11 @@ begins v bytes a = a.split ∙ front_oldest v a.before a.rest
 same_stop : (v : Version) (bytes : List ℕ) (a b : Stop v bytes) → Alike SameLine a.before b.before × (a.rest ≡ b.rest)
 same_stop v bytes a b =
     let p = first_one (version_text v) (version_text v) _ _ (version_feed v) (version_feed v) (sym (begins v bytes a) ∙ begins v bytes b) in
-    let q = walk v [] [] (oldest a.before) (oldest b.before) a.rest b.rest tt
-    (subst (AreInOrder v) (sym (onto_oldest a.before)) a.order) (subst (AreInOrder v) (sym (onto_oldest b.before)) b.order)
-    (subst (λ (z : List Line). Stuck v z a.rest) (sym (onto_oldest a.before)) a.stuck)
-    (subst (λ (z : List Line). Stuck v z b.rest) (sym (onto_oldest b.before)) b.stuck) p.1 in (
-      subst (λ (z : List Line). Alike SameLine a.before z) (onto_oldest b.before)
-          (subst (λ (z : List Line). Alike SameLine z (onto [] (oldest b.before))) (onto_oldest a.before) q.0),
-      q.1,
-    )
+    let na : newest_first [] (oldest a.before) ≡ a.before = newest_oldest a.before in
+    let nb : newest_first [] (oldest b.before) ≡ b.before = newest_oldest b.before in
+    let q = walk v [] [] (oldest a.before) (oldest b.before) a.rest b.rest tt (follows v [] (oldest a.before) (rw na a.order))
+    (follows v [] (oldest b.before) (rw nb b.order)) (rw na a.stuck) (rw nb b.stuck) p.1 in
+    (rw (na, nb) at q.0, q.1)
 
 -- Texts of one front have one version.
 stop_version : (v w : Version) (bytes : List ℕ) → Stop v bytes → Stop w bytes → v ≡ w
@@ -239,16 +189,9 @@ stop_version v w bytes a b =
     version_one v w (first_one (version_text v) (version_text w) _ _ (version_feed v) (version_feed w) (sym (begins v bytes a) ∙ begins w bytes b)).0
 
 same_stops : (v w : Version) (bytes : List ℕ) (a : Stop v bytes) (b : Stop w bytes) → Alike SameLine a.before b.before × (a.rest ≡ b.rest)
-same_stops One One bytes a b = same_stop One bytes a b
-same_stops One Two bytes a b = absurd (other (stop_version One Two bytes a b))
-  where
-    other : One ≡ Two → ⊥
-    other e = cc
-same_stops Two One bytes a b = absurd (other (stop_version Two One bytes a b))
-  where
-    other : Two ≡ One → ⊥
-    other e = cc
-same_stops Two Two bytes a b = same_stop Two bytes a b
+same_stops v w bytes a b =
+    subst (λ (u : Version). (s : Stop u bytes) → Alike SameLine a.before s.before × (a.rest ≡ s.rest)) (stop_version v w bytes a b)
+    (same_stop v bytes a) b
 
 -- What a line does that none may be.
 data LineKind : Type 0 where
@@ -289,10 +232,6 @@ alone OneMore OneMore v b c line h f g = refl
 feed_within : (a b : List ℕ) → NoFeed (a ++ 10 ∷ b) → ⊥
 feed_within [] b h = h.0 refl
 feed_within (x ∷ xs) b h = feed_within xs b h.1
-
-no_line : (a b : List ℕ) → [] ≡ a ++ 10 ∷ b → ⊥
-no_line [] b e = absurd (cc)
-no_line (x ∷ xs) b e = absurd (cc)
 
 -- The ways to read a text.
 text_stop : (v : Version) (bytes : List ℕ) → IsText v bytes → Stop v bytes
@@ -343,7 +282,7 @@ cut_no_text : (v : Version) (bytes : List ℕ) (n : ℕ) → IsText v bytes → 
 unfolding text_stop rest_stop
 cut_no_text v bytes n t h =
     let p = same_stops v h.lines.version bytes (text_stop v bytes t) (rest_stop bytes h.lines) in
-    h.lacks (sym (any_same is_end end_kept t.lines h.lines.before p.0) ∙ t.ended) (sym p.1)
+    h.lacks (sym (any_same is_end (λ x y s. (one_kind x y s).end) t.lines h.lines.before p.0) ∙ t.ended) (sym p.1)
 
 pub no_fault : (v : Version) (bytes : List ℕ) (fault : CertificateFault) → IsText v bytes → HasFault bytes fault → ⊥
 no_fault v bytes faults.Version t h = has_version v bytes (text_stop v bytes t) h
@@ -389,12 +328,6 @@ cut_cut bytes n m f g =
     let b : m ≡ length g.lines.before + 2 = g.number in omega arith
 
 -- The bytes that are read have the line too.
-take_past : (a b : List ℕ) (k : ℕ) → take (length a + k) (a ++ b) ≡ a ++ take k b
-take_past [] b k = let e : 0 + k ≡ k = omega arith in ap (λ i. take i b) e
-take_past (x ∷ xs) b k =
-    let e : suc (length xs) + k ≡ suc (length xs + k) = omega arith in
-    ap (λ i. take i (x ∷ (xs ++ b))) e ∙ ap (λ (z : List ℕ). x ∷ z) (take_past xs b k)
-
 line_taken : (bytes whole line : List ℕ) → HasLine bytes whole line → HasLine (take most_bytes bytes) whole line
 line_taken bytes whole line h =
     let w : length whole + length line < most_bytes = h.within in
@@ -407,7 +340,7 @@ line_taken bytes whole line h =
       split =
           ap (λ (x : List ℕ). take most_bytes x) (h.split ∙ seam (whole ++ line) h.rest) ∙
           (ap (λ i. take i (whole ++ line ++ 10 ∷ [] ++ h.rest)) e ∙
-          (take_past (whole ++ line ++ 10 ∷ []) h.rest (most_bytes - (length whole + length line + 1)) ∙
+          (take-append-add (whole ++ line ++ 10 ∷ []) h.rest (most_bytes - (length whole + length line + 1)) ∙
           sym (seam (whole ++ line) (take (most_bytes - (length whole + length line + 1)) h.rest))));
       feed = h.feed;
       within = h.within;

@@ -1,6 +1,6 @@
 -- A line's text tells what it says, and has no line feed.
 use Rattle.std.proofs.Common.{◌≡◌, ℕ, zero, suc, ◌+◌, ◌*◌, ◌<◌, ◌==◌, Bool, true, false, List, [], ◌∷◌, ◌++◌, refl, ap, ◌∙◌, sym, arith, append_assoc, append-nil}
-use Rattle.std.specs.Prelude.{if◌then◌else◌, ◌&&◌, not, codes}
+use Rattle.std.specs.Prelude.{if◌then◌else◌, ◌&&◌, not, codes, take}
 use Rattle.std.proofs.lemmas.Bool.{false≢true, eq-eqb}
 use Rattle.std.proofs.lemmas.List.{append_cancel_left}
 use Rattle.word12.specs.Words.{octal_text}
@@ -121,6 +121,12 @@ no_feeds (c ∷ cs) e = go (c == 10) refl e (no_feeds cs)
 pub no_feed_both : (xs ys : List ℕ) → NoFeed xs → NoFeed ys → NoFeed (xs ++ ys)
 no_feed_both [] ys f g = g
 no_feed_both (x ∷ xs) ys f g = (f.0, no_feed_both xs ys f.1 g)
+
+pub feed_taken : (k : ℕ) (xs : List ℕ) → NoFeed xs → NoFeed (take k xs)
+feed_taken zero [] h = tt
+feed_taken zero (x ∷ xs) h = tt
+feed_taken (suc k) [] h = tt
+feed_taken (suc k) (x ∷ xs) h = (h.0, feed_taken k xs h.1)
 
 word_feed : (n : ℕ) → NoFeed (octal_text n)
 word_feed n = (λ z. omega arith, (λ z. omega arith, (λ z. omega arith, (λ z. omega arith, tt))))

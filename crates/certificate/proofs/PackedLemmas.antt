@@ -3,6 +3,7 @@ use Rattle.std.proofs.Common.{◌≡◌, ℕ, zero, suc, ◌+◌, ◌-◌, ◌<�
 use Rattle.std.specs.Prelude.{not, nat_le, slice_range}
 use Rattle.std.specs.List.{AllByRecursion}
 use Rattle.std.proofs.lemmas.Bool.{true≢false, cases_lt}
+use Rattle.std.proofs.Math.Bool.{or-false}
 use Rattle.std.proofs.lemmas.Bool.Decides.{nat_tests}
 use Rattle.std.proofs.lemmas.List.{take_all, take_at, take_more, drop_at, drop-append-le, take-append-le, length-drop, length-map, map_more}
 use native.Mathlib.Numerals.{unary_clauses}
@@ -50,9 +51,6 @@ no_runs old set = record {
   above = λ v h. refl;
 }
 
-pub runs_begin : (old new : List Run) (set : Words) (n : ℕ) → RunsSofar old new set n → Begins old new
-runs_begin old new set n s = (s.more, s.is)
-
 pub few_runs : (old new : List Run) (set : Words) (n : ℕ) → RunsSofar old new set n → length new ≤ length old + 4096
 few_runs old new set n s =
     let p : length s.more ≤ n = s.count in
@@ -72,12 +70,16 @@ above_between low high v a = go (nat_le low v) (nat_le v high) (grind (arith, na
     go true c e = e
     go false c e = refl
 
-or_with : (a b c d : Bool) → a ≡ c → b ≡ d → (a || b) ≡ (c || d)
+pub or_with : (a b c d : Bool) → a ≡ c → b ≡ d → (a || b) ≡ (c || d)
 or_with a b c d e f = ap (λ x. x || b) e ∙ ap (λ x. c || x) f
 
-or_false : (b : Bool) → (b || false) ≡ b
-or_false true = refl
-or_false false = refl
+-- What isn't among the other words is in the set.
+pub still_in : (set : Words) (v : ℕ) → v < 4096 → difference all_words set v ≡ false → set v ≡ true
+still_in set v h e = go (set v) (all_words v) (grind (arith, nat_tests)) e
+  where
+    go : (b c : Bool) → c ≡ true → (c && not b) ≡ false → b ≡ true
+    go true c k q = refl
+    go false c k q = absurd (let z : true ≡ false = rw k at q in true≢false z)
 
 -- A run is added, from the first word of a set from n on to the last one before a word that isn't in it.
 pub run_added : (old now new : List Run) (set others : Words) (n : ℕ) (run : Run) → RunsSofar old now set n → IsFirstFrom n set run.first →
@@ -90,11 +92,11 @@ run_added old now new set others n run s f l are e = record {
       omega (arith, length-append s.more (run ∷ [])));
   below = λ v h. at v ∙ elim (cases_lt v n) [
     | inl a ↦ (let q : n ≤ run.first = f.reached in
-        or_with _ _ (set v) false (s.below v a) (below_between run.first run.last v (omega arith)) ∙ or_false (set v))
+        or_with _ _ (set v) false (s.below v a) (below_between run.first run.last v (omega arith)) ∙ or-false (set v))
     | inr a ↦ elim (cases_lt v run.first) [
       | inl b ↦ or_with _ _ false false (s.above v a) (below_between run.first run.last v b) ∙ sym (f.before v a b)
       | inr b ↦ or_with _ _ false true (s.above v a) (in_between run.first run.last v b (omega arith)) ∙
-          sym (there v (let q : run.last < 4096 = l.small in omega arith) (ap (λ (k : Words). k v) (sym are) ∙ l.inside v b (omega arith)))
+          sym (still_in set v (let q : run.last < 4096 = l.small in omega arith) (ap (λ (k : Words). k v) (sym are) ∙ l.inside v b (omega arith)))
     ]
   ];
   above = λ v h. at v ∙ (let q : n ≤ run.first = f.reached in let o : run.first ≤ run.last = l.order in
@@ -103,13 +105,6 @@ run_added old now new set others n run s f l are e = record {
   where
     at : (v : ℕ) → joined nothing (s.more ++ run ∷ []) v ≡ (joined nothing s.more v || between run.first run.last v)
     at v = ap (λ (k : Words). k v) (joined_more nothing s.more run)
-
-    there : (v : ℕ) → v < 4096 → difference all_words set v ≡ false → set v ≡ true
-    there v h e = go (set v) (all_words v) (grind (arith, nat_tests)) e
-      where
-        go : (b c : Bool) → c ≡ true → (c && not b) ≡ false → b ≡ true
-        go true c k q = refl
-        go false c k q = absurd (let z : true ≡ false = rw k at q in true≢false z)
 
 -- No set has a word past the last one that there is.
 pub runs_past : (rs : List Run) (v : ℕ) → 4096 ≤ v → set_of_runs rs v ≡ false

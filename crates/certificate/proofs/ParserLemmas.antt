@@ -1,25 +1,25 @@
 -- A certificate's text taken byte by byte.
-use Rattle.std.proofs.Common.{◌≡◌, ◌⊎◌, ℕ, ◌+◌, ◌<◌, ◌≤◌, ◌==◌, Bool, true, false, List, [], ◌∷◌, ◌++◌, length, Option, Some, None, Result, Ok, Err, refl, ap, ◌∙◌, sym, subst, inl, inr, arith, append_assoc, append-nil, length-append}
-use Rattle.std.specs.Prelude.{not, ◌&&◌, ◌||◌, IfSome, IfOk, IfErr, MatchResult, take}
+use Rattle.std.proofs.Common.{◌≡◌, ◌⊎◌, ℕ, ◌+◌, ◌<◌, ◌≤◌, ◌==◌, Bool, true, false, List, [], ◌∷◌, ◌++◌, length, Option, Some, None, refl, ap, ◌∙◌, sym, subst, inl, inr, arith, append_assoc, append-nil, length-append}
+use Rattle.std.specs.Prelude.{not, ◌&&◌, ◌||◌, take}
 use Rattle.std.proofs.lemmas.Bool.{true≢false, eqb-true, eq-eqb, cases_lt}
 use Rattle.std.proofs.Math.Seq.{take-append_seam}
 use Rattle.certificate.specs.declared.Version.{Version}
-use Rattle.certificate.specs.declared.Version.TheVariants.{One, Two}
 use Rattle.certificate.specs.declared.CertificateFault.{CertificateFault}
 use Rattle.certificate.specs.declared.CertificateFault.TheVariants as faults
 use Rattle.certificate.specs.declared.progress.Progress.{Progress}
 use Rattle.certificate.specs.declared.lines.KeptLines.{KeptLines}
 use Rattle.certificate.specs.Spelling.{version_text, text as spelled}
-use Rattle.certificate.specs.Line.{Line, RoutineIs, FactIs, ExitIs, CellIs, EquationIs, End, line_text}
+use Rattle.certificate.specs.Line.{Line, End, line_text}
 use Rattle.certificate.specs.Order.{any, is_end, may_stand, AreInOrder, front, IsBad, IsMisplaced, IsOneTooMany, Continues}
 use Rattle.certificate.specs.Progress.{Tracks, Declines}
 use Rattle.certificate.specs.Found.{newest_first, all_said, Keeps, IsWhole, unended}
-use Rattle.certificate.specs.Faults.{most_bytes, NoFeed, HasLine, HasFaultyLine, HasRest, IsCut, HasFault, AsksForMemory}
+use Rattle.certificate.specs.Faults.{most_bytes, NoFeed, HasLine, HasFaultyLine, HasRest, IsCut, AsksForMemory}
 use Rattle.certificate.proofs.LengthLemmas.{line_short}
 use Rattle.certificate.proofs.OneLineLemmas.{no_feed_both}
+use Rattle.certificate.proofs.TextLemmas.{newest_both}
 use Rattle.certificate.proofs.GatherLemmas.{text_of_gathered}
 use Rattle.certificate.proofs.FormLemmas.{gathered_formed}
-use Rattle.certificate.proofs.FoundLemmas.{reversed_more, not_end}
+use Rattle.certificate.proofs.FoundLemmas.{not_end}
 use Rattle.certificate.proofs.MakerLemmas.{gathered_end}
 use Rattle.certificate.specs.Parser.{Reached, HasRead, WasRead, Parts, Seen, Refuses, IsParsed}
 use Rattle.certificate.specs.declared.parser.Parser.{Parser}
@@ -29,48 +29,25 @@ long_bad v before bytes h l spells stands =
     let a : length (line_text v l) ≤ 32768 = line_short v l in
     let b : length bytes ≡ length (line_text v l) = ap length spells.1 in omega arith
 
--- What a call that keeps a line answers.
-abbrev pub Kept : Result Unit CertificateFault → List ℕ → List ℕ → Option Progress → List ℕ → List ℕ → Option Progress → Bool → Progress → Type 0
-Kept r text line old new_text new_line new long p =
-    MatchResult r
-    (λ u. (new_text ≡ text ++ line ++ 10 ∷ []) × (new_line ≡ []) × (new ≡ Some p) × (long ≡ false))
-    (λ e. ⊥)
+-- What a call that keeps a line leaves.
+abbrev pub Kept : List ℕ → List ℕ → List ℕ → List ℕ → Option Progress → Bool → Progress → Type 0
+Kept text line new_text new_line new long p = (new_text ≡ text ++ line ++ 10 ∷ []) × (new_line ≡ []) × (new ≡ Some p) × (long ≡ false)
 
-pub kept_number : (r : Result Unit CertificateFault) (text line new_text new_line : List ℕ) (old new : Option Progress) (long : Bool) (p : Progress) (n : ℕ) →
-    Kept r text line old new_text new_line new long p → IfSome old (λ g. g.number ≤ n) → p.number ≤ n → IfSome new (λ g. g.number ≤ n)
-kept_number (Ok u) text line new_text new_line old new long p n k h g = let e : new ≡ Some p = k.2 in rw e g
-kept_number (Err f) text line new_text new_line old new long p n k h g = absurd k
-
--- After a line was kept.
 kept_parts : {A : Type 0} (new_kept : KeptLines A) (text line new_text new_line bytes : List ℕ) (new : Option Progress) (long : Bool) (p : Progress) →
-    bytes ≡ text ++ line → new_text ≡ text ++ line ++ 10 ∷ [] → new_line ≡ [] → new ≡ Some p → long ≡ false →
-    Reached p new_text new_kept → Parts new_text new_kept new new_line long (bytes ++ 10 ∷ [])
-kept_parts new_kept text line new_text new_line bytes new long p e a b c d h = record {
+    bytes ≡ text ++ line → Kept text line new_text new_line new long p → Reached p new_text new_kept →
+    Parts new_text new_kept new new_line long (bytes ++ 10 ∷ [])
+kept_parts new_kept text line new_text new_line bytes new long p e k h = record {
   tail = [];
-  split = rw (e, a) (sym (append-nil (text ++ line ++ 10 ∷ [])));
-  read = rw c h;
+  split = rw (e, k.0) (sym (append-nil (text ++ line ++ 10 ∷ [])));
+  read = rw k.2 h;
   feed = tt;
-  same = λ q. b;
-  long = λ q. absurd (true≢false (sym q ∙ d));
+  same = λ q. k.1;
+  long = λ q. absurd (true≢false (sym q ∙ k.3));
 }
 
 -- The whole lines that were seen were read.
 pub was_read : {A : Type 0} (p : Parser A) (bytes : List ℕ) → Seen p bytes → WasRead p.progress p.kept
 was_read p bytes s = record { text = s.text; read = s.parts.read }
-
--- Before the first byte.
-pub nothing_seen : {A : Type 0} (p : Parser A) → Keeps p.kept [] → p.progress ≡ None → p.line.items ≡ [] → p.is_long ≡ false → Seen p []
-nothing_seen p keeps progress line short = record {
-  text = [];
-  parts = record {
-    tail = [];
-    split = refl;
-    read = rw progress (refl, keeps);
-    feed = tt;
-    same = λ q. line;
-    long = λ q. absurd (true≢false (sym q ∙ short));
-  };
-}
 
 -- The line so far, where it isn't too long.
 line_split : {A : Type 0} (kept : KeptLines A) (text line bytes : List ℕ) (progress : Option Progress) → (h : Parts text kept progress line false bytes) → bytes ≡ text ++ line
@@ -80,12 +57,11 @@ line_feed : {A : Type 0} (kept : KeptLines A) (text line bytes : List ℕ) (prog
 line_feed kept text line bytes progress h = rw (h.same refl) h.feed
 
 -- The first line.
-pub first_kept : {A : Type 0} (kept new_kept : KeptLines A) (r : Result Unit CertificateFault) (text line new_text new_line bytes : List ℕ) (new : Option Progress) (long : Bool) (p : Progress) (v : Version) →
-    Parts text kept None line false bytes → line ≡ version_text v → p.version ≡ v → Tracks p [] → Kept r text line None new_text new_line new long p →
-    new_kept ≡ kept → MatchResult r (λ u. Parts new_text new_kept new new_line long (bytes ++ 10 ∷ [])) (Refuses (bytes ++ 10 ∷ []))
-first_kept kept new_kept (Err f) text line new_text new_line bytes new long p v h e w t k same = absurd k
-first_kept kept new_kept (Ok u) text line new_text new_line bytes new long p v h e w t k same =
-    kept_parts new_kept text line new_text new_line bytes new long p (line_split kept text line bytes None h) k.0 k.1 k.2 k.3
+pub first_kept : {A : Type 0} (kept new_kept : KeptLines A) (text line new_text new_line bytes : List ℕ) (new : Option Progress) (long : Bool) (p : Progress) (v : Version) →
+    Parts text kept None line false bytes → line ≡ version_text v → p.version ≡ v → Tracks p [] → Kept text line new_text new_line new long p →
+    new_kept ≡ kept → Parts new_text new_kept new new_line long (bytes ++ 10 ∷ [])
+first_kept kept new_kept text line new_text new_line bytes new long p v h e w t k same =
+    kept_parts new_kept text line new_text new_line bytes new long p (line_split kept text line bytes None h) k
     (record { before = []; order = tt; tracks = t; keeps = rw same h.read.1; is = (let z : text ≡ [] = h.read.0 in k.0 ∙ rw (z, e, w) refl) })
 
 -- A line at the end of what was seen.
@@ -97,26 +73,6 @@ has_line text tail bytes whole rest e f feed small = record {
   feed = feed;
   within = rw (← f) (let z : length bytes ≡ length (text ++ tail) = ap length e in omega (arith, length-append text tail));
 }
-
-other_line : {A : Type 0} (kept : KeptLines A) (text line bytes : List ℕ) (long : Bool) (v : Version) → (h : Parts text kept None line long bytes) →
-    (long ≡ false → line ≡ version_text v → ⊥) → h.tail ≡ version_text v → ⊥
-other_line kept text line bytes long v h none e = go long refl
-  where
-    length_of : (v : Version) → length (version_text v) ≡ 18
-    length_of One = refl
-    length_of Two = refl
-
-    go : (c : Bool) → long ≡ c → ⊥
-    go false q = none q (h.same q ∙ e)
-    go true q =
-        let a : 32768 < length h.tail = h.long q in
-        let b : length h.tail ≡ length (version_text v) = ap length e in
-        let c : length (version_text v) ≡ 18 = length_of v in omega arith
-
-pub first_refused : {A : Type 0} (kept : KeptLines A) (text line bytes : List ℕ) (long : Bool) → Parts text kept None line long bytes → length bytes < most_bytes →
-    ((v : Version) → long ≡ false → line ≡ version_text v → ⊥) → Refuses (bytes ++ 10 ∷ []) faults.Version
-first_refused kept text line bytes long h small none =
-    inr (λ rest. inl (h.tail, has_line text h.tail bytes [] rest h.split h.read.0 h.feed small, λ v. other_line kept text line bytes long v h (none v)))
 
 -- Lines after which one may stand have no end.
 open_before : (before : List Line) → any is_end before ≡ false → unended before ≡ before
@@ -143,21 +99,16 @@ record Ended (v : Version) (before : List Line) : Type 0 where
 ended_last : (v : Version) (before : List Line) → AreInOrder v before → any is_end before ≡ true → Ended v before
 ended_last v [] h e = absurd (true≢false (sym e))
 ended_last v (End ∷ ls) h e = record { is = refl; order = h.2; no_end = not_ended (any is_end ls) _ h.1.stands }
-ended_last v (RoutineIs r ∷ ls) h e = absurd (true≢false (sym e ∙ not_ended (any is_end ls) _ h.1.stands))
-ended_last v (FactIs a r m ∷ ls) h e = absurd (true≢false (sym e ∙ not_ended (any is_end ls) _ h.1.stands))
-ended_last v (ExitIs x o r ∷ ls) h e = absurd (true≢false (sym e ∙ not_ended (any is_end ls) _ h.1.stands))
-ended_last v (CellIs c ∷ ls) h e = absurd (true≢false (sym e ∙ not_ended (any is_end ls) _ h.1.stands))
-ended_last v (EquationIs q ∷ ls) h e = absurd (true≢false (sym e ∙ not_ended (any is_end ls) _ h.1.stands))
+ended_last v (l ∷ ls) h e = absurd (true≢false (sym e ∙ not_ended (any is_end ls) _ h.1.stands))
 
 -- A further line.
-pub next_kept : {A : Type 0} (kept mid new_kept : KeptLines A) (r : Result Unit CertificateFault) (text line new_text new_line bytes : List ℕ) (old new : Option Progress) (long : Bool)
+pub next_kept : {A : Type 0} (kept mid new_kept : KeptLines A) (text line new_text new_line bytes : List ℕ) (old new : Option Progress) (long : Bool)
     (p q : Progress) (l : Line) → old ≡ Some p → Parts text kept old line false bytes → q.version ≡ p.version →
-    ((before : List Line) → Tracks p before → Continues p.version before line l × Tracks q (l ∷ before)) → Kept r text line old new_text new_line new long q →
+    ((before : List Line) → Tracks p before → Continues p.version before line l × Tracks q (l ∷ before)) → Kept text line new_text new_line new long q →
     ((before : List Line) → Keeps kept before → Keeps mid (unended (l ∷ before))) → new_kept ≡ mid →
-    MatchResult r (λ u. Parts new_text new_kept new new_line long (bytes ++ 10 ∷ [])) (Refuses (bytes ++ 10 ∷ []))
-next_kept kept mid new_kept (Err f) text line new_text new_line bytes old new long p q l is h w t k more same = absurd k
-next_kept kept mid new_kept (Ok u) text line new_text new_line bytes old new long p q l is h w t k more same =
-    kept_parts new_kept text line new_text new_line bytes new long q (line_split kept text line bytes old h) k.0 k.1 k.2 k.3
+    Parts new_text new_kept new new_line long (bytes ++ 10 ∷ [])
+next_kept kept mid new_kept text line new_text new_line bytes old new long p q l is h w t k more same =
+    kept_parts new_kept text line new_text new_line bytes new long q (line_split kept text line bytes old h) k
     (made (let z : HasRead (Some p) text kept = rw is at h.read in z))
   where
     made : Reached p text kept → Reached q new_text new_kept
@@ -235,6 +186,18 @@ long_refused kept text line bytes old p long n is e h small number =
     g : Reached p text kept
     g = let z : HasRead (Some p) text kept = rw is at h.read in z
 
+-- The lines that were read, and the bytes after them.
+abbrev pub rest_of : {A : Type 0} (kept : KeptLines A) (text line bytes : List ℕ) (long : Bool) (p : Progress) →
+    Parts text kept (Some p) line long bytes → HasRest bytes
+rest_of kept text line bytes long p h = record {
+  version = p.version;
+  before = h.read.before;
+  order = h.read.order;
+  rest = h.tail;
+  split = h.split ∙ ap (λ (x : List ℕ). x ++ h.tail) h.read.is;
+  feed = h.feed;
+}
+
 -- Bytes more of which none is a line feed.
 pub added : {A : Type 0} (kept : KeptLines A) (text line new_line bytes piece : List ℕ) (progress : Option Progress) (long : Bool) → Parts text kept progress line long bytes →
     NoFeed piece → new_line ≡ line ++ piece → Parts text kept progress new_line long (bytes ++ piece)
@@ -285,14 +248,7 @@ one_too_many kept text line bytes progress long b count h most e =
   where
     whole : (o : Option Progress) → Parts text kept o line long bytes → NoFeed bytes ⊎ HasRest bytes
     whole None h = inl (let z : text ≡ [] = h.read.0 in let w : bytes ≡ h.tail = h.split ∙ rw z refl in rw w h.feed)
-    whole (Some p) h = inr (record {
-      version = p.version;
-      before = h.read.before;
-      order = h.read.order;
-      rest = h.tail;
-      split = h.split ∙ ap (λ (x : List ℕ). x ++ h.tail) h.read.is;
-      feed = h.feed;
-    })
+    whole (Some p) h = inr (rest_of kept text line bytes long p h)
 
 pub is_full : (n most : ℕ) → true ≡ (n == most) → most ≤ n
 is_full n most e = let z : n ≡ most = eqb-true n most (sym e) in omega arith
@@ -302,35 +258,18 @@ pub cut : {A : Type 0} (kept : KeptLines A) (text line bytes : List ℕ) (long :
     length bytes ≤ most_bytes → n ≡ p.number →
     ((before : List Line) → Tracks p before → any is_end before ≡ true → long ≡ false → line ≡ [] → ⊥) → IsCut bytes n
 cut kept text line bytes long o p n is h few number lacks = record {
-  lines = record {
-    version = p.version;
-    before = g.before;
-    order = g.order;
-    rest = h.tail;
-    split = h.split ∙ ap (λ (x : List ℕ). x ++ h.tail) g.is;
-    feed = h.feed;
-  };
+  lines = rest_of kept text line bytes long p k;
   few = few;
-  number = number ∙ g.tracks.number;
-  lacks = λ ended none. go long refl none (λ q e. lacks g.before g.tracks ended q e);
+  number = number ∙ k.read.tracks.number;
+  lacks = λ ended none. go long refl none (λ q e. lacks k.read.before k.read.tracks ended q e);
 }
   where
-    g : Reached p text kept
-    g = let z : HasRead (Some p) text kept = rw is at h.read in z
+    k : Parts text kept (Some p) line long bytes
+    k = rw is at h
 
-    go : (c : Bool) → long ≡ c → h.tail ≡ [] → (long ≡ false → line ≡ [] → ⊥) → ⊥
-    go false q none lacks = lacks q (h.same q ∙ none)
-    go true q none lacks = let a : 32768 < length h.tail = h.long q in let b : length h.tail ≡ 0 = ap length none in omega arith
-
-pub if_ok : {X : Type 0} (r : Result X CertificateFault) (P O : X → Type 0) (Q : CertificateFault → Type 0) → ((x : X) → P x → O x) →
-    MatchResult r P Q → IfOk r O
-if_ok (Ok x) P O Q to h = to x h
-if_ok (Err f) P O Q to h = tt
-
-pub if_refused : {X : Type 0} (r : Result X CertificateFault) (P : X → Type 0) (bytes : List ℕ) → MatchResult r P (HasFault bytes) →
-    IfErr r (λ f. (f ≡ faults.NoMemory) ⊎ HasFault bytes f)
-if_refused (Ok x) P bytes h = tt
-if_refused (Err f) P bytes h = inr h
+    go : (c : Bool) → long ≡ c → k.tail ≡ [] → (long ≡ false → line ≡ [] → ⊥) → ⊥
+    go false q none lacks = lacks q (k.same q ∙ none)
+    go true q none lacks = let a : 32768 < length k.tail = k.long q in let b : length k.tail ≡ 0 = ap length none in omega arith
 
 pub not_empty : (line : List ℕ) → false ≡ (length line == 0) → line ≡ [] → ⊥
 not_empty line e f = true≢false (sym (eq-eqb (length line) 0 (ap length f)) ∙ sym e)
@@ -354,7 +293,7 @@ pub whole_parsed : {A : Type 0} (kept : KeptLines A) (text line bytes : List ℕ
 whole_parsed kept text line bytes o p long v same is ended w h short none few =
     record {
       found = all ∙ (sym (ap (front v) lines) ∙
-          (sym (text_of_gathered v (all_said kept ++ End ∷ []) (rw lines order) (rw lines has_end)) ∙ ap spelled (gathered_end v (all_said kept))));
+          (sym (text_of_gathered v (all_said kept ++ End ∷ []) (rw lines order) (rw lines has_end)) ∙ ap spelled (gathered_end v (all_said kept) w.order w.no_end)));
       lines = gathered_formed v (all_said kept) w.order;
       is_text = record { lines = g.before; order = order; ended = has_end; text = all; few = few };
     }
@@ -374,7 +313,7 @@ whole_parsed kept text line bytes o p long v same is ended w h short none few =
     lines : newest_first [] (all_said kept ++ End ∷ []) ≡ g.before
     lines =
         let e : Ended p.version g.before = ended_last p.version g.before g.order has_end in
-        reversed_more [] (all_said kept) End ∙ (ap (λ (x : List Line). End ∷ x) g.keeps.lines ∙ sym e.is)
+        newest_both [] (all_said kept) (End ∷ []) ∙ (ap (λ (x : List Line). End ∷ x) g.keeps.lines ∙ sym e.is)
 
 pub is_empty : (line : List ℕ) → true ≡ (length line == 0) → line ≡ []
 is_empty [] e = refl

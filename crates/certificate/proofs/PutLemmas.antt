@@ -1,20 +1,15 @@
 -- Lines that go out one after another.
-use Rattle.std.proofs.Common.{◌≡◌, ◌∙◌, ℕ, ◌+◌, ◌<◌, List, ◌∷◌, Result, Ok, Err, length, get_or, drop, sym, subst}
+use Rattle.std.proofs.Common.{◌≡◌, ℕ, zero, suc, List, [], ◌∷◌, Result, Ok, Err, drop, subst}
 use Rattle.std.specs.Prelude.{OnErr}
-use Rattle.std.proofs.lemmas.List.{drop_more}
 use Rattle.certificate.specs.Reading.{Each}
 use Rattle.certificate.specs.Line.{Line}
-use Rattle.certificate.proofs.SpelledLemmas.{each_at}
 
--- The line that stands at a place.
-pub line_there : (ls : List Line) (i : ℕ) (l : Line) → i < length ls → drop i ls ≡ l ∷ drop (i + 1) ls → l ≡ get_or ls i l
-line_there ls i l b e = same l (get_or ls i l) (drop (i + 1) ls) (sym e ∙ drop_more ls i l b)
-  where
-    same : (x y : Line) (rest : List Line) → x ∷ rest ≡ y ∷ rest → x ≡ y
-    same x y rest q = cc
-
-pub each_line : (P : Line → Type 0) (ls : List Line) (i : ℕ) (l : Line) → Each P ls → i < length ls → drop i ls ≡ l ∷ drop (i + 1) ls → P l
-each_line P ls i l h b e = subst P (sym (line_there ls i l b e)) (each_at P ls i l h b)
+-- What holds of each line holds of the one at a place.
+pub each_line : (P : Line → Type 0) (ls : List Line) (i : ℕ) (l : Line) (rest : List Line) → Each P ls → drop i ls ≡ l ∷ rest → P l
+each_line P [] zero l rest h e = absurd (cc)
+each_line P [] (suc i) l rest h e = absurd (cc)
+each_line P (x ∷ ls) zero l rest h e = let z : x ≡ l = cc in subst P z h.0
+each_line P (x ∷ ls) (suc i) l rest h e = each_line P ls i l rest h.1 e
 
 pub on_err : {X E : Type 0} (r : Result X E) (P Q : Type 0) → (P → Q) → OnErr r P → OnErr r Q
 on_err (Ok x) P Q to h = tt

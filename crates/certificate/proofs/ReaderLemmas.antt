@@ -9,12 +9,8 @@ use Rattle.certificate.specs.Reading.{Each, IsFactLine, IsExit, has_routine, has
 use Rattle.certificate.specs.Line.{Line, RoutineIs, FactIs, ExitIs, CellIs, EquationIs, End, IsLine}
 use Rattle.certificate.specs.Gathered.{routines_of, facts_of, exits_of}
 use Rattle.certificate.specs.Found.{from_place, all_said, IsWhole, FitUnderFirst, begins_routine, begins_fact, begins_exit, first_fact, first_exit, fact_statement, exit_statement, SaysFirst}
-use Rattle.certificate.proofs.GatherLemmas.{Follow, follows}
+use Rattle.certificate.proofs.GatherLemmas.{follows, each_formed}
 use Rattle.certificate.proofs.FormLemmas.{gathered_formed}
-
-each_formed : (v : Version) (before ls : List Line) → Follow v before ls → Each (IsLine v) ls
-each_formed v before [] f = tt
-each_formed v before (l ∷ ls) f = (f.0, each_formed v (l ∷ before) ls f.2)
 
 -- The one test is true exactly where the other is.
 tests_alike : (a b c d : ℕ) → (a ≡ b → c ≡ d) → (c ≡ d → a ≡ b) → (a == b) ≡ (c == d)
@@ -42,13 +38,9 @@ routines_found v (RoutineIs r ∷ ls) e h b = elim (eqb_tells r.entry e) [
     go f g = rw f (g.0, later (from_place e ls) g.1)
       where
         later : (rest : List Line) → SaysFirst (routines_of ls) e rest → SaysFirst (r ∷ routines_of ls) e rest
-        later [] s = tt
         later (RoutineIs q ∷ rest) s = record { rank = rw f s.rank; sites = rw f s.sites; writes = rw f s.writes }
-        later (FactIs a q m ∷ rest) s = tt
-        later (ExitIs x o q ∷ rest) s = tt
-        later (CellIs c ∷ rest) s = tt
-        later (EquationIs q ∷ rest) s = tt
-        later (End ∷ rest) s = tt
+        later [] s = tt
+        later (l ∷ rest) s = tt
 routines_found v (FactIs a r m ∷ ls) e h b = rw (untrue (4096 + a) e (λ q. omega arith)) (routines_found v ls e h.1 b)
 routines_found v (ExitIs x o r ∷ ls) e h b = rw (untrue (8192 + (8 * x + o)) e (λ q. omega arith)) (routines_found v ls e h.1 b)
 routines_found v (CellIs c ∷ ls) e h b = routines_found v ls e h.1 b
@@ -116,31 +108,23 @@ no_exit v (x ∷ xs) e p h g =
     go true i = i
     go false i = i
 
+fits_picked : (d : Bool) (xs ys : List Line) → FitUnderFirst xs → FitUnderFirst ys → FitUnderFirst (if d then xs else ys)
+fits_picked true xs ys f g = f
+fits_picked false xs ys f g = g
+
 fits_first : (v : Version) (ls : List Line) (p : ℕ) → Each (IsFactLine v) (facts_of ls) → Each (IsExit v) (exits_of ls) →
     FitUnderFirst (from_place p ls)
 fits_first v [] p f x = tt
-fits_first v (RoutineIs r ∷ ls) p f x = go (r.entry == p) (fits_first v ls p f x)
-  where
-    go : (d : Bool) → FitUnderFirst (from_place p ls) → FitUnderFirst (if d then RoutineIs r ∷ ls else from_place p ls)
-    go true i = tt
-    go false i = i
-fits_first v (FactIs a r m ∷ ls) p f x = go (4096 + a == p) (fits_first v ls p f.1 x)
-  where
-    go : (d : Bool) → FitUnderFirst (from_place p ls) → FitUnderFirst (if d then FactIs a r m ∷ ls else from_place p ls)
-    go true i = (f.0.statement.few_cells, f.0.statement.few_equations)
-    go false i = i
-fits_first v (ExitIs e o r ∷ ls) p f x = go (8192 + (8 * e + o) == p) (fits_first v ls p f x.1)
-  where
-    go : (d : Bool) → FitUnderFirst (from_place p ls) → FitUnderFirst (if d then ExitIs e o r ∷ ls else from_place p ls)
-    go true i = (x.0.statement.few_cells, x.0.statement.few_equations)
-    go false i = i
+fits_first v (RoutineIs r ∷ ls) p f x = fits_picked (r.entry == p) (RoutineIs r ∷ ls) (from_place p ls) tt (fits_first v ls p f x)
+fits_first v (FactIs a r m ∷ ls) p f x =
+    fits_picked (4096 + a == p) (FactIs a r m ∷ ls) (from_place p ls) (f.0.statement.few_cells, f.0.statement.few_equations)
+    (fits_first v ls p f.1 x)
+fits_first v (ExitIs e o r ∷ ls) p f x =
+    fits_picked (8192 + (8 * e + o) == p) (ExitIs e o r ∷ ls) (from_place p ls) (x.0.statement.few_cells, x.0.statement.few_equations)
+    (fits_first v ls p f x.1)
 fits_first v (CellIs c ∷ ls) p f x = fits_first v ls p f x
 fits_first v (EquationIs q ∷ ls) p f x = fits_first v ls p f x
-fits_first v (End ∷ ls) p f x = go (40960 == p) (fits_first v ls p f x)
-  where
-    go : (d : Bool) → FitUnderFirst (from_place p ls) → FitUnderFirst (if d then End ∷ ls else from_place p ls)
-    go true i = tt
-    go false i = i
+fits_first v (End ∷ ls) p f x = fits_picked (40960 == p) (End ∷ ls) (from_place p ls) tt (fits_first v ls p f x)
 
 -- What follows for an answer.
 pub told : {X : Type 0} (o : Option X) (P Q : X → Type 0) → ((x : X) → P x → Q x) → IfSome o P → IfSome o Q

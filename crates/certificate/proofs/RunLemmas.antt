@@ -1,14 +1,16 @@
 -- A set read run by run.
-use Rattle.std.proofs.Common.{◌≡◌, ◌⊎◌, ℕ, suc, ◌+◌, ◌-◌, ◌/◌, ◌<◌, ◌≤◌, Bool, true, false, ◌&&◌, ◌||◌, List, [], ◌∷◌, ◌++◌, length, Option, Some, None, refl, ap, ◌∙◌, sym, subst, inl, inr, arith, append_assoc, length-append}
-use Rattle.std.specs.Prelude.{nat_le, IfSome}
+use Rattle.std.proofs.Common.{◌≡◌, ◌⊎◌, ℕ, suc, ◌+◌, ◌-◌, ◌/◌, ◌<◌, ◌≤◌, Bool, true, false, ◌||◌, List, [], ◌∷◌, ◌++◌, length, Option, Some, None, refl, ap, ◌∙◌, sym, subst, inl, inr, arith, append_assoc, length-append}
+use Rattle.std.specs.Prelude.{IfSome}
 use Rattle.std.specs.Option.{IsSomeAnd}
 use Rattle.std.proofs.lemmas.Bool.{true≢false, false≢true, eq-eqb, ne_eqb, cases_lt}
-use Rattle.std.proofs.lemmas.Bool.Decides.{nat_tests}
+use Rattle.std.proofs.Math.Bool.{or-true, or-false}
 use Rattle.wordset.specs.Words.{Words, SameWords, nothing, between, union, some_below, has_some}
 use Rattle.wordset.proofs.Tests.{IsSome, some_from, some_none_of, none_of_some}
 use Rattle.certificate.specs.Spelling.{marks, set_text}
 use Rattle.certificate.specs.Fields.{run_text, NoDash, EndsField}
-use Rattle.certificate.proofs.SetLemmas.{rest, comma, Run, None_from, whole_rest, none_rest, run_rest, StartsAt, starts_after, gap_after, next_run}
+use Rattle.certificate.proofs.PackedLemmas.{in_between, below_between, above_between}
+use Rattle.certificate.proofs.DigitLemmas.{at_some}
+use Rattle.certificate.proofs.SetLemmas.{rest, comma, Run, None_from, whole_rest, none_rest, run_rest, StartsAt, starts_after, gap_after, next_run, a_run}
 
 -- The two sets have the same words below n.
 abbrev pub SameBelow : ℕ → Words → Words → Type 0
@@ -148,65 +150,36 @@ at_comma old now next t n h some took begins r0 first = record { read = reads no
           }
         ]
 
-between_in : (low high v : ℕ) → low ≤ v → v ≤ high → between low high v ≡ true
-between_in low high v a b = grind (arith, nat_tests)
-
-between_below : (low high v : ℕ) → v < low → between low high v ≡ false
-between_below low high v a = grind (arith, nat_tests)
-
-between_above : (low high v : ℕ) → high < v → between low high v ≡ false
-between_above low high v a = rw (le-false v high a) (go (nat_le low v))
-  where
-    go : (b : Bool) → (b && false) ≡ false
-    go true = refl
-    go false = refl
-
-    le-false : (m n : ℕ) → n < m → nat_le m n ≡ false
-    le-false m n h = grind (arith, nat_tests)
-
 -- A set with a run more.
 abbrev pub With : Words → ℕ → ℕ → Words → Type 0
 With t low high u = (v : ℕ) → u v ≡ (t v || between low high v)
 
-or_true : (b : Bool) → (b || true) ≡ true
-or_true true = refl
-or_true false = refl
-
-or_false : (b : Bool) → (b || false) ≡ b
-or_false true = refl
-or_false false = refl
-
 inside_with : (t u : Words) (low high v : ℕ) → With t low high u → low ≤ v → v ≤ high → u v ≡ true
-inside_with t u low high v more a b = more v ∙ rw (between_in low high v a b) (or_true (t v))
+inside_with t u low high v more a b = more v ∙ rw (in_between low high v a b) (or-true (t v))
 
 below_with : (t u : Words) (low high v : ℕ) → With t low high u → v < low → u v ≡ t v
-below_with t u low high v more a = more v ∙ rw (between_below low high v a) (or_false (t v))
+below_with t u low high v more a = more v ∙ rw (below_between low high v a) (or-false (t v))
 
 above_with : (t u : Words) (low high v : ℕ) → With t low high u → high < v → u v ≡ t v
-above_with t u low high v more a = more v ∙ rw (between_above low high v a) (or_false (t v))
+above_with t u low high v more a = more v ∙ rw (above_between low high v a) (or-false (t v))
 
 -- The run is a run of each set that begins so.
 run_with : (s t u : Words) (n low high : ℕ) → With t low high u → ((v : ℕ) → n ≤ v + 1 → t v ≡ false) → n ≤ low → low ≤ high →
     high < 4096 → SameBelow (high + 2) s u → Run s n low high
-run_with s t u n low high more gap h order small same = record {
-  reached = h;
-  order = order;
-  small = small;
-  before = λ v a b. same v (omega arith) (omega arith) ∙ (below_with t u low high v more b ∙ gap v (omega arith));
-  inside = λ v a b. same v (omega arith) (omega arith) ∙ inside_with t u low high v more a b;
-  starts = elim (cases_lt 0 low) [
-    | inr z ↦ (let e : low ≡ 0 = omega arith in rw (eq-eqb low 0 e) refl)
-    | inl z ↦ (let e : s (low - 1) ≡ false =
-        same (low - 1) (omega arith) (omega arith) ∙ (below_with t u low high (low - 1) more (omega arith) ∙ gap (low - 1) (omega arith)) in
-        rw (e, ne_eqb low 0 (λ q. omega arith)) refl)
-  ];
-  stops = elim (cases_lt high 4095) [
-    | inr z ↦ (let e : high ≡ 4095 = omega arith in rw (eq-eqb high 4095 e) refl)
-    | inl z ↦ (let e : s (high + 1) ≡ false =
-        same (high + 1) (omega arith) (omega arith) ∙ (above_with t u low high (high + 1) more (omega arith) ∙ gap (high + 1) (omega arith)) in
-        rw (e, ne_eqb high 4095 (λ q. omega arith)) refl)
-  ];
-}
+run_with s t u n low high more gap h order small same =
+    a_run s n low high starts h order small
+    (λ v a b. same v (omega arith) (omega arith) ∙ (below_with t u low high v more b ∙ gap v (omega arith)))
+    (λ v a b. same v (omega arith) (omega arith) ∙ inside_with t u low high v more a b)
+    (λ w. same (high + 1) (omega arith) (omega arith) ∙ (above_with t u low high (high + 1) more (omega arith) ∙ gap (high + 1) (omega arith)))
+  where
+    starts : StartsAt s n
+    starts w = elim (cases_lt 0 n) [
+      | inr z ↦ rw (eq-eqb n 0 (omega arith)) refl
+      | inl z ↦ rw (
+        same (n - 1) (omega arith) (omega arith) ∙ (below_with t u low high (n - 1) more (omega arith) ∙ gap (n - 1) (omega arith)),
+        ne_eqb n 0 (λ q. omega arith),
+      ) refl
+    ]
 
 same_with : (s t u : Words) (n low high : ℕ) → With t low high u → ((v : ℕ) → n ≤ v + 1 → t v ≡ false) → SameBelow n s t →
     Run s n low high → SameBelow (high + 2) s u
@@ -224,10 +197,6 @@ same_with s t u n low high more gap same run v a b =
         ]
       ]
     ]
-
-at_some : {X : Type 0} (P : X → Type 0) (o : Option X) (x : X) → IfSome o P → o ≡ Some x → P x
-at_some P None x h e = absurd (cc)
-at_some P (Some y) x h e = let z : y ≡ x = cc in subst P z h
 
 pub no_dash : (s : Words) (n low high : ℕ) (tail : List ℕ) → Run s n low high → EndsField tail → NoDash (rest s (high + 2) ++ tail)
 no_dash s n low high tail run ends = elim (next_run s (high + 2) (starts_after s n low high run)) [

@@ -10,6 +10,7 @@ use Rattle.certificate.specs.Spelling.{RoutineLine, ExitLine, Lines}
 use Rattle.certificate.specs.Reading.{has_routine, rank_in, sites_in, writes_in, has_fact_in, fact_in, is_exit, has_exit_in, exit_in, certificate_of}
 use Rattle.certificate.specs.Exact.{Alike, SameRoutineLine, SameCell, SameStatement, SameFactLine, SameExitLine, SameLines, SameCertificate, MeaningLaw}
 use Rattle.wordset.specs.Words.{everything}
+use Rattle.certificate.proofs.TextLemmas.{along}
 
 either : {A : Type 0} (R : A → A → Type 0) (b c : Bool) (w x y z : A) → b ≡ c → R w x → R y z → R (if b then w else y) (if c then x else z)
 either R true true w x y z e f g = f
@@ -22,23 +23,18 @@ searched : {A B : Type 0} (Same : A → A → Type 0) (R : B → B → Type 0) (
     find [] ≡ other → ((x : A) (xs : List A) → find (x ∷ xs) ≡ (if test x then value x else find xs)) →
     ((a b : A) → Same a b → test a ≡ test b) → ((a b : A) → Same a b → R (value a) (value b)) → R other other →
     (xs ys : List A) → Alike Same xs ys → R (find xs) (find ys)
-searched Same R test value other find none more tests values o [] [] h = rw none o
-searched Same R test value other find none more tests values o [] (y ∷ ys) h = absurd h
-searched Same R test value other find none more tests values o (x ∷ xs) [] h = absurd h
-searched Same R test value other find none more tests values o (x ∷ xs) (y ∷ ys) h =
-    rw (more x xs, more y ys) (either R (test x) (test y) (value x) (value y) (find xs) (find ys) (tests x y h.0) (values x y h.0)
-    (searched Same R test value other find none more tests values o xs ys h.1))
+searched Same R test value other find none more tests values o =
+    along Same (λ xs ys. R (find xs) (find ys)) (rw none o)
+    (λ x y xs ys h g. rw (more x xs, more y ys)
+    (either R (test x) (test y) (value x) (value y) (find xs) (find ys) (tests x y h) (values x y h) g))
 
 entry_same : (e : ℕ) (a b : RoutineLine) → SameRoutineLine a b → (a.entry == e) ≡ (b.entry == e)
 entry_same e a b h = ap (λ k. k == e) h.entry
 
 tracked_same : (a v : ℕ) → v < 4096 → (cs ds : List TrackedCell) → Alike SameCell cs ds → tracked a cs v ≡ tracked a ds v
-tracked_same a v s [] [] h = refl
-tracked_same a v s [] (d ∷ ds) h = absurd h
-tracked_same a v s (c ∷ cs) [] h = absurd h
-tracked_same a v s (c ∷ cs) (d ∷ ds) h =
-    both (either (λ x y. x ≡ y) (c.address == a) (d.address == a) (c.set v) (d.set v) true true (ap (λ k. k == a) h.0.address) (h.0.set v s) refl)
-    (tracked_same a v s cs ds h.1)
+tracked_same a v s =
+    along SameCell (λ cs ds. tracked a cs v ≡ tracked a ds v) refl (λ c d cs ds h.
+    both (either (λ x y. x ≡ y) (c.address == a) (d.address == a) (c.set v) (d.set v) true true (ap (λ k. k == a) h.address) (h.set v s) refl))
   where
     both : {b c m n : Bool} → b ≡ c → m ≡ n → (b && m) ≡ (c && n)
     both p q = cc

@@ -1,19 +1,20 @@
 -- Certificates that say the same have one text.
-use Rattle.std.proofs.Common.{◌≡◌, ℕ, zero, suc, ◌+◌, ◌-◌, ◌/◌, ◌%◌, ◌<◌, ◌≤◌, ◌==◌, Bool, true, List, [], ◌∷◌, ◌++◌, refl, ap, ◌∙◌, inl, inr, arith}
-use Rattle.std.specs.Prelude.{not, ◌&&◌, if◌then◌else◌, codes, flat_map}
+use Rattle.std.proofs.Common.{◌≡◌, ℕ, zero, suc, ◌+◌, ◌-◌, ◌<◌, ◌≤◌, ◌==◌, Bool, true, List, [], ◌∷◌, ◌++◌, refl, ap, ◌∙◌, sym, inl, inr, arith}
+use Rattle.std.specs.Prelude.{not, ◌&&◌, if◌then◌else◌, codes, map, flat_map}
 use Rattle.std.proofs.lemmas.Bool.{eq-eqb, cases_lt}
 use Rattle.word12.specs.Words.{octal_text}
 use Rattle.wordset.specs.Words.{Words, SameWords, some_below, has_some}
-use Rattle.facts.specs.Facts.{Equation}
-use Rattle.facts.specs.Statements.{TrackedCell, Statement}
+use Rattle.facts.specs.Statements.{Statement}
 use Rattle.certificate.specs.declared.Version.{Version}
 use Rattle.certificate.specs.declared.Version.TheVariants.{One, Two}
-use Rattle.certificate.specs.Spelling.{RoutineLine, FactLine, ExitLine, Lines, begins, ends, mark, marks, set_text, digits, offsets_text, cell_text, equation_text, mq_text, registers_text, details_text, routine_text, fact_text, exit_text, version_text, text}
-use Rattle.certificate.specs.Line.{Registers, Line, RoutineIs, FactIs, ExitIs, CellIs, EquationIs, End, SameRegisters, SameLine, rank_text, words_text, equation_line, line_text}
+use Rattle.certificate.specs.Spelling.{Lines, begins, ends, mark, marks, set_text, digits, offsets_text, mq_text, version_text, text}
+use Rattle.certificate.specs.Line.{Registers, Line, RoutineIs, FactIs, ExitIs, CellIs, EquationIs, End, SameRegisters, SameLine, rank_text, words_text, equation_line, line_text, registers_of, details, lines_of_fact, lines_of_exit, lines_of, ended, all_ended}
 use Rattle.certificate.specs.Exact.{Alike, SameRoutineLine, SameCell, SameStatement, SameFactLine, SameExitLine, SameLines, SpellingLaw}
 use Rattle.certificate.proofs.DigitLemmas.{digits_same, some_same}
+use Rattle.certificate.proofs.TextLemmas.{text_lines, joined, along}
 use Rattle.certificate.proofs.OneLineLemmas.{line_one}
 use Rattle.certificate.proofs.OneTextLemmas.{text_one}
+use Rattle.certificate.proofs.OneFaultLemmas.{alike_self}
 
 begins_same : (s t : Words) (a : ℕ) → a < 4096 → SameWords s t → begins s a ≡ begins t a
 begins_same s t a h e =
@@ -37,9 +38,6 @@ mark_same s t a h e = same (begins s a) (begins t a) (ends s a) (ends t a) (some
         (if c then (if k then codes "," else []) ++ octal_text a else []) ++ (if n && not c then codes "-" ++ octal_text a else [])
     same b c m n j k p q r = rw (p, q, r) refl
 
-joined : {a b c d : List ℕ} → a ≡ b → c ≡ d → a ++ c ≡ b ++ d
-joined p q = cc
-
 marks_same : (n : ℕ) (s t : Words) → n ≤ 4096 → SameWords s t → marks n s ≡ marks n t
 unfolding marks
 marks_same zero s t h e = refl
@@ -59,80 +57,6 @@ offsets_same s t e = chosen (some_below 8 s) (some_below 8 t) (digits 8 s) (digi
 mq_same : (v : Version) (s t : Words) → SameWords s t → mq_text v s ≡ mq_text v t
 mq_same One s t e = refl
 mq_same Two s t e = ap (λ (x : List ℕ). codes " mq " ++ x) (set_same s t e)
-
-all_same : {A : Type 0} (Same : A → A → Type 0) (f g : A → List ℕ) → ((a b : A) → Same a b → f a ≡ g b) → (xs ys : List A) →
-    Alike Same xs ys → flat_map f xs ≡ flat_map g ys
-all_same Same f g h [] [] e = refl
-all_same Same f g h [] (y ∷ ys) e = absurd e
-all_same Same f g h (x ∷ xs) [] e = absurd e
-all_same Same f g h (x ∷ xs) (y ∷ ys) e = joined (h x y e.0) (all_same Same f g h xs ys e.1)
-
-cell_same : (a b : TrackedCell) → SameCell a b → cell_text a ≡ cell_text b
-cell_same a b e = go (octal_text a.address) (octal_text b.address) (set_text a.set) (set_text b.set) (ap octal_text e.address) (set_same a.set b.set e.set)
-  where
-    go : (a b c d : List ℕ) → a ≡ b → c ≡ d → codes "cell " ++ a ++ codes " " ++ c ++ 10 ∷ [] ≡ codes "cell " ++ b ++ codes " " ++ d ++ 10 ∷ []
-    go a b c d p q = rw (p, q) refl
-
-registers_same : (v : Version) (s t : Statement) → SameStatement s t → registers_text v s ≡ registers_text v t
-registers_same v s t e =
-    go (set_text s.ac) (set_text t.ac) (mq_text v s.mq) (mq_text v t.mq) (digits 2 s.link) (digits 2 t.link)
-    (set_same s.ac t.ac e.ac) (mq_same v s.mq t.mq e.mq) (digits_same 2 s.link t.link e.link)
-  where
-    go : (a b c d f g : List ℕ) → a ≡ b → c ≡ d → f ≡ g → codes " ac " ++ a ++ c ++ codes " link " ++ f ≡ codes " ac " ++ b ++ d ++ codes " link " ++ g
-    go a b c d f g p q r = rw (p, q, r) refl
-
-details_same : (s t : Statement) → SameStatement s t → details_text s ≡ details_text t
-details_same s t e =
-    joined (all_same SameCell cell_text cell_text cell_same s.cells t.cells e.cells) (ap (λ (es : List Equation). flat_map equation_text es) e.equations)
-
-routine_same : (r s : RoutineLine) → SameRoutineLine r s → routine_text r ≡ routine_text s
-routine_same r s e =
-    go (octal_text r.entry) (octal_text s.entry) (48 + r.rank / 8) (48 + s.rank / 8) (48 + r.rank % 8) (48 + s.rank % 8)
-    (set_text r.sites) (set_text s.sites) (set_text r.writes) (set_text s.writes)
-    (ap octal_text e.entry) (ap (λ n. 48 + n / 8) e.rank) (ap (λ n. 48 + n % 8) e.rank)
-    (set_same r.sites s.sites e.sites) (set_same r.writes s.writes e.writes)
-  where
-    go : (a b : List ℕ) (i j k l : ℕ) (c d f g : List ℕ) → a ≡ b → i ≡ j → k ≡ l → c ≡ d → f ≡ g →
-        codes "routine " ++ a ++ codes " rank " ++ i ∷ k ∷ (codes " sites " ++ c ++ codes " writes " ++ f ++ 10 ∷ []) ≡
-        codes "routine " ++ b ++ codes " rank " ++ j ∷ l ∷ (codes " sites " ++ d ++ codes " writes " ++ g ++ 10 ∷ [])
-    go a b i j k l c d f g p q r s t = rw (p, q, r, s, t) refl
-
-fact_same : (v : Version) (f g : FactLine) → SameFactLine f g → fact_text v f ≡ fact_text v g
-fact_same v f g e =
-    go (octal_text f.address) (octal_text g.address) (registers_text v f.statement) (registers_text v g.statement)
-    (offsets_text f.offsets) (offsets_text g.offsets) (details_text f.statement) (details_text g.statement)
-    (ap octal_text e.address) (registers_same v f.statement g.statement e.statement) (offsets_same f.offsets g.offsets e.offsets)
-    (details_same f.statement g.statement e.statement)
-  where
-    go : (a b c d e f g h : List ℕ) → a ≡ b → c ≡ d → e ≡ f → g ≡ h →
-        codes "fact " ++ a ++ c ++ codes " offsets " ++ e ++ 10 ∷ g ≡ codes "fact " ++ b ++ d ++ codes " offsets " ++ f ++ 10 ∷ h
-    go a b c d e f g h p q r s = rw (p, q, r, s) refl
-
-exit_same : (v : Version) (x y : ExitLine) → SameExitLine x y → exit_text v x ≡ exit_text v y
-exit_same v x y e =
-    go (octal_text x.entry) (octal_text y.entry) x.offset y.offset (registers_text v x.statement) (registers_text v y.statement)
-    (details_text x.statement) (details_text y.statement)
-    (ap octal_text e.entry) e.offset (registers_same v x.statement y.statement e.statement) (details_same x.statement y.statement e.statement)
-  where
-    go : (a b : List ℕ) (m n : ℕ) (c d g h : List ℕ) → a ≡ b → m ≡ n → c ≡ d → g ≡ h →
-        codes "exit " ++ a ++ codes " " ++ (48 + m) ∷ (c ++ 10 ∷ g) ≡ codes "exit " ++ b ++ codes " " ++ (48 + n) ∷ (d ++ 10 ∷ h)
-    go a b m n c d g h p q r s = rw (p, q, r, s) refl
-
-same_text : (c d : Lines) → SameLines c d → text c ≡ text d
-same_text c d e =
-    go (version_text c.version) (version_text d.version) (flat_map routine_text c.routines) (flat_map routine_text d.routines)
-    (flat_map (fact_text c.version) c.facts) (flat_map (fact_text d.version) d.facts)
-    (flat_map (exit_text c.version) c.exits) (flat_map (exit_text d.version) d.exits)
-    (ap version_text e.version)
-    (all_same SameRoutineLine routine_text routine_text routine_same c.routines d.routines e.routines)
-    (all_same SameFactLine (fact_text c.version) (fact_text c.version) (fact_same c.version) c.facts d.facts e.facts ∙
-    ap (λ (v : Version). flat_map (fact_text v) d.facts) e.version)
-    (all_same SameExitLine (exit_text c.version) (exit_text c.version) (exit_same c.version) c.exits d.exits e.exits ∙
-    ap (λ (v : Version). flat_map (exit_text v) d.exits) e.version)
-  where
-    go : (a b c d e f g h : List ℕ) → a ≡ b → c ≡ d → e ≡ f → g ≡ h →
-        a ++ 10 ∷ (c ++ e ++ g ++ codes "end" ++ 10 ∷ []) ≡ b ++ 10 ∷ (d ++ f ++ h ++ codes "end" ++ 10 ∷ [])
-    go a b c d e f g h p q r s = rw (p, q, r, s) refl
 
 -- Lines that say the same have one spelling.
 words_same : (v : Version) (r s : Registers) → SameRegisters r s → words_text v r ≡ words_text v s
@@ -172,6 +96,52 @@ same_line_text v (CellIs a) (CellIs b) e =
 same_line_text v (EquationIs a) (EquationIs b) e = ap equation_line e
 same_line_text v End End e = refl
 same_line_text v l m e = absurd e
+
+-- So have certificates: their lines say the same.
+alike_both : {A : Type 0} (same : A → A → Type 0) (xs ys us ws : List A) → Alike same us ws → Alike same xs ys → Alike same (xs ++ us) (ys ++ ws)
+alike_both same xs ys us ws h = along same (λ l m. Alike same (l ++ us) (m ++ ws)) h (λ x y l m s t. (s, t)) xs ys
+
+alike_map : {A : Type 0} (same : A → A → Type 0) (line : A → Line) → ((a b : A) → same a b → SameLine (line a) (line b)) →
+    (xs ys : List A) → Alike same xs ys → Alike SameLine (map line xs) (map line ys)
+alike_map same line to = along same (λ l m. Alike SameLine (map line l) (map line m)) tt (λ x y l m s t. (to x y s, t))
+
+alike_flat : {A : Type 0} (same : A → A → Type 0) (lines : A → List Line) → ((a b : A) → same a b → Alike SameLine (lines a) (lines b)) →
+    (xs ys : List A) → Alike same xs ys → Alike SameLine (flat_map lines xs) (flat_map lines ys)
+alike_flat same lines to =
+    along same (λ l m. Alike SameLine (flat_map lines l) (flat_map lines m)) tt
+    (λ x y l m s t. alike_both SameLine (lines x) (lines y) (flat_map lines l) (flat_map lines m) t (to x y s))
+
+details_alike : (s t : Statement) → SameStatement s t → Alike SameLine (details s) (details t)
+details_alike s t h =
+    alike_both SameLine (map CellIs s.cells) (map CellIs t.cells) (map EquationIs s.equations) (map EquationIs t.equations)
+    (rw h.equations (alike_self (map EquationIs t.equations)))
+    (alike_map SameCell CellIs (λ a b g. (g.address, g.set)) s.cells t.cells h.cells)
+
+registers_alike : (s t : Statement) → SameStatement s t → SameRegisters (registers_of s) (registers_of t)
+registers_alike s t h = record { ac = h.ac; mq = h.mq; link = h.link }
+
+lines_alike : (c d : Lines) → SameLines c d → Alike SameLine (lines_of c) (lines_of d)
+lines_alike c d h =
+    alike_both SameLine _ _ (End ∷ []) (End ∷ []) (tt, tt)
+    (alike_both SameLine _ _ (flat_map lines_of_exit c.exits) (flat_map lines_of_exit d.exits)
+    (alike_flat SameExitLine lines_of_exit
+    (λ x y g. ((g.entry, g.offset, registers_alike x.statement y.statement g.statement), details_alike x.statement y.statement g.statement))
+    c.exits d.exits h.exits)
+    (alike_both SameLine (map RoutineIs c.routines) (map RoutineIs d.routines) (flat_map lines_of_fact c.facts) (flat_map lines_of_fact d.facts)
+    (alike_flat SameFactLine lines_of_fact
+    (λ f g e. ((e.address, registers_alike f.statement g.statement e.statement, e.offsets), details_alike f.statement g.statement e.statement))
+    c.facts d.facts h.facts)
+    (alike_map SameRoutineLine RoutineIs (λ r s g. (g.entry, g.rank, g.sites, g.writes)) c.routines d.routines h.routines)))
+
+all_ended_same : (v : Version) (ls ms : List Line) → Alike SameLine ls ms → all_ended v ls ≡ all_ended v ms
+all_ended_same v =
+    along SameLine (λ l m. all_ended v l ≡ all_ended v m) refl (λ x y l m s e. joined (ap ended (same_line_text v x y s)) e)
+
+same_text : (c d : Lines) → SameLines c d → text c ≡ text d
+same_text c d h =
+    text_lines c ∙
+    (joined refl (all_ended_same c.version (lines_of c) (lines_of d) (lines_alike c d h)) ∙
+    (ap (λ (v : Version). ended (version_text v) ++ all_ended v (lines_of d)) h.version ∙ sym (text_lines d)))
 
 pub spelling_law : SpellingLaw
 spelling_law = record { line = line_one; lines = text_one; text = same_text }

@@ -4,7 +4,7 @@ use Rattle.std.specs.Prelude.{replicate, IfOk, IfErr, IfSome, IsErrAnd, MatchRes
 use Rattle.std.specs.Io.KnownBytes.{Consumes, Keeps, IsAtEnd}
 use Rattle.std.proofs.KnownBytes.{Consumes-nil, Consumes-trans, Consumes-kept, Consumes-whole}
 use Rattle.std.proofs.lemmas.Bool.{true≢false}
-use Rattle.std.proofs.lemmas.List.{take_all, take_more, length-drop, take-append-le, take-append-drop, length-replicate}
+use Rattle.std.proofs.lemmas.List.{take_more, take-append-le, take-append-drop, length-replicate}
 use Rattle.std.proofs.Math.Seq.{take-append-add, take-add}
 use Rattle.streams.specs.Bytes.{Gave}
 use Rattle.certificate.specs.declared.Version.{Version}
@@ -19,23 +19,14 @@ use Rattle.certificate.specs.Kept.{Kept, meaning}
 use Rattle.certificate.specs.Parser.{Parts, Seen, IsSmall, Refuses, IsParsed}
 use Rattle.certificate.specs.Serving.{Settles, IsUnanswered, is_read_fault, failed_to_read}
 use Rattle.certificate.specs.Served.{CameTo, IsAnswered, Serves}
+use Rattle.certificate.proofs.OneLineLemmas.{no_feed_both, feed_taken}
 use Rattle.certificate.proofs.OneFaultLemmas.{no_fault, one_fault}
+use Rattle.certificate.proofs.ParserLemmas.{rest_of}
 
 -- Bytes with no line feed.
 zeros_feed : (n : ℕ) → NoFeed (replicate n 0)
 zeros_feed zero = tt
 zeros_feed (suc n) = (λ e. cc, zeros_feed n)
-
-both_feed : (xs ys : List ℕ) → NoFeed xs → NoFeed ys → NoFeed (xs ++ ys)
-both_feed [] ys f g = g
-both_feed (x ∷ xs) ys f g = (f.0, both_feed xs ys f.1 g)
-
-front_feed : (xs ys : List ℕ) → NoFeed (xs ++ ys) → NoFeed xs
-front_feed [] ys f = tt
-front_feed (x ∷ xs) ys f = (f.0, front_feed xs ys f.1)
-
-taken_feed : (n : ℕ) (xs : List ℕ) → NoFeed xs → NoFeed (take n xs)
-taken_feed n xs f = front_feed (take n xs) (drop n xs) (subst NoFeed (sym (take-append-drop n xs)) f)
 
 -- The bytes that were taken, and those after them.
 pub piece_more : (before bytes : List ℕ) (i n : ℕ) → before ++ take i bytes ++ take n (drop i bytes) ≡ before ++ take (i + n) bytes
@@ -46,9 +37,6 @@ piece_rest before bytes i = append_assoc before (take i bytes) (drop i bytes) �
 
 pub piece_length : (before piece : List ℕ) (n : ℕ) → n ≡ length before → n + length piece ≡ length (before ++ piece)
 piece_length before piece n e = ap (λ k. k + length piece) e ∙ sym (length-append before piece)
-
-pub piece_left : (bytes : List ℕ) (i : ℕ) → take (length bytes - i) (drop i bytes) ≡ drop i bytes
-piece_left bytes i = take_all (length bytes - i) (drop i bytes) (omega (arith, length-drop i bytes))
 
 pub piece_count : (before piece : List ℕ) (n i : ℕ) → i ≤ length piece → n ≡ length before → n + i ≡ length (before ++ take i piece)
 piece_count before piece n i h e = sym (length-append before (take i piece) ∙ (ap (λ k. length before + k) (length-take-le i piece h) ∙ ap (λ k. k + i) (sym e)))
@@ -82,14 +70,14 @@ module _ {A : Type 0} (kept : KeptLines A) (text line bytes : List ℕ) (long : 
   goes_on None h more feed =
       let none : text ≡ [] = h.read.0 in
       let same : bytes ≡ h.tail = h.split ∙ ap (λ (x : List ℕ). x ++ h.tail) none in
-      inl (both_feed bytes more (rw same h.feed) feed)
+      inl (no_feed_both bytes more (rw same h.feed) feed)
   goes_on (Some p) h more feed = inr (record {
     version = p.version;
     before = h.read.before;
     order = h.read.order;
     rest = h.tail ++ more;
     split = ap (λ (x : List ℕ). x ++ more) (h.split ∙ ap (λ (x : List ℕ). x ++ h.tail) h.read.is) ∙ append_assoc _ h.tail more;
-    feed = both_feed h.tail more h.feed feed;
+    feed = no_feed_both h.tail more h.feed feed;
   })
 
   -- There may follow too many,
@@ -98,28 +86,18 @@ module _ {A : Type 0} (kept : KeptLines A) (text line bytes : List ℕ) (long : 
       let n : length (bytes ++ replicate (k + 1) 0) ≡ length bytes + (k + 1) = length-append bytes (replicate (k + 1) 0) ∙ ap (λ i. length bytes + i) (length-replicate (k + 1) 0) in
       let t : take most_bytes (bytes ++ replicate (k + 1) 0) ≡ bytes ++ take k (replicate (k + 1) 0) =
       ap (λ i. take i (bytes ++ replicate (k + 1) 0)) (sym most) ∙ take-append-add bytes (replicate (k + 1) 0) k in
-      inr (omega arith, subst (λ (x : List ℕ). NoFeed x ⊎ HasRest x) (sym t) (goes_on o h (take k (replicate (k + 1) 0)) (taken_feed k _ (zeros_feed (k + 1)))))
+      inr (omega arith, subst (λ (x : List ℕ). NoFeed x ⊎ HasRest x) (sym t) (goes_on o h (take k (replicate (k + 1) 0)) (feed_taken k _ (zeros_feed (k + 1)))))
 
   -- or nothing.
   other_end : (p : Progress) → Parts text kept (Some p) line long bytes → length bytes ≤ most_bytes → HasFault bytes faults.TooMany → ⊥
   other_end p h few most = go h.tail (any is_end h.read.before) refl refl
     where
-      whole : HasRest bytes
-      whole = record {
-        version = p.version;
-        before = h.read.before;
-        order = h.read.order;
-        rest = h.tail;
-        split = h.split ∙ ap (λ (x : List ℕ). x ++ h.tail) h.read.is;
-        feed = h.feed;
-      }
-
       other : faults.BadLine (length h.read.before + 2) ≡ faults.TooMany → ⊥
       other e = cc
 
       lacking : (any is_end h.read.before ≡ true → h.tail ≡ [] → ⊥) → ⊥
       lacking lacks = other (one_fault bytes (faults.BadLine (length h.read.before + 2)) faults.TooMany
-          (inr (record { lines = whole; few = few; number = refl; lacks = lacks })) most)
+          (inr (record { lines = rest_of kept text line bytes long p h; few = few; number = refl; lacks = lacks })) most)
 
       go : (tail : List ℕ) (ended : Bool) → h.tail ≡ tail → any is_end h.read.before ≡ ended → ⊥
       go tail false e f = lacking (λ g none. true≢false (sym g ∙ f))
@@ -171,12 +149,9 @@ prompt_after given piece h short n le =
 
 -- No such fault is that of a read.
 pub no_read : (bytes : List ℕ) (fault : CertificateFault) → HasFault bytes fault → is_read_fault fault ≡ false
-no_read bytes faults.Version h = refl
-no_read bytes (faults.BadLine n) h = refl
-no_read bytes (faults.Order n) h = refl
-no_read bytes faults.TooMany h = refl
 no_read bytes faults.NoMemory h = absurd h
 no_read bytes faults.ReadFault h = absurd h
+no_read bytes fault h = refl
 
 pub no_read_refused : (bytes : List ℕ) (fault : CertificateFault) → Refuses bytes fault → is_read_fault fault ≡ false
 no_read_refused bytes fault (inl e) = rw e.0 refl
@@ -366,7 +341,7 @@ module _ (old new : Option (List ℕ)) where
 
 -- One byte more that is no line feed.
 pub no_feed_more : (bytes : List ℕ) (n : ℕ) → n < length bytes → NoFeed (take n bytes) → (get_or bytes n 0 ≡ 10 → ⊥) → NoFeed (take (n + 1) bytes)
-no_feed_more bytes n h front ne = rw (take_more bytes n 0 h) (both_feed (take n bytes) (get_or bytes n 0 ∷ []) front (ne, tt))
+no_feed_more bytes n h front ne = rw (take_more bytes n 0 h) (no_feed_both (take n bytes) (get_or bytes n 0 ∷ []) front (ne, tt))
 
 -- A line after what was taken, with its line feed.
 pub with_feed : (before bytes : List ℕ) (n : ℕ) → n < length bytes → get_or bytes n 0 ≡ 10 → before ++ take n bytes ++ 10 ∷ [] ≡ before ++ take (n + 1) bytes
@@ -379,7 +354,7 @@ pub too_many : {A : Type 0} (kept : KeptLines A) (text line bytes piece : List �
 too_many kept text line bytes piece progress long k h feed most more = inr (λ rest. inr (
   (let a : length (bytes ++ piece ++ rest) ≡ length (bytes ++ piece) + length rest = length-append (bytes ++ piece) rest in
       let b : length (bytes ++ piece) ≡ length bytes + length piece = length-append bytes piece in omega arith),
-  subst (λ (x : List ℕ). NoFeed x ⊎ HasRest x) (sym (front rest)) (goes_on kept text line bytes long progress h (take k piece) (taken_feed k piece feed)),
+  subst (λ (x : List ℕ). NoFeed x ⊎ HasRest x) (sym (front rest)) (goes_on kept text line bytes long progress h (take k piece) (feed_taken k piece feed)),
 ))
   where
     front : (rest : List ℕ) → take most_bytes (bytes ++ piece ++ rest) ≡ bytes ++ take k piece

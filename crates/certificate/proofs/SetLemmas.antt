@@ -2,6 +2,7 @@
 use Rattle.std.proofs.Common.{◌≡◌, ◌⊎◌, ℕ, zero, suc, ◌+◌, ◌-◌, ◌<◌, ◌≤◌, ◌==◌, Bool, true, false, not, ◌&&◌, ◌||◌, List, [], ◌++◌, refl, ap, ◌∙◌, sym, inl, inr, arith, append_assoc, append-nil}
 use Rattle.std.specs.Prelude.{if◌then◌else◌, codes}
 use Rattle.std.proofs.lemmas.Bool.{false≢true, eq-eqb, ne_eqb, cases_lt}
+use Rattle.std.proofs.Math.Bool.{and-false, or-true}
 use Rattle.word12.specs.Words.{octal_text}
 use Rattle.wordset.specs.Words.{Words, some_below}
 use Rattle.certificate.specs.Spelling.{begins, ends, mark, marks}
@@ -95,18 +96,10 @@ none_rest s n none = elim (cases_lt n 4096) [
 
 -- A word after another doesn't begin a run, one before another doesn't end one.
 goes_on : (s : Words) (v : ℕ) → 0 < v → s (v - 1) ≡ true → begins s v ≡ false
-goes_on s v pos before = rw (ne_eqb v 0 (λ z. omega arith), before) (go (s v))
-  where
-    go : (b : Bool) → (b && false) ≡ false
-    go true = refl
-    go false = refl
+goes_on s v pos before = rw (ne_eqb v 0 (λ z. omega arith), before) (and-false (s v))
 
 not_yet : (s : Words) (v : ℕ) → v < 4095 → s (v + 1) ≡ true → ends s v ≡ false
-not_yet s v small after = rw (ne_eqb v 4095 (λ z. omega arith), after) (go (s v))
-  where
-    go : (b : Bool) → (b && false) ≡ false
-    go true = refl
-    go false = refl
+not_yet s v small after = rw (ne_eqb v 4095 (λ z. omega arith), after) (and-false (s v))
 
 begun : (s : Words) (v : ℕ) → s v ≡ true → (v == 0 || not (s (v - 1))) ≡ true → begins s v ≡ true
 begun s v here starts = rw here starts
@@ -202,17 +195,36 @@ starts_after s n low high r h =
     let f : (high + 2 == 0) ≡ false = ne_eqb (high + 2) 0 (λ z. omega arith) in
     rw (f, e, gap_after s n low high r (omega arith)) refl
 
+-- A run by its words and those beside it.
+pub a_run : (s : Words) (n low high : ℕ) → StartsAt s n → n ≤ low → low ≤ high → high < 4096 → ((v : ℕ) → n ≤ v → v < low → s v ≡ false) →
+    ((v : ℕ) → low ≤ v → v ≤ high → s v ≡ true) → (high < 4095 → s (high + 1) ≡ false) → Run s n low high
+a_run s n low high starts reached order small before inside after = record {
+  reached = reached;
+  order = order;
+  small = small;
+  before = before;
+  inside = inside;
+  starts = elim (cases_lt n low) [
+    | inl w ↦ rw (before (low - 1) (omega arith) (omega arith), ne_eqb low 0 (λ z. omega arith)) refl
+    | inr w ↦ (let z : low ≡ n = omega arith in rw z (starts (omega arith)))
+  ];
+  stops = elim (cases_lt high 4095) [
+    | inl w ↦ rw (after w) (or-true (high == 4095))
+    | inr w ↦ rw (eq-eqb high 4095 (omega arith)) refl
+  ];
+}
+
 record Last (s : Words) (low : ℕ) : Type 0 where
   high : ℕ
   order : low ≤ high
   small : high < 4096
   inside : (v : ℕ) → low ≤ v → v ≤ high → s v ≡ true
-  stops : (high == 4095 || not (s (high + 1))) ≡ true
+  after : high < 4095 → s (high + 1) ≡ false
 
 last_from : (k low v : ℕ) (s : Words) → k + v ≡ 4095 → low ≤ v → ((u : ℕ) → low ≤ u → u ≤ v → s u ≡ true) → Last s low
 last_from zero low v s e h inside =
     let q : v ≡ 4095 = omega arith in
-    record { high = v; order = h; small = omega arith; inside = inside; stops = rw (eq-eqb v 4095 q) refl }
+    record { high = v; order = h; small = omega arith; inside = inside; after = λ w. absurd (omega arith) }
 last_from (suc k) low v s e h inside = go (s (v + 1)) refl (λ q. last_from k low (v + 1) s (omega arith) (omega arith) q)
   where
     go : (b : Bool) → s (v + 1) ≡ b → (((u : ℕ) → low ≤ u → u ≤ v + 1 → s u ≡ true) → Last s low) → Last s low
@@ -220,7 +232,7 @@ last_from (suc k) low v s e h inside = go (s (v + 1)) refl (λ q. last_from k lo
       | inl w ↦ inside u a (omega arith)
       | inr w ↦ (let z : u ≡ v + 1 = omega arith in rw z q)
     ])
-    go false q more = record { high = v; order = h; small = omega arith; inside = inside; stops = rw (q, ne_eqb v 4095 (λ z. omega arith)) refl }
+    go false q more = record { high = v; order = h; small = omega arith; inside = inside; after = λ w. q }
 
 record First (s : Words) (n : ℕ) : Type 0 where
   low : ℕ
@@ -269,23 +281,9 @@ next_run s n starts = elim (cases_lt n 4096) [
     only : (f : First s n) → (u : ℕ) → f.low ≤ u → u ≤ f.low → s u ≡ true
     only f u a b = let z : u ≡ f.low = omega arith in rw z f.here
 
-    begin : (f : First s n) → (f.low == 0 || not (s (f.low - 1))) ≡ true
-    begin f = elim (cases_lt n f.low) [
-      | inl w ↦ rw (f.before (f.low - 1) (omega arith) (omega arith), ne_eqb f.low 0 (λ z. omega arith)) refl
-      | inr w ↦ (let z : f.low ≡ n = (let q : n ≤ f.low = f.reached in omega arith) in rw z (starts (let p : f.low < 4096 = f.small in omega arith)))
-    ]
-
     made : (f : First s n) → Last s f.low → Next s n
     made f l = record {
       low = f.low;
       high = l.high;
-      run = record {
-        reached = f.reached;
-        order = l.order;
-        small = l.small;
-        before = f.before;
-        inside = l.inside;
-        starts = begin f;
-        stops = l.stops;
-      };
+      run = a_run s n f.low l.high starts f.reached l.order l.small f.before l.inside l.after;
     }

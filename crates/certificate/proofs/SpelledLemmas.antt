@@ -1,22 +1,23 @@
 -- The text of a line while it's written.
-use Rattle.std.proofs.Common.{◌≡◌, ◌⊎◌, ℕ, zero, suc, Option, drop, length-append, ◌+◌, ◌-◌, ◌<◌, ◌≤◌, ◌==◌, Bool, true, false, List, [], ◌∷◌, ◌++◌, length, refl, ap, ◌∙◌, sym, inl, inr, arith, append_assoc, append-nil, get_or, length-take-le}
-use Rattle.std.specs.Prelude.{take, not, ◌&&◌, ◌||◌, if◌then◌else◌, IsTrue}
+use Rattle.std.proofs.Common.{◌≡◌, ◌⊎◌, ℕ, Option, drop, length-append, ◌+◌, ◌<◌, ◌≤◌, ◌==◌, Bool, true, false, List, [], ◌∷◌, ◌++◌, length, refl, ap, ◌∙◌, sym, inl, inr, arith, append_assoc, append-nil, get_or, length-take-le}
+use Rattle.std.specs.Prelude.{take, not, ◌&&◌, if◌then◌else◌, IsTrue}
 use Rattle.std.proofs.lemmas.Bool.{true≢false, eq-eqb, ne_eqb, cases_lt}
-use Rattle.std.proofs.lemmas.Bool.Decides.{nat_tests}
 use Rattle.std.proofs.lemmas.List.{take_all, take-append-le, take_more, take-append-drop}
-use Rattle.std.proofs.Math.Seq.{take-append-add}
+use Rattle.std.proofs.Math.Seq.{take-add}
 use Rattle.std.specs.Io.KnownBytes.{Appends}
 use Rattle.std.proofs.KnownBytes.{Appends-trans}
 use Rattle.streams.specs.Bytes.{AppendsFront}
+use Rattle.streams.proofs.BytesLemmas.{front_after}
 use Rattle.certificate.specs.declared.Version.{Version}
-use Rattle.certificate.specs.Reading.{Each}
 use Rattle.certificate.specs.Line.{Line, line_text, ended, all_ended}
 use Rattle.wordset.specs.Words.{Words, all_words, difference, IsFirstFrom, HasNoneFrom}
 use Rattle.wordset.proofs.Tests.{IsSome}
 use Rattle.certificate.specs.Spelling.{marks, digits, offsets_text}
 use Rattle.certificate.specs.Fields.{run_text}
 use Rattle.certificate.specs.Spelled.{Adds, IsLastOf}
-use Rattle.certificate.proofs.SetLemmas.{rest, comma, Run, whole_rest, none_rest, run_rest, StartsAt, starts_after}
+use Rattle.certificate.proofs.TextLemmas.{both_ended}
+use Rattle.certificate.proofs.PackedLemmas.{still_in}
+use Rattle.certificate.proofs.SetLemmas.{rest, comma, Run, whole_rest, none_rest, run_rest, StartsAt, starts_after, a_run}
 use Rattle.certificate.proofs.RunLemmas.{no_comma, comma_rest}
 use Rattle.certificate.proofs.DigitLemmas.{digits_more, digits_none, no_offsets, some_offsets, has_offset}
 
@@ -38,10 +39,7 @@ joined a b c s t p q = record {
       (take_twice (a ++ s) t 32769 ∙ ap (λ (x : List ℕ). take 32769 x) (append_assoc a s t))));
 }
 
--- A byte for which there is room, and one for which there is none.
-pub pushed : (xs ys : List ℕ) (b : ℕ) → ys ≡ xs ++ b ∷ [] → Adds xs ys (b ∷ [])
-pushed xs ys b e = record { is = ap (λ (x : List ℕ). take 32769 x) e }
-
+-- A text that was added, and a byte for which there was no room.
 pub added : (xs ys text : List ℕ) → ys ≡ xs ++ text → Adds xs ys text
 added xs ys text e = record { is = ap (λ (x : List ℕ). take 32769 x) e }
 
@@ -68,26 +66,10 @@ set_begun old s = record { text = []; is = refl; adds = none old; starts = λ h.
 -- The next run.
 pub found_run : (s others : Words) (n low high : ℕ) → StartsAt s n → IsFirstFrom n s low → IsLastOf others low high →
     ((v : ℕ) → others v ≡ difference all_words s v) → Run s n low high
-found_run s others n low high starts f l are = record {
-  reached = f.reached;
-  order = l.order;
-  small = l.small;
-  before = f.before;
-  inside = λ v a b. there v (let q : high < 4096 = l.small in omega arith) (sym (are v) ∙ l.inside v a b);
-  starts = elim (cases_lt n low) [
-    | inl w ↦ rw (f.before (low - 1) (omega arith) (omega arith), ne_eqb low 0 (λ z. omega arith)) refl
-    | inr w ↦ (let z : low ≡ n = (let q : n ≤ low = f.reached in omega arith) in rw z (starts (let p : low < 4096 = f.small in omega arith)))
-  ];
-  stops = stop l.stops;
-}
+found_run s others n low high starts f l are =
+    a_run s n low high starts f.reached l.order l.small f.before
+    (λ v a b. still_in s v (let q : high < 4096 = l.small in omega arith) (sym (are v) ∙ l.inside v a b)) (after l.stops)
   where
-    there : (v : ℕ) → v < 4096 → difference all_words s v ≡ false → s v ≡ true
-    there v h e = go (s v) (all_words v) (grind (arith, nat_tests)) e
-      where
-        go : (b c : Bool) → c ≡ true → (c && not b) ≡ false → b ≡ true
-        go true c k q = refl
-        go false c k q = absurd (let z : true ≡ false = rw k at q in true≢false z)
-
     gone : (v : ℕ) → difference all_words s v ≡ true → s v ≡ false
     gone v e = go (s v) (all_words v) e
       where
@@ -96,13 +78,9 @@ found_run s others n low high starts f l are = record {
         go true true q = absurd (true≢false (sym q))
         go true false q = absurd (true≢false (sym q))
 
-    stop : (high ≡ 4095) ⊎ (others (high + 1) ≡ true) → (high == 4095 || not (s (high + 1))) ≡ true
-    stop (inl e) = rw (eq-eqb high 4095 e) refl
-    stop (inr e) = let z : s (high + 1) ≡ false = gone (high + 1) (sym (are (high + 1)) ∙ e) in rw z (or_true (high == 4095))
-      where
-        or_true : (b : Bool) → (b || true) ≡ true
-        or_true true = refl
-        or_true false = refl
+    after : (high ≡ 4095) ⊎ (others (high + 1) ≡ true) → high < 4095 → s (high + 1) ≡ false
+    after (inl e) w = absurd (omega arith)
+    after (inr e) w = gone (high + 1) (sym (are (high + 1)) ∙ e)
 
 -- A run more.
 pub run_written : (old now mid new : List ℕ) (s : Words) (n low high : ℕ) → SetSofar old now s n →
@@ -169,27 +147,11 @@ pub some_offset : (old now : List ℕ) (s : Words) → (((o : ℕ) → o < 8 →
 some_offset old now s some h = rw (some_offsets s (has_offset s some)) h
 
 -- Lines one after another.
-pub each_at : {A : Type 0} (P : A → Type 0) (xs : List A) (i : ℕ) (d : A) → Each P xs → i < length xs → P (get_or xs i d)
-each_at P [] i d h b = absurd (omega arith)
-each_at P (x ∷ xs) zero d h b = h.0
-each_at P (x ∷ xs) (suc i) d h b = each_at P xs i d h.1 (omega arith)
-
-lines_more : (v : Version) (ls : List Line) (i : ℕ) (d : Line) → i < length ls →
-    all_ended v (take (i + 1) ls) ≡ all_ended v (take i ls) ++ ended (line_text v (get_or ls i d))
-lines_more v ls i d h = rw (take_more ls i d h) (on (take i ls) (get_or ls i d))
-  where
-    on : (xs : List Line) (x : Line) →
-        all_ended v (xs ++ x ∷ []) ≡ all_ended v xs ++ ended (line_text v x)
-    on [] x = append-nil (ended (line_text v x))
-    on (y ∷ ys) x = ap (λ (z : List ℕ). ended (line_text v y) ++ z) (on ys x) ∙
-        sym (append_assoc (ended (line_text v y)) (all_ended v ys) (ended (line_text v x)))
-
-pub front_after : (a b c : Option (List ℕ)) (first second : List ℕ) → Appends a b first → AppendsFront b c second → AppendsFront a c (first ++ second)
-front_after a b c first second whole front = record {
-  count = length first + front.count;
-  within = let e = length-append first second in let f = front.within in omega (arith, e, f);
-  out = rw (take-append-add first second front.count) (Appends-trans a b c first (take front.count second) whole front.out);
-}
+lines_more : (v : Version) (ls : List Line) (i : ℕ) (l : Line) → drop i ls ≡ l ∷ drop (i + 1) ls →
+    all_ended v (take (i + 1) ls) ≡ all_ended v (take i ls) ++ ended (line_text v l)
+lines_more v ls i l at =
+    ap (all_ended v) (take-add i 1 ls ∙ ap (λ (x : List Line). take i ls ++ take 1 x) at) ∙
+    (both_ended v (take i ls) (l ∷ []) ∙ ap (λ (x : List ℕ). all_ended v (take i ls) ++ x) (append-nil (ended (line_text v l))))
 
 pub front_more : (a b : Option (List ℕ)) (first second : List ℕ) → AppendsFront a b first → AppendsFront a b (first ++ second)
 front_more a b first second front = record {
@@ -198,26 +160,15 @@ front_more a b first second front = record {
   out = (let f : front.count ≤ length first = (let g = front.within in omega (arith, g)) in rw (take-append-le front.count first second f) front.out);
 }
 
-pub line_put : (a b c : Option (List ℕ)) (v : Version) (ls : List Line) (i : ℕ) (d : Line) (text : List ℕ) → i < length ls →
-    Appends a b (all_ended v (take i ls)) → text ≡ ended (line_text v (get_or ls i d)) → Appends b c text →
-    Appends a c (all_ended v (take (i + 1) ls))
-line_put a b c v ls i d text h p e q =
-    rw (lines_more v ls i d h) (Appends-trans a b c (all_ended v (take i ls)) (ended (line_text v (get_or ls i d))) p (rw e at q))
+pub line_put : (a b c : Option (List ℕ)) (v : Version) (ls : List Line) (i : ℕ) (l : Line) (text : List ℕ) → drop i ls ≡ l ∷ drop (i + 1) ls →
+    Appends a b (all_ended v (take i ls)) → text ≡ ended (line_text v l) → Appends b c text → Appends a c (all_ended v (take (i + 1) ls))
+line_put a b c v ls i l text at p e q =
+    rw (lines_more v ls i l at) (Appends-trans a b c (all_ended v (take i ls)) (ended (line_text v l)) p (rw e at q))
 
-pub line_cut : (a b c : Option (List ℕ)) (v : Version) (ls : List Line) (i : ℕ) (d : Line) (text : List ℕ) → i < length ls →
-    Appends a b (all_ended v (take i ls)) → text ≡ ended (line_text v (get_or ls i d)) → AppendsFront b c text →
-    AppendsFront a c (all_ended v ls)
-line_cut a b c v ls i d text h p e q =
+pub line_cut : (a b c : Option (List ℕ)) (v : Version) (ls : List Line) (i : ℕ) (l : Line) (text : List ℕ) → drop i ls ≡ l ∷ drop (i + 1) ls →
+    Appends a b (all_ended v (take i ls)) → text ≡ ended (line_text v l) → AppendsFront b c text → AppendsFront a c (all_ended v ls)
+line_cut a b c v ls i l text at p e q =
     let f : AppendsFront a c (all_ended v (take (i + 1) ls)) =
-    rw (lines_more v ls i d h) (front_after a b c (all_ended v (take i ls)) (ended (line_text v (get_or ls i d))) p (rw e at q)) in
-    rw (sym (together (take (i + 1) ls) (drop (i + 1) ls)) ∙ ap (λ (x : List Line). all_ended v x) (take-append-drop (i + 1) ls))
+    rw (lines_more v ls i l at) (front_after a b c (all_ended v (take i ls)) (ended (line_text v l)) p (rw e at q)) in
+    rw (sym (both_ended v (take (i + 1) ls) (drop (i + 1) ls)) ∙ ap (λ (x : List Line). all_ended v x) (take-append-drop (i + 1) ls))
     at (front_more a c (all_ended v (take (i + 1) ls)) (all_ended v (drop (i + 1) ls)) f)
-  where
-    together : (xs ys : List Line) → all_ended v (xs ++ ys) ≡ all_ended v xs ++ all_ended v ys
-    together [] ys = refl
-    together (x ∷ xs) ys = ap (λ (z : List ℕ). ended (line_text v x) ++ z) (together xs ys) ∙
-        sym (append_assoc (ended (line_text v x)) (all_ended v xs) (all_ended v ys))
-
-pub lines_put : (a b : Option (List ℕ)) (v : Version) (ls : List Line) (i : ℕ) → length ls ≤ i → i ≤ length ls →
-    Appends a b (all_ended v (take i ls)) → Appends a b (all_ended v ls)
-lines_put a b v ls i g h p = rw (take_all i ls g) at p

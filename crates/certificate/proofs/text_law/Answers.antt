@@ -1,4 +1,4 @@
-use Rattle.certificate.proofs.TextLemmas.{text_law}
+use Rattle.certificate.proofs.TextOrderLemmas.{text_law}
 use Rattle.certificate.proofs.text_law.Goals as goal
 
 pub returns : goal.returns

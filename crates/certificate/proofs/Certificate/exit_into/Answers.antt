@@ -5,7 +5,7 @@ use Rattle.certificate.proofs.ReaderLemmas.{exit_claims, no_claim, fits}
 use Rattle.certificate.proofs.Certificate.exit_into.Goals as goal
 
 pub from-start-requires-clause-order : goal.from-start-requires-clause-order
-from-start-requires-clause-order g c = places_of_order c.self.inside.version c.self.inside.kept c.self.invariant.indexed c.self.invariant.order
+from-start-requires-clause-order g c = places_of_order c.self.inside.version c.self.inside.kept c.self.invariant
 
 pub first_exit-requires : goal.first_exit-requires
 first_exit-requires g c = record {
@@ -16,20 +16,14 @@ pub returns-then-offset-ge8-clause-there : goal.returns-then-offset-ge8-clause-t
 returns-then-offset-ge8-clause-there g c =
     rw (← c.self.view_is) (sym (no_claim c.self.inside.version c.self.inside.kept c.args.entry c.args.offset c.self.invariant c.if-offset-ge8.true))
 
-pub returns-clause-there : goal.returns-clause-there
-returns-clause-there g c =
+pub returns : goal.returns
+returns g c =
     let f = exit_claims c.self.inside.version c.self.inside.kept c.index.result c.args.offset (8192 + 8 * c.index.result + c.args.offset)
     (drop c.from-start.result (said_lines c.lines.result.now)) c.self.invariant c.index.ensures.small c.if-offset-ge8.false (omega arith) (rw c.lines.ensures c.from-start.ensures) in
-    rw (← c.self.view_is, ← c.index.ensures.same) (c.first_exit.ensures.there ∙ f.0)
-
-pub returns-clause-fact : goal.returns-clause-fact
-returns-clause-fact g c =
-    let f = exit_claims c.self.inside.version c.self.inside.kept c.index.result c.args.offset (8192 + 8 * c.index.result + c.args.offset)
-    (drop c.from-start.result (said_lines c.lines.result.now)) c.self.invariant c.index.ensures.small c.if-offset-ge8.false (omega arith) (rw c.lines.ensures c.from-start.ensures) in
-    rw (← c.self.view_is, ← c.index.ensures.same) (λ here. c.first_exit.ensures.fact here ∙ f.1)
-
-pub returns-clause-statement : goal.returns-clause-statement
-returns-clause-statement g c =
-    let f = exit_claims c.self.inside.version c.self.inside.kept c.index.result c.args.offset (8192 + 8 * c.index.result + c.args.offset)
-    (drop c.from-start.result (said_lines c.lines.result.now)) c.self.invariant c.index.ensures.small c.if-offset-ge8.false (omega arith) (rw c.lines.ensures c.from-start.ensures) in
-    rw (← c.self.view_is, ← c.index.ensures.same) (λ here. f.2 ∙ c.first_exit.ensures.statement here)
+    record {
+      there = rw (← c.self.view_is, ← c.index.ensures.same) (c.first_exit.ensures.there ∙ f.0);
+      fact = rw (← c.self.view_is, ← c.index.ensures.same) (λ here. c.first_exit.ensures.fact here ∙ f.1);
+      statement = rw (← c.self.view_is, ← c.index.ensures.same) (λ here. f.2 ∙ c.first_exit.ensures.statement here);
+      offsets = c.first_exit.ensures.offsets;
+      kept = c.first_exit.ensures.kept;
+    }

@@ -5,24 +5,19 @@ use Rattle.certificate.proofs.ReaderLemmas.{fact_claims, fits}
 use Rattle.certificate.proofs.Certificate.fact_into.Goals as goal
 
 pub from-start-requires-clause-order : goal.from-start-requires-clause-order
-from-start-requires-clause-order g c = places_of_order c.self.inside.version c.self.inside.kept c.self.invariant.indexed c.self.invariant.order
+from-start-requires-clause-order g c = places_of_order c.self.inside.version c.self.inside.kept c.self.invariant
 
 pub first_fact-requires : goal.first_fact-requires
 first_fact-requires g c = record {
   fit = fits c.self.inside.version c.self.inside.kept (4096 + c.index.result) (drop c.from-start.result (said_lines c.lines.result.now)) c.self.invariant (rw c.lines.ensures c.from-start.ensures);
 }
 
-pub returns-clause-there : goal.returns-clause-there
-returns-clause-there g c =
+pub returns : goal.returns
+returns g c =
     let f = fact_claims c.self.inside.version c.self.inside.kept c.index.result (drop c.from-start.result (said_lines c.lines.result.now)) c.self.invariant c.index.ensures.small (rw c.lines.ensures c.from-start.ensures) in
-    rw (← c.self.view_is, ← c.index.ensures.same) (c.first_fact.ensures.there ∙ f.0)
-
-pub returns-clause-fact : goal.returns-clause-fact
-returns-clause-fact g c =
-    let f = fact_claims c.self.inside.version c.self.inside.kept c.index.result (drop c.from-start.result (said_lines c.lines.result.now)) c.self.invariant c.index.ensures.small (rw c.lines.ensures c.from-start.ensures) in
-    rw (← c.self.view_is, ← c.index.ensures.same) (λ here. c.first_fact.ensures.fact here ∙ f.1)
-
-pub returns-clause-statement : goal.returns-clause-statement
-returns-clause-statement g c =
-    let f = fact_claims c.self.inside.version c.self.inside.kept c.index.result (drop c.from-start.result (said_lines c.lines.result.now)) c.self.invariant c.index.ensures.small (rw c.lines.ensures c.from-start.ensures) in
-    rw (← c.self.view_is, ← c.index.ensures.same) (λ here. f.2 ∙ c.first_fact.ensures.statement here)
+    record {
+      there = rw (← c.self.view_is, ← c.index.ensures.same) (c.first_fact.ensures.there ∙ f.0);
+      fact = rw (← c.self.view_is, ← c.index.ensures.same) (λ here. c.first_fact.ensures.fact here ∙ f.1);
+      statement = rw (← c.self.view_is, ← c.index.ensures.same) (λ here. f.2 ∙ c.first_fact.ensures.statement here);
+      kept = c.first_fact.ensures.kept;
+    }

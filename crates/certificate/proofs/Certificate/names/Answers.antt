@@ -9,10 +9,10 @@ use Rattle.certificate.proofs.NameLemmas.{listed_between, exits_between}
 use Rattle.certificate.proofs.Certificate.names.Goals as goal
 
 pub has_between-requires-clause-order : goal.has_between-requires-clause-order
-has_between-requires-clause-order g c = places_of_order c.self.inside.version c.self.inside.kept c.self.invariant.indexed c.self.invariant.order
+has_between-requires-clause-order g c = places_of_order c.self.inside.version c.self.inside.kept c.self.invariant
 
 pub has_between-requires-else-has_between-clause-order : goal.has_between-requires-else-has_between-clause-order
-has_between-requires-else-has_between-clause-order g c = places_of_order c.self.inside.version c.self.inside.kept c.self.invariant.indexed c.self.invariant.order
+has_between-requires-else-has_between-clause-order g c = places_of_order c.self.inside.version c.self.inside.kept c.self.invariant
 
 pub returns-then-has_between : goal.returns-then-has_between
 returns-then-has_between g c =

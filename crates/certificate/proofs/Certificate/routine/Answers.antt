@@ -9,33 +9,19 @@ use Rattle.certificate.proofs.ReaderLemmas.{told, routine_claims}
 use Rattle.certificate.proofs.Certificate.routine.Goals as goal
 
 pub from-requires-clause-order : goal.from-requires-clause-order
-from-requires-clause-order g c = places_of_order c.self.inside.version c.self.inside.kept c.self.invariant.indexed c.self.invariant.order
+from-requires-clause-order g c = places_of_order c.self.inside.version c.self.inside.kept c.self.invariant
 
-pub returns-clause-listed : goal.returns-clause-listed
-returns-clause-listed g c =
-    let f = routine_claims c.self.inside.version c.self.inside.kept c.index.result (drop c.from.result (said_lines c.lines.result.now)) c.self.invariant c.index.ensures.small (rw c.lines.ensures c.from.ensures) in
-    rw (← c.self.view_is, ← c.index.ensures.same) (c.first_routine.ensures.there ∙ f.0)
-
-pub returns-clause-rank : goal.returns-clause-rank
-returns-clause-rank g c =
+pub returns : goal.returns
+returns g c =
     let f = routine_claims c.self.inside.version c.self.inside.kept c.index.result (drop c.from.result (said_lines c.lines.result.now)) c.self.invariant c.index.ensures.small (rw c.lines.ensures c.from.ensures) in
     let rs = routines_of (all_said c.self.inside.kept) in
-    rw (← c.self.view_is, ← c.index.ensures.same)
-    (told c.first_routine.result (IsRoutineOf rs c.index.result) (λ r. r.rank ≡ rank_in rs c.index.result) (λ r s. s.rank)
-    (c.first_routine.ensures.says rs c.index.result f.1))
-
-pub returns-clause-sites : goal.returns-clause-sites
-returns-clause-sites g c =
-    let f = routine_claims c.self.inside.version c.self.inside.kept c.index.result (drop c.from.result (said_lines c.lines.result.now)) c.self.invariant c.index.ensures.small (rw c.lines.ensures c.from.ensures) in
-    let rs = routines_of (all_said c.self.inside.kept) in
-    rw (← c.self.view_is, ← c.index.ensures.same)
-    (told c.first_routine.result (IsRoutineOf rs c.index.result) (λ r. words r.sites ≡ sites_in rs c.index.result) (λ r s. s.sites)
-    (c.first_routine.ensures.says rs c.index.result f.1))
-
-pub returns-clause-writes : goal.returns-clause-writes
-returns-clause-writes g c =
-    let f = routine_claims c.self.inside.version c.self.inside.kept c.index.result (drop c.from.result (said_lines c.lines.result.now)) c.self.invariant c.index.ensures.small (rw c.lines.ensures c.from.ensures) in
-    let rs = routines_of (all_said c.self.inside.kept) in
-    rw (← c.self.view_is, ← c.index.ensures.same)
-    (told c.first_routine.result (IsRoutineOf rs c.index.result) (λ r. words r.writes ≡ writes_in rs c.index.result) (λ r s. s.writes)
-    (c.first_routine.ensures.says rs c.index.result f.1))
+    let says = c.first_routine.ensures.says rs c.index.result f.1 in
+    record {
+      listed = rw (← c.self.view_is, ← c.index.ensures.same) (c.first_routine.ensures.there ∙ f.0);
+      rank = rw (← c.self.view_is, ← c.index.ensures.same)
+          (told c.first_routine.result (IsRoutineOf rs c.index.result) (λ r. r.rank ≡ rank_in rs c.index.result) (λ r s. s.rank) says);
+      sites = rw (← c.self.view_is, ← c.index.ensures.same)
+          (told c.first_routine.result (IsRoutineOf rs c.index.result) (λ r. words r.sites ≡ sites_in rs c.index.result) (λ r s. s.sites) says);
+      writes = rw (← c.self.view_is, ← c.index.ensures.same)
+          (told c.first_routine.result (IsRoutineOf rs c.index.result) (λ r. words r.writes ≡ writes_in rs c.index.result) (λ r s. s.writes) says);
+    }

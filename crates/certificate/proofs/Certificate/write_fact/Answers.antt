@@ -11,7 +11,7 @@ use Rattle.certificate.proofs.FactTextLemmas.{fact_found}
 use Rattle.certificate.proofs.Certificate.write_fact.Goals as goal
 
 pub from-start-requires-clause-order : goal.from-start-requires-clause-order
-from-start-requires-clause-order g c = places_of_order c.self.inside.version c.self.inside.kept c.self.invariant.indexed c.self.invariant.order
+from-start-requires-clause-order g c = places_of_order c.self.inside.version c.self.inside.kept c.self.invariant
 
 pub put_with_details-requires-clause-form : goal.put_with_details-requires-clause-form
 put_with_details-requires-clause-form g c = rw c.lines.ensures (formed c.self.inside.version c.self.inside.kept c.self.invariant)

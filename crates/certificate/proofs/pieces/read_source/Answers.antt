@@ -28,8 +28,8 @@ finish-requires-clause-small g c = c.loop-parser.invariant.came.small
 pub finish-requires-clause-read : goal.finish-requires-clause-read
 finish-requires-clause-read g c = was_read _ _ c.loop-parser.invariant.came.seen
 
-pub returns-in-Ok-eq0-clause-serves : goal.returns-in-Ok-eq0-clause-serves
-returns-in-Ok-eq0-clause-serves g c =
+pub returns-in-Ok-eq0 : goal.returns-in-Ok-eq0
+returns-in-Ok-eq0 g c =
     let came = c.loop-parser.invariant.came in
     let none : c.in-Ok-eq0.field-0 ≡ 0 = c.in-Ok-eq0.field-0-test in
     let few : c.loop-parser.parser.count ≤ most_bytes = came.small.count in
@@ -37,20 +37,18 @@ returns-in-Ok-eq0-clause-serves g c =
     let full = c.loop-parser.invariant.piece in
     let sized : length (take c.min-room.result c.loop-parser.piece) ≡ c.min-room.result = length-take-le c.min-room.result c.loop-parser.piece (omega (arith, few, e, full)) in
     let some_room : 0 < length c.read.new.piece = omega (arith, sized, few, e, full, c.read.auto.piece) in
-    serve_end _ _ _ c.loop-parser.parser c.finish.result came (rw none at c.in-Ok-eq0.ensures.bytes.0) (c.in-Ok-eq0.ensures.bytes.1 none some_room)
-    (c.finish.ensures came.given came.seen came.count)
-
-pub returns-in-Ok-eq0-clause-marks : goal.returns-in-Ok-eq0-clause-marks
-returns-in-Ok-eq0-clause-marks g c =
-    let came = c.loop-parser.invariant.came in
+    let answer = c.finish.ensures came.given came.seen came.count in
     let unmarked : g.R.ByteSource.mark c.read.new.self ≡ false = search (rules, c.loop-parser.invariant.unmarked, c.in-Ok-eq0.ensures.marks) in
-    unmarked ∙ sym (no_read_parsed (IsParsed came.given) came.given c.finish.result (c.finish.ensures came.given came.seen came.count))
+    record {
+      serves = serve_end _ _ _ c.loop-parser.parser c.finish.result came (rw none at c.in-Ok-eq0.ensures.bytes.0) (c.in-Ok-eq0.ensures.bytes.1 none some_room) answer;
+      marks = unmarked ∙ sym (no_read_parsed (IsParsed came.given) came.given c.finish.result answer);
+    }
 
 pub take_all-requires : goal.take_all-requires
 take_all-requires g c = c.loop-parser.invariant.came.small
 
-pub returns-in-Err-take_all-clause-serves : goal.returns-in-Err-take_all-clause-serves
-returns-in-Err-take_all-clause-serves g c =
+pub returns-in-Err-take_all : goal.returns-in-Err-take_all
+returns-in-Err-take_all g c =
     let came = c.loop-parser.invariant.came in
     let few : c.loop-parser.parser.count ≤ most_bytes = came.small.count in
     let e = c.loop-parser.invariant.count in
@@ -59,15 +57,14 @@ returns-in-Err-take_all-clause-serves g c =
     let within : c.in-Ok.count ≤ length c.read.new.piece = c.in-Ok.ensures.count in
     let front : List ℕ = take c.in-Ok.count c.read.new.piece in
     let is : length front ≡ c.in-Ok.count = length-take-le c.in-Ok.count c.read.new.piece within in
-    let refused = rw (take-append-le c.in-Ok.count c.read.new.piece _ within) at (c.in-Err-take_all.ensures.seen came.given came.seen came.count) in
-    serve_refused _ _ _ c.loop-parser.parser front came c.in-Ok.ensures.bytes.0 c.in-Err-take_all.fault
-    (omega (arith, is, within, sized, few, e, c.read.auto.piece)) (omega (arith, is, within, sized, few, e, c.read.auto.piece)) refused
-
-pub returns-in-Err-take_all-clause-marks : goal.returns-in-Err-take_all-clause-marks
-returns-in-Err-take_all-clause-marks g c =
-    let came = c.loop-parser.invariant.came in
+    let seen = c.in-Err-take_all.ensures.seen came.given came.seen came.count in
+    let refused = rw (take-append-le c.in-Ok.count c.read.new.piece (drop c.min-room.result c.loop-parser.piece) within) at seen in
     let unmarked : g.R.ByteSource.mark c.read.new.self ≡ false = search (rules, c.loop-parser.invariant.unmarked, c.in-Ok.ensures.marks) in
-    unmarked ∙ sym (no_read_refused _ c.in-Err-take_all.fault (c.in-Err-take_all.ensures.seen came.given came.seen came.count))
+    record {
+      serves = serve_refused _ _ _ c.loop-parser.parser front came c.in-Ok.ensures.bytes.0 c.in-Err-take_all.fault
+          (omega (arith, is, within, sized, few, e, c.read.auto.piece)) (omega (arith, is, within, sized, few, e, c.read.auto.piece)) refused;
+      marks = unmarked ∙ sym (no_read_refused _ c.in-Err-take_all.fault seen);
+    }
 
 pub loop-parser-smaller : goal.loop-parser-smaller
 loop-parser-smaller g c =

@@ -9,7 +9,7 @@ use Rattle.certificate.proofs.spelled.put_details.Goals as goal
 
 pub put_line-requires-clause-form : goal.put_line-requires-clause-form
 put_line-requires-clause-form g c =
-    rw c.runs.ensures (each_line (IsLine c.args.version) (said_lines c.args.lines.now) c.loop-at.at (said_at c.args.lines.now.runs c.packed-line.result.now) c.requires.form (rw c.len-at-end.ensures at c.loop-at-test.true) c.packed-line.ensures.there)
+    rw c.runs.ensures (each_line (IsLine c.args.version) (said_lines c.args.lines.now) c.loop-at.at (said_at c.args.lines.now.runs c.packed-line.result.now) _ c.requires.form c.packed-line.ensures.there)
 
 pub loop-at-init : goal.loop-at-init
 loop-at-init g c = record {

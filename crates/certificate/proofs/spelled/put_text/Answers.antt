@@ -4,7 +4,8 @@ use Rattle.std.proofs.KnownBytes.{Appends-trans}
 use Rattle.certificate.specs.Spelling.{version_text}
 use Rattle.certificate.specs.Line.{ended, all_ended}
 use Rattle.certificate.specs.Packed.{said_lines}
-use Rattle.certificate.proofs.SpelledLemmas.{front_after, front_more}
+use Rattle.streams.proofs.BytesLemmas.{front_after}
+use Rattle.certificate.proofs.SpelledLemmas.{front_more}
 use Rattle.certificate.proofs.PutLemmas.{on_err, any_err}
 use Rattle.certificate.proofs.spelled.put_text.Goals as goal
 

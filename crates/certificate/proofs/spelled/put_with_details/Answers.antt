@@ -3,7 +3,7 @@ use Rattle.streams.specs.Bytes.{AppendsFront}
 use Rattle.certificate.specs.Line.{line_text, ended, all_ended}
 use Rattle.certificate.specs.Order.{details_of_last}
 use Rattle.certificate.specs.Packed.{said_at, said_lines}
-use Rattle.certificate.proofs.SpelledLemmas.{front_after}
+use Rattle.streams.proofs.BytesLemmas.{front_after}
 use Rattle.certificate.proofs.PutLemmas.{on_err}
 use Rattle.certificate.proofs.FactTextLemmas.{first_line_of}
 use Rattle.certificate.proofs.spelled.put_with_details.Goals as goal

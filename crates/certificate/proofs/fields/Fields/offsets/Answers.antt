@@ -4,15 +4,11 @@ use Rattle.certificate.specs.Fields.{left}
 use Rattle.certificate.proofs.DigitLemmas.{dash_read, offsets_read, offsets_fail, has_offset}
 use Rattle.certificate.proofs.fields.Fields.offsets.Goals as goal
 
-pub returns-then-takes-clause-read : goal.returns-then-takes-clause-read
-returns-then-takes-clause-read c =
-    (dash_read (left c.args.self.now) (left c.takes.new.self) (offsets_of c.none.result) c.none.ensures
-    (c.if-takes.ensures.taken refl) c.if-takes.ensures.only).read
-
-pub returns-then-takes-clause-only : goal.returns-then-takes-clause-only
-returns-then-takes-clause-only c =
-    (dash_read (left c.args.self.now) (left c.takes.new.self) (offsets_of c.none.result) c.none.ensures
-    (c.if-takes.ensures.taken refl) c.if-takes.ensures.only).only
+pub returns-then-takes : goal.returns-then-takes
+returns-then-takes c =
+    let d = dash_read (left c.args.self.now) (left c.takes.new.self) (offsets_of c.none.result) c.none.ensures
+    (c.if-takes.ensures.taken refl) c.if-takes.ensures.only in
+    record { read = d.read; only = d.only }
 
 pub returns-then-is_empty-clause-only : goal.returns-then-is_empty-clause-only
 returns-then-is_empty-clause-only c = λ s rest ends e.
@@ -20,16 +16,10 @@ returns-then-is_empty-clause-only c = λ s rest ends e.
     (c.if-takes.ensures.kept refl) c.if-takes.ensures.only
     (record { read = c.digits-offsets.ensures.read; only = c.digits-offsets.ensures.only }) (c.if-is_empty.ensures.0 refl) s rest ends e
 
-pub returns-else-is_empty-clause-read : goal.returns-else-is_empty-clause-read
-returns-else-is_empty-clause-read c =
-    (offsets_read (left c.args.self.now) (left c.takes.new.self) (left c.digits-offsets.new.self) (offsets_of c.digits-offsets.result)
+pub returns-else-is_empty : goal.returns-else-is_empty
+returns-else-is_empty c =
+    let d = offsets_read (left c.args.self.now) (left c.takes.new.self) (left c.digits-offsets.new.self) (offsets_of c.digits-offsets.result)
     (c.if-takes.ensures.kept refl) c.if-takes.ensures.only
     (record { read = c.digits-offsets.ensures.read; only = c.digits-offsets.ensures.only })
-    (has_offset (offsets_of c.digits-offsets.result) c.if-is_empty.ensures.1)).read
-
-pub returns-else-is_empty-clause-only : goal.returns-else-is_empty-clause-only
-returns-else-is_empty-clause-only c =
-    (offsets_read (left c.args.self.now) (left c.takes.new.self) (left c.digits-offsets.new.self) (offsets_of c.digits-offsets.result)
-    (c.if-takes.ensures.kept refl) c.if-takes.ensures.only
-    (record { read = c.digits-offsets.ensures.read; only = c.digits-offsets.ensures.only })
-    (has_offset (offsets_of c.digits-offsets.result) c.if-is_empty.ensures.1)).only
+    (has_offset (offsets_of c.digits-offsets.result) c.if-is_empty.ensures.1) in
+    record { read = d.read; only = d.only }

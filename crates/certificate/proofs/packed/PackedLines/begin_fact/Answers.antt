@@ -8,17 +8,16 @@ use Rattle.certificate.proofs.PackedLemmas.{line_there}
 use Rattle.certificate.proofs.AddingLemmas.{fact_first, fact_there}
 use Rattle.certificate.proofs.packed.PackedLines.begin_fact.Goals as goal
 
-pub returns-clause-there : goal.returns-clause-there
-returns-clause-there g c =
+pub returns : goal.returns
+returns g c =
     let e : drop c.args.at (said_lines c.args.self.now) ≡ said_at c.deref.result.now c.index.result.now ∷ drop (c.args.at + 1) (said_lines c.args.self.now) =
-    (rw (← c.self.view_is)
+    rw (← c.self.view_is)
     (line_there c.self.inside.runs.items c.self.inside.list.items c.args.at c.index.result.now (said_at c.deref.result.now c.index.result.now) c.index.ensures
-    (ap (λ (rs : List Run). said_at rs c.index.result.now) c.deref.ensures.value) (rw (← c.self.view_is) at c.requires))) in
-    c.begin_fact.ensures.there ∙ (fact_first (said_at c.deref.result.now c.index.result.now) (drop (c.args.at + 1) (said_lines c.args.self.now)) ∙ ap (λ (ls : List Line). begins_fact ls) (sym e))
-
-pub returns-clause-says : goal.returns-clause-says
-returns-clause-says g c = λ here.
-    fact_there (said_lines c.args.self.now) c.args.at (said_at c.deref.result.now c.index.result.now) (statement_of c.begin_fact.new.fact) (offsets_of c.begin_fact.new.fact.offsets)
-    (rw (← c.self.view_is)
-    (line_there c.self.inside.runs.items c.self.inside.list.items c.args.at c.index.result.now (said_at c.deref.result.now c.index.result.now) c.index.ensures
-    (ap (λ (rs : List Run). said_at rs c.index.result.now) c.deref.ensures.value) (rw (← c.self.view_is) at c.requires))) (c.begin_fact.ensures.says here)
+    (ap (λ (rs : List Run). said_at rs c.index.result.now) c.deref.ensures.value) (rw (← c.self.view_is) at c.requires)) in
+    record {
+      there = c.begin_fact.ensures.there ∙
+          (fact_first (said_at c.deref.result.now c.index.result.now) (drop (c.args.at + 1) (said_lines c.args.self.now)) ∙ ap (λ (ls : List Line). begins_fact ls) (sym e));
+      says = λ here. fact_there (said_lines c.args.self.now) c.args.at (said_at c.deref.result.now c.index.result.now) (statement_of c.begin_fact.new.fact) (offsets_of c.begin_fact.new.fact.offsets) e
+          (c.begin_fact.ensures.says here);
+      kept = c.begin_fact.ensures.kept;
+    }

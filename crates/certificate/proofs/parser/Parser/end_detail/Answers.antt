@@ -1,4 +1,4 @@
-use Rattle.std.proofs.Common.{[], ◌∷◌, ◌++◌, Ok, refl, inl}
+use Rattle.std.proofs.Common.{[], ◌∷◌, ◌++◌, refl, inl}
 use Rattle.certificate.specs.Detail.{said_detail}
 use Rattle.certificate.proofs.DetailAddedLemmas.{one_line, is_no_end}
 use Rattle.certificate.proofs.ParserLemmas.{next_kept, next_refused, next_asks}
@@ -25,7 +25,7 @@ pub returns-clause-seen : goal.returns-clause-seen
 returns-clause-seen g c = λ bytes h small. record {
   text = h.text ++ c.args.self.now.line.items ++ 10 ∷ [];
   parts =
-      next_kept c.args.self.now.kept c.keep_detail.new.self c.keep.new.self.kept (Ok tt) h.text
+      next_kept c.args.self.now.kept c.keep_detail.new.self c.keep.new.self.kept h.text
       c.args.self.now.line.items (h.text ++ c.args.self.now.line.items ++ 10 ∷ []) c.keep.new.self.line.items bytes
       c.args.self.now.progress c.keep.new.self.progress c.keep.new.self.is_long c.args.progress c.accept_detail.new.self (said_detail c.args.detail.now) c.requires.next
       (rw c.requires.short at h.parts) c.in_default.ensures.version (λ before k.

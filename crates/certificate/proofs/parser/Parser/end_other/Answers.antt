@@ -1,4 +1,4 @@
-use Rattle.std.proofs.Common.{ℕ, List, [], ◌∷◌, ◌++◌, Ok, Err, refl, subst}
+use Rattle.std.proofs.Common.{ℕ, List, [], ◌∷◌, ◌++◌, Err, refl, subst}
 use Rattle.certificate.specs.Meaning.{said}
 use Rattle.certificate.specs.Progress.{Takes}
 use Rattle.certificate.proofs.ParserLemmas.{next_kept, next_refused}
@@ -15,7 +15,7 @@ pub returns-in-Ok-keep-clause-seen : goal.returns-in-Ok-keep-clause-seen
 returns-in-Ok-keep-clause-seen g c = λ bytes h small. record {
   text = h.text ++ c.args.self.now.line.items ++ 10 ∷ [];
   parts =
-      next_kept c.args.self.now.kept c.keep.new.self c.keep-in-Ok.new.self.kept (Ok tt) h.text
+      next_kept c.args.self.now.kept c.keep.new.self c.keep-in-Ok.new.self.kept h.text
       c.args.self.now.line.items (h.text ++ c.args.self.now.line.items ++ 10 ∷ []) c.keep-in-Ok.new.self.line.items bytes
       c.args.self.now.progress c.keep-in-Ok.new.self.progress c.keep-in-Ok.new.self.is_long c.args.progress c.accept.new.self (said c.in-Ok.line) c.requires.next
       (rw c.requires.short at h.parts) c.in-Ok.ensures.version (λ before k. rw c.deref.ensures.0 at (c.in-Ok.ensures.lines before k))

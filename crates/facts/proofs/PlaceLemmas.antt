@@ -1,7 +1,7 @@
 -- What cells may hold, and the images of sets, for facts that agree.
 use Rattle.std.proofs.Common.{◌≡◌, ℕ, ◌+◌, ◌-◌, ◌/◌, ◌<◌, ◌==◌, Bool, true, false, ◌&&◌, ◌||◌, refl, sym, ap, ◌∙◌, arith, add-one}
 use Rattle.std.specs.Prelude.{if◌then◌else◌, bit_and, bit_or}
-use Rattle.wordset.specs.Words.{minus, Words, SameWords, SameLinks, everything, all_words, some_below, sums, carries, toggled, ands, ors, or_any, images, images_at, without}
+use Rattle.wordset.specs.Words.{minus, Words, SameWords, SameLinks, everything, all_words, some_below, sums, carries, toggled, ands, ors, or_any, images, images_at, shifted, without}
 use Rattle.std.proofs.lemmas.Bool.{lt-ltb}
 use Rattle.facts.specs.Facts.{Cell, Fact, Place, narrowed, words_in, own_words, is_routine, tape_word}
 use Rattle.facts.specs.Outcomes.{words_at}

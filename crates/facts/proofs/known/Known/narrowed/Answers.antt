@@ -1,4 +1,0 @@
-use Rattle.facts.proofs.known.Known.narrowed.Goals as goal
-
-pub returns : goal.returns
-returns c = c.narrow_into.ensures

@@ -8,7 +8,6 @@ pub mod Starting
 pub mod Alike
 pub mod EntailLemmas
 pub mod TrackingLemmas
-pub mod RowLemmas
 pub mod ChangeLemmas
 pub mod StartLemmas
 pub mod AgreeLemmas

@@ -1,7 +1,7 @@
 -- What cells may hold, and the images of sets, for facts that agree.
 use Rattle.std.proofs.Common.{◌≡◌, ℕ, ◌+◌, ◌-◌, ◌/◌, ◌<◌, ◌==◌, Bool, true, false, ◌&&◌, ◌||◌, refl, sym, ap, ◌∙◌, arith, add-one}
 use Rattle.std.specs.Prelude.{if◌then◌else◌, bit_and, bit_or}
-use Rattle.wordset.specs.Words.{minus, Words, SameWords, SameLinks, everything, all_words, some_below, sums, carries, toggled, ands, ors, or_any, images, images_at, without}
+use Rattle.wordset.specs.Words.{minus, Words, SameWords, SameLinks, everything, all_words, some_below, sums, carries, toggled, ands, ors, or_any, images, images_at, shifted, without}
 use Rattle.std.proofs.lemmas.Bool.{lt-ltb}
 use Rattle.facts.specs.Facts.{Cell, Fact, Place, narrowed, words_in, own_words, is_routine, tape_word}
 use Rattle.facts.specs.Outcomes.{words_at}
@@ -122,3 +122,11 @@ own_end sites f code offsets set n v e s o h =
 
 pub or_both : {a b c d : Bool} → a ≡ c → b ≡ d → (a || b) ≡ (c || d)
 or_both {a} {b} {c} {d} e f = ap (λ x. x || b) e ∙ ap (λ y. c || y) f
+
+-- the words that counting leaves, but for 0, of the same words
+pub counted_same : {s t : Words} → SameWords s t → SameWords (without 0 (shifted s 1)) (without 0 (shifted t 1))
+counted_same {s} {t} e v lt = go (v == 0)
+  where
+    go : (b : Bool) → (if b then false else s (minus v 1)) ≡ (if b then false else t (minus v 1))
+    go true = refl
+    go false = e (minus v 1) (omega arith)

@@ -6,7 +6,7 @@ use Rattle.std.proofs.lemmas.Bool.{and_parts, eqb-true, eq-eqb, true≢false}
 use Rattle.std.proofs.lemmas.Bool.Decides.{nat_tests}
 use Rattle.std.proofs.Math.ListN.{drop_of_length-le}
 use Rattle.std.proofs.lemmas.List.{drop_more, get_or-map, length-map, map-append}
-use Rattle.wordset.specs.Words.{Words, SameWords, IsWithin, between, meet}
+use Rattle.wordset.specs.Words.{Words, IsWithin, between}
 use Rattle.wordset.specs.Lanes.{words}
 use Rattle.facts.specs.Facts.{Fact, Cell, narrowed}
 use Rattle.facts.specs.Showing.{EachWithin}
@@ -180,19 +180,3 @@ within_entries whole wider entries others i j e o lt below at there same w =
     let f : cell_at (map (entry_of whole) entries) i ≡ entry_of whole e = entry_at whole entries i e b at in
     let g : cell_at (map (entry_of wider) others) j ≡ entry_of wider o = entry_at wider others j o below there in
     rw g (entry_within (map (entry_of whole) entries) i o.cell (held_words wider o.held) b (rw f same) (rw f w))
-
--- Entries from one on, where that one is of the cell, and where it's another's.
-pub entry_met : (whole : List Whole) (entries : List Entry) (i a : ℕ) (d : Entry) (old new : Words) → i < length entries → d ≡ get_or entries i d → d.cell ≡ a →
-    SameWords new (meet old (held_words whole d.held)) → (v : ℕ) → v < 4096 →
-    (new v && tracked a (map (entry_of whole) (drop (i + 1) entries)) v) ≡ (old v && tracked a (map (entry_of whole) (drop i entries)) v)
-entry_met whole entries i a d old new lt is one same v small =
-    let hit : (d.cell == a) ≡ true = eq-eqb d.cell a one in
-    rw (drop_more entries i d lt, ← is) (rw (hit, same v small) (go (old v) (held_words whole d.held v) (tracked a (map (entry_of whole) (drop (i + 1) entries)) v)))
-  where
-    go : (p q r : Bool) → ((p && q) && r) ≡ (p && (q && r))
-    go true q r = refl
-    go false q r = refl
-
-pub entry_passed : (whole : List Whole) (entries : List Entry) (i a : ℕ) (d : Entry) (old : Words) → i < length entries → d ≡ get_or entries i d → (d.cell == a) ≡ false → (v : ℕ) →
-    (old v && tracked a (map (entry_of whole) (drop (i + 1) entries)) v) ≡ (old v && tracked a (map (entry_of whole) (drop i entries)) v)
-entry_passed whole entries i a d old lt is other v = rw (drop_more entries i d lt, ← is) (rw other refl)

@@ -11,5 +11,4 @@ pub mod Meaning
 pub mod Showing
 pub mod Places
 pub mod Slots
-pub mod Rows
 pub mod Access

@@ -14,9 +14,8 @@ use crate::equations::{Equations, add_all, add_free, copy_to, free, free_of_cell
 use crate::known::{Change, Known};
 use crate::names::{Equation, Name};
 use crate::offsets::Offsets;
-use crate::seen::Seen;
 use word12::Word;
-use wordset::Links;
+use wordset::{Links, WordSet};
 
 /// The word 1.
 fn one() -> Word
@@ -31,7 +30,7 @@ impl<'a> Known<'a> {
     pub(crate) fn stepped(
         &self,
         cell: Word,
-        place: &'a mut Seen,
+        place: &'a mut WordSet,
         list: &'a mut Equations,
     ) -> Known<'a>
         requires pointer { IsUnchanged self.now.pointer }
@@ -44,20 +43,16 @@ impl<'a> Known<'a> {
         let set = self.shifted_in(&Name::Cell(cell), one(), place);
         raise(&Name::Cell(cell), one(), self.equations, list);
         Known {
-            base: self.base,
-            ac: self.ac,
-            mq: self.mq,
-            link: self.link,
             pointer: Change::Replaced(cell.index(), set),
             target: Change::Unchanged,
             equations: list.as_slice(),
-            offsets: self.offsets,
+            ..*self
         }
     }
 
     /// After the accumulator took some word of a set.
     #[inline(never)]
-    pub(crate) fn with_ac(&self, set: &'a Seen, list: &'a mut Equations) -> Known<'a>
+    pub(crate) fn with_ac(&self, set: &'a WordSet, list: &'a mut Equations) -> Known<'a>
         requires room { length self.now.equations.now ≤ 64 }
         ensures same { Agree (known_of result) (assigned Ac (words set.now) (known_of self.now)) }
         ensures target { result.target ≡ self.now.target }
@@ -65,19 +60,19 @@ impl<'a> Known<'a> {
     {
         free(&Name::Accumulator, self.equations, list);
         Known {
-            base: self.base,
             ac: set,
-            mq: self.mq,
-            link: self.link,
-            pointer: self.pointer,
-            target: self.target,
             equations: list.as_slice(),
-            offsets: self.offsets,
+            ..*self
         }
     }
 
     /// After a cell took some word of a set.
-    pub(crate) fn with_cell(&self, cell: Word, set: &'a Seen, list: &'a mut Equations) -> Known<'a>
+    pub(crate) fn with_cell(
+        &self,
+        cell: Word,
+        set: &'a WordSet,
+        list: &'a mut Equations,
+    ) -> Known<'a>
         requires target { IsUnchanged self.now.target }
         requires room { length self.now.equations.now ≤ 32 }
         ensures same { Agree (known_of result)
@@ -86,19 +81,14 @@ impl<'a> Known<'a> {
     {
         free(&Name::Cell(cell), self.equations, list);
         Known {
-            base: self.base,
-            ac: self.ac,
-            mq: self.mq,
-            link: self.link,
-            pointer: self.pointer,
             target: Change::Replaced(cell.index(), set),
             equations: list.as_slice(),
-            offsets: self.offsets,
+            ..*self
         }
     }
 
     /// After one of some cells, unknown which, went up by one.
-    pub(crate) fn counted(&self, cells: &'a Seen, list: &'a mut Equations) -> Known<'a>
+    pub(crate) fn counted(&self, cells: &'a WordSet, list: &'a mut Equations) -> Known<'a>
         requires target { IsUnchanged self.now.target }
         requires room { length self.now.equations.now ≤ 32 }
         ensures same { Agree (known_of result)
@@ -108,22 +98,17 @@ impl<'a> Known<'a> {
     {
         free_of_cells(cells, self.equations, list);
         Known {
-            base: self.base,
-            ac: self.ac,
-            mq: self.mq,
-            link: self.link,
-            pointer: self.pointer,
             target: Change::Counted(cells),
             equations: list.as_slice(),
-            offsets: self.offsets,
+            ..*self
         }
     }
 
     /// After one of some cells, unknown which, took some word of a set.
     pub(crate) fn stored(
         &self,
-        cells: &'a Seen,
-        set: &'a Seen,
+        cells: &'a WordSet,
+        set: &'a WordSet,
         list: &'a mut Equations,
     ) -> Known<'a>
         requires target { IsUnchanged self.now.target }
@@ -134,19 +119,19 @@ impl<'a> Known<'a> {
     {
         free_of_cells(cells, self.equations, list);
         Known {
-            base: self.base,
-            ac: self.ac,
-            mq: self.mq,
-            link: self.link,
-            pointer: self.pointer,
             target: Change::Stored(cells, set),
             equations: list.as_slice(),
-            offsets: self.offsets,
+            ..*self
         }
     }
 
     /// After a cell went up by one, where these words of it are left.
-    pub(crate) fn counted_to(&self, cell: Word, set: &'a Seen, list: &'a mut Equations) -> Known<'a>
+    pub(crate) fn counted_to(
+        &self,
+        cell: Word,
+        set: &'a WordSet,
+        list: &'a mut Equations,
+    ) -> Known<'a>
         requires target { IsUnchanged self.now.target }
         requires room { length self.now.equations.now ≤ 32 }
         ensures same { Agree (known_of result)
@@ -155,14 +140,9 @@ impl<'a> Known<'a> {
     {
         raise(&Name::Cell(cell), one(), self.equations, list);
         Known {
-            base: self.base,
-            ac: self.ac,
-            mq: self.mq,
-            link: self.link,
-            pointer: self.pointer,
             target: Change::Replaced(cell.index(), set),
             equations: list.as_slice(),
-            offsets: self.offsets,
+            ..*self
         }
     }
 
@@ -172,32 +152,14 @@ impl<'a> Known<'a> {
         ensures target { result.target ≡ self.now.target }
         ensures len { length result.equations.now ≤ length self.now.equations.now }
     {
-        Known {
-            base: self.base,
-            ac: self.ac,
-            mq: self.mq,
-            link: self.link,
-            pointer: self.pointer,
-            target: self.target,
-            equations: self.equations,
-            offsets: self.offsets,
-        }
+        Known { ..*self }
     }
 
     /// With other words of the accumulator; its equations stay.
-    pub(crate) fn holding(self, set: &'a Seen) -> Known<'a>
+    pub(crate) fn holding(self, set: &'a WordSet) -> Known<'a>
         ensures { Agree (known_of result) (with_name Ac (words set.now) (known_of self.entry)) }
     {
-        Known {
-            base: self.base,
-            ac: set,
-            mq: self.mq,
-            link: self.link,
-            pointer: self.pointer,
-            target: self.target,
-            equations: self.equations,
-            offsets: self.offsets,
-        }
+        Known { ac: set, ..self }
     }
 
     /// With other links.
@@ -205,14 +167,8 @@ impl<'a> Known<'a> {
         ensures { Agree (known_of result) (with_link (links_of links) (known_of self.entry)) }
     {
         Known {
-            base: self.base,
-            ac: self.ac,
-            mq: self.mq,
             link: links,
-            pointer: self.pointer,
-            target: self.target,
-            equations: self.equations,
-            offsets: self.offsets,
+            ..self
         }
     }
 
@@ -224,19 +180,10 @@ impl<'a> Known<'a> {
     }
 
     /// With other words of MQ.
-    pub(crate) fn with_mq(self, set: &'a Seen) -> Known<'a>
+    pub(crate) fn with_mq(self, set: &'a WordSet) -> Known<'a>
         ensures { Agree (known_of result) (with_mq (words set.now) (known_of self.entry)) }
     {
-        Known {
-            base: self.base,
-            ac: self.ac,
-            mq: set,
-            link: self.link,
-            pointer: self.pointer,
-            target: self.target,
-            equations: self.equations,
-            offsets: self.offsets,
-        }
+        Known { mq: set, ..self }
     }
 
     /// With other offsets.
@@ -244,16 +191,7 @@ impl<'a> Known<'a> {
         ensures { Agree (known_of result)
             (with_offsets (offsets_of offsets) (known_of self.entry)) }
     {
-        Known {
-            base: self.base,
-            ac: self.ac,
-            mq: self.mq,
-            link: self.link,
-            pointer: self.pointer,
-            target: self.target,
-            equations: self.equations,
-            offsets,
-        }
+        Known { offsets, ..self }
     }
 
     /// After the running routine's return word went up by one.
@@ -263,34 +201,23 @@ impl<'a> Known<'a> {
             (known_of self.now)) }
     {
         Known {
-            base: self.base,
-            ac: self.ac,
-            mq: self.mq,
-            link: self.link,
-            pointer: self.pointer,
-            target: self.target,
-            equations: self.equations,
             offsets: self.offsets.counted(),
+            ..*self
         }
     }
 
     /// After the accumulator's word went up by k, where these words of it are left.
     #[inline(never)]
-    pub(crate) fn raised_to(&self, k: Word, set: &'a Seen, list: &'a mut Equations) -> Known<'a>
+    pub(crate) fn raised_to(&self, k: Word, set: &'a WordSet, list: &'a mut Equations) -> Known<'a>
         requires room { length self.now.equations.now ≤ 32 }
         ensures { Agree (known_of result) (with_name Ac (words set.now)
             (moved Ac k (known_of self.now))) }
     {
         raise(&Name::Accumulator, k, self.equations, list);
         Known {
-            base: self.base,
             ac: set,
-            mq: self.mq,
-            link: self.link,
-            pointer: self.pointer,
-            target: self.target,
             equations: list.as_slice(),
-            offsets: self.offsets,
+            ..*self
         }
     }
 
@@ -301,7 +228,7 @@ impl<'a> Known<'a> {
         &self,
         cell: Word,
         more: Word,
-        set: &'a Seen,
+        set: &'a WordSet,
         list: &'a mut Equations,
     ) -> Known<'a>
         requires room { length self.now.equations.now ≤ 32 }
@@ -317,14 +244,9 @@ impl<'a> Known<'a> {
         });
         add_free(&Name::Accumulator, self.equations, list);
         Known {
-            base: self.base,
             ac: set,
-            mq: self.mq,
-            link: self.link,
-            pointer: self.pointer,
-            target: self.target,
             equations: list.as_slice(),
-            offsets: self.offsets,
+            ..*self
         }
     }
 
@@ -339,14 +261,8 @@ impl<'a> Known<'a> {
         copy_to(cell, equations, list);
         add_all(list, self.equations);
         Known {
-            base: self.base,
-            ac: self.ac,
-            mq: self.mq,
-            link: self.link,
-            pointer: self.pointer,
-            target: self.target,
             equations: list.as_slice(),
-            offsets: self.offsets,
+            ..*self
         }
     }
 
@@ -354,8 +270,8 @@ impl<'a> Known<'a> {
     pub(crate) fn deposited(
         &self,
         cell: Word,
-        set: &'a Seen,
-        zero: &'a Seen,
+        set: &'a WordSet,
+        zero: &'a WordSet,
         first: &'a mut Equations,
         second: &'a mut Equations,
         third: &'a mut Equations,

@@ -18,7 +18,6 @@ use crate::fact::Fact;
 use crate::known::Known;
 use crate::place::{Place, union_if};
 use crate::references::{either, steps_pointer};
-use crate::seen::Seen;
 use crate::skipping::both;
 use instruct::{Instruction, Operation, decode, refers_indirectly, target};
 use std::alloc::Allocator;
@@ -116,9 +115,8 @@ impl<A: Allocator> Place<'_, A> {
         ensures { SameWords (words result)
             (targets (place_of self.now) indirect named (meaning fact.now)) }
     {
-        let mut place = Seen::all();
-        self.reached(indirect, named, &Known::of(fact), &mut place)
-            .set()
+        let mut place = WordSet::all();
+        *self.reached(indirect, named, &Known::of(fact), &mut place)
     }
 
     /// The cells that a word at the address of a fact may read.

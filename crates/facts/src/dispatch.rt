@@ -21,11 +21,11 @@ use crate::place::Place;
 use crate::references::{call, deposit, steps_pointer};
 use crate::registers::{exchange, operate, transfer};
 use crate::room::{Room, Way};
-use crate::seen::Seen;
 use crate::skipping::{both, branch};
 use instruct::{DeviceOperation, Instruction, Operation, decode, halts, refers_indirectly, target};
 use std::alloc::Allocator;
 use word12::{Link, Word};
+use wordset::WordSet;
 
 /// No outcome.
 fn nowhere<'a>() -> Outcomes<'a>
@@ -75,7 +75,7 @@ fn branches<'a>(at: Word, word: Word, known: &Known<'a>, room: &'a mut Room) -> 
 }
 
 /// The one target of a reference, where it has one and no other: the named cell of a direct one.
-fn single_target(indirect: bool, named: Word, targets: &Seen) -> Option<Word>
+fn single_target(indirect: bool, named: Word, targets: &WordSet) -> Option<Word>
     requires { indirect ≡ false → SameWords (words targets.now) (one named) }
     ensures { result ≡ only (words targets.now) }
 {
@@ -129,7 +129,7 @@ impl<A: Allocator> Place<'_, A> {
         at: Word,
         word: Word,
         seen: &Known<'a>,
-        reached: &'a Seen,
+        reached: &'a WordSet,
         single: &Option<Word>,
         way: &'a mut Way,
         other: &'a mut Way,

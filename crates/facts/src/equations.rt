@@ -8,7 +8,6 @@ ghost use Rattle.facts.specs.Changes.{moved_equations, free_of, cells_of, copied
 ghost use Rattle.facts.specs.Meaning.{name_of, equation_of};
 
 use crate::names::{Equation, Name, is_same_name, negated, turned};
-use crate::seen::Seen;
 use arrayvec::ArrayVec;
 use word12::Word;
 use wordset::WordSet;
@@ -25,12 +24,12 @@ pub(crate) fn has_cell(cells: &WordSet, cell: Word) -> bool
 }
 
 /// Whether a name is one of some cells.
-fn is_among(cells: &Seen, name: &Name) -> bool
+fn is_among(cells: &WordSet, name: &Name) -> bool
     ensures { result ≡ cells_of (words cells.now) (name_of name.now) }
 {
     match name {
         Name::Accumulator => false,
-        Name::Cell(cell) => cells.has(*cell),
+        Name::Cell(cell) => has_cell(cells, *cell),
     }
 }
 
@@ -97,7 +96,7 @@ pub(crate) fn add_free(name: &Name, equations: &[Equation], list: &mut Equations
 }
 
 /// Lists the equations that don't speak of some cells.
-pub(crate) fn free_of_cells(cells: &Seen, equations: &[Equation], list: &mut Equations)
+pub(crate) fn free_of_cells(cells: &WordSet, equations: &[Equation], list: &mut Equations)
     requires { length equations.now ≤ 64 }
     ensures list { map equation_of list.new.items ≡
         free_of (cells_of (words cells.now)) (map equation_of equations.now) }

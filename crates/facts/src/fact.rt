@@ -12,7 +12,6 @@ ghost use Rattle.facts.specs.Meaning.{name_of, equation_of, tracked_cells, offse
 
 use crate::names::{Equation, Name};
 use crate::offsets::Offsets;
-use crate::seen::Seen;
 use crate::tracking::TrackedCells;
 use arrayvec::ArrayVec;
 use word12::Word;
@@ -26,8 +25,8 @@ use wordset::{Links, WordSet};
 /// Contracts see its parts as `statement_of` gives them, and the fact as `meaning` gives it.
 #[derive(Clone, Drop)]
 pub struct Fact {
-    ac: Seen,
-    mq: Seen,
+    ac: WordSet,
+    mq: WordSet,
     link: Links,
     cells: TrackedCells,
     equations: ArrayVec<Equation, 32>,
@@ -42,8 +41,8 @@ impl Fact {
         ensures equations { (statement_of result).equations ≡ [] }
     {
         Fact {
-            ac: Seen::all(),
-            mq: Seen::all(),
+            ac: WordSet::all(),
+            mq: WordSet::all(),
             link: Links::both(),
             cells: TrackedCells::new(),
             equations: ArrayVec::new(),
@@ -65,11 +64,11 @@ impl Fact {
     pub fn accumulator(&self) -> WordSet
         ensures { words result ≡ (statement_of self.now).ac }
     {
-        self.ac.set()
+        self.ac
     }
 
-    /// The same, with the row that they are, where that's known.
-    pub(crate) fn accumulator_seen(&self) -> &Seen
+    /// The same, lent.
+    pub(crate) fn accumulator_lent(&self) -> &WordSet
         ensures { words result.now ≡ (statement_of self.now).ac }
     {
         &self.ac
@@ -79,11 +78,11 @@ impl Fact {
     pub fn mq(&self) -> WordSet
         ensures { words result ≡ (statement_of self.now).mq }
     {
-        self.mq.set()
+        self.mq
     }
 
-    /// The same, with the row that they are, where that's known.
-    pub(crate) fn mq_seen(&self) -> &Seen
+    /// The same, lent.
+    pub(crate) fn mq_lent(&self) -> &WordSet
         ensures { words result.now ≡ (statement_of self.now).mq }
     {
         &self.mq
@@ -123,7 +122,7 @@ impl Fact {
         ensures { SameWords (words result) ((meaning self.now).set (name_of name.now)) }
     {
         match name {
-            Name::Accumulator => self.ac.set(),
+            Name::Accumulator => self.ac,
             Name::Cell(cell) => self.set_of_cell(*cell),
         }
     }
@@ -141,7 +140,7 @@ impl Fact {
             record (statement_of self.old) { ac = words set } }
         ensures offsets { offsets_of self.new.offsets ≡ offsets_of self.old.offsets }
     {
-        self.ac = Seen::of(set);
+        self.ac = set;
     }
 
     /// Lets the accumulator hold the words from one to another, both of them; none where the second is
@@ -151,7 +150,7 @@ impl Fact {
             record (statement_of self.old) { ac = between first last } }
         ensures offsets { offsets_of self.new.offsets ≡ offsets_of self.old.offsets }
     {
-        self.ac.put_between(first, last);
+        self.ac = WordSet::range(first, last);
     }
 
     /// Lets MQ hold the words from one to another, both of them; none where the second is the lesser.
@@ -160,7 +159,7 @@ impl Fact {
             record (statement_of self.old) { mq = between first last } }
         ensures offsets { offsets_of self.new.offsets ≡ offsets_of self.old.offsets }
     {
-        self.mq.put_between(first, last);
+        self.mq = WordSet::range(first, last);
     }
 
     /// Lets MQ hold these words.
@@ -169,7 +168,7 @@ impl Fact {
             record (statement_of self.old) { mq = words set } }
         ensures offsets { offsets_of self.new.offsets ≡ offsets_of self.old.offsets }
     {
-        self.mq = Seen::of(set);
+        self.mq = set;
     }
 
     /// Lets the link be one of these.

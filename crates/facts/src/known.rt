@@ -4,13 +4,12 @@
 //! most two cells changed, or one of several unknown ones did. What is new stands in room that the
 //! asker lends.
 
-ghost use Rattle.std.specs.Prelude.{ℕ, false, ◌≡◌, ◌<◌, ◌≤◌, ◌↔◌, ◌+◌, ◌||◌, length, map, IsTrue, IfSome};
-ghost use Rattle.wordset.specs.Words.{Words, SameWords, IsWithin, one, only, plus, shifted, meet};
+ghost use Rattle.std.specs.Prelude.{ℕ, false, ◌≡◌, ◌<◌, ◌≤◌, ◌↔◌, ◌+◌, ◌||◌, length, map, IsTrue};
+ghost use Rattle.wordset.specs.Words.{Words, SameWords, IsWithin, one, plus, shifted};
 ghost use Rattle.wordset.specs.Lanes.{words};
 ghost use Rattle.wordset.specs.Links.{links_of};
 ghost use Rattle.facts.specs.Facts.{Ac, Cell, same, narrowed, Among, Knows, KnowsAll, Entails, EntailsOffsets, joined};
 ghost use Rattle.facts.specs.Changes.{moved, assigned, smeared, with_equations, with_name, with_mq, with_link, with_offsets};
-ghost use Rattle.facts.specs.Rows.{row_words, IsRow};
 ghost use Rattle.facts.specs.Statements.{cell_at};
 ghost use Rattle.facts.specs.Same.{Agree};
 ghost use Rattle.facts.specs.Meaning.{name_of, equation_of, tracked_cells, offsets_of, meaning, cell_words, source_words, changed, known_of, Meets, IsUnchanged};
@@ -21,7 +20,6 @@ use crate::fact::Fact;
 use crate::names::{Equation, Name, is_same_equation, is_same_name, negated};
 use crate::offsets::Offsets;
 use crate::room::Room;
-use crate::seen::{Row, Seen};
 use crate::tracking::TrackedCells;
 use word12::Word;
 use wordset::{Links, WordSet};
@@ -32,11 +30,11 @@ pub(crate) enum Change<'a> {
     /// They are as they were.
     Unchanged,
     /// The cell of this address has these words now.
-    Replaced(usize, &'a Seen),
+    Replaced(usize, &'a WordSet),
     /// One of the cells, unknown which, went up by one.
-    Counted(&'a Seen),
+    Counted(&'a WordSet),
     /// One of the cells, unknown which, took one of the words.
-    Stored(&'a Seen, &'a Seen),
+    Stored(&'a WordSet, &'a WordSet),
 }
 
 /// Where the words of cells come from.
@@ -54,8 +52,8 @@ pub(crate) enum Source<'a> {
 #[derive(Drop)]
 pub struct Known<'a> {
     pub(crate) base: Source<'a>,
-    pub(crate) ac: &'a Seen,
-    pub(crate) mq: &'a Seen,
+    pub(crate) ac: &'a WordSet,
+    pub(crate) mq: &'a WordSet,
     pub(crate) link: Links,
     pub(crate) pointer: Change<'a>,
     pub(crate) target: Change<'a>,
@@ -84,77 +82,23 @@ fn source_set(source: &Source<'_>, cell: Word) -> WordSet
 fn apply(change: &Change<'_>, cell: Word, set: &mut WordSet)
     ensures { SameWords (words set.new) (changed change.now cell (words set.old)) }
 {
-    if let Change::Unchanged = change {
-        return;
-    }
-    apply_new(change, cell, set);
-}
-
-/// The same, whatever the change; the room for the words is made here alone.
-#[inline(never)]
-fn apply_new(change: &Change<'_>, cell: Word, set: &mut WordSet)
-    ensures { SameWords (words set.new) (changed change.now cell (words set.old)) }
-{
-    *set = change_set(change, cell, *set);
-}
-
-/// What a change makes of the words of a cell.
-fn change_set(change: &Change<'_>, cell: Word, set: WordSet) -> WordSet
-    ensures { SameWords (words result) (changed change.now cell (words set)) }
-{
     match change {
-        Change::Unchanged => set,
-        Change::Replaced(at, other) => if cell.index() == *at {
-            other.set()
-        } else {
-            set
-        },
+        Change::Unchanged => {}
+        Change::Replaced(at, other) => {
+            if cell.index() == *at {
+                *set = **other;
+            }
+        }
         Change::Counted(cells) => {
-            if cells.has(cell) {
-                let more = set.shift(Word::ZERO.increment());
-                set.union(&more)
-            } else {
-                set
+            if has_cell(cells, cell) {
+                *set = set.union(&set.shift(Word::ZERO.increment()));
             }
         }
         Change::Stored(cells, other) => {
-            if cells.has(cell) {
-                set.union(&other.set())
-            } else {
-                set
+            if has_cell(cells, cell) {
+                *set = set.union(other);
             }
         }
-    }
-}
-
-/// What a change makes of the words of a cell that are a row, where that is seen to be one.
-fn changed_row(change: &Change<'_>, cell: Word, row: Row) -> Option<Row>
-    ensures { (old : Words) → IsRow row old →
-        IfSome result (λ r. IsRow r (changed change.now cell old)) }
-{
-    if let Change::Unchanged = change {
-        return Some(row);
-    }
-    new_row(change, cell, row)
-}
-
-/// The same, whatever the change.
-#[inline(never)]
-fn new_row(change: &Change<'_>, cell: Word, row: Row) -> Option<Row>
-    ensures { (old : Words) → IsRow row old →
-        IfSome result (λ r. IsRow r (changed change.now cell old)) }
-{
-    match change {
-        Change::Unchanged => Some(row),
-        Change::Replaced(at, other) => {
-            if cell.index() == *at {
-                other.row()
-            } else {
-                Some(row)
-            }
-        }
-        Change::Counted(cells) => if cells.has(cell) { None } else { Some(row) },
-        Change::Stored(cells, _) => if cells.has(cell) { None } else { Some(row) },
     }
 }
 
@@ -177,32 +121,18 @@ fn is_change_within(change: &Change<'_>, cells: &TrackedCells, at: usize, before
         IsTrue result → IsWithin (changed change.now (cell_at (tracked_cells cells.now) at).address old)
         (cell_at (tracked_cells cells.now) at).set }
 {
-    if let Change::Unchanged = change {
-        return before;
-    }
-    is_new_within(change, cells, at, before)
-}
-
-/// The same, whatever the change.
-#[inline(never)]
-fn is_new_within(change: &Change<'_>, cells: &TrackedCells, at: usize, before: bool) -> bool
-    requires { at < length (tracked_cells cells.now) }
-    ensures { (old : Words) → (IsTrue before → IsWithin old (cell_at (tracked_cells cells.now) at).set) →
-        IsTrue result → IsWithin (changed change.now (cell_at (tracked_cells cells.now) at).address old)
-        (cell_at (tracked_cells cells.now) at).set }
-{
     let cell = cells.address(at);
     match change {
         Change::Unchanged => before,
         Change::Replaced(changed, other) => {
             if cell.index() == *changed {
-                cells.has_seen(at, other)
+                cells.has_all(at, other)
             } else {
                 before
             }
         }
-        Change::Counted(several) => before && !several.has(cell),
-        Change::Stored(several, _) => before && !several.has(cell),
+        Change::Counted(several) => before && !has_cell(several, cell),
+        Change::Stored(several, _) => before && !has_cell(several, cell),
     }
 }
 
@@ -219,14 +149,14 @@ impl Known<'_> {
     pub fn accumulator(&self) -> WordSet
         ensures { words result ≡ (known_of self.now).set Ac }
     {
-        self.ac.set()
+        *self.ac
     }
 
     /// The words that MQ may hold.
     pub fn mq(&self) -> WordSet
         ensures { words result ≡ (known_of self.now).mq }
     {
-        self.mq.set()
+        *self.mq
     }
 
     /// What the link may be.
@@ -255,7 +185,7 @@ impl Known<'_> {
         ensures { SameWords (words result) ((known_of self.now).set (name_of name.now)) }
     {
         match name {
-            Name::Accumulator => self.ac.set(),
+            Name::Accumulator => *self.ac,
             Name::Cell(cell) => {
                 let mut set = source_set(&self.base, *cell);
                 apply(&self.pointer, *cell, &mut set);
@@ -265,165 +195,22 @@ impl Known<'_> {
         }
     }
 
-    /// The words that a name may hold, where they are seen to be a row.
-    fn row(&self, name: &Name) -> Option<Row>
-        ensures { IfSome result (λ r. IsRow r ((known_of self.now).set (name_of name.now))) }
-    {
-        match name {
-            Name::Accumulator => self.ac.row(),
-            Name::Cell(cell) => {
-                let Some(before) = teller(&self.base, *cell).cells().row_of(*cell) else {
-                    return None;
-                };
-                let Some(seen) = changed_row(&self.pointer, *cell, before) else {
-                    return None;
-                };
-                changed_row(&self.target, *cell, seen)
-            }
-        }
-    }
-
-    /// Those words of a row that are k more than a word of a name, where all three are seen to be rows.
-    fn kept_row(&self, row: Row, partner: &Name, k: Word) -> Option<Row>
-        ensures { IfSome result (λ r. IsRow r
-            (meet (row_words row) (shifted ((known_of self.now).set (name_of partner.now)) k))) }
-    {
-        let Some(other) = self.row(partner) else {
-            return None;
-        };
-        let Some(moved) = other.shift(k) else {
-            return None;
-        };
-        row.meet(moved)
-    }
-
-    /// The words of a row that an equation leaves to a name, where they are seen to be a row.
-    fn met_row(&self, name: &Name, equation: &Equation, row: Row) -> Option<Row>
-        requires { IsRow row (row_words row) }
-        ensures { IfSome result (λ r. IsRow r (row_words r) ×
-            Meets (known_of self.now) (name_of name.now) (equation_of equation.now)
-            (row_words row) (row_words r)) }
-    {
-        let mut left = row;
-        if is_same_name(&equation.left, name) {
-            let Some(less) = self.kept_row(left, &Name::Cell(equation.right), equation.more) else {
-                return None;
-            };
-            left = less;
-        }
-        if is_same_name(&Name::Cell(equation.right), name) {
-            let Some(less) = self.kept_row(left, &equation.left, negated(equation.more)) else {
-                return None;
-            };
-            left = less;
-        }
-        Some(left)
-    }
-
-    /// The words that the equations leave to a name, where they are seen to be a row.
-    pub(crate) fn narrowed_row(&self, name: &Name) -> Option<Row>
-        ensures { IfSome result (λ r. IsRow r (narrowed (known_of self.now) (name_of name.now))) }
-    {
-        let Some(mut row) = self.row(name) else {
-            return None;
-        };
-        for e in self.equations {
-            let Some(less) = self.met_row(name, e, row) else {
-                return None;
-            };
-            row = less;
-        }
-        Some(row)
-    }
-
     /// The words that the equations leave to a name, in a place for them.
-    pub(crate) fn left_in<'b>(&self, name: &Name, place: &'b mut Seen) -> &'b Seen
+    pub(crate) fn left_in<'b>(&self, name: &Name, place: &'b mut WordSet) -> &'b WordSet
         ensures { SameWords (words result.now) (narrowed (known_of self.now) (name_of name.now)) }
     {
-        match self.narrowed_row(name) {
-            Some(row) => place.put_row(row),
-            None => self.left_by_sets(name, place),
-        }
-    }
-
-    /// The same, where they aren't seen to be a row; the room for their set is made here alone.
-    #[inline(never)]
-    fn left_by_sets<'b>(&self, name: &Name, place: &'b mut Seen) -> &'b Seen
-        ensures { SameWords (words result.now) (narrowed (known_of self.now) (name_of name.now)) }
-    {
-        place.put_set(&self.narrowed_any(name))
-    }
-
-    /// The words that are k more than those that the equations leave to a name, where they are seen to
-    /// be a row.
-    fn shifted_row(&self, name: &Name, k: Word) -> Option<Row>
-        ensures { IfSome result (λ r. IsRow r
-            (shifted (narrowed (known_of self.now) (name_of name.now)) k)) }
-    {
-        let Some(row) = self.narrowed_row(name) else {
-            return None;
-        };
-        row.shift(k)
+        self.narrow_into(name, place);
+        place
     }
 
     /// The words that are k more than those that the equations leave to a name, in a place for them.
-    pub(crate) fn shifted_in<'b>(&self, name: &Name, k: Word, place: &'b mut Seen) -> &'b Seen
+    pub(crate) fn shifted_in<'b>(&self, name: &Name, k: Word, place: &'b mut WordSet) -> &'b WordSet
         ensures { SameWords (words result.now)
             (shifted (narrowed (known_of self.now) (name_of name.now)) k) }
     {
-        match self.shifted_row(name, k) {
-            Some(row) => place.put_row(row),
-            None => self.shifted_by_sets(name, k, place),
-        }
-    }
-
-    /// The same, where they aren't seen to be a row; the room for their set is made here alone.
-    #[inline(never)]
-    fn shifted_by_sets<'b>(&self, name: &Name, k: Word, place: &'b mut Seen) -> &'b Seen
-        ensures { SameWords (words result.now)
-            (shifted (narrowed (known_of self.now) (name_of name.now)) k) }
-    {
-        place.put_set(&self.narrowed_any(name).shift(k))
-    }
-
-    /// The one word that the equations leave to a name, where there is one and no other.
-    fn only_left(&self, name: &Name) -> Option<Word>
-        ensures { result ≡ only (narrowed (known_of self.now) (name_of name.now)) }
-    {
-        match self.narrowed_row(name) {
-            Some(row) => row.only(),
-            None => self.only_by_sets(name),
-        }
-    }
-
-    /// The same, where they aren't seen to be a row; the room for their set is made here alone.
-    #[inline(never)]
-    fn only_by_sets(&self, name: &Name) -> Option<Word>
-        ensures { result ≡ only (narrowed (known_of self.now) (name_of name.now)) }
-    {
-        self.narrowed_any(name).only()
-    }
-
-    /// Whether each word that the equations leave to a name is one of others.
-    fn is_left_within(&self, name: &Name, wider: &Seen) -> bool
-        ensures { IsTrue result ↔
-            IsWithin (narrowed (known_of self.now) (name_of name.now)) (words wider.now) }
-    {
-        if let Some(row) = self.narrowed_row(name) {
-            if let Some(other) = wider.row() {
-                return row.is_within(&other);
-            }
-        }
-        self.is_left_within_set(name, wider)
-    }
-
-    /// The same, where they aren't seen to be rows; the room for their sets is made here alone.
-    #[inline(never)]
-    fn is_left_within_set(&self, name: &Name, wider: &Seen) -> bool
-        ensures { IsTrue result ↔
-            IsWithin (narrowed (known_of self.now) (name_of name.now)) (words wider.now) }
-    {
-        self.narrowed_any(name).is_subset(&wider.set())
+        self.narrow_into(name, place);
+        *place = place.shift(k);
+        place
     }
 
     /// Leaves in a set the words that an equation leaves to a name.
@@ -447,49 +234,22 @@ impl Known<'_> {
     pub fn narrowed(&self, name: &Name) -> WordSet
         ensures { SameWords (words result) (narrowed (known_of self.now) (name_of name.now)) }
     {
-        match self.narrowed_row(name) {
-            Some(row) => WordSet::range(row.first, row.last),
-            None => self.narrowed_any(name),
-        }
+        let mut set = WordSet::all();
+        self.narrow_into(name, &mut set);
+        set
     }
 
-    /// The same, where they aren't seen to be a row.
-    #[inline(never)]
-    fn narrowed_any(&self, name: &Name) -> WordSet
-        ensures { SameWords (words result) (narrowed (known_of self.now) (name_of name.now)) }
+    /// Makes of a set the words that the equations leave to a name.
+    fn narrow_into(&self, name: &Name, set: &mut WordSet)
+        ensures { SameWords (words set.new) (narrowed (known_of self.now) (name_of name.now)) }
     {
-        if !self.speaks_of(name) {
-            return self.set(name);
-        }
-        self.narrowed_by_equations(name)
-    }
-
-    /// Whether an equation speaks of a name; where none does nothing narrows it.
-    pub(crate) fn speaks_of(&self, name: &Name) -> bool
-        ensures { result ≡ false → SameWords ((known_of self.now).set (name_of name.now))
-            (narrowed (known_of self.now) (name_of name.now)) }
-    {
-        for e in self.equations {
-            if speaks_of(e, name) {
-                return true;
-            }
-        }
-        false
-    }
-
-    /// The same, whatever the equations.
-    #[inline(never)]
-    fn narrowed_by_equations(&self, name: &Name) -> WordSet
-        ensures { SameWords (words result) (narrowed (known_of self.now) (name_of name.now)) }
-    {
-        let mut set = self.set(name);
+        *set = self.set(name);
         for e in self.equations {
             if !speaks_of(e, name) {
                 continue;
             }
-            self.keep_met(name, e, &mut set);
+            self.keep_met(name, e, set);
         }
-        set
     }
 
     /// Whether an equation is among those that are known.
@@ -508,9 +268,11 @@ impl Known<'_> {
     fn shows(&self, equation: &Equation) -> bool
         ensures { IsTrue result ↔ Shows (known_of self.now) (equation_of equation.now) }
     {
-        match self.only_left(&equation.left) {
+        let left = self.narrowed(&equation.left);
+        let right = self.narrowed(&Name::Cell(equation.right));
+        match left.only() {
             None => false,
-            Some(x) => match self.only_left(&Name::Cell(equation.right)) {
+            Some(x) => match right.only() {
                 None => false,
                 Some(y) => x == y.add(equation.more),
             },
@@ -615,13 +377,14 @@ impl Known<'_> {
         if !self.link.is_subset(fact.link()) {
             return false;
         }
-        if !self.mq.is_within(fact.mq_seen()) {
+        if !self.mq.is_subset(fact.mq_lent()) {
             return false;
         }
-        if self.ac.is_within(fact.accumulator_seen()) {
+        let ac = fact.accumulator_lent();
+        if self.ac.is_subset(ac) {
             return true;
         }
-        self.is_left_within(&Name::Accumulator, fact.accumulator_seen())
+        self.narrowed(&Name::Accumulator).is_subset(ac)
     }
 }
 
@@ -636,8 +399,8 @@ impl<'a> Known<'a> {
     {
         Known {
             base: Source::One(fact),
-            ac: fact.accumulator_seen(),
-            mq: fact.mq_seen(),
+            ac: fact.accumulator_lent(),
+            mq: fact.mq_lent(),
             link: fact.link(),
             pointer: Change::Unchanged,
             target: Change::Unchanged,
@@ -684,8 +447,8 @@ impl<'a> Known<'a> {
         add_all(list, exit.equations());
         Known {
             base: Source::Joined(call, exit, written),
-            ac: exit.accumulator_seen(),
-            mq: exit.mq_seen(),
+            ac: exit.accumulator_lent(),
+            mq: exit.mq_lent(),
             link: exit.link(),
             pointer: Change::Unchanged,
             target: Change::Unchanged,

@@ -14,6 +14,7 @@ mod entailment;
 mod equations;
 mod fact;
 mod known;
+mod lent;
 mod names;
 mod offsets;
 mod outcome;
@@ -21,7 +22,6 @@ mod place;
 mod references;
 mod registers;
 mod room;
-mod seen;
 mod skipping;
 mod tracking;
 
@@ -36,7 +36,6 @@ pub use offsets::Offsets;
 pub use outcome::{Outcome, Outcomes};
 pub use place::{Place, Running};
 pub use room::Room;
-pub use seen::Seen;
 pub use tracking::{TrackedCell, TrackedCells};
 
 /// The conditions that a certificate must meet.

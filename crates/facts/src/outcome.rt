@@ -11,9 +11,9 @@ ghost use Rattle.facts.specs.Meaning.{known_of};
 ghost use Rattle.facts.specs.Slots.{slot};
 
 use crate::known::Known;
-use crate::seen::Seen;
+use crate::lent::put_one;
 use word12::Word;
-use wordset::Links;
+use wordset::{Links, WordSet};
 
 /// What may come of a word, with what is known then.
 ///
@@ -21,9 +21,9 @@ use wordset::Links;
 #[derive(Drop)]
 pub enum Outcome<'a> {
     /// The run goes on at one of these addresses.
-    Goes(&'a Seen, Known<'a>),
+    Goes(&'a WordSet, Known<'a>),
     /// One of these entries is called.
-    Calls(&'a Seen, Known<'a>),
+    Calls(&'a WordSet, Known<'a>),
     /// The running routine returns.
     Returns(Known<'a>),
 }
@@ -51,7 +51,7 @@ fn are_all(a: bool, b: bool, c: bool, d: bool, e: bool, f: bool) -> bool
 
 /// Whether the targets, the old accumulator, the new one, MQ, the link and the changed cell each
 /// have a word.
-fn is_alive(targets: &Seen, held: &Seen, changed: &Seen, after: &Known<'_>) -> bool
+fn is_alive(targets: &WordSet, held: &WordSet, changed: &WordSet, after: &Known<'_>) -> bool
     ensures { (f : Fact) → SameWords (words held.now) (narrowed f Ac) →
         result ≡ alive (words targets.now) f (words changed.now) (known_of after.now) }
 {
@@ -66,10 +66,10 @@ fn is_alive(targets: &Seen, held: &Seen, changed: &Seen, after: &Known<'_>) -> b
 
 /// The outcome that goes on at some addresses, where it can come about.
 pub(crate) fn going<'a>(
-    targets: &Seen,
-    held: &Seen,
-    changed: &Seen,
-    next: &'a Seen,
+    targets: &WordSet,
+    held: &WordSet,
+    changed: &WordSet,
+    next: &'a WordSet,
     after: Known<'a>,
 ) -> Option<Outcome<'a>>
     ensures { (p changes nexts : Words) (f h : Fact) → SameWords (words targets.now) p →
@@ -87,10 +87,10 @@ pub(crate) fn going<'a>(
 /// The outcome that goes on at some addresses, where it is chosen and can come about.
 pub(crate) fn going_if<'a>(
     chosen: bool,
-    targets: &Seen,
-    held: &Seen,
-    changed: &Seen,
-    next: &'a Seen,
+    targets: &WordSet,
+    held: &WordSet,
+    changed: &WordSet,
+    next: &'a WordSet,
     after: Known<'a>,
 ) -> Option<Outcome<'a>>
     ensures { (p changes nexts : Words) (f h : Fact) → SameWords (words targets.now) p →
@@ -107,9 +107,9 @@ pub(crate) fn going_if<'a>(
 
 /// The outcome that calls the targets, where it can come about.
 pub(crate) fn calling<'a>(
-    targets: &'a Seen,
-    held: &Seen,
-    all: &Seen,
+    targets: &'a WordSet,
+    held: &WordSet,
+    all: &WordSet,
     after: Known<'a>,
 ) -> Option<Outcome<'a>>
     requires { words all.now ≡ all_words }
@@ -126,9 +126,9 @@ pub(crate) fn calling<'a>(
 
 /// The outcome that returns, where it can come about.
 pub(crate) fn returning<'a>(
-    targets: &Seen,
-    held: &Seen,
-    all: &Seen,
+    targets: &WordSet,
+    held: &WordSet,
+    all: &WordSet,
     after: Known<'a>,
 ) -> Option<Outcome<'a>>
     requires { words all.now ≡ all_words }
@@ -144,15 +144,15 @@ pub(crate) fn returning<'a>(
 }
 
 /// The address after another, in its place.
-pub(crate) fn address_after(at: Word, place: &mut Seen) -> &Seen
+pub(crate) fn address_after(at: Word, place: &mut WordSet) -> &WordSet
     ensures { SameWords (words result.now) (one (plus at 1)) }
 {
-    place.put_one(at.increment())
+    put_one(place, at.increment())
 }
 
 /// The address that a skip goes to, in its place.
-pub(crate) fn address_skipped_to(at: Word, place: &mut Seen) -> &Seen
+pub(crate) fn address_skipped_to(at: Word, place: &mut WordSet) -> &WordSet
     ensures { SameWords (words result.now) (one (plus at 2)) }
 {
-    place.put_one(at.increment().increment())
+    put_one(place, at.increment().increment())
 }

@@ -10,8 +10,8 @@ ghost use Rattle.facts.specs.Places.{place_of};
 
 use crate::entailment::word_of;
 use crate::known::Known;
+use crate::lent::{put_all, put_one, put_set};
 use crate::names::Name;
-use crate::seen::Seen;
 use bin_tape::Image;
 use declaration::Declaration;
 use std::alloc::Allocator;
@@ -43,12 +43,12 @@ pub struct Place<'a, A: Allocator> {
 }
 
 /// The tape's word, or all words where the tape has none, in a place for them.
-fn tape_words(word: Option<Word>, place: &mut Seen) -> &Seen
+fn tape_words(word: Option<Word>, place: &mut WordSet) -> &WordSet
     ensures { SameWords (words result.now) (tape_word word) }
 {
     match word {
-        None => place.put_all(),
-        Some(word) => place.put_one(word),
+        None => put_all(place),
+        Some(word) => put_one(place, word),
     }
 }
 
@@ -100,11 +100,11 @@ impl<A: Allocator> Place<'_, A> {
 
     /// The same, in a place for them; the room for them is made here alone.
     #[inline(never)]
-    fn own_in<'b>(&self, known: &Known<'_>, place: &'b mut Seen) -> &'b Seen
+    fn own_in<'b>(&self, known: &Known<'_>, place: &'b mut WordSet) -> &'b WordSet
         ensures { SameWords (words result.now) (own_words (place_of self.now).sites
             (known_of known.now)) }
     {
-        place.put_set(&self.own_words(known))
+        put_set(place, &self.own_words(known))
     }
 
     /// The words that a cell may hold, in a place for them: a variable's narrowed set, the running
@@ -113,8 +113,8 @@ impl<A: Allocator> Place<'_, A> {
         &self,
         known: &Known<'_>,
         cell: Word,
-        place: &'b mut Seen,
-    ) -> &'b Seen
+        place: &'b mut WordSet,
+    ) -> &'b WordSet
         ensures { SameWords (words result.now) (words_in (place_of self.now) (known_of known.now)
             cell) }
     {
@@ -125,7 +125,7 @@ impl<A: Allocator> Place<'_, A> {
             return self.own_in(known, place);
         }
         if self.declaration.is_entry(cell) {
-            return place.put_all();
+            return put_all(place);
         }
         tape_words(word_of(self.image, cell), place)
     }
@@ -135,10 +135,10 @@ impl<A: Allocator> Place<'_, A> {
     pub(crate) fn words_at<'b>(
         &self,
         known: &Known<'_>,
-        cells: &Seen,
+        cells: &WordSet,
         single: &Option<Word>,
-        place: &'b mut Seen,
-    ) -> &'b Seen
+        place: &'b mut WordSet,
+    ) -> &'b WordSet
         requires { single.now ≡ only (words cells.now) }
         ensures { SameWords (words result.now)
             (words_at (place_of self.now) (known_of known.now) (words cells.now)) }
@@ -151,17 +151,22 @@ impl<A: Allocator> Place<'_, A> {
 
     /// The words that some cells may hold; the room for them is made here alone.
     #[inline(never)]
-    fn words_at_each<'b>(&self, known: &Known<'_>, cells: &Seen, place: &'b mut Seen) -> &'b Seen
+    fn words_at_each<'b>(
+        &self,
+        known: &Known<'_>,
+        cells: &WordSet,
+        place: &'b mut WordSet,
+    ) -> &'b WordSet
         ensures { SameWords (words result.now)
             (words_at (place_of self.now) (known_of known.now) (words cells.now)) }
     {
-        let mut one = Seen::all();
+        let mut one = WordSet::all();
         let mut set = WordSet::empty();
         let mut next = 0usize;
         while let Some(cell) = cells.first_from(next) {
-            set = set.union(&self.words_in(known, cell, &mut one).set());
+            set = set.union(self.words_in(known, cell, &mut one));
             next = cell.index() + 1;
         }
-        place.put_set(&set)
+        put_set(place, &set)
     }
 }

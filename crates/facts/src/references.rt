@@ -12,19 +12,20 @@ ghost use Rattle.facts.specs.Meaning.{known_of, IsUnchanged};
 ghost use Rattle.facts.specs.Places.{place_of};
 ghost use Rattle.facts.specs.Slots.{slot};
 
-use crate::equations::Equations;
+use crate::equations::{Equations, has_cell};
 use crate::known::Known;
+use crate::lent::{put_all, put_ands, put_counted, put_one, put_sums};
 use crate::names::Name;
 use crate::outcome::{
     Outcome, address_after, address_skipped_to, calling, going, going_if, returning,
 };
 use crate::place::Place;
 use crate::room::Way;
-use crate::seen::Seen;
 use crate::skipping::both;
 use processor::is_auto_index;
 use std::alloc::Allocator;
 use word12::Word;
+use wordset::WordSet;
 
 /// Whether a reference steps the pointer in its named cell.
 pub(crate) fn steps_pointer(indirect: bool, named: Word) -> bool
@@ -39,7 +40,7 @@ pub(crate) fn steps_pointer(indirect: bool, named: Word) -> bool
 pub(crate) fn deposit<'a>(
     at: Word,
     known: &Known<'a>,
-    targets: &'a Seen,
+    targets: &'a WordSet,
     single: &Option<Word>,
     way: &'a mut Way,
 ) -> Option<Outcome<'a>>
@@ -61,7 +62,7 @@ pub(crate) fn deposit<'a>(
         ..
     } = way;
     let held = known.left_in(&Name::Accumulator, held);
-    let zero = ac.put_one(Word::ZERO);
+    let zero = put_one(ac, Word::ZERO);
     let next = address_after(at, next);
     match single {
         Some(cell) => {
@@ -70,7 +71,7 @@ pub(crate) fn deposit<'a>(
         }
         None => {
             let after = known.stored(targets, held, first).with_ac(zero, second);
-            going(targets, held, all.put_all(), next, after)
+            going(targets, held, put_all(all), next, after)
         }
     }
 }
@@ -80,7 +81,7 @@ pub(crate) fn deposit<'a>(
 pub(crate) fn count_one<'a>(
     at: Word,
     known: &Known<'a>,
-    targets: &Seen,
+    targets: &WordSet,
     cell: Word,
     way: &'a mut Way,
     other: &'a mut Way,
@@ -102,9 +103,9 @@ pub(crate) fn count_one<'a>(
     } = way;
     let held = known.left_in(&Name::Accumulator, held);
     let old = known.left_in(&Name::Cell(cell), read);
-    let zero = changed.put_one(Word::ZERO);
+    let zero = put_one(changed, Word::ZERO);
     let skips = going_if(
-        old.has(Word::ZERO.complement()),
+        has_cell(old, Word::ZERO.complement()),
         targets,
         held,
         zero,
@@ -117,7 +118,7 @@ pub(crate) fn count_one<'a>(
         first,
         ..
     } = other;
-    let more = changed.put_counted(old);
+    let more = put_counted(changed, old);
     let goes_on = going(
         targets,
         held,
@@ -133,7 +134,7 @@ pub(crate) fn count_one<'a>(
 pub(crate) fn count_own<'a>(
     at: Word,
     known: &Known<'a>,
-    targets: &Seen,
+    targets: &WordSet,
     cell: Word,
     way: &'a mut Way,
 ) -> Option<Outcome<'a>>
@@ -151,7 +152,7 @@ pub(crate) fn count_own<'a>(
     going(
         targets,
         known.left_in(&Name::Accumulator, held),
-        all.put_all(),
+        put_all(all),
         address_after(at, next),
         known.returning_later(),
     )
@@ -183,7 +184,7 @@ fn may_stay(known: &Known<'_>, cell: Word) -> bool
 }
 
 /// Whether some of the cells may hold 7777.
-fn may_some_wrap(known: &Known<'_>, cells: &Seen) -> bool
+fn may_some_wrap(known: &Known<'_>, cells: &WordSet) -> bool
     ensures { result ≡ some_below 4096 (λ y. words cells.now y &&
         narrowed (known_of known.now) (Cell y) 4095) }
 {
@@ -197,7 +198,7 @@ fn may_some_wrap(known: &Known<'_>, cells: &Seen) -> bool
 }
 
 /// Whether some of the cells may hold another word than 7777.
-fn may_some_stay(known: &Known<'_>, cells: &Seen) -> bool
+fn may_some_stay(known: &Known<'_>, cells: &WordSet) -> bool
     ensures { result ≡ some_below 4096
         (λ y. words cells.now y && has_some (without 4095
         (narrowed (known_of known.now) (Cell y)))) }
@@ -216,7 +217,7 @@ fn may_some_stay(known: &Known<'_>, cells: &Seen) -> bool
 pub(crate) fn count_several<'a>(
     at: Word,
     known: &Known<'a>,
-    targets: &'a Seen,
+    targets: &'a WordSet,
     way: &'a mut Way,
     other: &'a mut Way,
 ) -> (Option<Outcome<'a>>, Option<Outcome<'a>>)
@@ -234,7 +235,7 @@ pub(crate) fn count_several<'a>(
         ..
     } = way;
     let held = known.left_in(&Name::Accumulator, held);
-    let all = all.put_all();
+    let all = put_all(all);
     let wraps = may_some_wrap(known, targets);
     let stays = may_some_stay(known, targets);
     let skips = going_if(
@@ -262,7 +263,7 @@ pub(crate) fn count_several<'a>(
 fn after_sum<'a>(
     known: &Known<'a>,
     added: &Option<Word>,
-    set: &'a Seen,
+    set: &'a WordSet,
     list: &'a mut Equations,
 ) -> Known<'a>
     requires room { length known.now.equations.now ≤ 32 }
@@ -280,7 +281,7 @@ fn after_sum<'a>(
 #[inline(never)]
 pub(crate) fn call<'a>(
     known: &Known<'a>,
-    targets: &'a Seen,
+    targets: &'a WordSet,
     way: &'a mut Way,
 ) -> Option<Outcome<'a>>
     ensures { (f : said.Fact) (p : Words) → Agree (known_of known.now) f →
@@ -289,7 +290,7 @@ pub(crate) fn call<'a>(
 {
     let Way { all, held, .. } = way;
     let held = known.left_in(&Name::Accumulator, held);
-    calling(targets, held, all.put_all(), known.same())
+    calling(targets, held, put_all(all), known.same())
 }
 
 impl<A: Allocator> Place<'_, A> {
@@ -301,8 +302,8 @@ impl<A: Allocator> Place<'_, A> {
         indirect: bool,
         named: Word,
         known: &Known<'_>,
-        place: &'b mut Seen,
-    ) -> &'b Seen
+        place: &'b mut WordSet,
+    ) -> &'b WordSet
         requires pointer { IsUnchanged known.now.pointer }
         requires target { IsUnchanged known.now.target }
         ensures { (f : said.Fact) → Agree (known_of known.now) f →
@@ -314,7 +315,7 @@ impl<A: Allocator> Place<'_, A> {
         if indirect {
             return self.words_in(known, named, place);
         }
-        place.put_one(named)
+        put_one(place, named)
     }
 
     /// AND: all a and v, for the words a of the accumulator and v of the targets.
@@ -323,7 +324,7 @@ impl<A: Allocator> Place<'_, A> {
         &self,
         at: Word,
         known: &Known<'a>,
-        targets: &Seen,
+        targets: &WordSet,
         single: &Option<Word>,
         way: &'a mut Way,
     ) -> Option<Outcome<'a>>
@@ -344,11 +345,11 @@ impl<A: Allocator> Place<'_, A> {
         } = way;
         let held = known.left_in(&Name::Accumulator, held);
         let read = self.words_at(known, targets, single, read);
-        let both = ac.put_ands(held, read);
+        let both = put_ands(ac, held, read);
         going(
             targets,
             held,
-            all.put_all(),
+            put_all(all),
             address_after(at, next),
             known.with_ac(both, first),
         )
@@ -362,7 +363,7 @@ impl<A: Allocator> Place<'_, A> {
         target: &Option<Word>,
         ac: &Option<Word>,
         added: &Option<Word>,
-        set: &'a Seen,
+        set: &'a WordSet,
         list: &'a mut Equations,
     ) -> Known<'a>
         requires room { length known.now.equations.now ≤ 32 }
@@ -386,7 +387,7 @@ impl<A: Allocator> Place<'_, A> {
         &self,
         at: Word,
         known: &Known<'a>,
-        targets: &Seen,
+        targets: &WordSet,
         single: &Option<Word>,
         way: &'a mut Way,
     ) -> Option<Outcome<'a>>
@@ -407,11 +408,11 @@ impl<A: Allocator> Place<'_, A> {
         } = way;
         let held = known.left_in(&Name::Accumulator, held);
         let read = self.words_at(known, targets, single, read);
-        let carries = ac.put_sums(held, read);
+        let carries = put_sums(ac, held, read);
         let links = known.link.toggled(carries);
         let mut sum = self.after_tad(known, single, &held.only(), &read.only(), &*ac, first);
         sum.set_link(links);
-        going(targets, held, all.put_all(), address_after(at, next), sum)
+        going(targets, held, put_all(all), address_after(at, next), sum)
     }
 
     /// JMP goes to each target; JMP I through the running routine's own entry returns.
@@ -421,7 +422,7 @@ impl<A: Allocator> Place<'_, A> {
         indirect: bool,
         named: Word,
         known: &Known<'a>,
-        targets: &'a Seen,
+        targets: &'a WordSet,
         way: &'a mut Way,
     ) -> Option<Outcome<'a>>
         ensures { (f : said.Fact) (p : Words) → Agree (known_of known.now) f →
@@ -430,7 +431,7 @@ impl<A: Allocator> Place<'_, A> {
     {
         let Way { all, held, .. } = way;
         let held = known.left_in(&Name::Accumulator, held);
-        let all = all.put_all();
+        let all = put_all(all);
         if both(indirect, self.is_own(named)) {
             return returning(targets, held, all, known.same());
         }
@@ -442,7 +443,7 @@ impl<A: Allocator> Place<'_, A> {
         &self,
         at: Word,
         known: &Known<'a>,
-        targets: &'a Seen,
+        targets: &'a WordSet,
         single: &Option<Word>,
         way: &'a mut Way,
         other: &'a mut Way,

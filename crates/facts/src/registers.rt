@@ -18,10 +18,10 @@ ghost use Rattle.facts.specs.Slots.{slot};
 
 use crate::equations::Equations;
 use crate::known::Known;
+use crate::lent::{put_all, put_any, put_images, put_one, put_set};
 use crate::names::Name;
 use crate::outcome::{Outcome, address_after, address_skipped_to, going};
 use crate::room::Way;
-use crate::seen::Seen;
 use instruct::DeviceOperation;
 use word12::Word;
 use wordset::WordSet;
@@ -29,16 +29,16 @@ use wordset::WordSet;
 /// The outcome that goes on at the next address with what is known then.
 pub(crate) fn go_on<'a>(
     at: Word,
-    held: &Seen,
+    held: &WordSet,
     after: Known<'a>,
-    all: &mut Seen,
-    next: &'a mut Seen,
+    all: &mut WordSet,
+    next: &'a mut WordSet,
 ) -> Option<Outcome<'a>>
     ensures { (f h : said.Fact) → SameWords (words held.now) (narrowed f Ac) →
         Agree (known_of after.entry) h →
         AgreeingOutcomes (slot result) (goes everything f everything (one (plus at 1)) h) }
 {
-    let all = all.put_all();
+    let all = put_all(all);
     going(all, held, all, address_after(at, next), after)
 }
 
@@ -64,7 +64,12 @@ fn increments(word: Word) -> bool
 
 /// What is known after a word of group 1, where these words of the accumulator are left: with IAC
 /// alone its equations move by one.
-fn related<'a>(word: Word, known: &Known<'a>, set: &'a Seen, list: &'a mut Equations) -> Known<'a>
+fn related<'a>(
+    word: Word,
+    known: &Known<'a>,
+    set: &'a WordSet,
+    list: &'a mut Equations,
+) -> Known<'a>
     requires room { length known.now.equations.now ≤ 32 }
     ensures { (f : said.Fact) (s : Words) → Agree (known_of known.now) f →
         SameWords (words set.now) s →
@@ -102,7 +107,7 @@ pub(crate) fn operate<'a>(
         ..
     } = way;
     let held = known.left_in(&Name::Accumulator, held);
-    let links = ac.put_images(word, held, known.link);
+    let links = put_images(ac, word, held, known.link);
     let after = related(word, known, &*ac, first).with_link(links);
     go_on(at, held, after, all, next)
 }
@@ -124,7 +129,7 @@ pub(crate) fn test_flag<'a>(
         ..
     } = way;
     let held = known.left_in(&Name::Accumulator, held);
-    let all = all.put_all();
+    let all = put_all(all);
     let stays = going(all, held, all, address_after(at, next), known.same());
     let skips = going(
         all,
@@ -151,7 +156,7 @@ pub(crate) fn or_byte<'a>(at: Word, known: &Known<'a>, way: &'a mut Way) -> Opti
         ..
     } = way;
     let held = known.left_in(&Name::Accumulator, held);
-    let bytes = ac.put_any(held, Word::from_byte(0o377));
+    let bytes = put_any(ac, held, Word::from_byte(0o377));
     let after = known.with_ac(bytes, first);
     go_on(at, held, after, all, next)
 }
@@ -171,7 +176,7 @@ pub(crate) fn clear<'a>(at: Word, known: &Known<'a>, way: &'a mut Way) -> Option
         ..
     } = way;
     let held = known.left_in(&Name::Accumulator, held);
-    let after = known.with_ac(ac.put_one(Word::ZERO), first);
+    let after = known.with_ac(put_one(ac, Word::ZERO), first);
     go_on(at, held, after, all, next)
 }
 
@@ -190,7 +195,7 @@ pub(crate) fn take_byte<'a>(at: Word, known: &Known<'a>, way: &'a mut Way) -> Op
         ..
     } = way;
     let held = known.left_in(&Name::Accumulator, held);
-    ac.put_between(Word::ZERO, Word::from_byte(0o377));
+    *ac = WordSet::range(Word::ZERO, Word::from_byte(0o377));
     let after = known.with_ac(&*ac, first);
     go_on(at, held, after, all, next)
 }
@@ -236,8 +241,8 @@ fn take<'a>(
     } = way;
     let held = known.left_in(&Name::Accumulator, held);
     let after = known
-        .with_ac(ac.put_set(set), first)
-        .with_mq(changed.put_set(mq));
+        .with_ac(put_set(ac, set), first)
+        .with_mq(put_set(changed, mq));
     go_on(at, held, after, all, next)
 }
 
@@ -256,7 +261,7 @@ pub(crate) fn exchange<'a>(
         (operated3 o f)) }
 {
     let ac = known.narrowed(&Name::Accumulator);
-    let mq = known.mq.set();
+    let mq = *known.mq;
     let zero = WordSet::one(Word::ZERO);
     match word.value() {
         0o7421 => take(at, known, &zero, &ac, way),

@@ -4,25 +4,25 @@
 //! a set has 512 bytes, and making places for them anew for each word took nearly all of the time.
 
 use crate::equations::Equations;
-use crate::seen::Seen;
 use arrayvec::ArrayVec;
+use wordset::WordSet;
 
 /// Room for one outcome: for the words of what it is made of, and for equations, which change at most
 /// three times, one after another.
 #[derive(Drop)]
 pub(crate) struct Way {
     /// All words.
-    pub(crate) all: Seen,
+    pub(crate) all: WordSet,
     /// The accumulator's words before.
-    pub(crate) held: Seen,
+    pub(crate) held: WordSet,
     /// The words of the cells that are read.
-    pub(crate) read: Seen,
+    pub(crate) read: WordSet,
     /// The accumulator's words afterwards.
-    pub(crate) ac: Seen,
+    pub(crate) ac: WordSet,
     /// The words of a cell, or MQ's, afterwards.
-    pub(crate) changed: Seen,
+    pub(crate) changed: WordSet,
     /// Where it goes on.
-    pub(crate) next: Seen,
+    pub(crate) next: WordSet,
     pub(crate) first: Equations,
     pub(crate) second: Equations,
     pub(crate) third: Equations,
@@ -32,12 +32,12 @@ impl Way {
     /// Room in which nothing stands.
     fn new() -> Way {
         Way {
-            all: Seen::all(),
-            held: Seen::all(),
-            read: Seen::all(),
-            ac: Seen::all(),
-            changed: Seen::all(),
-            next: Seen::all(),
+            all: WordSet::all(),
+            held: WordSet::all(),
+            read: WordSet::all(),
+            ac: WordSet::all(),
+            changed: WordSet::all(),
+            next: WordSet::all(),
             first: ArrayVec::new(),
             second: ArrayVec::new(),
             third: ArrayVec::new(),
@@ -50,11 +50,11 @@ impl Way {
 #[derive(Drop)]
 pub struct Room {
     /// The words of a stepped pointer.
-    pub(crate) pointer: Seen,
+    pub(crate) pointer: WordSet,
     /// The equations when the pointer was stepped, or after a call.
     pub(crate) list: Equations,
     /// The targets of a reference.
-    pub(crate) targets: Seen,
+    pub(crate) targets: WordSet,
     pub(crate) one: Way,
     pub(crate) two: Way,
     pub(crate) three: Way,
@@ -65,9 +65,9 @@ impl Room {
     /// Room that nothing stands in.
     pub fn new() -> Room {
         Room {
-            pointer: Seen::all(),
+            pointer: WordSet::all(),
             list: ArrayVec::new(),
-            targets: Seen::all(),
+            targets: WordSet::all(),
             one: Way::new(),
             two: Way::new(),
             three: Way::new(),

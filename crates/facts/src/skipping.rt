@@ -14,11 +14,11 @@ ghost use Rattle.facts.specs.Slots.{slot};
 
 use crate::equations::Equations;
 use crate::known::Known;
+use crate::lent::{put_all, put_one, put_set};
 use crate::names::Name;
 use crate::outcome::{Outcome, address_after, address_skipped_to, going_if};
 use crate::place::union_if;
 use crate::room::Way;
-use crate::seen::Seen;
 use word12::{Link, Word};
 use wordset::{Links, WordSet};
 
@@ -96,11 +96,17 @@ fn part(word: Word, link: Link, skip: bool, ac: &WordSet) -> WordSet
 
 /// The words that skip, or those that don't, in a place for them; the room for them is made here alone.
 #[inline(never)]
-fn put_part<'b>(word: Word, link: Link, skip: bool, held: &Seen, place: &'b mut Seen) -> &'b Seen
+fn put_part<'b>(
+    word: Word,
+    link: Link,
+    skip: bool,
+    held: &WordSet,
+    place: &'b mut WordSet,
+) -> &'b WordSet
     ensures { (v : ℕ) → v < 4096 → words result.now v ≡
         (words held.now v && (if skips_of word v link then skip else not skip)) }
 {
-    place.put_set(&part(word, link, skip, &held.set()))
+    put_set(place, &part(word, link, skip, held))
 }
 
 /// The words that CLA leaves.
@@ -117,20 +123,20 @@ fn kept(word: Word, part: WordSet) -> WordSet
 /// What CLA leaves of some words, with any bits of the switches, in a place for them; the room for them
 /// is made here alone.
 #[inline(never)]
-fn put_switched<'b>(word: Word, part: &Seen, place: &'b mut Seen) -> &'b Seen
+fn put_switched<'b>(word: Word, part: &WordSet, place: &'b mut WordSet) -> &'b WordSet
     ensures { SameWords (words result.now)
         (or_any 4095 (if has_bit 7 word then one 0 else words part.now)) }
 {
-    let left = kept(word, part.set());
-    place.put_set(&left.or_any(Word::from_index(0o7777)))
+    let left = kept(word, *part);
+    put_set(place, &left.or_any(Word::from_index(0o7777)))
 }
 
 /// What is known after the test: CLA, then OSR, by which any bits may come in.
 fn after_test<'a>(
     word: Word,
     known: &Known<'a>,
-    part: &'a Seen,
-    place: &'a mut Seen,
+    part: &'a WordSet,
+    place: &'a mut WordSet,
     list: &'a mut Equations,
 ) -> Known<'a>
     requires room { length known.now.equations.now ≤ 32 }
@@ -142,13 +148,13 @@ fn after_test<'a>(
         return known.with_ac(put_switched(word, part, place), list);
     }
     if clears(word) {
-        return known.with_ac(place.put_one(Word::ZERO), list);
+        return known.with_ac(put_one(place, Word::ZERO), list);
     }
     known.same().holding(part)
 }
 
 /// The next address, or the one after it.
-fn next_address(at: Word, skip: bool, place: &mut Seen) -> &Seen
+fn next_address(at: Word, skip: bool, place: &mut WordSet) -> &WordSet
     ensures { SameWords (words result.now) (one (next_pc at skip)) }
 {
     if skip {
@@ -189,7 +195,7 @@ pub(crate) fn branch<'a>(
     } = way;
     let held = known.left_in(&Name::Accumulator, held);
     let part = put_part(word, link, skip, held, read);
-    let all = all.put_all();
+    let all = put_all(all);
     let linked = known.link.contains(link);
     let found = !part.is_empty();
     going_if(

@@ -1,15 +1,12 @@
 //! Tracked cells, each in a few bytes: the words of most are words in a row, and the sets of the
 //! others stand in a list beside them.
 
-ghost use Rattle.std.specs.Prelude.{ℕ, ◌≡◌, ◌<◌, ◌≤◌, ◌↔◌, ◌∷◌, [], ◌++◌, length, IsTrue, IfSome, List};
-ghost use Rattle.wordset.specs.Words.{SameWords, IsWithin, between, nothing, meet};
+ghost use Rattle.std.specs.Prelude.{ℕ, ◌≡◌, ◌<◌, ◌≤◌, ◌↔◌, ◌∷◌, [], ◌++◌, length, IsTrue};
+ghost use Rattle.wordset.specs.Words.{SameWords, IsWithin, between, nothing};
 ghost use Rattle.wordset.specs.Lanes.{words};
 ghost use Rattle.facts.specs.Statements.{tracked, cell_at};
-ghost use Rattle.facts.specs.Rows.{row_words, IsRow};
-ghost use Rattle.facts.specs.declared.tracking.TrackedCell.{TrackedCell as Whole};
 ghost use Rattle.facts.specs.Tracking.{tracked_of, held_words, tracked_cells, IsPlaceBelow};
 
-use crate::seen::{Row, Seen};
 use arrayvec::ArrayVec;
 use std::marker::Model;
 use word12::Word;
@@ -129,32 +126,6 @@ fn has_all(wider: &[TrackedCell], other: &Held, set: &WordSet) -> bool
     }
 }
 
-/// Whether all of some words are within those of a row, or of a cell that stands whole.
-fn has_seen(wider: &[TrackedCell], other: &Held, seen: &Seen) -> bool
-    requires { IsPlaceBelow (length wider.now) other.now }
-    ensures { IsTrue result ↔ IsWithin (words seen.now) (held_words wider.now other.now) }
-{
-    if let Some(row) = seen.row() {
-        if let Held::Row(first, last) = other {
-            let wider = Row {
-                first: *first,
-                last: *last,
-            };
-            return row.is_within(&wider);
-        }
-    }
-    has_set(wider, other, seen)
-}
-
-/// The same, of sets; the room for them is made here alone.
-#[inline(never)]
-fn has_set(wider: &[TrackedCell], other: &Held, seen: &Seen) -> bool
-    requires { IsPlaceBelow (length wider.now) other.now }
-    ensures { IsTrue result ↔ IsWithin (words seen.now) (held_words wider.now other.now) }
-{
-    has_all(wider, other, &seen.set())
-}
-
 /// The words of a row, or of a cell that stands whole.
 fn set_of(whole: &[TrackedCell], held: &Held) -> WordSet
     requires { IsPlaceBelow (length whole.now) held.now }
@@ -163,23 +134,6 @@ fn set_of(whole: &[TrackedCell], held: &Held) -> WordSet
     match held {
         Held::Row(first, last) => WordSet::range(*first, *last),
         Held::Whole(place) => whole[usize::from(*place)].set,
-    }
-}
-
-/// The words of a row that a row allows; none is told of a cell that stands whole.
-fn allowed(row: Row, held: &Held) -> Option<Row>
-    ensures { (whole : List Whole) → IfSome result (λ r.
-        IsRow r (meet (row_words row) (held_words whole held.now))) }
-{
-    match held {
-        Held::Row(first, last) => {
-            let other = Row {
-                first: *first,
-                last: *last,
-            };
-            row.meet(other)
-        }
-        Held::Whole(_) => None,
     }
 }
 
@@ -245,18 +199,6 @@ impl TrackedCells {
         )
     }
 
-    /// Whether the one at a place may hold all of some words.
-    pub(crate) fn has_seen(&self, at: usize, seen: &Seen) -> bool
-        requires { at < length (tracked_cells self.now) }
-        ensures { IsTrue result ↔ IsWithin (words seen.now) (cell_at (tracked_cells self.now) at).set }
-    {
-        has_seen(
-            self.whole.as_slice(),
-            &self.entries.as_slice()[at].held,
-            seen,
-        )
-    }
-
     /// Whether the one at a place here is the cell of the one at a place there, and is seen to hold
     /// no word that the one there may not.
     fn is_within_at(&self, place: usize, others: &TrackedCells, at: usize) -> bool
@@ -310,23 +252,6 @@ impl TrackedCells {
             }
         }
         set
-    }
-
-    /// The words of a cell, where they are seen to be a row.
-    pub(crate) fn row_of(&self, cell: Word) -> Option<Row>
-        ensures { IfSome result (λ r. IsRow r (tracked cell (tracked_cells self.now))) }
-    {
-        let mut row = Row::all();
-        for entry in self.entries.as_slice() {
-            if entry.cell != cell {
-                continue;
-            }
-            let Some(less) = allowed(row, &entry.held) else {
-                return None;
-            };
-            row = less;
-        }
-        Some(row)
     }
 
     /// Takes all away.

@@ -13,9 +13,10 @@ ghost use Rattle.judge.specs.Spots.{IsSpot, case_of, routine_at, HoldsHere};
 
 use crate::claims::Claims;
 use crate::spot::{Others, Spot};
-use facts::{Fact, Known, Outcome, Seen, outcomes};
+use facts::{Fact, Known, Outcome, outcomes};
 use std::alloc::Allocator;
 use word12::Word;
+use wordset::WordSet;
 
 impl<A: Allocator, C: Claims> Spot<'_, A, C> {
     /// The routine whose body has the address; none is main.
@@ -63,7 +64,7 @@ impl<A: Allocator, C: Claims> Spot<'_, A, C> {
     }
 
     /// Whether what is known lands in the same body at each of some addresses.
-    fn lands_at_each(&self, addresses: &Seen, known: &Known<'_>, next: &mut Fact) -> bool
+    fn lands_at_each(&self, addresses: &WordSet, known: &Known<'_>, next: &mut Fact) -> bool
         requires { Shows (C.claims self.now.claims.now) self.now.following.now }
         ensures { IsTrue result ↔ ((a : ℕ) → a < 4096 → words addresses.now a ≡ true →
             LandsAt (case_of C.claims self.now) (routine_at self.now) a (known_of known.now)) }

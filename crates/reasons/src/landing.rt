@@ -15,10 +15,11 @@ use crate::breach::{Breach, Landing};
 use crate::gap::gap_between;
 use crate::spot::Spot;
 use crate::told::claimed_fact;
-use facts::{Known, Outcome, Room, Seen, outcomes};
+use facts::{Known, Outcome, Room, outcomes};
 use judge::Claims;
 use std::alloc::Allocator;
 use word12::Word;
+use wordset::WordSet;
 
 impl<A: Allocator, C: Claims> Spot<'_, A, C> {
     /// Whether a routine's body has an address.
@@ -59,7 +60,7 @@ impl<A: Allocator, C: Claims> Spot<'_, A, C> {
     }
 
     /// The first of some addresses at which what is known doesn't land, and why.
-    fn misses_at(&self, addresses: &Seen, known: &Known<'_>) -> Option<(Word, Landing)>
+    fn misses_at(&self, addresses: &WordSet, known: &Known<'_>) -> Option<(Word, Landing)>
         ensures found { IfSome result (λ found. (found.0 < 4096) ×
             (words addresses.now found.0 ≡ true) × MissesHere C.claims self.now
             (here self.now).routine found.0 (known_of known.now) found.1) }

@@ -9,7 +9,7 @@ use Rattle.facts.specs.Same.{AgreeingOutcomes}
 use Rattle.facts.specs.Slots.{slot}
 use Rattle.facts.proofs.AgreeLemmas.{agree_trans, narrowed_agree}
 use Rattle.facts.proofs.ChangeLemmas.{has_cell_words}
-use Rattle.facts.proofs.RowLemmas.{counted_same}
+use Rattle.facts.proofs.PlaceLemmas.{counted_same}
 use Rattle.facts.proofs.ChangingLemmas.{name_agree, moved_agree}
 use Rattle.facts.proofs.OutcomeLemmas.{isz_variable}
 use Rattle.facts.proofs.references.count_one.Goals as goal
@@ -20,7 +20,7 @@ returns c = λ pl f p var h e.
     let old : SameWords (words c.left_in-old.result.now) (narrowed f (Cell c.args.cell)) = λ v lt. c.left_in-old.ensures v lt ∙ narrowed_agree h (Cell c.args.cell) v lt in
     let zero : SameWords (words c.put_one-zero.result.now) (one 0) = λ v lt. ap (λ (x : Words). x v) c.put_one-zero.ensures in
     let more : SameWords (words c.put_counted-more.result.now) (without 0 (shifted (narrowed f (Cell c.args.cell)) 1)) = λ v lt. c.put_counted-more.ensures v lt ∙ counted_same old v lt in
-    let full : c.has.result ≡ narrowed f (Cell c.args.cell) 4095 = c.has.ensures ∙ ap (λ n. has_cell (words c.left_in-old.result.now) n) c.complement.ensures ∙ has_cell_words c.left_in-old.result.now 4095 ∙ old 4095 (lit< tt) in
+    let full : c.has_cell.result ≡ narrowed f (Cell c.args.cell) 4095 = c.has_cell.ensures ∙ ap (λ n. has_cell (words c.left_in-old.result.now) n) c.complement.ensures ∙ has_cell_words c.left_in-old.result.now 4095 ∙ old 4095 (lit< tt) in
     isz_variable pl c.args.at f p c.args.cell (slot c.going_if-skips.result) (slot c.going-goes_on.result) var
     (subst (λ b. AgreeingOutcomes (slot c.going_if-skips.result) (given (b && alive p f (one 0) (with_name (Cell c.args.cell) (one 0) (moved (Cell c.args.cell) 1 f))) (Goes (one (plus c.args.at 2)) (with_name (Cell c.args.cell) (one 0) (moved (Cell c.args.cell) 1 f))))) full
     (c.going_if-skips.ensures p (one 0) (one (plus c.args.at 2)) f (with_name (Cell c.args.cell) (one 0) (moved (Cell c.args.cell) 1 f)) e held zero c.address_skipped_to.ensures

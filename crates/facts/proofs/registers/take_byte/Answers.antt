@@ -9,4 +9,4 @@ use Rattle.facts.proofs.registers.take_byte.Goals as goal
 
 pub returns : goal.returns
 returns c = λ f h. c.go_on.ensures f (assigned Ac (λ v. nat_lt v 256) f) (λ v lt. c.left_in-held.ensures v lt ∙ narrowed_agree h Ac v lt)
-    (agree_trans c.with_ac-after.ensures.same (assigned_agree Ac h (bytes_same _ _ c.put_between.ensures refl c.from_byte.ensures.same)))
+    (agree_trans c.with_ac-after.ensures.same (assigned_agree Ac h (bytes_same _ _ c.range.ensures refl c.from_byte.ensures.same)))

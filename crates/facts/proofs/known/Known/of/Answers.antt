@@ -9,12 +9,12 @@ pub returns-clause-same : goal.returns-clause-same
 returns-clause-same c =
     let k : Known = record {
       base = One c.args.fact;
-      ac = c.accumulator_seen.result;
-      mq = c.mq_seen.result;
+      ac = c.accumulator_lent.result;
+      mq = c.mq_lent.result;
       link = c.link.result;
       pointer = Unchanged;
       target = Unchanged;
       equations = c.equations.result;
       offsets = c.offsets.result;
     } in
-    fact_agrees c.args.fact.now k (λ a. refl) refl refl c.accumulator_seen.ensures c.mq_seen.ensures c.link.ensures c.offsets.ensures c.equations.ensures.equations
+    fact_agrees c.args.fact.now k (λ a. refl) refl refl c.accumulator_lent.ensures c.mq_lent.ensures c.link.ensures c.offsets.ensures c.equations.ensures.equations

@@ -12,8 +12,8 @@ pub returns : goal.returns
 returns c =
     let k : Known = record {
       base = Joined c.args.call c.args.exit c.args.written;
-      ac = c.accumulator_seen.result;
-      mq = c.mq_seen.result;
+      ac = c.accumulator_lent.result;
+      mq = c.mq_lent.result;
       link = c.link.result;
       pointer = Unchanged;
       target = Unchanged;
@@ -21,7 +21,7 @@ returns c =
       offsets = c.offsets.result;
     } in
     joined_agree c.args.call.now c.args.exit.now (words c.args.written.now) k (λ a. refl) refl refl
-    c.accumulator_seen.ensures c.mq_seen.ensures c.link.ensures c.offsets.ensures
+    c.accumulator_lent.ensures c.mq_lent.ensures c.link.ensures c.offsets.ensures
     (ap (map equation_of) (c.as_slice.ensures.value ∙ c.add_all.ensures) ∙ map_both c.keep_outside.new.list.items c.equations-2.result.now _
     (c.keep_outside.ensures.list ∙ ap (outside (words c.args.written.now)) c.equations.ensures.equations) ∙
     ap (λ (es : List Equation). outside (words c.args.written.now) (map equation_of c.args.call.now.equations.items) ++ es) c.equations-2.ensures.equations)

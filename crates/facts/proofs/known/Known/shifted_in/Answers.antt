@@ -1,6 +1,5 @@
-use Rattle.std.proofs.Common.{◌∙◌, ap}
-use Rattle.wordset.specs.Words.{Words}
+use Rattle.facts.proofs.ChangeLemmas.{shifted_same}
 use Rattle.facts.proofs.known.Known.shifted_in.Goals as goal
 
-pub returns-in-Some : goal.returns-in-Some
-returns-in-Some c = λ v lt. ap (λ (s : Words). s v) c.put_row.ensures ∙ c.in-Some.ensures.same v lt
+pub returns : goal.returns
+returns c = shifted_same c.args.k c.narrow_into.ensures c.shift.ensures

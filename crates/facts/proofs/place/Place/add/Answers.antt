@@ -17,7 +17,7 @@ pub returns : goal.returns
 returns g c = λ f p h e.
     let ac : SameWords (words c.left_in-held.result.now) (narrowed f Ac) = λ v lt. c.left_in-held.ensures v lt ∙ narrowed_agree h Ac v lt in
     let seen : SameWords (words c.words_at-read.result.now) (words_at (place_of c.args.self.now) f p) = λ v lt. c.words_at-read.ensures v lt ∙ at_agree (place_of c.args.self.now) h e v lt in
-    let set : SameWords (words c.put_sums-carries.new.self) (sums (narrowed f Ac) (words_at (place_of c.args.self.now) f p)) = λ v lt. c.put_sums-carries.ensures.words v lt ∙ sums_same ac seen v lt in
+    let set : SameWords (words c.put_sums-carries.new.place) (sums (narrowed f Ac) (words_at (place_of c.args.self.now) f p)) = λ v lt. c.put_sums-carries.ensures.words v lt ∙ sums_same ac seen v lt in
     let t : c.args.single.now ≡ only p = c.requires.single ∙ only_same _ _ e in
     let a : c.only.result ≡ only (narrowed f Ac) = c.only.ensures ∙ only_same _ _ ac in
     let w : c.only-2.result ≡ only (words_at (place_of c.args.self.now) f p) = c.only-2.ensures ∙ only_same _ _ seen in

@@ -21,7 +21,7 @@ loop-cell-preserved g c =
     record {
       inside = omega (arith, c.index-next.ensures.small);
       so_far = λ v h. some_next c.loop-cell.next c.in-Some.cell (words c.args.cells.now) (λ a. words_in (place_of c.args.self.now) (known_of c.args.known.now) a v) (words c.loop-cell.set v) (words c.union-set.result v) first
-          (c.loop-cell.invariant.so_far v h) (ap (λ (s : Words). s v) c.union-set.ensures ∙ ap (λ p. words c.loop-cell.set v || p) (ap (λ (s : Words). s v) c.set.ensures ∙ c.words_in.ensures v h))
+          (c.loop-cell.invariant.so_far v h) (ap (λ (s : Words). s v) c.union-set.ensures ∙ ap (λ p. words c.loop-cell.set v || p) (c.words_in.ensures v h))
           ∙ ap (λ n. some_below (n + 1) (λ a. words c.args.cells.now a && words_in (place_of c.args.self.now) (known_of c.args.known.now) a v)) (sym same);
     }
 

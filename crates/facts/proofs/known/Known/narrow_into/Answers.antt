@@ -3,7 +3,7 @@ use Rattle.facts.specs.Facts.{narrowed}
 use Rattle.wordset.specs.Lanes.{words}
 use Rattle.facts.specs.Meaning.{known_of, name_of, equation_of}
 use Rattle.facts.proofs.EntailLemmas.{narrowed_step, narrowed_end, unspoken}
-use Rattle.facts.proofs.known.Known.narrowed_by_equations.Goals as goal
+use Rattle.facts.proofs.known.Known.narrow_into.Goals as goal
 
 pub loop-e-preserved : goal.loop-e-preserved
 loop-e-preserved c = λ v lt.

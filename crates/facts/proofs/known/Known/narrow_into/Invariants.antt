@@ -3,7 +3,7 @@ use Rattle.std.specs.Prelude.{◌&&◌}
 use Rattle.facts.specs.Facts.{met_by}
 use Rattle.wordset.specs.Lanes.{words}
 use Rattle.facts.specs.Meaning.{known_of, name_of, equation_of}
-use Rattle.facts.proofs.known.Known.narrowed_by_equations.Given as goal
+use Rattle.facts.proofs.known.Known.narrow_into.Given as goal
 
 abbrev pub invariant-loop-e : goal.invariant-loop-e
 invariant-loop-e l = (v : ℕ) → v < 4096 →

@@ -1,6 +1,0 @@
-use Rattle.std.proofs.Common.{◌∙◌, ap}
-use Rattle.wordset.specs.Words.{Words}
-use Rattle.facts.proofs.known.Known.narrowed.Goals as goal
-
-pub returns-in-Some : goal.returns-in-Some
-returns-in-Some c = λ v lt. ap (λ (s : Words). s v) c.range.ensures ∙ c.in-Some.ensures.same v lt

@@ -61,6 +61,18 @@ fn push_change<A: Allocator>(
     push_line(text, b", and would hold ", then, b"")
 }
 
+/// Adds what to declare of a cell, if the program may write it: nothing of an entry, which only its JMS writes.
+fn push_variable_advice<A: Allocator, D: Allocator>(
+    text: &mut Vec<u8, A>,
+    declaration: &Declaration<D>,
+    cell: Word,
+) -> Result<(), AllocError> {
+    if declaration.is_entry(cell) {
+        return text.extend_from_slice(b": it is an entry\n");
+    }
+    push_line(text, b"; if it may, add `var ", cell, b"`")
+}
+
 /// Adds the lines of a cell that is written: the pointer that is stepped, or what is stored into; and of the
 /// words there before and after.
 fn push_write<A: Allocator, D: Allocator>(
@@ -72,16 +84,15 @@ fn push_write<A: Allocator, D: Allocator>(
     let named = target(word, cpu.pc);
     let steps = refers_indirectly(word) && is_auto_index(named);
     if steps && !declaration.is_variable(named) {
-        push_line(
-            text,
-            b"it steps the pointer ",
-            named,
-            b", which is no variable",
-        )?;
+        push_place(text, b"it steps the pointer ", named)?;
+        text.extend_from_slice(b", which is no variable")?;
+        push_variable_advice(text, declaration, named)?;
         return push_change(text, cpu, named, cpu.memory.get(named).increment());
     }
     let place = effective_address(&cpu.memory, word, cpu.pc);
-    push_line(text, b"it stores into ", place, b", which is no variable")?;
+    push_place(text, b"it stores into ", place)?;
+    text.extend_from_slice(b", which is no variable")?;
+    push_variable_advice(text, declaration, place)?;
     match Operation::of(word) {
         Operation::Isz => push_change(text, cpu, place, cpu.memory.get(place).increment()),
         _ => push_change(text, cpu, place, cpu.ac),
@@ -92,6 +103,16 @@ fn push_write<A: Allocator, D: Allocator>(
 fn push_held<A: Allocator>(text: &mut Vec<u8, A>, cpu: &Cpu, cell: Word) -> Result<(), AllocError> {
     push_place(text, b"", cell)?;
     push_line(text, b" holds ", cpu.memory.get(cell), b"")
+}
+
+/// Adds that a cell isn't on the list of reads, and what to declare if it may be read.
+fn push_read_advice<A: Allocator>(text: &mut Vec<u8, A>, cell: Word) -> Result<(), AllocError> {
+    push_line(
+        text,
+        b", which isn't on the list; if it may, add `read ",
+        cell,
+        b"`",
+    )
 }
 
 /// Adds the lines of a cell that is read and isn't on the list, the pointer or the operand, and of its word.
@@ -105,16 +126,13 @@ fn push_read<A: Allocator, D: Allocator>(
     let named = target(word, cpu.pc);
     let own = calls.last().is_some_and(|call| call.entry == named);
     if refers_indirectly(word) && !declaration.may_read(named) && !own {
-        push_line(
-            text,
-            b"it reads the pointer ",
-            named,
-            b", which isn't on the list",
-        )?;
+        push_place(text, b"it reads the pointer ", named)?;
+        push_read_advice(text, named)?;
         return push_held(text, cpu, named);
     }
     let place = effective_address(&cpu.memory, word, cpu.pc);
-    push_line(text, b"it reads ", place, b", which isn't on the list")?;
+    push_place(text, b"it reads ", place)?;
+    push_read_advice(text, place)?;
     push_held(text, cpu, place)
 }
 
@@ -172,6 +190,38 @@ fn push_return<A: Allocator, D: Allocator>(
     }
 }
 
+/// Adds the line of an address that isn't in the running routine's body, and what to declare if it is code.
+fn push_outside<A: Allocator>(
+    text: &mut Vec<u8, A>,
+    calls: &[Call],
+    at: Word,
+) -> Result<(), AllocError> {
+    push_place(text, b"", at)?;
+    text.extend_from_slice(b" isn't in the running routine's body; if it is code of it, add ")?;
+    match calls.last() {
+        None => push_line(text, b"`main ", at, b"`"),
+        Some(call) => push_line(text, b"it to the body of `sub ", call.entry, b"`"),
+    }
+}
+
+/// Adds the line of a JMS to an address that is no entry, and what to declare if a routine begins there.
+fn push_no_entry<A: Allocator>(text: &mut Vec<u8, A>, place: Word) -> Result<(), AllocError> {
+    push_place(text, b"it goes to ", place)?;
+    text.extend_from_slice(b", which is no entry; if a routine begins there, add ")?;
+    push_line(text, b"`sub ", place, b" body .. returns ..`")
+}
+
+/// Adds the line of a HLT at an address where none is declared, and what to declare if it may stand there.
+fn push_no_halt<A: Allocator>(text: &mut Vec<u8, A>, at: Word) -> Result<(), AllocError> {
+    push_place(text, b"", at)?;
+    push_place(
+        text,
+        b" is no declared halt; if it may halt there, add `stop ",
+        at,
+    )?;
+    push_line(text, b"`, or `pause ", at, b"` if the operator may go on")
+}
+
 /// Adds the lines that say what the step does that its rule doesn't allow.
 fn push_act<A: Allocator, D: Allocator>(
     text: &mut Vec<u8, A>,
@@ -195,16 +245,16 @@ fn push_act<A: Allocator, D: Allocator>(
                     b" is no instruction of the declared machine",
                 )
             } else {
-                push_line(text, b"", cpu.pc, b" isn't in the running routine's body")
+                push_outside(text, calls, cpu.pc)
             }
         }
         Rule::WritesDeclared => push_write(text, declaration, cpu, word),
         Rule::CallsEntries => {
             let place = effective_address(&cpu.memory, word, cpu.pc);
-            push_line(text, b"it goes to ", place, b", which is no entry")
+            push_no_entry(text, place)
         }
         Rule::ReturnsToItsCall => push_return(text, declaration, calls, cpu, word),
-        Rule::HaltsDeclared => push_line(text, b"", cpu.pc, b" is no declared halt"),
+        Rule::HaltsDeclared => push_no_halt(text, cpu.pc),
         Rule::KeepsCode => push_line(text, b"the word at ", cpu.pc, b" isn't the tape's"),
         Rule::ReadsListed => push_read(text, declaration, calls, cpu, word),
     }

@@ -165,7 +165,7 @@ fn guess_with_reasons<R: Files + Input + Print + Eprint>(
 
 /// Says whether the program of a file's tape keeps its declaration, or the one that is proposed for it.
 #[inline(never)]
-pub fn verify_from<R: Files + Input + Print>(
+pub fn verify_from<R: Files + Input + Print + Eprint>(
     rt: &R,
     alloc: Global,
     asked: &VerifyRequest<'_>,
@@ -178,7 +178,7 @@ pub fn verify_from<R: Files + Input + Print>(
 
 /// Says whether the program of a file's tape keeps the declaration that is proposed for it.
 #[inline(never)]
-fn verify_alone<R: Files + Input + Print>(
+fn verify_alone<R: Files + Input + Print + Eprint>(
     rt: &R,
     alloc: Global,
     asked: &VerifyRequest<'_>,
@@ -187,6 +187,11 @@ fn verify_alone<R: Files + Input + Print>(
     let mut out = Writes::new(io::writer(rt));
     let proposed = verify_proposed(alloc, &mut frames, asked.options, &mut out)?;
     save_proposed(rt, alloc, asked.save, &proposed)?;
+    if asked.save.is_none() {
+        let _ = eprintln!(rt;
+            "the answer is on a declaration that is proposed: --save NAME writes it"
+        );
+    }
     Ok(answer_status(&proposed.answer))
 }
 

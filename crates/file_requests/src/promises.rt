@@ -2,11 +2,6 @@
 
 ghost use Rattle.std.specs.Prelude.{◌≡◌, false};
 
-use crate::drafted::{is_stuck, report_stuck_files};
-use crate::faults::{bound_lines, omissions, stuck_address, with_omissions};
-use crate::files::{open_input, open_output};
-use crate::joined::{report_to, tell_to};
-use crate::saving::{save_answer, save_proposed};
 use command_line::{
     CheckRequest, GuessRequest, MigrateRequest, RefuteRequest, ReportRequest, VerifyRequest,
     WatchRequest,
@@ -21,6 +16,11 @@ use commands::status::{Fault, Status};
 use commands::stuck::guess_or_explain;
 use commands::verifying::{Answer, Lack, answer_status, verify, verify_proposed};
 use commands::watching::watch;
+use program_files::drafted::{is_stuck, report_stuck_files};
+use program_files::faults::{bound_lines, omissions, stuck_address, with_omissions};
+use program_files::files::{open_input, open_output};
+use program_files::saving::{save_answer, save_proposed};
+use program_files::tellers::{report_to, tell_to};
 use std::alloc::Global;
 use std::io;
 use std::rt::Files;

@@ -482,7 +482,7 @@ static VERIFY: Entry = Entry {
     name: "verify",
     usage: Some("pdp8 verify [OPTIONS] <TAPE> [DECLARATION]"),
     about: "Says whether a program keeps its declaration: yes, no or not known",
-    after_help: "Without DECLARATION, and without /: lines in the source, one is proposed for the start and the machine that --start and --profile name; with one they are its own.\n\nExample:\n  pdp8 verify hello.bin hello.declaration",
+    after_help: "Without DECLARATION, and without /: lines in the source, one is proposed for the start and the machine that --start and --profile name; with one they are its own.\n\nExamples:\n  pdp8 verify hello.bin hello.declaration\n  pdp8 verify --source hello.pal --save hello",
 };
 
 static RUN: Entry = Entry {
@@ -531,42 +531,42 @@ static WATCH: Entry = Entry {
     name: "watch",
     usage: Some("pdp8 watch [OPTIONS] <TAPE> <DECLARATION> [EVENTS]"),
     about: "Writes whether a run keeps its declaration, or where it first breaks which rule",
-    after_help: "Example:\n  pdp8 watch hello.bin hello.declaration hello.events",
+    after_help: "Examples:\n  pdp8 watch hello.bin hello.declaration hello.events\n  pdp8 watch --source hello.pal hello.events",
 };
 
 static CHECK: Entry = Entry {
     name: "check",
     usage: Some("pdp8 check [OPTIONS] <TAPE> <DECLARATION> <CERTIFICATE>"),
     about: "Writes whether a certificate shows that no run breaks its declaration",
-    after_help: "Example:\n  pdp8 check hello.bin hello.declaration hello.certificate --why",
+    after_help: "Examples:\n  pdp8 check hello.bin hello.declaration hello.certificate --why\n  pdp8 check --source hello.pal hello.certificate --why",
 };
 
 static REPORT: Entry = Entry {
     name: "report",
     usage: Some("pdp8 report [OPTIONS] <TAPE> <DECLARATION> <CERTIFICATE> [-o] <OUT>"),
     about: "Writes what a certificate says as a page of HTML: verdict, memory, routines, listing",
-    after_help: "The operand OUT is emptied before an input is read. The verdict and the status are check's.\n\nExample:\n  pdp8 report hello.bin hello.declaration hello.certificate -o hello.html",
+    after_help: "The operand OUT is emptied before an input is read. The verdict and the status are check's.\n\nExamples:\n  pdp8 report hello.bin hello.declaration hello.certificate -o hello.html\n  pdp8 report --source hello.pal hello.certificate -o hello.html",
 };
 
 static DECLARE: Entry = Entry {
     name: "declare",
     usage: Some("pdp8 declare [OPTIONS] <TAPE> [-o] <OUT>"),
     about: "Proposes a declaration: what the program of a tape may do",
-    after_help: "The operand OUT is emptied before the tape is read. Where no certificate is found the declaration is written all the same, behind comments that say why if there is room for them, and the status is 1.\n\nExample:\n  pdp8 declare hello.bin -o hello.declaration",
+    after_help: "The operand OUT is emptied before the tape is read. Where no certificate is found the declaration is written all the same, behind comments that say why if there is room for them, and the status is 1.\n\nExamples:\n  pdp8 declare hello.bin -o hello.declaration\n  pdp8 declare --source hello.pal -o hello.declaration",
 };
 
 static GUESS: Entry = Entry {
     name: "guess",
     usage: Some("pdp8 guess [OPTIONS] <TAPE> <DECLARATION> [-o] <OUT>"),
     about: "Looks for a certificate that shows that no run breaks a declaration",
-    after_help: "The operand OUT is emptied before an input is read, and stays empty where nothing is found. check says yes to what is found: that is proved.\n\nExample:\n  pdp8 guess hello.bin hello.declaration -o hello.certificate",
+    after_help: "The operand OUT is emptied before an input is read, and stays empty where nothing is found. check says yes to what is found: that is proved.\n\nExamples:\n  pdp8 guess hello.bin hello.declaration -o hello.certificate\n  pdp8 guess --source hello.pal -o hello.certificate",
 };
 
 static REFUTE: Entry = Entry {
     name: "refute",
     usage: Some("pdp8 refute [OPTIONS] <TAPE> <DECLARATION> [-o] <OUT>"),
     about: "Looks for a run that breaks a declaration, and writes its events",
-    after_help: "The operand OUT is emptied before an input is read, and stays empty where nothing is found. The same seed gives the same answer.\n\nExample:\n  pdp8 refute hello.bin hello.declaration -o found.events --why",
+    after_help: "The operand OUT is emptied before an input is read, and stays empty where nothing is found. The same seed gives the same answer.\n\nExamples:\n  pdp8 refute hello.bin hello.declaration -o found.events --why\n  pdp8 refute --source hello.pal -o found.events --why",
 };
 
 static PLACE: Entry = Entry {

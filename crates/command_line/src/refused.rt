@@ -81,7 +81,7 @@ impl Misuse {
             Misuse::BothStandardInput => "'-' stands for standard input in one place alone",
             Misuse::OutputIsInput => "OUT is also an input: the result goes to a file of its own",
             Misuse::OutputIsSource =>
-                "OUT ends in .pal, as sources do: it takes the tape, and stands before the sources",
+                "OUT ends as the names of sources do: it takes the tape, and stands before the sources",
             Misuse::ReportIsTaken =>
                 "the report is also an input or OUT: it goes to a file of its own",
             Misuse::ReportOfStandardInput =>

@@ -396,7 +396,7 @@ pub fn sourced_refute<'a>(alloc: Global, found: &ArgMatches<'a>) -> Result<Sourc
 
 /// The request for a declaration that is proposed for a source, or completed.
 pub fn sourced_declare<'a>(alloc: Global, found: &ArgMatches<'a>) -> Result<Sourced<'a>, Refused> {
-    let operands = operands_of(found, needed_out(found))?;
+    let operands = search_operands(found)?;
     if operands.declaration.is_some() {
         return Err(Refused::Misuse(Misuse::TapeAndSource));
     }

@@ -56,6 +56,16 @@ pub(crate) fn source_names<'a>(
     Ok(names)
 }
 
+/// What the name of a source ends in.
+const SOURCE_ENDINGS: [&str; 8] = [
+    ".pal", ".PAL", ".pa", ".PA", ".pal8", ".asm", ".ASM", ".src",
+];
+
+/// Whether a name ends as that of a source does.
+fn is_source_name(name: &str) -> bool {
+    SOURCE_ENDINGS.iter().any(|ending| name.ends_with(*ending))
+}
+
 /// The tape that is asked for. It doesn't go to a file that is named as a source: the operands may stand in the
 /// wrong order.
 pub(crate) fn assemble_request<'a>(
@@ -64,7 +74,7 @@ pub(crate) fn assemble_request<'a>(
 ) -> Result<AssembleRequest<'a>, Refused> {
     let sources = source_names(alloc, found)?;
     let out = destination_of(found, &sources)?;
-    if out.name().ends_with(".pal") {
+    if is_source_name(out.name()) {
         return Err(Refused::Misuse(Misuse::OutputIsSource));
     }
     Ok(AssembleRequest {

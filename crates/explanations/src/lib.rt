@@ -92,7 +92,7 @@ fn push_from<A: Allocator>(
 ) -> Result<bool, AllocError> {
     let mut is_known = false;
     for explanation in table {
-        if *explanation.code == *code {
+        if explanation.code.eq_ignore_ascii_case(code) {
             if is_known {
                 text.push_str("\n")?;
             }
@@ -126,7 +126,7 @@ fn push_table<A: Allocator>(text: &mut String<A>, table: &[Explanation]) -> Resu
 }
 
 /// Adds what is said of a code, such as `V5`, `rule2` or `IR`: of each fault that has it, with an empty line
-/// between two. Tells whether the code is one of the list.
+/// between two. Capital and small letters are the same. Tells whether the code is one of the list.
 ///
 /// # Errors
 ///

@@ -5,7 +5,7 @@ ghost use Rattle.std.specs.Prelude.{◌≡◌, false, [], IfOk};
 
 use bin_tape::Image;
 use command_parts::text::{push_dump_line, push_place, push_word};
-use declaration::Declaration;
+use declaration::{Declaration, Owner};
 use instruct::{Operation, refers_indirectly, target};
 use itoa::Buffer;
 use peripherals::{Event, NoMemory, Start};
@@ -61,6 +61,39 @@ fn push_change<A: Allocator>(
     push_line(text, b", and would hold ", then, b"")
 }
 
+/// Adds what a cell is that is no variable: an entry, an instruction of a body, or else what to declare if the
+/// program may write it.
+fn push_variable_advice<A: Allocator, D: Allocator>(
+    text: &mut Vec<u8, A>,
+    declaration: &Declaration<D>,
+    cell: Word,
+) -> Result<(), AllocError> {
+    if declaration.is_entry(cell) {
+        return text.extend_from_slice(b": it is an entry\n");
+    }
+    if declaration.owner_of(cell).is_some() {
+        return push_line(
+            text,
+            b": it is code; if it may change, add `var ",
+            cell,
+            b"`",
+        );
+    }
+    push_line(text, b"; if it may, add `var ", cell, b"`")
+}
+
+/// Adds the line of the pointer of an indirect reference.
+fn push_pointer<A: Allocator>(
+    text: &mut Vec<u8, A>,
+    word: Word,
+    named: Word,
+) -> Result<(), AllocError> {
+    if !refers_indirectly(word) {
+        return Ok(());
+    }
+    push_line(text, b"the address is that of the pointer ", named, b"")
+}
+
 /// Adds the lines of a cell that is written: the pointer that is stepped, or what is stored into; and of the
 /// words there before and after.
 fn push_write<A: Allocator, D: Allocator>(
@@ -72,16 +105,16 @@ fn push_write<A: Allocator, D: Allocator>(
     let named = target(word, cpu.pc);
     let steps = refers_indirectly(word) && is_auto_index(named);
     if steps && !declaration.is_variable(named) {
-        push_line(
-            text,
-            b"it steps the pointer ",
-            named,
-            b", which is no variable",
-        )?;
+        push_place(text, b"it steps the pointer ", named)?;
+        text.extend_from_slice(b", which is no variable")?;
+        push_variable_advice(text, declaration, named)?;
         return push_change(text, cpu, named, cpu.memory.get(named).increment());
     }
     let place = effective_address(&cpu.memory, word, cpu.pc);
-    push_line(text, b"it stores into ", place, b", which is no variable")?;
+    push_place(text, b"it stores into ", place)?;
+    text.extend_from_slice(b", which is no variable")?;
+    push_variable_advice(text, declaration, place)?;
+    push_pointer(text, word, named)?;
     match Operation::of(word) {
         Operation::Isz => push_change(text, cpu, place, cpu.memory.get(place).increment()),
         _ => push_change(text, cpu, place, cpu.ac),
@@ -92,6 +125,16 @@ fn push_write<A: Allocator, D: Allocator>(
 fn push_held<A: Allocator>(text: &mut Vec<u8, A>, cpu: &Cpu, cell: Word) -> Result<(), AllocError> {
     push_place(text, b"", cell)?;
     push_line(text, b" holds ", cpu.memory.get(cell), b"")
+}
+
+/// Adds that a cell isn't on the list of reads, and what to declare if it may be read.
+fn push_read_advice<A: Allocator>(text: &mut Vec<u8, A>, cell: Word) -> Result<(), AllocError> {
+    push_line(
+        text,
+        b", which isn't on the list; if it may, add `read ",
+        cell,
+        b"`",
+    )
 }
 
 /// Adds the lines of a cell that is read and isn't on the list, the pointer or the operand, and of its word.
@@ -105,16 +148,13 @@ fn push_read<A: Allocator, D: Allocator>(
     let named = target(word, cpu.pc);
     let own = calls.last().is_some_and(|call| call.entry == named);
     if refers_indirectly(word) && !declaration.may_read(named) && !own {
-        push_line(
-            text,
-            b"it reads the pointer ",
-            named,
-            b", which isn't on the list",
-        )?;
+        push_place(text, b"it reads the pointer ", named)?;
+        push_read_advice(text, named)?;
         return push_held(text, cpu, named);
     }
     let place = effective_address(&cpu.memory, word, cpu.pc);
-    push_line(text, b"it reads ", place, b", which isn't on the list")?;
+    push_place(text, b"it reads ", place)?;
+    push_read_advice(text, place)?;
     push_held(text, cpu, place)
 }
 
@@ -150,6 +190,23 @@ fn push_returns<A: Allocator, D: Allocator>(
     )
 }
 
+/// Adds what to declare of a return through the running routine's own entry, if it goes to one of the eight
+/// addresses from the call on.
+fn push_offset_advice<A: Allocator>(
+    text: &mut Vec<u8, A>,
+    call: &Call,
+    entry: Word,
+    to: Word,
+) -> Result<(), AllocError> {
+    let offset = to.add(call.after.complement()).increment().value();
+    if call.entry != entry || offset > 7 {
+        return Ok(());
+    }
+    text.extend_from_slice(b"if it may, add ")?;
+    text.extend_from_slice(Buffer::new().format(offset).as_bytes())?;
+    push_line(text, b" to the returns of `sub ", entry, b"`")
+}
+
 /// Adds the lines of a return: where it goes, the call that it doesn't return from, and where that may return
 /// to.
 fn push_return<A: Allocator, D: Allocator>(
@@ -167,9 +224,61 @@ fn push_return<A: Allocator, D: Allocator>(
         Some(call) => {
             push_place(text, b"; the last call is of ", call.entry)?;
             push_line(text, b", and the address after it is ", call.after, b"")?;
-            push_returns(text, declaration, call)
+            push_returns(text, declaration, call)?;
+            push_offset_advice(text, call, entry, cpu.memory.get(entry))
         }
     }
+}
+
+/// Adds the line of an address that isn't in the running routine's body: what it is, or what to declare if it is
+/// code of that routine.
+fn push_outside<A: Allocator, D: Allocator>(
+    text: &mut Vec<u8, A>,
+    declaration: &Declaration<D>,
+    calls: &[Call],
+    at: Word,
+) -> Result<(), AllocError> {
+    push_place(text, b"", at)?;
+    text.extend_from_slice(b" isn't in the running routine's body")?;
+    if declaration.is_entry(at) {
+        return text.extend_from_slice(b": it is an entry, where a JMS leads\n");
+    }
+    match declaration.owner_of(at) {
+        Some(Owner::Main) => text.extend_from_slice(b": it is in that of main\n"),
+        Some(Owner::Routine(entry)) => push_line(text, b": it is in that of `sub ", entry, b"`"),
+        None => push_body_advice(text, calls, at),
+    }
+}
+
+/// Adds what to declare of an address that is in no body, if it is code of the running routine.
+fn push_body_advice<A: Allocator>(
+    text: &mut Vec<u8, A>,
+    calls: &[Call],
+    at: Word,
+) -> Result<(), AllocError> {
+    text.extend_from_slice(b"; if it is code of it, add ")?;
+    match calls.last() {
+        None => push_line(text, b"`main ", at, b"`"),
+        Some(call) => push_line(text, b"it to the body of `sub ", call.entry, b"`"),
+    }
+}
+
+/// Adds the line of a JMS to an address that is no entry, and what to declare if a routine begins there.
+fn push_no_entry<A: Allocator>(text: &mut Vec<u8, A>, place: Word) -> Result<(), AllocError> {
+    push_place(text, b"it goes to ", place)?;
+    text.extend_from_slice(b", which is no entry; if a routine begins there, add ")?;
+    push_line(text, b"`sub ", place, b" body .. returns ..`")
+}
+
+/// Adds the line of a HLT at an address where none is declared, and what to declare if it may stand there.
+fn push_no_halt<A: Allocator>(text: &mut Vec<u8, A>, at: Word) -> Result<(), AllocError> {
+    push_place(text, b"", at)?;
+    push_place(
+        text,
+        b" is no declared halt; if it may halt there, add `stop ",
+        at,
+    )?;
+    push_line(text, b"`, or `pause ", at, b"` if the operator may go on")
 }
 
 /// Adds the lines that say what the step does that its rule doesn't allow.
@@ -195,16 +304,16 @@ fn push_act<A: Allocator, D: Allocator>(
                     b" is no instruction of the declared machine",
                 )
             } else {
-                push_line(text, b"", cpu.pc, b" isn't in the running routine's body")
+                push_outside(text, declaration, calls, cpu.pc)
             }
         }
         Rule::WritesDeclared => push_write(text, declaration, cpu, word),
         Rule::CallsEntries => {
             let place = effective_address(&cpu.memory, word, cpu.pc);
-            push_line(text, b"it goes to ", place, b", which is no entry")
+            push_no_entry(text, place)
         }
         Rule::ReturnsToItsCall => push_return(text, declaration, calls, cpu, word),
-        Rule::HaltsDeclared => push_line(text, b"", cpu.pc, b" is no declared halt"),
+        Rule::HaltsDeclared => push_no_halt(text, cpu.pc),
         Rule::KeepsCode => push_line(text, b"the word at ", cpu.pc, b" isn't the tape's"),
         Rule::ReadsListed => push_read(text, declaration, calls, cpu, word),
     }
@@ -222,13 +331,31 @@ fn push_running<A: Allocator>(text: &mut Vec<u8, A>, calls: &[Call]) -> Result<(
     }
 }
 
+/// Adds the instruction before a step whose address is in the wrong body.
+fn push_before<A: Allocator>(
+    text: &mut Vec<u8, A>,
+    cpu: &Cpu,
+    rule: Rule,
+    before: Option<Word>,
+) -> Result<(), AllocError> {
+    let Some(at) = before else {
+        return Ok(());
+    };
+    if rule != Rule::StaysInBody {
+        return Ok(());
+    }
+    text.extend_from_slice(b"the instruction before it:\n")?;
+    push_dump_line(text, at, Some(cpu.memory.get(at)), cpu.profile)
+}
+
 /// What a step that breaks a rule is about to do: the instruction with its address, what the rule asks,
-/// what the step does in place of it, and the routine that runs.
+/// what the step does in place of it, where control came from, and the routine that runs.
 fn lines_of<A: Allocator, D: Allocator, C: Allocator>(
     alloc: A,
     declaration: &Declaration<D>,
     watcher: &Watcher<C>,
     rule: Rule,
+    before: Option<Word>,
 ) -> Result<Vec<u8, A>, AllocError> {
     let cpu = watcher.world().cpu();
     let calls = watcher.calls();
@@ -237,6 +364,7 @@ fn lines_of<A: Allocator, D: Allocator, C: Allocator>(
     push_dump_line(&mut text, cpu.pc, Some(word), declaration.profile())?;
     push_asked(&mut text, rule)?;
     push_act(&mut text, declaration, calls, cpu, rule)?;
+    push_before(&mut text, cpu, rule, before)?;
     push_running(&mut text, calls)?;
     Ok(text)
 }
@@ -260,10 +388,14 @@ pub fn breach_lines<A: Allocator + Copy, D: Allocator>(
         return Ok(Vec::new(alloc));
     }
     let mut watcher = Watcher::new(alloc, image, declaration, &Start::zero());
+    let mut before = None;
     for index in 0..event {
         if let Some(happened) = events.get(index) {
+            if *happened == Event::Step && watcher.world().halted_at().is_none() {
+                before = Some(watcher.world().cpu().pc);
+            }
             watcher.next(declaration, *happened)?;
         }
     }
-    Ok(lines_of(alloc, declaration, &watcher, rule)?)
+    Ok(lines_of(alloc, declaration, &watcher, rule, before)?)
 }

@@ -2,21 +2,7 @@
 //! order, is tested and not proved.
 #![tactic(auto)]
 
-mod drafted;
-mod faults;
-mod files;
-mod from_source;
-mod joined;
-mod numbering;
 mod program;
-mod programs;
-mod promises;
-mod saving;
-mod source_lines;
-mod sources;
-mod spots;
-mod tapes;
-mod telling;
 
 pub use commands::{
     assembling, checking, declaring, explaining, guessing, migrating, refuting, running, session,

@@ -2,19 +2,19 @@
 
 ghost use Rattle.std.specs.Prelude.{◌≤◌};
 
-use crate::faults::fault_lines;
-use crate::from_source::answer_sourced;
-use crate::joined::{hold_session, sit_down, watch_joined};
-use crate::promises::{
-    check_from, guess_from, migrate_from, refute_from, report_from, verify_from, watch_from,
-};
-use crate::sources::{assemble_to, list_from};
-use crate::tapes::{declare_from, dump_from, run_from, source_from};
-use crate::telling::{tell, tell_misuse, tell_with};
 use clap::Error;
 use command_line::{CommandLine, Misuse, Refused, Request, parse_arguments};
 use commands::status::{DeviceFault, Fault, Status};
 use explanations::{push_codes, push_explanations};
+use file_requests::joined::{hold_session, sit_down, watch_joined};
+use file_requests::promises::{
+    check_from, guess_from, migrate_from, refute_from, report_from, verify_from, watch_from,
+};
+use file_requests::sources::{assemble_to, list_from};
+use file_requests::tapes::{declare_from, dump_from, run_from, source_from};
+use program_files::faults::fault_lines;
+use program_files::telling::{tell, tell_misuse, tell_with};
+use source_requests::answer_sourced;
 use std::alloc::Global;
 use std::io::ErrorKind;
 use std::rt::{Env, Files};

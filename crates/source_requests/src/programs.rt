@@ -3,12 +3,7 @@
 
 ghost use Rattle.std.specs.Prelude.{◌≡◌, false};
 
-use crate::drafted::report_stuck;
-use crate::faults::{bound_text, stuck_address, with_omissions};
-use crate::files::{open_input, open_output};
-use crate::joined::{open_input_if, report_to, tell_to};
 use crate::numbering::Promise;
-use crate::saving::{save_answer, save_proposed};
 use crate::source_lines::{source_notes, with_source_lines};
 use command_line::{Destination, WatchedSession};
 use command_parts::inputs::{declaration_from, tape_from};
@@ -22,6 +17,11 @@ use commands::verifying::{Answer, Lack, VerifyOptions, answer_status, verify_pro
 use commands::watched_session::watch_session;
 use fault_texts::push_omissions;
 use labels::{Numbered, name_declaration};
+use program_files::drafted::report_stuck;
+use program_files::faults::{bound_text, stuck_address, with_omissions};
+use program_files::files::{open_input, open_output};
+use program_files::saving::{save_answer, save_proposed};
+use program_files::tellers::{open_input_if, report_to, tell_to};
 use source_verdicts::SourcedFault;
 use source_verdicts::checking::check_source;
 use source_verdicts::guessing::{explain_source, guess_source};

@@ -7,12 +7,12 @@ use crate::programs::{
     write_numbered,
 };
 use crate::spots::{Spot, behind_lines, line_counts, line_of, on_line, spot_of};
-use crate::telling::tell_with;
 use command_line::{Sourced, Task};
 use commands::status::{Fault, Status};
 use declaration::DeclarationFault;
 use fault_texts::{FaultyFile, push_fault};
 use labels::{Numbered, number};
+use program_files::telling::tell_with;
 use source_verdicts::SourcedFault;
 use std::alloc::Global;
 use std::rt::Files;

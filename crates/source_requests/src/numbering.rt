@@ -1,13 +1,13 @@
 //! Sources and their declarations, read and written in numbers, and what is told of their faults.
 
-use crate::files::open_input;
-use crate::sources::{tell_of, tell_source, unopened};
 use crate::spots::{Spot, line_counts, spot_of};
-use crate::telling::{tell, tell_misuse};
 use command_line::{Misuse, Sourced, Task};
 use commands::status::{Fault, Status};
 use instruct::Profile;
 use labels::{NumberingFault, PlaceFault, declared_lines};
+use program_files::files::open_input;
+use program_files::source_faults::{tell_of, tell_source, unopened};
+use program_files::telling::{tell, tell_misuse};
 use std::alloc::{AllocError, Global};
 use std::rt::Files;
 use streams::read_at_most;

@@ -2,11 +2,6 @@
 
 ghost use Rattle.std.specs.Prelude.{◌≡◌, false};
 
-use crate::drafted::{is_stuck, report_stuck_files};
-use crate::faults::{bound_lines, omissions, stuck_address, with_omissions};
-use crate::files::{open_input, open_output};
-use crate::joined::{report_to, tell_to};
-use crate::saving::{save_answer, save_proposed};
 use command_line::{
     CheckRequest, GuessRequest, MigrateRequest, RefuteRequest, ReportRequest, VerifyRequest,
     WatchRequest,
@@ -21,6 +16,11 @@ use commands::status::{Fault, Status};
 use commands::stuck::guess_or_explain;
 use commands::verifying::{Answer, Lack, answer_status, verify, verify_proposed};
 use commands::watching::watch;
+use program_files::drafted::{is_stuck, report_stuck_files};
+use program_files::faults::{bound_lines, omissions, stuck_address, with_omissions};
+use program_files::files::{open_input, open_output};
+use program_files::saving::{save_answer, save_proposed};
+use program_files::tellers::{report_to, tell_to};
 use std::alloc::Global;
 use std::io;
 use std::rt::Files;
@@ -165,7 +165,7 @@ fn guess_with_reasons<R: Files + Input + Print + Eprint>(
 
 /// Says whether the program of a file's tape keeps its declaration, or the one that is proposed for it.
 #[inline(never)]
-pub fn verify_from<R: Files + Input + Print>(
+pub fn verify_from<R: Files + Input + Print + Eprint>(
     rt: &R,
     alloc: Global,
     asked: &VerifyRequest<'_>,
@@ -178,7 +178,7 @@ pub fn verify_from<R: Files + Input + Print>(
 
 /// Says whether the program of a file's tape keeps the declaration that is proposed for it.
 #[inline(never)]
-fn verify_alone<R: Files + Input + Print>(
+fn verify_alone<R: Files + Input + Print + Eprint>(
     rt: &R,
     alloc: Global,
     asked: &VerifyRequest<'_>,
@@ -187,6 +187,11 @@ fn verify_alone<R: Files + Input + Print>(
     let mut out = Writes::new(io::writer(rt));
     let proposed = verify_proposed(alloc, &mut frames, asked.options, &mut out)?;
     save_proposed(rt, alloc, asked.save, &proposed)?;
+    if asked.save.is_none() {
+        let _ = eprintln!(rt;
+            "the answer is on a declaration that is proposed: --save NAME writes it"
+        );
+    }
     Ok(answer_status(&proposed.answer))
 }
 

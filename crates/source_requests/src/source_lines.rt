@@ -16,6 +16,20 @@ const BEFORE_ADDRESSES: [&[u8]; 10] = [
     b"into", b"write", b"read", b"reads", b"pointer", b"calls", b"through", b"at", b"to", b"of",
 ];
 
+/// Each of these words begins a line of a declaration that is advised: four digits behind it are an address.
+const ADVISED: [&[u8]; 6] = [b"`main", b"`sub", b"`var", b"`stop", b"`pause", b"`read"];
+
+/// What a word of a line may be, by the word before it.
+#[derive(Clone, Copy)]
+enum Role {
+    /// No address.
+    Text,
+    /// An address, if it is four digits.
+    Address,
+    /// An address of a line of a declaration, if it is four digits.
+    Advice,
+}
+
 /// The listing of a source.
 fn listing_of(alloc: Global, parts: &[&[u8]], declaration: &[u8]) -> Result<Vec<u8>, Fault> {
     let mut listing = Vec::new(alloc);
@@ -54,25 +68,53 @@ fn instruction_address(line: &[u8]) -> Option<Word> {
     }
 }
 
-/// Whether four digits behind this word are an address.
-fn is_before_address(word: &[u8], words: &[&[u8]]) -> bool {
+/// Whether a word is one of these.
+fn is_one_of(word: &[u8], words: &[&[u8]]) -> bool {
     words.iter().any(|before| *before == word)
 }
 
-/// Adds a word of a line, and in brackets behind an address what the source calls it.
+/// What a word may be behind this one.
+fn role_behind(word: &[u8]) -> Role {
+    if is_one_of(word, &ADVISED) {
+        Role::Advice
+    } else if is_one_of(word, &BEFORE_ADDRESSES) {
+        Role::Address
+    } else {
+        Role::Text
+    }
+}
+
+/// Adds a word of a line; behind an address in brackets what the source calls it, and in advice this in place of
+/// the address.
 fn push_word(
     text: &mut Vec<u8>,
     word: &[u8],
-    is_address: bool,
+    role: Role,
     notes: &SourceNotes<Global>,
 ) -> Result<(), AllocError> {
-    let found = if is_address { address_of(word) } else { None };
+    let found = match role {
+        Role::Text => None,
+        Role::Address | Role::Advice => address_of(word),
+    };
     let Some(at) = found else {
         return text.extend_from_slice(word);
     };
-    text.extend_from_slice(&at.to_octal())?;
-    push_place(text, notes.at(at))?;
+    match role {
+        Role::Advice => push_name(text, at, notes.at(at))?,
+        Role::Text | Role::Address => {
+            text.extend_from_slice(&at.to_octal())?;
+            push_place(text, notes.at(at))?;
+        }
+    }
     text.extend_from_slice(word.get(4..).unwrap_or(b""))
+}
+
+/// Adds what the source calls an address, or its digits where the source has no name for it.
+fn push_name(text: &mut Vec<u8>, at: Word, note: Option<SourceNote<'_>>) -> Result<(), AllocError> {
+    match note {
+        Some(note) if !note.place.is_empty() => text.extend_from_slice(note.place),
+        _ => text.extend_from_slice(&at.to_octal()),
+    }
 }
 
 /// Adds in brackets what the source calls an address, if it does.
@@ -88,10 +130,17 @@ fn push_place(text: &mut Vec<u8>, note: Option<SourceNote<'_>>) -> Result<(), Al
     text.extend_from_slice(b")")
 }
 
-/// Whether a line tells what a cell holds: the cell's address stands in front.
-fn is_of_cell(line: &[u8]) -> bool {
+/// What a line tells of the address in its front, of which people want the name.
+const BEHIND_ADDRESSES: [&[u8]; 3] = [
+    b" holds ",
+    b" is no declared halt",
+    b" isn't in the running",
+];
+
+/// Whether a line tells something of an address that stands in front.
+fn is_of_address(line: &[u8]) -> bool {
     match line.get(4..) {
-        Some(rest) => rest.starts_with(b" holds "),
+        Some(rest) => BEHIND_ADDRESSES.iter().any(|told| rest.starts_with(told)),
         None => false,
     }
 }
@@ -102,18 +151,22 @@ fn push_named(
     line: &[u8],
     notes: &SourceNotes<Global>,
 ) -> Result<(), AllocError> {
-    let mut is_address = is_of_cell(line);
+    let mut role = if is_of_address(line) {
+        Role::Address
+    } else {
+        Role::Text
+    };
     let mut start = 0usize;
     for (end, byte) in line.iter().enumerate() {
         if *byte == b' ' {
             let word = line.get(start..end).unwrap_or(b"");
-            push_word(text, word, is_address, notes)?;
+            push_word(text, word, role, notes)?;
             text.push(b' ')?;
-            is_address = is_before_address(word, &BEFORE_ADDRESSES);
+            role = role_behind(word);
             start = end.saturating_add(1);
         }
     }
-    push_word(text, line.get(start..).unwrap_or(b""), is_address, notes)
+    push_word(text, line.get(start..).unwrap_or(b""), role, notes)
 }
 
 /// Adds the line of an instruction, and below it the source's line.
@@ -134,9 +187,19 @@ fn push_instruction(
     text.push(b':')?;
     text.extend_from_slice(Buffer::new().format(spot.line).as_bytes())?;
     text.extend_from_slice(b": ")?;
-    text.extend_from_slice(note.place)?;
-    text.extend_from_slice(b"  ")?;
+    if !begins_with_tag(note) {
+        text.extend_from_slice(note.place)?;
+        text.extend_from_slice(b"  ")?;
+    }
     text.extend_from_slice(note.text)
+}
+
+/// Whether a source's line begins with the tag that is the name of its address.
+fn begins_with_tag(note: SourceNote<'_>) -> bool {
+    match note.text.strip_prefix(note.place) {
+        Some(rest) => rest.starts_with(b","),
+        None => false,
+    }
 }
 
 /// Adds a line with what the source says of it.

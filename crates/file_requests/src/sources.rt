@@ -1,36 +1,17 @@
 //! Sources that are assembled or listed, and what is told of their faults.
 
-use crate::files::{open_inputs, open_output, open_parts};
-use crate::telling::{tell, tell_with};
 use command_line::{AssembleRequest, ListRequest};
 use commands::assembling::{assemble, list};
 use commands::status::{DeviceFault, Fault, Status};
 use instruct::Profile;
-use pal_asm::PalFault;
-use source_texts::push_faults;
+use program_files::files::{open_inputs, open_output, open_parts};
+use program_files::source_faults::{input_name, output_name, tell_of, tell_size, unopened};
+use program_files::telling::{tell, tell_with};
 use std::alloc::Global;
 use std::io;
 use std::rt::Files;
 use streams::ByteSource;
 use streams::standard::Writes;
-
-/// An input as it is named in a sentence.
-fn input_name<'n>(name: &'n str) -> &'n str {
-    if name == "-" { "standard input" } else { name }
-}
-
-/// An output as it is named in a sentence.
-fn output_name<'n>(name: &'n str) -> &'n str {
-    if name == "-" { "standard output" } else { name }
-}
-
-/// The name of the part that can't be opened, behind so many that are open.
-pub(crate) fn unopened<'n>(names: &'n [&'n str], opened: usize) -> &'n str {
-    match names.get(opened) {
-        Some(name) => input_name(name),
-        None => "a source",
-    }
-}
 
 /// The name of the first part of which a read failed.
 fn unread<'n, S: ByteSource>(names: &'n [&'n str], parts: &[S]) -> &'n str {
@@ -43,57 +24,6 @@ fn unread<'n, S: ByteSource>(names: &'n [&'n str], parts: &[S]) -> &'n str {
         }
     }
     "a source"
-}
-
-/// Writes the line of a fault to standard error, and below it, where a device failed, of which file.
-pub(crate) fn tell_of<R: Eprint>(rt: &R, fault: Fault, name: &str, happened: &str) -> Status {
-    let status = tell(rt, fault);
-    if status != Status::Device {
-        return status;
-    }
-    match eprintln!(rt; "{name} {happened}") {
-        Ok(()) | Err(_) => status,
-    }
-}
-
-/// Writes the line of the fault of a size to standard error, and below it what is too long or too many.
-fn tell_size<R: Eprint>(rt: &R, fault: PalFault, names: &[&str]) -> Status {
-    let status = tell(rt, Fault::Source(fault));
-    let count = names.len();
-    let told = match names.get(fault.part.wrapping_sub(1)) {
-        Some(name) => eprintln!(rt;
-            "{name}: TL: the part has more than 65536 bytes\ncut it into parts, in order, each but the last with PAUSE at its end"
-        ),
-        None => eprintln!(rt;
-            "TL: the source has {count} parts, and 16 are the most\njoin some of them, without the PAUSE between them"
-        ),
-    };
-    match told {
-        Ok(()) | Err(_) => status,
-    }
-}
-
-/// Writes the line of a source's fault to standard error, and below it what is wrong, if that is asked
-/// for.
-pub fn tell_source<R: Eprint>(
-    rt: &R,
-    alloc: Global,
-    fault: PalFault,
-    names: &[&str],
-    parts: &[&[u8]],
-    profile: Profile,
-    explained: bool,
-) -> Status {
-    if !explained {
-        return tell(rt, Fault::Source(fault));
-    }
-    if fault.line == 0 {
-        return tell_size(rt, fault, names);
-    }
-    let mut told = String::new(alloc);
-    match push_faults(alloc, &mut told, names, parts, profile) {
-        Ok(()) | Err(_) => tell_with(rt, Fault::Source(fault), &told),
-    }
 }
 
 /// Writes the line of a fault to standard error, and below it what is wrong: of a source these lines.

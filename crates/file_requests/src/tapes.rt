@@ -2,13 +2,13 @@
 
 ghost use Rattle.std.specs.Prelude.{◌≡◌, false};
 
-use crate::files::{open_input, open_output};
 use command_line::{DeclareRequest, DumpRequest, RunRequest, SourceRequest};
 use commands::completing::complete;
 use commands::declaring::declare;
 use commands::running::{dump, run, run_events};
 use commands::sourcing::{declared_source, source};
 use commands::status::{Fault, Status};
+use program_files::files::{open_input, open_output};
 use std::alloc::Global;
 use std::io;
 use std::rt::Files;

@@ -13,10 +13,7 @@ use std::rt::Files;
 use streams::standard::{Reads, Writes};
 
 /// What a name of the command line stands for: `-` for standard input, else a file.
-pub(crate) fn input_of<R: Files + Input>(
-    rt: &R,
-    name: &str,
-) -> Result<Either<R::Reader, R::File>, Fault> {
+pub fn input_of<R: Files + Input>(rt: &R, name: &str) -> Result<Either<R::Reader, R::File>, Fault> {
     if name == "-" {
         return Ok(Either::Left(rt.reader()));
     }

@@ -1,0 +1,11 @@
+//! The files and streams that the requests of a command line work on, what is told of faults, and where it
+//! goes that `verify` found. It is tested and not proved.
+#![tactic(auto)]
+
+pub mod drafted;
+pub mod faults;
+pub mod files;
+pub mod saving;
+pub mod source_faults;
+pub mod tellers;
+pub mod telling;

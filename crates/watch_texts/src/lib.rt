@@ -243,10 +243,12 @@ fn push_outside<A: Allocator, D: Allocator>(
     if declaration.is_entry(at) {
         return text.extend_from_slice(b": it is an entry, where a JMS leads\n");
     }
-    match declaration.owner_of(at) {
-        Some(Owner::Main) => text.extend_from_slice(b": it is in that of main\n"),
-        Some(Owner::Routine(entry)) => push_line(text, b": it is in that of `sub ", entry, b"`"),
-        None => push_body_advice(text, calls, at),
+    let Some(owner) = declaration.owner_of(at) else {
+        return push_body_advice(text, calls, at);
+    };
+    match owner {
+        Owner::Main => text.extend_from_slice(b": it is in that of main\n"),
+        Owner::Routine(entry) => push_line(text, b": it is in that of `sub ", entry, b"`"),
     }
 }
 

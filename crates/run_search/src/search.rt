@@ -700,6 +700,7 @@ impl<A: Allocator + Copy> RunSearch<A> {
     }
 
     /// Notes what is new after a step.
+    #[inline(always)]
     fn note(
         &mut self,
         watcher: &Watcher<A>,
@@ -741,6 +742,7 @@ impl<A: Allocator + Copy> RunSearch<A> {
     }
 
     /// Notes a test that failed.
+    #[inline(never)]
     fn note_miss(
         &mut self,
         run: &mut Run<A>,

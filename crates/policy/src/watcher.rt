@@ -18,7 +18,7 @@ ghost use Rattle.policy.specs.Decided.{is_call, followed, IsCall};
 ghost use Rattle.policy.specs.Watching.{IsClean, BreaksAt, Tells, begun};
 ghost use Rattle.policy.specs.WatchedSteps.{Watches, TakesMemory, GrowsAt, Grows, Passes, LegalStepTakesMemory};
 
-use crate::legality::{Call, broken_rule, is_return};
+use crate::legality::{Call, is_return, legal_instruction};
 use crate::rules::Rule;
 use crate::runs::waits;
 use bin_tape::Image;
@@ -180,18 +180,14 @@ impl<A: Allocator> Watcher<A> {
         }
     }
 
-    /// Tries the next instruction, which was fetched, of a machine that runs. It's carried out where it
-    /// breaks no rule.
+    /// Tries the next instruction of a machine that runs. It's carried out where it breaks no rule.
     #[inline(always)]
     fn try_instruction<D: Allocator>(
         &mut self,
         declaration: &Declaration<D>,
-        instruction: &DecodedInstruction,
     ) -> Result<Option<Rule>, NoMemory>
         requires runs { (machine_of self.old).halted_at ≡ None }
         requires profile { profile_of self.old.world ≡ (meaning declaration.now).profile }
-        requires fetched { instruction.now
-            ≡ fetched (meaning declaration.now).profile (machine_of self.old).state }
         ensures watches { IfOk result (Watches (meaning declaration.now)
             (machine_of self.old) (calls_of self.old) Event.Step
             (machine_of self.new) (calls_of self.new)) }
@@ -204,10 +200,10 @@ impl<A: Allocator> Watcher<A> {
         ensures only_growth { OnErr result
             (GrowsAt (meaning declaration.now) (machine_of self.old) (calls_of self.old)) }
     {
-        match broken_rule(declaration, self.world.cpu(), instruction, &self.calls) {
-            Some(rule) => Ok(Some(rule)),
-            None => {
-                match self.carry_out(declaration, instruction) {
+        match legal_instruction(declaration, self.world.cpu(), &self.calls) {
+            Err(rule) => Ok(Some(rule)),
+            Ok(instruction) => {
+                match self.carry_out(declaration, &instruction) {
                     Ok(()) => Ok(None),
                     Err(NoMemory) => Err(NoMemory),
                 }
@@ -240,10 +236,7 @@ impl<A: Allocator> Watcher<A> {
             (GrowsAt (meaning declaration.now) (machine_of self.old) (calls_of self.old)) }
     {
         match self.world.halted_at() {
-            None => {
-                let instruction = self.world.cpu().fetch();
-                self.try_instruction(declaration, &instruction)
-            }
+            None => self.try_instruction(declaration),
             Some(_) => Ok(None),
         }
     }

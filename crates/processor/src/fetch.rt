@@ -9,8 +9,8 @@ ghost use Rattle.processor.specs.Fetch.{decoded, fetched};
 ghost use Rattle.processor.specs.Machine.{steps_pointer};
 ghost use Rattle.processor.specs.Steps.{state_of};
 
-use crate::{Cpu, effective_address, is_auto_index};
 use crate::memory::Memory;
+use crate::{Cpu, effective_address, is_auto_index};
 use instruct::{Instruction, Operation, Profile, decode, refers_indirectly, target};
 use word12::Word;
 

@@ -70,7 +70,8 @@ fn writes<A: Allocator>(declaration: &Declaration<A>, reference: &Reference, cal
         ≡ writes (meaning declaration.now) reference.now (current (open_calls calls.now)) }
 {
     if reference.steps_pointer()
-        && !may_write(declaration, reference.operation, calls, reference.named) {
+        && !may_write(declaration, reference.operation, calls, reference.named)
+    {
         return false;
     }
     match reference.operation {

@@ -756,12 +756,7 @@ impl<A: Allocator + Copy> RunSearch<A> {
 
     /// Notes a test that failed.
     #[inline(never)]
-    fn note_miss(
-        &mut self,
-        run: &mut Run<A>,
-        plan: &Plan<A>,
-        miss: Miss,
-    ) -> Result<(), NoMemory> {
+    fn note_miss(&mut self, run: &mut Run<A>, plan: &Plan<A>, miss: Miss) -> Result<(), NoMemory> {
         if self.seen.sees_distance(miss.at, miss.distance()) {
             if !run.news.is_any {
                 run.news.place = miss.at;

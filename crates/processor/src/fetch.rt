@@ -14,12 +14,16 @@ use crate::{Cpu, effective_address, is_auto_index};
 use instruct::{Instruction, Operation, Profile, decode, refers_indirectly, target};
 use word12::Word;
 
-/// A memory reference: the cell that it names, and the effective address.
+/// A memory reference.
 #[derive(Clone, Copy, PartialEq, Eq, Debug)]
 pub struct Reference {
+    /// The cell that it names.
     pub named: Word,
+    /// The effective address. A pointer in an auto-index cell is counted up first.
     pub place: Word,
+    /// What is done there.
     pub operation: Operation,
+    /// Whether the named cell holds a pointer.
     pub indirect: bool,
 }
 

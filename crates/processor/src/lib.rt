@@ -218,7 +218,8 @@ impl Cpu {
         ensures profile { self.new.profile ≡ self.old.profile }
     {
         step_pointer(&mut self.memory, reference);
-        self.memory.set(reference.place, self.pc.increment());
+        let back = self.pc.increment();
+        self.memory.set(reference.place, back);
         self.pc = reference.place.increment();
     }
 

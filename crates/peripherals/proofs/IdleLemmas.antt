@@ -5,12 +5,10 @@ use Rattle.instruct.specs.declared.Profile.{Profile}
 use Rattle.instruct.specs.Instructions.{Meaning, And, Tad, Isz, Dca, Jms, Jmp, Group1, Group2, Group3, Device, Undefined}
 use Rattle.processor.specs.Machine.{instruction}
 use Rattle.processor.specs.Steps.{halts_after}
-use Rattle.peripherals.specs.declared.Event.{Event}
 use Rattle.peripherals.specs.declared.Event.TheVariants.{Step as Instruct, Key, PrinterDone, ReaderDone, PunchDone, Switches, Continue}
-use Rattle.peripherals.specs.declared.Seen.{Seen}
 use Rattle.peripherals.specs.declared.Seen.TheVariants.{NotEnabled, Ran, Halted, Unsupported}
 use Rattle.peripherals.specs.Devices.{Reader, Writer, WorldState, Instructs, answer_of, word_at_pc}
-use Rattle.peripherals.specs.Events.{Happens, Steps, done, read, with_devices}
+use Rattle.peripherals.specs.Events.{Steps, done, read, with_devices}
 use Rattle.peripherals.specs.Laws.{IdleEventsChangeNothing, UnsupportedStepsChangeNothing}
 use Rattle.peripherals.specs.Seen.{seen_of_step}
 use Rattle.peripherals.proofs.OneLemmas.{not_carried}

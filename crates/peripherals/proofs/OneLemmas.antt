@@ -4,10 +4,9 @@ use Rattle.instruct.specs.declared.Profile.{Profile}
 use Rattle.instruct.specs.Instructions.{Meaning, Undefined}
 use Rattle.processor.specs.Machine.{State, Answer, Does, instruction}
 use Rattle.processor.proofs.OneLemmas.{does_one}
-use Rattle.peripherals.specs.declared.Event.{Event}
 use Rattle.peripherals.specs.declared.Event.TheVariants.{Step as Instruct, Key, PrinterDone, ReaderDone, PunchDone, Switches, Continue}
 use Rattle.peripherals.specs.Devices.{Devices, WorldState, answer_of, CarriesOut, Instructs}
-use Rattle.peripherals.specs.Events.{Happens, Steps}
+use Rattle.peripherals.specs.Events.{Steps}
 use Rattle.peripherals.specs.Laws.{EventsLeadToOneWorld}
 
 same_world : (x y : WorldState) → x.state ≡ y.state → x.devices ≡ y.devices → x.halted_at ≡ y.halted_at → x ≡ y

@@ -1,9 +1,11 @@
 -- What a world in code shows of the machine and its devices.
-use Rattle.std.specs.Prelude.{ℕ, ◌≡◌, ◌%◌, Bool, ◌||◌, ◌==◌, if◌then◌else◌, List, [], ◌∷◌, ◌++◌}
+use Rattle.std.specs.Prelude.{ℕ, ◌≡◌, ◌%◌, Bool, false, ◌||◌, ◌==◌, if◌then◌else◌, List, [], ◌∷◌, ◌++◌}
 use Rattle.instruct.specs.declared.Profile.{Profile}
 use Rattle.instruct.specs.declared.devices.DeviceOperation.TheVariants.{Punch, ClearPunchFlagAndPunch, Print, ClearPrinterFlagAndPrint}
 use Rattle.instruct.specs.Devices.{word_of}
 use Rattle.processor.specs.Machine.{Answer}
+use Rattle.processor.specs.declared.fetch.DecodedInstruction.{DecodedInstruction}
+use Rattle.processor.specs.declared.fetch.DecodedInstruction.TheVariants as fetch
 use Rattle.processor.specs.Steps.{state_of}
 use Rattle.peripherals.specs.Devices.{Writer, Devices, WorldState, answer_to, devices_after}
 use Rattle.peripherals.specs.declared.devices.Outlet.{Outlet}
@@ -31,6 +33,16 @@ prints word = word == word_of Print || word == word_of ClearPrinterFlagAndPrint
 -- PPC and PLS punch.
 abbrev pub punches : ℕ → Bool
 punches word = word == word_of Punch || word == word_of ClearPunchFlagAndPunch
+
+-- The instruction that was fetched is a device word that prints.
+abbrev pub does_print : DecodedInstruction → Bool
+does_print (fetch.Device word) = prints word
+does_print _ = false
+
+-- The instruction that was fetched is a device word that punches.
+abbrev pub does_punch : DecodedInstruction → Bool
+does_punch (fetch.Device word) = punches word
+does_punch _ = false
 
 -- The output of a device after a word that gives it the low eight bits of the accumulator, or doesn't.
 abbrev pub put_out : Bool → ℕ → List ℕ → List ℕ

@@ -2,18 +2,19 @@
 
 ghost use Rattle.std.specs.Prelude.{ℕ, ◌≡◌, ◌<◌, None, IsTrue, IfOk, OnOk, OnErr, ◌||◌, []};
 ghost use Rattle.processor.specs.Cells.{cell_of, AreWords};
+ghost use Rattle.processor.specs.Fetch.{fetched};
 ghost use Rattle.processor.specs.Steps.{state_of};
 ghost use Rattle.peripherals.specs.declared.Event.{Event};
 ghost use Rattle.peripherals.specs.Events.{Happens, IsLoaded, completed};
 ghost use Rattle.peripherals.specs.Loading.{image_of, laid, loaded};
 ghost use Rattle.peripherals.specs.Seen.{seen_of, puts_out};
-ghost use Rattle.peripherals.specs.World.{view, profile_of, devices_of, prints, punches, put_out};
+ghost use Rattle.peripherals.specs.World.{view, profile_of, devices_of, prints, punches, does_print, does_punch, put_out};
 
 use crate::devices::{Keyboard, Panel};
 use crate::{Event, NoMemory, Seen, Start};
 use bin_tape::Image;
 use instruct::{DeviceOperation, Profile};
-use processor::{Cpu, Memory, Outcome};
+use processor::{Cpu, DecodedInstruction, Memory, Outcome};
 use std::alloc::Allocator;
 use word12::{Link, Word};
 
@@ -53,8 +54,30 @@ fn are_registers(ac: Word, link: Link, mq: Word)
     ensures mq { mq < 4096 }
 {}
 
-/// Puts out what a word prints or punches.
+/// Puts out what an instruction prints or punches.
+#[inline(always)]
 fn put_out<A: Allocator>(
+    printed: &mut Vec<u8, A>,
+    punched: &mut Vec<u8, A>,
+    instruction: &DecodedInstruction,
+    ac: Word,
+) -> Result<(), NoMemory>
+    ensures printed { OnOk result
+        (printed.new.items ≡ put_out (does_print instruction.now) ac printed.old.items) }
+    ensures punched { OnOk result
+        (punched.new.items ≡ put_out (does_punch instruction.now) ac punched.old.items) }
+    ensures printed_kept { OnErr result (printed.new.items ≡ printed.old.items) }
+    ensures punched_kept { OnErr result (punched.new.items ≡ punched.old.items) }
+    ensures only { OnErr result (IsTrue (does_print instruction.now || does_punch instruction.now)) }
+{
+    match instruction {
+        DecodedInstruction::Device(word) => put_out_by(printed, punched, *word, ac),
+        _ => Ok(()),
+    }
+}
+
+/// Puts out what a device word prints or punches.
+fn put_out_by<A: Allocator>(
     printed: &mut Vec<u8, A>,
     punched: &mut Vec<u8, A>,
     word: Word,
@@ -189,9 +212,16 @@ impl<A: Allocator> World<A> {
         let _punched = self.panel.punch.finish();
     }
 
-    /// Tries one instruction of a machine that runs.
-    fn step(&mut self) -> Result<Seen, NoMemory>
-        requires { (view self.old).halted_at ≡ None }
+    /// Tries the instruction at the program counter of a machine that runs, as the processor fetches it.
+    /// It does what `apply` does at a step.
+    ///
+    /// # Errors
+    ///
+    /// `NoMemory` as `apply`.
+    #[inline(always)]
+    pub fn step(&mut self, instruction: &DecodedInstruction) -> Result<Seen, NoMemory>
+        requires runs { (view self.old).halted_at ≡ None }
+        requires fetched { instruction.now ≡ fetched (profile_of self.old) (view self.old).state }
         ensures happens { OnOk result
             (Happens (profile_of self.old) (view self.old) Event.Step (view self.new)) }
         ensures seen { IfOk result (λ seen.
@@ -201,9 +231,13 @@ impl<A: Allocator> World<A> {
         ensures only_output { OnErr result (IsTrue (puts_out (view self.old) Event.Step)) }
     {
         let at = self.cpu.pc;
-        let word = self.cpu.memory.get(at);
-        put_out(&mut self.printed, &mut self.punched, word, self.cpu.ac)?;
-        match self.cpu.step(&mut self.panel) {
+        put_out(
+            &mut self.printed,
+            &mut self.punched,
+            instruction,
+            self.cpu.ac,
+        )?;
+        match self.cpu.execute(instruction, &mut self.panel) {
             Outcome::Ran => Ok(Seen::Ran),
             Outcome::Halted => {
                 self.halted_at = Some(at);
@@ -233,7 +267,10 @@ impl<A: Allocator> World<A> {
         ensures only_output { OnErr result (IsTrue (puts_out (view self.old) event)) }
     {
         match event {
-            Event::Step if self.halted_at.is_none() => self.step(),
+            Event::Step if self.halted_at.is_none() => {
+                let instruction = self.cpu.fetch();
+                self.step(&instruction)
+            }
             Event::Step => Ok(Seen::NotEnabled),
             Event::Key(byte) => {
                 self.panel.keyboard = Keyboard {

@@ -1,7 +1,7 @@
 -- The events of a declared run are a declared run of the instruction table.
 use Rattle.std.proofs.Common.{ℕ, ◌≡◌, Bool, true, false, inl, inr, Option, Some, None, List, [], ◌∷◌, refl, sym, ap, ◌∙◌, subst}
 use Rattle.std.specs.Prelude.{if◌then◌else◌}
-use Rattle.instruct.specs.Instructions.{Meaning, Group2, Undefined}
+use Rattle.instruct.specs.Instructions.{Meaning, Group2}
 use Rattle.processor.specs.Machine.{State, Answer, instruction}
 use Rattle.processor.specs.Steps.{halts_after}
 use Rattle.peripherals.specs.declared.Event.{Event}

@@ -1,5 +1,5 @@
 -- Runs and what is told of them are one, and a loaded program's code stays until another rule is broken.
-use Rattle.std.proofs.Common.{ℕ, zero, suc, ◌≡◌, ◌<◌, ◌+◌, inl, inr, Option, Some, None, List, [], ◌∷◌, refl, sym, ap, ◌∙◌, subst, arith}
+use Rattle.std.proofs.Common.{ℕ, zero, suc, ◌≡◌, ◌<◌, inl, inr, Option, Some, None, List, [], ◌∷◌, refl, sym, ap, subst, arith}
 use Rattle.std.specs.Prelude.{take, slice_get}
 use Rattle.processor.specs.Machine.{State}
 use Rattle.processor.specs.Runs.{Image}
@@ -12,8 +12,6 @@ use Rattle.policy.specs.Calls.{Calls}
 use Rattle.policy.specs.Laws.{RunIsOne, VerdictIsOne, CodeIsKept, StepsKeepCode}
 use Rattle.policy.specs.Rules.{KeepsCode, IsLegal}
 use Rattle.policy.specs.Runs.{HappensDeclared, DeclaredEvents, calls_by}
-use Rattle.policy.specs.Watching.{Tells}
-use Rattle.policy.specs.declared.watcher.Watched.{Watched}
 use Rattle.policy.specs.declared.watcher.Watched.TheVariants.{Clean, Broken}
 use Rattle.policy.proofs.CodeLemmas.{declared_keeps, step_keeps}
 use Rattle.policy.proofs.TellLemmas.{clean_tells, broken_tells}

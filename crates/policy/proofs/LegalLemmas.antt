@@ -1,26 +1,29 @@
--- The tests on an action decide the rules on its instruction.
+-- The tests on a fetched instruction decide the rules on it.
 use Rattle.std.proofs.Common.{ℕ, ◌≡◌, ◌<◌, ◌≤◌, ◌+◌, ◌%◌, ◌==◌, Bool, true, false, ◌&&◌, ◌||◌, ◌⊎◌, inl, inr, Option, Some, None, [], ◌∷◌, refl, sym, ap, ◌∙◌, subst, arith}
 use Rattle.std.specs.Prelude.{if◌then◌else◌, not, nat_lt}
 use Rattle.std.proofs.lemmas.Bool.{and_parts, true≢false, false≢true, ltb-true, lt-ltb}
 use Rattle.std.proofs.lemmas.Bool.Decides.{eqb_tells}
 use Rattle.instruct.specs.Operates.{is_halt}
-use Rattle.instruct.specs.Instructions.{Meaning, And, Tad, Isz, Dca, Jms, Jmp, Group1, Group2, Group3, Device, Undefined}
+use Rattle.instruct.specs.Instructions.{Meaning, And, Tad, Isz, Dca, Jms, Jmp, Group1, Group2, Group3, Device, Undefined, kind_of}
+use Rattle.instruct.specs.declared.Profile.{Profile}
+use Rattle.instruct.proofs.KindLemmas.{group2_meaning}
 use Rattle.wordset.specs.Words.{Words, minus}
 use Rattle.processor.specs.Cells.{Cells, AreWords}
+use Rattle.processor.specs.Fetch.{decoded, fetched}
 use Rattle.processor.specs.Machine.{State, place, steps_pointer, instruction}
 use Rattle.processor.specs.Runs.{Image}
 use Rattle.instruct.specs.declared.Operation.{Operation}
 use Rattle.instruct.specs.declared.Operation.TheVariants as operation
-use Rattle.policy.specs.declared.actions.Reference.{Reference}
-use Rattle.policy.specs.declared.actions.Action.TheVariants as action
+use Rattle.processor.specs.declared.fetch.Reference.{Reference}
+use Rattle.processor.specs.declared.fetch.DecodedInstruction.{DecodedInstruction}
+use Rattle.processor.specs.declared.fetch.DecodedInstruction.TheVariants as fetch
 use Rattle.policy.specs.declared.rules.Rule.{Rule}
 use Rattle.policy.specs.declared.rules.Rule.TheVariants as rule
 use Rattle.declaration.specs.Declaration.{Routine, Declaration}
 use Rattle.policy.specs.Calls.{Calls, current}
 use Rattle.declaration.specs.Declaration.{IsListed}
 use Rattle.policy.specs.Rules.{IsSupported, written_by, read_by, StaysInBody, WritesDeclared, CallsEntries, FindsItsCall, ReturnsToItsCall, HaltsDeclared, ReadsListed, KeepsCode, IsLegal}
-use Rattle.policy.specs.Actions.{action_of}
-use Rattle.policy.specs.Decided.{is_own, is_isz, is_jms, is_jmp, implies, may_write, writes, finds_call, returns, is_listed, may_load, reads, least_broken}
+use Rattle.policy.specs.Decided.{is_own, is_isz, is_jms, is_jmp, implies, may_write, writes, finds_call, returns, is_listed, may_load, reads, broken_by}
 use Rattle.policy.specs.Watching.{number_of, Keeps, IsLeastBroken}
 
 -- a test that is true exactly where a fact holds
@@ -154,6 +157,11 @@ chain b w c r h l =
     else (if not l then Some rule.ReadsListed
     else None)))))
 
+-- the least rule that the next step breaks, where fixed code is as it was
+abbrev pub least_broken : Declaration → DecodedInstruction → State → Calls → Option Rule
+least_broken d i s ks =
+    if d.body (current ks) s.pc then broken_by d i s.pc (current ks) s.memory ks else Some rule.StaysInBody
+
 -- the six tests of an instruction
 pub record Tests (d : Declaration) (m : Meaning) (s : State) (ks : Calls) : Type 0 where
   pub b : Bool
@@ -168,7 +176,7 @@ pub record Tests (d : Declaration) (m : Meaning) (s : State) (ks : Calls) : Type
   pub returns : Decides r (ReturnsToItsCall d m s ks)
   pub halts : Decides h (HaltsDeclared d m s.pc)
   pub reads : Decides l (ReadsListed d m s ks)
-  pub is : least_broken d (action_of m s.memory) s.pc (current ks) s.memory ks ≡ chain b w c r h l
+  pub is : least_broken d (decoded m (s.memory s.pc) s.memory) s ks ≡ chain b w c r h l
 
 -- the test of the body comes first
 in_body : (b : Bool) (x : Option Rule) → (if b then x else Some rule.StaysInBody) ≡ (if not b then Some rule.StaysInBody else x)
@@ -185,7 +193,7 @@ stays_decides : (d : Declaration) (m : Meaning) (s : State) (ks : Calls) → IsS
 stays_decides d m s ks supported = (λ h. (h, supported), λ p. p.0)
 
 -- a memory reference that isn't a JMS or a JMP I is asked only of what it writes and reads
-plain_tests : (d : Declaration) (m : Meaning) (s : State) (ks : Calls) (r : Reference) → action_of m s.memory ≡ action.Refers r →
+plain_tests : (d : Declaration) (m : Meaning) (s : State) (ks : Calls) (r : Reference) → decoded m (s.memory s.pc) s.memory ≡ fetch.Refers r →
     IsSupported m → is_jms r.operation ≡ false → is_jmp r.operation ≡ false →
     CallsEntries d m s → ReturnsToItsCall d m s ks → HaltsDeclared d m s.pc →
     Decides (writes d r (current ks)) (WritesDeclared d m s ks) → Decides (reads d r (current ks)) (ReadsListed d m s ks) → Tests d m s ks
@@ -206,7 +214,7 @@ plain_tests d m s ks r does supported not_jms not_jmp calls returns halts dw dr 
 }
 
 -- an instruction that doesn't refer to memory
-quiet_tests : (d : Declaration) (m : Meaning) (s : State) (ks : Calls) → action_of m s.memory ≡ action.GoesOn →
+quiet_tests : (d : Declaration) (m : Meaning) (s : State) (ks : Calls) → broken_by d (decoded m (s.memory s.pc) s.memory) s.pc (current ks) s.memory ks ≡ None →
     IsSupported m → WritesDeclared d m s ks → CallsEntries d m s → ReturnsToItsCall d m s ks → HaltsDeclared d m s.pc → ReadsListed d m s ks → Tests d m s ks
 quiet_tests d m s ks does supported writes calls returns halts reads = record {
   b = d.body (current ks) s.pc;
@@ -264,13 +272,13 @@ jmp_tests d i c s ks words = record {
   is = in_body (d.body (current ks) s.pc) _;
 }
 
-halt_is : (b h : Bool) → (if b then (if h then None else Some rule.HaltsDeclared) else Some rule.StaysInBody) ≡ chain b true true true h true
+halt_is : (b h : Bool) → (if b then (if not h then Some rule.HaltsDeclared else None) else Some rule.StaysInBody) ≡ chain b true true true h true
 halt_is true true = refl
 halt_is true false = refl
 halt_is false h = refl
 
-halt_tests : (d : Declaration) (word : ℕ) (s : State) (ks : Calls) → is_halt word ≡ true → Tests d (Group2 word) s ks
-halt_tests d word s ks halt = record {
+halt_tests : (d : Declaration) (word : ℕ) (s : State) (ks : Calls) → word ≡ s.memory s.pc → is_halt word ≡ true → Tests d (Group2 word) s ks
+halt_tests d word s ks here halt = record {
   b = d.body (current ks) s.pc;
   w = true;
   c = true;
@@ -283,16 +291,16 @@ halt_tests d word s ks halt = record {
   returns = nothing_decides (Unit {0}) tt;
   halts = (λ h on. h, λ f. f halt);
   reads = nothing_decides (ReadsListed d (Group2 word) s ks) (no_read d (Group2 word) s ks (λ a. refl));
-  is = rw halt (halt_is (d.body (current ks) s.pc) (d.stop s.pc || d.pause s.pc));
+  is = rw (← here, halt) (halt_is (d.body (current ks) s.pc) (d.stop s.pc || d.pause s.pc));
 }
 
-go_tests : (d : Declaration) (word : ℕ) (s : State) (ks : Calls) → is_halt word ≡ false → Tests d (Group2 word) s ks
-go_tests d word s ks none =
-    quiet_tests d (Group2 word) s ks (rw none refl) tt (no_write d (Group2 word) s ks (λ a. refl)) tt tt (λ on. absurd (false≢true (sym none ∙ on))) (no_read d (Group2 word) s ks (λ a. refl))
+go_tests : (d : Declaration) (word : ℕ) (s : State) (ks : Calls) → word ≡ s.memory s.pc → is_halt word ≡ false → Tests d (Group2 word) s ks
+go_tests d word s ks here none =
+    quiet_tests d (Group2 word) s ks (rw (← here, none) refl) tt (no_write d (Group2 word) s ks (λ a. refl)) tt tt (λ on. absurd (false≢true (sym none ∙ on))) (no_read d (Group2 word) s ks (λ a. refl))
 
-group2_tests : (d : Declaration) (word : ℕ) (s : State) (ks : Calls) (halt : Bool) → is_halt word ≡ halt → Tests d (Group2 word) s ks
-group2_tests d word s ks true is = halt_tests d word s ks is
-group2_tests d word s ks false is = go_tests d word s ks is
+group2_tests : (d : Declaration) (word : ℕ) (s : State) (ks : Calls) (halt : Bool) → word ≡ s.memory s.pc → is_halt word ≡ halt → Tests d (Group2 word) s ks
+group2_tests d word s ks true here is = halt_tests d word s ks here is
+group2_tests d word s ks false here is = go_tests d word s ks here is
 
 undefined_is : (b : Bool) → (if b then Some rule.StaysInBody else Some rule.StaysInBody) ≡ chain false true true true true true
 undefined_is true = refl
@@ -316,30 +324,30 @@ undefined_tests d s ks = record {
 }
 
 -- the tests of each instruction
-pub tests : (d : Declaration) (m : Meaning) (s : State) (ks : Calls) → AreWords s.memory → Tests d m s ks
-tests d (And i c) s ks words =
+pub tests : (d : Declaration) (m : Meaning) (s : State) (ks : Calls) → AreWords s.memory → ((w : ℕ) → m ≡ Group2 w → w ≡ s.memory s.pc) → Tests d m s ks
+tests d (And i c) s ks words same =
     plain_tests d (And i c) s ks (reference operation.And i c s.memory) refl tt refl refl tt tt tt
     (two_cells (may_write d operation.And (current ks)) (λ a. (d.variable a ≡ true) ⊎ ⊥) (plain_write d operation.And ks refl) (steps_pointer i c) c false 0)
     (two_cells (may_load d (current ks)) (λ a. IsListed d.reads a ⊎ (current ks ≡ Some a)) (load d ks) i c true (place i c s.memory))
-tests d (Tad i c) s ks words =
+tests d (Tad i c) s ks words same =
     plain_tests d (Tad i c) s ks (reference operation.Tad i c s.memory) refl tt refl refl tt tt tt
     (two_cells (may_write d operation.Tad (current ks)) (λ a. (d.variable a ≡ true) ⊎ ⊥) (plain_write d operation.Tad ks refl) (steps_pointer i c) c false 0)
     (two_cells (may_load d (current ks)) (λ a. IsListed d.reads a ⊎ (current ks ≡ Some a)) (load d ks) i c true (place i c s.memory))
-tests d (Isz i c) s ks words =
+tests d (Isz i c) s ks words same =
     plain_tests d (Isz i c) s ks (reference operation.Isz i c s.memory) refl tt refl refl tt tt tt
     (two_cells (may_write d operation.Isz (current ks)) (λ a. (d.variable a ≡ true) ⊎ (current ks ≡ Some a)) (isz_write d ks) (steps_pointer i c) c true (place i c s.memory))
     (two_cells (may_load d (current ks)) (λ a. IsListed d.reads a ⊎ (current ks ≡ Some a)) (load d ks) i c true (place i c s.memory))
-tests d (Dca i c) s ks words =
+tests d (Dca i c) s ks words same =
     plain_tests d (Dca i c) s ks (reference operation.Dca i c s.memory) refl tt refl refl tt tt tt
     (two_cells (may_write d operation.Dca (current ks)) (λ a. (d.variable a ≡ true) ⊎ ⊥) (plain_write d operation.Dca ks refl) (steps_pointer i c) c true (place i c s.memory))
     (alone (may_load d (current ks)) (λ a. IsListed d.reads a ⊎ (current ks ≡ Some a)) (load d ks) i c)
-tests d (Jms i c) s ks words = jms_tests d i c s ks
-tests d (Jmp i c) s ks words = jmp_tests d i c s ks words
-tests d (Group1 w) s ks words = quiet_tests d (Group1 w) s ks refl tt (no_write d (Group1 w) s ks (λ a. refl)) tt tt tt (no_read d (Group1 w) s ks (λ a. refl))
-tests d (Group2 w) s ks words = group2_tests d w s ks (is_halt w) refl
-tests d (Group3 o) s ks words = quiet_tests d (Group3 o) s ks refl tt (no_write d (Group3 o) s ks (λ a. refl)) tt tt tt (no_read d (Group3 o) s ks (λ a. refl))
-tests d (Device x) s ks words = quiet_tests d (Device x) s ks refl tt (no_write d (Device x) s ks (λ a. refl)) tt tt tt (no_read d (Device x) s ks (λ a. refl))
-tests d Undefined s ks words = undefined_tests d s ks
+tests d (Jms i c) s ks words same = jms_tests d i c s ks
+tests d (Jmp i c) s ks words same = jmp_tests d i c s ks words
+tests d (Group1 w) s ks words same = quiet_tests d (Group1 w) s ks refl tt (no_write d (Group1 w) s ks (λ a. refl)) tt tt tt (no_read d (Group1 w) s ks (λ a. refl))
+tests d (Group2 w) s ks words same = group2_tests d w s ks (is_halt w) (same w refl) refl
+tests d (Group3 o) s ks words same = quiet_tests d (Group3 o) s ks refl tt (no_write d (Group3 o) s ks (λ a. refl)) tt tt tt (no_read d (Group3 o) s ks (λ a. refl))
+tests d (Device x) s ks words same = quiet_tests d (Device x) s ks refl tt (no_write d (Device x) s ks (λ a. refl)) tt tt tt (no_read d (Device x) s ks (λ a. refl))
+tests d Undefined s ks words same = undefined_tests d s ks
 
 -- where no test fails, all of them hold
 all_hold : (b w c r h l : Bool) → chain b w c r h l ≡ None → (b ≡ true) × (w ≡ true) × (c ≡ true) × (r ≡ true) × (h ≡ true) × (l ≡ true)
@@ -426,15 +434,29 @@ least_broken_by image d s ks code t failing is =
     let least : Least (λ r. Keeps r image d s ks) failing = least_by (λ r. Keeps r image d s ks) t.b t.w t.c t.r t.h t.l (body_decides t.b d s ks t.stays) t.writes t.calls t.returns t.halts code t.reads failing is in
     record { broken = least.broken; least = least.least }
 
+-- a word of group 2 is the one at the program counter
+own_word : (p : Profile) (s : State) (w : ℕ) → instruction p s ≡ Group2 w → w ≡ s.memory s.pc
+own_word p s w is =
+    let same : Group2 w ≡ Group2 (s.memory s.pc) = sym is ∙ group2_meaning p s.pc (s.memory s.pc) (ap kind_of is) in
+    cc
+
 -- what the tests of the next step say
 pub kept_legal : (image : Image) (d : Declaration) (s : State) (ks : Calls) → AreWords s.memory → KeepsCode image d s.memory →
-    least_broken d (action_of (instruction d.profile s) s.memory) s.pc (current ks) s.memory ks ≡ None → IsLegal image d s ks
+    least_broken d (fetched d.profile s) s ks ≡ None → IsLegal image d s ks
 kept_legal image d s ks words code is =
-    let t : Tests d (instruction d.profile s) s ks = tests d (instruction d.profile s) s ks words in
+    let t : Tests d (instruction d.profile s) s ks = tests d (instruction d.profile s) s ks words (own_word d.profile s) in
     legal_by image d s ks code t (sym t.is ∙ is)
 
 pub first_broken : (image : Image) (d : Declaration) (s : State) (ks : Calls) (failing : Rule) → AreWords s.memory → KeepsCode image d s.memory →
-    least_broken d (action_of (instruction d.profile s) s.memory) s.pc (current ks) s.memory ks ≡ Some failing → IsLeastBroken image d s ks failing
+    least_broken d (fetched d.profile s) s ks ≡ Some failing → IsLeastBroken image d s ks failing
 first_broken image d s ks failing words code is =
-    let t : Tests d (instruction d.profile s) s ks = tests d (instruction d.profile s) s ks words in
+    let t : Tests d (instruction d.profile s) s ks = tests d (instruction d.profile s) s ks words (own_word d.profile s) in
     least_broken_by image d s ks code t failing (sym t.is ∙ is)
+
+-- what is found of an instruction in the running routine's body
+pub found_in_body : (d : Declaration) (p : Profile) (s : State) (ks : Calls) (i : DecodedInstruction) (inside : Bool) (broken : Option Rule) → p ≡ d.profile → i ≡ fetched p s →
+    inside ≡ d.body (current ks) s.pc → inside ≡ true → broken ≡ broken_by d i s.pc (current ks) s.memory ks → least_broken d (fetched d.profile s) s ks ≡ broken
+found_in_body d p s ks i inside broken profile is there on says =
+    let in_it : d.body (current ks) s.pc ≡ true = sym there ∙ on in
+    let same : i ≡ fetched d.profile s = rw profile at is in
+    rw (in_it, ← same) (sym says)

@@ -1,4 +1,3 @@
-pub mod ActionLemmas
 pub mod CallLemmas
 pub mod LegalLemmas
 pub mod CodeLemmas

@@ -4,7 +4,6 @@ use Rattle.std.specs.Prelude.{if◌then◌else◌, not, IsTrue, take, length, sl
 use Rattle.std.proofs.lemmas.Option.{slice_get_within}
 use Rattle.std.proofs.lemmas.Bool.{cases_eq}
 use Rattle.instruct.specs.declared.Profile.{Profile}
-use Rattle.instruct.specs.Operates.{is_halt}
 use Rattle.instruct.specs.Instructions.{Meaning, And, Tad, Isz, Dca, Jms, Jmp, Group1, Group2, Group3, Device, Undefined}
 use Rattle.processor.specs.Machine.{State, instruction, after}
 use Rattle.processor.specs.Runs.{Image}
@@ -14,12 +13,12 @@ use Rattle.peripherals.specs.Devices.{WorldState, answer_of}
 use Rattle.peripherals.specs.Events.{Happens}
 use Rattle.peripherals.specs.Seen.{puts_out}
 use Rattle.peripherals.proofs.OneLemmas.{one_world}
-use Rattle.policy.specs.declared.actions.Action.{Action}
+use Rattle.processor.specs.declared.fetch.DecodedInstruction.{DecodedInstruction}
 use Rattle.declaration.specs.Declaration.{Declaration, IsDeclared}
 use Rattle.policy.specs.Calls.{Calls, calls_of, calls_after}
 use Rattle.policy.specs.Rules.{KeepsCode, IsLegal}
 use Rattle.policy.specs.Runs.{HappensDeclared, DeclaredEvents, calls_by, calls_running, resumed}
-use Rattle.policy.specs.Actions.{action_of}
+use Rattle.processor.specs.Fetch.{decoded, fetched}
 use Rattle.policy.specs.declared.legality.Call.{Call as KeptCall}
 use Rattle.policy.specs.OpenCalls.{open_calls}
 use Rattle.policy.specs.declared.rules.Rule.{Rule}
@@ -54,12 +53,8 @@ run_more d [] w ks m ls e x a happens =
     (x, first, (refl, ap (λ (v : WorldState). calls_by d v e ks) a.0 ∙ ap (λ (l : Calls). calls_by d m e l) a.1))
 run_more d (f ∷ es) w ks m ls e x a happens = (a.0, a.1, run_more d es a.0 (calls_by d w f ks) m ls e x a.2 happens)
 
--- the call list by what an instruction is about to do
-followed_halt : (d : Declaration) (word : ℕ) (s : State) (ks : Calls) (halt : Bool) → is_halt word ≡ halt → followed d (action_of (Group2 word) s.memory) (after s.pc 1) ks ≡ ks
-followed_halt d word s ks true is = rw is refl
-followed_halt d word s ks false is = rw is refl
-
-pub followed_calls : (d : Declaration) (m : Meaning) (s : State) (ks : Calls) → followed d (action_of m s.memory) (after s.pc 1) ks ≡ calls_of d m s ks
+-- the call list by a fetched instruction
+pub followed_calls : (d : Declaration) (m : Meaning) (s : State) (ks : Calls) → followed d (decoded m (s.memory s.pc) s.memory) (after s.pc 1) ks ≡ calls_of d m s ks
 followed_calls d (And i c) s ks = refl
 followed_calls d (Tad i c) s ks = refl
 followed_calls d (Isz i c) s ks = refl
@@ -67,23 +62,19 @@ followed_calls d (Dca i c) s ks = refl
 followed_calls d (Jms i c) s ks = refl
 followed_calls d (Jmp i c) s ks = refl
 followed_calls d (Group1 w) s ks = refl
-followed_calls d (Group2 w) s ks = followed_halt d w s ks (is_halt w) refl
+followed_calls d (Group2 w) s ks = refl
 followed_calls d (Group3 o) s ks = refl
 followed_calls d (Device x) s ks = refl
 followed_calls d Undefined s ks = refl
 
-pub calls_by_action : (d : Declaration) (p : Profile) (t s : State) (action : Action) (next : ℕ) (ks ls : Calls) → t ≡ s → p ≡ d.profile →
-    action ≡ action_of (instruction p t) t.memory → next ≡ after t.pc 1 → ls ≡ followed d action next ks → ls ≡ calls_after d s ks
-calls_by_action d p t s action next ks ls same profile does pc is =
+pub calls_by_instruction : (d : Declaration) (p : Profile) (t s : State) (i : DecodedInstruction) (next : ℕ) (ks ls : Calls) → t ≡ s → p ≡ d.profile →
+    i ≡ fetched p t → next ≡ after t.pc 1 → ls ≡ followed d i next ks → ls ≡ calls_after d s ks
+calls_by_instruction d p t s i next ks ls same profile does pc is =
     let here : ls ≡ calls_after d t ks = rw (does, pc, profile) at is ∙ followed_calls d (instruction d.profile t) t ks in
     subst (λ (x : State). ls ≡ calls_after d x ks) same here
 
--- a call, from what an instruction is about to do
-halt_calls : (d : Declaration) (word : ℕ) (s : State) (halt : Bool) → is_halt word ≡ halt → IsCall d (action_of (Group2 word) s.memory) → ⊥
-halt_calls d word s true is call = rw is at call
-halt_calls d word s false is call = rw is at call
-
-pub calls_routine : (d : Declaration) (m : Meaning) (s : State) → IsCall d (action_of m s.memory) → CallsRoutine d m s
+-- a call, from a fetched instruction
+pub calls_routine : (d : Declaration) (m : Meaning) (s : State) → IsCall d (decoded m (s.memory s.pc) s.memory) → CallsRoutine d m s
 calls_routine d (And i c) s call = cc
 calls_routine d (Tad i c) s call = cc
 calls_routine d (Isz i c) s call = cc
@@ -91,14 +82,14 @@ calls_routine d (Dca i c) s call = cc
 calls_routine d (Jms i c) s call = call
 calls_routine d (Jmp i c) s call = cc
 calls_routine d (Group1 w) s call = call
-calls_routine d (Group2 w) s call = halt_calls d w s (is_halt w) refl call
+calls_routine d (Group2 w) s call = call
 calls_routine d (Group3 o) s call = call
 calls_routine d (Device x) s call = call
 calls_routine d Undefined s call = call
 
-pub call_takes : (d : Declaration) (p : Profile) (t : State) (w : WorldState) (action : Action) → t ≡ w.state → p ≡ d.profile →
-    action ≡ action_of (instruction p t) t.memory → IsCall d action → TakesMemory d w
-call_takes d p t w action same profile does call =
+pub call_takes : (d : Declaration) (p : Profile) (t : State) (w : WorldState) (i : DecodedInstruction) → t ≡ w.state → p ≡ d.profile →
+    i ≡ fetched p t → IsCall d i → TakesMemory d w
+call_takes d p t w i same profile does call =
     let here : CallsRoutine d (instruction d.profile t) t = calls_routine d (instruction d.profile t) t (rw (does, profile) at call) in
     inr (subst (λ (x : State). CallsRoutine d (instruction d.profile x) x) same here)
 

@@ -1,14 +1,15 @@
--- Each rule as a test, on what the instruction is about to do, the running routine and the cells. Private contracts alone
+-- Each rule as a test, on the instruction that was fetched, the running routine and the cells. Private contracts alone
 -- cite this.
 use Rattle.std.specs.Prelude.{◌≡◌, ℕ, ◌==◌, Bool, true, false, not, ◌&&◌, ◌||◌, nat_lt, if◌then◌else◌, Option, Some, None, [], ◌∷◌}
 use Rattle.wordset.specs.Words.{Words, minus}
 use Rattle.processor.specs.Cells.{Cells}
 use Rattle.processor.specs.Machine.{steps_pointer}
+use Rattle.instruct.specs.Operates.{is_halt}
 use Rattle.instruct.specs.declared.Operation.{Operation}
 use Rattle.instruct.specs.declared.Operation.TheVariants.{And, Tad, Isz, Dca, Jms, Jmp}
-use Rattle.policy.specs.declared.actions.Reference.{Reference}
-use Rattle.policy.specs.declared.actions.Action.{Action}
-use Rattle.policy.specs.declared.actions.Action.TheVariants.{Refers, Halts, GoesOn, Unsupported}
+use Rattle.processor.specs.declared.fetch.Reference.{Reference}
+use Rattle.processor.specs.declared.fetch.DecodedInstruction.{DecodedInstruction}
+use Rattle.processor.specs.declared.fetch.DecodedInstruction.TheVariants.{Refers, Operate2, Unsupported}
 use Rattle.policy.specs.declared.rules.Rule.{Rule}
 use Rattle.policy.specs.declared.rules.Rule.TheVariants as rule
 use Rattle.declaration.specs.Declaration.{Routine, Declaration}
@@ -100,33 +101,25 @@ broken_by_reference d r running memory ks =
     else None)))
 
 -- The least rule that an instruction in the running routine's body breaks, where fixed code is as it was.
-abbrev pub broken_by : Declaration → Action → ℕ → Routine → Cells → Calls → Option Rule
+abbrev pub broken_by : Declaration → DecodedInstruction → ℕ → Routine → Cells → Calls → Option Rule
 broken_by d (Refers r) pc running memory ks = broken_by_reference d r running memory ks
-broken_by d Halts pc running memory ks = if d.stop pc || d.pause pc then None else Some rule.HaltsDeclared
-broken_by d GoesOn pc running memory ks = None
-broken_by d Unsupported pc running memory ks = Some rule.StaysInBody
-
--- The least rule that the next step breaks, where fixed code is as it was.
-abbrev pub least_broken : Declaration → Action → ℕ → Routine → Cells → Calls → Option Rule
-least_broken d action pc running memory ks =
-    if d.body running pc then broken_by d action pc running memory ks else Some rule.StaysInBody
+broken_by d (Operate2 w) pc running memory ks =
+    if is_halt w && not (d.stop pc || d.pause pc) then Some rule.HaltsDeclared else None
+broken_by d (Unsupported w) pc running memory ks = Some rule.StaysInBody
+broken_by d _ pc running memory ks = None
 
 -- A JMS into an entry.
 abbrev pub is_call : Declaration → Reference → Bool
 is_call d r = is_jms r.operation && d.entry r.place
 
--- The call list after an action, where the address after it is this one.
-abbrev pub followed : Declaration → Action → ℕ → Calls → Calls
+-- The call list after an instruction, where the address after it is this one.
+abbrev pub followed : Declaration → DecodedInstruction → ℕ → Calls → Calls
 followed d (Refers r) after ks =
     if is_call d r then record { entry = r.place; after = after } ∷ ks
     else (if is_return d r then returned ks else ks)
-followed d Halts after ks = ks
-followed d GoesOn after ks = ks
-followed d Unsupported after ks = ks
+followed d _ after ks = ks
 
--- The action is a JMS into an entry.
-abbrev pub IsCall : Declaration → Action → Type 0
+-- The instruction is a JMS into an entry.
+abbrev pub IsCall : Declaration → DecodedInstruction → Type 0
 IsCall d (Refers r) = is_call d r ≡ true
-IsCall d Halts = ⊥
-IsCall d GoesOn = ⊥
-IsCall d Unsupported = ⊥
+IsCall d _ = ⊥

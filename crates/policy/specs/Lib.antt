@@ -1,7 +1,6 @@
 pub mod Calls
 pub mod Rules
 pub mod Runs
-pub mod Actions
 pub mod Watching
 pub mod Decided
 pub mod OpenCalls

@@ -1,25 +1,22 @@
 //! Whether the next step keeps the rules.
 
-ghost use Rattle.std.specs.Prelude.{◌≡◌, ◌||◌, None, Some};
+ghost use Rattle.std.specs.Prelude.{◌≡◌, ◌||◌, IfOk, OnOk, IfErr};
 ghost use Rattle.wordset.specs.Words.{minus};
 ghost use Rattle.processor.specs.Cells.{cell_of};
-ghost use Rattle.processor.specs.Machine.{instruction};
+ghost use Rattle.processor.specs.Fetch.{fetched};
 ghost use Rattle.processor.specs.Runs.{Image};
 ghost use Rattle.processor.specs.Steps.{state_of};
-ghost use Rattle.policy.specs.Actions.{action_of};
 ghost use Rattle.policy.specs.Calls.{current};
 ghost use Rattle.policy.specs.Rules.{KeepsCode, IsLegal};
 ghost use Rattle.declaration.specs.Kept.{meaning};
-ghost use Rattle.policy.specs.declared.rules.Rule.{Rule};
 ghost use Rattle.policy.specs.Watching.{IsLeastBroken};
 ghost use Rattle.policy.specs.OpenCalls.{open_calls};
-ghost use Rattle.policy.specs.Decided.{is_own, may_write, writes, calls_entry, finds_call, is_return, returns, may_load, reads, broken_by_reference, least_broken};
+ghost use Rattle.policy.specs.Decided.{is_own, may_write, writes, calls_entry, finds_call, is_return, returns, may_load, reads, broken_by_reference, broken_by};
 
-use crate::actions::{Action, Reference};
 use crate::rules::Rule;
 use declaration::Declaration;
-use instruct::Operation;
-use processor::{Cpu, Memory, is_auto_index};
+use instruct::{Operation, halts};
+use processor::{Cpu, DecodedInstruction, Memory, Reference};
 use std::alloc::Allocator;
 use word12::Word;
 
@@ -72,8 +69,9 @@ fn writes<A: Allocator>(declaration: &Declaration<A>, reference: &Reference, cal
     ensures { result
         ≡ writes (meaning declaration.now) reference.now (current (open_calls calls.now)) }
 {
-    let steps = reference.indirect && is_auto_index(reference.named);
-    if steps && !may_write(declaration, reference.operation, calls, reference.named) {
+    if reference.steps_pointer()
+        && !may_write(declaration, reference.operation, calls, reference.named)
+    {
         return false;
     }
     match reference.operation {
@@ -215,58 +213,65 @@ fn is_halt<A: Allocator>(declaration: &Declaration<A>, pc: Word) -> bool
     declaration.is_stop(pc) || declaration.is_pause(pc)
 }
 
-/// The least rule that an action breaks, where fixed code is as it was.
+/// The least rule that an instruction in the running routine's body breaks, where fixed code is as it
+/// was.
 #[inline(always)]
 fn broken_by<A: Allocator>(
     declaration: &Declaration<A>,
-    action: &Action,
+    instruction: &DecodedInstruction,
     cpu: &Cpu,
     calls: &[Call],
 ) -> Option<Rule>
     ensures { let listed = open_calls calls.now in
-        result ≡ least_broken (meaning declaration.now) action.now cpu.now.pc (current listed)
+        result ≡ broken_by (meaning declaration.now) instruction.now cpu.now.pc (current listed)
         (cell_of cpu.now.memory) listed }
 {
-    if !in_body(declaration, calls, cpu.pc) {
-        return Some(Rule::StaysInBody);
-    }
-    match action {
-        Action::Refers(reference) => {
+    match instruction {
+        DecodedInstruction::Refers(reference) => {
             broken_by_reference(declaration, reference, &cpu.memory, calls)
         }
-        Action::Halts => {
-            if is_halt(declaration, cpu.pc) {
-                None
-            } else {
+        DecodedInstruction::Operate2(word) => {
+            if halts(*word) && !is_halt(declaration, cpu.pc) {
                 Some(Rule::HaltsDeclared)
+            } else {
+                None
             }
         }
-        Action::GoesOn => None,
-        Action::Unsupported => Some(Rule::StaysInBody),
+        DecodedInstruction::Operate1(_)
+        | DecodedInstruction::Operate3(_)
+        | DecodedInstruction::Device(_) => None,
+        DecodedInstruction::Unsupported(_) => Some(Rule::StaysInBody),
     }
 }
 
-/// The least rule that the next step breaks, which is about to do this; none where it keeps all of
-/// them.
+/// The instruction at the program counter, where a step keeps all rules; else the least rule that it
+/// breaks.
 ///
 /// It doesn't look whether fixed code is as the tape had it: its caller knows that it is.
 #[inline(always)]
-pub fn broken_rule<A: Allocator>(
+pub fn legal_instruction<A: Allocator>(
     declaration: &Declaration<A>,
     cpu: &Cpu,
-    action: &Action,
     calls: &[Call],
-) -> Option<Rule>
-    requires { action.now ≡ action_of
-        (instruction (meaning declaration.now).profile (state_of cpu.now)) (cell_of cpu.now.memory) }
+) -> Result<DecodedInstruction, Rule>
+    requires { cpu.now.profile ≡ (meaning declaration.now).profile }
+    ensures fetched { IfOk result (λ instruction.
+        instruction ≡ fetched (meaning declaration.now).profile (state_of cpu.now)) }
     ensures legal { let d = meaning declaration.now in
-        (image : Image) → KeepsCode image d (cell_of cpu.now.memory) → result ≡ None
-        → IsLegal image d (state_of cpu.now) (open_calls calls.now) }
+        (image : Image) → KeepsCode image d (cell_of cpu.now.memory)
+        → OnOk result (IsLegal image d (state_of cpu.now) (open_calls calls.now)) }
     ensures broken { let d = meaning declaration.now in
-        (image : Image) (rule : Rule) → KeepsCode image d (cell_of cpu.now.memory)
-        → result ≡ Some rule
-        → IsLeastBroken image d (state_of cpu.now) (open_calls calls.now) rule }
+        (image : Image) → KeepsCode image d (cell_of cpu.now.memory)
+        → IfErr result (λ rule.
+        IsLeastBroken image d (state_of cpu.now) (open_calls calls.now) rule) }
 {
     cpu.memory.are_words();
-    broken_by(declaration, action, cpu, calls)
+    if !in_body(declaration, calls, cpu.pc) {
+        return Err(Rule::StaysInBody);
+    }
+    let instruction = cpu.fetch();
+    match broken_by(declaration, &instruction, cpu, calls) {
+        Some(rule) => Err(rule),
+        None => Ok(instruction),
+    }
 }

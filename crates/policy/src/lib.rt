@@ -1,7 +1,6 @@
 //! Declarations: what a program promises of its runs, the rules that follow, and the safe programs.
 #![tactic(auto)]
 
-mod actions;
 pub mod laws;
 mod legality;
 mod rules;

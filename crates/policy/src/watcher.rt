@@ -2,14 +2,13 @@
 
 ghost use Rattle.std.specs.Prelude.{◌≡◌, ℕ, ◌<◌, None, Some, [], IfOk, OnOk, OnErr};
 ghost use Rattle.processor.specs.Runs.{Image as Words};
-ghost use Rattle.processor.specs.Machine.{instruction};
+ghost use Rattle.processor.specs.Fetch.{fetched};
 ghost use Rattle.peripherals.specs.declared.Event.{Event};
 ghost use Rattle.peripherals.specs.Events.{Happens, IsLoaded};
 ghost use Rattle.peripherals.specs.Loading.{image_of};
 ghost use Rattle.peripherals.specs.World.{view, profile_of};
 ghost use Rattle.policy.specs.declared.rules.Rule.{Rule};
 ghost use Rattle.declaration.specs.Declaration.{IsDeclared};
-ghost use Rattle.policy.specs.Actions.{action_of};
 ghost use Rattle.policy.specs.Calls.{calls_after};
 ghost use Rattle.policy.specs.Rules.{KeepsCode};
 ghost use Rattle.policy.specs.Runs.{IsSafe};
@@ -19,14 +18,14 @@ ghost use Rattle.policy.specs.Decided.{is_call, followed, IsCall};
 ghost use Rattle.policy.specs.Watching.{IsClean, BreaksAt, Tells, begun};
 ghost use Rattle.policy.specs.WatchedSteps.{Watches, TakesMemory, GrowsAt, Grows, Passes, LegalStepTakesMemory};
 
-use crate::actions::{Action, Reference, next_action};
-use crate::legality::{Call, broken_rule, is_return};
+use crate::legality::{Call, is_return, legal_instruction};
 use crate::rules::Rule;
 use crate::runs::waits;
 use bin_tape::Image;
 use declaration::Declaration;
 use instruct::Operation;
 use peripherals::{Event, NoMemory, Start, World};
+use processor::{DecodedInstruction, Reference};
 use std::alloc::Allocator;
 use word12::Word;
 
@@ -56,25 +55,27 @@ pub struct Watcher<A: Allocator> {
 }
 
 /// Whether a memory reference is a JMS into an entry.
+#[inline(always)]
 fn is_call<D: Allocator>(declaration: &Declaration<D>, reference: &Reference) -> bool
     ensures { result ≡ is_call (meaning declaration.now) reference.now }
 {
     matches!(reference.operation, Operation::Jms) && declaration.is_entry(reference.place)
 }
 
-/// Puts a call on the call list, or takes the last one away, by what is about to be done.
+/// Puts a call on the call list, or takes the last one away, by what an instruction does.
+#[inline(always)]
 fn follow_calls<A: Allocator, D: Allocator>(
     calls: &mut Vec<Call, A>,
     declaration: &Declaration<D>,
-    action: &Action,
+    instruction: &DecodedInstruction,
     after: Word,
 ) -> Result<(), NoMemory>
     ensures calls { OnOk result (open_calls calls.new.items
-        ≡ followed (meaning declaration.now) action.now after (open_calls calls.old.items)) }
-    ensures only_calls { OnErr result (IsCall (meaning declaration.now) action.now) }
+        ≡ followed (meaning declaration.now) instruction.now after (open_calls calls.old.items)) }
+    ensures only_calls { OnErr result (IsCall (meaning declaration.now) instruction.now) }
 {
-    match action {
-        Action::Refers(reference) => {
+    match instruction {
+        DecodedInstruction::Refers(reference) => {
             if is_call(declaration, reference) {
                 let entry = reference.place;
                 return match calls.push(Call { entry, after }) {
@@ -87,7 +88,7 @@ fn follow_calls<A: Allocator, D: Allocator>(
             }
             Ok(())
         }
-        Action::Halts | Action::GoesOn | Action::Unsupported => Ok(()),
+        _ => Ok(()),
     }
 }
 
@@ -146,15 +147,17 @@ impl<A: Allocator> Watcher<A> {
         &self.calls
     }
 
-    /// Carries out the next instruction, which is about to do this, and follows it with the call list.
+    /// Carries out the next instruction, which was fetched, and follows it with the call list.
+    #[inline(always)]
     fn carry_out<D: Allocator>(
         &mut self,
         declaration: &Declaration<D>,
-        action: &Action,
+        instruction: &DecodedInstruction,
     ) -> Result<(), NoMemory>
+        requires runs { (machine_of self.old).halted_at ≡ None }
         requires profile { profile_of self.old.world ≡ (meaning declaration.now).profile }
-        requires action { let s = (machine_of self.old).state in
-            action.now ≡ action_of (instruction (meaning declaration.now).profile s) s.memory }
+        requires fetched { instruction.now
+            ≡ fetched (meaning declaration.now).profile (machine_of self.old).state }
         ensures happens { OnOk result (Happens (meaning declaration.now).profile
             (machine_of self.old) Event.Step (machine_of self.new)) }
         ensures calls { let machine = machine_of self.old in
@@ -166,10 +169,10 @@ impl<A: Allocator> Watcher<A> {
             (TakesMemory (meaning declaration.now) (machine_of self.old)) }
     {
         let after = self.world.cpu().pc.increment();
-        match follow_calls(&mut self.calls, declaration, action, after) {
+        match follow_calls(&mut self.calls, declaration, instruction, after) {
             Err(NoMemory) => Err(NoMemory),
             Ok(()) => {
-                match self.world.apply(Event::Step) {
+                match self.world.step(instruction) {
                     Ok(_) => Ok(()),
                     Err(NoMemory) => Err(NoMemory),
                 }
@@ -178,7 +181,11 @@ impl<A: Allocator> Watcher<A> {
     }
 
     /// Tries the next instruction of a machine that runs. It's carried out where it breaks no rule.
-    fn step<D: Allocator>(&mut self, declaration: &Declaration<D>) -> Result<Option<Rule>, NoMemory>
+    #[inline(always)]
+    fn try_instruction<D: Allocator>(
+        &mut self,
+        declaration: &Declaration<D>,
+    ) -> Result<Option<Rule>, NoMemory>
         requires runs { (machine_of self.old).halted_at ≡ None }
         requires profile { profile_of self.old.world ≡ (meaning declaration.now).profile }
         ensures watches { IfOk result (Watches (meaning declaration.now)
@@ -193,16 +200,44 @@ impl<A: Allocator> Watcher<A> {
         ensures only_growth { OnErr result
             (GrowsAt (meaning declaration.now) (machine_of self.old) (calls_of self.old)) }
     {
-        let cpu = self.world.cpu();
-        let action = next_action(cpu, declaration.profile());
-        match broken_rule(declaration, cpu, &action, &self.calls) {
-            Some(rule) => Ok(Some(rule)),
-            None => {
-                match self.carry_out(declaration, &action) {
+        match legal_instruction(declaration, self.world.cpu(), &self.calls) {
+            Err(rule) => Ok(Some(rule)),
+            Ok(instruction) => {
+                match self.carry_out(declaration, &instruction) {
                     Ok(()) => Ok(None),
                     Err(NoMemory) => Err(NoMemory),
                 }
             }
+        }
+    }
+
+    /// Tries the next instruction, as `next` does at a step: while the machine runs it's carried out where
+    /// it breaks no rule.
+    ///
+    /// # Errors
+    ///
+    /// `NoMemory` as `next`.
+    #[inline(always)]
+    pub fn step<D: Allocator>(
+        &mut self,
+        declaration: &Declaration<D>,
+    ) -> Result<Option<Rule>, NoMemory>
+        requires profile { profile_of self.old.world ≡ (meaning declaration.now).profile }
+        ensures watches { IfOk result (Watches (meaning declaration.now)
+            (machine_of self.old) (calls_of self.old) Event.Step
+            (machine_of self.new) (calls_of self.new)) }
+        ensures machine_kept { IfOk result (λ told. (rule : Rule) → told ≡ Some rule
+            → machine_of self.new ≡ machine_of self.old) }
+        ensures calls_kept { IfOk result (λ told. (rule : Rule) → told ≡ Some rule
+            → calls_of self.new ≡ calls_of self.old) }
+        ensures unchanged { OnErr result (machine_of self.new ≡ machine_of self.old) }
+        ensures profile { profile_of self.new.world ≡ (meaning declaration.now).profile }
+        ensures only_growth { OnErr result
+            (GrowsAt (meaning declaration.now) (machine_of self.old) (calls_of self.old)) }
+    {
+        match self.world.halted_at() {
+            None => self.try_instruction(declaration),
+            Some(_) => Ok(None),
         }
     }
 
@@ -256,12 +291,7 @@ impl<A: Allocator> Watcher<A> {
             (Grows (meaning declaration.now) (machine_of self.old) (calls_of self.old) event) }
     {
         match event {
-            Event::Step => {
-                match self.world.halted_at() {
-                    None => self.step(declaration),
-                    Some(_) => Ok(None),
-                }
-            }
+            Event::Step => self.step(declaration),
             Event::Continue => {
                 if waits(&self.world, declaration) {
                     Ok(None)

@@ -7,7 +7,7 @@ use Rattle.instruct.specs.Operates.{operate1_of, operate2_of, operate3_of, skips
 use Rattle.instruct.specs.Instructions.{meaning_of, kind_of, device_action, Group2}
 use Rattle.instruct.proofs.KindLemmas.{group1_meaning, group2_meaning, group3_meaning_of, device_meaning_of, action_of_8e}
 use Rattle.processor.specs.Cells.{Cells, updated}
-use Rattle.processor.specs.Machine.{State, Answer, Answers, Silent, Switches, Does, Step, instruction, after, next_pc, seen, place, is_auto_index}
+use Rattle.processor.specs.Machine.{State, Answer, Answers, Silent, Switches, Does, Step, instruction, after, next_pc, seen, place, is_auto_index, steps_pointer}
 use Rattle.processor.specs.Steps.{DeviceAnswers, answer_taken, halts_after}
 use Rattle.processor.proofs.CellLemmas.{updated_same}
 
@@ -58,3 +58,7 @@ stepped_place i c m indirect auto = rw (indirect, auto) (updated_same m c (after
 pub stepped_memory : (i : Bool) (c address : ℕ) (m next : Cells) → i ≡ true → is_auto_index c ≡ true → address ≡ place i c m → next ≡ updated m c address → next ≡ seen i c m
 stepped_memory i c address m next indirect auto is stored =
     stored ∙ ap (λ a. updated m c a) (is ∙ stepped_place i c m indirect auto) ∙ rw (indirect, auto) refl
+
+pub pointer_stepped : (i : Bool) (c address : ℕ) (m next : Cells) → steps_pointer i c ≡ true → address ≡ place i c m → next ≡ updated m c address → next ≡ seen i c m
+pointer_stepped true c address m next auto is stored = stepped_memory true c address m next refl auto is stored
+pointer_stepped false c address m next auto is stored = cc

@@ -4,22 +4,24 @@
 //! What the table leaves to the devices and the switches it asks of a `Bus`.
 #![tactic(auto)]
 
+mod fetch;
 pub mod laws;
 mod memory;
 
 ghost use Rattle.std.specs.Prelude.{ℕ, ◌≡◌, ◌+◌, ◌/◌, ◌%◌, IsSome, true};
-ghost use Rattle.instruct.specs.declared.Instruction.TheVariants.{Operate1, Operate2, Operate3, Memory as IsMemory};
+ghost use Rattle.instruct.specs.declared.Instruction.TheVariants.{Operate1, Operate2, Operate3};
 ghost use Rattle.instruct.specs.declared.Profile.TheVariants.{Pdp8E};
 ghost use Rattle.instruct.specs.Bits.{is_indirect, named_cell};
 ghost use Rattle.instruct.specs.declared.Operation.TheVariants as operation;
-ghost use Rattle.instruct.specs.Instructions.{kind_of, device_action, reference_at};
+ghost use Rattle.instruct.specs.Instructions.{kind_of, device_action};
 ghost use Rattle.processor.specs.Cells.{cell_of};
+ghost use Rattle.processor.specs.Fetch.{IsPlaced, fetched, refers_by};
 ghost use Rattle.processor.specs.Machine.{Answer, next_pc, seen, place, is_auto_index, Does};
 ghost use Rattle.processor.specs.Steps.{state_of, word_at_pc, instruction_at_pc, meaning_at_pc, LeadsTo, switches_told, answer_taken, Happened, BusAfter, DeviceAnswers};
 
+pub use fetch::{DecodedInstruction, Reference};
 use instruct::{
-    Instruction, Operation, Profile, decode, halts, operate1, operate2, operate3,
-    refers_indirectly, skips, target,
+    Operation, Profile, halts, operate1, operate2, operate3, refers_indirectly, skips, target,
 };
 pub use memory::Memory;
 use word12::{Link, Word};
@@ -110,18 +112,16 @@ pub fn effective_address(memory: &Memory, word: Word, at: Word) -> Word
     }
 }
 
-/// The effective address of a memory reference; a pointer in an auto-index cell is counted up.
-fn resolve(memory: &mut Memory, word: Word, at: Word) -> Word
-    ensures place { result ≡ place (is_indirect word) (named_cell word at) (cell_of memory.old) }
-    ensures seen { cell_of memory.new ≡
-        seen (is_indirect word) (named_cell word at) (cell_of memory.old) }
+/// Counts up the pointer of a memory reference through an auto-index cell.
+#[inline(always)]
+fn step_pointer(memory: &mut Memory, reference: &Reference)
+    requires { IsPlaced (cell_of memory.old) reference.now }
+    ensures { cell_of memory.new ≡
+        seen reference.now.indirect reference.now.named (cell_of memory.old) }
 {
-    let address = effective_address(memory, word, at);
-    let named = target(word, at);
-    if refers_indirectly(word) && is_auto_index(named) {
-        memory.set(named, address);
+    if reference.steps_pointer() {
+        memory.set(reference.named, reference.place);
     }
-    address
 }
 
 /// The link after a sum, whose carry complements it.
@@ -159,81 +159,95 @@ fn next_address(pc: Word, skip: bool) -> Word
 
 impl Cpu {
     /// AND: the bitwise and with the operand.
-    fn and(&mut self, word: Word)
-        ensures does { LeadsTo (reference_at operation.And word self.old.pc) self.old self.new }
+    #[inline(always)]
+    fn and(&mut self, reference: &Reference)
+        requires { IsPlaced (cell_of self.old.memory) reference.now }
+        ensures does { LeadsTo (refers_by operation.And reference.now) self.old self.new }
         ensures profile { self.new.profile ≡ self.old.profile }
     {
-        let address = resolve(&mut self.memory, word, self.pc);
-        self.ac = self.ac.and(self.memory.get(address));
+        step_pointer(&mut self.memory, reference);
+        self.ac = self.ac.and(self.memory.get(reference.place));
         self.pc = self.pc.increment();
     }
 
     /// TAD: the sum with the operand; a carry complements the link.
-    fn add(&mut self, word: Word)
-        ensures does { LeadsTo (reference_at operation.Tad word self.old.pc) self.old self.new }
+    #[inline(always)]
+    fn add(&mut self, reference: &Reference)
+        requires { IsPlaced (cell_of self.old.memory) reference.now }
+        ensures does { LeadsTo (refers_by operation.Tad reference.now) self.old self.new }
         ensures profile { self.new.profile ≡ self.old.profile }
     {
-        let address = resolve(&mut self.memory, word, self.pc);
-        let operand = self.memory.get(address);
+        step_pointer(&mut self.memory, reference);
+        let operand = self.memory.get(reference.place);
         self.link = carried(self.link, self.ac, operand);
         self.ac = self.ac.add(operand);
         self.pc = self.pc.increment();
     }
 
     /// ISZ: counts the operand up, and skips where it becomes 0000.
-    fn count(&mut self, word: Word)
-        ensures does { LeadsTo (reference_at operation.Isz word self.old.pc) self.old self.new }
+    #[inline(always)]
+    fn count(&mut self, reference: &Reference)
+        requires { IsPlaced (cell_of self.old.memory) reference.now }
+        ensures does { LeadsTo (refers_by operation.Isz reference.now) self.old self.new }
         ensures profile { self.new.profile ≡ self.old.profile }
     {
-        let address = resolve(&mut self.memory, word, self.pc);
-        let counted = self.memory.get(address).increment();
-        self.memory.set(address, counted);
+        step_pointer(&mut self.memory, reference);
+        let counted = self.memory.get(reference.place).increment();
+        self.memory.set(reference.place, counted);
         self.pc = next_address(self.pc, counted == Word::ZERO);
     }
 
     /// DCA: stores the accumulator and clears it.
-    fn deposit(&mut self, word: Word)
-        ensures does { LeadsTo (reference_at operation.Dca word self.old.pc) self.old self.new }
+    #[inline(always)]
+    fn deposit(&mut self, reference: &Reference)
+        requires { IsPlaced (cell_of self.old.memory) reference.now }
+        ensures does { LeadsTo (refers_by operation.Dca reference.now) self.old self.new }
         ensures profile { self.new.profile ≡ self.old.profile }
     {
-        let address = resolve(&mut self.memory, word, self.pc);
-        self.memory.set(address, self.ac);
+        step_pointer(&mut self.memory, reference);
+        self.memory.set(reference.place, self.ac);
         self.ac = Word::ZERO;
         self.pc = self.pc.increment();
     }
 
     /// JMS: stores the return address and goes on behind it.
-    fn call(&mut self, word: Word)
-        ensures does { LeadsTo (reference_at operation.Jms word self.old.pc) self.old self.new }
+    #[inline(always)]
+    fn call(&mut self, reference: &Reference)
+        requires { IsPlaced (cell_of self.old.memory) reference.now }
+        ensures does { LeadsTo (refers_by operation.Jms reference.now) self.old self.new }
         ensures profile { self.new.profile ≡ self.old.profile }
     {
-        let address = resolve(&mut self.memory, word, self.pc);
-        self.memory.set(address, self.pc.increment());
-        self.pc = address.increment();
+        step_pointer(&mut self.memory, reference);
+        let back = self.pc.increment();
+        self.memory.set(reference.place, back);
+        self.pc = reference.place.increment();
     }
 
     /// JMP: goes on at the effective address.
-    fn jump(&mut self, word: Word)
-        ensures does { LeadsTo (reference_at operation.Jmp word self.old.pc) self.old self.new }
+    #[inline(always)]
+    fn jump(&mut self, reference: &Reference)
+        requires { IsPlaced (cell_of self.old.memory) reference.now }
+        ensures does { LeadsTo (refers_by operation.Jmp reference.now) self.old self.new }
         ensures profile { self.new.profile ≡ self.old.profile }
     {
-        self.pc = resolve(&mut self.memory, word, self.pc);
+        step_pointer(&mut self.memory, reference);
+        self.pc = reference.place;
     }
 
     /// A memory reference.
     #[inline(always)]
-    fn refer(&mut self, word: Word)
-        requires { kind_of (meaning_at_pc self.old word) ≡ IsMemory }
-        ensures does { LeadsTo (meaning_at_pc self.old word) self.old self.new }
+    fn refer(&mut self, reference: &Reference)
+        requires { IsPlaced (cell_of self.old.memory) reference.now }
+        ensures does { LeadsTo (refers_by reference.now.operation reference.now) self.old self.new }
         ensures profile { self.new.profile ≡ self.old.profile }
     {
-        match Operation::of(word) {
-            Operation::And => self.and(word),
-            Operation::Tad => self.add(word),
-            Operation::Isz => self.count(word),
-            Operation::Dca => self.deposit(word),
-            Operation::Jms => self.call(word),
-            Operation::Jmp => self.jump(word),
+        match reference.operation {
+            Operation::And => self.and(reference),
+            Operation::Tad => self.add(reference),
+            Operation::Isz => self.count(reference),
+            Operation::Dca => self.deposit(reference),
+            Operation::Jms => self.call(reference),
+            Operation::Jmp => self.jump(reference),
         }
     }
 
@@ -305,34 +319,51 @@ impl Cpu {
             (B.goes_on bus.old (word_at_pc self.old) self.old.ac bus.new)
             (bus.new ≡ bus.old) }
     {
-        let word = self.memory.get(self.pc);
-        match decode(word, self.profile) {
-            Instruction::Memory => {
-                self.refer(word);
+        let instruction = self.fetch();
+        self.execute(&instruction, bus)
+    }
+
+    /// Carries out the instruction at the program counter, as `fetch` gives it. It does what `step`
+    /// does.
+    #[inline(always)]
+    pub fn execute<B: Bus>(&mut self, instruction: &DecodedInstruction, bus: &mut B) -> Outcome
+        requires { instruction.now ≡ fetched self.old.profile (state_of self.old) }
+        ensures happened { Happened result self.old.profile (state_of self.old)
+            (answer_taken (instruction_at_pc self.old)
+            (B.answer_to bus.old (word_at_pc self.old)) (B.switch_word bus.old))
+            (state_of self.new) }
+        ensures profile { self.new.profile ≡ self.old.profile }
+        ensures bus { BusAfter (instruction_at_pc self.old)
+            (B.goes_on bus.old (word_at_pc self.old) self.old.ac bus.new)
+            (bus.new ≡ bus.old) }
+    {
+        match instruction {
+            DecodedInstruction::Refers(reference) => {
+                self.refer(reference);
                 Outcome::Ran
             }
-            Instruction::Operate1 => {
-                self.operate_first(word);
+            DecodedInstruction::Operate1(word) => {
+                self.operate_first(*word);
                 Outcome::Ran
             }
-            Instruction::Operate2 => {
-                self.operate_second(word, bus.switches());
-                if halts(word) {
+            DecodedInstruction::Operate2(word) => {
+                self.operate_second(*word, bus.switches());
+                if halts(*word) {
                     Outcome::Halted
                 } else {
                     Outcome::Ran
                 }
             }
-            Instruction::Operate3 => {
-                self.operate_third(word);
+            DecodedInstruction::Operate3(word) => {
+                self.operate_third(*word);
                 Outcome::Ran
             }
-            Instruction::Iot => {
-                let answer = bus.iot(word, self.ac);
+            DecodedInstruction::Device(word) => {
+                let answer = bus.iot(*word, self.ac);
                 self.take(answer);
                 Outcome::Ran
             }
-            Instruction::Unsupported => Outcome::Unsupported(word),
+            DecodedInstruction::Unsupported(word) => Outcome::Unsupported(*word),
         }
     }
 }

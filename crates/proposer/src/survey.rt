@@ -233,7 +233,7 @@ impl<A: Allocator + Copy> Survey<A> {
             return Ok(false);
         }
         self.lessons = self.lessons.saturating_add(1);
-        let sight = Sight::of(watcher, self.map.profile);
+        let sight = Sight::of(watcher);
         self.collect(search.record())?;
         if self.lesson(image, search.record(), watcher, &sight) != Lesson::New {
             return Ok(false);

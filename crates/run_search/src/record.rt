@@ -1,10 +1,10 @@
 //! What steps were seen to do in all runs of a search.
 
 use declaration::Owner;
-use instruct::{Instruction, Operation, Profile, decode, refers_indirectly, target};
+use instruct::Operation;
 use peripherals::NoMemory;
 use policy::Watcher;
-use processor::{effective_address, is_auto_index};
+use processor::DecodedInstruction;
 use std::alloc::Allocator;
 use word12::Word;
 use wordset::WordSet;
@@ -48,7 +48,7 @@ fn distance(to: Word, from: Word) -> Word {
 
 impl Sight {
     /// What the next step of a machine that is watched is about to do.
-    pub fn of<A: Allocator>(watcher: &Watcher<A>, profile: Profile) -> Sight {
+    pub fn of<A: Allocator>(watcher: &Watcher<A>) -> Sight {
         let cpu = watcher.world().cpu();
         let mut sight = Sight {
             at: cpu.pc,
@@ -63,14 +63,12 @@ impl Sight {
             own = Some(call.entry);
             sight.offset = distance(cpu.memory.get(call.entry), call.after);
         }
-        let word = cpu.memory.get(cpu.pc);
-        if decode(word, profile) == Instruction::Memory {
-            let named = target(word, cpu.pc);
-            if refers_indirectly(word) && is_auto_index(named) {
-                sight.stepped = Some(named);
+        if let DecodedInstruction::Refers(reference) = cpu.fetch() {
+            if reference.steps_pointer() {
+                sight.stepped = Some(reference.named);
             }
-            let place = effective_address(&cpu.memory, word, cpu.pc);
-            match Operation::of(word) {
+            let place = reference.place;
+            match reference.operation {
                 Operation::Dca => sight.stored = Some(place),
                 Operation::Isz if own != Some(place) => sight.stored = Some(place),
                 _ => {}

@@ -218,6 +218,7 @@ impl<A: Allocator + Copy> Run<A> {
     }
 
     /// Makes a step, and presses CONTINUE behind one that halts at a pause.
+    #[inline(always)]
     pub(crate) fn step<D: Allocator>(
         &mut self,
         watcher: &mut Watcher<A>,

@@ -100,6 +100,25 @@ struct Glance {
     place: Word,
 }
 
+impl Glance {
+    /// What is to be seen before the next step of a machine that is watched, where that is worth a look.
+    fn at<A: Allocator>(watcher: &Watcher<A>, look: Look) -> Glance {
+        let cpu = watcher.world().cpu();
+        let word = cpu.memory.get(cpu.pc);
+        let place = match look {
+            Look::Address => effective_address(&cpu.memory, word, cpu.pc),
+            Look::Stored => target(word, cpu.pc),
+            _ => Word::ZERO,
+        };
+        Glance {
+            at: cpu.pc,
+            ac: cpu.ac,
+            look,
+            place,
+        }
+    }
+}
+
 impl<A: Allocator + Copy> RunSearch<A> {
     /// Before the first run. The same seed gives the same runs.
     ///
@@ -489,8 +508,8 @@ impl<A: Allocator + Copy> RunSearch<A> {
         ensures within { turns.new.spent ≤ turns.new.limit }
     {
         turns.are_within();
-        let glance = self.glance(&trial.watcher);
-        if !self.is_ready(program, trial, &glance)? {
+        let look = self.look(&trial.watcher);
+        if !self.is_ready(program, trial, look)? {
             return Ok(Progress::Over);
         }
         self.step(
@@ -498,7 +517,7 @@ impl<A: Allocator + Copy> RunSearch<A> {
             &mut trial.watcher,
             &mut trial.run,
             &trial.plan,
-            &glance,
+            look,
             turns,
         )
     }
@@ -508,7 +527,7 @@ impl<A: Allocator + Copy> RunSearch<A> {
         &mut self,
         program: &DeclaredProgram<'_, D>,
         trial: &mut Trial<A>,
-        glance: &Glance,
+        look: Look,
     ) -> Result<bool, NoMemory>
         requires profile { profile_of trial.old.watcher.world
             ≡ (meaning program.now.declaration.now).profile }
@@ -524,7 +543,7 @@ impl<A: Allocator + Copy> RunSearch<A> {
             &mut trial.watcher,
             &mut trial.run,
             &trial.plan,
-            glance,
+            look,
         )
     }
 
@@ -565,12 +584,12 @@ impl<A: Allocator + Copy> RunSearch<A> {
         watcher: &mut Watcher<A>,
         run: &mut Run<A>,
         plan: &Plan<A>,
-        glance: &Glance,
+        look: Look,
     ) -> Result<bool, NoMemory>
         requires profile { profile_of watcher.old.world ≡ (meaning program.now.declaration.now).profile }
         ensures profile { profile_of watcher.new.world ≡ (meaning program.now.declaration.now).profile }
     {
-        if let Some(ask) = self.ask(watcher, run, plan, glance) {
+        if let Some(ask) = self.ask(watcher, run, plan, look) {
             self.keep(watcher, run, ask)?;
             if !run.is_asked() {
                 return Ok(false);
@@ -592,9 +611,9 @@ impl<A: Allocator + Copy> RunSearch<A> {
         watcher: &Watcher<A>,
         run: &mut Run<A>,
         plan: &Plan<A>,
-        glance: &Glance,
+        look: Look,
     ) -> Option<Ask> {
-        let Look::Asks(ask) = glance.look else {
+        let Look::Asks(ask) = look else {
             return None;
         };
         if !ask.is_wanted(&watcher.world().panel()) {
@@ -637,26 +656,14 @@ impl<A: Allocator + Copy> RunSearch<A> {
         Ok(())
     }
 
-    /// What is to be seen before the next step.
-    fn glance(&self, watcher: &Watcher<A>) -> Glance {
+    /// What is worth a look at the next step.
+    fn look(&self, watcher: &Watcher<A>) -> Look {
         let cpu = watcher.world().cpu();
         let word = cpu.memory.get(cpu.pc);
-        let look = self
-            .looks
+        self.looks
             .get(word.index())
             .copied()
-            .unwrap_or(Look::Nothing);
-        let place = match look {
-            Look::Address => effective_address(&cpu.memory, word, cpu.pc),
-            Look::Stored => target(word, cpu.pc),
-            _ => Word::ZERO,
-        };
-        Glance {
-            at: cpu.pc,
-            ac: cpu.ac,
-            look,
-            place,
-        }
+            .unwrap_or(Look::Nothing)
     }
 
     /// Makes a step, and notes what is new.
@@ -666,7 +673,7 @@ impl<A: Allocator + Copy> RunSearch<A> {
         watcher: &mut Watcher<A>,
         run: &mut Run<A>,
         plan: &Plan<A>,
-        glance: &Glance,
+        look: Look,
         turns: &mut Turns,
     ) -> Result<Progress, NoMemory>
         requires profile { profile_of watcher.old.world ≡ (meaning program.now.declaration.now).profile }
@@ -676,8 +683,9 @@ impl<A: Allocator + Copy> RunSearch<A> {
         ensures within { turns.new.spent ≤ turns.new.limit }
     {
         if self.records {
-            self.sight = Some(Sight::of(watcher, program.declaration.profile()));
+            self.sight = Some(Sight::of(watcher));
         }
+        let glance = Glance::at(watcher, look);
         let before = turns.spent();
         let progress = run.step(watcher, program.declaration, turns)?;
         if plan.purpose == Purpose::Repeat {
@@ -687,7 +695,7 @@ impl<A: Allocator + Copy> RunSearch<A> {
             self.record_step();
         }
         if progress == Progress::GoesOn {
-            self.note(watcher, run, plan, glance)?;
+            self.note(watcher, run, plan, &glance)?;
         }
         Ok(progress)
     }
@@ -700,6 +708,7 @@ impl<A: Allocator + Copy> RunSearch<A> {
     }
 
     /// Notes what is new after a step.
+    #[inline(always)]
     fn note(
         &mut self,
         watcher: &Watcher<A>,
@@ -722,7 +731,12 @@ impl<A: Allocator + Copy> RunSearch<A> {
             }
             Look::Zero | Look::Sign => {
                 if glance.ac != Word::ZERO {
-                    self.note_miss(run, plan, glance)?;
+                    let miss = Miss {
+                        at: glance.at,
+                        ac: glance.ac.value(),
+                        is_for_zero: glance.look == Look::Zero,
+                    };
+                    self.note_miss(run, plan, miss)?;
                 }
             }
         }
@@ -741,17 +755,8 @@ impl<A: Allocator + Copy> RunSearch<A> {
     }
 
     /// Notes a test that failed.
-    fn note_miss(
-        &mut self,
-        run: &mut Run<A>,
-        plan: &Plan<A>,
-        glance: &Glance,
-    ) -> Result<(), NoMemory> {
-        let miss = Miss {
-            at: glance.at,
-            ac: glance.ac.value(),
-            is_for_zero: glance.look == Look::Zero,
-        };
+    #[inline(never)]
+    fn note_miss(&mut self, run: &mut Run<A>, plan: &Plan<A>, miss: Miss) -> Result<(), NoMemory> {
         if self.seen.sees_distance(miss.at, miss.distance()) {
             if !run.news.is_any {
                 run.news.place = miss.at;

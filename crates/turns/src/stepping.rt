@@ -7,7 +7,7 @@ ghost use Rattle.turns.specs.declared.stepping.Stepped.TheVariants.{NoTurn};
 
 use crate::Turns;
 use declaration::Declaration;
-use peripherals::{Event, NoMemory};
+use peripherals::NoMemory;
 use policy::Watcher;
 use std::alloc::Allocator;
 
@@ -24,6 +24,7 @@ pub enum Stepped {
 
 /// Takes a turn, and then tries a step of a machine that is watched. No other function of the search
 /// does so.
+#[inline(always)]
 pub fn take_step<A: Allocator, D: Allocator>(
     watcher: &mut Watcher<A>,
     declaration: &Declaration<D>,
@@ -40,7 +41,7 @@ pub fn take_step<A: Allocator, D: Allocator>(
     if turns.take().is_err() {
         return Ok(Stepped::NoTurn);
     }
-    match watcher.next(declaration, Event::Step) {
+    match watcher.step(declaration) {
         Ok(None) => Ok(Stepped::Kept),
         Ok(Some(_)) => Ok(Stepped::Broke),
         Err(NoMemory) => Err(NoMemory),

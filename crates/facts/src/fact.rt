@@ -121,17 +121,18 @@ impl Fact {
     pub fn set(&self, name: &Name) -> WordSet
         ensures { SameWords (words result) ((meaning self.now).set (name_of name.now)) }
     {
-        match name {
-            Name::Accumulator => self.ac,
-            Name::Cell(cell) => self.set_of_cell(*cell),
+        let mut set = self.ac;
+        if let Name::Cell(cell) = name {
+            self.put_set_of(*cell, &mut set);
         }
+        set
     }
 
-    /// The words that a cell may hold.
-    pub(crate) fn set_of_cell(&self, cell: Word) -> WordSet
-        ensures { SameWords (words result) (cell_words self.now cell) }
+    /// Puts the words that a cell may hold into their place.
+    pub(crate) fn put_set_of(&self, cell: Word, place: &mut WordSet)
+        ensures { SameWords (words place.new) (cell_words self.now cell) }
     {
-        self.cells.set_of(cell)
+        self.cells.put_set_of(cell, place);
     }
 
     /// Lets the accumulator hold these words.

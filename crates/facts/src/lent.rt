@@ -24,7 +24,8 @@ pub(crate) fn put_set<'b>(place: &'b mut WordSet, set: &WordSet) -> &'b WordSet
 pub(crate) fn put_one(place: &mut WordSet, word: Word) -> &WordSet
     ensures { words result.now ≡ one word }
 {
-    *place = WordSet::one(word);
+    *place = WordSet::empty();
+    place.insert(word);
     place
 }
 

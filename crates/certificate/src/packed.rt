@@ -283,19 +283,20 @@ pub fn set_of(runs: &[Run]) -> WordSet
     if runs.len() == 1 {
         return WordSet::range(runs[0].first, runs[0].last);
     }
-    set_of_many(runs)
+    let mut set = WordSet::empty();
+    put_runs(runs, &mut set);
+    set
 }
 
-/// The same of any count of runs.
+/// Puts the set of which these are runs into its place, of any count of runs.
 #[inline(never)]
-fn set_of_many(runs: &[Run]) -> WordSet
-    ensures { words result ≡ set_of_runs runs.now }
+fn put_runs(runs: &[Run], place: &mut WordSet)
+    ensures { words place.new ≡ set_of_runs runs.now }
 {
-    let mut set = WordSet::empty();
+    *place = WordSet::empty();
     for run in runs {
-        set.insert_range(run.first, run.last);
+        place.insert_range(run.first, run.last);
     }
-    set
 }
 
 /// The set of which so many runs from here on are.
@@ -427,7 +428,10 @@ fn track_several(runs: &[Run], cell: Word, span: Span, fact: &mut Fact)
     } }
     ensures offsets { offsets_of fact.new.offsets ≡ offsets_of fact.old.offsets }
 {
-    fact.track(cell, set_in(runs, span.first, usize::from(span.count)));
+    let first = span.first;
+    let mut set = WordSet::empty();
+    put_runs(&runs[first..first + usize::from(span.count)], &mut set);
+    fact.track(cell, set);
 }
 
 /// Whether a line is a cell or an equation, which the lent fact then says too.

@@ -10,6 +10,7 @@ ghost use Rattle.facts.specs.Statements.{unknown};
 ghost use Rattle.facts.specs.Same.{SameFact};
 ghost use Rattle.facts.specs.Meaning.{name_of, equation_of, tracked_cells, offsets_of, statement_of, cell_words, meaning};
 
+use crate::lent::put_row;
 use crate::names::{Equation, Name};
 use crate::offsets::Offsets;
 use crate::tracking::TrackedCells;
@@ -151,7 +152,7 @@ impl Fact {
             record (statement_of self.old) { ac = between first last } }
         ensures offsets { offsets_of self.new.offsets ≡ offsets_of self.old.offsets }
     {
-        self.ac = WordSet::range(first, last);
+        put_row(&mut self.ac, first, last);
     }
 
     /// Lets MQ hold the words from one to another, both of them; none where the second is the lesser.
@@ -160,7 +161,7 @@ impl Fact {
             record (statement_of self.old) { mq = between first last } }
         ensures offsets { offsets_of self.new.offsets ≡ offsets_of self.old.offsets }
     {
-        self.mq = WordSet::range(first, last);
+        put_row(&mut self.mq, first, last);
     }
 
     /// Lets MQ hold these words.

@@ -5,7 +5,7 @@
 //! asker lends.
 
 ghost use Rattle.std.specs.Prelude.{ℕ, false, ◌≡◌, ◌<◌, ◌≤◌, ◌↔◌, ◌+◌, ◌||◌, length, map, IsTrue};
-ghost use Rattle.wordset.specs.Words.{Words, SameWords, IsWithin, one, plus, shifted};
+ghost use Rattle.wordset.specs.Words.{Words, SameWords, IsWithin, one, plus, shifted, union};
 ghost use Rattle.wordset.specs.Lanes.{words};
 ghost use Rattle.wordset.specs.Links.{links_of};
 ghost use Rattle.facts.specs.Facts.{Ac, Cell, same, narrowed, Among, Knows, KnowsAll, Entails, EntailsOffsets, joined};
@@ -78,6 +78,20 @@ fn put_source(source: &Source<'_>, cell: Word, place: &mut WordSet)
     teller(source, cell).put_set_of(cell, place);
 }
 
+/// Adds to a set the words that are one more than those that it has.
+fn add_counted(set: &mut WordSet)
+    ensures { SameWords (words set.new) (union (words set.old) (shifted (words set.old) 1)) }
+{
+    *set = set.union(&set.shift(Word::ZERO.increment()));
+}
+
+/// Adds to a set the words of another.
+fn add_stored(set: &mut WordSet, other: &WordSet)
+    ensures { words set.new ≡ union (words set.old) (words other.now) }
+{
+    *set = set.union(other);
+}
+
 /// Makes of the words of a cell what a change makes of them.
 fn apply(change: &Change<'_>, cell: Word, set: &mut WordSet)
     ensures { SameWords (words set.new) (changed change.now cell (words set.old)) }
@@ -91,12 +105,12 @@ fn apply(change: &Change<'_>, cell: Word, set: &mut WordSet)
         }
         Change::Counted(cells) => {
             if has_cell(cells, cell) {
-                *set = set.union(&set.shift(Word::ZERO.increment()));
+                add_counted(set);
             }
         }
         Change::Stored(cells, other) => {
             if has_cell(cells, cell) {
-                *set = set.union(other);
+                add_stored(set, other);
             }
         }
     }

@@ -37,6 +37,19 @@ pub(crate) fn put_all(place: &mut WordSet) -> &WordSet
     place
 }
 
+/// Puts the words from one to another, both of them, into their place; none where the second is the
+/// lesser.
+pub(crate) fn put_row(place: &mut WordSet, first: Word, last: Word)
+    ensures { words place.new ≡ between first last }
+{
+    if first.index() == 0 && last.index() == 4095 {
+        *place = WordSet::all();
+    } else {
+        *place = WordSet::empty();
+        place.insert_range(first, last);
+    }
+}
+
 /// Puts the sums a + b, modulo 4096, of the words a of one set and b of another into their place, and
 /// tells the carries with which they come.
 pub(crate) fn put_sums(place: &mut WordSet, one: &WordSet, other: &WordSet) -> Carries

@@ -246,18 +246,19 @@ impl Known<'_> {
         place
     }
 
-    /// Leaves in a set the words that an equation leaves to a name; a place for its partner's is lent.
+    /// Leaves in a set the words that an equation leaves to a name.
     #[tactic(auto, using(crate::proofs::EntailLemmas::back_twice))]
-    fn keep_met(&self, name: &Name, equation: &Equation, place: &mut WordSet, set: &mut WordSet)
+    fn keep_met(&self, name: &Name, equation: &Equation, set: &mut WordSet)
         ensures { Meets (known_of self.now) (name_of name.now) (equation_of equation.now)
             (words set.old) (words set.new) }
     {
+        let mut place = WordSet::all();
         if is_same_name(&equation.left, name) {
-            let partner = (&*self).set_in(&Name::Cell(equation.right), place);
+            let partner = (&*self).set_in(&Name::Cell(equation.right), &mut place);
             set.keep_shifted(partner, equation.more);
         }
         if is_same_name(&Name::Cell(equation.right), name) {
-            let partner = (&*self).set_in(&equation.left, place);
+            let partner = (&*self).set_in(&equation.left, &mut place);
             set.keep_shifted(partner, negated(equation.more));
         }
     }
@@ -277,12 +278,11 @@ impl Known<'_> {
         ensures { SameWords (words set.new) (narrowed (known_of self.now) (name_of name.now)) }
     {
         self.put_set(name, set);
-        let mut partner = WordSet::all();
         for e in self.equations {
             if !speaks_of(e, name) {
                 continue;
             }
-            self.keep_met(name, e, &mut partner, set);
+            self.keep_met(name, e, set);
         }
     }
 

@@ -7,6 +7,7 @@ ghost use Rattle.wordset.specs.Lanes.{words};
 ghost use Rattle.facts.specs.Statements.{tracked, cell_at};
 ghost use Rattle.facts.specs.Tracking.{tracked_of, held_words, tracked_cells, IsPlaceBelow};
 
+use crate::lent::put_row;
 use arrayvec::ArrayVec;
 use std::marker::Model;
 use word12::Word;
@@ -121,7 +122,11 @@ fn has_all(wider: &[TrackedCell], other: &Held, set: &WordSet) -> bool
     ensures { IsTrue result ↔ IsWithin (words set.now) (held_words wider.now other.now) }
 {
     match other {
-        Held::Row(low, high) => set.is_subset(&WordSet::range(*low, *high)),
+        Held::Row(low, high) => {
+            let mut row = WordSet::empty();
+            put_row(&mut row, *low, *high);
+            set.is_subset(&row)
+        }
         Held::Whole(place) => set.is_subset(&wider[usize::from(*place)].set),
     }
 }
@@ -143,7 +148,11 @@ fn keep_held(whole: &[TrackedCell], held: &Held, set: &mut WordSet)
     ensures { words set.new ≡ meet (words set.old) (held_words whole.now held.now) }
 {
     match held {
-        Held::Row(first, last) => *set = set.meet(&WordSet::range(*first, *last)),
+        Held::Row(first, last) => {
+            let mut row = WordSet::empty();
+            put_row(&mut row, *first, *last);
+            *set = set.meet(&row);
+        }
         Held::Whole(place) => *set = set.meet(&whole[usize::from(*place)].set),
     }
 }

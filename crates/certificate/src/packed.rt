@@ -307,21 +307,22 @@ fn set_in(runs: &[Run], first: usize, count: usize) -> WordSet
     set_of(&runs[first..first + count])
 }
 
-/// The first one of two sets.
-fn one_in(runs: &[Run], sets: Spans) -> WordSet
+/// Puts the first one of two sets into its place.
+fn put_first(runs: &[Run], sets: Spans, place: &mut WordSet)
     requires { AreWithin (length runs.now) sets }
-    ensures { words result ≡ one_at runs.now sets }
+    ensures { words place.new ≡ one_at runs.now sets }
 {
-    set_in(runs, sets.first, usize::from(sets.one))
+    let first = sets.first;
+    put_runs(&runs[first..first + usize::from(sets.one)], place);
 }
 
-/// The other one.
-fn other_in(runs: &[Run], sets: Spans) -> WordSet
+/// Puts the other one into its place.
+fn put_other(runs: &[Run], sets: Spans, place: &mut WordSet)
     requires { AreWithin (length runs.now) sets }
-    ensures { words result ≡ other_at runs.now sets }
+    ensures { words place.new ≡ other_at runs.now sets }
 {
     let first = sets.first + usize::from(sets.one);
-    set_in(runs, first, usize::from(sets.other))
+    put_runs(&runs[first..first + usize::from(sets.other)], place);
 }
 
 /// The lent fact's accumulator may hold the words of so many runs from here on. Most sets have one run.
@@ -499,11 +500,16 @@ fn routine_of(runs: &[Run], packed: &PackedLine) -> Option<Routine>
     ensures says { IfSome result (λ r. IsRoutineLine (said_at runs.now packed.now) r) }
 {
     match packed {
-        PackedLine::Routine(routine) => Some(Routine {
-            rank: usize::from(routine.rank),
-            sites: one_in(runs, routine.sets),
-            writes: other_in(runs, routine.sets),
-        }),
+        PackedLine::Routine(routine) => {
+            let mut said = Routine {
+                rank: usize::from(routine.rank),
+                sites: WordSet::empty(),
+                writes: WordSet::empty(),
+            };
+            put_first(runs, routine.sets, &mut said.sites);
+            put_other(runs, routine.sets, &mut said.writes);
+            Some(said)
+        }
         _ => None,
     }
 }

@@ -6,7 +6,7 @@ use Rattle.instruct.specs.declared.Operation.{Operation}
 use Rattle.instruct.specs.declared.Operation.TheVariants as operation
 use Rattle.instruct.specs.Bits.{is_indirect, named_cell}
 use Rattle.instruct.specs.Instructions.{Meaning, And, Tad, Isz, Dca, Jms, Jmp, Group1, Group2, Group3, Device, Undefined, kind_of, operation_of, reference}
-use Rattle.wordset.specs.Words.{Words, SameWords, nothing, one}
+use Rattle.wordset.specs.Words.{Words, SameWords, nothing}
 use Rattle.processor.specs.Machine.{steps_pointer}
 use Rattle.declaration.specs.Declaration.{Declaration, IsListed}
 use Rattle.facts.specs.Facts.{Cell, Fact, Place, narrowed, possible, tape_word}
@@ -56,12 +56,6 @@ pub calls_targets : (t : Words) (pl : Place) (f : Fact) (at w n : ℕ) (i r : Bo
     SameWords t (targets pl i n f) → SameWords t (called pl f (meaning_at pl at w))
 calls_targets t pl f at w n i r k er h ei en ht v lt =
     ht v lt ∙ is_called pl f (operation_of w) i n v (sym er ∙ h) ∙ ap (λ m. called pl f m v) (refers_to pl at w n i k ei en)
-
--- what a direct JMS calls
-pub calls_named : (pl : Place) (f : Fact) (at w n : ℕ) (i r : Bool) → kind_of (meaning_at pl at w) ≡ Memory → r ≡ calls (operation_of w) → r ≡ true → i ≡ is_indirect w → i ≡ false → n ≡ named_cell w at →
-    SameWords (called pl f (meaning_at pl at w)) (one n)
-calls_named pl f at w n i r k er h ei direct en v lt =
-    sym (calls_targets (targets pl i n f) pl f at w n i r k er h ei en (λ v lt. refl) v lt) ∙ ap (λ (b : Bool). targets pl b n f v) direct
 
 -- whether a word is a JMS
 other_call : (m : Meaning) → (kind_of m ≡ Memory → ⊥) → is_call m ≡ false

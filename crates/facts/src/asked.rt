@@ -298,27 +298,6 @@ impl<A: Allocator> Place<'_, A> {
         self.targets_at(fact, refers_indirectly(word), target(word, at))
     }
 
-    /// The cell that a word calls whatever is known: the named one of a direct JMS.
-    pub fn called_directly(&self, at: Word, word: Word) -> Option<Word>
-        ensures called { (f : said.Fact) → IfSome result (λ cell.
-            SameWords (called (place_of self.now) f (meaning_at (place_of self.now) at word))
-            (one cell)) }
-        ensures small { IfSome result (λ cell. cell < 4096) }
-    {
-        if !self.is_reference(word) {
-            return None;
-        }
-        if !is_jms(word) {
-            return None;
-        }
-        if refers_indirectly(word) {
-            return None;
-        }
-        let cell = target(word, at);
-        let _index = cell.index();
-        Some(cell)
-    }
-
     /// Whether a word is a JMS through an auto-index cell, which it steps first.
     pub fn steps_call_pointer(&self, at: Word, word: Word) -> bool
         ensures { result ≡ calls_through_index (meaning_at (place_of self.now) at word) }

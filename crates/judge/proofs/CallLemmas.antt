@@ -1,9 +1,9 @@
 -- What is asked of calls and returns, from what the code found.
 use Rattle.std.proofs.Common.{◌≡◌, ℕ, ◌+◌, ◌%◌, ◌<◌, Bool, true, false, ◌&&◌, Option, Some, None, refl, sym, ap, ◌∙◌, subst, arith}
 use Rattle.std.specs.Prelude.{IsTrue, ◌↔◌, if◌then◌else◌}
-use Rattle.std.proofs.lemmas.Bool.{false≢true, true≢false, eqb-true, eq-eqb}
+use Rattle.std.proofs.lemmas.Bool.{false≢true, true≢false}
 use Rattle.instruct.specs.Instructions.{Meaning, And, Tad, Isz, Dca, Jms, Jmp, Group1, Group2, Group3, Device, Undefined}
-use Rattle.wordset.specs.Words.{Words, SameWords, IsWithin, everything, plus, one}
+use Rattle.wordset.specs.Words.{Words, SameWords, IsWithin, everything, plus}
 use Rattle.wordset.specs.Lanes.{words}
 use Rattle.declaration.specs.Declaration.{Routine}
 use Rattle.facts.specs.Facts.{Fact, Entails, EntailsOffsets, joined}
@@ -14,13 +14,6 @@ use Rattle.facts.specs.declared.place.Running.{Running}
 use Rattle.certificate.specs.Certificate.{Certificate, writes_of}
 use Rattle.judge.specs.Conditions.{Case, fact_at, place_in, EachTarget, KeepsPointer, CoversCallee, MayReturn, ReturnsWell, LandsAt}
 use Rattle.judge.specs.Callees.{LandsBy, ReturnsBy, ReturnsThrough}
-
--- What holds of one cell holds of each that is it.
-pub one_target : (n : ℕ) (p : ℕ → Type 0) (t : Bool) → n < 4096 → (IsTrue t ↔ p n) → IsTrue t ↔ ((a : ℕ) → a < 4096 → one n a ≡ true → p a)
-one_target n p t lt h = (
-  λ q a l e. subst p (sym (eqb-true a n e)) (h.0 q),
-  λ each. h.1 (each n lt (eq-eqb n n refl)),
-)
 
 -- Each of the cells that a word may call is each target of a JMS.
 pub each_target : (j : Case) (r : Routine) (a : ℕ) (m : Meaning) (p : ℕ → Type 0) (set : Words) (t : Bool) → SameWords set (called (place_in j r) (fact_at j a) m) →

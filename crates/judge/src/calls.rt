@@ -91,10 +91,7 @@ impl<A: Allocator, C: Claims> Spot<'_, A, C> {
         if !self.place.is_call(word) {
             return true;
         }
-        match self.place.called_directly(self.at, word) {
-            Some(entry) => self.callee_passes(condition, entry, others),
-            None => self.each_callee_passes(condition, word, others),
-        }
+        self.each_callee_passes(condition, word, others)
     }
 
     /// Whether a condition on calls holds of each callee of a word; the room for them is made here

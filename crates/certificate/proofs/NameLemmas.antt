@@ -163,6 +163,21 @@ claimed_there v k from r f x g y least w routine fact exit same low high l small
       ])
     ]
 
+-- an address that has a fact is the next one from itself on
+pub fact_is_claimed : {A : Type 0} (v : Version) (k : KeptLines A) (from f : ℕ) → IsWhole v k → from < 4096 →
+    IsNextPlace k.places.items (4096 + from) f → f ≡ 4096 + from → IsFirstFrom from (Claimed k) from
+fact_is_claimed v k from f w small fact same =
+    let R : Bool = has_routine (routines_of (all_said k)) from in
+    let F : Bool = has_fact_in (facts_of (all_said k)) from in
+    let E : Bool = some_below 8 (has_exit_in (exits_of (all_said k)) from) in
+    let h : HasBetween k.places.items (4096 + from) (4096 + from + 1) = rw (← same) (fact.there (omega arith)) in
+    record {
+      small = small;
+      reached = omega arith;
+      within = or_right R (F || E) (or_left F E (fact_at v k from w small h));
+      before = λ u late under. absurd (omega arith);
+    }
+
 -- the least of the three is the next address at which something is claimed
 pub next_is_claimed : {A : Type 0} (v : Version) (k : KeptLines A) (from r f x g y least : ℕ) → IsWhole v k →
     IsNextPlace k.places.items from r → IsNextPlace k.places.items (4096 + from) f → IsNextPlace k.places.items (8192 + 8 * from) x →

@@ -196,7 +196,8 @@ impl<A: Allocator> Certificate<A> {
     }
 
     /// The least address from a number on at which something is claimed: that of a fact, or the entry
-    /// of a routine that is named.
+    /// of a routine that is named. A fact mostly stands at the number itself, so facts are looked for
+    /// first.
     pub fn next_claimed(&self, from: usize) -> Option<Word>
         ensures { MatchOption result
             (HasNoneFrom from (claimed (claims self.now)))
@@ -205,8 +206,11 @@ impl<A: Allocator> Certificate<A> {
         if from >= 4096 {
             return None;
         }
-        let routine = self.kept.next_place(from);
         let fact = self.kept.next_place(FIRST_FACT + from) - FIRST_FACT;
+        if fact == from {
+            return Some(Word::from_index(from));
+        }
+        let routine = self.kept.next_place(from);
         let exit = (self.kept.next_place(FIRST_EXIT + 8 * from) - FIRST_EXIT) / 8;
         let least = routine.min(fact).min(exit);
         if least < 4096 {

@@ -283,19 +283,20 @@ pub fn set_of(runs: &[Run]) -> WordSet
     if runs.len() == 1 {
         return WordSet::range(runs[0].first, runs[0].last);
     }
-    set_of_many(runs)
+    let mut set = WordSet::empty();
+    put_runs(runs, &mut set);
+    set
 }
 
-/// The same of any count of runs.
+/// Puts the set of which these are runs into its place, of any count of runs.
 #[inline(never)]
-fn set_of_many(runs: &[Run]) -> WordSet
-    ensures { words result ≡ set_of_runs runs.now }
+fn put_runs(runs: &[Run], place: &mut WordSet)
+    ensures { words place.new ≡ set_of_runs runs.now }
 {
-    let mut set = WordSet::empty();
+    *place = WordSet::empty();
     for run in runs {
-        set.insert_range(run.first, run.last);
+        place.insert_range(run.first, run.last);
     }
-    set
 }
 
 /// The set of which so many runs from here on are.
@@ -306,21 +307,22 @@ fn set_in(runs: &[Run], first: usize, count: usize) -> WordSet
     set_of(&runs[first..first + count])
 }
 
-/// The first one of two sets.
-fn one_in(runs: &[Run], sets: Spans) -> WordSet
+/// Puts the first one of two sets into its place.
+fn put_first(runs: &[Run], sets: Spans, place: &mut WordSet)
     requires { AreWithin (length runs.now) sets }
-    ensures { words result ≡ one_at runs.now sets }
+    ensures { words place.new ≡ one_at runs.now sets }
 {
-    set_in(runs, sets.first, usize::from(sets.one))
+    let first = sets.first;
+    put_runs(&runs[first..first + usize::from(sets.one)], place);
 }
 
-/// The other one.
-fn other_in(runs: &[Run], sets: Spans) -> WordSet
+/// Puts the other one into its place.
+fn put_other(runs: &[Run], sets: Spans, place: &mut WordSet)
     requires { AreWithin (length runs.now) sets }
-    ensures { words result ≡ other_at runs.now sets }
+    ensures { words place.new ≡ other_at runs.now sets }
 {
     let first = sets.first + usize::from(sets.one);
-    set_in(runs, first, usize::from(sets.other))
+    put_runs(&runs[first..first + usize::from(sets.other)], place);
 }
 
 /// The lent fact's accumulator may hold the words of so many runs from here on. Most sets have one run.
@@ -427,7 +429,10 @@ fn track_several(runs: &[Run], cell: Word, span: Span, fact: &mut Fact)
     } }
     ensures offsets { offsets_of fact.new.offsets ≡ offsets_of fact.old.offsets }
 {
-    fact.track(cell, set_in(runs, span.first, usize::from(span.count)));
+    let first = span.first;
+    let mut set = WordSet::empty();
+    put_runs(&runs[first..first + usize::from(span.count)], &mut set);
+    fact.track(cell, set);
 }
 
 /// Whether a line is a cell or an equation, which the lent fact then says too.
@@ -495,11 +500,16 @@ fn routine_of(runs: &[Run], packed: &PackedLine) -> Option<Routine>
     ensures says { IfSome result (λ r. IsRoutineLine (said_at runs.now packed.now) r) }
 {
     match packed {
-        PackedLine::Routine(routine) => Some(Routine {
-            rank: usize::from(routine.rank),
-            sites: one_in(runs, routine.sets),
-            writes: other_in(runs, routine.sets),
-        }),
+        PackedLine::Routine(routine) => {
+            let mut said = Routine {
+                rank: usize::from(routine.rank),
+                sites: WordSet::empty(),
+                writes: WordSet::empty(),
+            };
+            put_first(runs, routine.sets, &mut said.sites);
+            put_other(runs, routine.sets, &mut said.writes);
+            Some(said)
+        }
         _ => None,
     }
 }

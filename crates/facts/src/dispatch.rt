@@ -186,30 +186,6 @@ impl<A: Allocator> Place<'_, A> {
             None => nowhere(),
         }
     }
-
-    /// The outcomes of a word.
-    fn outcomes<'a>(
-        &self,
-        at: Word,
-        word: Word,
-        known: &Known<'a>,
-        room: &'a mut Room,
-    ) -> Outcomes<'a>
-        requires pointer { IsUnchanged known.now.pointer }
-        requires target { IsUnchanged known.now.target }
-        requires room { length known.now.equations.now ≤ 32 }
-        ensures { (f : said.Fact) → Agree (known_of known.now) f →
-            AgreeingOutcomes (slots result.all) (outcomes_at (place_of self.now) f at word) }
-    {
-        match decode(word, self.declaration.profile()) {
-            Instruction::Memory => return self.refer(at, word, known, room),
-            Instruction::Operate1 => return one(operate(at, word, known, &mut room.one)),
-            Instruction::Operate2 => return self.skip(at, word, known, room),
-            Instruction::Operate3 => return one(exchange(at, word, known, &mut room.one)),
-            Instruction::Iot => return self.transfer(at, word, known, room),
-            Instruction::Unsupported => return nowhere(),
-        }
-    }
 }
 
 /// The outcomes of a word that stands at the address of a fact: what may come of it from a state of
@@ -228,5 +204,12 @@ pub fn outcomes<'a, A: Allocator>(
         (outcomes_at (place_of place.now) (meaning fact.now) at word) }
 {
     let known = Known::of(fact);
-    place.outcomes(at, word, &known, room)
+    match decode(word, place.declaration.profile()) {
+        Instruction::Memory => return place.refer(at, word, &known, room),
+        Instruction::Operate1 => return one(operate(at, word, &known, &mut room.one)),
+        Instruction::Operate2 => return place.skip(at, word, &known, room),
+        Instruction::Operate3 => return one(exchange(at, word, &known, &mut room.one)),
+        Instruction::Iot => return place.transfer(at, word, &known, room),
+        Instruction::Unsupported => return nowhere(),
+    }
 }

@@ -10,6 +10,7 @@ ghost use Rattle.facts.specs.Statements.{unknown};
 ghost use Rattle.facts.specs.Same.{SameFact};
 ghost use Rattle.facts.specs.Meaning.{name_of, equation_of, tracked_cells, offsets_of, statement_of, cell_words, meaning};
 
+use crate::lent::put_row;
 use crate::names::{Equation, Name};
 use crate::offsets::Offsets;
 use crate::tracking::TrackedCells;
@@ -121,17 +122,18 @@ impl Fact {
     pub fn set(&self, name: &Name) -> WordSet
         ensures { SameWords (words result) ((meaning self.now).set (name_of name.now)) }
     {
-        match name {
-            Name::Accumulator => self.ac,
-            Name::Cell(cell) => self.set_of_cell(*cell),
+        let mut set = self.ac;
+        if let Name::Cell(cell) = name {
+            self.put_set_of(*cell, &mut set);
         }
+        set
     }
 
-    /// The words that a cell may hold.
-    pub(crate) fn set_of_cell(&self, cell: Word) -> WordSet
-        ensures { SameWords (words result) (cell_words self.now cell) }
+    /// Puts the words that a cell may hold into their place.
+    pub(crate) fn put_set_of(&self, cell: Word, place: &mut WordSet)
+        ensures { SameWords (words place.new) (cell_words self.now cell) }
     {
-        self.cells.set_of(cell)
+        self.cells.put_set_of(cell, place);
     }
 
     /// Lets the accumulator hold these words.
@@ -150,7 +152,7 @@ impl Fact {
             record (statement_of self.old) { ac = between first last } }
         ensures offsets { offsets_of self.new.offsets ≡ offsets_of self.old.offsets }
     {
-        self.ac = WordSet::range(first, last);
+        put_row(&mut self.ac, first, last);
     }
 
     /// Lets MQ hold the words from one to another, both of them; none where the second is the lesser.
@@ -159,7 +161,7 @@ impl Fact {
             record (statement_of self.old) { mq = between first last } }
         ensures offsets { offsets_of self.new.offsets ≡ offsets_of self.old.offsets }
     {
-        self.mq = WordSet::range(first, last);
+        put_row(&mut self.mq, first, last);
     }
 
     /// Lets MQ hold these words.

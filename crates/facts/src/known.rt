@@ -5,7 +5,7 @@
 //! asker lends.
 
 ghost use Rattle.std.specs.Prelude.{ℕ, false, ◌≡◌, ◌<◌, ◌≤◌, ◌↔◌, ◌+◌, ◌||◌, length, map, IsTrue};
-ghost use Rattle.wordset.specs.Words.{Words, SameWords, IsWithin, one, plus, shifted};
+ghost use Rattle.wordset.specs.Words.{Words, SameWords, IsWithin, one, plus, shifted, union};
 ghost use Rattle.wordset.specs.Lanes.{words};
 ghost use Rattle.wordset.specs.Links.{links_of};
 ghost use Rattle.facts.specs.Facts.{Ac, Cell, same, narrowed, Among, Knows, KnowsAll, Entails, EntailsOffsets, joined};
@@ -71,11 +71,25 @@ fn teller<'a>(source: &Source<'a>, cell: Word) -> &'a Fact
     }
 }
 
-/// The words of a cell.
-fn source_set(source: &Source<'_>, cell: Word) -> WordSet
-    ensures { SameWords (words result) (source_words source.now cell) }
+/// Puts the words of a cell into their place.
+fn put_source(source: &Source<'_>, cell: Word, place: &mut WordSet)
+    ensures { SameWords (words place.new) (source_words source.now cell) }
 {
-    teller(source, cell).set_of_cell(cell)
+    teller(source, cell).put_set_of(cell, place);
+}
+
+/// Adds to a set the words that are one more than those that it has.
+fn add_counted(set: &mut WordSet)
+    ensures { SameWords (words set.new) (union (words set.old) (shifted (words set.old) 1)) }
+{
+    *set = set.union(&set.shift(Word::ZERO.increment()));
+}
+
+/// Adds to a set the words of another.
+fn add_stored(set: &mut WordSet, other: &WordSet)
+    ensures { words set.new ≡ union (words set.old) (words other.now) }
+{
+    *set = set.union(other);
 }
 
 /// Makes of the words of a cell what a change makes of them.
@@ -91,12 +105,12 @@ fn apply(change: &Change<'_>, cell: Word, set: &mut WordSet)
         }
         Change::Counted(cells) => {
             if has_cell(cells, cell) {
-                *set = set.union(&set.shift(Word::ZERO.increment()));
+                add_counted(set);
             }
         }
         Change::Stored(cells, other) => {
             if has_cell(cells, cell) {
-                *set = set.union(other);
+                add_stored(set, other);
             }
         }
     }
@@ -184,15 +198,34 @@ impl Known<'_> {
     pub fn set(&self, name: &Name) -> WordSet
         ensures { SameWords (words result) ((known_of self.now).set (name_of name.now)) }
     {
+        let mut set = WordSet::all();
+        self.put_set(name, &mut set);
+        set
+    }
+
+    /// Puts the words that a name may hold into their place.
+    fn put_set(&self, name: &Name, place: &mut WordSet)
+        ensures { SameWords (words place.new) ((known_of self.now).set (name_of name.now)) }
+    {
         match name {
-            Name::Accumulator => *self.ac,
+            Name::Accumulator => *place = *self.ac,
             Name::Cell(cell) => {
-                let mut set = source_set(&self.base, *cell);
-                apply(&self.pointer, *cell, &mut set);
-                apply(&self.target, *cell, &mut set);
-                set
+                put_source(&self.base, *cell, place);
+                apply(&self.pointer, *cell, place);
+                apply(&self.target, *cell, place);
             }
         }
+    }
+
+    /// The words that a name may hold, lent: a cell's are in the place for them.
+    fn set_in<'b>(&'b self, name: &Name, place: &'b mut WordSet) -> &'b WordSet
+        ensures { SameWords (words result.now) ((known_of self.now).set (name_of name.now)) }
+    {
+        if let Name::Accumulator = name {
+            return self.ac;
+        }
+        self.put_set(name, place);
+        place
     }
 
     /// The words that the equations leave to a name, in a place for them.
@@ -219,13 +252,14 @@ impl Known<'_> {
         ensures { Meets (known_of self.now) (name_of name.now) (equation_of equation.now)
             (words set.old) (words set.new) }
     {
+        let mut place = WordSet::all();
         if is_same_name(&equation.left, name) {
-            let partner = self.set(&Name::Cell(equation.right));
-            set.keep_shifted(&partner, equation.more);
+            let partner = (&*self).set_in(&Name::Cell(equation.right), &mut place);
+            set.keep_shifted(partner, equation.more);
         }
         if is_same_name(&Name::Cell(equation.right), name) {
-            let partner = self.set(&equation.left);
-            set.keep_shifted(&partner, negated(equation.more));
+            let partner = (&*self).set_in(&equation.left, &mut place);
+            set.keep_shifted(partner, negated(equation.more));
         }
     }
 
@@ -243,7 +277,7 @@ impl Known<'_> {
     fn narrow_into(&self, name: &Name, set: &mut WordSet)
         ensures { SameWords (words set.new) (narrowed (known_of self.now) (name_of name.now)) }
     {
-        *set = self.set(name);
+        self.put_set(name, set);
         for e in self.equations {
             if !speaks_of(e, name) {
                 continue;

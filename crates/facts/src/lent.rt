@@ -24,7 +24,8 @@ pub(crate) fn put_set<'b>(place: &'b mut WordSet, set: &WordSet) -> &'b WordSet
 pub(crate) fn put_one(place: &mut WordSet, word: Word) -> &WordSet
     ensures { words result.now ≡ one word }
 {
-    *place = WordSet::one(word);
+    *place = WordSet::empty();
+    place.insert(word);
     place
 }
 
@@ -34,6 +35,19 @@ pub(crate) fn put_all(place: &mut WordSet) -> &WordSet
 {
     *place = WordSet::all();
     place
+}
+
+/// Puts the words from one to another, both of them, into their place; none where the second is the
+/// lesser.
+pub(crate) fn put_row(place: &mut WordSet, first: Word, last: Word)
+    ensures { words place.new ≡ between first last }
+{
+    if first.index() == 0 && last.index() == 4095 {
+        *place = WordSet::all();
+    } else {
+        *place = WordSet::empty();
+        place.insert_range(first, last);
+    }
 }
 
 /// Puts the sums a + b, modulo 4096, of the words a of one set and b of another into their place, and

@@ -1,7 +1,7 @@
 //! Where a fact stands: the tape, the declaration and the running routine.
 
-ghost use Rattle.std.specs.Prelude.{ℕ, ◌≡◌, ◌||◌, ◌&&◌};
-ghost use Rattle.wordset.specs.Words.{SameWords, only};
+ghost use Rattle.std.specs.Prelude.{ℕ, ◌≡◌, ◌<◌, ◌||◌, ◌&&◌};
+ghost use Rattle.wordset.specs.Words.{SameWords, only, shifted};
 ghost use Rattle.wordset.specs.Lanes.{words};
 ghost use Rattle.facts.specs.Facts.{is_routine, own_words, words_in, tape_word};
 ghost use Rattle.facts.specs.Outcomes.{words_at};
@@ -59,6 +59,16 @@ pub(crate) fn union_if(chosen: bool, set: &WordSet, more: &WordSet) -> WordSet
     if chosen { set.union(more) } else { *set }
 }
 
+/// Adds to a set the words that are k more than those of another, where it is chosen.
+fn add_shifted_if(chosen: bool, more: &WordSet, k: Word, set: &mut WordSet)
+    ensures { (v : ℕ) → v < 4096 →
+        words set.new v ≡ (words set.old v || (chosen && shifted (words more.now) k v)) }
+{
+    if chosen {
+        *set = set.union(&more.shift(k));
+    }
+}
+
 impl<A: Allocator> Place<'_, A> {
     /// Whether a cell is the running routine's entry.
     pub(crate) fn is_own(&self, cell: Word) -> bool
@@ -89,10 +99,11 @@ impl<A: Allocator> Place<'_, A> {
         let offsets = known.offsets();
         let mut set = WordSet::empty();
         for o in 0..8usize {
-            set = union_if(
+            add_shifted_if(
                 offsets.contains(o),
-                &set,
-                &sites.shift(Word::from_index(o + 1)),
+                &sites,
+                Word::from_index(o + 1),
+                &mut set,
             );
         }
         set

@@ -2,11 +2,12 @@
 //! others stand in a list beside them.
 
 ghost use Rattle.std.specs.Prelude.{ℕ, ◌≡◌, ◌<◌, ◌≤◌, ◌↔◌, ◌∷◌, [], ◌++◌, length, IsTrue};
-ghost use Rattle.wordset.specs.Words.{SameWords, IsWithin, between, nothing};
+ghost use Rattle.wordset.specs.Words.{SameWords, IsWithin, between, meet, nothing};
 ghost use Rattle.wordset.specs.Lanes.{words};
 ghost use Rattle.facts.specs.Statements.{tracked, cell_at};
 ghost use Rattle.facts.specs.Tracking.{tracked_of, held_words, tracked_cells, IsPlaceBelow};
 
+use crate::lent::put_row;
 use arrayvec::ArrayVec;
 use std::marker::Model;
 use word12::Word;
@@ -121,7 +122,11 @@ fn has_all(wider: &[TrackedCell], other: &Held, set: &WordSet) -> bool
     ensures { IsTrue result ↔ IsWithin (words set.now) (held_words wider.now other.now) }
 {
     match other {
-        Held::Row(low, high) => set.is_subset(&WordSet::range(*low, *high)),
+        Held::Row(low, high) => {
+            let mut row = WordSet::empty();
+            put_row(&mut row, *low, *high);
+            set.is_subset(&row)
+        }
         Held::Whole(place) => set.is_subset(&wider[usize::from(*place)].set),
     }
 }
@@ -134,6 +139,21 @@ fn set_of(whole: &[TrackedCell], held: &Held) -> WordSet
     match held {
         Held::Row(first, last) => WordSet::range(*first, *last),
         Held::Whole(place) => whole[usize::from(*place)].set,
+    }
+}
+
+/// Keeps those words of a set that a row has, or a cell that stands whole.
+fn keep_held(whole: &[TrackedCell], held: &Held, set: &mut WordSet)
+    requires { IsPlaceBelow (length whole.now) held.now }
+    ensures { words set.new ≡ meet (words set.old) (held_words whole.now held.now) }
+{
+    match held {
+        Held::Row(first, last) => {
+            let mut row = WordSet::empty();
+            put_row(&mut row, *first, *last);
+            *set = set.meet(&row);
+        }
+        Held::Whole(place) => *set = set.meet(&whole[usize::from(*place)].set),
     }
 }
 
@@ -241,17 +261,17 @@ impl TrackedCells {
         false
     }
 
-    /// The words of a cell: those that all its entries allow, or all words where it has none.
-    pub(crate) fn set_of(&self, cell: Word) -> WordSet
-        ensures { SameWords (words result) (tracked cell (tracked_cells self.now)) }
+    /// Puts the words of a cell into their place: those that all its entries allow, or all words where
+    /// it has none.
+    pub(crate) fn put_set_of(&self, cell: Word, place: &mut WordSet)
+        ensures { SameWords (words place.new) (tracked cell (tracked_cells self.now)) }
     {
-        let mut set = WordSet::all();
+        *place = WordSet::all();
         for entry in self.entries.as_slice() {
             if entry.cell == cell {
-                set = set.meet(&set_of(self.whole.as_slice(), &entry.held));
+                keep_held(self.whole.as_slice(), &entry.held, place);
             }
         }
-        set
     }
 
     /// Takes all away.

@@ -126,7 +126,9 @@ impl<A: Allocator, C: Claims> Spot<'_, A, C> {
         requires { IsSpot C.claims self.now }
         ensures { IsTrue result ↔ HoldsHere C.claims self.now V4 word }
     {
-        let given = outcomes(self.fact, self.at, word, &self.place, &mut others.room);
-        self.each_lands(&given.all, &mut others.next)
+        self.each_lands(
+            &outcomes(self.fact, self.at, word, &self.place, &mut others.room).all,
+            &mut others.next,
+        )
     }
 }

@@ -1,5 +1,5 @@
 use Rattle.certificate.proofs.PackedLemmas.{run_joined, all_joined}
-use Rattle.certificate.proofs.packed.set_of_many.Goals as goal
+use Rattle.certificate.proofs.packed.put_runs.Goals as goal
 
 pub loop-run-preserved : goal.loop-run-preserved
 loop-run-preserved c =

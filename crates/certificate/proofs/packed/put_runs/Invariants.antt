@@ -2,7 +2,7 @@ use Rattle.std.proofs.Common.{◌≡◌, take}
 use Rattle.wordset.specs.Words.{nothing}
 use Rattle.wordset.specs.Lanes.{words}
 use Rattle.certificate.specs.Packed.{joined}
-use Rattle.certificate.proofs.packed.set_of_many.Given as goal
+use Rattle.certificate.proofs.packed.put_runs.Given as goal
 
 abbrev pub invariant-loop-run : goal.invariant-loop-run
-invariant-loop-run l = words l.set ≡ joined nothing (take l.run-index l.runs)
+invariant-loop-run l = words l.place ≡ joined nothing (take l.run-index l.runs)

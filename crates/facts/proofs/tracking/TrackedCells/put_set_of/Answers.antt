@@ -1,7 +1,7 @@
 use Rattle.wordset.specs.Lanes.{words}
 use Rattle.facts.proofs.TrackingLemmas.{met_end}
-use Rattle.facts.proofs.tracking.TrackedCells.set_of.Goals as goal
+use Rattle.facts.proofs.tracking.TrackedCells.put_set_of.Goals as goal
 
 pub returns : goal.returns
-returns c = met_end c.args.self.now.whole c.args.self.now.entries c.loop-entry.entry-index c.args.cell (words c.loop-entry.set) _
+returns c = met_end c.args.self.now.whole c.args.self.now.entries c.loop-entry.entry-index c.args.cell (words c.loop-entry.place) _
     (rw (← c.self.view_is, ← c.as_slice-entry-items.ensures.value) c.loop-entry-test.false) c.loop-entry.invariant

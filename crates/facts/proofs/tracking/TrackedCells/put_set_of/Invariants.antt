@@ -3,8 +3,8 @@ use Rattle.std.specs.Prelude.{◌&&◌}
 use Rattle.wordset.specs.Lanes.{words}
 use Rattle.facts.specs.Statements.{tracked}
 use Rattle.facts.specs.Tracking.{entry_of, tracked_cells}
-use Rattle.facts.proofs.tracking.TrackedCells.set_of.Given as goal
+use Rattle.facts.proofs.tracking.TrackedCells.put_set_of.Given as goal
 
 abbrev pub invariant-loop-entry : goal.invariant-loop-entry
 invariant-loop-entry l = (v : ℕ) → v < 4096 →
-    (words l.set v && tracked l.cell (map (entry_of l.self.whole) (drop l.entry-index l.self.entries)) v) ≡ tracked l.cell (tracked_cells l.self) v
+    (words l.place v && tracked l.cell (map (entry_of l.self.whole) (drop l.entry-index l.self.entries)) v) ≡ tracked l.cell (tracked_cells l.self) v

@@ -25,9 +25,9 @@ help:
 	@echo "make bench     times the program itself, beside others where they are installed"
 	@echo "make fmt       lays out the sources"
 
-# Builds the crates of the machine alone, without any proof, and runs a tape that types HELLO.
+# Builds a program that only runs a tape, without any proof, and runs a tape that types HELLO.
 try:
-	@echo "Building the machine without any proof. This takes half a minute."
+	@echo "Building a program that runs a tape, without any proof. This takes half a minute."
 	cd crates/first_look && rt try < stdin
 	@echo "The tape typed HELLO, in octal and with channel 8 set. Nothing was proved: make run proves and builds the whole program."
 

@@ -74,7 +74,8 @@ impl Misuse {
                 "a declaration has its own start and machine: '--start' and '--profile' can't stand beside it",
             Misuse::TapeAndSource =>
                 "'--source' stands in place of TAPE: there is an operand too many",
-            Misuse::NoOutput => "'-o OUT' is missing: with '--source' each operand is an input",
+            Misuse::NoOutput =>
+                "'-o OUT' is missing: beside '--source' a lone operand is taken for an input",
             Misuse::PunchToOutput => "'--punch' takes the name of a file",
             Misuse::Seed => "bad value for '--seed': it is a number from 0 to 99999999",
             Misuse::Profile => "bad value for '--profile': it is 8i or 8e",

@@ -57,8 +57,8 @@ pub(crate) fn source_names<'a>(
 }
 
 /// What the name of a source ends in.
-const SOURCE_ENDINGS: [&str; 8] = [
-    ".pal", ".PAL", ".pa", ".PA", ".pal8", ".asm", ".ASM", ".src",
+const SOURCE_ENDINGS: [&str; 10] = [
+    ".pal", ".PAL", ".pa", ".PA", ".pal8", ".PAL8", ".asm", ".ASM", ".src", ".SRC",
 ];
 
 /// Whether a name ends as that of a source does.

@@ -68,7 +68,7 @@ static CONDITIONS: [Explanation; 15] = [
         code: "V11",
         subject: Subject::Asked("what the exit says is enough for the caller"),
         meaning: "the fact at each return address allows what is possible",
-        advice: "This is asked for each exit line of the callee. What the caller\nknew of cells that the callee doesn't write, together with the exit, entails\nthe fact at the return address, which is in the caller's own body. Say in the\nexit what holds there, or expect less after the call. Outside the body: declare\nthe cells after the JMS as code, or fix how far the routine returns.",
+        advice: "This is asked for each exit line of the callee. What the caller\nknew of cells that the callee doesn't write, together with the exit, entails\nthe fact at the return address, which is in the caller's own body. Say in the\nexit what holds there, or expect less after the call. Outside the body: declare\nthe cells after the JMS as code, or fix how far the routine returns. Where they\nare text that the routine reads, V12 says what to do.",
     },
     Explanation {
         code: "V12",

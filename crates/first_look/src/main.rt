@@ -1,6 +1,7 @@
 //! A first look at the machine: runs the tape on standard input as `pdp8 run -` does.
 //!
-//! It stands on the crates of the machine alone, so that `make try` builds it in a fraction of the time of `pdp8`.
+//! It leaves out the judge, the reports and `clap`, so that `make try` builds it in a fraction of the time of `pdp8`.
+//! Of a fault it tells nothing: its status is 1.
 #![tactic(auto)]
 
 use instruct::Profile;
@@ -12,13 +13,13 @@ use streams::standard::{Reads, Writes};
 use word12::Word;
 use wordset::WordSet;
 
-/// How many rounds are made at most: as many as by `pdp8 run`.
-const MOST_ROUNDS: u32 = 100_000;
+/// How many rounds are made at most: as many as by `pdp8 run` without `--steps`.
+const ROUNDS: u32 = 100_000;
 
 fn main(rt: HostRuntime) -> ExitCode {
     let options = RunOptions {
         start: Word::from_index(0o200),
-        rounds: MOST_ROUNDS,
+        rounds: ROUNDS,
         trace: false,
         profile: Profile::Pdp8I,
         show: WordSet::empty(),

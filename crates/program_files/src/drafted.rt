@@ -12,12 +12,17 @@ use std::rt::Files;
 use streams::ByteSource;
 use turns::GuessFault;
 
+/// Whether a search is given up with this fault since it is stuck.
+pub fn is_stuck_fault(fault: &Fault) -> bool {
+    matches!(fault, Fault::Guess(GuessFault::Stuck(_)))
+}
+
 /// Whether the answer of a search is that it is stuck.
 pub fn is_stuck(answer: &Result<Status, Fault>) -> bool {
-    matches!(
-        answer,
-        Ok(Status::Refused) | Err(Fault::Guess(GuessFault::Stuck(_)))
-    )
+    match answer {
+        Ok(status) => *status == Status::Refused,
+        Err(fault) => is_stuck_fault(fault),
+    }
 }
 
 /// Writes to a file what a search had found when it was stuck, with what the source says of addresses, if there is

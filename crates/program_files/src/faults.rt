@@ -175,7 +175,7 @@ fn push_source_hint(text: &mut String, fault: &Fault, file: &FaultyFile<'_>) {
         let name = file.name;
         let _ = writeln!(
             text,
-            "{name} is text: a source wants --source, or is assembled first where a command hasn't that"
+            "{name} is text and no tape: a source wants --source, or is assembled first for a command without it; a declaration stands behind the tape"
         );
     }
 }

@@ -13,7 +13,10 @@ use std::rt::Files;
 use streams::standard::{Reads, Writes};
 
 /// What a name of the command line stands for: `-` for standard input, else a file.
-pub fn input_of<R: Files + Input>(rt: &R, name: &str) -> Result<Either<R::Reader, R::File>, Fault> {
+pub(crate) fn input_of<R: Files + Input>(
+    rt: &R,
+    name: &str,
+) -> Result<Either<R::Reader, R::File>, Fault> {
     if name == "-" {
         return Ok(Either::Left(rt.reader()));
     }

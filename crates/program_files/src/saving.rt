@@ -1,4 +1,4 @@
-//! The files to which goes what `verify` found.
+//! The files that `verify --save` writes.
 
 ghost use Rattle.std.specs.Prelude.{◌≡◌, false, IfOk};
 

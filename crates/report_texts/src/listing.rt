@@ -242,12 +242,12 @@ fn write_note<A: Allocator>(pen: &mut Pen<A>, note: Option<SourceNote<'_>>) {
     };
     pen.mark(b"<td>");
     pen.note();
-    if !note.place.is_empty() {
-        pen.say(note.place);
+    if !note.label.is_empty() {
+        pen.say(note.label);
         pen.put(b", ");
     }
     pen.numbered(b"line ", note.line);
-    if !note.text.is_empty() {
+    if note.is_first {
         pen.put(b": ");
         pen.say(note.text);
     }

@@ -18,22 +18,24 @@ struct Span {
 /// Where the note on an address stands.
 #[derive(Clone, Copy)]
 struct Entry {
-    place: Span,
-    /// The number of the line; 0 where there is no note.
+    label: Span,
     line: usize,
     text: Span,
+    is_first: bool,
 }
 
 /// What a source says of an address.
 #[derive(Clone, Copy)]
 pub struct SourceNote<'n> {
-    /// The label at or before the address, and how far behind that it is, such as `LOOP+2`; empty where there
-    /// is no label.
-    pub place: &'n [u8],
+    /// The last label before the word, and how far behind that its address is, such as `LOOP+2`; empty where there
+    /// is no label, or where its address is a later one.
+    pub label: &'n [u8],
     /// The number of the line, from 1, counted over all parts.
     pub line: usize,
-    /// The line's text; empty where the word isn't the first one of its line.
+    /// The line's text.
     pub text: &'n [u8],
+    /// Whether the word is the first one of its line.
+    pub is_first: bool,
 }
 
 /// A note for each address to which a source gives a word.
@@ -41,26 +43,24 @@ pub struct SourceNote<'n> {
 pub struct SourceNotes<A: Allocator> {
     bytes: Vec<u8, A>,
     /// One for each address.
-    entries: Vec<Entry, A>,
+    entries: Vec<Option<Entry>, A>,
 }
 
 impl<A: Allocator> SourceNotes<A> {
     /// The note on an address; none where the source gives it no word.
     pub fn at(&self, at: Word) -> Option<SourceNote<'_>> {
-        let entry = self.entries.get(at.index())?;
-        if entry.line == 0 {
-            return None;
-        }
+        let entry = self.entries.get(at.index()).copied().flatten()?;
         Some(SourceNote {
-            place: self
+            label: self
                 .bytes
-                .get(entry.place.from..entry.place.to)
+                .get(entry.label.from..entry.label.to)
                 .unwrap_or(b""),
             line: entry.line,
             text: self
                 .bytes
                 .get(entry.text.from..entry.text.to)
                 .unwrap_or(b""),
+            is_first: entry.is_first,
         })
     }
 }
@@ -68,8 +68,9 @@ impl<A: Allocator> SourceNotes<A> {
 /// How far a listing is read.
 #[derive(Clone, Copy)]
 struct Reached<'l> {
-    /// The number of the source's line.
+    /// The number of the source's line, and its text.
     line: usize,
+    text: &'l [u8],
     /// The last label, and its address as soon as a word stands there.
     label: &'l [u8],
     label_at: Option<Word>,
@@ -119,10 +120,10 @@ impl<'l> Reached<'l> {
         }
     }
 
-    /// Writes the last label, and how far behind it an address is.
-    fn write_place<A: Allocator>(&self, pen: &mut Pen<A>, at: Word) {
+    /// Writes the last label, and how far behind it an address is, if it is behind it.
+    fn write_label<A: Allocator>(&self, pen: &mut Pen<A>, at: Word) {
         if let Some(label_at) = self.label_at {
-            if !self.label.is_empty() {
+            if !self.label.is_empty() && label_at <= at {
                 pen.put(self.label);
                 write_offset(pen, at.add(label_at.complement().increment()));
             }
@@ -130,18 +131,19 @@ impl<'l> Reached<'l> {
     }
 
     /// Writes the note on an address.
-    fn write<A: Allocator>(&self, pen: &mut Pen<A>, at: Word, text: &[u8]) -> Entry {
+    fn write<A: Allocator>(&self, pen: &mut Pen<A>, at: Word, is_first: bool) -> Entry {
         let from = pen.len();
-        self.write_place(pen, at);
+        self.write_label(pen, at);
         let middle = pen.len();
-        pen.put(text);
+        pen.put(self.text);
         Entry {
-            place: Span { from, to: middle },
+            label: Span { from, to: middle },
             line: self.line,
             text: Span {
                 from: middle,
                 to: pen.len(),
             },
+            is_first,
         }
     }
 }
@@ -149,37 +151,25 @@ impl<'l> Reached<'l> {
 /// Adds what a row of a listing says: a row with a word and no text goes on with the line above it.
 fn add_row<'l, A: Allocator>(
     pen: &mut Pen<A>,
-    entries: &mut [Entry],
+    entries: &mut [Option<Entry>],
     reached: &mut Reached<'l>,
     row: &'l [u8],
 ) {
     let address = address_of(row);
     let text = row.get(TEXT..).unwrap_or(b"").trim_ascii();
-    if address.is_none() || !text.is_empty() {
+    let is_first = !text.is_empty();
+    if address.is_none() || is_first {
         reached.line = reached.line.saturating_add(1);
+        reached.text = text;
     }
     reached.go_on(address, text);
     let Some(at) = address else {
         return;
     };
-    let found = reached.write(pen, at, text);
+    let found = reached.write(pen, at, is_first);
     if let Some(entry) = entries.get_mut(at.index()) {
-        *entry = found;
+        *entry = Some(found);
     }
-}
-
-/// No note on any address.
-fn no_entries<A: Allocator>(alloc: A) -> Result<Vec<Entry, A>, AllocError> {
-    let nowhere = Span { from: 0, to: 0 };
-    let mut entries = Vec::new(alloc);
-    for _ in 0..4096 {
-        entries.push(Entry {
-            place: nowhere,
-            line: 0,
-            text: nowhere,
-        })?;
-    }
-    Ok(entries)
 }
 
 /// The notes of a source whose listing `Program::write_listing` wrote; of several words for one address that
@@ -193,9 +183,10 @@ pub fn notes_of<A: Allocator + Copy>(
     listing: &[u8],
 ) -> Result<SourceNotes<A>, AllocError> {
     let mut pen = Pen::new(alloc, Form::Text, &WordSet::empty());
-    let mut entries = no_entries(alloc)?;
+    let mut entries = Vec::from_elem(alloc, None, 4096)?;
     let mut reached = Reached {
         line: 0,
+        text: b"",
         label: b"",
         label_at: None,
     };

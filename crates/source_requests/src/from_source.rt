@@ -12,6 +12,7 @@ use commands::status::{Fault, Status};
 use declaration::DeclarationFault;
 use fault_texts::{FaultyFile, push_fault};
 use labels::{Numbered, number};
+use pal_text::{Ending, statements};
 use program_files::telling::tell_with;
 use source_verdicts::SourcedFault;
 use std::alloc::Global;
@@ -148,6 +149,7 @@ fn answer_given<R: Files + Input + Print + Eprint>(
     given: &Given,
 ) -> Result<Status, Fault> {
     let slices = lend(alloc, &given.parts)?;
+    tell_unread(rt, alloc, &sourced.sources, &slices);
     match done_with(rt, alloc, &slices, given, sourced) {
         Ok(status) => Ok(status),
         Err(SourcedFault::Numbering(fault)) => {
@@ -156,6 +158,31 @@ fn answer_given<R: Files + Input + Print + Eprint>(
         Err(SourcedFault::Command(fault)) => {
             tell_command(rt, alloc, &fault, sourced, given, &slices)
         }
+    }
+}
+
+/// The place of the first part that ends the program by `$`.
+fn ending_part(alloc: Global, parts: &[&[u8]]) -> Option<usize> {
+    for (index, part) in parts.iter().enumerate() {
+        if let Ok(read) = statements(alloc, part) {
+            if read.ending == Ending::Dollar {
+                return Some(index);
+            }
+        }
+    }
+    None
+}
+
+/// Says on standard error that a part isn't read, since the program ends before it.
+fn tell_unread<R: Eprint>(rt: &R, alloc: Global, names: &[&str], parts: &[&[u8]]) {
+    let Some(index) = ending_part(alloc, parts) else {
+        return;
+    };
+    let Some(name) = names.get(index) else {
+        return;
+    };
+    if let Some(unread) = names.get(index.saturating_add(1)) {
+        let _ = eprintln!(rt; "{name} ends the program by $: {unread} isn't read");
     }
 }
 

@@ -17,7 +17,7 @@ use commands::verifying::{Answer, Lack, VerifyOptions, answer_status, verify_pro
 use commands::watched_session::watch_session;
 use fault_texts::push_omissions;
 use labels::{Numbered, name_declaration};
-use program_files::drafted::report_stuck;
+use program_files::drafted::{is_stuck_fault, report_stuck};
 use program_files::faults::{bound_text, stuck_address, with_omissions};
 use program_files::files::{open_input, open_output};
 use program_files::saving::{save_answer, save_proposed};
@@ -33,7 +33,6 @@ use std::io;
 use std::rt::Files;
 use streams::standard::{Reads, Writes};
 use streams::{ByteSink, put};
-use turns::GuessFault;
 use word12::Word;
 use wordset::WordSet;
 
@@ -49,7 +48,7 @@ pub struct SourceText<'a> {
 }
 
 /// Bytes in memory as an input.
-fn input_of(bytes: &[u8]) -> Reads<&[u8]>
+fn lent_input(bytes: &[u8]) -> Reads<&[u8]>
     ensures { result.failed ≡ false }
 {
     Reads::new(bytes)
@@ -59,14 +58,14 @@ fn input_of(bytes: &[u8]) -> Reads<&[u8]>
 fn frames_of(numbered: &Numbered<Global>) -> Reads<&[u8]>
     ensures { result.failed ≡ false }
 {
-    input_of(&numbered.tape)
+    lent_input(&numbered.tape)
 }
 
 /// A declaration in memory.
 fn promise_of(numbered: &Numbered<Global>) -> Reads<&[u8]>
     ensures { result.failed ≡ false }
 {
-    input_of(&numbered.declaration)
+    lent_input(&numbered.declaration)
 }
 
 /// The lines of a search that is stuck at this address, with what the program shows by itself before them,
@@ -172,7 +171,7 @@ pub fn check_program<R: Files + Input + Print>(
     check_source(alloc, given.parts, given.declaration, &mut claims, &mut out)
 }
 
-/// Writes to standard output what is told, with what the source says of it where that is asked for.
+/// Writes to standard output what is told, with what the source says of its addresses.
 fn tell_sourced<R: Print>(
     rt: &R,
     alloc: Global,
@@ -366,19 +365,12 @@ fn guess_with_reasons<R: Files + Print + Eprint>(
     Ok(status)
 }
 
-/// Whether a search is given up with this fault since it is stuck.
-fn is_stuck_fault(fault: &SourcedFault) -> bool {
-    match fault {
-        SourcedFault::Command(fault) => matches!(fault, Fault::Guess(GuessFault::Stuck(_))),
-        SourcedFault::Numbering(_) => false,
-    }
-}
-
-/// Whether the answer of a search is that it is stuck.
-fn is_stuck(answer: &Result<Status, SourcedFault>) -> bool {
+/// Whether the answer of a search for a program that is given by its source is that it is stuck.
+fn is_stuck_on_source(answer: &Result<Status, SourcedFault>) -> bool {
     match answer {
         Ok(status) => *status == Status::Refused,
-        Err(fault) => is_stuck_fault(fault),
+        Err(SourcedFault::Command(fault)) => is_stuck_fault(fault),
+        Err(SourcedFault::Numbering(_)) => false,
     }
 }
 
@@ -419,7 +411,7 @@ pub fn guess_program<R: Files + Print + Eprint>(
     let Some(name) = report else {
         return answer;
     };
-    if is_stuck(&answer) {
+    if is_stuck_on_source(&answer) {
         report_stuck_program(rt, alloc, given, numbered, name)?;
     }
     answer
@@ -483,7 +475,7 @@ fn push_proposal(
     match numbers {
         None => declare(alloc, &mut frames, options, &mut text),
         Some(numbers) => {
-            let mut promised = input_of(numbers);
+            let mut promised = lent_input(numbers);
             complete(alloc, &mut frames, &mut promised, options.reads, &mut text)
         }
     }

@@ -11,7 +11,8 @@ use std::alloc::{AllocError, Global};
 use streams::standard::Writes;
 use word12::Word;
 
-/// Behind each of these words four digits are an address.
+/// Behind each of these words four digits are an address, in the lines that the crates watch_texts, verdict_texts,
+/// bound_texts and fault_texts write.
 const BEFORE_ADDRESSES: [&[u8]; 10] = [
     b"into", b"write", b"read", b"reads", b"pointer", b"calls", b"through", b"at", b"to", b"of",
 ];
@@ -35,7 +36,12 @@ fn listing_of(alloc: Global, parts: &[&[u8]], declaration: &[u8]) -> Result<Vec<
     let mut listing = Vec::new(alloc);
     match assemble(alloc, parts, machine_of(declaration)) {
         Ok(program) => {
-            let _ = program.write_listing(&mut Writes::new(&mut listing));
+            if program
+                .write_listing(&mut Writes::new(&mut listing))
+                .is_err()
+            {
+                return Err(Fault::NoMemory);
+            }
             Ok(listing)
         }
         Err(AssembleFault::NoMemory) => Err(Fault::NoMemory),
@@ -86,7 +92,7 @@ fn role_behind(word: &[u8]) -> Role {
 
 /// Adds a word of a line; behind an address in brackets what the source calls it, and in advice this in place of
 /// the address.
-fn push_word(
+fn push_part(
     text: &mut Vec<u8>,
     word: &[u8],
     role: Role,
@@ -100,33 +106,40 @@ fn push_word(
         return text.extend_from_slice(word);
     };
     match role {
-        Role::Advice => push_name(text, at, notes.at(at))?,
+        Role::Advice => push_label(text, at, notes.at(at))?,
         Role::Text | Role::Address => {
             text.extend_from_slice(&at.to_octal())?;
-            push_place(text, notes.at(at))?;
+            push_label_in_brackets(text, notes.at(at))?;
         }
     }
     text.extend_from_slice(word.get(4..).unwrap_or(b""))
 }
 
 /// Adds what the source calls an address, or its digits where the source has no name for it.
-fn push_name(text: &mut Vec<u8>, at: Word, note: Option<SourceNote<'_>>) -> Result<(), AllocError> {
+fn push_label(
+    text: &mut Vec<u8>,
+    at: Word,
+    note: Option<SourceNote<'_>>,
+) -> Result<(), AllocError> {
     match note {
-        Some(note) if !note.place.is_empty() => text.extend_from_slice(note.place),
+        Some(note) if !note.label.is_empty() => text.extend_from_slice(note.label),
         _ => text.extend_from_slice(&at.to_octal()),
     }
 }
 
 /// Adds in brackets what the source calls an address, if it does.
-fn push_place(text: &mut Vec<u8>, note: Option<SourceNote<'_>>) -> Result<(), AllocError> {
+fn push_label_in_brackets(
+    text: &mut Vec<u8>,
+    note: Option<SourceNote<'_>>,
+) -> Result<(), AllocError> {
     let Some(note) = note else {
         return Ok(());
     };
-    if note.place.is_empty() {
+    if note.label.is_empty() {
         return Ok(());
     }
     text.extend_from_slice(b" (")?;
-    text.extend_from_slice(note.place)?;
+    text.extend_from_slice(note.label)?;
     text.extend_from_slice(b")")
 }
 
@@ -160,13 +173,13 @@ fn push_named(
     for (end, byte) in line.iter().enumerate() {
         if *byte == b' ' {
             let word = line.get(start..end).unwrap_or(b"");
-            push_word(text, word, role, notes)?;
+            push_part(text, word, role, notes)?;
             text.push(b' ')?;
             role = role_behind(word);
             start = end.saturating_add(1);
         }
     }
-    push_word(text, line.get(start..).unwrap_or(b""), role, notes)
+    push_part(text, line.get(start..).unwrap_or(b""), role, notes)
 }
 
 /// Adds the line of an instruction, and below it the source's line.
@@ -187,8 +200,8 @@ fn push_instruction(
     text.push(b':')?;
     text.extend_from_slice(Buffer::new().format(spot.line).as_bytes())?;
     text.extend_from_slice(b": ")?;
-    if !begins_with_tag(note) {
-        text.extend_from_slice(note.place)?;
+    if !note.label.is_empty() && !begins_with_tag(note) {
+        text.extend_from_slice(note.label)?;
         text.extend_from_slice(b"  ")?;
     }
     text.extend_from_slice(note.text)
@@ -196,7 +209,7 @@ fn push_instruction(
 
 /// Whether a source's line begins with the tag that is the name of its address.
 fn begins_with_tag(note: SourceNote<'_>) -> bool {
-    match note.text.strip_prefix(note.place) {
+    match note.text.strip_prefix(note.label) {
         Some(rest) => rest.starts_with(b","),
         None => false,
     }

@@ -6,11 +6,11 @@ ghost use Rattle.std.specs.Prelude.{◌≡◌, false, [], IfOk};
 use bin_tape::Image;
 use command_parts::text::{push_dump_line, push_place, push_word};
 use declaration::{Declaration, Owner};
-use instruct::{Operation, refers_indirectly, target};
+use instruct::{Operation, Profile};
 use itoa::Buffer;
 use peripherals::{Event, NoMemory, Start};
 use policy::{Call, Rule, Watched, Watcher};
-use processor::{Cpu, effective_address, is_auto_index};
+use processor::{Cpu, DecodedInstruction, Reference, is_auto_index};
 use std::alloc::{AllocError, Allocator};
 use word12::Word;
 
@@ -61,37 +61,36 @@ fn push_change<A: Allocator>(
     push_line(text, b", and would hold ", then, b"")
 }
 
-/// Adds what a cell is that is no variable: an entry, an instruction of a body, or else what to declare if the
-/// program may write it.
+/// Adds what else a cell is that is no variable, an entry or an instruction, and what to declare if the program
+/// may write it.
 fn push_variable_advice<A: Allocator, D: Allocator>(
     text: &mut Vec<u8, A>,
     declaration: &Declaration<D>,
     cell: Word,
 ) -> Result<(), AllocError> {
     if declaration.is_entry(cell) {
-        return text.extend_from_slice(b": it is an entry\n");
+        return text.extend_from_slice(b", but an entry\n");
     }
     if declaration.owner_of(cell).is_some() {
-        return push_line(
-            text,
-            b": it is code; if it may change, add `var ",
-            cell,
-            b"`",
-        );
+        return push_line(text, b", but code; if it may change, add `var ", cell, b"`");
     }
-    push_line(text, b"; if it may, add `var ", cell, b"`")
+    push_line(text, b"; if it may be written, add `var ", cell, b"`")
 }
 
-/// Adds the line of the pointer of an indirect reference.
+/// Adds the line of the pointer from which an address comes, if the reference is indirect.
 fn push_pointer<A: Allocator>(
     text: &mut Vec<u8, A>,
-    word: Word,
-    named: Word,
+    reference: &Reference,
 ) -> Result<(), AllocError> {
-    if !refers_indirectly(word) {
+    if !reference.indirect {
         return Ok(());
     }
-    push_line(text, b"the address is that of the pointer ", named, b"")
+    push_line(
+        text,
+        b"the address comes from the pointer ",
+        reference.named,
+        b"",
+    )
 }
 
 /// Adds the lines of a cell that is written: the pointer that is stepped, or what is stored into; and of the
@@ -100,22 +99,21 @@ fn push_write<A: Allocator, D: Allocator>(
     text: &mut Vec<u8, A>,
     declaration: &Declaration<D>,
     cpu: &Cpu,
-    word: Word,
+    reference: &Reference,
 ) -> Result<(), AllocError> {
-    let named = target(word, cpu.pc);
-    let steps = refers_indirectly(word) && is_auto_index(named);
-    if steps && !declaration.is_variable(named) {
+    let named = reference.named;
+    if reference.steps_pointer() && !declaration.is_variable(named) {
         push_place(text, b"it steps the pointer ", named)?;
         text.extend_from_slice(b", which is no variable")?;
         push_variable_advice(text, declaration, named)?;
         return push_change(text, cpu, named, cpu.memory.get(named).increment());
     }
-    let place = effective_address(&cpu.memory, word, cpu.pc);
+    let place = reference.place;
     push_place(text, b"it stores into ", place)?;
     text.extend_from_slice(b", which is no variable")?;
     push_variable_advice(text, declaration, place)?;
-    push_pointer(text, word, named)?;
-    match Operation::of(word) {
+    push_pointer(text, reference)?;
+    match reference.operation {
         Operation::Isz => push_change(text, cpu, place, cpu.memory.get(place).increment()),
         _ => push_change(text, cpu, place, cpu.ac),
     }
@@ -131,7 +129,7 @@ fn push_held<A: Allocator>(text: &mut Vec<u8, A>, cpu: &Cpu, cell: Word) -> Resu
 fn push_read_advice<A: Allocator>(text: &mut Vec<u8, A>, cell: Word) -> Result<(), AllocError> {
     push_line(
         text,
-        b", which isn't on the list; if it may, add `read ",
+        b", which isn't on the list of reads; if it may be read, add `read ",
         cell,
         b"`",
     )
@@ -143,19 +141,18 @@ fn push_read<A: Allocator, D: Allocator>(
     declaration: &Declaration<D>,
     calls: &[Call],
     cpu: &Cpu,
-    word: Word,
+    reference: &Reference,
 ) -> Result<(), AllocError> {
-    let named = target(word, cpu.pc);
+    let named = reference.named;
     let own = calls.last().is_some_and(|call| call.entry == named);
-    if refers_indirectly(word) && !declaration.may_read(named) && !own {
+    if reference.indirect && !declaration.may_read(named) && !own {
         push_place(text, b"it reads the pointer ", named)?;
         push_read_advice(text, named)?;
         return push_held(text, cpu, named);
     }
-    let place = effective_address(&cpu.memory, word, cpu.pc);
-    push_place(text, b"it reads ", place)?;
-    push_read_advice(text, place)?;
-    push_held(text, cpu, place)
+    push_place(text, b"it reads ", reference.place)?;
+    push_read_advice(text, reference.place)?;
+    push_held(text, cpu, reference.place)
 }
 
 /// Adds the line of the addresses to which a call may return: those by the offsets that are declared of its
@@ -202,21 +199,20 @@ fn push_offset_advice<A: Allocator>(
     if call.entry != entry || offset > 7 {
         return Ok(());
     }
-    text.extend_from_slice(b"if it may, add ")?;
+    text.extend_from_slice(b"if it may return there, add ")?;
     text.extend_from_slice(Buffer::new().format(offset).as_bytes())?;
     push_line(text, b" to the returns of `sub ", entry, b"`")
 }
 
-/// Adds the lines of a return: where it goes, the call that it doesn't return from, and where that may return
-/// to.
+/// Adds the lines of a return through an entry: where it goes, the call that it doesn't return from, and where
+/// that may return to.
 fn push_return<A: Allocator, D: Allocator>(
     text: &mut Vec<u8, A>,
     declaration: &Declaration<D>,
     calls: &[Call],
     cpu: &Cpu,
-    word: Word,
+    entry: Word,
 ) -> Result<(), AllocError> {
-    let entry = target(word, cpu.pc);
     push_place(text, b"it goes to ", cpu.memory.get(entry))?;
     push_place(text, b" by the word in the entry ", entry)?;
     match calls.last() {
@@ -241,14 +237,16 @@ fn push_outside<A: Allocator, D: Allocator>(
     push_place(text, b"", at)?;
     text.extend_from_slice(b" isn't in the running routine's body")?;
     if declaration.is_entry(at) {
-        return text.extend_from_slice(b": it is an entry, where a JMS leads\n");
+        return text.extend_from_slice(
+            b": it is an entry, which holds a return address and is never executed\n",
+        );
     }
     let Some(owner) = declaration.owner_of(at) else {
         return push_body_advice(text, calls, at);
     };
     match owner {
-        Owner::Main => text.extend_from_slice(b": it is in that of main\n"),
-        Owner::Routine(entry) => push_line(text, b": it is in that of `sub ", entry, b"`"),
+        Owner::Main => text.extend_from_slice(b": it is in main's\n"),
+        Owner::Routine(entry) => push_line(text, b": it is in the body of `sub ", entry, b"`"),
     }
 }
 
@@ -258,7 +256,7 @@ fn push_body_advice<A: Allocator>(
     calls: &[Call],
     at: Word,
 ) -> Result<(), AllocError> {
-    text.extend_from_slice(b"; if it is code of it, add ")?;
+    text.extend_from_slice(b"; if it belongs there, add ")?;
     match calls.last() {
         None => push_line(text, b"`main ", at, b"`"),
         Some(call) => push_line(text, b"it to the body of `sub ", call.entry, b"`"),
@@ -266,10 +264,22 @@ fn push_body_advice<A: Allocator>(
 }
 
 /// Adds the line of a JMS to an address that is no entry, and what to declare if a routine begins there.
-fn push_no_entry<A: Allocator>(text: &mut Vec<u8, A>, place: Word) -> Result<(), AllocError> {
+fn push_no_entry<A: Allocator, D: Allocator>(
+    text: &mut Vec<u8, A>,
+    declaration: &Declaration<D>,
+    place: Word,
+) -> Result<(), AllocError> {
     push_place(text, b"it goes to ", place)?;
-    text.extend_from_slice(b", which is no entry; if a routine begins there, add ")?;
-    push_line(text, b"`sub ", place, b" body .. returns ..`")
+    text.extend_from_slice(b", which is no entry; ")?;
+    if is_auto_index(place) {
+        return text.extend_from_slice(b"no routine can begin in 0010 to 0017\n");
+    }
+    push_place(text, b"if a routine begins there, add `sub ", place)?;
+    text.extend_from_slice(b" body .. returns ..`")?;
+    if declaration.owner_of(place).is_some() || declaration.is_variable(place) {
+        text.extend_from_slice(b", and take it out of the body and the variables")?;
+    }
+    text.extend_from_slice(b"\n")
 }
 
 /// Adds the line of a HLT at an address where none is declared, and what to declare if it may stand there.
@@ -283,6 +293,47 @@ fn push_no_halt<A: Allocator>(text: &mut Vec<u8, A>, at: Word) -> Result<(), All
     push_line(text, b"`, or `pause ", at, b"` if the operator may go on")
 }
 
+/// Adds the line of a step that leaves the running routine's body, or is at no instruction.
+fn push_stray<A: Allocator, D: Allocator>(
+    text: &mut Vec<u8, A>,
+    declaration: &Declaration<D>,
+    calls: &[Call],
+    cpu: &Cpu,
+) -> Result<(), AllocError> {
+    let inside = match calls.last() {
+        None => declaration.in_main(cpu.pc),
+        Some(call) => declaration.in_body(call.entry, cpu.pc),
+    };
+    if !inside {
+        return push_outside(text, declaration, calls, cpu.pc);
+    }
+    push_line(
+        text,
+        b"the word ",
+        cpu.memory.get(cpu.pc),
+        b" is no instruction of the declared machine",
+    )
+}
+
+/// Adds the lines that say what a memory reference does that its rule doesn't allow.
+fn push_reference<A: Allocator, D: Allocator>(
+    text: &mut Vec<u8, A>,
+    declaration: &Declaration<D>,
+    calls: &[Call],
+    cpu: &Cpu,
+    rule: Rule,
+) -> Result<(), AllocError> {
+    let DecodedInstruction::Refers(reference) = cpu.fetch() else {
+        return Ok(());
+    };
+    match rule {
+        Rule::WritesDeclared => push_write(text, declaration, cpu, &reference),
+        Rule::CallsEntries => push_no_entry(text, declaration, reference.place),
+        Rule::ReturnsToItsCall => push_return(text, declaration, calls, cpu, reference.named),
+        _ => push_read(text, declaration, calls, cpu, &reference),
+    }
+}
+
 /// Adds the lines that say what the step does that its rule doesn't allow.
 fn push_act<A: Allocator, D: Allocator>(
     text: &mut Vec<u8, A>,
@@ -291,33 +342,12 @@ fn push_act<A: Allocator, D: Allocator>(
     cpu: &Cpu,
     rule: Rule,
 ) -> Result<(), AllocError> {
-    let word = cpu.memory.get(cpu.pc);
     match rule {
-        Rule::StaysInBody => {
-            let inside = match calls.last() {
-                None => declaration.in_main(cpu.pc),
-                Some(call) => declaration.in_body(call.entry, cpu.pc),
-            };
-            if inside {
-                push_line(
-                    text,
-                    b"the word ",
-                    word,
-                    b" is no instruction of the declared machine",
-                )
-            } else {
-                push_outside(text, declaration, calls, cpu.pc)
-            }
-        }
-        Rule::WritesDeclared => push_write(text, declaration, cpu, word),
-        Rule::CallsEntries => {
-            let place = effective_address(&cpu.memory, word, cpu.pc);
-            push_no_entry(text, place)
-        }
-        Rule::ReturnsToItsCall => push_return(text, declaration, calls, cpu, word),
+        Rule::StaysInBody => push_stray(text, declaration, calls, cpu),
         Rule::HaltsDeclared => push_no_halt(text, cpu.pc),
         Rule::KeepsCode => push_line(text, b"the word at ", cpu.pc, b" isn't the tape's"),
-        Rule::ReadsListed => push_read(text, declaration, calls, cpu, word),
+        Rule::WritesDeclared | Rule::CallsEntries | Rule::ReturnsToItsCall | Rule::ReadsListed =>
+            push_reference(text, declaration, calls, cpu, rule),
     }
 }
 
@@ -333,21 +363,36 @@ fn push_running<A: Allocator>(text: &mut Vec<u8, A>, calls: &[Call]) -> Result<(
     }
 }
 
-/// Adds the instruction before a step whose address is in the wrong body.
-fn push_before<A: Allocator>(
+/// An instruction that was carried out: its address and its word.
+#[derive(Clone, Copy)]
+struct Executed {
+    at: Word,
+    word: Word,
+}
+
+/// The instruction at the program counter.
+fn next_of(cpu: &Cpu) -> Executed {
+    Executed {
+        at: cpu.pc,
+        word: cpu.memory.get(cpu.pc),
+    }
+}
+
+/// Adds the instruction from which control came, for a step that leaves the running routine's body.
+fn push_origin<A: Allocator>(
     text: &mut Vec<u8, A>,
-    cpu: &Cpu,
+    profile: Profile,
     rule: Rule,
-    before: Option<Word>,
+    last: Option<Executed>,
 ) -> Result<(), AllocError> {
-    let Some(at) = before else {
+    let Some(executed) = last else {
         return Ok(());
     };
     if rule != Rule::StaysInBody {
         return Ok(());
     }
-    text.extend_from_slice(b"the instruction before it:\n")?;
-    push_dump_line(text, at, Some(cpu.memory.get(at)), cpu.profile)
+    text.extend_from_slice(b"control came from:\n")?;
+    push_dump_line(text, executed.at, Some(executed.word), profile)
 }
 
 /// What a step that breaks a rule is about to do: the instruction with its address, what the rule asks,
@@ -357,7 +402,7 @@ fn lines_of<A: Allocator, D: Allocator, C: Allocator>(
     declaration: &Declaration<D>,
     watcher: &Watcher<C>,
     rule: Rule,
-    before: Option<Word>,
+    last: Option<Executed>,
 ) -> Result<Vec<u8, A>, AllocError> {
     let cpu = watcher.world().cpu();
     let calls = watcher.calls();
@@ -366,7 +411,7 @@ fn lines_of<A: Allocator, D: Allocator, C: Allocator>(
     push_dump_line(&mut text, cpu.pc, Some(word), declaration.profile())?;
     push_asked(&mut text, rule)?;
     push_act(&mut text, declaration, calls, cpu, rule)?;
-    push_before(&mut text, cpu, rule, before)?;
+    push_origin(&mut text, declaration.profile(), rule, last)?;
     push_running(&mut text, calls)?;
     Ok(text)
 }
@@ -390,14 +435,14 @@ pub fn breach_lines<A: Allocator + Copy, D: Allocator>(
         return Ok(Vec::new(alloc));
     }
     let mut watcher = Watcher::new(alloc, image, declaration, &Start::zero());
-    let mut before = None;
+    let mut last = None;
     for index in 0..event {
         if let Some(happened) = events.get(index) {
             if *happened == Event::Step && watcher.world().halted_at().is_none() {
-                before = Some(watcher.world().cpu().pc);
+                last = Some(next_of(watcher.world().cpu()));
             }
             watcher.next(declaration, *happened)?;
         }
     }
-    Ok(lines_of(alloc, declaration, &watcher, rule, before)?)
+    Ok(lines_of(alloc, declaration, &watcher, rule, last)?)
 }

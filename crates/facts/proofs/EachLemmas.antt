@@ -1,8 +1,9 @@
 -- Going through a set: each of its words passes, or one of them doesn't.
-use Rattle.std.proofs.Common.{◌≡◌, ℕ, ◌+◌, ◌<◌, Bool, true, false, sym, ◌∙◌, subst, inl, inr, arith}
+use Rattle.std.proofs.Common.{◌≡◌, ℕ, ◌+◌, ◌<◌, Bool, true, false, ◌&&◌, refl, sym, ◌∙◌, subst, inl, inr, arith}
 use Rattle.std.specs.Prelude.{IsTrue, ◌↔◌}
-use Rattle.std.proofs.lemmas.Bool.{cases_lt, cases_eq, true≢false, false≢true}
-use Rattle.wordset.specs.Words.{Words, IsFirstFrom, HasNoneFrom}
+use Rattle.std.proofs.lemmas.Bool.{and_from, cases_lt, cases_eq, true≢false, false≢true}
+use Rattle.wordset.specs.Words.{Words, IsFirstFrom, HasNoneFrom, some_below}
+use Rattle.wordset.proofs.Tests.{some_from, some_none_of}
 
 -- A word of the set fails.
 pub one_fails : (p : ℕ → Type 0) (set : Words) {from w : ℕ} (t : Bool) → IsFirstFrom from set w → t ≡ false → (p w → IsTrue t) → IsTrue false ↔ ((a : ℕ) → a < 4096 → set a ≡ true → p a)
@@ -27,3 +28,14 @@ all_pass p set {from} none before a lt is = elim (cases_lt a from) [
   | inl h ↦ before a h is
   | inr h ↦ absurd (true≢false (sym is ∙ none a h lt))
 ]
+
+-- Some word of the set has a property, or none has.
+pub some_has : (set t : Words) {from w : ℕ} → IsFirstFrom from set w → t w ≡ true → true ≡ some_below 4096 (λ y. set y && t y)
+some_has set t {from} {w} first e = sym (some_from 4096 (λ y. set y && t y) w first.small (and_from (set w) (t w) first.within e))
+
+pub none_has : (set t : Words) → ((a : ℕ) → a < 4096 → set a ≡ true → t a ≡ false) → false ≡ some_below 4096 (λ y. set y && t y)
+none_has set t h = sym (some_none_of 4096 (λ y. set y && t y) (λ v lt. go v lt (set v) refl))
+  where
+    go : (v : ℕ) → v < 4096 → (b : Bool) → set v ≡ b → (b && t v) ≡ false
+    go v lt true e = h v lt e
+    go v lt false e = refl

@@ -1,5 +1,5 @@
 -- Outcomes that agree.
-use Rattle.std.proofs.Common.{◌≡◌, ℕ, ◌+◌, ◌-◌, ◌<◌, ◌%◌, ◌==◌, Bool, true, false, not, ◌&&◌, Some, List, [], ◌∷◌, ◌++◌, refl, sym, ap, ◌∙◌, arith}
+use Rattle.std.proofs.Common.{◌≡◌, ℕ, ◌+◌, ◌-◌, ◌<◌, ◌%◌, ◌==◌, Bool, true, false, not, ◌&&◌, Some, List, [], ◌∷◌, ◌++◌, refl, sym, ap, ◌∙◌, subst, arith}
 use Rattle.std.specs.Prelude.{if◌then◌else◌}
 use Rattle.wordset.specs.Words.{plus, minus, Words, SameWords, one, everything, has_some, without, shifted}
 use Rattle.facts.specs.Facts.{Ac, Cell, Fact, Place, narrowed}
@@ -20,6 +20,14 @@ not_empty {r} {b} e = ap not e ∙ twice b
     twice : (c : Bool) → not (not c) ≡ c
     twice true = refl
     twice false = refl
+
+pub has_no_second : {r : Bool} (a b c : Bool) → r ≡ not b → r ≡ true → false ≡ (a && (b && c))
+has_no_second a true c e t = absurd (let z : true ≡ false = sym t ∙ e in cc)
+has_no_second true false c e t = refl
+has_no_second false false c e t = refl
+
+pub has_words : {r b : Bool} → r ≡ not b → r ≡ false → true ≡ b
+has_words e f = ap not (sym f) ∙ not_empty e
 
 pub all_six : {a b c d e f g h i j k l : Bool} → a ≡ g → b ≡ h → c ≡ i → d ≡ j → e ≡ k → f ≡ l → (a && (b && (c && (d && (e && f))))) ≡ (g && (h && (i && (j && (k && l)))))
 all_six p q r s t u = rw (p, q, r, s, t, u) refl
@@ -49,6 +57,9 @@ returns_some {a} {b} f g t e h = let y : b ≡ true = sym e ∙ t in rw y (h, tt
 
 pub given_none : {a b : Bool} (p : Outcome) → a ≡ false → a ≡ b → AgreeingOutcomes [] (given b p)
 given_none {a} {b} p t e = let y : b ≡ false = sym e ∙ t in rw y tt
+
+pub chosen_agrees : {r x : Bool} (os : List Outcome) (z : Bool) (o : Outcome) → r ≡ x → AgreeingOutcomes os (given (r && z) o) → AgreeingOutcomes os (given (x && z) o)
+chosen_agrees {r} {x} os z o e h = subst (λ b. AgreeingOutcomes os (given (b && z) o)) e h
 
 pub append_agree : (a b c d : List Outcome) → AgreeingOutcomes a b → AgreeingOutcomes c d → AgreeingOutcomes (a ++ c) (b ++ d)
 append_agree [] [] c d h k = k

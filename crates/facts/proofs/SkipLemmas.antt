@@ -1,5 +1,5 @@
 -- The words of group 2: the words that skip, and what the word makes of them.
-use Rattle.std.proofs.Common.{◌≡◌, ℕ, ◌<◌, ◌==◌, Bool, true, false, not, ◌&&◌, ◌||◌, List, refl, sym, ap, ◌∙◌, subst, arith}
+use Rattle.std.proofs.Common.{◌≡◌, ℕ, ◌<◌, ◌==◌, Bool, true, false, not, ◌&&◌, ◌||◌, refl, sym, ap, ◌∙◌, arith}
 use Rattle.std.specs.Prelude.{if◌then◌else◌, nat_le}
 use Rattle.std.proofs.lemmas.Bool.Decides.{nat_tests}
 use Rattle.instruct.specs.Bits.{has_bit}
@@ -8,8 +8,8 @@ use Rattle.wordset.specs.Words.{Words, SameWords, one, between, nothing, all_wor
 use Rattle.std.proofs.lemmas.Bool.{lt-ltb}
 use Rattle.facts.specs.Facts.{Ac, Fact}
 use Rattle.facts.specs.Changes.{assigned, with_name}
-use Rattle.facts.specs.Outcomes.{Outcome, given, related2}
-use Rattle.facts.specs.Same.{Agree, AgreeingOutcomes}
+use Rattle.facts.specs.Outcomes.{related2}
+use Rattle.facts.specs.Same.{Agree}
 
 last_word : (v : ℕ) → v < 4096 → nat_le v 4095 ≡ true
 last_word v lt = grind (arith, nat_tests)
@@ -99,10 +99,3 @@ related_left {k} w f p e i h = go (has_bit 2 w) (has_bit 7 w) e i
     go false false q r = h
     go false true q r = absurd (cc)
     go true c q r = absurd (cc)
-
-pub chosen_agrees : (os : List Outcome) (r x y z : Bool) (o : Outcome) → r ≡ (x && y) → AgreeingOutcomes os (given (r && z) o) → AgreeingOutcomes os (given (x && (y && z)) o)
-chosen_agrees os r x y z o e h = subst (λ b. AgreeingOutcomes os (given b o)) (ap (λ b. b && z) e ∙ go x y z) h
-  where
-    go : (a b c : Bool) → ((a && b) && c) ≡ (a && (b && c))
-    go true b c = refl
-    go false b c = refl

@@ -1,31 +1,28 @@
 //! What is asked of one word at the address of a fact, each condition by itself.
 
-ghost use Rattle.std.specs.Prelude.{ℕ, ◌≡◌, ◌<◌, ◌↔◌, ◌⊎◌, true, false, IsTrue, IfSome, MatchOption, IfOk, OnOk, IfErr};
-ghost use Rattle.wordset.specs.Words.{SameWords, one};
+ghost use Rattle.std.specs.Prelude.{ℕ, ◌≡◌, ◌↔◌, true, IsTrue, MatchOption, IfOk, OnOk, IfErr};
+ghost use Rattle.wordset.specs.Words.{SameWords};
 ghost use Rattle.wordset.specs.Lanes.{words};
 ghost use Rattle.instruct.specs.declared.Instruction.TheVariants.{Operate2};
 ghost use Rattle.instruct.specs.Instructions.{kind_of, operation_of};
 ghost use Rattle.policy.specs.Rules.{IsSupported, HaltsDeclared};
-ghost use Rattle.facts.specs.Facts as said;
 ghost use Rattle.facts.specs.Facts.{possible};
 ghost use Rattle.facts.specs.Outcomes.{meaning_at, outcomes_at};
 ghost use Rattle.facts.specs.Same.{AgreeingOutcomes};
-ghost use Rattle.facts.specs.Conditions.{may_write, MayWrite, KeepsConditions, BreaksFirst, WritesAreDeclared, EntriesAreKept, WritesAreListed, ReadsAreListed, calls, is_call, jumps, called, calls_through_index, returned_through};
+ghost use Rattle.facts.specs.Conditions.{CountsItsReturn, KeepsConditions, BreaksFirst, WritesAreDeclared, EntriesAreKept, WritesAreListed, ReadsAreListed, calls, is_call, jumps, called, calls_through_index, returned_through};
 ghost use Rattle.facts.specs.Meaning.{meaning};
 ghost use Rattle.facts.specs.Places.{place_of, writes_of};
 ghost use Rattle.facts.specs.Slots.{slots};
 
 use crate::Condition;
-use crate::conditions::stores;
 use crate::dispatch::outcomes;
 use crate::entailment::{narrowed, word_of};
 use crate::fact::Fact;
 use crate::names::Name;
 use crate::outcome::Outcomes;
 use crate::place::Place;
-use crate::references::{either, steps_pointer};
+use crate::references::steps_pointer;
 use crate::room::Room;
-use crate::skipping::both;
 use instruct::{Instruction, Operation, decode, halts, refers_indirectly, target};
 use std::alloc::Allocator;
 use word12::Word;
@@ -99,7 +96,20 @@ impl<A: Allocator> Place<'_, A> {
         if !halts(word) {
             return true;
         }
-        either(self.declaration.is_stop(at), self.declaration.is_pause(at))
+        self.declaration.is_stop(at) || self.declaration.is_pause(at)
+    }
+
+    /// Whether a cell is no entry, or the one in which a word counts the running routine's return word
+    /// up.
+    fn keeps_entry(&self, fact: &Fact, at: Word, word: Word, cell: Word) -> bool
+        ensures { IsTrue result ↔ ((place_of self.now).declaration.entry cell ≡ true →
+            CountsItsReturn (place_of self.now) (meaning fact.now)
+            (meaning_at (place_of self.now) at word) cell) }
+    {
+        if !self.declaration.is_entry(cell) {
+            return true;
+        }
+        self.counts_its_return(fact, at, word, cell)
     }
 
     /// Whether each cell that a word may write is a variable or an entry. The one that a JMS itself
@@ -111,50 +121,6 @@ impl<A: Allocator> Place<'_, A> {
         if !self.is_writing(at, word) {
             return true;
         }
-        match self.written_directly(at, word) {
-            Some(cell) => self.is_declared(cell),
-            None => self.written_are_declared(fact, at, word),
-        }
-    }
-
-    /// The cell that a word writes whatever is known: the named one of a direct ISZ or DCA.
-    fn written_directly(&self, at: Word, word: Word) -> Option<Word>
-        ensures { (f : said.Fact) → IfSome result (λ cell.
-            SameWords (may_write (place_of self.now) f (meaning_at (place_of self.now) at word))
-            (one cell)) }
-    {
-        if !self.is_reference(word) {
-            return None;
-        }
-        if refers_indirectly(word) {
-            return None;
-        }
-        if !stores(word) {
-            return None;
-        }
-        Some(target(word, at))
-    }
-
-    /// Whether a cell is a variable or an entry.
-    fn is_declared(&self, cell: Word) -> bool
-        ensures { IsTrue result ↔ ((a : ℕ) → a < 4096 → one cell a ≡ true →
-            ((place_of self.now).declaration.variable a ≡ true) ⊎
-            ((place_of self.now).declaration.entry a ≡ true)) }
-    {
-        let _index = cell.index();
-        either(
-            self.declaration.is_variable(cell),
-            self.declaration.is_entry(cell),
-        )
-    }
-
-    /// Whether each cell that a word may write is a variable or an entry; the room for them is made
-    /// here alone.
-    #[inline(never)]
-    fn written_are_declared(&self, fact: &Fact, at: Word, word: Word) -> bool
-        ensures { IsTrue result ↔ WritesAreDeclared (place_of self.now) (meaning fact.now)
-            (meaning_at (place_of self.now) at word) }
-    {
         let written = self.cells_written(fact, at, word);
         self.are_declared(&written)
     }
@@ -168,49 +134,19 @@ impl<A: Allocator> Place<'_, A> {
         if !self.is_writing(at, word) {
             return true;
         }
-        if self.leaves_entries(at, word) {
-            return true;
-        }
-        self.written_are_kept(fact, at, word)
-    }
-
-    /// Whether it is seen whatever is known that a word writes no entry.
-    fn leaves_entries(&self, at: Word, word: Word) -> bool
-        ensures { IsTrue result → (f : said.Fact) (a : ℕ) → a < 4096 →
-            may_write (place_of self.now) f (meaning_at (place_of self.now) at word) a ≡ true →
-            (place_of self.now).declaration.entry a ≡ false }
-    {
-        match self.written_directly(at, word) {
-            None => false,
-            Some(cell) => !self.declaration.is_entry(cell),
-        }
-    }
-
-    /// Whether no cell that a word may write is an entry, save where ISZ counts the running
-    /// routine's own; the room for the cells is made here alone.
-    #[inline(never)]
-    fn written_are_kept(&self, fact: &Fact, at: Word, word: Word) -> bool
-        ensures { IsTrue result ↔ EntriesAreKept (place_of self.now) (meaning fact.now)
-            (meaning_at (place_of self.now) at word) }
-    {
         let written = self.cells_written(fact, at, word);
-        if !self.has_entry(&written) {
+        self.declaration.is_declared();
+        if written.is_subset(self.declaration.variables()) {
             return true;
         }
-        self.counts_own(fact, at, word, &written)
-    }
-
-    /// Whether none of the cells that a word may write is an entry, save where ISZ counts the running
-    /// routine's own.
-    #[inline(never)]
-    fn counts_own(&self, fact: &Fact, at: Word, word: Word, written: &WordSet) -> bool
-        requires { SameWords (words written.now) (may_write (place_of self.now) (meaning fact.now)
-            (meaning_at (place_of self.now) at word)) }
-        ensures { IsTrue result ↔ EntriesAreKept (place_of self.now) (meaning fact.now)
-            (meaning_at (place_of self.now) at word) }
-    {
-        let counted = self.cell_counted(fact, at, word);
-        self.keeps_entries(written, &counted)
+        let mut next = 0usize;
+        while let Some(cell) = written.first_from(next) {
+            if !self.keeps_entry(fact, at, word, cell) {
+                return false;
+            }
+            next = cell.index() + 1;
+        }
+        true
     }
 
     /// Whether each cell that a word may write is one that the running routine may write: one of
@@ -222,31 +158,6 @@ impl<A: Allocator> Place<'_, A> {
         if !self.is_writing(at, word) {
             return true;
         }
-        match self.written_directly(at, word) {
-            Some(cell) => self.may_write_cell(cell),
-            None => self.written_are_listed(fact, at, word),
-        }
-    }
-
-    /// Whether the running routine may write a cell: one of its written set or its own entry; in main any.
-    fn may_write_cell(&self, cell: Word) -> bool
-        ensures { IsTrue result ↔ ((a : ℕ) → a < 4096 → one cell a ≡ true →
-            MayWrite (writes_of self.now.routine) (place_of self.now).routine a) }
-    {
-        let _index = cell.index();
-        match &self.routine {
-            None => true,
-            Some(running) => either(running.writes.contains(cell), self.is_own(cell)),
-        }
-    }
-
-    /// Whether each cell that a word may write is one that the running routine may write; the room for
-    /// the cells is made here alone.
-    #[inline(never)]
-    fn written_are_listed(&self, fact: &Fact, at: Word, word: Word) -> bool
-        ensures { IsTrue result ↔ WritesAreListed (place_of self.now) (writes_of self.now.routine)
-            (meaning fact.now) (meaning_at (place_of self.now) at word) }
-    {
         let written = self.cells_written(fact, at, word);
         self.may_write(&written)
     }
@@ -260,16 +171,6 @@ impl<A: Allocator> Place<'_, A> {
         if !self.declaration.reads_listed() {
             return true;
         }
-        self.read_are_listed(fact, at, word)
-    }
-
-    /// Whether each cell that a word may read is on the list of reads, if there is one, or is the
-    /// running routine's own entry; the room for the cells is made here alone.
-    #[inline(never)]
-    fn read_are_listed(&self, fact: &Fact, at: Word, word: Word) -> bool
-        ensures { IsTrue result ↔ ReadsAreListed (place_of self.now) (meaning fact.now)
-            (meaning_at (place_of self.now) at word) }
-    {
         let read = self.cells_read(fact, at, word);
         self.are_listed(&read)
     }
@@ -289,10 +190,7 @@ impl<A: Allocator> Place<'_, A> {
         ensures { SameWords (words result) (called (place_of self.now) (meaning fact.now)
             (meaning_at (place_of self.now) at word)) }
     {
-        if !self.is_reference(word) {
-            return WordSet::empty();
-        }
-        if !is_jms(word) {
+        if !self.is_call(word) {
             return WordSet::empty();
         }
         self.targets_at(fact, refers_indirectly(word), target(word, at))
@@ -302,10 +200,7 @@ impl<A: Allocator> Place<'_, A> {
     pub fn steps_call_pointer(&self, at: Word, word: Word) -> bool
         ensures { result ≡ calls_through_index (meaning_at (place_of self.now) at word) }
     {
-        if !self.is_reference(word) {
-            return false;
-        }
-        if !is_jms(word) {
+        if !self.is_call(word) {
             return false;
         }
         steps_pointer(refers_indirectly(word), target(word, at))
@@ -323,7 +218,10 @@ impl<A: Allocator> Place<'_, A> {
             return None;
         }
         let named = target(word, at);
-        if both(refers_indirectly(word), self.declaration.is_entry(named)) {
+        if !refers_indirectly(word) {
+            return None;
+        }
+        if self.declaration.is_entry(named) {
             Some(named)
         } else {
             None

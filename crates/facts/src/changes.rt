@@ -172,13 +172,6 @@ impl<'a> Known<'a> {
         }
     }
 
-    /// Lets the link be one of others.
-    pub(crate) fn set_link(&mut self, links: Links)
-        ensures { Agree (known_of self.new) (with_link (links_of links) (known_of self.old)) }
-    {
-        self.link = links;
-    }
-
     /// With other words of MQ.
     pub(crate) fn with_mq(self, set: &'a WordSet) -> Known<'a>
         ensures { Agree (known_of result) (with_mq (words set.now) (known_of self.entry)) }

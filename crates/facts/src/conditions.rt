@@ -1,7 +1,7 @@
 //! The cells that one word at the address of a fact may read or write, and what is asked of them.
 
 ghost use Rattle.std.specs.Prelude.{ℕ, ◌≡◌, ◌<◌, ◌==◌, ◌&&◌, ◌||◌, ◌↔◌, ◌⊎◌, IsTrue, Some, true, false};
-ghost use Rattle.wordset.specs.Words.{SameWords, meet, only};
+ghost use Rattle.wordset.specs.Words.{SameWords};
 ghost use Rattle.wordset.specs.Lanes.{words};
 ghost use Rattle.instruct.specs.declared.Instruction.TheVariants.{Memory};
 ghost use Rattle.instruct.specs.Instructions.{kind_of, operation_of};
@@ -17,8 +17,7 @@ ghost use Rattle.facts.specs.Places.{place_of, writes_of};
 use crate::fact::Fact;
 use crate::known::Known;
 use crate::place::{Place, union_if};
-use crate::references::{either, steps_pointer};
-use crate::skipping::both;
+use crate::references::steps_pointer;
 use instruct::{Instruction, Operation, decode, refers_indirectly, target};
 use std::alloc::Allocator;
 use word12::Word;
@@ -65,27 +64,6 @@ fn pointer_if(chosen: bool, named: Word) -> WordSet
     }
 }
 
-/// Whether each of some cells is in a set or is one more; mostly the set has all.
-fn are_within_or(cells: &WordSet, set: &WordSet, more: Word) -> bool
-    ensures { IsTrue result ↔ ((a : ℕ) → a < 4096 → words cells.now a ≡ true →
-        (words set.now a ≡ true) ⊎ (a ≡ more)) }
-{
-    if cells.is_subset(set) {
-        return true;
-    }
-    are_within_union(cells, set, more)
-}
-
-/// Whether each of some cells is in a set or is one more.
-#[inline(never)]
-fn are_within_union(cells: &WordSet, set: &WordSet, more: Word) -> bool
-    ensures { IsTrue result ↔ ((a : ℕ) → a < 4096 → words cells.now a ≡ true →
-        (words set.now a ≡ true) ⊎ (a ≡ more)) }
-{
-    let entry = WordSet::one(more);
-    cells.is_subset(&set.union(&entry))
-}
-
 impl<A: Allocator> Place<'_, A> {
     /// Whether a word is a memory reference.
     pub(crate) fn is_reference(&self, word: Word) -> bool
@@ -103,18 +81,9 @@ impl<A: Allocator> Place<'_, A> {
         ensures { SameWords (words result)
             (targets (place_of self.now) indirect named (meaning fact.now)) }
     {
-        if indirect {
-            return self.targets_seen(fact, indirect, named);
+        if !indirect {
+            return WordSet::one(named);
         }
-        WordSet::one(named)
-    }
-
-    /// The targets of a memory reference, by what a fact knows; the room for that is made here alone.
-    #[inline(never)]
-    fn targets_seen(&self, fact: &Fact, indirect: bool, named: Word) -> WordSet
-        ensures { SameWords (words result)
-            (targets (place_of self.now) indirect named (meaning fact.now)) }
-    {
         let mut place = WordSet::all();
         *self.reached(indirect, named, &Known::of(fact), &mut place)
     }
@@ -141,8 +110,7 @@ impl<A: Allocator> Place<'_, A> {
         if !self.is_reference(word) {
             return false;
         }
-        let steps = steps_pointer(refers_indirectly(word), target(word, at));
-        either(stores(word), steps)
+        stores(word) || steps_pointer(refers_indirectly(word), target(word, at))
     }
 
     /// The cells that a word at the address of a fact may write, a stepped pointer among them; save
@@ -156,50 +124,44 @@ impl<A: Allocator> Place<'_, A> {
         }
         let indirect = refers_indirectly(word);
         let named = target(word, at);
-        let targets = self.targets_at(fact, indirect, named);
         let pointer = pointer_if(steps_pointer(indirect, named), named);
-        union_if(stores(word), &pointer, &targets)
+        if !stores(word) {
+            return pointer;
+        }
+        pointer.union(&self.targets_at(fact, indirect, named))
     }
 
-    /// The cell in which ISZ counts the running routine's return word up: the routine's own entry
-    /// alone, where the word isn't seven up already.
-    pub(crate) fn cell_counted(&self, fact: &Fact, at: Word, word: Word) -> WordSet
-        ensures { (a : ℕ) → a < 4096 →
-            (words result a ≡ true) ↔ CountsItsReturn (place_of self.now) (meaning fact.now)
-            (meaning_at (place_of self.now) at word) a }
+    /// Whether a word counts the running routine's return word up: an ISZ of its own entry alone, which
+    /// isn't seven up already.
+    pub(crate) fn counts_its_return(&self, fact: &Fact, at: Word, word: Word, entry: Word) -> bool
+        ensures { IsTrue result ↔ CountsItsReturn (place_of self.now) (meaning fact.now)
+            (meaning_at (place_of self.now) at word) entry }
     {
         if !self.is_reference(word) {
-            return WordSet::empty();
+            return false;
+        }
+        if !counts(word) {
+            return false;
+        }
+        if fact.offsets().contains(7) {
+            return false;
+        }
+        if !self.is_own(entry) {
+            return false;
         }
         let targets = self.targets_at(fact, refers_indirectly(word), target(word, at));
-        let seven_up = fact.offsets().contains(7);
-        self.own_only(both(counts(word), !seven_up), &targets)
-    }
-
-    /// The one cell of a set, where it is chosen and is the running routine's entry.
-    fn own_only(&self, chosen: bool, cells: &WordSet) -> WordSet
-        ensures { (a : ℕ) → a < 4096 → (words result a ≡ true) ↔
-            ((chosen ≡ true) × ((place_of self.now).routine ≡ Some a) ×
-            (only (words cells.now) ≡ Some a)) }
-    {
-        match cells.only() {
-            None => WordSet::empty(),
-            Some(cell) => pointer_if(both(chosen, self.is_own(cell)), cell),
+        match targets.only() {
+            None => false,
+            Some(cell) => cell == entry,
         }
     }
 
-    /// The entries among some cells.
-    fn entries_in(&self, cells: &WordSet) -> WordSet
-        ensures { SameWords (words result) (meet (words cells.now)
-            (place_of self.now).declaration.entry) }
+    /// Whether a cell is a variable or an entry.
+    fn is_declared(&self, cell: Word) -> bool
+        ensures { IsTrue result ↔ (((place_of self.now).declaration.variable cell ≡ true) ⊎
+            ((place_of self.now).declaration.entry cell ≡ true)) }
     {
-        let mut found = WordSet::empty();
-        let mut next = 0usize;
-        while let Some(cell) = cells.first_from(next) {
-            found = union_if(self.declaration.is_entry(cell), &found, &WordSet::one(cell));
-            next = cell.index() + 1;
-        }
-        found
+        self.declaration.is_variable(cell) || self.declaration.is_entry(cell)
     }
 
     /// Whether each of some cells is a variable or an entry; mostly all are variables.
@@ -211,41 +173,14 @@ impl<A: Allocator> Place<'_, A> {
         if cells.is_subset(self.declaration.variables()) {
             return true;
         }
-        self.are_declared_beside_variables(cells)
-    }
-
-    /// Whether each of some cells is a variable or an entry.
-    #[inline(never)]
-    fn are_declared_beside_variables(&self, cells: &WordSet) -> bool
-        ensures { IsTrue result ↔ ((a : ℕ) → a < 4096 → words cells.now a ≡ true →
-            ((place_of self.now).declaration.variable a ≡ true) ⊎
-            ((place_of self.now).declaration.entry a ≡ true)) }
-    {
-        let rest = cells.minus(self.declaration.variables());
-        rest.is_subset(&self.entries_in(&rest))
-    }
-
-    /// Whether one of some cells is an entry.
-    pub(crate) fn has_entry(&self, cells: &WordSet) -> bool
-        ensures { result ≡ false → (a : ℕ) → a < 4096 → words cells.now a ≡ true →
-            (place_of self.now).declaration.entry a ≡ false }
-    {
         let mut next = 0usize;
         while let Some(cell) = cells.first_from(next) {
-            if self.declaration.is_entry(cell) {
-                return true;
+            if !self.is_declared(cell) {
+                return false;
             }
             next = cell.index() + 1;
         }
-        false
-    }
-
-    /// Whether none of some cells is an entry, save for those of another set.
-    pub(crate) fn keeps_entries(&self, cells: &WordSet, counted: &WordSet) -> bool
-        ensures { IsTrue result ↔ ((a : ℕ) → a < 4096 → words cells.now a ≡ true →
-            (place_of self.now).declaration.entry a ≡ true → words counted.now a ≡ true) }
-    {
-        self.entries_in(cells).is_subset(counted)
+        true
     }
 
     /// Whether the running routine may write each of some cells: those of its written set and its
@@ -256,7 +191,7 @@ impl<A: Allocator> Place<'_, A> {
     {
         match &self.routine {
             None => true,
-            Some(running) => are_within_or(cells, running.writes, running.entry),
+            Some(running) => cells.is_subset(&self.with_own(running.writes)),
         }
     }
 

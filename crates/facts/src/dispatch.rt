@@ -21,7 +21,7 @@ use crate::place::Place;
 use crate::references::{call, deposit, steps_pointer};
 use crate::registers::{exchange, operate, transfer};
 use crate::room::{Room, Way};
-use crate::skipping::{both, branch};
+use crate::skipping::branch;
 use instruct::{DeviceOperation, Instruction, Operation, decode, halts, refers_indirectly, target};
 use std::alloc::Allocator;
 use word12::{Link, Word};
@@ -162,7 +162,7 @@ impl<A: Allocator> Place<'_, A> {
         ensures { (f : said.Fact) → Agree (known_of known.now) f →
             AgreeingOutcomes (slots result.all) (outcomes_of (place_of self.now) f at (Group2 word)) }
     {
-        if both(halts(word), self.declaration.is_stop(at)) {
+        if halts(word) && self.declaration.is_stop(at) {
             return nowhere();
         }
         branches(at, word, known, room)

@@ -3,7 +3,6 @@
 ghost use Rattle.std.specs.Prelude.{◌≡◌, ◌<◌, ◌↔◌, ℕ, IsTrue, None, map, true};
 ghost use Rattle.wordset.specs.Words.{SameWords};
 ghost use Rattle.wordset.specs.Lanes.{words};
-ghost use Rattle.wordset.specs.Links.{links_of};
 ghost use Rattle.bin_tape.specs.Image.{HoldsWords};
 ghost use Rattle.peripherals.specs.Loading.{image_of};
 ghost use Rattle.facts.specs.Facts.{narrowed, joined, Entails, EntailsOffsets};
@@ -22,7 +21,7 @@ use bin_tape::Image;
 use declaration::Declaration;
 use std::alloc::Allocator;
 use word12::Word;
-use wordset::{Links, WordSet};
+use wordset::WordSet;
 
 /// The words that the equations of a fact leave to a name: its set met with its partners' sets,
 /// shifted along the equations, one step only.
@@ -117,22 +116,15 @@ fn is_everything(set: &WordSet) -> bool
     set.is_all()
 }
 
-/// Whether both links are in a set.
-#[tactic(auto, using(crate::proofs::StartLemmas::two_links))]
-fn are_both(links: Links) -> bool
-    ensures { result ≡ each_below 2 (links_of links) }
-{
-    if links.set { links.clear } else { false }
-}
-
 /// Whether the accumulator, MQ and the link may be anything.
+#[tactic(auto, using(crate::proofs::StartLemmas::two_links))]
 fn allows_all_registers(fact: &Fact) -> bool
     ensures { result ≡ allows_all (meaning fact.now) }
 {
     let ac = is_everything(&fact.accumulator());
     let mq = is_everything(&fact.mq());
-    let link = are_both(fact.link());
-    ac && mq && link
+    let links = fact.link();
+    ac && mq && links.set && links.clear
 }
 
 /// The word of an image at an address, if there is one.

@@ -59,18 +59,6 @@ impl Offsets {
         ensures { IsTrue result ↔ ((o : ℕ) → o < 8 → offsets_of self o ≡ true →
             offsets_of other o ≡ true) }
     {
-        if self.known == other.known {
-            return true;
-        }
-        self.is_each_in(other)
-    }
-
-    /// The same, one by one.
-    #[inline(never)]
-    fn is_each_in(self, other: Offsets) -> bool
-        ensures { IsTrue result ↔ ((o : ℕ) → o < 8 → offsets_of self o ≡ true →
-            offsets_of other o ≡ true) }
-    {
         for o in 0..8usize {
             if self.known[o] && !other.known[o] {
                 return false;

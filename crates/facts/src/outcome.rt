@@ -35,33 +35,28 @@ pub struct Outcomes<'a> {
     pub all: [Option<Outcome<'a>>; 4],
 }
 
-/// Whether a link is possible.
-fn has_link(links: Links) -> bool
-    ensures { result ≡ has_link (links_of links) }
-{
-    !links.is_empty()
-}
-
-/// Whether all are true.
-fn are_all(a: bool, b: bool, c: bool, d: bool, e: bool, f: bool) -> bool
-    ensures { result ≡ (a && (b && (c && (d && (e && f))))) }
-{
-    a && b && c && d && e && f
-}
-
 /// Whether the targets, the old accumulator, the new one, MQ, the link and the changed cell each
 /// have a word.
 fn is_alive(targets: &WordSet, held: &WordSet, changed: &WordSet, after: &Known<'_>) -> bool
     ensures { (f : Fact) → SameWords (words held.now) (narrowed f Ac) →
         result ≡ alive (words targets.now) f (words changed.now) (known_of after.now) }
 {
-    let targeted = !targets.is_empty();
-    let held = !held.is_empty();
-    let left = !after.ac.is_empty();
-    let moved = !after.mq.is_empty();
-    let linked = has_link(after.link);
-    let written = !changed.is_empty();
-    are_all(targeted, held, left, moved, linked, written)
+    if targets.is_empty() {
+        return false;
+    }
+    if held.is_empty() {
+        return false;
+    }
+    if after.ac.is_empty() {
+        return false;
+    }
+    if after.mq.is_empty() {
+        return false;
+    }
+    if after.link.is_empty() {
+        return false;
+    }
+    !changed.is_empty()
 }
 
 /// The outcome that goes on at some addresses, where it can come about.

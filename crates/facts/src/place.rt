@@ -90,32 +90,19 @@ impl<A: Allocator> Place<'_, A> {
         }
     }
 
-    /// The words that the running routine's entry may hold: a site, one more, and an offset.
-    fn own_words(&self, known: &Known<'_>) -> WordSet
-        ensures { SameWords (words result) (own_words (place_of self.now).sites
+    /// The words that the running routine's entry may hold, in a place for them: a site, one more, and
+    /// an offset.
+    fn own_words<'b>(&self, known: &Known<'_>, place: &'b mut WordSet) -> &'b WordSet
+        ensures { SameWords (words result.now) (own_words (place_of self.now).sites
             (known_of known.now)) }
     {
         let sites = self.sites();
         let offsets = known.offsets();
-        let mut set = WordSet::empty();
+        *place = WordSet::empty();
         for o in 0..8usize {
-            add_shifted_if(
-                offsets.contains(o),
-                &sites,
-                Word::from_index(o + 1),
-                &mut set,
-            );
+            add_shifted_if(offsets.contains(o), &sites, Word::from_index(o + 1), place);
         }
-        set
-    }
-
-    /// The same, in a place for them; the room for them is made here alone.
-    #[inline(never)]
-    fn own_in<'b>(&self, known: &Known<'_>, place: &'b mut WordSet) -> &'b WordSet
-        ensures { SameWords (words result.now) (own_words (place_of self.now).sites
-            (known_of known.now)) }
-    {
-        put_set(place, &self.own_words(known))
+        place
     }
 
     /// The words that a cell may hold, in a place for them: a variable's narrowed set, the running
@@ -133,7 +120,7 @@ impl<A: Allocator> Place<'_, A> {
             return known.left_in(&Name::Cell(cell), place);
         }
         if self.is_own(cell) {
-            return self.own_in(known, place);
+            return self.own_words(known, place);
         }
         if self.declaration.is_entry(cell) {
             return put_all(place);

@@ -1,11 +1,11 @@
 //! The outcomes of the words that refer to memory.
 
-ghost use Rattle.std.specs.Prelude.{ℕ, ◌≡◌, ◌≤◌, ◌++◌, ◌||◌, ◌&&◌, true, false, length, Some, None};
+ghost use Rattle.std.specs.Prelude.{ℕ, ◌≡◌, ◌≤◌, ◌++◌, ◌&&◌, true, false, length, Some, None};
 ghost use Rattle.wordset.specs.Words.{Words, SameWords, everything, only, sums, some_below, has_some, without};
 ghost use Rattle.wordset.specs.Lanes.{words};
 ghost use Rattle.processor.specs.Machine.{steps_pointer};
 ghost use Rattle.facts.specs.Facts as said;
-ghost use Rattle.facts.specs.Facts.{Ac, Cell, narrowed};
+ghost use Rattle.facts.specs.Facts.{Ac, Cell, narrowed, is_routine};
 ghost use Rattle.facts.specs.Outcomes.{targets, alive, given, anded, tad_word, tad_case, tad, dca_case, isz_case, jmp, CallsTo};
 ghost use Rattle.facts.specs.Same.{Agree, AgreeingOutcomes};
 ghost use Rattle.facts.specs.Meaning.{known_of, IsUnchanged};
@@ -21,7 +21,6 @@ use crate::outcome::{
 };
 use crate::place::Place;
 use crate::room::Way;
-use crate::skipping::both;
 use processor::is_auto_index;
 use std::alloc::Allocator;
 use word12::Word;
@@ -158,13 +157,6 @@ pub(crate) fn count_own<'a>(
     )
 }
 
-/// Whether one of two is true.
-pub(crate) fn either(a: bool, b: bool) -> bool
-    ensures { result ≡ (a || b) }
-{
-    a || b
-}
-
 /// Whether a cell may hold 7777.
 fn may_wrap(known: &Known<'_>, cell: Word) -> bool
     ensures { result ≡ narrowed (known_of known.now) (Cell cell) 4095 }
@@ -188,13 +180,14 @@ fn may_some_wrap(known: &Known<'_>, cells: &WordSet) -> bool
     ensures { result ≡ some_below 4096 (λ y. words cells.now y &&
         narrowed (known_of known.now) (Cell y) 4095) }
 {
-    let mut found = false;
     let mut next = 0usize;
     while let Some(cell) = cells.first_from(next) {
-        found = either(found, may_wrap(known, cell));
+        if may_wrap(known, cell) {
+            return true;
+        }
         next = cell.index() + 1;
     }
-    found
+    false
 }
 
 /// Whether some of the cells may hold another word than 7777.
@@ -203,13 +196,14 @@ fn may_some_stay(known: &Known<'_>, cells: &WordSet) -> bool
         (λ y. words cells.now y && has_some (without 4095
         (narrowed (known_of known.now) (Cell y)))) }
 {
-    let mut found = false;
     let mut next = 0usize;
     while let Some(cell) = cells.first_from(next) {
-        found = either(found, may_stay(known, cell));
+        if may_stay(known, cell) {
+            return true;
+        }
         next = cell.index() + 1;
     }
-    found
+    false
 }
 
 /// ISZ of several variables counts an unknown one of them up.
@@ -410,9 +404,21 @@ impl<A: Allocator> Place<'_, A> {
         let read = self.words_at(known, targets, single, read);
         let carries = put_sums(ac, held, read);
         let links = known.link.toggled(carries);
-        let mut sum = self.after_tad(known, single, &held.only(), &read.only(), &*ac, first);
-        sum.set_link(links);
-        going(targets, held, put_all(all), address_after(at, next), sum)
+        let sum = self.after_tad(known, single, &held.only(), &read.only(), &*ac, first);
+        going(
+            targets,
+            held,
+            put_all(all),
+            address_after(at, next),
+            sum.with_link(links),
+        )
+    }
+
+    /// Whether a JMP returns: through the running routine's own entry.
+    fn is_returning(&self, indirect: bool, named: Word) -> bool
+        ensures { result ≡ (indirect && is_routine (place_of self.now).routine named) }
+    {
+        indirect && self.is_own(named)
     }
 
     /// JMP goes to each target; JMP I through the running routine's own entry returns.
@@ -432,7 +438,7 @@ impl<A: Allocator> Place<'_, A> {
         let Way { all, held, .. } = way;
         let held = known.left_in(&Name::Accumulator, held);
         let all = put_all(all);
-        if both(indirect, self.is_own(named)) {
+        if self.is_returning(indirect, named) {
             return returning(targets, held, all, known.same());
         }
         going(targets, held, all, targets, known.same())

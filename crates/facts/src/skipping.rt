@@ -163,13 +163,6 @@ fn next_address(at: Word, skip: bool, place: &mut WordSet) -> &WordSet
     address_after(at, place)
 }
 
-/// Whether both are true.
-pub(crate) fn both(a: bool, b: bool) -> bool
-    ensures { result ≡ (a && b) }
-{
-    a && b
-}
-
 /// The words that skip, or those that don't, under one link; then what the word makes of them.
 pub(crate) fn branch<'a>(
     at: Word,
@@ -184,6 +177,9 @@ pub(crate) fn branch<'a>(
     ensures { (f : said.Fact) → Agree (known_of known.now) f →
         AgreeingOutcomes (slot result) (operated2 at word f link skip) }
 {
+    if !known.link.contains(link) {
+        return None;
+    }
     let Way {
         all,
         held,
@@ -196,10 +192,9 @@ pub(crate) fn branch<'a>(
     let held = known.left_in(&Name::Accumulator, held);
     let part = put_part(word, link, skip, held, read);
     let all = put_all(all);
-    let linked = known.link.contains(link);
     let found = !part.is_empty();
     going_if(
-        both(linked, found),
+        found,
         all,
         held,
         all,

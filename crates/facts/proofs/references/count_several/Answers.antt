@@ -1,16 +1,14 @@
-use Rattle.std.proofs.Common.{◌≡◌, ◌∙◌, subst}
+use Rattle.std.proofs.Common.{◌≡◌, ◌∙◌}
 use Rattle.std.specs.Prelude.{◌&&◌}
 use Rattle.wordset.specs.Words.{SameWords, one, everything, plus, shifted, some_below, has_some, without}
 use Rattle.wordset.specs.Lanes.{words}
 use Rattle.facts.specs.Facts.{Ac, Cell, Fact, narrowed}
 use Rattle.facts.specs.Changes.{smeared}
-use Rattle.facts.specs.Outcomes.{alive, given, Goes}
-use Rattle.facts.specs.Same.{AgreeingOutcomes}
-use Rattle.facts.specs.Slots.{slot}
+use Rattle.facts.specs.Outcomes.{alive, Goes}
 use Rattle.facts.proofs.PlaceLemmas.{all_same, both_same, without_agree}
 use Rattle.facts.proofs.AgreeLemmas.{agree_trans, narrowed_agree}
 use Rattle.facts.proofs.ChangingLemmas.{smeared_agree}
-use Rattle.facts.proofs.OutcomeLemmas.{append_agree, has_same, shifts_agree, lit_last}
+use Rattle.facts.proofs.OutcomeLemmas.{append_agree, chosen_agrees, has_same, shifts_agree, lit_last}
 use Rattle.facts.proofs.references.count_several.Goals as goal
 
 pub returns : goal.returns
@@ -22,9 +20,9 @@ returns c = λ pl f p h e.
     let stays : c.may_some_stay-stays.result ≡ some_below 4096 (λ y. p y && has_some (without 4095 (narrowed f (Cell y)))) =
     c.may_some_stay-stays.ensures ∙ both_same 4096 _ _ _ _ e (λ y l. has_same (without_agree 4095 (narrowed_agree h (Cell y)))) in
     append_agree _ _ _ _
-    (subst (λ b. AgreeingOutcomes (slot c.going_if-skips.result) (given (b && alive p f everything after) (Goes (one (plus c.args.at 2)) after))) wraps
+    (chosen_agrees _ (alive p f everything after) (Goes (one (plus c.args.at 2)) after) wraps
     (c.going_if-skips.ensures p everything (one (plus c.args.at 2)) f after e held (all_same c.put_all-all.ensures) c.address_skipped_to.ensures
     (agree_trans c.counted.ensures.same (smeared_agree h e (λ y. shifts_agree (h.sets (Cell y)))))))
-    (subst (λ b. AgreeingOutcomes (slot c.going_if-goes_on.result) (given (b && alive p f everything after) (Goes (one (plus c.args.at 1)) after))) stays
+    (chosen_agrees _ (alive p f everything after) (Goes (one (plus c.args.at 1)) after) stays
     (c.going_if-goes_on.ensures p everything (one (plus c.args.at 1)) f after e held (all_same c.put_all-all.ensures) c.address_after.ensures
     (agree_trans c.counted-2.ensures.same (smeared_agree h e (λ y. shifts_agree (h.sets (Cell y)))))))

@@ -1,7 +1,7 @@
-use Rattle.std.proofs.Common.{◌≡◌, ◌∙◌, ap}
+use Rattle.std.proofs.Common.{◌≡◌, ◌∙◌, sym, ap, true, false}
 use Rattle.std.specs.Prelude.{◌&&◌, not, if◌then◌else◌}
 use Rattle.instruct.specs.Operates.{skips_of}
-use Rattle.wordset.specs.Words.{SameWords, everything, one, has_some}
+use Rattle.wordset.specs.Words.{SameWords, everything, one}
 use Rattle.wordset.specs.Lanes.{words}
 use Rattle.processor.specs.Machine.{next_pc}
 use Rattle.facts.specs.Facts.{narrowed, Ac}
@@ -9,12 +9,15 @@ use Rattle.facts.specs.Changes.{with_link}
 use Rattle.facts.specs.Outcomes.{part2, related2}
 use Rattle.facts.specs.Same.{Agree}
 use Rattle.facts.specs.Meaning.{known_of}
-use Rattle.facts.proofs.PlaceLemmas.{all_same, and_both}
+use Rattle.facts.proofs.PlaceLemmas.{all_same}
 use Rattle.facts.proofs.AgreeLemmas.{agree_trans, narrowed_agree}
 use Rattle.facts.proofs.ChangingLemmas.{link_agree}
 use Rattle.facts.proofs.OutcomeLemmas.{has_same, not_empty}
-use Rattle.facts.proofs.SkipLemmas.{chosen_agrees}
+use Rattle.facts.proofs.OutcomeLemmas.{chosen_agrees}
 use Rattle.facts.proofs.skipping.branch.Goals as goal
+
+pub returns-then-not-contains : goal.returns-then-not-contains
+returns-then-not-contains c = λ f h. let off : f.link c.args.link ≡ false = sym (c.contains.ensures ∙ h.link c.args.link c.requires.link) ∙ c.if-not-contains.true in rw off tt
 
 pub returns : goal.returns
 returns c = λ f h.
@@ -23,7 +26,6 @@ returns c = λ f h.
     λ v lt. c.put_part-part.ensures v lt ∙ ap (λ b. b && (if skips_of c.args.word v c.args.link then c.args.skip else not c.args.skip)) (ac v lt) in
     let after : Agree (known_of c.with_link.result) (with_link (one c.args.link) (related2 c.args.word (part2 c.args.word f c.args.link c.args.skip) f)) =
     agree_trans c.with_link.ensures (link_agree (c.after_test.ensures f (part2 c.args.word f c.args.link c.args.skip) h part) c.one.ensures) in
-    let chosen : c.both.result ≡ (f.link c.args.link && has_some (part2 c.args.word f c.args.link c.args.skip)) =
-    c.both.ensures ∙ and_both (c.contains-linked.ensures ∙ h.link c.args.link c.requires.link) (not_empty c.is_empty-found.ensures ∙ has_same part) in
-    chosen_agrees _ c.both.result (f.link c.args.link) (has_some (part2 c.args.word f c.args.link c.args.skip)) _ _ chosen
-    (c.going_if.ensures everything everything (one (next_pc c.args.at c.args.skip)) f _ (all_same c.put_all-all.ensures) ac (all_same c.put_all-all.ensures) c.next_address.ensures after)
+    let on : f.link c.args.link ≡ true = sym (c.contains.ensures ∙ h.link c.args.link c.requires.link) ∙ c.if-not-contains.false in
+    rw on (chosen_agrees _ _ _ (not_empty c.is_empty-found.ensures ∙ has_same part)
+    (c.going_if.ensures everything everything (one (next_pc c.args.at c.args.skip)) f _ (all_same c.put_all-all.ensures) ac (all_same c.put_all-all.ensures) c.next_address.ensures after))

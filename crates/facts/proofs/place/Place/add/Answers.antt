@@ -26,4 +26,4 @@ returns g c = λ f p h e.
     let sum : Agree (known_of c.after_tad-sum.result) (tad_case (place_of c.args.self.now) f (words_at (place_of c.args.self.now) f p) (only p) (only (narrowed f Ac)) (only (words_at (place_of c.args.self.now) f p))) =
     rw (← t, ← a, ← w) (c.after_tad-sum.ensures f (words_at (place_of c.args.self.now) f p) h set) in
     c.going.ensures p everything (one (plus c.args.at 1)) f (tad_fact (place_of c.args.self.now) f p) e ac (all_same c.put_all.ensures) c.address_after.ensures
-    (tad_agrees (place_of c.args.self.now) f p (known_of c.after_tad-sum.result) _ (links_of c.toggled-links.result) sum c.set_link.ensures links)
+    (tad_agrees (place_of c.args.self.now) f p (known_of c.after_tad-sum.result) _ (links_of c.toggled-links.result) sum c.with_link.ensures links)

@@ -1,18 +1,17 @@
+use Rattle.std.proofs.Common.{◌∙◌, sym, subst}
+use Rattle.wordset.specs.Words.{SameWords}
+use Rattle.wordset.specs.Lanes.{words}
+use Rattle.facts.specs.Conditions.{called}
 use Rattle.facts.specs.Meaning.{meaning}
 use Rattle.facts.specs.Places.{place_of}
-use Rattle.facts.proofs.AskedLemmas.{no_reference}
-use Rattle.facts.proofs.CallLemmas.{calls_no_reference, calls_nothing, calls_targets}
+use Rattle.facts.proofs.AskedLemmas.{no_words}
+use Rattle.facts.proofs.CallLemmas.{calls_none, call_meaning}
 use Rattle.facts.proofs.place.Place.calls.Goals as goal
 
-pub returns-then-not-is_reference : goal.returns-then-not-is_reference
-returns-then-not-is_reference g c = calls_no_reference _ (place_of c.args.self.now) (meaning c.args.fact.now) c.args.at c.args.word c.empty.ensures
-    (no_reference c.if-not-is_reference.true (c.is_reference.ensures c.args.at))
-
-pub returns-then-not-is_jms : goal.returns-then-not-is_jms
-returns-then-not-is_jms g c = calls_nothing _ (place_of c.args.self.now) (meaning c.args.fact.now) c.args.at c.args.word _ c.empty-then-not-is_jms.ensures
-    ((c.is_reference.ensures c.args.at).0 c.if-not-is_reference.false) c.is_jms.ensures c.if-not-is_jms.true
+pub returns-then-not-is_call : goal.returns-then-not-is_call
+returns-then-not-is_call g c = no_words _ _ c.empty.ensures ((calls_none _ (sym (c.is_call.ensures c.args.at) ∙ c.if-not-is_call.true)).1 (place_of c.args.self.now) (meaning c.args.fact.now))
 
 pub returns : goal.returns
-returns g c = calls_targets _ (place_of c.args.self.now) (meaning c.args.fact.now) c.args.at c.args.word _ _ _
-    ((c.is_reference.ensures c.args.at).0 c.if-not-is_reference.false) c.is_jms.ensures c.if-not-is_jms.false
-    c.refers_indirectly.ensures c.target.ensures c.targets_at.ensures
+returns g c =
+    subst (λ m. SameWords (words c.targets_at.result) (called (place_of c.args.self.now) (meaning c.args.fact.now) m))
+    (call_meaning (place_of c.args.self.now) c.args.at c.args.word _ _ c.refers_indirectly.ensures c.target.ensures (sym (c.is_call.ensures c.args.at) ∙ c.if-not-is_call.false)) c.targets_at.ensures

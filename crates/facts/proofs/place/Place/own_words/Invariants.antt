@@ -6,4 +6,4 @@ use Rattle.facts.specs.Meaning.{offsets_of}
 use Rattle.facts.proofs.place.Place.own_words.Given as goal
 
 abbrev pub invariant-loop-o : goal.invariant-loop-o
-invariant-loop-o g l = (v : ℕ) → v < 4096 → words l.set v ≡ some_below l.o (λ o. offsets_of l.offsets o && words l.sites (minus v (o + 1)))
+invariant-loop-o g l = (v : ℕ) → v < 4096 → words l.place v ≡ some_below l.o (λ o. offsets_of l.offsets o && words l.sites (minus v (o + 1)))

@@ -1,16 +1,12 @@
+use Rattle.std.proofs.Common.{◌∙◌, sym, ap}
+use Rattle.facts.specs.Conditions.{calls_through_index}
 use Rattle.facts.specs.Places.{place_of}
-use Rattle.facts.proofs.AskedLemmas.{no_reference}
-use Rattle.facts.proofs.CallLemmas.{steps_no_reference, steps_nothing, steps_named}
+use Rattle.facts.proofs.CallLemmas.{calls_none, call_meaning}
 use Rattle.facts.proofs.place.Place.steps_call_pointer.Goals as goal
 
-pub returns-then-not-is_reference : goal.returns-then-not-is_reference
-returns-then-not-is_reference g c = steps_no_reference (place_of c.args.self.now) c.args.at c.args.word (no_reference c.if-not-is_reference.true (c.is_reference.ensures c.args.at))
-
-pub returns-then-not-is_jms : goal.returns-then-not-is_jms
-returns-then-not-is_jms g c = steps_nothing (place_of c.args.self.now) c.args.at c.args.word _
-    ((c.is_reference.ensures c.args.at).0 c.if-not-is_reference.false) c.is_jms.ensures c.if-not-is_jms.true
+pub returns-then-not-is_call : goal.returns-then-not-is_call
+returns-then-not-is_call g c = (calls_none _ (sym (c.is_call.ensures c.args.at) ∙ c.if-not-is_call.true)).0
 
 pub returns : goal.returns
-returns g c = steps_named _ (place_of c.args.self.now) c.args.at c.args.word _ _ _
-    ((c.is_reference.ensures c.args.at).0 c.if-not-is_reference.false) c.is_jms.ensures c.if-not-is_jms.false
-    c.refers_indirectly.ensures c.target.ensures c.steps_pointer.ensures
+returns g c = c.steps_pointer.ensures ∙ ap calls_through_index
+    (call_meaning (place_of c.args.self.now) c.args.at c.args.word _ _ c.refers_indirectly.ensures c.target.ensures (sym (c.is_call.ensures c.args.at) ∙ c.if-not-is_call.false))

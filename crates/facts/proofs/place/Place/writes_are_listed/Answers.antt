@@ -1,15 +1,11 @@
-use Rattle.std.proofs.Common.{sym}
-use Rattle.wordset.specs.Words.{one}
-use Rattle.facts.specs.Outcomes.{meaning_at}
+use Rattle.facts.specs.Conditions.{MayWrite}
 use Rattle.facts.specs.Meaning.{meaning}
 use Rattle.facts.specs.Places.{place_of, writes_of}
-use Rattle.facts.proofs.AskedLemmas.{listed_anyhow, listed_here}
+use Rattle.facts.proofs.AskedLemmas.{over, over_none}
 use Rattle.facts.proofs.place.Place.writes_are_listed.Goals as goal
 
 pub returns-then-not-is_writing : goal.returns-then-not-is_writing
-returns-then-not-is_writing g c = listed_anyhow (writes_of c.args.self.now.routine) (place_of c.args.self.now) (meaning c.args.fact.now) (meaning_at (place_of c.args.self.now) c.args.at c.args.word) (c.is_writing.ensures c.if-not-is_writing.true (meaning c.args.fact.now))
+returns-then-not-is_writing g c = over_none _ _ (c.is_writing.ensures c.if-not-is_writing.true (meaning c.args.fact.now))
 
-pub returns-in-Some : goal.returns-in-Some
-returns-in-Some g c =
-    listed_here _ (one c.in-Some.cell) (writes_of c.args.self.now.routine) (place_of c.args.self.now) (meaning c.args.fact.now) (meaning_at (place_of c.args.self.now) c.args.at c.args.word)
-    c.may_write_cell.ensures (λ v lt. sym (c.in-Some.ensures (meaning c.args.fact.now) v lt))
+pub returns : goal.returns
+returns g c = over _ _ (λ a. MayWrite (writes_of c.args.self.now.routine) (place_of c.args.self.now).routine a) c.cells_written-written.ensures c.may_write.ensures

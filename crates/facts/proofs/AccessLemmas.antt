@@ -2,7 +2,6 @@
 use Rattle.std.proofs.Common.{◌≡◌, ℕ, ◌<◌, ◌==◌, Bool, true, false, ◌&&◌, ◌||◌, ◌⊎◌, refl, ap, ◌∙◌, subst}
 use Rattle.std.proofs.lemmas.Bool.{eqb-true}
 use Rattle.instruct.specs.Instructions.{Meaning, And, Tad, Isz, Dca, Jms, Jmp, Group1, Group2, Group3, Device, Undefined}
-use Rattle.wordset.specs.Words.{Words}
 use Rattle.processor.specs.Cells.{Cells}
 use Rattle.processor.specs.Machine.{State, place, instruction, steps_pointer}
 use Rattle.policy.specs.Calls.{Calls}
@@ -20,24 +19,22 @@ or_wider : (x y z : Bool) → (y ≡ true → z ≡ true) → (x || y) ≡ true 
 or_wider true y z f e = refl
 or_wider false y z f e = f e
 
-at_place : (set : Words) (a p : ℕ) → set p ≡ true → (a == p) ≡ true → set a ≡ true
-at_place set a p there e = ap set (eqb-true a p e) ∙ there
-
 -- the place that a memory reference refers to is one of its targets
 reaches : (pl : Place) (start : Cells) (f : Fact) (s : State) (ks : Calls) (i : Bool) (c : ℕ) → IsStateOf pl start f s ks → c < 4096
     → (steps_pointer i c ≡ true → (pl.declaration.variable c ≡ true) ⊎ (pl.declaration.entry c ≡ true)) → targets pl i c f (place i c s.memory) ≡ true
 reaches pl start f s ks i c is named declared = (accessed pl is.declared start is.begun.words is.begun.loaded f s ks i c is.state is.top is.means named declared).target
 
+-- and so is a cell at that place
+among : (pl : Place) (start : Cells) (f : Fact) (s : State) (ks : Calls) (a : ℕ) (i : Bool) (c : ℕ) (m : Meaning) → IsStateOf pl start f s ks → c < 4096 → WritesAreDeclared pl f m → pointer_of m c ≡ (steps_pointer i c && (c == c)) →
+    (a == place i c s.memory) ≡ true → targets pl i c f a ≡ true
+among pl start f s ks a i c m is named declared pointer e =
+    ap (targets pl i c f) (eqb-true a _ e)
+    ∙ reaches pl start f s ks i c is named (λ q. declared c named (or_left _ _ (pointer ∙ pointer_written pl is.declared start is.begun.words is.begun.loaded i c q)))
+
 read_may : (pl : Place) (start : Cells) (f : Fact) (s : State) (ks : Calls) (a : ℕ) (m : Meaning) → IsStateOf pl start f s ks → NamesWord m → WritesAreDeclared pl f m → read_by m s.memory a ≡ true → may_read pl f m a ≡ true
-read_may pl start f s ks a (And i c) is named declared reads =
-    let there : targets pl i c f (place i c s.memory) ≡ true = reaches pl start f s ks i c is named (λ e. declared c named (or_left _ _ (pointer_written pl is.declared start is.begun.words is.begun.loaded i c e))) in
-    or_wider (i && (a == c)) (a == place i c s.memory) (targets pl i c f a) (at_place (targets pl i c f) a (place i c s.memory) there) reads
-read_may pl start f s ks a (Tad i c) is named declared reads =
-    let there : targets pl i c f (place i c s.memory) ≡ true = reaches pl start f s ks i c is named (λ e. declared c named (or_left _ _ (pointer_written pl is.declared start is.begun.words is.begun.loaded i c e))) in
-    or_wider (i && (a == c)) (a == place i c s.memory) (targets pl i c f a) (at_place (targets pl i c f) a (place i c s.memory) there) reads
-read_may pl start f s ks a (Isz i c) is named declared reads =
-    let there : targets pl i c f (place i c s.memory) ≡ true = reaches pl start f s ks i c is named (λ e. declared c named (or_left _ _ (pointer_written pl is.declared start is.begun.words is.begun.loaded i c e))) in
-    or_wider (i && (a == c)) (a == place i c s.memory) (targets pl i c f a) (at_place (targets pl i c f) a (place i c s.memory) there) reads
+read_may pl start f s ks a (And i c) is named declared reads = or_wider (i && (a == c)) _ _ (among pl start f s ks a i c (And i c) is named declared refl) reads
+read_may pl start f s ks a (Tad i c) is named declared reads = or_wider (i && (a == c)) _ _ (among pl start f s ks a i c (Tad i c) is named declared refl) reads
+read_may pl start f s ks a (Isz i c) is named declared reads = or_wider (i && (a == c)) _ _ (among pl start f s ks a i c (Isz i c) is named declared refl) reads
 read_may pl start f s ks a (Dca i c) is named declared reads = reads
 read_may pl start f s ks a (Jms i c) is named declared reads = reads
 read_may pl start f s ks a (Jmp i c) is named declared reads = reads
@@ -50,12 +47,8 @@ read_may pl start f s ks a Undefined is named declared reads = reads
 write_may : (pl : Place) (start : Cells) (f : Fact) (s : State) (ks : Calls) (a : ℕ) (m : Meaning) → IsStateOf pl start f s ks → NamesWord m → WritesAreDeclared pl f m → written_by m s.memory a ≡ true → may_write pl f m a ≡ true
 write_may pl start f s ks a (And i c) is named declared writes = writes
 write_may pl start f s ks a (Tad i c) is named declared writes = writes
-write_may pl start f s ks a (Isz i c) is named declared writes =
-    let there : targets pl i c f (place i c s.memory) ≡ true = reaches pl start f s ks i c is named (λ e. declared c named (or_left _ _ (pointer_written pl is.declared start is.begun.words is.begun.loaded i c e))) in
-    or_wider (pointer_of (Isz i c) a) (a == place i c s.memory) (targets pl i c f a) (at_place (targets pl i c f) a (place i c s.memory) there) writes
-write_may pl start f s ks a (Dca i c) is named declared writes =
-    let there : targets pl i c f (place i c s.memory) ≡ true = reaches pl start f s ks i c is named (λ e. declared c named (or_left _ _ (pointer_written pl is.declared start is.begun.words is.begun.loaded i c e))) in
-    or_wider (pointer_of (Dca i c) a) (a == place i c s.memory) (targets pl i c f a) (at_place (targets pl i c f) a (place i c s.memory) there) writes
+write_may pl start f s ks a (Isz i c) is named declared writes = or_wider (pointer_of (Isz i c) a) _ _ (among pl start f s ks a i c (Isz i c) is named declared refl) writes
+write_may pl start f s ks a (Dca i c) is named declared writes = or_wider (pointer_of (Dca i c) a) _ _ (among pl start f s ks a i c (Dca i c) is named declared refl) writes
 write_may pl start f s ks a (Jms i c) is named declared writes = writes
 write_may pl start f s ks a (Jmp i c) is named declared writes = writes
 write_may pl start f s ks a (Group1 w) is named declared writes = writes

@@ -190,26 +190,19 @@ same_agrees k = record { sets = λ n v lt. refl; mq = λ v lt. refl; link = λ l
 pub holding_agrees : (k : Known) (set : Bor (List ℕ)) → Agree (known_of (record k { ac = set })) (with_name Ac (words set.now) (known_of k))
 holding_agrees k set = record { sets = ac_sets k set (words set.now) (λ v lt. refl); mq = λ v lt. refl; link = λ l lt. refl; equations = refl; offsets = λ o lt. refl }
 
+-- the sets of names aren't touched by what else is known
+same_sets : (k : Known) (mq : Bor (List ℕ)) (link : CodeLinks) (es : Bor (List CodeEquation)) (o : Offsets) (n : Name) → SameWords (known_set (record k { mq = mq; link = link; equations = es; offsets = o }) n) (known_set k n)
+same_sets k mq link es o Ac v lt = refl
+same_sets k mq link es o (Cell a) v lt = refl
+
 pub link_agrees : (k : Known) (l : CodeLinks) → Agree (known_of (record k { link = l })) (with_link (links_of l) (known_of k))
-link_agrees k l = record { sets = sets; mq = λ v lt. refl; link = λ n lt. refl; equations = refl; offsets = λ o lt. refl }
-  where
-    sets : (n : Name) → SameWords (known_set (record k { link = l }) n) (known_set k n)
-    sets Ac v lt = refl
-    sets (Cell a) v lt = refl
+link_agrees k l = record { sets = same_sets k k.mq l k.equations k.offsets; mq = λ v lt. refl; link = λ n lt. refl; equations = refl; offsets = λ o lt. refl }
 
 pub mq_agrees : (k : Known) (set : Bor (List ℕ)) → Agree (known_of (record k { mq = set })) (with_mq (words set.now) (known_of k))
-mq_agrees k set = record { sets = sets; mq = λ v lt. refl; link = λ n lt. refl; equations = refl; offsets = λ o lt. refl }
-  where
-    sets : (n : Name) → SameWords (known_set (record k { mq = set }) n) (known_set k n)
-    sets Ac v lt = refl
-    sets (Cell a) v lt = refl
+mq_agrees k set = record { sets = same_sets k set k.link k.equations k.offsets; mq = λ v lt. refl; link = λ n lt. refl; equations = refl; offsets = λ o lt. refl }
 
 pub offsets_agree : (k : Known) (o : Offsets) → Agree (known_of (record k { offsets = o })) (with_offsets (offsets_of o) (known_of k))
-offsets_agree k o = record { sets = sets; mq = λ v lt. refl; link = λ n lt. refl; equations = refl; offsets = λ n lt. refl }
-  where
-    sets : (n : Name) → SameWords (known_set (record k { offsets = o }) n) (known_set k n)
-    sets Ac v lt = refl
-    sets (Cell a) v lt = refl
+offsets_agree k o = record { sets = same_sets k k.mq k.link k.equations o; mq = λ v lt. refl; link = λ n lt. refl; equations = refl; offsets = λ n lt. refl }
 
 pub entered_agrees : {k f g : Fact} {o none : Words} → Agree k (with_offsets o f) → Agree f g → ((n : ℕ) → n < 8 → o n ≡ (none n || (n == 0))) → ((n : ℕ) → n < 8 → none n ≡ false) → Agree k (with_offsets (one 0) g)
 entered_agrees h a e q =
@@ -217,11 +210,7 @@ entered_agrees h a e q =
 
 pub told_agrees : (k : Known) (es : Bor (List CodeEquation)) (more : List Equation) → map equation_of es.now ≡ more ++ map equation_of k.equations.now →
     Agree (known_of (record k { equations = es })) (with_equations more (known_of k))
-told_agrees k es more e = record { sets = sets; mq = λ v lt. refl; link = λ n lt. refl; equations = e; offsets = λ o lt. refl }
-  where
-    sets : (n : Name) → SameWords (known_set (record k { equations = es }) n) (known_set k n)
-    sets Ac v lt = refl
-    sets (Cell a) v lt = refl
+told_agrees k es more e = record { sets = same_sets k k.mq k.link es k.offsets; mq = λ v lt. refl; link = λ n lt. refl; equations = e; offsets = λ o lt. refl }
 
 pub deposited_agree : (f g h i : Fact) (s : Words) (y : ℕ) (es : List Equation) (zero : Words) → Agree g (assigned (Cell y) s f) → Agree h (with_equations es g) → zero ≡ one 0 →
     Agree i (assigned Ac zero h) → Agree i (assigned Ac (one 0) (with_equations es (assigned (Cell y) s f)))
@@ -242,11 +231,7 @@ stored_words h e n put z done =
 
 pub later_agrees : (k : Known) (o : Offsets) → ((n : ℕ) → n < 8 → offsets_of o n ≡ (if n == 0 then false else offsets_of k.offsets (n - 1))) →
     Agree (known_of (record k { offsets = o })) (with_offsets (λ n. if n == 0 then false else (known_of k).offsets (n - 1)) (known_of k))
-later_agrees k o h = record { sets = sets; mq = λ v lt. refl; link = λ n lt. refl; equations = refl; offsets = h }
-  where
-    sets : (n : Name) → SameWords (known_set (record k { offsets = o }) n) (known_set k n)
-    sets Ac v lt = refl
-    sets (Cell a) v lt = refl
+later_agrees k o h = record { sets = same_sets k k.mq k.link k.equations o; mq = λ v lt. refl; link = λ n lt. refl; equations = refl; offsets = h }
 
 pub later_agree : {f g : Fact} → Agree f g → Agree (with_offsets (λ n. if n == 0 then false else f.offsets (n - 1)) f) (with_offsets (λ n. if n == 0 then false else g.offsets (n - 1)) g)
 later_agree {f} {g} h = record { sets = h.sets; mq = h.mq; link = h.link; equations = h.equations; offsets = offsets }

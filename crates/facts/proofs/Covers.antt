@@ -246,15 +246,11 @@ module _ (pl : Place) (dd : IsDeclared pl.declaration) (start : Cells) (sw : (a 
     where
       by : (action : DeviceAction) (ac : ℕ) (skip : Bool) → Answers action s.ac q ac skip →
           SomeOutcome (LandsIn pl start (record s { ac = ac; pc = next_pc s.pc skip }) ks) (outcomes_of pl f s.pc (Device action))
-      by Skips ac skip a = subst (λ x. SomeOutcome (LandsIn pl start (record s { ac = x; pc = next_pc s.pc skip }) ks) (outcomes_of pl f s.pc (Device Skips))) (sym a.1) (skip_step pl dd start sw loaded f s ks skip ss h)
-      by Ors ac skip a = subst (λ b. SomeOutcome (LandsIn pl start (record s { ac = ac; pc = next_pc s.pc b }) ks) (outcomes_of pl f s.pc (Device Ors))) (sym a.4)
-          (subst (λ x. SomeOutcome (LandsIn pl start (record s { ac = x; pc = plus s.pc 1 }) ks) (outcomes_of pl f s.pc (Device Ors))) (sym a.3) (or_step pl dd start sw loaded f s ks a.0 ss h a.1))
-      by Clears ac skip a = subst (λ b. SomeOutcome (LandsIn pl start (record s { ac = ac; pc = next_pc s.pc b }) ks) (outcomes_of pl f s.pc (Device Clears))) (sym a.2)
-          (subst (λ x. SomeOutcome (LandsIn pl start (record s { ac = x; pc = plus s.pc 1 }) ks) (outcomes_of pl f s.pc (Device Clears))) (sym a.1) (clear_step pl dd start sw loaded f s ks ss h))
-      by Takes ac skip a = subst (λ b. SomeOutcome (LandsIn pl start (record s { ac = ac; pc = next_pc s.pc b }) ks) (outcomes_of pl f s.pc (Device Takes))) (sym a.4)
-          (subst (λ x. SomeOutcome (LandsIn pl start (record s { ac = x; pc = plus s.pc 1 }) ks) (outcomes_of pl f s.pc (Device Takes))) (sym a.3) (take_step pl dd start sw loaded f s ks a.0 ss h a.1))
-      by Leaves ac skip a = subst (λ b. SomeOutcome (LandsIn pl start (record s { ac = ac; pc = next_pc s.pc b }) ks) (outcomes_of pl f s.pc (Device Leaves))) (sym a.2)
-          (subst (λ x. SomeOutcome (LandsIn pl start (record s { ac = x; pc = plus s.pc 1 }) ks) (outcomes_of pl f s.pc (Device Leaves))) (sym a.1) (leave_step pl dd start sw loaded f s ks ss h))
+      by Skips ac skip a = rw a.1 (skip_step pl dd start sw loaded f s ks skip ss h)
+      by Ors ac skip a = rw (a.4, a.3) (or_step pl dd start sw loaded f s ks a.0 ss h a.1)
+      by Clears ac skip a = rw (a.2, a.1) (clear_step pl dd start sw loaded f s ks ss h)
+      by Takes ac skip a = rw (a.4, a.3) (take_step pl dd start sw loaded f s ks a.0 ss h a.1)
+      by Leaves ac skip a = rw (a.2, a.1) (leave_step pl dd start sw loaded f s ks ss h)
   covered Undefined f s t q ks n ss top h wd ek on plain does = absurd does
 
 pub step_law : StepLaw

@@ -43,6 +43,25 @@ module _ (pl : Place) (dd : IsDeclared pl.declaration) (start : Cells) (sw : (a 
   abbrev pub Lands : State → Calls → Outcome → Type 0
   Lands t ks = LandsIn pl start t ks
 
+  -- what holds of a fact that says no more of the same memory
+  means_like : (f g : Fact) (s : State) (ks : Calls) (ac link mq pc : ℕ) → Means pl start f s ks → Holds g (values pl.declaration start ac s.memory) → g.mq mq ≡ true → g.link link ≡ true → g.offsets ≡ f.offsets →
+      Means pl start g (record s { ac = ac; link = link; mq = mq; pc = pc }) ks
+  means_like f g s ks ac link mq pc h hg em el eo =
+      record { holds = hg; mq = em; link = el; rest = h.rest; stands = h.stands; own = own_like f g s.memory ks (λ o l q. rw eo q) h.own }
+
+  -- and of the memory in which a variable took another word
+  means_updated : (f g : Fact) (s : State) (ks : Calls) (y v ac pc : ℕ) → TopIsEntry pl.declaration ks → pl.declaration.variable y ≡ true → Means pl start f s ks →
+      Holds g (values pl.declaration start ac (updated s.memory y v)) → g.mq ≡ f.mq → g.link ≡ f.link → g.offsets ≡ f.offsets →
+      Means pl start g (record s { ac = ac; pc = pc; memory = updated s.memory y v }) ks
+  means_updated f g s ks y v ac pc top var h hg em el eo = record {
+    holds = hg;
+    mq = rw em h.mq;
+    link = rw el h.link;
+    rest = rest_updated pl.declaration start s.memory y v (inl var) h.rest;
+    stands = h.stands;
+    own = own_like f g (updated s.memory y v) ks (λ o l q. rw eo q) (own_updated f s.memory y v ks (top_not pl.declaration y dd var ks top) h.own);
+  }
+
   pub pointer_state : (i : Bool) (c : ℕ) (s : State) → IsState s → IsState (after_pointer i c s)
   pointer_state i c s ss = record { ac = ss.ac; link = ss.link; mq = ss.mq; pc = ss.pc; words = words }
     where
@@ -67,17 +86,9 @@ module _ (pl : Place) (dd : IsDeclared pl.declaration) (start : Cells) (sw : (a 
           let was : values pl.declaration start s.ac s.memory (Cell c) ≡ s.memory c = value_of pl.declaration start s.ac s.memory c v in
           let is : values pl.declaration start s.ac (updated s.memory c (plus (s.memory c) 1)) (Cell c) ≡ plus (s.memory c) 1 =
           value_of pl.declaration start s.ac (updated s.memory c (plus (s.memory c) 1)) c v ∙ updated_same s.memory c (plus (s.memory c) 1) in
-          record {
-            holds = moved_holds 1 (values_words pl.declaration start s.ac s.memory ss.ac sw ss.words) h.holds
-                (updated_values pl.declaration start s.ac s.memory c (plus (s.memory c) 1))
-                (is ∙ ap (λ x. plus x 1) (sym was));
-            mq = h.mq;
-            link = h.link;
-            rest = rest_updated pl.declaration start s.memory c (plus (s.memory c) 1) (inl v) h.rest;
-            stands = h.stands;
-            own = own_like f (moved (Cell c) 1 f) (updated s.memory c (plus (s.memory c) 1)) ks (λ o l q. q)
-                (own_updated f s.memory c (plus (s.memory c) 1) ks (top_not pl.declaration c dd v ks top) h.own);
-          }
+          means_updated f (moved (Cell c) 1 f) s ks c (plus (s.memory c) 1) s.ac s.pc top v h
+          (moved_holds 1 (values_words pl.declaration start s.ac s.memory ss.ac sw ss.words) h.holds (updated_values pl.declaration start s.ac s.memory c (plus (s.memory c) 1)) (is ∙ ap (λ x. plus x 1) (sym was)))
+          refl refl refl
 
   pub target_true : (i : Bool) (c : ℕ) (f : Fact) (s : State) (ks : Calls) → IsState s → TopIsEntry pl.declaration ks →
       (steps_pointer i c ≡ true → pl.declaration.variable c ≡ true) → Means pl start f s ks → targets pl i c f (place i c s.memory) ≡ true
@@ -229,14 +240,7 @@ module _ (pl : Place) (dd : IsDeclared pl.declaration) (start : Cells) (sw : (a 
       link = toggle_true f.link (narrowed f Ac) v s.link s.ac x ss.link ss.ac (ss.words y) h.link (ac_true f s ks ss h) vy
 
       means : Means pl start (tad_fact pl f p) (added s y) ks
-      means = record {
-        holds = record { sets = holds.sets; equations = holds.equations };
-        mq = h.mq;
-        link = link;
-        rest = h.rest;
-        stands = h.stands;
-        own = own_like f (tad_fact pl f p) s.memory ks (λ o l q. q) h.own;
-      }
+      means = means_like f (tad_fact pl f p) s ks (plus s.ac x) ((s.link + (s.ac + x) / 4096) % 2) s.mq (plus s.pc 1) h (record { sets = holds.sets; equations = holds.equations }) h.mq link refl
 
       small : (s.link + (s.ac + s.memory y) / 4096) % 2 < 2
       small = omega arith
@@ -274,15 +278,8 @@ module _ (pl : Place) (dd : IsDeclared pl.declaration) (start : Cells) (sw : (a 
       set (plus (s.memory y) 1) ≡ true →
       Means pl start (with_name (Cell y) set (moved (Cell y) 1 f)) (record s { pc = pc; memory = updated s.memory y (plus (s.memory y) 1) }) ks
   unfolding moved
-  counted_means f s ks y pc set ss top h var e = record {
-    holds = record { sets = sets; equations = m.equations };
-    mq = h.mq;
-    link = h.link;
-    rest = rest_updated pl.declaration start s.memory y (plus (s.memory y) 1) (inl var) h.rest;
-    stands = h.stands;
-    own = own_like f (with_name (Cell y) set (moved (Cell y) 1 f)) (updated s.memory y (plus (s.memory y) 1)) ks (λ o l q. q)
-        (own_updated f s.memory y (plus (s.memory y) 1) ks (top_not pl.declaration y dd var ks top) h.own);
-  }
+  counted_means f s ks y pc set ss top h var e =
+      means_updated f (with_name (Cell y) set (moved (Cell y) 1 f)) s ks y (plus (s.memory y) 1) s.ac pc top var h (record { sets = sets; equations = m.equations }) refl refl refl
     where
       now : Values
       now = values pl.declaration start s.ac (updated s.memory y (plus (s.memory y) 1))
@@ -419,15 +416,7 @@ module _ (pl : Place) (dd : IsDeclared pl.declaration) (start : Cells) (sw : (a 
       out a q = moves.others (Cell a) (same_cell a y (λ g. true≢false (sym (and_from _ _ (lt-ltb y 4096 lt) e) ∙ (rw g at q))))
 
       means : (pc : ℕ) → Means pl start (smeared p (λ a. shifted (f.set (Cell a)) 1) f) (record s { pc = pc; memory = updated s.memory y (plus (s.memory y) 1) }) ks
-      means pc = record {
-        holds = smeared_holds p (λ a. shifted (f.set (Cell a)) 1) h.holds refl out within;
-        mq = h.mq;
-        link = h.link;
-        rest = rest_updated pl.declaration start s.memory y (plus (s.memory y) 1) (inl var) h.rest;
-        stands = h.stands;
-        own = own_like f (smeared p (λ a. shifted (f.set (Cell a)) 1) f) (updated s.memory y (plus (s.memory y) 1)) ks (λ o l q. q)
-            (own_updated f s.memory y (plus (s.memory y) 1) ks (top_not pl.declaration y dd var ks top) h.own);
-      }
+      means pc = means_updated f (smeared p (λ a. shifted (f.set (Cell a)) 1) f) s ks y (plus (s.memory y) 1) s.ac pc top var h (smeared_holds p (λ a. shifted (f.set (Cell a)) 1) h.holds refl out within) refl refl refl
 
   pub isz_step : (f : Fact) (s : State) (ks : Calls) (p : Words) (y : ℕ) → IsState s → TopIsEntry pl.declaration ks → Means pl start f s ks → y < 4096 → p y ≡ true →
       MayCount f p y → SomeOutcome (Lands (counted s y) ks) (isz_case pl s.pc f p (only p))
@@ -482,15 +471,7 @@ module _ (pl : Place) (dd : IsDeclared pl.declaration) (start : Cells) (sw : (a 
       out a q = moves.others (Cell a) (same_cell a y (λ g. true≢false (sym (and_from _ _ (lt-ltb y 4096 lt) e) ∙ (rw g at q))))
 
       means : (g : Fact) → g.mq ≡ f.mq → g.link ≡ f.link → g.offsets ≡ f.offsets → Holds g now → Means pl start g (deposited s y) ks
-      means g em el eo hg = record {
-        holds = hg;
-        mq = rw em h.mq;
-        link = rw el h.link;
-        rest = rest_updated pl.declaration start s.memory y s.ac (inl var) h.rest;
-        stands = h.stands;
-        own = own_like f g (updated s.memory y s.ac) ks (λ o l q. rw eo q)
-            (own_updated f s.memory y s.ac ks (top_not pl.declaration y dd var ks top) h.own);
-      }
+      means g em el eo hg = means_updated f g s ks y s.ac 0 (plus s.pc 1) top var h hg em el eo
 
       next : one (plus s.pc 1) (plus s.pc 1) ≡ true
       next = eq-eqb (plus s.pc 1) (plus s.pc 1) refl
@@ -519,26 +500,13 @@ module _ (pl : Place) (dd : IsDeclared pl.declaration) (start : Cells) (sw : (a 
   ac_means : (f : Fact) (s : State) (ks : Calls) (set : Words) (ac pc : ℕ) → IsState s → Means pl start f s ks → set ac ≡ true →
       Means pl start (assigned Ac set f) (record s { ac = ac; link = s.link; pc = pc }) ks
   unfolding assigned
-  ac_means f s ks set ac pc ss h e = record {
-    holds = assigned_holds set h.holds (ac_values pl.declaration start s.ac ac s.memory) e;
-    mq = h.mq;
-    link = h.link;
-    rest = h.rest;
-    stands = h.stands;
-    own = own_like f (assigned Ac set f) s.memory ks (λ o l q. q) h.own;
-  }
+  ac_means f s ks set ac pc ss h e =
+      means_like f (assigned Ac set f) s ks ac s.link s.mq pc h (assigned_holds set h.holds (ac_values pl.declaration start s.ac ac s.memory) e) h.mq h.link refl
 
   -- AC's set is narrowed to one that has its word, and the link changes
   set_means : (f : Fact) (s : State) (ks : Calls) (set links : Words) (link pc : ℕ) → Means pl start f s ks → set s.ac ≡ true → links link ≡ true →
       Means pl start (with_link links (with_name Ac set f)) (record s { ac = s.ac; link = link; pc = pc }) ks
-  set_means f s ks set links link pc h e l = record {
-    holds = record { sets = sets; equations = h.holds.equations };
-    mq = h.mq;
-    link = l;
-    rest = h.rest;
-    stands = h.stands;
-    own = own_like f (with_link links (with_name Ac set f)) s.memory ks (λ o n q. q) h.own;
-  }
+  set_means f s ks set links link pc h e l = means_like f (with_link links (with_name Ac set f)) s ks s.ac link s.mq pc h (record { sets = sets; equations = h.holds.equations }) h.mq l refl
     where
       sets : (n : Name) → with_set Ac set f.set n (values pl.declaration start s.ac s.memory n) ≡ true
       sets Ac = e
@@ -557,14 +525,8 @@ module _ (pl : Place) (dd : IsDeclared pl.declaration) (start : Cells) (sw : (a 
   count_means : (f : Fact) (s : State) (ks : Calls) (pc : ℕ) → IsState s → Means pl start f s ks →
       Means pl start (moved Ac 1 f) (record s { ac = plus s.ac 1; link = s.link; pc = pc }) ks
   unfolding moved
-  count_means f s ks pc ss h = record {
-    holds = moved_holds 1 (names_words f s ks ss h) h.holds (ac_values pl.declaration start s.ac (plus s.ac 1) s.memory) refl;
-    mq = h.mq;
-    link = h.link;
-    rest = h.rest;
-    stands = h.stands;
-    own = own_like f (moved Ac 1 f) s.memory ks (λ o l q. q) h.own;
-  }
+  count_means f s ks pc ss h = means_like f (moved Ac 1 f) s ks (plus s.ac 1) s.link s.mq pc h
+      (moved_holds 1 (names_words f s ks ss h) h.holds (ac_values pl.declaration start s.ac (plus s.ac 1) s.memory) refl) h.mq h.link refl
 
   -- AND
   pub and_step : (f : Fact) (s : State) (ks : Calls) (p : Words) (y : ℕ) → IsState s → Means pl start f s ks → y < 4096 → p y ≡ true →
@@ -631,14 +593,7 @@ module _ (pl : Place) (dd : IsDeclared pl.declaration) (start : Cells) (sw : (a 
       go true true = ac_means f s ks (or_any 4095 (one 0)) _ pc ss h (or_word_true (one 0) 0 v (omega arith) lt refl)
       go true false = ac_means f s ks (or_any 4095 part) _ pc ss h (or_word_true part s.ac v ss.ac lt e)
       go false true = ac_means f s ks (one 0) 0 pc ss h refl
-      go false false = record {
-        holds = (set_means f s ks part f.link s.link pc h e h.link).holds;
-        mq = h.mq;
-        link = h.link;
-        rest = h.rest;
-        stands = h.stands;
-        own = own_like f (with_name Ac part f) s.memory ks (λ o n q. q) h.own;
-      }
+      go false false = means_like f (with_name Ac part f) s ks s.ac s.link s.mq pc h (set_means f s ks part f.link s.link pc h e h.link).holds h.mq h.link refl
 
   -- the state after a word of group 2, by whether it skips
   abbrev pub operated : ℕ → State → ℕ → Bool → State
@@ -677,14 +632,7 @@ module _ (pl : Place) (dd : IsDeclared pl.declaration) (start : Cells) (sw : (a 
 
   -- group 3
   mq_means : (f : Fact) (s : State) (ks : Calls) (set : Words) (mq : ℕ) → Means pl start f s ks → set mq ≡ true → Means pl start (with_mq set f) (record s { mq = mq }) ks
-  mq_means f s ks set mq h e = record {
-    holds = record { sets = h.holds.sets; equations = h.holds.equations };
-    mq = e;
-    link = h.link;
-    rest = h.rest;
-    stands = h.stands;
-    own = own_like f (with_mq set f) s.memory ks (λ o n q. q) h.own;
-  }
+  mq_means f s ks set mq h e = means_like f (with_mq set f) s ks s.ac s.link mq s.pc h (record { sets = h.holds.sets; equations = h.holds.equations }) e h.link refl
 
   abbrev pub exchanged_state : MqOperate → State → State
   exchanged_state o s = record s { ac = (mq_operate o (s.ac, s.mq)).0; mq = (mq_operate o (s.ac, s.mq)).1; pc = plus s.pc 1 }

@@ -1,16 +1,11 @@
 -- A set of one word alone, and the one target of a reference.
-use Rattle.std.proofs.Common.{◌≡◌, ℕ, ◌<◌, ◌==◌, zero, suc, Bool, true, false, not, ◌&&◌, ◌||◌, ◌⊎◌, Option, Some, None, refl, sym, ap, ◌∙◌, subst, inl, inr, arith}
+use Rattle.std.proofs.Common.{◌≡◌, ℕ, ◌<◌, ◌==◌, zero, suc, Bool, true, false, ◌&&◌, ◌||◌, ◌⊎◌, Option, Some, None, refl, sym, ap, ◌∙◌, subst, inl, inr, arith}
 use Rattle.std.specs.Prelude.{IsTrue, ◌↔◌, if◌then◌else◌}
-use Rattle.std.proofs.lemmas.Bool.{eq-eqb, eqb-true, ne_eqb, cases_eq, true≢false}
+use Rattle.std.proofs.lemmas.Bool.{eq-eqb, eqb-true, ne_eqb, cases_eq}
 use Rattle.wordset.specs.Words.{Words, SameWords, one, only, only_of, first_below, some_below, without}
 use Rattle.wordset.proofs.Tests.{both_ways, some_from, some_none_of}
 use Rattle.facts.specs.Facts.{Place, Fact, words_in}
 use Rattle.facts.specs.Outcomes.{words_at, targets}
-use Rattle.wordset.specs.Lanes.{words}
-use Rattle.facts.specs.Facts.{is_routine}
-use Rattle.facts.specs.Conditions.{MayWrite}
-use Rattle.facts.specs.Places.{routine_of, writes_of}
-use Rattle.facts.specs.declared.place.Running.{Running}
 use Rattle.facts.proofs.Alike.{only_same}
 use Rattle.facts.proofs.Numbers.{only_tells}
 
@@ -67,13 +62,6 @@ one_only y lt =
     pick v true e = rw e refl
     pick v false e = rw e refl
 
--- what is said of one word is said of each word of a set of it alone
-pub one_each : (n : ℕ) (p : ℕ → Type 0) (b : Bool) → n < 4096 → (IsTrue b ↔ p n) → IsTrue b ↔ ((a : ℕ) → a < 4096 → one n a ≡ true → p a)
-one_each n p b lt h = (
-  λ t a l e. subst p (sym (eqb-true a n e)) (h.0 t),
-  λ each. h.1 (each n lt (eq-eqb n n refl)),
-)
-
 -- some word of one word alone
 pub some_one : (y : ℕ) (t : Words) → y < 4096 → some_below 4096 (λ a. one y a && t a) ≡ t y
 some_one y t lt = go (t y) refl
@@ -123,32 +111,6 @@ either_iff {p} {q} r a b e ea eb = (
     back (inl h) = ap (λ k. k || b) (ea ∙ h)
     back (inr h) = ap (λ k. a || k) (eb ∙ h) ∙ or_true a
 
--- a word that writes one cell alone, which is no entry
-pub leaves : (entry p : Words) (n : ℕ) (r : Bool) → SameWords p (one n) → r ≡ entry n → IsTrue (not r) → (a : ℕ) → a < 4096 → p a ≡ true → entry a ≡ false
-leaves entry p n r same e t a lt w = ap entry (eqb-true a n (sym (same a lt) ∙ w)) ∙ sym e ∙ none r t
-  where
-    none : (b : Bool) → IsTrue (not b) → b ≡ false
-    none true q = absurd (true≢false (sym q))
-    none false q = refl
-
 -- a direct reference refers to the named cell
 pub direct_target : (pl : Place) (f : Fact) (i : Bool) (n : ℕ) (s : Words) → i ≡ false → SameWords s (targets pl i n f) → SameWords s (one n)
 direct_target pl f i n s e same v lt = same v lt ∙ ap (λ (b : Bool). targets pl b n f v) e
-
--- a cell that the running routine may write
-pub may_cell : (o : Option Running) (run : Running) (n : ℕ) (r a b : Bool) → o ≡ Some run → n < 4096 → r ≡ (a || b) → a ≡ words run.writes.now n → b ≡ is_routine (routine_of o) n →
-    IsTrue r ↔ ((x : ℕ) → x < 4096 → one n x ≡ true → MayWrite (writes_of o) (routine_of o) x)
-may_cell o run n r a b is lt e ea eb =
-    subst (λ (q : Option Running). IsTrue r ↔ ((x : ℕ) → x < 4096 → one n x ≡ true → MayWrite (writes_of q) (routine_of q) x)) (sym is)
-    (one_each n (λ x. MayWrite (words run.writes.now) (Some run.entry) x) r lt (λ t. own (tells.0 t), λ m. tells.1 (test m)))
-  where
-    tells : IsTrue r ↔ ((words run.writes.now n ≡ true) ⊎ ((n == run.entry) ≡ true))
-    tells = either_iff r a b e ea (eb ∙ ap (λ (q : Option Running). is_routine (routine_of q) n) is)
-
-    own : (words run.writes.now n ≡ true) ⊎ ((n == run.entry) ≡ true) → (words run.writes.now n ≡ true) ⊎ (n ≡ run.entry)
-    own (inl h) = inl h
-    own (inr h) = inr (eqb-true n run.entry h)
-
-    test : (words run.writes.now n ≡ true) ⊎ (n ≡ run.entry) → (words run.writes.now n ≡ true) ⊎ ((n == run.entry) ≡ true)
-    test (inl h) = inl h
-    test (inr h) = inr (eq-eqb n run.entry h)

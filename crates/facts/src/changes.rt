@@ -52,6 +52,7 @@ impl<'a> Known<'a> {
 
     /// After the accumulator took some word of a set.
     #[inline(never)]
+    #[tactic(auto, using(crate::proofs::ChangingLemmas::assigned_ac))]
     pub(crate) fn with_ac(&self, set: &'a WordSet, list: &'a mut Equations) -> Known<'a>
         requires room { length self.now.equations.now ≤ 64 }
         ensures same { Agree (known_of result) (assigned Ac (words set.now) (known_of self.now)) }
@@ -67,6 +68,7 @@ impl<'a> Known<'a> {
     }
 
     /// After a cell took some word of a set.
+    #[tactic(auto, using(crate::proofs::ChangingLemmas::assigned_cell))]
     pub(crate) fn with_cell(
         &self,
         cell: Word,
@@ -146,7 +148,8 @@ impl<'a> Known<'a> {
         }
     }
 
-    /// The same.
+    /// What is known, unchanged.
+    #[tactic(auto, using(crate::proofs::ChangingLemmas::same_agrees))]
     pub(crate) fn same(&self) -> Known<'a>
         ensures same { Agree (known_of result) (known_of self.now) }
         ensures target { result.target ≡ self.now.target }
@@ -156,6 +159,7 @@ impl<'a> Known<'a> {
     }
 
     /// With other words of the accumulator; its equations stay.
+    #[tactic(auto, using(crate::proofs::ChangingLemmas::holding_agrees))]
     pub(crate) fn holding(self, set: &'a WordSet) -> Known<'a>
         ensures { Agree (known_of result) (with_name Ac (words set.now) (known_of self.entry)) }
     {
@@ -163,6 +167,7 @@ impl<'a> Known<'a> {
     }
 
     /// With other links.
+    #[tactic(auto, using(crate::proofs::ChangingLemmas::link_agrees))]
     pub(crate) fn with_link(self, links: Links) -> Known<'a>
         ensures { Agree (known_of result) (with_link (links_of links) (known_of self.entry)) }
     {
@@ -173,6 +178,7 @@ impl<'a> Known<'a> {
     }
 
     /// With other words of MQ.
+    #[tactic(auto, using(crate::proofs::ChangingLemmas::mq_agrees))]
     pub(crate) fn with_mq(self, set: &'a WordSet) -> Known<'a>
         ensures { Agree (known_of result) (with_mq (words set.now) (known_of self.entry)) }
     {
@@ -180,6 +186,7 @@ impl<'a> Known<'a> {
     }
 
     /// With other offsets.
+    #[tactic(auto, using(crate::proofs::ChangingLemmas::offsets_agree))]
     pub(crate) fn with_offsets(self, offsets: Offsets) -> Known<'a>
         ensures { Agree (known_of result)
             (with_offsets (offsets_of offsets) (known_of self.entry)) }
@@ -188,6 +195,7 @@ impl<'a> Known<'a> {
     }
 
     /// After the running routine's return word went up by one.
+    #[tactic(auto, using(crate::proofs::ChangingLemmas::later_agrees))]
     pub(crate) fn returning_later(&self) -> Known<'a>
         ensures { Agree (known_of result)
             (with_offsets (λ o. if o == 0 then false else (known_of self.now).offsets (o - 1))
@@ -217,6 +225,7 @@ impl<'a> Known<'a> {
     /// After the accumulator became the sum of a cell's word and another, where these words of it
     /// are left.
     #[inline(never)]
+    #[tactic(auto, using(crate::proofs::ChangingLemmas::summed_agrees))]
     pub(crate) fn summed(
         &self,
         cell: Word,
@@ -244,6 +253,7 @@ impl<'a> Known<'a> {
     }
 
     /// With what the equations of another say of the accumulator, said of a cell, before its own.
+    #[tactic(auto, using(crate::proofs::ChangingLemmas::told_agrees))]
     fn told(&self, cell: Word, equations: &[Equation], list: &'a mut Equations) -> Known<'a>
         requires { length equations.now + length self.now.equations.now ≤ 64 }
         ensures same { Agree (known_of result) (with_equations

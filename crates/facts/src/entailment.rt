@@ -25,6 +25,7 @@ use wordset::WordSet;
 
 /// The words that the equations of a fact leave to a name: its set met with its partners' sets,
 /// shifted along the equations, one step only.
+#[tactic(auto, using(crate::proofs::AgreeLemmas::narrowed_agree))]
 pub fn narrowed(fact: &Fact, name: &Name) -> WordSet
     ensures { SameWords (words result) (narrowed (meaning fact.now) (name_of name.now)) }
 {
@@ -51,7 +52,8 @@ pub fn entails_return(call: &Fact, exit: &Fact, written: &WordSet, after: &Fact)
     returned_entails(call, exit, written, &mut list, after)
 }
 
-/// The same, where room for equations is lent for as long as the others.
+/// Whether what is known after a call entails a fact, with room for the equations that is lent for as
+/// long as the two facts.
 fn returned_entails<'a>(
     call: &'a Fact,
     exit: &'a Fact,

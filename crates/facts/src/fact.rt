@@ -68,7 +68,7 @@ impl Fact {
         self.ac
     }
 
-    /// The same, lent.
+    /// The words that the accumulator may hold, lent.
     pub(crate) fn accumulator_lent(&self) -> &WordSet
         ensures { words result.now ≡ (statement_of self.now).ac }
     {
@@ -82,7 +82,7 @@ impl Fact {
         self.mq
     }
 
-    /// The same, lent.
+    /// The words that MQ may hold, lent.
     pub(crate) fn mq_lent(&self) -> &WordSet
         ensures { words result.now ≡ (statement_of self.now).mq }
     {

@@ -363,7 +363,8 @@ impl Known<'_> {
         self.is_narrowed_within(cells, at)
     }
 
-    /// The same, of the narrowed set; the room for it is made here alone.
+    /// Whether the equations leave the cell at a place of others no word that it may not hold there, by
+    /// its narrowed set.
     #[inline(never)]
     fn is_narrowed_within(&self, cells: &TrackedCells, at: usize) -> bool
         requires { at < length (tracked_cells cells.now) }
@@ -445,6 +446,7 @@ impl<'a> Known<'a> {
 
     /// What is known at a routine's first address, where it is called with this fact: the return
     /// word isn't counted up.
+    #[tactic(auto, using(crate::proofs::ChangingLemmas::entered_agrees))]
     pub fn entering(fact: &'a Fact) -> Known<'a>
         ensures { Agree (known_of result) (with_offsets (one 0) (meaning fact.now)) }
     {
@@ -467,7 +469,7 @@ impl<'a> Known<'a> {
         Known::returned(call, exit, written, &mut room.list)
     }
 
-    /// The same, where room for the equations alone is lent.
+    /// What is known after a call, with room for the equations.
     pub(crate) fn returned(
         call: &'a Fact,
         exit: &'a Fact,

@@ -101,12 +101,14 @@ pub fn entail_law()
 
 /// The test `holds_before` is true exactly where a fact holds of every start: whatever the
 /// accumulator, the link, MQ and the cells that aren't on the tape hold.
+#[tactic(auto, using(crate::proofs::Starting::start_law))]
 pub fn start_law()
     ensures { StartLaw }
 {}
 
 /// Facts that agree on all words below 4096, on their equations as a set and on their offsets entail
 /// the same facts, and are entailed by the same.
+#[tactic(auto, using(crate::proofs::Alike::same_law))]
 pub fn same_law()
     ensures { SameLaw }
 {}

@@ -139,6 +139,7 @@ pub(crate) fn returning<'a>(
 }
 
 /// The address after another, in its place.
+#[tactic(auto, using(crate::proofs::OutcomeLemmas::one_at))]
 pub(crate) fn address_after(at: Word, place: &mut WordSet) -> &WordSet
     ensures { SameWords (words result.now) (one (plus at 1)) }
 {

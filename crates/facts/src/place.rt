@@ -147,7 +147,7 @@ impl<A: Allocator> Place<'_, A> {
         }
     }
 
-    /// The words that some cells may hold; the room for them is made here alone.
+    /// The words that some cells may hold, one cell after another.
     #[inline(never)]
     fn words_at_each<'b>(
         &self,

@@ -94,7 +94,7 @@ fn part(word: Word, link: Link, skip: bool, ac: &WordSet) -> WordSet
     ac.minus(&passing)
 }
 
-/// The words that skip, or those that don't, in a place for them; the room for them is made here alone.
+/// The words that skip, or those that don't, in a place for them.
 #[inline(never)]
 fn put_part<'b>(
     word: Word,
@@ -120,8 +120,7 @@ fn kept(word: Word, part: WordSet) -> WordSet
     }
 }
 
-/// What CLA leaves of some words, with any bits of the switches, in a place for them; the room for them
-/// is made here alone.
+/// What CLA leaves of some words, with any bits of the switches, in a place for them.
 #[inline(never)]
 fn put_switched<'b>(word: Word, part: &WordSet, place: &'b mut WordSet) -> &'b WordSet
     ensures { SameWords (words result.now)

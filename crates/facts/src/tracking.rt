@@ -108,7 +108,7 @@ fn has_row(wider: &[TrackedCell], other: &Held, first: Word, last: Word) -> bool
     }
 }
 
-/// Whether words in a row are all within a set; the room for them is made here alone.
+/// Whether words in a row are all within a set.
 #[inline(never)]
 fn is_range_within(first: Word, last: Word, set: &WordSet) -> bool
     ensures { IsTrue result ↔ IsWithin (between first last) (words set.now) }

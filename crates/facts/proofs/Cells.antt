@@ -11,12 +11,6 @@ use Rattle.facts.specs.Law.{IsState, TopIsEntry}
 use Rattle.facts.proofs.Numbers.{some_from}
 use Rattle.facts.proofs.Laws.{WordsAre, OnlyAt, narrowed_at}
 
-pub if_true : {A : Type 0} {b : Bool} (x y : A) → b ≡ true → (if b then x else y) ≡ x
-if_true x y e = rw e
-
-pub if_false : {A : Type 0} {b : Bool} (x y : A) → b ≡ false → (if b then x else y) ≡ y
-if_false x y e = rw e
-
 pub updated_same : (m : Cells) (a v : ℕ) → updated m a v a ≡ v
 unfolding updated
 updated_same m a v = rw (eq-eqb a a refl)

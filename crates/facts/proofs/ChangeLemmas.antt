@@ -23,9 +23,6 @@ has_cell_words lanes a = go (nat_lt a 4096) _
     go true c = refl
     go false c = refl
 
-pub shifted_same : {a b s : Words} (k : ℕ) → SameWords a b → SameWords s (shifted a k) → SameWords s (shifted b k)
-shifted_same k e h v lt = h v lt ∙ e (minus v k) (minus_lt v k)
-
 pub shifts_same : {a b : Words} (k : ℕ) → SameWords a b → SameWords (shifted a k) (shifted b k)
 shifts_same k e v lt = e (minus v k) (minus_lt v k)
 

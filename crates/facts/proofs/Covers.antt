@@ -81,10 +81,6 @@ next_word : (pc : ℕ) (b : Bool) → next_pc pc b < 4096
 next_word pc true = plus_lt pc 2
 next_word pc false = plus_lt pc 1
 
-if_word : (b : Bool) (x y : ℕ) → x < 4096 → y < 4096 → (if b then x else y) < 4096
-if_word true x y h g = h
-if_word false x y h g = g
-
 seen_words : (i : Bool) (c : ℕ) (m : Cells) → ((a : ℕ) → m a < 4096) → (a : ℕ) → seen i c m a < 4096
 seen_words i c m ws a = go (steps_pointer i c)
   where

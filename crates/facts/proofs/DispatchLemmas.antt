@@ -1,5 +1,5 @@
 -- What a word's kind says of its outcomes.
-use Rattle.std.proofs.Common.{◌≡◌, ℕ, ◌==◌, ◌/◌, Bool, true, false, not, ◌&&◌, ◌||◌, Option, Some, None, List, [], ◌++◌, refl, sym, ap, ◌∙◌, subst, append-nil}
+use Rattle.std.proofs.Common.{◌≡◌, ℕ, ◌==◌, ◌/◌, Bool, true, false, not, ◌||◌, Option, Some, None, List, [], refl, sym, ap, ◌∙◌, subst}
 use Rattle.std.specs.Prelude.{if◌then◌else◌}
 use Rattle.std.specs.Option.{option_map}
 use Rattle.instruct.specs.declared.Profile.{Profile}
@@ -9,17 +9,14 @@ use Rattle.instruct.specs.declared.Instruction.TheVariants.{Memory, Operate1, Op
 use Rattle.instruct.specs.declared.Operation.{Operation}
 use Rattle.instruct.specs.declared.devices.DeviceOperation.{DeviceOperation}
 use Rattle.instruct.specs.Bits.{has_bit, is_indirect, named_cell}
-use Rattle.instruct.specs.Operates.{MqOperate, mq_operate_of, is_halt}
+use Rattle.instruct.specs.Operates.{MqOperate, mq_operate_of}
 use Rattle.instruct.specs.Devices.{device_operation}
 use Rattle.instruct.specs.Instructions.{Meaning, Group1, Group2, Undefined, DeviceAction, kind_of, meaning_of, instruction_of, operation_of, reference, reference_at, processor_action, device_action, device_meaning, mq_meaning, group3_meaning, operate_meaning, is_group1}
 use Rattle.instruct.proofs.KindLemmas.{reference_meaning, group1_meaning, group2_meaning, group3_meaning_of, device_meaning_of, undefined_meaning}
 use Rattle.wordset.specs.Words.{everything, one, plus}
 use Rattle.facts.specs.Facts.{Fact, Place}
-use Rattle.facts.specs.Outcomes.{Outcome, goes, operated1, operated3, all_operated2, device_outcomes, outcomes_of, outcomes_at}
+use Rattle.facts.specs.Outcomes.{Outcome, goes, operated1, operated3, device_outcomes, outcomes_of, outcomes_at}
 use Rattle.facts.specs.Same.{AgreeingOutcomes}
-
-pub two_agree : (a b l : List Outcome) → AgreeingOutcomes (a ++ b) l → AgreeingOutcomes (a ++ (b ++ [])) l
-two_agree a b l h = subst (λ x. AgreeingOutcomes (a ++ x) l) (sym (append-nil b)) h
 
 pub refers : (os : List Outcome) (pl : Place) (f : Fact) (at w n : ℕ) (i : Bool) (o p : Operation) → i ≡ is_indirect w → n ≡ named_cell w at → p ≡ operation_of w → p ≡ o →
     AgreeingOutcomes os (outcomes_of pl f at (reference o i n)) → AgreeingOutcomes os (outcomes_of pl f at (reference_at (operation_of w) w at))
@@ -27,20 +24,6 @@ refers os pl f at w n i o p ei en ep is h =
     let same : reference o i n ≡ reference (operation_of w) (is_indirect w) (named_cell w at) =
     ap (λ x. reference x i n) (sym is ∙ ep) ∙ ap (λ x. reference (operation_of w) x n) ei ∙ ap (λ x. reference (operation_of w) (is_indirect w) x) en in
     subst (λ m. AgreeingOutcomes os (outcomes_of pl f at m)) same h
-
-pub halts_here : (os : List Outcome) (pl : Place) (f : Fact) (at w : ℕ) → (is_halt w && pl.declaration.stop at) ≡ true → os ≡ [] → AgreeingOutcomes os (outcomes_of pl f at (Group2 w))
-halts_here os pl f at w e n = go (is_halt w && pl.declaration.stop at) e
-  where
-    go : (b : Bool) → b ≡ true → (let l : List Outcome = if b then [] else all_operated2 at w f in AgreeingOutcomes os l)
-    go true q = rw n tt
-    go false q = absurd (cc)
-
-pub goes_further : (os : List Outcome) (pl : Place) (f : Fact) (at w : ℕ) → (is_halt w && pl.declaration.stop at) ≡ false → AgreeingOutcomes os (all_operated2 at w f) → AgreeingOutcomes os (outcomes_of pl f at (Group2 w))
-goes_further os pl f at w e h = go (is_halt w && pl.declaration.stop at) e
-  where
-    go : (b : Bool) → b ≡ false → (let l : List Outcome = if b then [] else all_operated2 at w f in AgreeingOutcomes os l)
-    go false q = h
-    go true q = absurd (cc)
 
 pub by_reference : (os : List Outcome) (pl : Place) (f : Fact) (at w : ℕ) → kind_of (meaning_of pl.declaration.profile at w) ≡ Memory → AgreeingOutcomes os (outcomes_of pl f at (reference_at (operation_of w) w at)) →
     AgreeingOutcomes os (outcomes_at pl f at w)

@@ -1,6 +1,6 @@
 use Rattle.std.proofs.Common.{◌≡◌, ℕ, ◌<◌, ◌==◌, Bool, true, false, not, ◌&&◌, ◌||◌, ◌⊎◌, List, [], ◌∷◌, ◌++◌, refl, sym, ap, ◌∙◌, inl, inr, arith}
 use Rattle.std.specs.Prelude.{if◌then◌else◌, nat_lt}
-use Rattle.std.proofs.lemmas.Bool.{and_from, cases_Bool, eqb-true, eq-eqb, ne_eqb, true≢false, false≢true}
+use Rattle.std.proofs.lemmas.Bool.{and_from, cases_Bool, eqb-true, ne_eqb, true≢false, false≢true}
 use Rattle.wordset.specs.Words.{plus, minus, Words, union, shifted}
 use Rattle.facts.specs.Facts.{Name, Ac, Cell, same, Equation, Fact, Values, IsTrueOf, AllTrue, Holds, met_by, narrowed, Among, Knows, KnowsAll, Entails, has_cell, is_outside, outside, joined}
 use Rattle.facts.specs.Changes.{moved_equations, with_set, moved, free_of, assigned, cells_of, smeared_set, smeared, oriented, copy_of, copied, with_equations}
@@ -11,10 +11,6 @@ same_true Ac Ac e = refl
 same_true Ac (Cell b) e = absurd (false≢true e)
 same_true (Cell a) Ac e = absurd (false≢true e)
 same_true (Cell a) (Cell b) e = ap Cell (eqb-true a b e)
-
-pub same_refl : (n : Name) → same n n ≡ true
-same_refl Ac = refl
-same_refl (Cell a) = eq-eqb a a refl
 
 pub same_cell : (a b : ℕ) → (a ≡ b → ⊥) → same (Cell a) (Cell b) ≡ false
 same_cell a b h = ne_eqb a b h

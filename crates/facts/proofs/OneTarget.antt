@@ -1,6 +1,6 @@
 -- A set of one word alone, and the one target of a reference.
-use Rattle.std.proofs.Common.{◌≡◌, ℕ, ◌<◌, ◌==◌, zero, suc, Bool, true, false, ◌&&◌, ◌||◌, ◌⊎◌, Option, Some, None, refl, sym, ap, ◌∙◌, subst, inl, inr, arith}
-use Rattle.std.specs.Prelude.{IsTrue, ◌↔◌, if◌then◌else◌}
+use Rattle.std.proofs.Common.{◌≡◌, ℕ, ◌<◌, ◌==◌, zero, suc, Bool, true, false, ◌&&◌, ◌||◌, Option, Some, None, refl, sym, ap, ◌∙◌, subst, inl, inr, arith}
+use Rattle.std.specs.Prelude.{if◌then◌else◌}
 use Rattle.std.proofs.lemmas.Bool.{eq-eqb, eqb-true, ne_eqb, cases_eq}
 use Rattle.wordset.specs.Words.{Words, SameWords, one, only, only_of, first_below, some_below, without}
 use Rattle.wordset.proofs.Tests.{both_ways, some_from, some_none_of}
@@ -91,25 +91,6 @@ words_of_only pl f p y s e h v lt =
 -- a direct reference's one target
 pub direct_only : (t : Words) (n : ℕ) → n < 4096 → SameWords t (one n) → Some n ≡ only t
 direct_only t n lt same = one_only n lt ∙ sym (only_same t (one n) same)
-
--- one of two that tests tell
-pub either_iff : {p q : Bool} (r a b : Bool) → r ≡ (a || b) → a ≡ p → b ≡ q → IsTrue r ↔ ((p ≡ true) ⊎ (q ≡ true))
-either_iff {p} {q} r a b e ea eb = (
-  λ t. cases a refl (sym e ∙ t),
-  λ x. e ∙ back x,
-)
-  where
-    cases : (k : Bool) → a ≡ k → (a || b) ≡ true → (p ≡ true) ⊎ (q ≡ true)
-    cases true h t = inl (sym ea ∙ h)
-    cases false h t = inr (sym eb ∙ (ap (λ k. k || b) (sym h) ∙ t))
-
-    or_true : (k : Bool) → (k || true) ≡ true
-    or_true true = refl
-    or_true false = refl
-
-    back : (p ≡ true) ⊎ (q ≡ true) → (a || b) ≡ true
-    back (inl h) = ap (λ k. k || b) (ea ∙ h)
-    back (inr h) = ap (λ k. a || k) (eb ∙ h) ∙ or_true a
 
 -- a direct reference refers to the named cell
 pub direct_target : (pl : Place) (f : Fact) (i : Bool) (n : ℕ) (s : Words) → i ≡ false → SameWords s (targets pl i n f) → SameWords s (one n)

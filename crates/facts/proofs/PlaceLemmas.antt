@@ -1,5 +1,5 @@
 -- What cells may hold, and the images of sets, for facts that agree.
-use Rattle.std.proofs.Common.{◌≡◌, ℕ, ◌+◌, ◌-◌, ◌/◌, ◌<◌, ◌==◌, Bool, true, false, ◌&&◌, ◌||◌, refl, sym, ap, ◌∙◌, arith, add-one}
+use Rattle.std.proofs.Common.{◌≡◌, ℕ, ◌+◌, ◌-◌, ◌/◌, ◌<◌, ◌==◌, Bool, true, false, ◌&&◌, ◌||◌, refl, ap, ◌∙◌, arith, add-one}
 use Rattle.std.specs.Prelude.{if◌then◌else◌, bit_and, bit_or}
 use Rattle.wordset.specs.Words.{minus, Words, SameWords, SameLinks, everything, all_words, some_below, sums, carries, toggled, ands, ors, or_any, images, images_at, shifted, without}
 use Rattle.std.proofs.lemmas.Bool.{lt-ltb}
@@ -45,9 +45,6 @@ some_step n test old new e h = rw add-one (h ∙ ap (λ b. b || test n) e ∙ sw
 or_false : (a : Bool) → a ≡ (a || false)
 or_false true = refl
 or_false false = refl
-
-pub some_kept : (n : ℕ) (test : ℕ → Bool) (old : Bool) → old ≡ some_below n test → test n ≡ false → old ≡ some_below (n + 1) test
-some_kept n test old e q = some_step n test old old e (or_false old ∙ ap (λ b. old || b) (sym q))
 
 -- facts that agree leave the same words
 pub own_agree : {f g : Fact} (s : Words) → Agree f g → SameWords (own_words s f) (own_words s g)

@@ -1,7 +1,7 @@
 -- What a reference reaches.
 use Rattle.std.proofs.Common.{◌≡◌, ℕ, Bool, true, false, ◌&&◌, List, refl}
 use Rattle.std.proofs.lemmas.Bool.{eq-eqb}
-use Rattle.wordset.specs.Words.{Words, SameWords, everything, one, shifted}
+use Rattle.wordset.specs.Words.{Words, SameWords, everything, shifted}
 use Rattle.processor.specs.Machine.{steps_pointer}
 use Rattle.facts.specs.Facts.{Cell, Fact, Place, narrowed, words_in, is_routine}
 use Rattle.facts.specs.Changes.{moved}
@@ -19,9 +19,6 @@ reach_stepped pl i c f e h = rw e h
 
 pub reach_pointer : {s : Words} (pl : Place) (i : Bool) (c : ℕ) (f : Fact) → steps_pointer i c ≡ false → i ≡ true → SameWords s (words_in pl f c) → SameWords s (targets pl i c f)
 reach_pointer pl i c f e t h = rw (e, t) h
-
-pub reach_named : {s : Words} (pl : Place) (i : Bool) (c : ℕ) (f : Fact) → steps_pointer i c ≡ false → i ≡ false → SameWords s (one c) → SameWords s (targets pl i c f)
-reach_named pl i c f e t h = rw (e, t) h
 
 -- the set of a cell that went up
 pub moved_here : (f : Fact) (c : ℕ) → (moved (Cell c) 1 f).set (Cell c) ≡ shifted (narrowed f (Cell c)) 1

@@ -1,12 +1,11 @@
 -- Tracked cells as they're kept in code.
-use Rattle.std.proofs.Common.{◌≡◌, ℕ, zero, suc, ◌+◌, ◌<◌, ◌≤◌, ◌==◌, Bool, true, false, ◌&&◌, List, [], ◌∷◌, ◌++◌, map, drop, get_or, length, refl, sym, ap, ◌∙◌, subst, arith, length-append}
+use Rattle.std.proofs.Common.{◌≡◌, ℕ, zero, suc, ◌+◌, ◌<◌, ◌≤◌, ◌==◌, Bool, true, false, ◌&&◌, List, [], ◌∷◌, ◌++◌, map, drop, get_or, length, refl, sym, ap, ◌∙◌, subst, arith}
 use Rattle.std.specs.Prelude.{if◌then◌else◌, not, ◌↔◌, IsTrue}
 use Rattle.std.specs.List.{AllByRecursion}
 use Rattle.std.proofs.lemmas.Bool.{and_parts, eqb-true, eq-eqb, true≢false}
-use Rattle.std.proofs.lemmas.Bool.Decides.{nat_tests}
 use Rattle.std.proofs.Math.ListN.{drop_of_length-le}
 use Rattle.std.proofs.lemmas.List.{drop_more, get_or-map, length-map, map-append}
-use Rattle.wordset.specs.Words.{Words, IsWithin, between}
+use Rattle.wordset.specs.Words.{Words, IsWithin}
 use Rattle.wordset.specs.Lanes.{words}
 use Rattle.facts.specs.Facts.{Fact, Cell, narrowed}
 use Rattle.facts.specs.Showing.{EachWithin}
@@ -25,9 +24,6 @@ get_any (x ∷ xs) zero d e h = refl
 get_any (x ∷ xs) (suc i) d e h = get_any xs i d e (omega arith)
 
 -- What stands whole at a place.
-pub whole_words : (whole : List Whole) (i : ℕ) (d : Whole) → i < length whole → d ≡ get_or whole i d → words d.set ≡ held_words whole (held.Whole i)
-whole_words whole i d h e = ap (λ (t : Whole). words t.set) (e ∙ get_any whole i d _ h)
-
 pub whole_got : (whole : List Whole) (i j : ℕ) (d : Whole) → i < length whole → j ≡ i → held_words whole (held.Whole i) ≡ words (get_or whole j d).set
 whole_got whole i j d h e = rw e (ap (λ (t : Whole). words t.set) (get_any whole i _ d h))
 
@@ -45,18 +41,6 @@ pub entry_at : (whole : List Whole) (entries : List Entry) (i : ℕ) (d : Entry)
 entry_at whole entries i d h e =
     let b : i < length entries = omega (arith, length-map entries (entry_of whole)) in
     get_or-map (entry_of whole) entries i d _ b ∙ ap (entry_of whole) (sym e)
-
-pub entry_below : (n : ℕ) (entries : List Entry) (i : ℕ) (d : Entry) → AllByRecursion (IsEntryBelow n) entries → i < length entries → d ≡ get_or entries i d → IsPlaceBelow n d.held
-entry_below n entries i d h lt e = subst (IsEntryBelow n) (sym e) (go entries i d h lt)
-  where
-    go : (es : List Entry) (j : ℕ) (x : Entry) → AllByRecursion (IsEntryBelow n) es → j < length es → IsEntryBelow n (get_or es j x)
-    go [] j x a b = absurd (omega arith)
-    go (y ∷ es) zero x a b = a.0
-    go (y ∷ es) (suc j) x a b = go es j x a.1 (omega arith)
-
--- Words in a row within others in a row.
-pub row_within : (first last low high : ℕ) → low ≤ first → last ≤ high → IsWithin (between first last) (between low high)
-row_within first last low high a b v lt h = grind (arith, nat_tests)
 
 -- An entry leaves its cell only what it allows.
 pub entry_within : (cells : List TrackedCell) (i a : ℕ) (s : Words) → i < length cells → (cell_at cells i).address ≡ a → IsWithin (cell_at cells i).set s →
@@ -108,29 +92,6 @@ all_and_one : (n : ℕ) (es : List Entry) (e : Entry) → AllByRecursion (IsEntr
 all_and_one n [] e a b = (b, tt)
 all_and_one n (x ∷ es) e a b = (a.0, all_and_one n es e a.1 b)
 
-pub whole_kept : (whole after : List Whole) (es now : List Entry) (t : Whole) (n : ℕ) → AreKept whole es → n ≡ length whole → after ≡ whole ++ t ∷ [] →
-    now ≡ es ++ record { cell = t.cell; held = held.Whole n } ∷ [] → AreKept after now
-whole_kept whole after es now t n k e a b =
-    let longer : length after ≡ length whole + 1 = ap length a ∙ length-append whole (t ∷ []) in
-    let more : length now ≡ length es + 1 = ap length b ∙ length-append es _ in
-    let few : length whole ≤ length es = k.few in record {
-      below = subst (AllByRecursion (IsEntryBelow (length after))) (sym b)
-          (all_and_one (length after) es _ (below_more (length whole) (length after) es (omega arith) k.below) (omega arith));
-      few = omega arith;
-    }
-
--- A cell more with words in a row.
-pub row_added : (whole : List Whole) (es now : List Entry) (e : Entry) → now ≡ es ++ e ∷ [] → map (entry_of whole) now ≡ map (entry_of whole) es ++ entry_of whole e ∷ []
-row_added whole es now e b = rw b (map-append (entry_of whole) es (e ∷ []))
-
-pub row_kept : (whole : List Whole) (es now : List Entry) (cell first last : ℕ) → AreKept whole es → now ≡ es ++ record { cell = cell; held = held.Row first last } ∷ [] → AreKept whole now
-row_kept whole es now cell first last k b =
-    let more : length now ≡ length es + 1 = ap length b ∙ length-append es _ in
-    let few : length whole ≤ length es = k.few in record {
-      below = subst (AllByRecursion (IsEntryBelow (length whole))) (sym b) (all_and_one (length whole) es _ k.below tt);
-      few = omega arith;
-    }
-
 -- Tracked cells one by one.
 pub cell_dropped : (cells : List TrackedCell) (i : ℕ) → i < length cells → drop i cells ≡ cell_at cells i ∷ drop (i + 1) cells
 cell_dropped cells i h = drop_more cells i _ h
@@ -148,18 +109,6 @@ each_fails f cells i lt not h =
     not_true (λ a. (let p : EachWithin f (cell_at cells i ∷ drop (i + 1) cells) = subst (EachWithin f) (cell_dropped cells i lt) (h.1 a) in not p.0))
 
 -- The words of a cell, entry by entry.
-pub met_step : (whole : List Whole) (entries : List Entry) (i : ℕ) (e : Entry) (cell : ℕ) (old new all : Words) → i < length entries → e ≡ get_or entries i e →
-    ((v : ℕ) → v < 4096 → new v ≡ (old v && (if e.cell == cell then held_words whole e.held v else true))) →
-    ((v : ℕ) → v < 4096 → (old v && tracked cell (map (entry_of whole) (drop i entries)) v) ≡ all v) →
-    (v : ℕ) → v < 4096 → (new v && tracked cell (map (entry_of whole) (drop (i + 1) entries)) v) ≡ all v
-met_step whole entries i e cell old new all lt is h inv v l =
-    let d : drop i entries ≡ e ∷ drop (i + 1) entries = drop_more entries i e lt ∙ ap (λ (x : Entry). x ∷ drop (i + 1) entries) (sym is) in
-    rw (h v l) (go (old v) _ _ ∙ rw d at (inv v l))
-  where
-    go : (a b c : Bool) → ((a && b) && c) ≡ (a && (b && c))
-    go true b c = refl
-    go false b c = refl
-
 pub met_end : (whole : List Whole) (entries : List Entry) (i : ℕ) (cell : ℕ) (set all : Words) → length entries ≤ i →
     ((v : ℕ) → v < 4096 → (set v && tracked cell (map (entry_of whole) (drop i entries)) v) ≡ all v) → (v : ℕ) → v < 4096 → set v ≡ all v
 met_end whole entries i cell set all h inv v l =

@@ -6,9 +6,8 @@ use Rattle.wordset.specs.Words.{Words, everything, between}
 use Rattle.wordset.specs.Lanes.{words}
 use Rattle.facts.specs.Statements.{Statement, fact_of}
 use Rattle.certificate.specs.declared.Routine.{Routine}
-use Rattle.certificate.specs.Spelling.{RoutineLine}
+use Rattle.certificate.specs.Spelling.{RoutineLine, Line, RoutineIs, FactIs, ExitIs, CellIs, EquationIs}
 use Rattle.certificate.specs.declared.packed.Run.{Run}
-use Rattle.certificate.specs.Line.{Line, RoutineIs, FactIs, ExitIs, CellIs, EquationIs}
 use Rattle.certificate.specs.Order.{is_detail}
 use Rattle.certificate.specs.Gathered.{cells_under, equations_under}
 use Rattle.certificate.specs.Packed.{set_of_runs}

@@ -9,7 +9,8 @@ use Rattle.certificate.specs.declared.packed.Span.{Span}
 use Rattle.certificate.specs.declared.details.Detail.{Detail}
 use Rattle.certificate.specs.declared.details.Detail.TheVariants as detail
 use Rattle.certificate.specs.declared.Version.{Version}
-use Rattle.certificate.specs.Line.{Line, IsLine, SameLine, line_text}
+use Rattle.certificate.specs.Spelling.{Line, line_text}
+use Rattle.certificate.specs.Line.{IsLine, SameLine}
 use Rattle.certificate.specs.Order.{is_detail, is_end, Spells}
 use Rattle.certificate.proofs.OneLineLemmas.{line_one}
 use Rattle.certificate.specs.Detail.{said_detail}

@@ -3,7 +3,7 @@ use Rattle.std.proofs.Common.{◌≡◌, ℕ, ◌≤◌, List, [], ◌∷◌, �
 use Rattle.std.proofs.lemmas.List.{drop_all}
 use Rattle.facts.specs.Facts.{Equation}
 use Rattle.facts.specs.Statements.{TrackedCell, Statement}
-use Rattle.certificate.specs.Line.{Line, CellIs, EquationIs}
+use Rattle.certificate.specs.Spelling.{Line, CellIs, EquationIs}
 use Rattle.certificate.specs.Order.{is_detail}
 use Rattle.certificate.specs.Gathered.{cells_under, equations_under}
 use Rattle.certificate.specs.Found.{with_details}

@@ -9,7 +9,7 @@ use Rattle.std.proofs.lemmas.List.{get_or_default, map_push}
 use Rattle.certificate.specs.declared.Version.{Version}
 use Rattle.certificate.specs.declared.lines.KeptLines.{KeptLines}
 use Rattle.certificate.specs.Reading.{RiseFrom}
-use Rattle.certificate.specs.Line.{Line, RoutineIs, FactIs, ExitIs, CellIs, EquationIs, End}
+use Rattle.certificate.specs.Spelling.{Line, RoutineIs, FactIs, ExitIs, CellIs, EquationIs, End}
 use Rattle.certificate.specs.Order.{is_detail, is_end, heads, place, next_place}
 use Rattle.certificate.specs.Found.{newest_first, starts, from_place, all_said, IsIndexed, IsWhole, HasBetween, IsNextPlace, Keeps, unended}
 use Rattle.certificate.proofs.TextLemmas.{newest_both}

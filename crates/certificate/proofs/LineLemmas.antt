@@ -6,8 +6,7 @@ use Rattle.certificate.specs.declared.Version.{Version}
 use Rattle.certificate.specs.declared.Version.TheVariants.{One, Two}
 use Rattle.wordset.specs.Words.{Words}
 use Rattle.facts.specs.Statements.{TrackedCell}
-use Rattle.certificate.specs.Spelling.{RoutineLine, set_text, digits, mq_text, offsets_text}
-use Rattle.certificate.specs.Line.{Registers, FactIs, ExitIs, words_text, rank_text, routine_line, cell_line, line_text}
+use Rattle.certificate.specs.Spelling.{RoutineLine, set_text, digits, mq_text, offsets_text, Registers, FactIs, ExitIs, words_text, rank_text, routine_line, cell_line, line_text}
 use Rattle.certificate.specs.Fields.{EndsField}
 
 -- After what is said of MQ comes a space.

@@ -17,7 +17,7 @@ use Rattle.certificate.specs.declared.packed.Spans.{Spans}
 use Rattle.certificate.specs.declared.packed.PackedRegisters.{PackedRegisters}
 use Rattle.certificate.specs.declared.packed.PackedLine.{PackedLine}
 use Rattle.certificate.specs.declared.packed.PackedLine.TheVariants as packed
-use Rattle.certificate.specs.Line.{Line, Registers as SaidRegisters, FactIs, ExitIs, CellIs}
+use Rattle.certificate.specs.Spelling.{Line, Registers as SaidRegisters, FactIs, ExitIs, CellIs}
 use Rattle.certificate.specs.Spelled.{IsLastOf}
 use Rattle.certificate.specs.Packed.{Begins, joined, set_of_runs, set_at, one_at, other_at, registers_at, said_at, lines_in, AreWithin, LiesWithin, IsPacked}
 

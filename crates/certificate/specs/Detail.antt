@@ -3,7 +3,7 @@ use Rattle.wordset.specs.Words.{between}
 use Rattle.facts.specs.Meaning.{equation_of}
 use Rattle.certificate.specs.declared.details.Detail.{Detail}
 use Rattle.certificate.specs.declared.details.Detail.TheVariants as detail
-use Rattle.certificate.specs.Line.{Line, CellIs, EquationIs}
+use Rattle.certificate.specs.Spelling.{Line, CellIs, EquationIs}
 
 -- The line that is meant.
 abbrev pub said_detail : Detail → Line

@@ -6,8 +6,7 @@ use Rattle.certificate.specs.declared.line.RoutineLine.{RoutineLine}
 use Rattle.certificate.specs.declared.line.Registers.{Registers}
 use Rattle.certificate.specs.declared.line.Line.{Line}
 use Rattle.certificate.specs.declared.line.Line.TheVariants as kept
-use Rattle.certificate.specs.Spelling.{RoutineLine as SaidRoutine}
-use Rattle.certificate.specs.Line.{Registers as SaidRegisters, Line as SaidLine, RoutineIs, FactIs, ExitIs, CellIs, EquationIs, End}
+use Rattle.certificate.specs.Spelling.{RoutineLine as SaidRoutine, Registers as SaidRegisters, Line as SaidLine, RoutineIs, FactIs, ExitIs, CellIs, EquationIs, End}
 
 -- The routine that is meant.
 abbrev pub routine_of : RoutineLine → SaidRoutine

@@ -10,8 +10,7 @@ use Rattle.certificate.specs.declared.packed.PackedRoutine.{PackedRoutine}
 use Rattle.certificate.specs.declared.packed.PackedRegisters.{PackedRegisters}
 use Rattle.certificate.specs.declared.packed.PackedLine.{PackedLine}
 use Rattle.certificate.specs.declared.packed.PackedLine.TheVariants as packed
-use Rattle.certificate.specs.Spelling.{RoutineLine}
-use Rattle.certificate.specs.Line.{Line, Registers, RoutineIs, FactIs, ExitIs, CellIs, EquationIs, End}
+use Rattle.certificate.specs.Spelling.{RoutineLine, Line, Registers, RoutineIs, FactIs, ExitIs, CellIs, EquationIs, End}
 
 -- The list begins with another.
 abbrev pub Begins : {X : Type 0} → List X → List X → Type 0

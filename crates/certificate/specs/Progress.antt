@@ -5,7 +5,7 @@ use Rattle.certificate.specs.declared.CertificateFault.TheVariants as faults
 use Rattle.certificate.specs.declared.Version.{Version}
 use Rattle.certificate.specs.declared.line.Line.{Line as ReadLine}
 use Rattle.certificate.specs.declared.progress.Progress.{Progress}
-use Rattle.certificate.specs.Line.{Line, RoutineIs, FactIs, ExitIs, CellIs, EquationIs, End}
+use Rattle.certificate.specs.Spelling.{Line, RoutineIs, FactIs, ExitIs, CellIs, EquationIs, End}
 use Rattle.certificate.specs.Order.{any, how_many, is_end, has_details, is_routine, is_cell, is_equation, heads, details_of_last, next_place, Continues, IsBad, IsMisplaced, IsOneTooMany}
 use Rattle.certificate.specs.Meaning.{said}
 

@@ -3,7 +3,8 @@
 
 ghost use Rattle.std.specs.Prelude.{◌≡◌, IfSome};
 ghost use Rattle.certificate.specs.declared.Version.{Version as Spelled};
-ghost use Rattle.certificate.specs.Line.{IsLine, line_text};
+ghost use Rattle.certificate.specs.Spelling.{line_text};
+ghost use Rattle.certificate.specs.Line.{IsLine};
 ghost use Rattle.certificate.specs.Order.{Spells};
 ghost use Rattle.certificate.specs.Detail.{said_detail};
 

@@ -8,9 +8,8 @@ ghost use Rattle.wordset.specs.Lanes.{words};
 ghost use Rattle.wordset.specs.Links.{links_of};
 ghost use Rattle.facts.specs.Facts.{Name as Named};
 ghost use Rattle.facts.specs.Meaning.{name_of, offsets_of};
-ghost use Rattle.certificate.specs.Spelling.{marks, set_text, digits, offsets_text, name_text};
+ghost use Rattle.certificate.specs.Spelling.{marks, set_text, digits, offsets_text, name_text, rank_text};
 ghost use Rattle.certificate.specs.Reading.{place_of_name};
-ghost use Rattle.certificate.specs.Line.{rank_text};
 ghost use Rattle.certificate.specs.Fields.{left, WasFirst, run_text, NoDash, EndsField};
 
 use facts::{Name, Offsets};

@@ -7,9 +7,9 @@ ghost use Rattle.wordset.specs.Lanes.{words};
 ghost use Rattle.facts.specs.Facts.{Equation as Equal};
 ghost use Rattle.facts.specs.Statements.{TrackedCell as Tracked};
 ghost use Rattle.facts.specs.Meaning.{name_of, tracked_of, equation_of};
-ghost use Rattle.certificate.specs.Spelling.{RoutineLine as SaidRoutine, mq_text};
+ghost use Rattle.certificate.specs.Spelling.{RoutineLine as SaidRoutine, mq_text, Line as SaidLine, Registers as SaidRegisters, RoutineIs, FactIs, ExitIs, CellIs, EquationIs, End, routine_line, cell_line, equation_line, line_text, words_text};
 ghost use Rattle.certificate.specs.Reading.{FitsVersion, IsRoutine, IsTracked, IsEquation, place_of_name};
-ghost use Rattle.certificate.specs.Line.{Line as SaidLine, Registers as SaidRegisters, RoutineIs, FactIs, ExitIs, CellIs, EquationIs, End, IsLine, IsRegisters, SameRegisters, SameLine, routine_line, cell_line, equation_line, line_text, words_text};
+ghost use Rattle.certificate.specs.Line.{IsLine, IsRegisters, SameRegisters, SameLine};
 ghost use Rattle.certificate.specs.Fields.{left, WasFirst, EndsField};
 ghost use Rattle.certificate.specs.Meaning.{routine_of, registers_of, said};
 

@@ -5,9 +5,8 @@ ghost use Rattle.std.specs.Prelude.{is_ok, if◌then◌else◌, ◌↔◌, IsTru
 ghost use Rattle.facts.specs.Meaning.{statement_of, offsets_of, tracked_cells, equation_of, meaning as fact_meaning};
 ghost use Rattle.facts.specs.Changes.{with_offsets};
 ghost use Rattle.wordset.specs.Words.{everything};
-ghost use Rattle.certificate.specs.Spelling.{RoutineLine as SaidRoutine};
+ghost use Rattle.certificate.specs.Spelling.{RoutineLine as SaidRoutine, Line as SaidLine, CellIs, EquationIs};
 ghost use Rattle.certificate.specs.Reading.{RiseFrom};
-ghost use Rattle.certificate.specs.Line.{Line as SaidLine, CellIs, EquationIs};
 ghost use Rattle.certificate.specs.Order.{is_detail, is_end};
 ghost use Rattle.certificate.specs.Detail.{said_detail};
 ghost use Rattle.certificate.specs.Adding.{HasRoomUnder};

@@ -2,7 +2,7 @@
 
 ghost use Rattle.std.specs.Prelude.{◌≡◌, ◌<◌, OnOk, OnErr};
 ghost use Rattle.facts.specs.Meaning.{statement_of};
-ghost use Rattle.certificate.specs.Line.{registers_of as registers_in};
+ghost use Rattle.certificate.specs.Spelling.{registers_of as registers_in};
 ghost use Rattle.certificate.specs.Meaning.{registers_of as registers_said};
 ghost use Rattle.certificate.specs.Kept.{meaning, claims};
 ghost use Rattle.certificate.specs.Made.{no_lines, routine_at, fact_at, exit_at, with_routine, with_fact, with_exit, MayAddRoutine, MayAddFact, MayAddExit, migrated};

@@ -3,8 +3,7 @@
 ghost use Rattle.std.specs.Prelude.{ℕ, ◌≡◌, ◌+◌, ◌<◌, ◌≤◌, List, [], ◌∷◌, ◌++◌, length, take, drop, true, false, is_some, IfOk, IfSome, OnOk, OnErr};
 ghost use Rattle.facts.specs.Meaning.{statement_of, offsets_of};
 ghost use Rattle.wordset.specs.Lanes.{words};
-ghost use Rattle.certificate.specs.Spelling.{RoutineLine as SaidRoutine};
-ghost use Rattle.certificate.specs.Line.{RoutineIs};
+ghost use Rattle.certificate.specs.Spelling.{RoutineLine as SaidRoutine, RoutineIs};
 ghost use Rattle.certificate.specs.Order.{is_detail};
 ghost use Rattle.certificate.specs.Gathered.{stated};
 ghost use Rattle.certificate.specs.Found.{with_details, IsRoutineOf, SaysFirst, begins_routine, begins_fact, begins_exit};

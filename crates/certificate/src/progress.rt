@@ -3,7 +3,8 @@
 ghost use Rattle.std.specs.Prelude.{ℕ, ◌≡◌, ◌+◌, ◌<◌, ◌≤◌, ◌^◌, ◌↔◌, List, [], ◌∷◌, true, false, IsTrue};
 ghost use Rattle.facts.specs.Meaning.{equation_of};
 ghost use Rattle.certificate.specs.Reading.{place_of_equation};
-ghost use Rattle.certificate.specs.Line.{Line as SaidLine, IsLine, SameLine, line_text};
+ghost use Rattle.certificate.specs.Spelling.{Line as SaidLine, line_text};
+ghost use Rattle.certificate.specs.Line.{IsLine, SameLine};
 ghost use Rattle.certificate.specs.Detail.{said_detail};
 ghost use Rattle.certificate.specs.Order.{any, is_end, may_stand, is_detail, place, next_place, fellows, HasRoom, Spells};
 ghost use Rattle.certificate.specs.Progress.{Tracks, TracksOthers, Fits, Takes, TakesLine};

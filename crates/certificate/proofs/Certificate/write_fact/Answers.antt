@@ -1,6 +1,5 @@
 use Rattle.std.proofs.Common.{◌≡◌, ◌∙◌, ap, drop, List}
-use Rattle.certificate.specs.Line.{Line, all_ended}
-use Rattle.certificate.specs.Spelling.{fact_text_at}
+use Rattle.certificate.specs.Spelling.{fact_text_at, Line, all_ended}
 use Rattle.certificate.specs.Gathered.{gathered}
 use Rattle.certificate.specs.Found.{all_said, first_with_details}
 use Rattle.certificate.specs.Kept.{meaning}

@@ -1,6 +1,6 @@
 use Rattle.std.proofs.Common.{◌∙◌, map, take}
 use Rattle.facts.specs.Meaning.{equation_of}
-use Rattle.certificate.specs.Line.{EquationIs}
+use Rattle.certificate.specs.Spelling.{EquationIs}
 use Rattle.certificate.proofs.lines.push_equations.Goals as goal
 
 pub returns-in_err-push-clause-front : goal.returns-in_err-push-clause-front

@@ -1,6 +1,7 @@
 use Rattle.std.proofs.Common.{◌≡◌, ◌++◌, ◌∙◌, drop, refl, [], sym}
 use Rattle.std.proofs.KnownBytes.{Appends-nil, Appends-trans}
-use Rattle.certificate.specs.Line.{IsLine, line_text, ended, all_ended}
+use Rattle.certificate.specs.Spelling.{line_text, ended, all_ended}
+use Rattle.certificate.specs.Line.{IsLine}
 use Rattle.certificate.specs.Order.{details_of_last}
 use Rattle.certificate.specs.Packed.{said_at, said_lines}
 use Rattle.certificate.proofs.PutLemmas.{each_line}

@@ -1,5 +1,6 @@
 use Rattle.std.proofs.Common.{◌≡◌, ◌∙◌}
-use Rattle.certificate.specs.Line.{IsLine, line_text, ended}
+use Rattle.certificate.specs.Spelling.{line_text, ended}
+use Rattle.certificate.specs.Line.{IsLine}
 use Rattle.certificate.specs.Packed.{said_at, said_lines}
 use Rattle.certificate.proofs.SpelledLemmas.{line_cut, line_put}
 use Rattle.certificate.proofs.PutLemmas.{each_line}

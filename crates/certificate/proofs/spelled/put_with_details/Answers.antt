@@ -1,6 +1,6 @@
 use Rattle.std.proofs.Common.{◌≡◌, ◌∙◌, subst, drop, List, ℕ, ◌+◌}
 use Rattle.streams.specs.Bytes.{AppendsFront}
-use Rattle.certificate.specs.Line.{line_text, ended, all_ended}
+use Rattle.certificate.specs.Spelling.{line_text, ended, all_ended}
 use Rattle.certificate.specs.Order.{details_of_last}
 use Rattle.certificate.specs.Packed.{said_at, said_lines}
 use Rattle.streams.proofs.BytesLemmas.{front_after}

@@ -1,7 +1,7 @@
 use Rattle.std.proofs.Common.{◌∙◌, ◌≡◌, ◌∷◌, ◌+◌, ap, sym, drop, List}
 use Rattle.facts.specs.Meaning.{statement_of, offsets_of}
 use Rattle.certificate.specs.declared.packed.Run.{Run}
-use Rattle.certificate.specs.Line.{Line}
+use Rattle.certificate.specs.Spelling.{Line}
 use Rattle.certificate.specs.Packed.{said_at, said_lines}
 use Rattle.certificate.specs.Found.{begins_fact}
 use Rattle.certificate.proofs.PackedLemmas.{line_there}

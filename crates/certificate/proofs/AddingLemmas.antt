@@ -13,8 +13,26 @@ use Rattle.certificate.specs.Gathered.{cells_under, equations_under}
 use Rattle.certificate.specs.Packed.{set_of_runs}
 use Rattle.certificate.specs.Found.{with_details, begins_fact, begins_exit, begins_routine, first_fact, first_exit, fact_statement, exit_statement, FitUnderFirst, SaysFirst, IsRoutineOf}
 use Rattle.certificate.specs.Adding.{with_line, HasRoomFor, HasRoomUnder, IsFactLine, IsExitLine, IsRoutineLine, SaysFactAt, SaysExitAt}
-use Rattle.certificate.proofs.PackedLemmas.{set_is}
+use Rattle.std.specs.Prelude.{◌<◌, ◌-◌, ◌&&◌, take, slice_range}
+use Rattle.std.proofs.lemmas.List.{drop_more}
+use Rattle.wordset.proofs.SetLemmas.{equal_words, all_everything}
+use Rattle.certificate.proofs.PackedLemmas.{set_is, runs_past, above_between}
 use Rattle.certificate.proofs.DetailLemmas.{cell_added, equation_added, none_under}
+
+-- The set of one run.
+pub one_run : (r : Run) → r.last < 4096 → set_of_runs (r ∷ []) ≡ between r.first r.last
+unfolding set_of_runs
+one_run r small = equal_words _ _ (runs_past (r ∷ [])) (λ v h. above_between r.first r.last v (omega arith))
+    (λ v h. ap (λ b. b && between r.first r.last v) (all_everything v h))
+
+-- The set of the one run that lies at a place.
+pub row_there : (runs : List Run) (i n : ℕ) (d : Run) → n ≡ 1 → i + n ≤ length runs → d ≡ get_or runs i d → d.last < 4096 →
+    set_of_runs (slice_range runs i (i + n)) ≡ between d.first d.last
+row_there runs i n d one within is small =
+    let b : i < length runs = omega (arith, one) in
+    let there : slice_range runs i (i + n) ≡ d ∷ [] =
+    rw one (ap (take (i + 1 - i)) (drop_more runs i d b) ∙ (let k : i + 1 - i ≡ 1 = omega arith in rw (k, ← is) refl)) in
+    ap set_of_runs there ∙ one_run d small
 
 -- The set of a single run.
 pub single : (lanes : List ℕ) (rs : List Run) (d e : Run) → length rs ≡ 1 → words lanes ≡ between (get_or rs 0 d).first (get_or rs 0 e).last → words lanes ≡ set_of_runs rs

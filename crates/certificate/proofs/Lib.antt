@@ -29,7 +29,6 @@ pub mod PutLemmas
 pub mod FactTextLemmas
 pub mod ReadLemmas
 pub mod ServedLemmas
-pub mod DetailAddedLemmas
 pub mod AddingLemmas
 mod ReadBackLemmas
 pub mod DecideLemmas

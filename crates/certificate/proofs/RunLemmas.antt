@@ -494,27 +494,3 @@ dash_read old now before took begins = record { read = reads now took; only = on
       | inl full ↦ absurd (dashed now took s tail full q)
       | inr empty ↦ (λ v h. none v ∙ sym (empty v h), (begins tail (rw (empty_text s empty) at q)).1, omega arith)
     ]
-
--- No dash, and then a set with a word.
-pub words_read : (old mid now : Option (List ℕ)) (before runs : List Kept) → mid ≡ old →
-    ((r : List ℕ) → old ≡ Some (45 ∷ r) → (false ≡ true) × (mid ≡ Some r)) →
-    IfSome now (λ r. mid ≡ Some (set_text (added before runs) ++ r)) →
-    ((s : Words) (tail : List ℕ) → length before ≤ 2048 → has_some s ≡ true → EndsField tail → mid ≡ Some (set_text s ++ tail) →
-    SameWords (added before runs) s × (now ≡ Some tail) × (length runs ≤ length before + 2048)) → FieldRead old now before runs
-words_read old mid now before runs same none read only = record {
-  read = reads now read;
-  only = λ s tail room ends q. elim (by_words s) [
-    | inl full ↦ only s tail room full ends (same ∙ q)
-    | inr empty ↦ absurd (false≢true (none tail (rw (empty_text s empty) at q)).0)
-  ];
-}
-  where
-    reads : (o : Option (List ℕ)) → IfSome o (λ r. mid ≡ Some (set_text (added before runs) ++ r)) → IfSome o (λ r. old ≡ Some (set_text (added before runs) ++ r))
-    reads None a = tt
-    reads (Some r) a = sym same ∙ a
-
--- The text of a set with a word.
-pub as_field : (old now : Option (List ℕ)) (t : Words) → IfSome now (λ r. (has_some t ≡ true) × (old ≡ Some (marks 4096 t ++ r))) →
-    IfSome now (λ r. has_some t ≡ true) × IfSome now (λ r. old ≡ Some (set_text t ++ r))
-as_field old None t h = (tt, tt)
-as_field old (Some r) t h = (h.0, h.1 ∙ ap (λ (x : List ℕ). Some (x ++ r)) (sym (full_text t h.0)))

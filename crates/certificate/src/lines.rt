@@ -135,13 +135,10 @@ impl<A: Allocator> KeptLines<A> {
     /// Whether a line has a place from one number on and before another.
     pub fn has_between(&self, first: usize, end: usize) -> bool
         requires order { RiseFrom 0 self.now.places.items }
-        requires small { first < 2 ^ 32 }
+        requires small { (first ≤ 40960) × (end ≤ 40960) }
         ensures { IsTrue result ↔ HasBetween self.now.places.items first end }
     {
-        match self.places.binary_search(&(first as u32)) {
-            Ok(_) => first < end,
-            Err(at) => at < self.places.len() && (self.places[at] as usize) < end,
-        }
+        self.next_place(first) < end
     }
 
     /// The least place of a line from a number on, or that of the end, which isn't kept.

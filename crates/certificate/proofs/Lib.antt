@@ -18,7 +18,6 @@ pub mod GatherLemmas
 pub mod FormLemmas
 pub mod PackedLemmas
 pub mod FoundLemmas
-pub mod DetailLemmas
 pub mod ReaderLemmas
 mod NameLemmas
 pub mod SpelledLemmas

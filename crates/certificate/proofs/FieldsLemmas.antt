@@ -28,6 +28,3 @@ earlier P (Some s) (Some r) y p q = p
 -- Nothing is left.
 pub whole : (line x : List ℕ) (a c : Option (List ℕ)) → a ≡ Some line → c ≡ Some [] → IfSome c (λ r. a ≡ Some (x ++ r)) → line ≡ x
 whole line x a c first none read = let e : a ≡ Some (x ++ []) = rw none at read in let f : line ≡ x ++ [] = cc in f ∙ append-nil x
-
-pub reached : (P : Type 0) (c : Option (List ℕ)) → c ≡ Some [] → IfSome c (λ r. P) → P
-reached P c none h = rw none at h

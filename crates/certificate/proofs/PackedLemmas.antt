@@ -336,11 +336,6 @@ line_there runs ls i k at h all =
       within = rw (length-drop k.first runs) it.within;
     }
 
--- The same where there were none.
-pub one_from_none : (old new : List Run) (n : ℕ) → old ≡ [] → length old + n ≡ length new → set_at new 0 n ≡ added old new
-one_from_none old new n none p =
-    subst (λ (rs : List Run). set_at rs 0 n ≡ added old new) (ap (λ (rs : List Run). drop (length rs) new) none) (one_laid old new n (added old new) p refl)
-
 -- Lines in front of others.
 pub front_kept : (runs : List Run) (ls : List KeptLine) (n : ℕ) → lines_in runs (take n ls) ≡ take n (lines_in runs ls)
 front_kept runs [] zero = refl

@@ -10,12 +10,6 @@ use Rattle.certificate.proofs.FieldsLemmas.{both, whole}
 use Rattle.certificate.proofs.LineLemmas.{routine_fields}
 use Rattle.certificate.proofs.line.read_routine.Goals as goal
 
-pub returns-then-is_done-clause-within : goal.returns-then-is_done-clause-within
-returns-then-is_done-clause-within c =
-    let l = from_none c.args.runs.now.items c.set-one.new.runs.items c.set-other.new.runs.items c.set-one.result c.set-other.result c.requires c.set-one.ensures.front c.set-other.ensures.front
-    c.set-one.ensures.count c.set-other.ensures.count in
-    l.within
-
 pub returns-then-is_done-clause-read : goal.returns-then-is_done-clause-read
 returns-then-is_done-clause-read c =
     let l = from_none c.args.runs.now.items c.set-one.new.runs.items c.set-other.new.runs.items c.set-one.result c.set-other.result c.requires c.set-one.ensures.front c.set-other.ensures.front

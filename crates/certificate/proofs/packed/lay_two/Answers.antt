@@ -1,9 +1,5 @@
 use Rattle.certificate.proofs.PackedLemmas.{two_laid}
-use Rattle.certificate.proofs.MakerLemmas.{begins_both}
 use Rattle.certificate.proofs.packed.lay_two.Goals as goal
-
-pub returns-clause-front : goal.returns-clause-front
-returns-clause-front g c = begins_both _ _ _ c.lay.ensures.front c.lay-2.ensures.front
 
 pub returns-clause-laid : goal.returns-clause-laid
 returns-clause-laid g c =

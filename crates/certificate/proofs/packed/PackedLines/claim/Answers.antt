@@ -3,16 +3,12 @@ use Rattle.certificate.specs.declared.packed.KeptLine.{KeptLine}
 use Rattle.certificate.specs.Packed.{lines_in}
 use Rattle.certificate.proofs.PutLemmas.{any_err}
 use Rattle.certificate.specs.Claimed.{claimed_line}
-use Rattle.certificate.proofs.PackedLemmas.{runs_added, still_within, line_added, all_within}
+use Rattle.certificate.proofs.PackedLemmas.{runs_added, line_added, all_within}
 use Rattle.certificate.proofs.packed.PackedLines.claim.Goals as goal
 
 pub returns-in_err-line-clause-same : goal.returns-in_err-line-clause-same
 returns-in_err-line-clause-same g c =
     rw (← c.self.view_is) (any_err _ _ (runs_added c.self.inside.runs.items c.pack.new.runs.items c.self.inside.list.items c.self.invariant c.pack.ensures.front))
-
-pub invariant_of-self-in_err-push : goal.invariant_of-self-in_err-push
-invariant_of-self-in_err-push g c =
-    rw c.in_err-push.ensures.items (still_within c.self.inside.runs.items c.pack.new.runs.items c.self.inside.list.items c.self.invariant c.pack.ensures.front)
 
 pub returns-in_err-push-clause-same : goal.returns-in_err-push-clause-same
 returns-in_err-push-clause-same g c =

@@ -6,8 +6,7 @@ use Rattle.facts.specs.Facts.{Equation}
 use Rattle.facts.specs.Statements.{TrackedCell}
 use Rattle.certificate.specs.declared.Version.{Version}
 use Rattle.certificate.specs.declared.lines.KeptLines.{KeptLines}
-use Rattle.certificate.specs.Spelling.{RoutineLine, FactLine, ExitLine}
-use Rattle.certificate.specs.Line.{Line, Registers, RoutineIs, FactIs, ExitIs, CellIs, EquationIs, registers_of}
+use Rattle.certificate.specs.Spelling.{RoutineLine, FactLine, ExitLine, Line, Registers, RoutineIs, FactIs, ExitIs, CellIs, EquationIs, registers_of}
 use Rattle.certificate.specs.Gathered.{gathered}
 use Rattle.certificate.specs.Found.{newest_first, all_said, IsIndexed, Keeps, IsWhole}
 use Rattle.certificate.specs.Made.{no_lines, with_routine, with_fact, with_exit, MayAddRoutine, MayAddFact, MayAddExit}

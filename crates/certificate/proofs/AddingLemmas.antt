@@ -1,27 +1,58 @@
 -- Lines that add to what is said of a fact, and the line of the fact itself.
-use Rattle.std.proofs.Common.{◌≡◌, ℕ, suc, ◌+◌, ◌≤◌, true, false, List, [], ◌∷◌, ◌++◌, length, get_or, drop, Option, Some, None, refl, ap, ◌∙◌, sym, arith, length-append}
+use Rattle.std.proofs.Common.{◌≡◌, ℕ, suc, ◌+◌, ◌≤◌, true, false, List, [], ◌∷◌, ◌++◌, length, get_or, drop, Option, Some, None, refl, ap, ◌∙◌, sym, arith, append_assoc, append-nil, length-append}
 use Rattle.std.specs.Prelude.{IfSome}
 use Rattle.std.proofs.lemmas.Bool.{true≢false}
 use Rattle.wordset.specs.Words.{Words, everything, between}
 use Rattle.wordset.specs.Lanes.{words}
-use Rattle.facts.specs.Statements.{Statement, fact_of}
+use Rattle.facts.specs.Facts.{Equation}
+use Rattle.facts.specs.Statements.{TrackedCell, Statement, fact_of}
 use Rattle.certificate.specs.declared.Routine.{Routine}
-use Rattle.certificate.specs.Spelling.{RoutineLine}
+use Rattle.certificate.specs.Spelling.{RoutineLine, Line, RoutineIs, FactIs, ExitIs, CellIs, EquationIs}
 use Rattle.certificate.specs.declared.packed.Run.{Run}
-use Rattle.certificate.specs.Line.{Line, RoutineIs, FactIs, ExitIs, CellIs, EquationIs}
 use Rattle.certificate.specs.Order.{is_detail}
 use Rattle.certificate.specs.Gathered.{cells_under, equations_under}
 use Rattle.certificate.specs.Packed.{set_of_runs}
 use Rattle.certificate.specs.Found.{with_details, begins_fact, begins_exit, begins_routine, first_fact, first_exit, fact_statement, exit_statement, FitUnderFirst, SaysFirst, IsRoutineOf}
 use Rattle.certificate.specs.Adding.{with_line, HasRoomFor, HasRoomUnder, IsFactLine, IsExitLine, IsRoutineLine, SaysFactAt, SaysExitAt}
-use Rattle.certificate.proofs.PackedLemmas.{set_is}
-use Rattle.certificate.proofs.DetailLemmas.{cell_added, equation_added, none_under}
+use Rattle.std.specs.Prelude.{◌<◌, ◌-◌, ◌&&◌, take, slice_range}
+use Rattle.std.proofs.lemmas.List.{drop_more}
+use Rattle.wordset.proofs.SetLemmas.{equal_words, all_everything}
+use Rattle.certificate.proofs.PackedLemmas.{set_is, runs_past, above_between}
+
+-- The set of one run.
+pub one_run : (r : Run) → r.last < 4096 → set_of_runs (r ∷ []) ≡ between r.first r.last
+unfolding set_of_runs
+one_run r small = equal_words _ _ (runs_past (r ∷ [])) (λ v h. above_between r.first r.last v (omega arith))
+    (λ v h. ap (λ b. b && between r.first r.last v) (all_everything v h))
+
+-- The set of the one run that lies at a place.
+pub row_there : (runs : List Run) (i n : ℕ) (d : Run) → n ≡ 1 → i + n ≤ length runs → d ≡ get_or runs i d → d.last < 4096 →
+    set_of_runs (slice_range runs i (i + n)) ≡ between d.first d.last
+row_there runs i n d one within is small =
+    let b : i < length runs = omega (arith, one) in
+    let there : slice_range runs i (i + n) ≡ d ∷ [] =
+    rw one (ap (take (i + 1 - i)) (drop_more runs i d b) ∙ (let k : i + 1 - i ≡ 1 = omega arith in rw (k, ← is) refl)) in
+    ap set_of_runs there ∙ one_run d small
 
 -- The set of a single run.
 pub single : (lanes : List ℕ) (rs : List Run) (d e : Run) → length rs ≡ 1 → words lanes ≡ between (get_or rs 0 d).first (get_or rs 0 e).last → words lanes ≡ set_of_runs rs
 single lanes [] d e one is = absurd (omega arith)
 single lanes (x ∷ []) d e one is = set_is lanes (x ∷ []) (λ v h. ap (λ (f : Words). f v) is)
 single lanes (x ∷ y ∷ rs) d e one is = absurd (omega arith)
+
+-- A cell and an equation more.
+cell_added : (s : Statement) (t : TrackedCell) (ls : List Line) →
+    with_details (record s { cells = s.cells ++ t ∷ [] }) ls ≡ with_details s (CellIs t ∷ ls)
+cell_added s t ls = rw (append_assoc s.cells (t ∷ []) (cells_under ls)) refl
+
+equation_added : (s : Statement) (e : Equation) (ls : List Line) →
+    with_details (record s { equations = s.equations ++ e ∷ [] }) ls ≡ with_details s (EquationIs e ∷ ls)
+equation_added s e ls = rw (append_assoc s.equations (e ∷ []) (equations_under ls)) refl
+
+none_under : (s : Statement) (l : Line) (ls : List Line) → is_detail l ≡ false → with_details s (l ∷ ls) ≡ s
+none_under s (CellIs c) ls e = absurd (cc)
+none_under s (EquationIs q) ls e = absurd (cc)
+none_under s l ls e = rw (append-nil s.cells, append-nil s.equations) refl
 
 -- There is room for what is left, after a part was added.
 pub room_left : (s whole : Statement) (ls all : List Line) → with_details s ls ≡ with_details whole all → HasRoomUnder whole all → HasRoomUnder s ls

@@ -6,9 +6,8 @@ use Rattle.std.proofs.lemmas.Bool.Decides.{eqb_tells}
 use Rattle.certificate.specs.declared.Version.{Version}
 use Rattle.certificate.specs.declared.Version.TheVariants.{One, Two}
 use Rattle.certificate.specs.declared.CertificateFault.TheVariants as faults
-use Rattle.certificate.specs.Spelling.{version_text}
+use Rattle.certificate.specs.Spelling.{version_text, Line, RoutineIs, CellIs, EquationIs, ended}
 use Rattle.certificate.specs.Reading.{Each}
-use Rattle.certificate.specs.Line.{Line, RoutineIs, CellIs, EquationIs, ended}
 use Rattle.certificate.specs.Order.{is_end, any, how_many, is_routine, is_cell, is_equation, details_of_last, may_stand, place, next_place, fellows, InOrder, HasRoom, Spells, IsNext, AreInOrder, front, IsBad, IsMisplaced, IsOneTooMany}
 use Rattle.certificate.specs.Faults.{most_bytes, NoFeed, HasLine, HasFaultyLine, IsTooLong}
 use Rattle.certificate.specs.Exact.{FaultLaw, IsAnswered}

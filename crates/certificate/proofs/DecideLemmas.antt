@@ -8,7 +8,8 @@ use Rattle.facts.specs.Facts.{Name, Ac, Cell, Equation}
 use Rattle.certificate.specs.declared.Version.{Version}
 use Rattle.certificate.specs.declared.Version.TheVariants.{One, Two}
 use Rattle.certificate.specs.Reading.{FitsVersion, IsEquation, place_of_name}
-use Rattle.certificate.specs.Line.{Registers, Line, RoutineIs, FactIs, ExitIs, CellIs, EquationIs, End, IsLine, IsRegisters, SameRegisters, SameLine, line_text}
+use Rattle.certificate.specs.Spelling.{Registers, Line, RoutineIs, FactIs, ExitIs, CellIs, EquationIs, End, line_text}
+use Rattle.certificate.specs.Line.{IsLine, IsRegisters, SameRegisters, SameLine}
 use Rattle.certificate.specs.Order.{Spells}
 use Rattle.certificate.proofs.DigitLemmas.{some_same}
 use Rattle.certificate.proofs.SameTextLemmas.{same_line_text}

@@ -8,13 +8,11 @@ use Rattle.std.proofs.lemmas.Bool.{eq-eqb, ne_eqb, cases_eq}
 use Rattle.facts.specs.Facts.{Equation}
 use Rattle.facts.specs.Statements.{TrackedCell}
 use Rattle.certificate.specs.declared.Version.{Version}
-use Rattle.certificate.specs.Spelling.{RoutineLine, FactLine, ExitLine, Lines, fact_text, fact_text_in, fact_text_at}
+use Rattle.certificate.specs.Spelling.{RoutineLine, FactLine, ExitLine, Lines, fact_text_in, fact_text_at, Line, RoutineIs, FactIs, CellIs, EquationIs, registers_of, lines_of_fact, lines_of_exit, line_text, ended, all_ended}
 use Rattle.certificate.specs.Reading.{RiseFrom, Each, IsRoutine, AreLines}
-use Rattle.certificate.specs.Line.{Line, RoutineIs, FactIs, CellIs, EquationIs, registers_of, lines_of_fact, lines_of_exit, line_text, ended, all_ended}
 use Rattle.certificate.specs.Order.{any, is_end, is_detail, details_of_last, AreInOrder}
 use Rattle.certificate.specs.Gathered.{gathered}
 use Rattle.certificate.specs.Found.{newest_first, from_place, first_with_details}
-use Rattle.certificate.proofs.TextLemmas.{fact_ended}
 use Rattle.certificate.proofs.GatherLemmas.{body_of}
 use Rattle.certificate.proofs.FormLemmas.{gathered_formed}
 use Rattle.certificate.proofs.MakerLemmas.{kept_body}
@@ -68,9 +66,8 @@ facts_found v a low (f ∷ fs) es small rise =
       | inl e ↦
           rw (eq-eqb (4096 + f.address) (4096 + a) (ap (λ n. 4096 + n) e), eq-eqb f.address a e)
           (ap (λ (x : List Line). all_ended v (FactIs f.address (registers_of f.statement) f.offsets ∷ x)) (details_first f.statement.cells f.statement.equations later (no_detail fs es)) ∙
-          (sym (fact_ended v f) ∙
-          (sym (append-nil (fact_text v f)) ∙
-          ap (λ (x : List ℕ). fact_text v f ++ x) (sym (none_after v a (f.address + 1) fs (omega arith) rise.1)))))
+          (sym (append-nil (all_ended v (lines_of_fact f))) ∙
+          ap (λ (x : List ℕ). all_ended v (lines_of_fact f) ++ x) (sym (none_after v a (f.address + 1) fs (omega arith) rise.1))))
       | inr n ↦
           rw (ne_eqb (4096 + f.address) (4096 + a) (λ q. n (omega arith)), ne_eqb f.address a n)
           (ap (λ (x : List Line). all_ended v (first_with_details x)) (details_passed (4096 + a) f.statement.cells f.statement.equations later) ∙

@@ -1,5 +1,5 @@
 -- What stands at the front of a line.
-use Rattle.std.proofs.Common.{◌≡◌, ◌≢◌, ℕ, Bool, true, false, List, ◌++◌, Some, None, ap}
+use Rattle.std.proofs.Common.{◌≡◌, ◌≢◌, ℕ, Bool, true, false, List, [], ◌++◌, Option, Some, None, ap, ◌∙◌, sym, append_assoc, append-nil}
 use Rattle.std.specs.Prelude.{if◌then◌else◌, IfSome}
 
 pub skipped : (reads : Bool) (s p rest : List ℕ) → s ≡ p ++ rest →
@@ -11,3 +11,20 @@ pub not_there : {X : Type 0} (reads : Bool) (s p rest : List ℕ) → ((r : List
     (if reads then Some s else None) ≡ Some (p ++ rest) → X
 not_there true s p rest none e = absurd (none rest (cc))
 not_there false s p rest none e = absurd (cc)
+
+-- One field was at the front, and then another.
+pub both : (a b c : Option (List ℕ)) (x y : List ℕ) → IfSome b (λ r. a ≡ Some (x ++ r)) → IfSome c (λ r. b ≡ Some (y ++ r)) → IfSome c (λ r. a ≡ Some (x ++ y ++ r))
+both a b None x y p q = tt
+both a None (Some r) x y p q = absurd (cc)
+both a (Some s) (Some r) x y p q =
+    let e : s ≡ y ++ r = cc in p ∙ ap (λ (z : List ℕ). Some z) (ap (λ (z : List ℕ). x ++ z) e ∙ sym (append_assoc x y r))
+
+-- What holds where a field was read holds where a further one was.
+pub earlier : (P : Type 0) (b c : Option (List ℕ)) (y : List ℕ) → IfSome b (λ r. P) → IfSome c (λ r. b ≡ Some (y ++ r)) → IfSome c (λ r. P)
+earlier P b None y p q = tt
+earlier P None (Some r) y p q = absurd (cc)
+earlier P (Some s) (Some r) y p q = p
+
+-- Nothing is left.
+pub whole : (line x : List ℕ) (a c : Option (List ℕ)) → a ≡ Some line → c ≡ Some [] → IfSome c (λ r. a ≡ Some (x ++ r)) → line ≡ x
+whole line x a c first none read = let e : a ≡ Some (x ++ []) = rw none at read in let f : line ≡ x ++ [] = cc in f ∙ append-nil x

@@ -4,9 +4,9 @@ use Rattle.std.specs.Prelude.{map}
 use Rattle.facts.specs.Facts.{Equation}
 use Rattle.facts.specs.Statements.{TrackedCell}
 use Rattle.certificate.specs.declared.Version.{Version}
-use Rattle.certificate.specs.Spelling.{RoutineLine, FactLine, ExitLine}
+use Rattle.certificate.specs.Spelling.{RoutineLine, FactLine, ExitLine, Registers, Line, RoutineIs, FactIs, ExitIs, CellIs, EquationIs, End}
 use Rattle.certificate.specs.Reading.{RiseFrom, place_of_equation, Each, IsTracked, IsEquation, IsStatement, IsRoutine, IsFactLine, IsExit, AreLines}
-use Rattle.certificate.specs.Line.{Registers, Line, RoutineIs, FactIs, ExitIs, CellIs, EquationIs, End, IsRegisters}
+use Rattle.certificate.specs.Line.{IsRegisters}
 use Rattle.certificate.specs.Order.{how_many, is_routine, is_cell, is_equation, heads, details_of_last, next_place, AreInOrder}
 use Rattle.certificate.specs.Gathered.{cells_under, equations_under, stated, routines_of, facts_of, exits_of, gathered}
 use Rattle.certificate.specs.Found.{newest_first}

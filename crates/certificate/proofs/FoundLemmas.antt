@@ -9,7 +9,7 @@ use Rattle.std.proofs.lemmas.List.{get_or_default, map_push}
 use Rattle.certificate.specs.declared.Version.{Version}
 use Rattle.certificate.specs.declared.lines.KeptLines.{KeptLines}
 use Rattle.certificate.specs.Reading.{RiseFrom}
-use Rattle.certificate.specs.Line.{Line, RoutineIs, FactIs, ExitIs, CellIs, EquationIs, End}
+use Rattle.certificate.specs.Spelling.{Line, RoutineIs, FactIs, ExitIs, CellIs, EquationIs, End}
 use Rattle.certificate.specs.Order.{is_detail, is_end, heads, place, next_place}
 use Rattle.certificate.specs.Found.{newest_first, starts, from_place, all_said, IsIndexed, IsWhole, HasBetween, IsNextPlace, Keeps, unended}
 use Rattle.certificate.proofs.TextLemmas.{newest_both}
@@ -233,20 +233,6 @@ sought_none k xs p i r same is found_by h rise =
       | inr a ↦ (let z : p < get_or k.places.items j 0 = n.2 j a b in omega arith)
     ])
 
--- A place is between two numbers, of which the first one wasn't found, where the line at which it would stand is before the other.
-pub between_missed : (xs places : List ℕ) (first end i : ℕ) (r : Result ℕ ℕ) → xs ≡ places → r ≡ Err i →
-    IsBinarySearchResult (λ y. nat_cmp y first) xs r → RiseFrom 0 places → ((i < length places) × (get_or places i 0 < end)) ↔ HasBetween places first end
-between_missed xs places first end i r same is found_by rise =
-    let n : Missed places first i = missed xs places first i r same is found_by rise in (
-      λ h. let g : first < get_or places i 0 = n.2 i (omega arith) h.0 in record { at = i; there = h.0; reached = omega arith; before = h.1 },
-      λ h. let late : i ≤ h.at = elim (cases_lt h.at i) [
-        | inl a ↦ absurd (let z : get_or places h.at 0 < first = n.1 h.at a in let w = h.reached in omega arith)
-        | inr a ↦ a
-      ] in
-          let u : get_or places i 0 ≤ get_or places h.at 0 = rising places rise i h.at late h.there in
-          (let t = h.there in omega arith, let w = h.before in omega arith),
-    )
-
 -- From a place on that wasn't found the next one is that of the line at which it would stand.
 pub next_missed : (xs places : List ℕ) (from i : ℕ) (r : Result ℕ ℕ) → xs ≡ places → r ≡ Err i →
     IsBinarySearchResult (λ y. nat_cmp y from) xs r → RiseFrom 0 places → from ≤ 40960 →
@@ -269,3 +255,14 @@ next_missed xs places from i r same is found_by rise small =
         before = λ h. (let z = late h.at h.reached h.there in let y = h.there in omega arith);
       },
     )
+
+-- A place is between two numbers where the next one from the first on is before the other.
+pub next_tells : (places : List ℕ) (from next end : ℕ) → end ≤ 40960 → IsNextPlace places from next → (next < end) ↔ HasBetween places from end
+next_tells places from next end few n = (
+  λ less. let h : HasBetween places next (next + 1) = n.there (omega arith) in
+      record { at = h.at; there = h.there; reached = (let z = h.reached in let y = n.reached in omega arith); before = (let z = h.before in omega arith) },
+  λ h. elim (cases_lt next end) [
+    | inl a ↦ a
+    | inr b ↦ absurd (n.before (record { at = h.at; there = h.there; reached = h.reached; before = (let z = h.before in omega arith) }))
+  ],
+)

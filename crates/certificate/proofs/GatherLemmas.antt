@@ -5,13 +5,13 @@ use Rattle.std.specs.Prelude.{not, ◌&&◌, ◌||◌, map, flat_map}
 use Rattle.facts.specs.Facts.{Equation}
 use Rattle.facts.specs.Statements.{TrackedCell}
 use Rattle.certificate.specs.declared.Version.{Version}
-use Rattle.certificate.specs.Spelling.{RoutineLine, FactLine, ExitLine, Lines, version_text, text}
+use Rattle.certificate.specs.Spelling.{RoutineLine, FactLine, ExitLine, Lines, version_text, text, Line, RoutineIs, FactIs, ExitIs, CellIs, EquationIs, End, details, lines_of_fact, lines_of_exit, lines_of, ended, all_ended}
 use Rattle.certificate.specs.Reading.{Each}
-use Rattle.certificate.specs.Line.{Line, RoutineIs, FactIs, ExitIs, CellIs, EquationIs, End, IsLine, details, lines_of_fact, lines_of_exit, lines_of, ended, all_ended}
+use Rattle.certificate.specs.Line.{IsLine}
 use Rattle.certificate.specs.Order.{any, is_detail, is_end, has_details, heads, details_of_last, next_place, IsNext, AreInOrder, front}
 use Rattle.certificate.specs.Gathered.{cells_under, equations_under, routines_of, facts_of, exits_of, gathered}
 use Rattle.certificate.specs.Found.{newest_first}
-use Rattle.certificate.proofs.TextLemmas.{text_lines, newest_both, front_newest}
+use Rattle.certificate.proofs.TextLemmas.{newest_both, front_newest}
 
 -- Each of the lines may come after those before it; these have the newest first.
 abbrev pub Follow : Version → List Line → List Line → Type 0
@@ -189,8 +189,7 @@ lines_set_out v ls h e =
 pub text_of_gathered : (v : Version) (ls : List Line) → AreInOrder v (newest_first [] ls) → any is_end (newest_first [] ls) ≡ true →
     text (gathered v ls) ≡ front v (newest_first [] ls)
 text_of_gathered v ls h e =
-    text_lines (gathered v ls) ∙
-    (ap (λ (x : List Line). ended (version_text v) ++ all_ended v x) (sym (lines_set_out v ls h e)) ∙ sym (front_newest v [] ls))
+    ap (λ (x : List Line). ended (version_text v) ++ all_ended v x) (sym (lines_set_out v ls h e)) ∙ sym (front_newest v [] ls)
 
 -- The lines of a certificate before the end.
 abbrev pub body_of : Lines → List Line

@@ -7,8 +7,7 @@ use Rattle.wordset.specs.Words.{Words, some_below, has_some}
 use Rattle.facts.specs.Facts.{Name, Ac, Cell}
 use Rattle.certificate.specs.declared.Version.{Version}
 use Rattle.certificate.specs.declared.Version.TheVariants.{One, Two}
-use Rattle.certificate.specs.Spelling.{begins, ends, mark, marks, digits, set_text, offsets_text, mq_text, name_text}
-use Rattle.certificate.specs.Line.{Registers, Line, RoutineIs, FactIs, ExitIs, CellIs, EquationIs, End, words_text, rank_text, line_text}
+use Rattle.certificate.specs.Spelling.{begins, ends, mark, marks, digits, set_text, offsets_text, mq_text, name_text, Registers, Line, RoutineIs, FactIs, ExitIs, CellIs, EquationIs, End, words_text, rank_text, line_text}
 use Rattle.certificate.proofs.SetLemmas.{comma, mark_first, mark_last, mark_none, absent}
 
 -- By how much what is written of the words below n may be more than ten bytes for each three words.

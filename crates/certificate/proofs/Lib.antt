@@ -18,7 +18,6 @@ pub mod GatherLemmas
 pub mod FormLemmas
 pub mod PackedLemmas
 pub mod FoundLemmas
-pub mod DetailLemmas
 pub mod ReaderLemmas
 mod NameLemmas
 pub mod SpelledLemmas
@@ -29,7 +28,6 @@ pub mod PutLemmas
 pub mod FactTextLemmas
 pub mod ReadLemmas
 pub mod ServedLemmas
-pub mod DetailAddedLemmas
 pub mod AddingLemmas
 mod ReadBackLemmas
 pub mod DecideLemmas

@@ -1,14 +1,21 @@
 -- The texts of lines field by field.
 use Rattle.std.proofs.Common.{◌≡◌, ℕ, ◌+◌, List, [], ◌∷◌, ◌++◌, refl, append_assoc, append-nil}
-use Rattle.std.specs.Prelude.{codes}
+use Rattle.std.specs.Prelude.{codes, true, Option, Some, None, IfSome}
 use Rattle.word12.specs.Words.{octal_text}
 use Rattle.certificate.specs.declared.Version.{Version}
 use Rattle.certificate.specs.declared.Version.TheVariants.{One, Two}
-use Rattle.wordset.specs.Words.{Words}
+use Rattle.wordset.specs.Words.{Words, has_some, some_below}
+use Rattle.certificate.specs.Reading.{FitsVersion}
+use Rattle.certificate.specs.Line.{IsRegisters}
 use Rattle.facts.specs.Statements.{TrackedCell}
-use Rattle.certificate.specs.Spelling.{RoutineLine, set_text, digits, mq_text, offsets_text}
-use Rattle.certificate.specs.Line.{Registers, FactIs, ExitIs, words_text, rank_text, routine_line, cell_line, line_text}
+use Rattle.certificate.specs.Spelling.{RoutineLine, set_text, digits, mq_text, offsets_text, Registers, FactIs, ExitIs, words_text, rank_text, routine_line, cell_line, line_text}
 use Rattle.certificate.specs.Fields.{EndsField}
+
+-- Registers whose sets and links are of their form.
+pub are_registers : (v : Version) (r : Registers) (o : Option (List ℕ)) → IfSome o (λ x. has_some r.ac ≡ true) → IfSome o (λ x. FitsVersion v r.mq) →
+    IfSome o (λ x. some_below 2 r.link ≡ true) → IfSome o (λ x. IsRegisters v r)
+are_registers v r None a b c = tt
+are_registers v r (Some x) a b c = record { ac = a; mq = b; link = c }
 
 -- After what is said of MQ comes a space.
 pub mq_space : (v : Version) (s : Words) (rest : List ℕ) → EndsField (mq_text v s ++ 32 ∷ rest)

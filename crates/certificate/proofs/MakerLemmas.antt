@@ -10,15 +10,15 @@ use Rattle.wordset.proofs.Tests.{some_from}
 use Rattle.certificate.specs.declared.Version.{Version}
 use Rattle.certificate.specs.declared.Version.TheVariants.{One, Two}
 use Rattle.certificate.specs.declared.lines.KeptLines.{KeptLines}
-use Rattle.certificate.specs.Spelling.{RoutineLine, FactLine, ExitLine, Lines, version_text, text}
+use Rattle.certificate.specs.Spelling.{RoutineLine, FactLine, ExitLine, Lines, version_text, text, Line, RoutineIs, FactIs, ExitIs, CellIs, EquationIs, End, line_text, lines_of_fact, lines_of_exit, ended, all_ended}
 use Rattle.certificate.specs.Reading.{RiseFrom, Each, FitsVersion, IsRoutine, IsFactLine, IsExit, AreLines}
-use Rattle.certificate.specs.Line.{Line, RoutineIs, FactIs, ExitIs, CellIs, EquationIs, End, IsLine, line_text, lines_of_fact, lines_of_exit, ended, all_ended}
+use Rattle.certificate.specs.Line.{IsLine}
 use Rattle.certificate.specs.Order.{any, is_end, is_detail, heads, place, next_place, IsNext, AreInOrder}
 use Rattle.certificate.specs.Gathered.{routines_of, facts_of, exits_of, gathered}
 use Rattle.certificate.specs.Found.{newest_first, starts, all_said, IsIndexed, IsWhole, HasMore}
 use Rattle.certificate.specs.Packed.{Begins}
 use Rattle.certificate.specs.Made.{with_routine, with_fact, with_exit, MayAddRoutine, MayAddFact, MayAddExit}
-use Rattle.certificate.proofs.TextLemmas.{text_lines, newest_both, both_ended, each_append}
+use Rattle.certificate.proofs.TextLemmas.{newest_both, both_ended, each_append}
 use Rattle.certificate.proofs.TextOrderLemmas.{body_order}
 use Rattle.certificate.proofs.GatherLemmas.{lines_set_out, body_of, gathered_body}
 use Rattle.certificate.proofs.FormLemmas.{gathered_formed}
@@ -63,10 +63,9 @@ kept_body v ls h e = open_body v ls h e ∙ ap body_of (gathered_end v ls h e)
 pub text_of_open : (v : Version) (ls : List Line) → AreInOrder v (newest_first [] ls) → any is_end (newest_first [] ls) ≡ false →
     text (gathered v ls) ≡ ended (version_text v) ++ all_ended v ls ++ ended (line_text v End)
 text_of_open v ls h e =
-    text_lines (gathered v ls) ∙
-    (ap (λ (x : List Line). ended (version_text v) ++ all_ended v (x ++ End ∷ [])) (sym (kept_body v ls h e)) ∙
+    ap (λ (x : List Line). ended (version_text v) ++ all_ended v (x ++ End ∷ [])) (sym (kept_body v ls h e)) ∙
     (ap (λ (x : List ℕ). ended (version_text v) ++ x) (both_ended v ls (End ∷ [])) ∙
-    sym (append_assoc (ended (version_text v)) (all_ended v ls) (ended (line_text v End)))))
+    sym (append_assoc (ended (version_text v)) (all_ended v ls) (ended (line_text v End))))
 
 -- Cells and equations are no heads.
 no_heads : (cs : List TrackedCell) (es : List Equation) → heads (map CellIs cs ++ map EquationIs es) ≡ []

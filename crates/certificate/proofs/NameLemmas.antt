@@ -8,7 +8,8 @@ use Rattle.wordset.proofs.Tests.{some_from, some_none_of, or_left, or_right}
 use Rattle.certificate.specs.declared.Version.{Version}
 use Rattle.certificate.specs.declared.lines.KeptLines.{KeptLines}
 use Rattle.certificate.specs.Reading.{Each, has_routine, has_fact_in, has_exit_in}
-use Rattle.certificate.specs.Line.{Line, RoutineIs, FactIs, ExitIs, End, IsLine}
+use Rattle.certificate.specs.Spelling.{Line, RoutineIs, FactIs, ExitIs, End}
+use Rattle.certificate.specs.Line.{IsLine}
 use Rattle.certificate.specs.Order.{is_detail, heads, place}
 use Rattle.certificate.specs.Gathered.{routines_of, facts_of, exits_of}
 use Rattle.certificate.specs.Found.{from_place, all_said, IsWhole, IsIndexed, HasBetween, IsNextPlace, begins_routine, begins_fact, begins_exit}

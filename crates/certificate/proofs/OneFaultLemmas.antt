@@ -6,9 +6,9 @@ use Rattle.std.proofs.lemmas.Bool.{true≢false, false≢true}
 use Rattle.certificate.specs.declared.Version.{Version}
 use Rattle.certificate.specs.declared.CertificateFault.{CertificateFault}
 use Rattle.certificate.specs.declared.CertificateFault.TheVariants as faults
-use Rattle.certificate.specs.Spelling.{version_text}
+use Rattle.certificate.specs.Spelling.{version_text, Line, RoutineIs, FactIs, ExitIs, CellIs, EquationIs, End, line_text, ended, all_ended}
 use Rattle.certificate.specs.Reading.{place_of_equation}
-use Rattle.certificate.specs.Line.{Line, RoutineIs, FactIs, ExitIs, CellIs, EquationIs, End, IsLine, line_text, SameLine, ended, all_ended}
+use Rattle.certificate.specs.Line.{IsLine, SameLine}
 use Rattle.certificate.specs.Order.{is_detail, has_details, is_end, any, how_many, may_stand, heads, details_of_last, place, next_place, fellows, InOrder, is_routine, is_cell, is_equation, HasRoom, IsNext, AreInOrder, front, IsBad, IsMisplaced, IsOneTooMany}
 use Rattle.certificate.specs.Found.{newest_first}
 use Rattle.certificate.specs.Faults.{most_bytes, NoFeed, IsText, HasLine, HasFaultyLine, HasNoVersion, HasRest, IsCut, IsTooLong, HasFault}

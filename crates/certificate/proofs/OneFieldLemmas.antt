@@ -7,9 +7,8 @@ use Rattle.word12.specs.Words.{octal_text}
 use Rattle.wordset.specs.Words.{Words, SameWords, some_below}
 use Rattle.wordset.proofs.Tests.{IsSome, some_to, some_from, some_none_of, none_of_some}
 use Rattle.facts.specs.Facts.{Name, Ac, Cell}
-use Rattle.certificate.specs.Spelling.{digits, set_text, offsets_text, name_text}
+use Rattle.certificate.specs.Spelling.{digits, set_text, offsets_text, name_text, rank_text}
 use Rattle.certificate.specs.Reading.{place_of_name}
-use Rattle.certificate.specs.Line.{rank_text}
 use Rattle.certificate.specs.Fields.{run_text, NoDash, EndsField}
 use Rattle.certificate.proofs.SetLemmas.{rest, comma, Run, whole_rest, none_rest, run_rest, StartsAt, starts_after, gap_after, Next, next_run}
 use Rattle.certificate.proofs.RunLemmas.{SameBelow, first_digit, no_dash, by_words, empty_text, full_text}

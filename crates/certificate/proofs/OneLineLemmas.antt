@@ -9,9 +9,9 @@ use Rattle.facts.specs.Facts.{Name, Ac, Cell, Equation}
 use Rattle.facts.specs.Statements.{TrackedCell}
 use Rattle.certificate.specs.declared.Version.{Version}
 use Rattle.certificate.specs.declared.Version.TheVariants.{One, Two}
-use Rattle.certificate.specs.Spelling.{RoutineLine, begins, ends, mark, marks, digits, set_text, offsets_text, mq_text, name_text, version_text}
+use Rattle.certificate.specs.Spelling.{RoutineLine, begins, ends, mark, marks, digits, set_text, offsets_text, mq_text, name_text, version_text, Registers, Line, RoutineIs, FactIs, ExitIs, CellIs, EquationIs, End, words_text, rank_text, routine_line, cell_line, equation_line, line_text}
 use Rattle.certificate.specs.Reading.{FitsVersion, place_of_name, IsRoutine, IsTracked, IsEquation}
-use Rattle.certificate.specs.Line.{Registers, Line, RoutineIs, FactIs, ExitIs, CellIs, EquationIs, End, IsRegisters, IsLine, words_text, rank_text, routine_line, cell_line, equation_line, line_text, SameRegisters, SameLine}
+use Rattle.certificate.specs.Line.{IsRegisters, IsLine, SameRegisters, SameLine}
 use Rattle.certificate.specs.Fields.{EndsField}
 use Rattle.certificate.specs.Faults.{NoFeed}
 use Rattle.certificate.proofs.LineLemmas.{mq_space, words_fields, routine_fields, fact_fields, exit_fields, cell_fields}

@@ -2,12 +2,12 @@
 use Rattle.std.proofs.Common.{◌≡◌, ℕ, List, [], ◌∷◌, ◌++◌, refl, ap, ◌∙◌, sym, subst, get_or, arith}
 use Rattle.certificate.specs.declared.Version.{Version}
 use Rattle.certificate.specs.declared.Version.TheVariants.{One, Two}
-use Rattle.certificate.specs.Spelling.{Lines, version_text, text}
+use Rattle.certificate.specs.Spelling.{Lines, version_text, text, Registers, Line, RoutineIs, FactIs, ExitIs, CellIs, EquationIs, End, line_text, lines_of, all_ended}
 use Rattle.certificate.specs.Reading.{Each, AreLines}
-use Rattle.certificate.specs.Line.{Registers, Line, RoutineIs, FactIs, ExitIs, CellIs, EquationIs, End, IsLine, line_text, SameRegisters, SameLine, lines_of, all_ended}
+use Rattle.certificate.specs.Line.{IsLine, SameRegisters, SameLine}
 use Rattle.certificate.specs.Gathered.{cells_under, equations_under, stated, gathered}
 use Rattle.certificate.specs.Exact.{Alike, SameCell, SameStatement, SameLines}
-use Rattle.certificate.proofs.TextLemmas.{text_lines, seam}
+use Rattle.certificate.proofs.TextLemmas.{seam}
 use Rattle.certificate.proofs.TextOrderLemmas.{text_law}
 use Rattle.certificate.proofs.OneLineLemmas.{line_one, line_feed, version_feed, first_one}
 use Rattle.certificate.proofs.GatherLemmas.{gathered_lines}
@@ -95,8 +95,8 @@ version_one Two Two e = refl
 pub text_one : (c d : Lines) → AreLines c → AreLines d → text c ≡ text d → SameLines c d
 text_one c d f g e =
     let a : version_text c.version ++ 10 ∷ all_ended c.version (lines_of c) ≡ version_text d.version ++ 10 ∷ all_ended d.version (lines_of d) =
-    seam (version_text c.version) (all_ended c.version (lines_of c)) ∙ (sym (text_lines c) ∙ (e ∙ (text_lines d ∙
-    sym (seam (version_text d.version) (all_ended d.version (lines_of d)))))) in
+    seam (version_text c.version) (all_ended c.version (lines_of c)) ∙ (e ∙
+    sym (seam (version_text d.version) (all_ended d.version (lines_of d)))) in
     let p = first_one (version_text c.version) (version_text d.version) _ _ (version_feed c.version) (version_feed d.version) a in
     let v : c.version ≡ d.version = version_one c.version d.version p.0 in
     let same = lines_one c.version (lines_of c) (lines_of d) (text_law.form c f)

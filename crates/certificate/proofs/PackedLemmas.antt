@@ -1,25 +1,27 @@
 -- Lines packed, and the runs of their sets.
-use Rattle.std.proofs.Common.{◌≡◌, ℕ, zero, suc, ◌+◌, ◌-◌, ◌<◌, ◌≤◌, Bool, true, false, ◌&&◌, ◌||◌, List, [], ◌∷◌, ◌++◌, length, map, get_or, take, drop, refl, ap, ◌∙◌, sym, inl, inr, arith, append_assoc, append-nil, length-append}
+use Rattle.std.proofs.Common.{◌≡◌, ℕ, zero, suc, ◌+◌, ◌-◌, ◌<◌, ◌≤◌, Bool, true, false, ◌&&◌, ◌||◌, List, [], ◌∷◌, ◌++◌, length, map, get_or, take, drop, refl, ap, ◌∙◌, sym, subst, inl, inr, arith, append_assoc, append-nil, length-append}
 use Rattle.std.specs.Prelude.{not, nat_le, slice_range}
 use Rattle.std.specs.List.{AllByRecursion}
 use Rattle.std.proofs.lemmas.Bool.{true≢false, cases_lt}
-use Rattle.std.proofs.Math.Bool.{or-false}
+use Rattle.std.proofs.Math.Bool.{or-true, or-false}
 use Rattle.std.proofs.lemmas.Bool.Decides.{nat_tests}
 use Rattle.std.proofs.lemmas.List.{take_all, take_at, take_more, drop_at, drop-append-le, take-append-le, length-drop, length-map, map_more}
 use native.Mathlib.Numerals.{unary_clauses}
-use Rattle.wordset.specs.Words.{Words, SameWords, all_words, difference, nothing, between, union, IsFirstFrom, HasNoneFrom}
+use Rattle.wordset.specs.Words.{Words, SameWords, all_words, everything, difference, nothing, between, union, IsFirstFrom, HasNoneFrom}
 use Rattle.wordset.specs.Lanes.{words}
 use Rattle.wordset.proofs.SetLemmas.{words_are, all_past, all_everything}
 use Rattle.facts.specs.Statements.{TrackedCell, cell_at}
 use Rattle.facts.specs.Meaning.{offsets_of}
 use Rattle.certificate.specs.declared.packed.Run.{Run}
-use Rattle.certificate.specs.declared.packed.Spans.{Spans}
+use Rattle.certificate.specs.declared.packed.Counts.{Counts}
 use Rattle.certificate.specs.declared.packed.PackedRegisters.{PackedRegisters}
 use Rattle.certificate.specs.declared.packed.PackedLine.{PackedLine}
 use Rattle.certificate.specs.declared.packed.PackedLine.TheVariants as packed
-use Rattle.certificate.specs.Line.{Line, Registers as SaidRegisters, FactIs, ExitIs, CellIs}
+use Rattle.certificate.specs.declared.packed.KeptLine.{KeptLine}
+use Rattle.certificate.specs.Spelling.{Line, Registers as SaidRegisters, RoutineIs, FactIs, ExitIs, CellIs}
+use Rattle.certificate.specs.Reading.{Each}
 use Rattle.certificate.specs.Spelled.{IsLastOf}
-use Rattle.certificate.specs.Packed.{Begins, joined, set_of_runs, set_at, one_at, other_at, registers_at, said_at, lines_in, AreWithin, LiesWithin, IsPacked}
+use Rattle.certificate.specs.Packed.{Begins, joined, set_of_runs, added, set_at, one_at, other_at, registers_at, said_at, kept_at, lines_in, AreWithin, LiesWithin, IsKept, AreLaid, IsPacked}
 
 -- A run more.
 pub joined_more : (t : Words) (rs : List Run) (r : Run) → joined t (rs ++ r ∷ []) ≡ union (joined t rs) (between r.first r.last)
@@ -70,6 +72,22 @@ above_between low high v a = go (nat_le low v) (nat_le v high) (grind (arith, na
     go true c e = e
     go false c e = refl
 
+-- No run, and a run more.
+pub no_run : (v : ℕ) → set_of_runs [] v ≡ false
+unfolding set_of_runs
+no_run v = go (all_words v)
+  where
+    go : (b : Bool) → (b && false) ≡ false
+    go true = refl
+    go false = refl
+
+pub run_more : (rs : List Run) (r : Run) → r.last < 4096 → (v : ℕ) → set_of_runs (rs ++ r ∷ []) v ≡ (set_of_runs rs v || between r.first r.last v)
+unfolding set_of_runs
+run_more rs r small v = ap (λ (k : Words). all_words v && k v) (joined_more nothing rs r) ∙ elim (cases_lt v 4096) [
+  | inl h ↦ rw (all_everything v h) refl
+  | inr h ↦ rw (all_past v h, above_between r.first r.last v (omega arith)) refl
+]
+
 pub or_with : (a b c d : Bool) → a ≡ c → b ≡ d → (a || b) ≡ (c || d)
 or_with a b c d e f = ap (λ x. x || b) e ∙ ap (λ x. c || x) f
 
@@ -111,6 +129,23 @@ pub runs_past : (rs : List Run) (v : ℕ) → 4096 ≤ v → set_of_runs rs v �
 unfolding set_of_runs
 runs_past rs v h = ap (λ b. b && joined nothing rs v) (all_past v h)
 
+-- So has none of a routine's sets that are kept.
+abbrev pub SetsEnd : Line → Type 0
+SetsEnd (RoutineIs r) = ((v : ℕ) → 4096 ≤ v → r.sites v ≡ false) × ((v : ℕ) → 4096 ≤ v → r.writes v ≡ false)
+SetsEnd _ = Unit {0}
+
+said_end : (runs : List Run) (l : PackedLine) → SetsEnd (said_at runs l)
+said_end runs (packed.Routine r) = (λ v h. runs_past _ v h, λ v h. runs_past _ v h)
+said_end runs (packed.Fact a r o) = tt
+said_end runs (packed.Exit e o r) = tt
+said_end runs (packed.Cell a n) = tt
+said_end runs (packed.Equation e) = tt
+said_end runs packed.End = tt
+
+pub sets_end : (runs : List Run) (ls : List KeptLine) → Each SetsEnd (lines_in runs ls)
+sets_end runs [] = tt
+sets_end runs (k ∷ ls) = (said_end (drop k.first runs) k.line, sets_end runs ls)
+
 pub runs_within : (rs : List Run) (v : ℕ) → v < 4096 → joined nothing rs v ≡ set_of_runs rs v
 unfolding set_of_runs
 runs_within rs v h = sym (ap (λ b. b && joined nothing rs v) (all_everything v h))
@@ -124,7 +159,7 @@ all_joined lanes rs i h e = set_is lanes rs (λ v k. ap (λ (f : Words). f v) (r
 
 -- All of them were added.
 pub all_runs : (old new : List Run) (lanes : List ℕ) (n : ℕ) → RunsSofar old new (words lanes) n → HasNoneFrom n (words lanes) →
-    set_of_runs (drop (length old) new) ≡ words lanes
+    added old new ≡ words lanes
 all_runs old new lanes n s none =
     let e : drop (length old) new ≡ s.more = ap (drop (length old)) s.is ∙ drop_at old s.more (length old) refl in
     ap set_of_runs e ∙ sym (set_is lanes s.more same)
@@ -145,85 +180,168 @@ range_kept xs more first count k =
 set_kept : (runs more : List Run) (first count : ℕ) → first + count ≤ length runs → set_at (runs ++ more) first count ≡ set_at runs first count
 set_kept runs more first count h = ap set_of_runs (range_kept runs more first count h)
 
-one_kept : (runs more : List Run) (s : Spans) → AreWithin (length runs) s → one_at (runs ++ more) s ≡ one_at runs s
-one_kept runs more s h = set_kept runs more s.first s.one (let q = h.inside in omega (arith, q))
+one_kept : (runs more : List Run) (s : Counts) → AreWithin (length runs) s → one_at (runs ++ more) s ≡ one_at runs s
+one_kept runs more s h = set_kept runs more 0 s.one (let q = h.inside in omega (arith, q))
 
-other_kept : (runs more : List Run) (s : Spans) → AreWithin (length runs) s → other_at (runs ++ more) s ≡ other_at runs s
-other_kept runs more s h = set_kept runs more (s.first + s.one) s.other h.inside
+other_kept : (runs more : List Run) (s : Counts) → AreWithin (length runs) s → other_at (runs ++ more) s ≡ other_at runs s
+other_kept runs more s h = set_kept runs more s.one s.other h.inside
 
 registers_kept : (runs more : List Run) (r : PackedRegisters) → AreWithin (length runs) r.sets → registers_at (runs ++ more) r ≡ registers_at runs r
 registers_kept runs more r h = rw (one_kept runs more r.sets h, other_kept runs more r.sets h) refl
-
-within_on : (n m : ℕ) (s : Spans) → n ≤ m → AreWithin n s → AreWithin m s
-within_on n m s h w = record { inside = (let q = w.inside in omega (arith, q)) }
 
 line_kept : (runs more : List Run) (l : PackedLine) → LiesWithin (length runs) l → said_at (runs ++ more) l ≡ said_at runs l
 line_kept runs more (packed.Routine r) h = rw (one_kept runs more r.sets h, other_kept runs more r.sets h) refl
 line_kept runs more (packed.Fact a r m) h = ap (λ (g : SaidRegisters). FactIs a g (offsets_of m)) (registers_kept runs more r h)
 line_kept runs more (packed.Exit e o r) h = ap (λ (g : SaidRegisters). ExitIs e o g) (registers_kept runs more r h)
-line_kept runs more (packed.Cell a s) h = rw (set_kept runs more s.first s.count h) refl
+line_kept runs more (packed.Cell a n) h = rw (set_kept runs more 0 n (omega arith)) refl
 line_kept runs more (packed.Equation q) h = refl
 line_kept runs more packed.End h = refl
 
-lines_kept : (runs more : List Run) (ls : List PackedLine) → AllByRecursion (LiesWithin (length runs)) ls →
-    lines_in (runs ++ more) ls ≡ lines_in runs ls
+still_kept : (runs more : List Run) (k : KeptLine) → IsKept (length runs) k → kept_at (runs ++ more) k ≡ kept_at runs k
+still_kept runs more k h =
+    ap (λ (rs : List Run). said_at rs k.line) (drop-append-le k.first runs more h.first) ∙
+    line_kept (drop k.first runs) more k.line (rw (length-drop k.first runs) h.within)
+
+lines_kept : (runs more : List Run) (ls : List KeptLine) → AllByRecursion (IsKept (length runs)) ls → lines_in (runs ++ more) ls ≡ lines_in runs ls
 lines_kept runs more [] h = refl
-lines_kept runs more (l ∷ ls) h = rw (line_kept runs more l h.0, lines_kept runs more ls h.1) refl
+lines_kept runs more (l ∷ ls) h = rw (still_kept runs more l h.0, lines_kept runs more ls h.1) refl
 
 line_on : (n m : ℕ) (l : PackedLine) → n ≤ m → LiesWithin n l → LiesWithin m l
-line_on n m (packed.Routine r) h w = within_on n m r.sets h w
-line_on n m (packed.Fact a r o) h w = within_on n m r.sets h w
-line_on n m (packed.Exit e o r) h w = within_on n m r.sets h w
-line_on n m (packed.Cell a s) h w = omega arith
+line_on n m (packed.Routine r) h w = record { inside = (let q = w.inside in omega (arith, q)) }
+line_on n m (packed.Fact a r o) h w = record { inside = (let q = w.inside in omega (arith, q)) }
+line_on n m (packed.Exit e o r) h w = record { inside = (let q = w.inside in omega (arith, q)) }
+line_on n m (packed.Cell a c) h w = omega arith
 line_on n m (packed.Equation q) h w = tt
 line_on n m packed.End h w = tt
 
-all_on : (n m : ℕ) (ls : List PackedLine) (l : PackedLine) → n ≤ m → AllByRecursion (LiesWithin n) ls → LiesWithin m l →
-    AllByRecursion (LiesWithin m) (ls ++ l ∷ [])
-all_on n m [] l h w one = (one, tt)
-all_on n m (x ∷ ls) l h w one = (line_on n m x h w.0, all_on n m ls l h w.1 one)
+kept_on : (n m : ℕ) (k : KeptLine) → n ≤ m → IsKept n k → IsKept m k
+kept_on n m k h w = record { first = (let q = w.first in omega (arith, q)); within = line_on (n - k.first) (m - k.first) k.line (omega arith) w.within }
 
--- A line more.
-pub line_added : (runs new : List Run) (ls after : List PackedLine) (l : PackedLine) (line : Line) → AllByRecursion (LiesWithin (length runs)) ls →
-    Begins runs new → IsPacked new l line → after ≡ ls ++ l ∷ [] → lines_in new after ≡ lines_in runs ls ++ line ∷ []
-line_added runs new ls after l line h b p e =
-    rw (e, b.1) (on ls ∙ (ap (λ (x : List Line). x ++ said_at (runs ++ b.0) l ∷ []) (lines_kept runs b.0 ls h) ∙
-    ap (λ (x : Line). lines_in runs ls ++ x ∷ []) (rw b.1 at p.is)))
+all_on : (n m : ℕ) (ls : List KeptLine) → n ≤ m → AllByRecursion (IsKept n) ls → AllByRecursion (IsKept m) ls
+all_on n m [] h w = tt
+all_on n m (x ∷ ls) h w = (kept_on n m x h w.0, all_on n m ls h w.1)
+
+one_on : (n : ℕ) (ls : List KeptLine) (k : KeptLine) → AllByRecursion (IsKept n) ls → IsKept n k → AllByRecursion (IsKept n) (ls ++ k ∷ [])
+one_on n [] k w one = (one, tt)
+one_on n (x ∷ ls) k w one = (w.0, one_on n ls k w.1 one)
+
+-- More runs.
+longer : (runs new : List Run) → Begins runs new → length runs ≤ length new
+longer runs new b = let q : length new ≡ length (runs ++ b.0) = ap length b.1 in omega (arith, length-append runs b.0)
+
+pub runs_added : (runs new : List Run) (ls : List KeptLine) → AllByRecursion (IsKept (length runs)) ls → Begins runs new → lines_in new ls ≡ lines_in runs ls
+runs_added runs new ls h b = rw b.1 (lines_kept runs b.0 ls h)
+
+pub still_within : (runs new : List Run) (ls : List KeptLine) → AllByRecursion (IsKept (length runs)) ls → Begins runs new → AllByRecursion (IsKept (length new)) ls
+still_within runs new ls h b = all_on (length runs) (length new) ls (longer runs new b) h
+
+-- A line more, whose runs were added.
+pub line_added : (runs new : List Run) (ls after : List KeptLine) (k : KeptLine) (line : Line) → AllByRecursion (IsKept (length runs)) ls →
+    Begins runs new → k.first ≡ length runs → IsPacked (drop (length runs) new) k.line line → after ≡ ls ++ k ∷ [] → lines_in new after ≡ lines_in runs ls ++ line ∷ []
+line_added runs new ls after k line h b f p e =
+    let here : kept_at new k ≡ line = rw f p.is in
+    rw e (on ls ∙ (ap (λ (x : List Line). x ++ kept_at new k ∷ []) (runs_added runs new ls h b) ∙ ap (λ (x : Line). lines_in runs ls ++ x ∷ []) here))
   where
-    on : (xs : List PackedLine) → lines_in (runs ++ b.0) (xs ++ l ∷ []) ≡ lines_in (runs ++ b.0) xs ++ said_at (runs ++ b.0) l ∷ []
+    on : (xs : List KeptLine) → lines_in new (xs ++ k ∷ []) ≡ lines_in new xs ++ kept_at new k ∷ []
     on [] = refl
-    on (x ∷ xs) = ap (λ (y : List Line). said_at (runs ++ b.0) x ∷ y) (on xs)
+    on (x ∷ xs) = ap (λ (y : List Line). kept_at new x ∷ y) (on xs)
 
-pub all_within : (runs new : List Run) (ls after : List PackedLine) (l : PackedLine) (line : Line) → AllByRecursion (LiesWithin (length runs)) ls →
-    Begins runs new → IsPacked new l line → after ≡ ls ++ l ∷ [] → AllByRecursion (LiesWithin (length new)) after
-all_within runs new ls after l line h b p e =
-    let q : length new ≡ length (runs ++ b.0) = ap length b.1 in
-    rw e (all_on (length runs) (length new) ls l (omega (arith, length-append runs b.0)) h p.within)
+pub all_within : (runs new : List Run) (ls after : List KeptLine) (k : KeptLine) (line : Line) → AllByRecursion (IsKept (length runs)) ls →
+    Begins runs new → k.first ≡ length runs → IsPacked (drop (length runs) new) k.line line → after ≡ ls ++ k ∷ [] → AllByRecursion (IsKept (length new)) after
+all_within runs new ls after k line h b f p e =
+    let w : LiesWithin (length new - length runs) k.line = rw (length-drop (length runs) new) at p.within in
+    rw e (one_on (length new) ls k (still_within runs new ls h b) (record { first = (let q = longer runs new b in omega (arith, f, q)); within = rw f w }))
 
--- The runs that were added are taken away.
-pub back_within : (runs new after : List Run) (ls now : List PackedLine) (n : ℕ) → AllByRecursion (LiesWithin (length runs)) ls → Begins runs new →
-    n ≡ length runs → after ≡ take n new → now ≡ ls → AllByRecursion (LiesWithin (length after)) now
-back_within runs new after ls now n h b k e same = rw (e, b.1, take_at runs b.0 n (sym k), same) h
+-- The runs at the front, and those from one on.
+front_of : (xs : List Run) (n : ℕ) → slice_range xs 0 (0 + n) ≡ take n xs
+front_of xs n = let k : 0 + n - 0 ≡ n = omega arith in rw k refl
+
+pub rest_of : (xs ys : List Run) (i : ℕ) → xs ≡ ys → take (length xs - i) (drop i xs) ≡ drop i ys
+rest_of xs ys i e = rw e (take_all (length ys - i) (drop i ys) (omega (arith, length-drop i ys)))
+
+-- Runs that were added with their line.
+pub packed_after : (old new runs : List Run) (l : PackedLine) → new ≡ old ++ runs → LiesWithin (length runs) l → IsPacked (drop (length old) new) l (said_at runs l)
+packed_after old new runs l e w =
+    subst (λ (rs : List Run). IsPacked rs l (said_at runs l)) (sym (ap (drop (length old)) e ∙ drop_at old runs (length old) refl)) (record { within = w; is = refl })
+
+-- The run of all words.
+pub all_added : (old new : List Run) (r : Run) → r.first ≡ 0 → r.last ≡ 4095 → new ≡ old ++ r ∷ [] → SameWords (added old new) everything
+all_added old new r first last e v h =
+    ap (λ (rs : List Run). set_of_runs rs v) (ap (drop (length old)) e ∙ drop_at old (r ∷ []) (length old) refl) ∙
+    (run_more [] r (omega arith) v ∙ rw (in_between r.first r.last v (omega arith) (omega arith)) (or-true (set_of_runs [] v)))
+
+-- The runs of two sets that were added one after the other.
+pub two_laid : (old mid new : List Run) (n m : ℕ) (one other : Words) → Begins old mid → Begins mid new → length old + n ≡ length mid →
+    length mid + m ≡ length new → added old mid ≡ one → added mid new ≡ other → AreLaid (drop (length old) new) (record { one = n; other = m }) one other
+two_laid old mid new n m one other a b p q is also = record {
+  within = record { inside = omega (arith, length-drop (length old) new) };
+  one_is = ap set_of_runs first ∙ is;
+  other_is = ap set_of_runs second ∙ also;
+}
+  where
+    count : length a.0 ≡ n
+    count = let e : length mid ≡ length old + length a.0 = ap length a.1 ∙ length-append old a.0 in omega arith
+
+    rest : length b.0 ≡ m
+    rest = let e : length new ≡ length mid + length b.0 = ap length b.1 ∙ length-append mid b.0 in omega arith
+
+    both : drop (length old) new ≡ a.0 ++ b.0
+    both = rw (b.1, a.1) (ap (drop (length old)) (append_assoc old a.0 b.0) ∙ drop_at old (a.0 ++ b.0) (length old) refl)
+
+    first : slice_range (drop (length old) new) 0 (0 + n) ≡ drop (length old) mid
+    first = front_of (drop (length old) new) n ∙ (rw (both, ← count) (take_at a.0 b.0 (length a.0) refl) ∙ sym (ap (drop (length old)) a.1 ∙ drop_at old a.0 (length old) refl))
+
+    second : slice_range (drop (length old) new) n (n + m) ≡ drop (length mid) new
+    second =
+        rw (both, ← count) (ap (take (length a.0 + m - length a.0)) (drop_at a.0 b.0 (length a.0) refl) ∙ take_all (length a.0 + m - length a.0) b.0 (omega (arith, rest))) ∙
+        sym (ap (drop (length mid)) b.1 ∙ drop_at mid b.0 (length mid) refl)
+
+-- The same where there were none.
+pub from_none : (old mid new : List Run) (n m : ℕ) → old ≡ [] → Begins old mid → Begins mid new → length old + n ≡ length mid → length mid + m ≡ length new →
+    AreLaid new (record { one = n; other = m }) (added old mid) (added mid new)
+from_none old mid new n m none a b p q =
+    subst (λ (rs : List Run). AreLaid rs (record { one = n; other = m }) (added old mid) (added mid new)) (ap (λ (rs : List Run). drop (length rs) new) none)
+    (two_laid old mid new n m (added old mid) (added mid new) a b p q refl refl)
+
+-- The runs of one set that were added.
+pub one_laid : (old new : List Run) (n : ℕ) (set : Words) → length old + n ≡ length new → added old new ≡ set → set_at (drop (length old) new) 0 n ≡ set
+one_laid old new n set p is =
+    ap set_of_runs (front_of (drop (length old) new) n ∙ take_all n (drop (length old) new) (omega (arith, length-drop (length old) new))) ∙ is
 
 -- The line at a place.
-said_there : (runs : List Run) (ls : List PackedLine) (i : ℕ) (d : PackedLine) → i < length ls →
-    drop i (lines_in runs ls) ≡ said_at runs (get_or ls i d) ∷ drop (i + 1) (lines_in runs ls)
+said_there : (runs : List Run) (ls : List KeptLine) (i : ℕ) (d : KeptLine) → i < length ls →
+    drop i (lines_in runs ls) ≡ kept_at runs (get_or ls i d) ∷ drop (i + 1) (lines_in runs ls)
 said_there runs [] i d b = absurd (omega arith)
 said_there runs (l ∷ ls) zero d b = refl
 said_there runs (l ∷ ls) (suc i) d b = simp unary_clauses (simp unary_clauses at (said_there runs ls i d (omega arith)))
 
-pub line_there : (runs : List Run) (ls : List PackedLine) (i : ℕ) (d : PackedLine) (l : Line) → d ≡ get_or ls i d → l ≡ said_at runs d →
-    i < length (lines_in runs ls) → drop i (lines_in runs ls) ≡ l ∷ drop (i + 1) (lines_in runs ls)
-line_there runs ls i d l at is h =
-    let b : i < length ls = omega (arith, length-map ls (said_at runs)) in
-    said_there runs ls i d b ∙ ap (λ (x : Line). x ∷ drop (i + 1) (lines_in runs ls)) (ap (said_at runs) (sym at) ∙ sym is)
+kept_there : (n : ℕ) (ls : List KeptLine) (i : ℕ) (d : KeptLine) → i < length ls → AllByRecursion (IsKept n) ls → IsKept n (get_or ls i d)
+kept_there n [] i d b h = absurd (omega arith)
+kept_there n (l ∷ ls) zero d b h = h.0
+kept_there n (l ∷ ls) (suc i) d b h = kept_there n ls i d (omega arith) h.1
+
+pub record LineThere (runs : List Run) (ls : List KeptLine) (i : ℕ) (k : KeptLine) : Type 0 where
+  pub kept : IsKept (length runs) k
+  pub there : drop i (lines_in runs ls) ≡ kept_at runs k ∷ drop (i + 1) (lines_in runs ls)
+  pub within : LiesWithin (length (drop k.first runs)) k.line
+
+pub line_there : (runs : List Run) (ls : List KeptLine) (i : ℕ) (k : KeptLine) → k ≡ get_or ls i k → i < length (lines_in runs ls) →
+    AllByRecursion (IsKept (length runs)) ls → LineThere runs ls i k
+line_there runs ls i k at h all =
+    let b : i < length ls = omega (arith, length-map ls (kept_at runs)) in
+    let it : IsKept (length runs) k = rw at (kept_there (length runs) ls i k b all) in
+    record {
+      kept = it;
+      there = said_there runs ls i k b ∙ ap (λ (x : Line). x ∷ drop (i + 1) (lines_in runs ls)) (ap (kept_at runs) (sym at));
+      within = rw (length-drop k.first runs) it.within;
+    }
 
 -- Lines in front of others.
-pub front_kept : (runs : List Run) (ls : List PackedLine) (n : ℕ) → lines_in runs (take n ls) ≡ take n (lines_in runs ls)
+pub front_kept : (runs : List Run) (ls : List KeptLine) (n : ℕ) → lines_in runs (take n ls) ≡ take n (lines_in runs ls)
 front_kept runs [] zero = refl
 front_kept runs [] (suc n) = refl
 front_kept runs (l ∷ ls) zero = refl
-front_kept runs (l ∷ ls) (suc n) = ap (λ (x : List Line). said_at runs l ∷ x) (front_kept runs ls n)
+front_kept runs (l ∷ ls) (suc n) = ap (λ (x : List Line). kept_at runs l ∷ x) (front_kept runs ls n)
 
 -- The line of a cell more.
 pub cell_more : (old now new : List Line) (cells : List TrackedCell) (i : ℕ) (t : TrackedCell) → i < length cells → now ≡ old ++ map CellIs (take i cells) →

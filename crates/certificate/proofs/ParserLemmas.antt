@@ -8,8 +8,7 @@ use Rattle.certificate.specs.declared.CertificateFault.{CertificateFault}
 use Rattle.certificate.specs.declared.CertificateFault.TheVariants as faults
 use Rattle.certificate.specs.declared.progress.Progress.{Progress}
 use Rattle.certificate.specs.declared.lines.KeptLines.{KeptLines}
-use Rattle.certificate.specs.Spelling.{version_text, text as spelled}
-use Rattle.certificate.specs.Line.{Line, End, line_text}
+use Rattle.certificate.specs.Spelling.{version_text, text as spelled, Line, End, line_text}
 use Rattle.certificate.specs.Order.{any, is_end, may_stand, AreInOrder, front, IsBad, IsMisplaced, IsOneTooMany, Continues}
 use Rattle.certificate.specs.Progress.{Tracks, Declines}
 use Rattle.certificate.specs.Found.{newest_first, all_said, Keeps, IsWhole, unended}

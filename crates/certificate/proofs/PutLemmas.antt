@@ -2,7 +2,7 @@
 use Rattle.std.proofs.Common.{◌≡◌, ℕ, zero, suc, List, [], ◌∷◌, Result, Ok, Err, drop, subst}
 use Rattle.std.specs.Prelude.{OnErr}
 use Rattle.certificate.specs.Reading.{Each}
-use Rattle.certificate.specs.Line.{Line}
+use Rattle.certificate.specs.Spelling.{Line}
 
 -- What holds of each line holds of the one at a place.
 pub each_line : (P : Line → Type 0) (ls : List Line) (i : ℕ) (l : Line) (rest : List Line) → Each P ls → drop i ls ≡ l ∷ rest → P l

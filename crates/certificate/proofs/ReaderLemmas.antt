@@ -4,9 +4,9 @@ use Rattle.std.specs.Prelude.{if◌then◌else◌, Option, Some, None, IfSome}
 use Rattle.std.proofs.lemmas.Bool.Decides.{eqb_tells}
 use Rattle.certificate.specs.declared.Version.{Version}
 use Rattle.certificate.specs.declared.lines.KeptLines.{KeptLines}
-use Rattle.certificate.specs.Spelling.{ExitLine}
+use Rattle.certificate.specs.Spelling.{ExitLine, Line, RoutineIs, FactIs, ExitIs, CellIs, EquationIs, End}
 use Rattle.certificate.specs.Reading.{Each, IsFactLine, IsExit, has_routine, has_fact_in, fact_in, has_exit_in, exit_in, statement_in, exit_statement_in}
-use Rattle.certificate.specs.Line.{Line, RoutineIs, FactIs, ExitIs, CellIs, EquationIs, End, IsLine}
+use Rattle.certificate.specs.Line.{IsLine}
 use Rattle.certificate.specs.Gathered.{routines_of, facts_of, exits_of}
 use Rattle.certificate.specs.Found.{from_place, all_said, IsWhole, FitUnderFirst, begins_routine, begins_fact, begins_exit, first_fact, first_exit, fact_statement, exit_statement, SaysFirst}
 use Rattle.certificate.proofs.GatherLemmas.{follows, each_formed}

@@ -1,14 +1,18 @@
 -- A set read run by run.
-use Rattle.std.proofs.Common.{◌≡◌, ◌⊎◌, ℕ, suc, ◌+◌, ◌-◌, ◌/◌, ◌<◌, ◌≤◌, Bool, true, false, ◌||◌, List, [], ◌∷◌, ◌++◌, length, Option, Some, None, refl, ap, ◌∙◌, sym, subst, inl, inr, arith, append_assoc, length-append}
+use Rattle.std.proofs.Common.{◌≡◌, ◌⊎◌, ℕ, suc, ◌+◌, ◌-◌, ◌/◌, ◌<◌, ◌≤◌, Bool, true, false, ◌||◌, List, [], ◌∷◌, ◌++◌, length, Option, Some, None, refl, ap, ◌∙◌, sym, subst, inl, inr, arith, append_assoc, append-nil, length-append, drop}
+use Rattle.std.specs.Prelude.{◌*◌}
+use Rattle.std.proofs.lemmas.List.{drop_at, drop_all}
 use Rattle.std.specs.Prelude.{IfSome}
 use Rattle.std.specs.Option.{IsSomeAnd}
 use Rattle.std.proofs.lemmas.Bool.{true≢false, false≢true, eq-eqb, ne_eqb, cases_lt}
 use Rattle.std.proofs.Math.Bool.{or-true, or-false}
-use Rattle.wordset.specs.Words.{Words, SameWords, nothing, between, union, some_below, has_some}
+use Rattle.wordset.specs.Words.{Words, SameWords, nothing, between, some_below, has_some}
 use Rattle.wordset.proofs.Tests.{IsSome, some_from, some_none_of, none_of_some}
 use Rattle.certificate.specs.Spelling.{marks, set_text}
 use Rattle.certificate.specs.Fields.{run_text, NoDash, EndsField}
-use Rattle.certificate.proofs.PackedLemmas.{in_between, below_between, above_between}
+use Rattle.certificate.specs.declared.packed.Run.{Run as Kept}
+use Rattle.certificate.specs.Packed.{Begins, set_of_runs, added}
+use Rattle.certificate.proofs.PackedLemmas.{in_between, below_between, above_between, no_run, run_more}
 use Rattle.certificate.proofs.DigitLemmas.{at_some}
 use Rattle.certificate.proofs.SetLemmas.{rest, comma, Run, None_from, whole_rest, none_rest, run_rest, StartsAt, starts_after, gap_after, next_run, a_run}
 
@@ -66,19 +70,19 @@ pub a_comma : (s : Words) (low : ℕ) → some_below low s ≡ true → comma s 
 a_comma s low e = rw e refl
 
 -- At the beginning.
-pub at_first : (old : Option (List ℕ)) → BeforeRun old old nothing 0
-at_first old = record { read = reads old; only = only }
+pub at_first : (old : Option (List ℕ)) (t : Words) → ((v : ℕ) → t v ≡ false) → BeforeRun old old t 0
+at_first old t empty = record { read = reads old; only = only }
   where
-    begun : (r : List ℕ) → Begun (Some r) nothing 0 r
+    begun : (r : List ℕ) → Begun (Some r) t 0 r
     begun r = record {
-      gap = λ v h. refl;
+      gap = λ v h. empty v;
       read = λ s same low high run tail e.
           (let f : rest s 0 ≡ comma s low ++ run_text low high ++ rest s (high + 2) = run_rest s 0 low high run in
           let g : comma s low ≡ [] = no_comma s low (λ v h. run.before v (omega arith) h) in
           ap (λ (x : List ℕ). Some x) (e ∙ ap (λ (x : List ℕ). x ++ tail) (sym (rw g at f))));
     }
 
-    reads : (o : Option (List ℕ)) → IfSome o (λ r. Begun o nothing 0 r)
+    reads : (o : Option (List ℕ)) → IfSome o (λ r. Begun o t 0 r)
     reads None = tt
     reads (Some r) = begun r
 
@@ -86,7 +90,7 @@ at_first old = record { read = reads old; only = only }
     none_of s none = some_none_of 4096 s (λ v h. none v (omega arith) h)
 
     only : (s : Words) (tail : List ℕ) → has_some s ≡ true → EndsField tail → old ≡ Some (marks 4096 s ++ tail) →
-        AtRun s nothing 0 old tail
+        AtRun s t 0 old tail
     only s tail some ends e = elim (next_run s 0 (λ h. refl)) [
       | inl none ↦ absurd (true≢false (sym some ∙ none_of s none))
       | inr r ↦ record {
@@ -317,39 +321,134 @@ abbrev pub how_long : Option (List ℕ) → ℕ
 how_long None = 0
 how_long (Some r) = length r + 1
 
-pub shorter : (now mid next : Option (List ℕ)) (low high : ℕ) → IsSomeAnd mid (λ r. now ≡ Some (44 ∷ r)) →
-    IfSome next (λ r. mid ≡ Some (run_text low high ++ r)) → how_long next < how_long now
-shorter None None next low high a b = absurd a
-shorter (Some x) None next low high a b = absurd a
-shorter None (Some y) next low high a b = absurd (cc)
-shorter (Some x) (Some y) None low high a b = omega arith
+pub shorter : (now mid next : Option (List ℕ)) (low high : ℕ) → IfSome mid (λ r. now ≡ Some (run_text low high ++ r)) →
+    IsSomeAnd next (λ r. mid ≡ Some (44 ∷ r)) → how_long next < how_long now
+shorter now mid None low high a b = absurd b
+shorter now None (Some r) low high a b = absurd (cc)
+shorter None (Some y) (Some r) low high a b = absurd (cc)
 shorter (Some x) (Some y) (Some r) low high a b =
-    let e : x ≡ 44 ∷ y = cc in
-    let f : y ≡ run_text low high ++ r = cc in
-    let g : length x ≡ suc (length y) = ap length e in
-    let k : length y ≡ length (run_text low high ++ r) = ap length f in
-    omega (arith, length-append (run_text low high) r)
+    let e : y ≡ 44 ∷ r = cc in
+    let f : x ≡ run_text low high ++ y = cc in
+    let g : length y ≡ suc (length r) = ap length e in
+    let k : length x ≡ length (run_text low high ++ y) = ap length f in
+    omega (arith, length-append (run_text low high) y)
 
--- The first run.
-pub begun_with : (old next : Option (List ℕ)) (u : Words) (low high m : ℕ) → RunRead 0 old next low high → m ≡ high → m < 4096 →
-    u ≡ between low high → AfterRun old next u (m + 2)
-begun_with old next u low high m g is below e = let small : high < 4096 = omega arith in rw is (at_run old old next nothing u 0 low high (at_first old) g small (λ v. ap (λ (f : Words). f v) e))
+-- What was left is left.
+pub as_is : {P : Type 0} (o : Option (List ℕ)) → P → IfSome o (λ r. (o ≡ Some r) × P)
+as_is None p = tt
+as_is (Some r) p = (refl, p)
 
--- A further run.
-pub going_on : (old now mid next : Option (List ℕ)) (t w u : Words) (n low high m : ℕ) → AfterRun old now t n →
-    IsSomeAnd mid (λ r. now ≡ Some (44 ∷ r)) → ((r : List ℕ) → now ≡ Some (44 ∷ r) → (true ≡ true) × (mid ≡ Some r)) →
-    RunRead n mid next low high → m ≡ high → m < 4096 → w ≡ between low high → u ≡ union t w → AfterRun old next u (m + 2)
-going_on old now None next t w u n low high m h took begins g is below e f = absurd took
-going_on old now (Some y) next t w u n low high m h took begins g is below e f =
-    let small : high < 4096 = omega arith in
-    rw is (at_run old (Some y) next t u n low high
-    (at_comma old now (Some y) t n h (at_some (Sofar old t n) now _ h.read took).some took (λ r q. (begins r q).1) y took)
-    g small (λ v. ap (λ (k : Words). k v) f ∙ ap (λ (k : Words). t v || k v) e))
+-- What was read of a set, and its runs that were added to others.
+pub record RunsRead (old now : Option (List ℕ)) (before runs : List Kept) (n : ℕ) : Type 0 where
+  pub more : List Kept
+  pub is : runs ≡ before ++ more
+  pub next : BeforeRun old now (set_of_runs more) n
+  pub few : IfSome now (λ r. 2 * length more ≤ n)
+
+pub none_read : (old : Option (List ℕ)) (before : List Kept) → RunsRead old old before before 0
+none_read old before = record {
+  more = [];
+  is = sym (append-nil before);
+  next = at_first old (set_of_runs []) no_run;
+  few = none old;
+}
+  where
+    none : (o : Option (List ℕ)) → IfSome o (λ r. 2 * 0 ≤ 0)
+    none None = tt
+    none (Some r) = omega arith
+
+-- A run was read and added.
+record OneMore (old mid : Option (List ℕ)) (before runs : List Kept) (n : ℕ) : Type 0 where
+  more : List Kept
+  is : runs ≡ before ++ more
+  after : AfterRun old mid (set_of_runs more) n
+  few : IfSome mid (λ r. (2 * length more ≤ n) × (n ≤ 4097))
+
+one_more : (old now mid : Option (List ℕ)) (before runs new : List Kept) (n m : ℕ) (run : Kept) → RunsRead old now before runs n →
+    RunRead n now mid run.first run.last → m ≡ run.last → m < 4096 → new ≡ runs ++ run ∷ [] → OneMore old mid before new (m + 2)
+one_more old now mid before runs new n m run h g is below e = record {
+  more = h.more ++ run ∷ [];
+  is = e ∙ (ap (λ (x : List Kept). x ++ run ∷ []) h.is ∙ append_assoc before h.more (run ∷ []));
+  after = rw is (at_run old now mid (set_of_runs h.more) (set_of_runs (h.more ++ run ∷ [])) n run.first run.last h.next g small (run_more h.more run small));
+  few = counts mid g.read g.order;
+}
+  where
+    small : run.last < 4096
+    small = omega arith
+
+    counts : (o : Option (List ℕ)) → IfSome o (λ r. now ≡ Some (run_text run.first run.last ++ r)) → IfSome o (λ r. (n ≤ run.first) × (run.first ≤ run.last)) →
+        IfSome o (λ r. (2 * length (h.more ++ run ∷ []) ≤ m + 2) × (m + 2 ≤ 4097))
+    counts None a b = tt
+    counts (Some r) a b =
+        let few : 2 * length h.more ≤ n = at_some (λ (r : List ℕ). 2 * length h.more ≤ n) now _ h.few a in
+        let low : n ≤ run.first = b.0 in
+        let order : run.first ≤ run.last = b.1 in
+        ((omega (arith, length-append h.more (run ∷ []))), (omega arith))
+
+-- A further run follows.
+pub going_on : (old now mid next : Option (List ℕ)) (before runs new : List Kept) (n m : ℕ) (run : Kept) → RunsRead old now before runs n →
+    RunRead n now mid run.first run.last → m ≡ run.last → m < 4096 → new ≡ runs ++ run ∷ [] →
+    IsSomeAnd next (λ r. mid ≡ Some (44 ∷ r)) → ((r : List ℕ) → mid ≡ Some (44 ∷ r) → (true ≡ true) × (next ≡ Some r)) →
+    RunsRead old next before new (m + 2)
+going_on old now mid None before runs new n m run h g is below e took begins = absurd took
+going_on old now mid (Some y) before runs new n m run h g is below e took begins =
+    let a : OneMore old mid before new (m + 2) = one_more old now mid before runs new n m run h g is below e in
+    record {
+      more = a.more;
+      is = a.is;
+      next = at_comma old mid (Some y) (set_of_runs a.more) (m + 2) a.after (at_some (Sofar old (set_of_runs a.more) (m + 2)) mid _ a.after.read took).some took
+          (λ r q. (begins r q).1) y took;
+      few = (at_some (λ (r : List ℕ). (2 * length a.more ≤ m + 2) × (m + 2 ≤ 4097)) mid _ a.few took).0;
+    }
+
+-- What a call says that reads a set with a word and adds its runs.
+pub record AllRead (old now : Option (List ℕ)) (before runs : List Kept) : Type 0 where
+  pub front : Begins before runs
+  pub read : IfSome now (λ r. (has_some (added before runs) ≡ true) × (old ≡ Some (marks 4096 (added before runs) ++ r)))
+  pub only : (s : Words) (tail : List ℕ) → length before ≤ 2048 → has_some s ≡ true → EndsField tail → old ≡ Some (marks 4096 s ++ tail) →
+      SameWords (added before runs) s × (now ≡ Some tail) × (length runs ≤ length before + 2048)
 
 -- No further run.
-pub ending : (old now next : Option (List ℕ)) (t : Words) (n : ℕ) → AfterRun old now t n → next ≡ now →
-    ((r : List ℕ) → now ≡ Some (44 ∷ r) → (false ≡ true) × (next ≡ Some r)) → SetRead old next t
-ending old now next t n h same none = rw same (at_end old now t n h (λ r e. false≢true (none r e).0))
+pub ending : (old now mid next : Option (List ℕ)) (before runs new : List Kept) (n m : ℕ) (run : Kept) → RunsRead old now before runs n →
+    RunRead n now mid run.first run.last → m ≡ run.last → m < 4096 → new ≡ runs ++ run ∷ [] → next ≡ mid →
+    ((r : List ℕ) → mid ≡ Some (44 ∷ r) → (false ≡ true) × (next ≡ Some r)) → AllRead old next before new
+ending old now mid next before runs new n m run h g is below e same none = rw same (record {
+  front = (a.more, a.is);
+  read = rw alike ends.read;
+  only = λ s tail room full last q.
+      let p = ends.only s tail full last q in
+      let f : (2 * length a.more ≤ m + 2) × (m + 2 ≤ 4097) = at_some (λ (r : List ℕ). (2 * length a.more ≤ m + 2) × (m + 2 ≤ 4097)) mid _ a.few p.1 in
+      let c : 2 * length a.more ≤ m + 2 = f.0 in
+      let d : m + 2 ≤ 4097 = f.1 in
+      let l : length new ≡ length before + length a.more = ap length a.is ∙ length-append before a.more in
+      (rw alike p.0, p.1, omega arith);
+})
+  where
+    a : OneMore old mid before new (m + 2)
+    a = one_more old now mid before runs new n m run h g is below e
+
+    ends : SetRead old mid (set_of_runs a.more)
+    ends = at_end old mid (set_of_runs a.more) (m + 2) a.after (λ r q. false≢true (none r q).0)
+
+    alike : added before new ≡ set_of_runs a.more
+    alike = ap set_of_runs (ap (drop (length before)) a.is ∙ drop_at before a.more (length before) refl)
+
+-- There was no room for a run.
+pub no_room : (old now mid next : Option (List ℕ)) (before runs : List Kept) (n : ℕ) (run : Kept) → RunsRead old now before runs n →
+    RunRead n now mid run.first run.last → length runs ≡ 4096 → next ≡ None → AllRead old next before runs
+no_room old now mid next before runs n run h g full none = rw none (record {
+  front = (h.more, h.is);
+  read = tt;
+  only = λ s tail room some last q.
+      absurd (
+      let r : AtRun s (set_of_runs h.more) n now tail = h.next.only s tail some last q in
+      let few : 2 * length h.more ≤ n = at_some (λ (r : List ℕ). 2 * length h.more ≤ n) now _ h.few r.left in
+      let reached : n ≤ r.low = r.run.reached in
+      let order : r.low ≤ r.high = r.run.order in
+      let small : r.high < 4096 = r.run.small in
+      let l : length runs ≡ length before + length h.more = ap length h.is ∙ length-append before h.more in
+      omega arith);
+})
 
 pub empty_text : (t : Words) → ((v : ℕ) → v < 4096 → t v ≡ false) → set_text t ≡ 45 ∷ []
 empty_text t none = rw (some_none_of 4096 t none) refl
@@ -358,9 +457,10 @@ pub full_text : (t : Words) → has_some t ≡ true → set_text t ≡ marks 409
 full_text t e = rw e refl
 
 -- What a call that reads a set says.
-pub record FieldRead (old now : Option (List ℕ)) (t : Words) : Type 0 where
-  pub read : IfSome now (λ r. old ≡ Some (set_text t ++ r))
-  pub only : (s : Words) (tail : List ℕ) → EndsField tail → old ≡ Some (set_text s ++ tail) → SameWords t s × (now ≡ Some tail)
+pub record FieldRead (old now : Option (List ℕ)) (before runs : List Kept) : Type 0 where
+  pub read : IfSome now (λ r. old ≡ Some (set_text (added before runs) ++ r))
+  pub only : (s : Words) (tail : List ℕ) → length before ≤ 2048 → EndsField tail → old ≡ Some (set_text s ++ tail) →
+      SameWords (added before runs) s × (now ≡ Some tail) × (length runs ≤ length before + 2048)
 
 -- A set is empty, or has a word.
 pub by_words : (s : Words) → (has_some s ≡ true) ⊎ ((v : ℕ) → v < 4096 → s v ≡ false)
@@ -371,16 +471,16 @@ by_words s = go (has_some s) refl
     go false e = inr (none_of_some 4096 s e)
 
 -- A dash.
-pub dash_read : (old now : Option (List ℕ)) (t : Words) → t ≡ nothing → IsSomeAnd now (λ r. old ≡ Some (45 ∷ r)) →
-    ((r : List ℕ) → old ≡ Some (45 ∷ r) → (true ≡ true) × (now ≡ Some r)) → FieldRead old now t
-dash_read old now t e took begins = record { read = reads now took; only = only }
+pub dash_read : (old now : Option (List ℕ)) (before : List Kept) → IsSomeAnd now (λ r. old ≡ Some (45 ∷ r)) →
+    ((r : List ℕ) → old ≡ Some (45 ∷ r) → (true ≡ true) × (now ≡ Some r)) → FieldRead old now before before
+dash_read old now before took begins = record { read = reads now took; only = only }
   where
-    none : (v : ℕ) → v < 4096 → t v ≡ false
-    none v h = ap (λ (f : Words). f v) e
+    none : (v : ℕ) → added before before v ≡ false
+    none v = ap (λ (rs : List Kept). set_of_runs rs v) (drop_all (length before) before (omega arith)) ∙ no_run v
 
-    reads : (o : Option (List ℕ)) → IsSomeAnd o (λ r. old ≡ Some (45 ∷ r)) → IfSome o (λ r. old ≡ Some (set_text t ++ r))
+    reads : (o : Option (List ℕ)) → IsSomeAnd o (λ r. old ≡ Some (45 ∷ r)) → IfSome o (λ r. old ≡ Some (set_text (added before before) ++ r))
     reads None a = tt
-    reads (Some r) a = rw (empty_text t none) a
+    reads (Some r) a = rw (empty_text (added before before) (λ v h. none v)) a
 
     dashed : (o : Option (List ℕ)) → IsSomeAnd o (λ r. old ≡ Some (45 ∷ r)) → (s : Words) (tail : List ℕ) → has_some s ≡ true →
         old ≡ Some (set_text s ++ tail) → ⊥
@@ -388,22 +488,9 @@ dash_read old now t e took begins = record { read = reads now took; only = only 
     dashed (Some r) a s tail full q =
         let w : set_text s ++ tail ≡ 45 ∷ r = cc in first_digit s full tail r (rw (full_text s full) at w)
 
-    only : (s : Words) (tail : List ℕ) → EndsField tail → old ≡ Some (set_text s ++ tail) → SameWords t s × (now ≡ Some tail)
-    only s tail ends q = elim (by_words s) [
+    only : (s : Words) (tail : List ℕ) → length before ≤ 2048 → EndsField tail → old ≡ Some (set_text s ++ tail) →
+        SameWords (added before before) s × (now ≡ Some tail) × (length before ≤ length before + 2048)
+    only s tail room ends q = elim (by_words s) [
       | inl full ↦ absurd (dashed now took s tail full q)
-      | inr empty ↦ (λ v h. none v h ∙ sym (empty v h), (begins tail (rw (empty_text s empty) at q)).1)
+      | inr empty ↦ (λ v h. none v ∙ sym (empty v h), (begins tail (rw (empty_text s empty) at q)).1, omega arith)
     ]
-
--- One run, after which no comma comes.
-pub row_read : (old now next : Option (List ℕ)) (low high m : ℕ) → RunRead 0 old now low high → m ≡ high → m < 4096 → next ≡ now →
-    ((r : List ℕ) → now ≡ Some (44 ∷ r) → (false ≡ true) × (next ≡ Some r)) → SetRead old next (between low high)
-row_read old now next low high m g is small same none =
-    ending old now next (between low high) (m + 2) (begun_with old now (between low high) low high m g is small refl) same none
-
-pub row_some : (old next : Option (List ℕ)) (t : Words) → SetRead old next t → IfSome next (λ r. has_some t ≡ true)
-row_some old None t h = tt
-row_some old (Some r) t h = h.read.0
-
-pub row_text : (old next : Option (List ℕ)) (t : Words) → SetRead old next t → IfSome next (λ r. old ≡ Some (set_text t ++ r))
-row_text old None t h = tt
-row_text old (Some r) t h = h.read.1 ∙ ap (λ (x : List ℕ). Some (x ++ r)) (sym (full_text t h.read.0))

@@ -1,5 +1,5 @@
 -- Certificates that say the same have one text.
-use Rattle.std.proofs.Common.{◌≡◌, ℕ, zero, suc, ◌+◌, ◌-◌, ◌<◌, ◌≤◌, ◌==◌, Bool, true, List, [], ◌∷◌, ◌++◌, refl, ap, ◌∙◌, sym, inl, inr, arith}
+use Rattle.std.proofs.Common.{◌≡◌, ℕ, zero, suc, ◌+◌, ◌-◌, ◌<◌, ◌≤◌, ◌==◌, Bool, true, List, [], ◌∷◌, ◌++◌, refl, ap, ◌∙◌, inl, inr, arith}
 use Rattle.std.specs.Prelude.{not, ◌&&◌, if◌then◌else◌, codes, map, flat_map}
 use Rattle.std.proofs.lemmas.Bool.{eq-eqb, cases_lt}
 use Rattle.word12.specs.Words.{octal_text}
@@ -7,11 +7,11 @@ use Rattle.wordset.specs.Words.{Words, SameWords, some_below, has_some}
 use Rattle.facts.specs.Statements.{Statement}
 use Rattle.certificate.specs.declared.Version.{Version}
 use Rattle.certificate.specs.declared.Version.TheVariants.{One, Two}
-use Rattle.certificate.specs.Spelling.{Lines, begins, ends, mark, marks, set_text, digits, offsets_text, mq_text, version_text, text}
-use Rattle.certificate.specs.Line.{Registers, Line, RoutineIs, FactIs, ExitIs, CellIs, EquationIs, End, SameRegisters, SameLine, rank_text, words_text, equation_line, line_text, registers_of, details, lines_of_fact, lines_of_exit, lines_of, ended, all_ended}
+use Rattle.certificate.specs.Spelling.{Lines, begins, ends, mark, marks, set_text, digits, offsets_text, mq_text, version_text, text, Registers, Line, RoutineIs, FactIs, ExitIs, CellIs, EquationIs, End, rank_text, words_text, equation_line, line_text, registers_of, details, lines_of_fact, lines_of_exit, lines_of, ended, all_ended}
+use Rattle.certificate.specs.Line.{SameRegisters, SameLine}
 use Rattle.certificate.specs.Exact.{Alike, SameRoutineLine, SameCell, SameStatement, SameFactLine, SameExitLine, SameLines, SpellingLaw}
 use Rattle.certificate.proofs.DigitLemmas.{digits_same, some_same}
-use Rattle.certificate.proofs.TextLemmas.{text_lines, joined, along}
+use Rattle.certificate.proofs.TextLemmas.{joined, along}
 use Rattle.certificate.proofs.OneLineLemmas.{line_one}
 use Rattle.certificate.proofs.OneTextLemmas.{text_one}
 use Rattle.certificate.proofs.OneFaultLemmas.{alike_self}
@@ -139,9 +139,8 @@ all_ended_same v =
 
 same_text : (c d : Lines) → SameLines c d → text c ≡ text d
 same_text c d h =
-    text_lines c ∙
-    (joined refl (all_ended_same c.version (lines_of c) (lines_of d) (lines_alike c d h)) ∙
-    (ap (λ (v : Version). ended (version_text v) ++ all_ended v (lines_of d)) h.version ∙ sym (text_lines d)))
+    joined refl (all_ended_same c.version (lines_of c) (lines_of d) (lines_alike c d h)) ∙
+    ap (λ (v : Version). ended (version_text v) ++ all_ended v (lines_of d)) h.version
 
 pub spelling_law : SpellingLaw
 spelling_law = record { line = line_one; lines = text_one; text = same_text }

@@ -9,10 +9,9 @@ use Rattle.std.proofs.KnownBytes.{Appends-trans}
 use Rattle.streams.specs.Bytes.{AppendsFront}
 use Rattle.streams.proofs.BytesLemmas.{front_after}
 use Rattle.certificate.specs.declared.Version.{Version}
-use Rattle.certificate.specs.Line.{Line, line_text, ended, all_ended}
 use Rattle.wordset.specs.Words.{Words, all_words, difference, IsFirstFrom, HasNoneFrom}
 use Rattle.wordset.proofs.Tests.{IsSome}
-use Rattle.certificate.specs.Spelling.{marks, digits, offsets_text}
+use Rattle.certificate.specs.Spelling.{marks, digits, offsets_text, Line, line_text, ended, all_ended}
 use Rattle.certificate.specs.Fields.{run_text}
 use Rattle.certificate.specs.Spelled.{Adds, IsLastOf}
 use Rattle.certificate.proofs.TextLemmas.{both_ended}

@@ -4,13 +4,13 @@ use Rattle.std.specs.Prelude.{map, flat_map}
 use Rattle.facts.specs.Facts.{Equation}
 use Rattle.facts.specs.Statements.{TrackedCell, Statement}
 use Rattle.certificate.specs.declared.Version.{Version}
-use Rattle.certificate.specs.Spelling.{RoutineLine, FactLine, ExitLine, Lines, text}
+use Rattle.certificate.specs.Spelling.{RoutineLine, FactLine, ExitLine, Lines, text, Line, RoutineIs, FactIs, ExitIs, CellIs, EquationIs, End, registers_of, details, lines_of_fact, lines_of_exit, lines_of}
 use Rattle.certificate.specs.Reading.{RiseFrom, place_of_equation, Each, IsTracked, IsEquation, IsStatement, IsRoutine, IsFactLine, IsExit, AreLines}
-use Rattle.certificate.specs.Line.{Line, RoutineIs, FactIs, ExitIs, CellIs, EquationIs, End, registers_of, details, lines_of_fact, lines_of_exit, lines_of, TextLaw}
+use Rattle.certificate.specs.Line.{TextLaw}
 use Rattle.certificate.specs.Order.{is_end, has_details, any, how_many, is_routine, is_cell, is_equation, heads, details_of_last, next_place, IsNext, AreInOrder}
 use Rattle.certificate.specs.Found.{newest_first}
 use Rattle.certificate.specs.Faults.{most_bytes, IsText}
-use Rattle.certificate.proofs.TextLemmas.{text_lines, registers_form, newest_both, front_newest}
+use Rattle.certificate.proofs.TextLemmas.{registers_form, newest_both, front_newest}
 use Rattle.certificate.proofs.GatherLemmas.{body_of, follows, each_formed}
 
 -- Lines in order with no end, so that a line of this place may come next.
@@ -142,13 +142,13 @@ all_after c h =
     rw (newest_both [] (body_of c) (End ∷ [])) (tt, record { stands = rw s.no_end refl; order = s.next; room = tt }, s.order)
 
 pub text_law : TextLaw
-text_law = record { lines = text_lines; form = λ c h. each_formed c.version [] (lines_of c) (follows c.version [] (lines_of c) (all_after c h)) }
+text_law = record { lines = λ c. refl; form = λ c h. each_formed c.version [] (lines_of c) (follows c.version [] (lines_of c) (all_after c h)) }
 
 pub text_of_lines : (c : Lines) → AreLines c → length (text c) ≤ most_bytes → IsText c.version (text c)
 text_of_lines c h few = record {
   lines = newest_first [] (lines_of c);
   order = all_after c h;
   ended = rw (newest_both [] (body_of c) (End ∷ [])) refl;
-  text = text_lines c ∙ sym (front_newest c.version [] (lines_of c));
+  text = sym (front_newest c.version [] (lines_of c));
   few = few;
 }

@@ -4,7 +4,7 @@ use Rattle.wordset.specs.Words.{Words, everything}
 use Rattle.facts.specs.Statements.{Statement, fact_of}
 use Rattle.wordset.specs.Lanes.{words}
 use Rattle.certificate.specs.declared.Routine.{Routine}
-use Rattle.certificate.specs.Line.{Line, RoutineIs, FactIs, ExitIs, CellIs, EquationIs}
+use Rattle.certificate.specs.Spelling.{Line, RoutineIs, FactIs, ExitIs, CellIs, EquationIs}
 use Rattle.certificate.specs.Gathered.{cells_under, equations_under, stated}
 use Rattle.certificate.specs.Found.{with_details, first_fact, first_exit, fact_statement, exit_statement, FitUnderFirst}
 

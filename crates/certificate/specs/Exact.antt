@@ -5,10 +5,10 @@ use Rattle.facts.specs.Statements.{TrackedCell, Statement}
 use Rattle.facts.specs.Same.{Agree}
 use Rattle.certificate.specs.declared.Version.{Version}
 use Rattle.certificate.specs.declared.CertificateFault.{CertificateFault}
-use Rattle.certificate.specs.Spelling.{RoutineLine, FactLine, ExitLine, Lines, text}
+use Rattle.certificate.specs.Spelling.{RoutineLine, FactLine, ExitLine, Lines, text, Line, line_text}
 use Rattle.certificate.specs.Certificate.{Certificate}
 use Rattle.certificate.specs.Reading.{AreLines, certificate_of}
-use Rattle.certificate.specs.Line.{Line, IsLine, line_text, SameLine}
+use Rattle.certificate.specs.Line.{IsLine, SameLine}
 use Rattle.certificate.specs.Faults.{most_bytes, IsText, HasFault}
 
 -- The lists are equally long, and each of the one is related to that at the same place of the other.

@@ -3,8 +3,7 @@ use Rattle.std.specs.Prelude.{◌≡◌, ◌≢◌, ℕ, ◌+◌, ◌<◌, ◌�
 use Rattle.certificate.specs.declared.Version.{Version}
 use Rattle.certificate.specs.declared.CertificateFault.{CertificateFault}
 use Rattle.certificate.specs.declared.CertificateFault.TheVariants as faults
-use Rattle.certificate.specs.Spelling.{version_text}
-use Rattle.certificate.specs.Line.{Line}
+use Rattle.certificate.specs.Spelling.{version_text, Line}
 use Rattle.certificate.specs.Order.{any, is_end, AreInOrder, front, IsBad, IsMisplaced, IsOneTooMany, IsOneMore}
 
 -- A certificate's text has at most so many bytes.

@@ -7,9 +7,8 @@ use Rattle.wordset.specs.Lanes.{words}
 use Rattle.certificate.specs.declared.Version.{Version}
 use Rattle.certificate.specs.declared.Routine.{Routine}
 use Rattle.certificate.specs.declared.lines.KeptLines.{KeptLines}
-use Rattle.certificate.specs.Spelling.{RoutineLine}
+use Rattle.certificate.specs.Spelling.{RoutineLine, Line, RoutineIs, FactIs, ExitIs, CellIs, EquationIs, End}
 use Rattle.certificate.specs.Reading.{rank_in, sites_in, writes_in}
-use Rattle.certificate.specs.Line.{Line, RoutineIs, FactIs, ExitIs, CellIs, EquationIs, End}
 use Rattle.certificate.specs.Order.{is_detail, place, heads, any, is_end, details_of_last, AreInOrder}
 use Rattle.certificate.specs.Packed.{Begins, said_lines}
 use Rattle.certificate.specs.Gathered.{cells_under, equations_under, stated}

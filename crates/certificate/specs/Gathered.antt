@@ -3,8 +3,7 @@ use Rattle.std.specs.Prelude.{List, [], ◌∷◌}
 use Rattle.facts.specs.Facts.{Equation}
 use Rattle.facts.specs.Statements.{TrackedCell, Statement}
 use Rattle.certificate.specs.declared.Version.{Version}
-use Rattle.certificate.specs.Spelling.{RoutineLine, FactLine, ExitLine, Lines}
-use Rattle.certificate.specs.Line.{Registers, Line, RoutineIs, FactIs, ExitIs, CellIs, EquationIs}
+use Rattle.certificate.specs.Spelling.{RoutineLine, FactLine, ExitLine, Lines, Registers, Line, RoutineIs, FactIs, ExitIs, CellIs, EquationIs}
 
 -- The tracked cells of a fact or an exit, by the lines after its own: those up to the first line that is neither a
 -- cell's nor an equation's.

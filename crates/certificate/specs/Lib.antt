@@ -4,8 +4,7 @@ pub mod Reading
 pub mod Sample
 pub mod Line
 pub mod Fields
-pub mod Meaning
-pub mod Detail
+pub mod Claimed
 pub mod Order
 pub mod Progress
 pub mod Faults

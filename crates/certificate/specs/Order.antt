@@ -1,9 +1,9 @@
 -- Which line may come after which lines. Lists of lines have the newest line first.
 use Rattle.std.specs.Prelude.{◌≡◌, ℕ, ◌+◌, ◌*◌, ◌<◌, ◌≤◌, Bool, true, false, not, ◌&&◌, ◌||◌, if◌then◌else◌, List, [], ◌∷◌, ◌++◌}
 use Rattle.certificate.specs.declared.Version.{Version}
-use Rattle.certificate.specs.Spelling.{version_text}
+use Rattle.certificate.specs.Spelling.{version_text, Line, RoutineIs, FactIs, ExitIs, CellIs, EquationIs, End, line_text, ended}
 use Rattle.certificate.specs.Reading.{place_of_equation}
-use Rattle.certificate.specs.Line.{Line, RoutineIs, FactIs, ExitIs, CellIs, EquationIs, End, IsLine, line_text, ended}
+use Rattle.certificate.specs.Line.{IsLine}
 
 -- A line of a cell or of an equation, which says more of the fact or exit before it.
 abbrev pub is_detail : Line → Bool

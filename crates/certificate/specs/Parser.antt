@@ -5,9 +5,8 @@ use Rattle.certificate.specs.declared.CertificateFault.TheVariants.{NoMemory}
 use Rattle.certificate.specs.declared.progress.Progress.{Progress}
 use Rattle.certificate.specs.declared.parser.Parser.{Parser}
 use Rattle.certificate.specs.declared.lines.KeptLines.{KeptLines}
-use Rattle.certificate.specs.Spelling.{text}
+use Rattle.certificate.specs.Spelling.{text, Line}
 use Rattle.certificate.specs.Reading.{AreLines}
-use Rattle.certificate.specs.Line.{Line}
 use Rattle.certificate.specs.Order.{AreInOrder, front}
 use Rattle.certificate.specs.Progress.{Tracks}
 use Rattle.certificate.specs.Faults.{NoFeed, HasFault, AsksForMemory, IsText, most_bytes}

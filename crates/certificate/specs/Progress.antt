@@ -3,11 +3,12 @@ use Rattle.std.specs.Prelude.{◌≡◌, ℕ, ◌+◌, ◌<◌, List, ◌∷◌,
 use Rattle.certificate.specs.declared.CertificateFault.{CertificateFault}
 use Rattle.certificate.specs.declared.CertificateFault.TheVariants as faults
 use Rattle.certificate.specs.declared.Version.{Version}
-use Rattle.certificate.specs.declared.line.Line.{Line as ReadLine}
+use Rattle.certificate.specs.declared.packed.Run.{Run}
+use Rattle.certificate.specs.declared.packed.PackedLine.{PackedLine}
 use Rattle.certificate.specs.declared.progress.Progress.{Progress}
-use Rattle.certificate.specs.Line.{Line, RoutineIs, FactIs, ExitIs, CellIs, EquationIs, End}
+use Rattle.certificate.specs.Spelling.{Line, RoutineIs, FactIs, ExitIs, CellIs, EquationIs, End}
 use Rattle.certificate.specs.Order.{any, how_many, is_end, has_details, is_routine, is_cell, is_equation, heads, details_of_last, next_place, Continues, IsBad, IsMisplaced, IsOneTooMany}
-use Rattle.certificate.specs.Meaning.{said}
+use Rattle.certificate.specs.Packed.{said_at}
 
 -- What is kept is that of these lines; their number apart.
 pub record TracksOthers (p : Progress) (before : List Line) : Type 0 where
@@ -41,12 +42,7 @@ Declines v before bytes faults.Version = ⊥
 Declines v before bytes faults.NoMemory = ⊥
 Declines v before bytes faults.ReadFault = ⊥
 
--- What a call answers that takes the next line.
-abbrev pub Takes : Version → List Line → List ℕ → Progress → Result ReadLine CertificateFault → Type 0
-Takes v before bytes after (Ok l) = Continues v before bytes (said l) × Tracks after (said l ∷ before)
-Takes v before bytes after (Err fault) = Declines v before bytes fault
-
--- What one answers that takes this line next.
-abbrev pub TakesLine : Version → List Line → List ℕ → Progress → Line → Result Unit CertificateFault → Type 0
-TakesLine v before bytes after l (Ok u) = Continues v before bytes l × Tracks after (l ∷ before)
-TakesLine v before bytes after l (Err fault) = Declines v before bytes fault
+-- What a call answers that takes the next line, whose runs are these.
+abbrev pub Takes : Version → List Line → List ℕ → Progress → List Run → Result PackedLine CertificateFault → Type 0
+Takes v before bytes after runs (Ok l) = Continues v before bytes (said_at runs l) × Tracks after (said_at runs l ∷ before)
+Takes v before bytes after runs (Err fault) = Declines v before bytes fault

@@ -1,21 +1,21 @@
 //! The fields of a line, each with one spelling.
 
-ghost use Rattle.std.specs.Prelude.{ℕ, ◌≡◌, ◌+◌, ◌<◌, ◌≤◌, ◌↔◌, List, [], ◌∷◌, ◌++◌, IsTrue, true, false, Some, None, IfSome};
+ghost use Rattle.std.specs.Prelude.{ℕ, ◌≡◌, ◌+◌, ◌<◌, ◌≤◌, ◌↔◌, List, [], ◌∷◌, ◌++◌, length, IsTrue, true, false, Some, None, IfSome};
 ghost use Rattle.word12.specs.Words.{octal_text};
 ghost use Rattle.std.specs.Option.{IsSomeAnd};
-ghost use Rattle.wordset.specs.Words.{Words, SameWords, SameLinks, some_below, has_some, between};
-ghost use Rattle.wordset.specs.Lanes.{words};
+ghost use Rattle.wordset.specs.Words.{Words, SameWords, SameLinks, some_below, has_some, everything};
 ghost use Rattle.wordset.specs.Links.{links_of};
 ghost use Rattle.facts.specs.Facts.{Name as Named};
 ghost use Rattle.facts.specs.Meaning.{name_of, offsets_of};
-ghost use Rattle.certificate.specs.Spelling.{marks, set_text, digits, offsets_text, name_text};
+ghost use Rattle.certificate.specs.Spelling.{marks, set_text, digits, offsets_text, name_text, rank_text};
 ghost use Rattle.certificate.specs.Reading.{place_of_name};
-ghost use Rattle.certificate.specs.Line.{rank_text};
+ghost use Rattle.certificate.specs.Packed.{Begins, added};
 ghost use Rattle.certificate.specs.Fields.{left, WasFirst, run_text, NoDash, EndsField};
 
+use crate::packed::{Run, Runs};
 use facts::{Name, Offsets};
 use word12::{Link, Word};
-use wordset::{Links, WordSet};
+use wordset::Links;
 
 /// A line from some field on, or nothing once a field didn't read.
 #[derive(Clone, Copy, Debug)]
@@ -137,63 +137,87 @@ impl<'a> Fields<'a> {
         (low, high)
     }
 
-    /// A set with a word, by its maximal runs.
-    fn runs(&mut self) -> WordSet
-        ensures read { IfSome (left self.new) (λ rest. (has_some (words result) ≡ true) ×
-            (left self.old ≡ Some (marks 4096 (words result) ++ rest))) }
-        ensures only { (s : Words) (rest : List ℕ) → has_some s ≡ true → EndsField rest →
+    /// Adds the maximal runs of a set with a word, unless there are more than there is room for.
+    fn runs(&mut self, runs: &mut Runs)
+        ensures front { Begins runs.old.items runs.new.items }
+        ensures read { IfSome (left self.new) (λ rest.
+            (has_some (added runs.old.items runs.new.items) ≡ true) ×
+            (left self.old ≡ Some (marks 4096 (added runs.old.items runs.new.items) ++ rest))) }
+        ensures only { (s : Words) (rest : List ℕ) → length runs.old.items ≤ 2048 →
+            has_some s ≡ true → EndsField rest →
             left self.old ≡ Some (marks 4096 s ++ rest) →
-            SameWords (words result) s × (left self.new ≡ Some rest) }
+            SameWords (added runs.old.items runs.new.items) s × (left self.new ≡ Some rest) ×
+            (length runs.new.items ≤ length runs.old.items + 2048) }
     {
-        let (low, high) = self.run(0);
-        let mut set = WordSet::range(low, high);
-        let mut next = high.index() + 2;
-        while self.takes(b',') {
-            let (low, high) = self.run(next);
-            set = set.union(&WordSet::range(low, high));
-            next = high.index() + 2;
+        let mut next = 0;
+        loop {
+            let (first, last) = self.run(next);
+            let Ok(()) = runs.try_push(Run { first, last }) else {
+                self.fail();
+                return;
+            };
+            next = last.index() + 2;
+            if !self.takes(b',') {
+                return;
+            }
         }
-        set
     }
 
-    /// A set of words, `-` for the empty one.
-    pub fn set(&mut self) -> WordSet
-        ensures read { WasFirst self.old self.new (set_text (words result)) }
-        ensures only { (s : Words) (rest : List ℕ) → EndsField rest → left self.old ≡
-            Some (set_text s ++ rest) →
-            SameWords (words result) s × (left self.new ≡ Some rest) }
+    /// Adds the runs of a set that isn't empty, and tells how many there are.
+    pub fn some_set(&mut self, runs: &mut Runs) -> u16
+        ensures front { Begins runs.old.items runs.new.items }
+        ensures count { length runs.old.items + result ≡ length runs.new.items }
+        ensures some { IfSome (left self.new) (λ rest.
+            has_some (added runs.old.items runs.new.items) ≡ true) }
+        ensures read { WasFirst self.old self.new
+            (set_text (added runs.old.items runs.new.items)) }
+        ensures only { (s : Words) (rest : List ℕ) → length runs.old.items ≤ 2048 →
+            has_some s ≡ true → EndsField rest →
+            left self.old ≡ Some (set_text s ++ rest) →
+            SameWords (added runs.old.items runs.new.items) s × (left self.new ≡ Some rest) ×
+            (length runs.new.items ≤ length runs.old.items + 2048) }
+    {
+        let before = runs.len();
+        self.runs(runs);
+        (runs.len() - before) as u16
+    }
+
+    /// Adds the runs of a set of words, `-` for the empty one, and tells how many there are.
+    pub fn set(&mut self, runs: &mut Runs) -> u16
+        ensures front { Begins runs.old.items runs.new.items }
+        ensures count { length runs.old.items + result ≡ length runs.new.items }
+        ensures read { WasFirst self.old self.new
+            (set_text (added runs.old.items runs.new.items)) }
+        ensures only { (s : Words) (rest : List ℕ) → length runs.old.items ≤ 2048 →
+            EndsField rest →
+            left self.old ≡ Some (set_text s ++ rest) →
+            SameWords (added runs.old.items runs.new.items) s × (left self.new ≡ Some rest) ×
+            (length runs.new.items ≤ length runs.old.items + 2048) }
     {
         if self.takes(b'-') {
-            return WordSet::empty();
+            return 0;
         }
-        self.runs()
+        self.some_set(runs)
     }
 
-    /// A set that isn't empty.
-    pub fn some_set(&mut self) -> WordSet
-        ensures some { IfSome (left self.new) (λ rest. has_some (words result) ≡ true) }
-        ensures read { WasFirst self.old self.new (set_text (words result)) }
-        ensures only { (s : Words) (rest : List ℕ) → has_some s ≡ true → EndsField rest →
-            left self.old ≡ Some (set_text s ++ rest) →
-            SameWords (words result) s × (left self.new ≡ Some rest) }
+    /// Adds the run of all words, of which nothing is written.
+    pub fn all(&mut self, runs: &mut Runs) -> u16
+        ensures front { Begins runs.old.items runs.new.items }
+        ensures count { length runs.old.items + result ≡ length runs.new.items }
+        ensures read { IfSome (left self.new) (λ rest. (left self.old ≡ Some rest) ×
+            SameWords (added runs.old.items runs.new.items) everything) }
+        ensures only { length runs.old.items ≤ 2048 → (left self.new ≡ left self.old) ×
+            SameWords (added runs.old.items runs.new.items) everything }
     {
-        self.runs()
-    }
-
-    /// A set of words in a row, by its first word and its last one.
-    pub fn row(&mut self) -> (Word, Word)
-        ensures some { IfSome (left self.new)
-            (λ rest. has_some (between result.0 result.1) ≡ true) }
-        ensures read { WasFirst self.old self.new (set_text (between result.0 result.1)) }
-    {
-        let (low, high) = self.run(0);
-        let last = high.index();
-        prove!(last < 4096);
-        if self.takes(b',') {
-            self.fail();
-            return (low, high);
+        let first = Word::from_index(0);
+        let last = Word::from_index(4095);
+        match runs.try_push(Run { first, last }) {
+            Ok(()) => 1,
+            Err(_) => {
+                self.fail();
+                0
+            }
         }
-        (low, high)
     }
 
     /// Some of the digits below `count`, in rising order.

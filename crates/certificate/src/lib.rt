@@ -32,7 +32,6 @@ use thiserror::Error;
 use word12::Word;
 use wordset::WordSet;
 
-mod details;
 mod fields;
 mod line;
 mod lines;

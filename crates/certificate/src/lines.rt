@@ -5,21 +5,17 @@ ghost use Rattle.std.specs.Prelude.{is_ok, if◌then◌else◌, ◌↔◌, IsTru
 ghost use Rattle.facts.specs.Meaning.{statement_of, offsets_of, tracked_cells, equation_of, meaning as fact_meaning};
 ghost use Rattle.facts.specs.Changes.{with_offsets};
 ghost use Rattle.wordset.specs.Words.{everything};
-ghost use Rattle.certificate.specs.Spelling.{RoutineLine as SaidRoutine};
+ghost use Rattle.certificate.specs.Spelling.{RoutineLine as SaidRoutine, Line as SaidLine, CellIs, EquationIs};
 ghost use Rattle.certificate.specs.Reading.{RiseFrom};
-ghost use Rattle.certificate.specs.Line.{Line as SaidLine, CellIs, EquationIs};
-ghost use Rattle.certificate.specs.Order.{is_detail, is_end};
-ghost use Rattle.certificate.specs.Detail.{said_detail};
+ghost use Rattle.certificate.specs.Order.{is_detail, is_end, place};
 ghost use Rattle.certificate.specs.Adding.{HasRoomUnder};
-ghost use Rattle.certificate.specs.Meaning.{said};
-ghost use Rattle.certificate.specs.Packed.{Begins, said_lines};
+ghost use Rattle.certificate.specs.Claimed.{claimed_line};
+ghost use Rattle.certificate.specs.Packed.{Begins, said_at, said_lines, LiesWithin};
 ghost use Rattle.certificate.specs.Found.{from_place, all_said, Keeps, unended, Extends, HasMore, IsIndexed, HasBetween, IsNextPlace, FitUnderFirst, with_details, IsRoutineOf, begins_routine, begins_fact, begins_exit, first_fact, first_exit, fact_statement, exit_statement, SaysFirst};
 
 use crate::Routine;
-use crate::details::Detail;
-use crate::line::Line;
-use crate::packed::PackedLines;
-use crate::progress::{LAST_PLACE, is_detail, is_end, place_of};
+use crate::packed::{Claim, PackedLine, PackedLines, Run, add, begin_exit, begin_fact, routine_of};
+use crate::progress::{LAST_PLACE, place_of};
 use facts::{Equation, Fact, TrackedCells};
 use std::alloc::{AllocError, Allocator};
 
@@ -53,50 +49,46 @@ impl<A: Allocator> KeptLines<A> {
         &self.lines
     }
 
-    /// Keeps a line more; the end is known without it.
-    pub fn keep(&mut self, line: &Line) -> Result<(), AllocError>
+    /// Keeps a line more, whose runs these are; the end is known without it.
+    pub fn keep(&mut self, line: &PackedLine, runs: &[Run]) -> Result<(), AllocError>
+        requires { LiesWithin (length runs.now) line.now }
         ensures kept { (before : List SaidLine) → Keeps self.old before →
-            OnOk result (Keeps self.new (unended (said line.now ∷ before))) }
-        ensures refused { OnErr result (is_end (said line.now) ≡ false) }
+            OnOk result (Keeps self.new (unended (said_at runs.now line.now ∷ before))) }
+        ensures refused { OnErr result (is_end (said_at runs.now line.now) ≡ false) }
     {
-        if is_end(line) {
+        if line.is_end() {
             return Ok(());
         }
-        if is_detail(line) {
-            return self.lines.push(line);
+        if line.is_detail() {
+            return self.lines.push(line, runs);
         }
         self.places.push(place_of(line) as u32)?;
         self.starts.push(self.lines.len())?;
-        self.lines.push(line)
+        self.lines.push(line, runs)
     }
 
-    /// Keeps a line more that says more of the one before.
-    pub fn keep_detail(&mut self, detail: &Detail) -> Result<(), AllocError>
-        ensures { (before : List SaidLine) → Keeps self.old before →
-            OnOk result (Keeps self.new (unended (said_detail detail.now ∷ before))) }
-    {
-        self.lines.push_detail(detail)
-    }
-
-    /// Keeps a line that isn't a detail, with its cells and equations: all of them, or none.
+    /// Keeps the line at a place with its cells and equations: all of them, or none.
     pub fn keep_all(
         &mut self,
-        head: &Line,
+        at: usize,
+        head: &Claim<'_>,
         cells: &TrackedCells,
         equations: &[Equation],
     ) -> Result<(), AllocError>
-        requires head { is_detail (said head.now) ≡ false }
+        requires head { is_detail (claimed_line head.now) ≡ false }
+        requires at { at ≡ place (claimed_line head.now) }
+        requires small { at < 2 ^ 32 }
         requires indexed { IsIndexed self.old }
         ensures indexed { IsIndexed self.new }
         ensures lines { all_said self.new ≡ (if is_ok result
-            then all_said self.old ++ (said head.now ∷ (map CellIs (tracked_cells cells.now) ++
-            map EquationIs (map equation_of equations.now)))
+            then all_said self.old ++ (claimed_line head.now ∷
+            (map CellIs (tracked_cells cells.now) ++ map EquationIs (map equation_of equations.now)))
             else all_said self.old) }
     {
         let lines = self.lines.len();
         let places = self.places.len();
         let starts = self.starts.len();
-        match self.push_lines(head, cells, equations) {
+        match self.push_lines(at, head, cells, equations) {
             Ok(()) => Ok(()),
             Err(refused) => {
                 self.lines.truncate(lines);
@@ -110,16 +102,19 @@ impl<A: Allocator> KeptLines<A> {
     /// The same, but where it's refused some of it may be kept.
     fn push_lines(
         &mut self,
-        head: &Line,
+        at: usize,
+        head: &Claim<'_>,
         cells: &TrackedCells,
         equations: &[Equation],
     ) -> Result<(), AllocError>
+        requires at { at ≡ place (claimed_line head.now) }
+        requires small { at < 2 ^ 32 }
         ensures front { Extends self.old self.new }
         ensures whole { OnOk result
-            (HasMore self.old self.new (said head.now) (tracked_cells cells.now)
+            (HasMore self.old self.new (claimed_line head.now) (tracked_cells cells.now)
             (map equation_of equations.now)) }
     {
-        self.places.push(place_of(head) as u32)?;
+        self.places.push(at as u32)?;
         self.starts.push(self.lines.len())?;
         push_all(&mut self.lines, head, cells, equations)
     }
@@ -140,13 +135,10 @@ impl<A: Allocator> KeptLines<A> {
     /// Whether a line has a place from one number on and before another.
     pub fn has_between(&self, first: usize, end: usize) -> bool
         requires order { RiseFrom 0 self.now.places.items }
-        requires small { first < 2 ^ 32 }
+        requires small { (first ≤ 40960) × (end ≤ 40960) }
         ensures { IsTrue result ↔ HasBetween self.now.places.items first end }
     {
-        match self.places.binary_search(&(first as u32)) {
-            Ok(_) => first < end,
-            Err(at) => at < self.places.len() && (self.places[at] as usize) < end,
-        }
+        self.next_place(first) < end
     }
 
     /// The least place of a line from a number on, or that of the end, which isn't kept.
@@ -171,15 +163,15 @@ impl<A: Allocator> KeptLines<A> {
 /// Adds a line and those of its cells and equations; where that's refused, some of them.
 fn push_all<A: Allocator>(
     lines: &mut PackedLines<A>,
-    head: &Line,
+    head: &Claim<'_>,
     cells: &TrackedCells,
     equations: &[Equation],
 ) -> Result<(), AllocError>
-    ensures whole { OnOk result (said_lines lines.new ≡ said_lines lines.old ++ (said head.now ∷
+    ensures whole { OnOk result (said_lines lines.new ≡ said_lines lines.old ++ (claimed_line head.now ∷
         (map CellIs (tracked_cells cells.now) ++ map EquationIs (map equation_of equations.now)))) }
     ensures front { Begins (said_lines lines.old) (said_lines lines.new) }
 {
-    lines.push(head)?;
+    lines.claim(head)?;
     push_cells(lines, cells)?;
     push_equations(lines, equations)
 }
@@ -194,7 +186,7 @@ fn push_cells<A: Allocator>(
     ensures front { Begins (said_lines lines.old) (said_lines lines.new) }
 {
     for at in 0..cells.len() {
-        lines.push(&Line::Cell(cells.get(at)))?;
+        lines.claim(&Claim::Cell(&cells.get(at)))?;
     }
     Ok(())
 }
@@ -209,7 +201,7 @@ fn push_equations<A: Allocator>(
     ensures front { Begins (said_lines lines.old) (said_lines lines.new) }
 {
     for equation in equations {
-        lines.push(&Line::Equation(*equation))?;
+        lines.claim(&Claim::Equation(*equation))?;
     }
     Ok(())
 }
@@ -222,7 +214,8 @@ fn add_details<A: Allocator>(fact: &mut Fact, lines: &PackedLines<A>, start: usi
     ensures offsets { offsets_of fact.new.offsets ≡ offsets_of fact.old.offsets }
 {
     for at in start..lines.len() {
-        if !lines.add_to(at, fact) {
+        let (runs, line) = lines.line(at);
+        if !add(runs, line, fact) {
             return;
         }
     }
@@ -237,7 +230,8 @@ pub fn first_routine<A: Allocator>(lines: &PackedLines<A>, start: usize) -> Opti
     if start >= lines.len() {
         return None;
     }
-    lines.routine(start)
+    let (runs, line) = lines.line(start);
+    routine_of(runs, line)
 }
 
 /// Whether the line at a place is a fact's, which the lent fact then says.
@@ -252,7 +246,8 @@ pub fn first_fact<A: Allocator>(lines: &PackedLines<A>, start: usize, fact: &mut
     if start >= lines.len() {
         return false;
     }
-    if !lines.begin_fact(start, fact) {
+    let (runs, line) = lines.line(start);
+    if !begin_fact(runs, line, fact) {
         return false;
     }
     add_details(fact, lines, start + 1);
@@ -274,7 +269,8 @@ pub fn first_exit<A: Allocator>(lines: &PackedLines<A>, start: usize, exit: &mut
     if start >= lines.len() {
         return false;
     }
-    if !lines.begin_exit(start, exit) {
+    let (runs, line) = lines.line(start);
+    if !begin_exit(runs, line, exit) {
         return false;
     }
     add_details(exit, lines, start + 1);

@@ -1,14 +1,12 @@
 //! Certificates that are made line by line.
 
 ghost use Rattle.std.specs.Prelude.{◌≡◌, ◌<◌, OnOk, OnErr};
-ghost use Rattle.facts.specs.Meaning.{statement_of};
-ghost use Rattle.certificate.specs.Line.{registers_of as registers_in};
-ghost use Rattle.certificate.specs.Meaning.{registers_of as registers_said};
 ghost use Rattle.certificate.specs.Kept.{meaning, claims};
 ghost use Rattle.certificate.specs.Made.{no_lines, routine_at, fact_at, exit_at, with_routine, with_fact, with_exit, MayAddRoutine, MayAddFact, MayAddExit, migrated};
 
-use crate::line::{Line, Registers, RoutineLine};
 use crate::lines::KeptLines;
+use crate::packed::Claim;
+use crate::progress::{FIRST_EXIT, FIRST_FACT};
 use crate::{Certificate, Routine, Version};
 use facts::{Fact, TrackedCells};
 use std::alloc::Allocator;
@@ -19,17 +17,6 @@ use word12::Word;
 #[derive(Clone, Copy, PartialEq, Eq, Debug, Error)]
 #[error("NoMemory")]
 pub struct NoMemory;
-
-/// The registers of a fact.
-fn registers_of(fact: &Fact) -> Registers
-    ensures { registers_said result ≡ registers_in (statement_of fact.now) }
-{
-    Registers {
-        accumulator: fact.accumulator(),
-        mq: fact.mq(),
-        link: fact.link(),
-    }
-}
 
 impl<A: Allocator + Copy> Certificate<A> {
     /// The certificate that says nothing. It takes no memory.
@@ -58,13 +45,8 @@ impl<A: Allocator> Certificate<A> {
     {
         let index = entry.index();
         prove!(index < 4096);
-        let line = Line::Routine(RoutineLine {
-            entry,
-            rank: routine.rank as u8,
-            sites: routine.sites,
-            writes: routine.writes,
-        });
-        match self.kept.keep_all(&line, &TrackedCells::new(), &[]) {
+        let line = Claim::Routine(entry, routine.rank as u8, routine);
+        match self.kept.keep_all(index, &line, &TrackedCells::new(), &[]) {
             Ok(()) => Ok(()),
             Err(_) => Err(NoMemory),
         }
@@ -84,8 +66,12 @@ impl<A: Allocator> Certificate<A> {
     {
         let index = at.index();
         prove!(index < 4096);
-        let line = Line::Fact(at, registers_of(fact), fact.offsets());
-        match self.kept.keep_all(&line, fact.cells(), fact.equations()) {
+        let place = FIRST_FACT + index;
+        let line = Claim::Fact(at, fact);
+        match self
+            .kept
+            .keep_all(place, &line, fact.cells(), fact.equations())
+        {
             Ok(()) => Ok(()),
             Err(_) => Err(NoMemory),
         }
@@ -106,8 +92,12 @@ impl<A: Allocator> Certificate<A> {
     {
         let index = entry.index();
         prove!(index < 4096);
-        let line = Line::Exit(entry, offset as u8, registers_of(fact));
-        match self.kept.keep_all(&line, fact.cells(), fact.equations()) {
+        let place = FIRST_EXIT + 8 * index + offset;
+        let line = Claim::Exit(entry, offset as u8, fact);
+        match self
+            .kept
+            .keep_all(place, &line, fact.cells(), fact.equations())
+        {
             Ok(()) => Ok(()),
             Err(_) => Err(NoMemory),
         }

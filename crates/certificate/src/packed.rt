@@ -1,24 +1,20 @@
 //! Lines packed: each set by its runs of words, and the runs of all sets in one list.
 
 ghost use Rattle.std.specs.Prelude.{ℕ, ◌≡◌, ◌+◌, ◌<◌, ◌≤◌, List, [], ◌∷◌, ◌++◌, length, take, drop, true, false, is_some, IfOk, IfSome, OnOk, OnErr};
-ghost use Rattle.facts.specs.Meaning.{statement_of, offsets_of};
 ghost use Rattle.wordset.specs.Lanes.{words};
-ghost use Rattle.certificate.specs.Spelling.{RoutineLine as SaidRoutine};
-ghost use Rattle.certificate.specs.Line.{RoutineIs};
-ghost use Rattle.certificate.specs.Order.{is_detail};
-ghost use Rattle.certificate.specs.Gathered.{stated};
-ghost use Rattle.certificate.specs.Found.{with_details, IsRoutineOf, SaysFirst, begins_routine, begins_fact, begins_exit};
-ghost use Rattle.certificate.specs.Adding.{with_line, HasRoomFor, HasRoomUnder, IsFactLine, IsExitLine, IsRoutineLine, SaysFactAt, SaysExitAt};
-ghost use Rattle.certificate.specs.Meaning.{said, registers_of, routine_of};
-ghost use Rattle.certificate.specs.Spelled.{IsLastOf};
-ghost use Rattle.certificate.specs.Detail.{said_detail};
-ghost use Rattle.wordset.specs.Words.{between};
+ghost use Rattle.facts.specs.Meaning.{statement_of, offsets_of};
 ghost use Rattle.certificate.specs.declared.packed.Run.{Run};
-ghost use Rattle.certificate.specs.Packed.{Begins, set_of_runs, set_at, one_at, other_at, registers_at, said_at, said_lines, StandApart, IsSpan, AreWithin, LiesWithin, IsLaid, AreLaid, IsPacked};
+ghost use Rattle.certificate.specs.Spelling.{registers_of};
+ghost use Rattle.certificate.specs.Order.{is_detail, is_end};
+ghost use Rattle.certificate.specs.Gathered.{stated};
+ghost use Rattle.certificate.specs.Found.{begins_routine, begins_fact, begins_exit};
+ghost use Rattle.certificate.specs.Adding.{with_line, HasRoomFor, IsFactLine, IsExitLine, IsRoutineLine};
+ghost use Rattle.certificate.specs.Claimed.{claimed_line};
+ghost use Rattle.certificate.specs.Spelled.{IsLastOf};
+ghost use Rattle.certificate.specs.Packed.{Begins, set_of_runs, added, set_at, one_at, other_at, registers_at, said_at, said_lines, StandApart, AreWithin, LiesWithin, AreLaid, IsPacked};
 
 use crate::Routine;
-use crate::details::Detail;
-use crate::line::{Line, Registers, RoutineLine};
+use arrayvec::ArrayVec;
 use facts::{Equation, Fact, Offsets, TrackedCell};
 use std::alloc::{AllocError, Allocator};
 use std::marker::Model;
@@ -32,18 +28,21 @@ pub struct Run {
     pub last: Word,
 }
 
-/// Where the runs of a set lie among those of all: so many from `first` on.
-#[derive(Clone, Copy)]
-pub struct Span {
-    pub first: usize,
-    pub count: u16,
+impl Default for Run {
+    // The word 0000 alone.
+    ghost is_default = { λ it. it ≡ record { first = 0; last = 0 } };
+
+    fn default() -> Self {
+        Run {
+            first: Word::ZERO,
+            last: Word::ZERO,
+        }
+    }
 }
 
-/// Where the runs of two sets lie among those of all: from `first` on so many of the one, and then
-/// so many of the other.
+/// How many runs each of two sets has; those of the one lie before those of the other.
 #[derive(Clone, Copy)]
-pub struct Spans {
-    pub first: usize,
+pub struct Counts {
     pub one: u16,
     pub other: u16,
 }
@@ -53,25 +52,55 @@ pub struct Spans {
 pub struct PackedRoutine {
     pub entry: Word,
     pub rank: u8,
-    pub sets: Spans,
+    pub sets: Counts,
 }
 
 /// The words that the accumulator and then those that MQ may hold, packed, and the links.
 #[derive(Clone, Copy)]
 pub struct PackedRegisters {
-    pub sets: Spans,
+    pub sets: Counts,
     pub link: Links,
 }
 
-/// What a line says, its sets packed.
+/// What a line says, its sets packed: the runs of all of them come with it, in one list.
 #[derive(Clone, Copy)]
 pub enum PackedLine {
+    /// A routine.
     Routine(PackedRoutine),
+    /// What holds at an address, and the offsets; the cells and equations follow.
     Fact(Word, PackedRegisters, Offsets),
+    /// What holds when the routine of an entry returns by an offset; the cells and equations follow.
     Exit(Word, u8, PackedRegisters),
-    Cell(Word, Span),
+    /// A tracked cell of the fact or exit before, and how many runs its set has.
+    Cell(Word, u16),
+    /// An equation of the fact or exit before.
     Equation(Equation),
+    /// The end.
     End,
+}
+
+/// A line that is added to those of a certificate: a routine of an entry, a fact at an address, what
+/// holds when the routine of an entry returns by an offset, a tracked cell or an equation.
+#[derive(Clone, Copy)]
+pub enum Claim<'a> {
+    Routine(Word, u8, &'a Routine),
+    Fact(Word, &'a Fact),
+    Exit(Word, u8, &'a Fact),
+    Cell(&'a TrackedCell),
+    Equation(Equation),
+}
+
+/// No line has more runs: each of two sets has at most 2048.
+const MOST_RUNS: usize = 4096;
+
+/// The runs of a line's sets.
+pub type Runs = ArrayVec<Run, MOST_RUNS>;
+
+/// A line, and which one of all runs is the first of its own.
+#[derive(Clone, Copy)]
+pub struct KeptLine {
+    first: usize,
+    line: PackedLine,
 }
 
 impl PackedLine {
@@ -81,26 +110,33 @@ impl PackedLine {
     {
         matches!(self, PackedLine::Cell(_, _) | PackedLine::Equation(_))
     }
+
+    /// Whether it's the end.
+    pub fn is_end(&self) -> bool
+        ensures { (runs : List Run) → result ≡ is_end (said_at runs self.now) }
+    {
+        matches!(self, PackedLine::End)
+    }
 }
 
 /// Lines in their order, packed. The runs of all their sets lie in one list.
 #[derive(Drop)]
 pub struct PackedLines<A: Allocator> {
-    list: Vec<PackedLine, A>,
+    list: Vec<KeptLine, A>,
     runs: Vec<Run, A>,
 }
 
 impl<A: Allocator> Model for PackedLines<A> {
     ghost use Rattle.std.specs.Prelude.{List, length};
     ghost use Rattle.std.specs.List.{AllByRecursion};
-    ghost use Rattle.certificate.specs.Packed.{Packed, LiesWithin};
+    ghost use Rattle.certificate.specs.Packed.{Packed, IsKept};
 
     ghost Value = { Packed };
 
     ghost view = { λ p. record { list = p.list.items; runs = p.runs.items } };
 
     // The runs of each set lie among those of all.
-    ghost invariant = { λ p. AllByRecursion (LiesWithin (length p.runs.items)) p.list.items };
+    ghost invariant = { λ p. AllByRecursion (IsKept (length p.runs.items)) p.list.items };
 }
 
 /// The last word of the run that begins at a word, by the words that aren't in the set.
@@ -119,8 +155,7 @@ pub fn last_before(others: &WordSet, low: Word) -> Word
 fn push_runs<A: Allocator>(runs: &mut Vec<Run, A>, set: &WordSet) -> Result<(), AllocError>
     ensures front { Begins runs.old.items runs.new.items }
     ensures few { OnOk result (length runs.new.items ≤ length runs.old.items + 4096) }
-    ensures whole { OnOk result
-        (set_of_runs (drop (length runs.old.items) runs.new.items) ≡ words set.now) }
+    ensures whole { OnOk result (added runs.old.items runs.new.items ≡ words set.now) }
 {
     let others = WordSet::all().minus(set);
     let mut next = 0;
@@ -132,131 +167,80 @@ fn push_runs<A: Allocator>(runs: &mut Vec<Run, A>, set: &WordSet) -> Result<(), 
     Ok(())
 }
 
-/// The places from one number up to another, of which there are at most 4096.
-fn span_between(first: usize, end: usize) -> Span
-    requires order { first ≤ end }
-    requires few { end ≤ first + 4096 }
-    ensures { IsSpan result first end }
-{
-    Span {
-        first,
-        count: (end - first) as u16,
-    }
-}
-
-/// Adds the runs of a set, and tells where they lie.
-fn lay<A: Allocator>(runs: &mut Vec<Run, A>, set: &WordSet) -> Result<Span, AllocError>
+/// Adds the runs of a set, and tells how many there are.
+fn lay<A: Allocator>(runs: &mut Vec<Run, A>, set: &WordSet) -> Result<u16, AllocError>
     ensures front { Begins runs.old.items runs.new.items }
-    ensures span { IfOk result (λ span.
-        IsSpan span (length runs.old.items) (length runs.new.items)) }
-    ensures laid { IfOk result (λ span. IsLaid runs.new.items span (words set.now)) }
+    ensures count { IfOk result (λ count.
+        length runs.old.items + count ≡ length runs.new.items) }
+    ensures laid { OnOk result (added runs.old.items runs.new.items ≡ words set.now) }
 {
     let first = runs.len();
     push_runs(runs, set)?;
-    Ok(span_between(first, runs.len()))
+    Ok((runs.len() - first) as u16)
 }
 
-/// Adds a run, and tells where it lies.
-fn lay_run<A: Allocator>(runs: &mut Vec<Run, A>, run: Run) -> Result<Span, AllocError>
-    ensures front { Begins runs.old.items runs.new.items }
-    ensures laid { IfOk result (λ span. IsLaid runs.new.items span (between run.first run.last)) }
-{
-    let first = runs.len();
-    let last = run.last.index();
-    prove!(last < 4096);
-    runs.push(run)?;
-    Ok(span_between(first, runs.len()))
-}
-
-/// The line packed, after its run was added.
-fn pack_detail<A: Allocator>(
-    runs: &mut Vec<Run, A>,
-    detail: &Detail,
-) -> Result<PackedLine, AllocError>
-    ensures front { Begins runs.old.items runs.new.items }
-    ensures packed { IfOk result (λ l. IsPacked runs.new.items l (said_detail detail.now)) }
-{
-    match detail {
-        Detail::Row(cell, run) => {
-            let set = lay_run(runs, *run)?;
-            Ok(PackedLine::Cell(*cell, set))
-        }
-        Detail::Equation(equation) => Ok(PackedLine::Equation(*equation)),
-    }
-}
-
-/// Adds the runs of two sets, and tells where they lie.
+/// Adds the runs of two sets, and tells how many there are.
 fn lay_two<A: Allocator>(
     runs: &mut Vec<Run, A>,
     one: &WordSet,
     other: &WordSet,
-) -> Result<Spans, AllocError>
+) -> Result<Counts, AllocError>
     ensures front { Begins runs.old.items runs.new.items }
-    ensures laid { IfOk result (λ sets. AreLaid runs.new.items sets (words one.now) (words other.now)) }
+    ensures laid { IfOk result (λ sets. AreLaid
+        (drop (length runs.old.items) runs.new.items) sets (words one.now) (words other.now)) }
 {
-    let front = lay(runs, one)?;
-    let back = lay(runs, other)?;
-    Ok(Spans {
-        first: front.first,
-        one: front.count,
-        other: back.count,
-    })
+    let one = lay(runs, one)?;
+    let other = lay(runs, other)?;
+    Ok(Counts { one, other })
 }
 
 /// Adds the runs of the accumulator's set and of MQ's.
 fn lay_registers<A: Allocator>(
     runs: &mut Vec<Run, A>,
-    registers: &Registers,
+    fact: &Fact,
 ) -> Result<PackedRegisters, AllocError>
     ensures front { Begins runs.old.items runs.new.items }
-    ensures within { IfOk result (λ packed. AreWithin (length runs.new.items) packed.sets) }
+    ensures within { IfOk result (λ packed.
+        AreWithin (length (drop (length runs.old.items) runs.new.items)) packed.sets) }
     ensures laid { IfOk result (λ packed.
-        registers_at runs.new.items packed ≡ registers_of registers.now) }
+        registers_at (drop (length runs.old.items) runs.new.items) packed ≡
+        registers_of (statement_of fact.now)) }
 {
-    let sets = lay_two(runs, &registers.accumulator, &registers.mq)?;
+    let sets = lay_two(runs, &fact.accumulator(), &fact.mq())?;
     Ok(PackedRegisters {
         sets,
-        link: registers.link,
+        link: fact.link(),
     })
 }
 
-/// Adds the runs of a routine's sets.
-fn pack_routine<A: Allocator>(
-    runs: &mut Vec<Run, A>,
-    routine: &RoutineLine,
-) -> Result<PackedLine, AllocError>
-    ensures front { Begins runs.old.items runs.new.items }
-    ensures packed { IfOk result (λ l. IsPacked runs.new.items l (RoutineIs (routine_of routine.now))) }
-{
-    let sets = lay_two(runs, &routine.sites, &routine.writes)?;
-    Ok(PackedLine::Routine(PackedRoutine {
-        entry: routine.entry,
-        rank: routine.rank,
-        sets,
-    }))
-}
-
 /// The line packed, after its sets' runs were added.
-fn pack<A: Allocator>(runs: &mut Vec<Run, A>, line: &Line) -> Result<PackedLine, AllocError>
+fn pack<A: Allocator>(runs: &mut Vec<Run, A>, claim: &Claim<'_>) -> Result<PackedLine, AllocError>
     ensures front { Begins runs.old.items runs.new.items }
-    ensures packed { IfOk result (λ l. IsPacked runs.new.items l (said line.now)) }
+    ensures packed { IfOk result (λ l.
+        IsPacked (drop (length runs.old.items) runs.new.items) l (claimed_line claim.now)) }
 {
-    match line {
-        Line::Routine(routine) => pack_routine(runs, routine),
-        Line::Fact(at, registers, offsets) => {
-            let packed = lay_registers(runs, registers)?;
-            Ok(PackedLine::Fact(*at, packed, *offsets))
+    match claim {
+        Claim::Routine(entry, rank, routine) => {
+            let sets = lay_two(runs, &routine.sites, &routine.writes)?;
+            Ok(PackedLine::Routine(PackedRoutine {
+                entry: *entry,
+                rank: *rank,
+                sets,
+            }))
         }
-        Line::Exit(entry, offset, registers) => {
-            let packed = lay_registers(runs, registers)?;
-            Ok(PackedLine::Exit(*entry, *offset, packed))
+        Claim::Fact(at, fact) => {
+            let registers = lay_registers(runs, fact)?;
+            Ok(PackedLine::Fact(*at, registers, fact.offsets()))
         }
-        Line::Cell(tracked) => {
-            let set = lay(runs, &tracked.set)?;
-            Ok(PackedLine::Cell(tracked.cell, set))
+        Claim::Exit(entry, offset, fact) => {
+            let registers = lay_registers(runs, fact)?;
+            Ok(PackedLine::Exit(*entry, *offset, registers))
         }
-        Line::Equation(equation) => Ok(PackedLine::Equation(*equation)),
-        Line::End => Ok(PackedLine::End),
+        Claim::Cell(tracked) => {
+            let count = lay(runs, &tracked.set)?;
+            Ok(PackedLine::Cell(tracked.cell, count))
+        }
+        Claim::Equation(equation) => Ok(PackedLine::Equation(*equation)),
     }
 }
 
@@ -308,21 +292,20 @@ fn set_in(runs: &[Run], first: usize, count: usize) -> WordSet
 }
 
 /// Puts the first one of two sets into its place.
-fn put_first(runs: &[Run], sets: Spans, place: &mut WordSet)
+fn put_first(runs: &[Run], sets: Counts, place: &mut WordSet)
     requires { AreWithin (length runs.now) sets }
     ensures { words place.new ≡ one_at runs.now sets }
 {
-    let first = sets.first;
-    put_runs(&runs[first..first + usize::from(sets.one)], place);
+    put_runs(&runs[0..usize::from(sets.one)], place);
 }
 
 /// Puts the other one into its place.
-fn put_other(runs: &[Run], sets: Spans, place: &mut WordSet)
+fn put_other(runs: &[Run], sets: Counts, place: &mut WordSet)
     requires { AreWithin (length runs.now) sets }
     ensures { words place.new ≡ other_at runs.now sets }
 {
-    let first = sets.first + usize::from(sets.one);
-    put_runs(&runs[first..first + usize::from(sets.other)], place);
+    let one = usize::from(sets.one);
+    put_runs(&runs[one..one + usize::from(sets.other)], place);
 }
 
 /// The lent fact's accumulator may hold the words of so many runs from here on. Most sets have one run.
@@ -388,55 +371,52 @@ fn begin(runs: &[Run], registers: &PackedRegisters, offsets: Offsets, fact: &mut
     ensures statement { statement_of fact.new ≡ stated (registers_at runs.now registers.now) [] }
     ensures offsets { offsets_of fact.new.offsets ≡ offsets_of offsets }
 {
-    let first = registers.sets.first;
     let one = usize::from(registers.sets.one);
     fact.forget();
-    put_accumulator(runs, first, one, fact);
-    put_mq(runs, first + one, usize::from(registers.sets.other), fact);
+    put_accumulator(runs, 0, one, fact);
+    put_mq(runs, one, usize::from(registers.sets.other), fact);
     fact.set_link(registers.link);
     fact.set_offsets(offsets);
 }
 
-/// The lent fact tracks a cell more, whose runs lie here. Most have one.
-fn track(runs: &[Run], cell: Word, span: Span, fact: &mut Fact)
-    requires within { span.first + span.count ≤ length runs.now }
+/// The lent fact tracks a cell more, which has so many of these runs. Most have one.
+fn track(runs: &[Run], cell: Word, count: usize, fact: &mut Fact)
+    requires within { count ≤ length runs.now }
     requires room { length (statement_of fact.old).cells < 64 }
     ensures statement { statement_of fact.new ≡ record (statement_of fact.old) {
       cells = (statement_of fact.old).cells ++
-          record { address = cell; set = set_at runs.now span.first span.count } ∷ [];
+          record { address = cell; set = set_at runs.now 0 count } ∷ [];
     } }
     ensures offsets { offsets_of fact.new.offsets ≡ offsets_of fact.old.offsets }
 {
-    let first = span.first;
-    if span.count == 1 {
-        let run = runs[first];
+    if count == 1 {
+        let run = runs[0];
         let last = run.last.index();
         prove!(last < 4096);
         fact.track_row(cell, run.first, run.last);
     } else {
-        track_several(runs, cell, span, fact);
+        track_several(runs, cell, count, fact);
     }
 }
 
 /// The same of any count of runs; the room for their set is made here alone.
 #[inline(never)]
-fn track_several(runs: &[Run], cell: Word, span: Span, fact: &mut Fact)
-    requires within { span.first + span.count ≤ length runs.now }
+fn track_several(runs: &[Run], cell: Word, count: usize, fact: &mut Fact)
+    requires within { count ≤ length runs.now }
     requires room { length (statement_of fact.old).cells < 64 }
     ensures statement { statement_of fact.new ≡ record (statement_of fact.old) {
       cells = (statement_of fact.old).cells ++
-          record { address = cell; set = set_at runs.now span.first span.count } ∷ [];
+          record { address = cell; set = set_at runs.now 0 count } ∷ [];
     } }
     ensures offsets { offsets_of fact.new.offsets ≡ offsets_of fact.old.offsets }
 {
-    let first = span.first;
     let mut set = WordSet::empty();
-    put_runs(&runs[first..first + usize::from(span.count)], &mut set);
+    put_runs(&runs[0..count], &mut set);
     fact.track(cell, set);
 }
 
 /// Whether a line is a cell or an equation, which the lent fact then says too.
-fn add(runs: &[Run], packed: &PackedLine, fact: &mut Fact) -> bool
+pub fn add(runs: &[Run], packed: &PackedLine, fact: &mut Fact) -> bool
     requires within { LiesWithin (length runs.now) packed.now }
     requires room { HasRoomFor (statement_of fact.old) (said_at runs.now packed.now) }
     ensures detail { result ≡ is_detail (said_at runs.now packed.now) }
@@ -445,8 +425,8 @@ fn add(runs: &[Run], packed: &PackedLine, fact: &mut Fact) -> bool
     ensures offsets { offsets_of fact.new.offsets ≡ offsets_of fact.old.offsets }
 {
     match packed {
-        PackedLine::Cell(cell, span) => {
-            track(runs, *cell, *span, fact);
+        PackedLine::Cell(cell, count) => {
+            track(runs, *cell, usize::from(*count), fact);
             true
         }
         PackedLine::Equation(equation) => {
@@ -458,7 +438,7 @@ fn add(runs: &[Run], packed: &PackedLine, fact: &mut Fact) -> bool
 }
 
 /// Whether a line is a fact's, which the lent one then says but for its details.
-fn begin_fact(runs: &[Run], packed: &PackedLine, fact: &mut Fact) -> bool
+pub fn begin_fact(runs: &[Run], packed: &PackedLine, fact: &mut Fact) -> bool
     requires { LiesWithin (length runs.now) packed.now }
     ensures there { result ≡ begins_fact (said_at runs.now packed.now ∷ []) }
     ensures says { result ≡ true → IsFactLine (said_at runs.now packed.now)
@@ -475,7 +455,7 @@ fn begin_fact(runs: &[Run], packed: &PackedLine, fact: &mut Fact) -> bool
 }
 
 /// Whether a line is an exit's, which the lent fact then says but for its details.
-fn begin_exit(runs: &[Run], packed: &PackedLine, exit: &mut Fact) -> bool
+pub fn begin_exit(runs: &[Run], packed: &PackedLine, exit: &mut Fact) -> bool
     requires { LiesWithin (length runs.now) packed.now }
     ensures there { result ≡ begins_exit (said_at runs.now packed.now ∷ []) }
     ensures says { result ≡ true →
@@ -494,7 +474,7 @@ fn begin_exit(runs: &[Run], packed: &PackedLine, exit: &mut Fact) -> bool
 
 /// What a line says of a routine, if it does.
 #[inline(never)]
-fn routine_of(runs: &[Run], packed: &PackedLine) -> Option<Routine>
+pub fn routine_of(runs: &[Run], packed: &PackedLine) -> Option<Routine>
     requires { LiesWithin (length runs.now) packed.now }
     ensures there { is_some result ≡ begins_routine (said_at runs.now packed.now ∷ []) }
     ensures says { IfSome result (λ r. IsRoutineLine (said_at runs.now packed.now) r) }
@@ -534,106 +514,39 @@ impl<A: Allocator> PackedLines<A> {
         self.list.len()
     }
 
-    /// The runs of all sets.
-    pub fn runs(&self) -> &[Run]
-        ensures { result.now ≡ self.now.runs }
-    {
-        &self.runs
-    }
-
-    /// The line at a place as it's packed.
-    pub fn packed(&self, at: usize) -> &PackedLine
+    /// The line at a place as it's packed, with its runs.
+    pub fn line(&self, at: usize) -> (&[Run], &PackedLine)
         requires { at < length (said_lines self.now) }
         ensures there { drop at (said_lines self.now) ≡
-            said_at self.now.runs result.now ∷ drop (at + 1) (said_lines self.now) }
-        ensures within { LiesWithin (length self.now.runs) result.now }
+            said_at result.0.now result.1.now ∷ drop (at + 1) (said_lines self.now) }
+        ensures within { LiesWithin (length result.0.now) result.1.now }
     {
-        &self.list[at]
+        let kept = &self.list[at];
+        (&self.runs[kept.first..], &kept.line)
     }
 
-    /// What the line at a place says of a routine, if it does.
-    pub fn routine(&self, at: usize) -> Option<Routine>
-        requires { at < length (said_lines self.now) }
-        ensures there { is_some result ≡ begins_routine (drop at (said_lines self.now)) }
-        ensures says { (rs : List SaidRoutine) (e : ℕ) →
-            SaysFirst rs e (drop at (said_lines self.now)) →
-            IfSome result (λ r. IsRoutineOf rs e r) }
-    {
-        routine_of(&self.runs, &self.list[at])
-    }
-
-    /// Whether the line at a place is a fact's, which the lent one then says but for its details.
-    pub fn begin_fact(&self, at: usize, fact: &mut Fact) -> bool
-        requires { at < length (said_lines self.now) }
-        ensures there { result ≡ begins_fact (drop at (said_lines self.now)) }
-        ensures says { result ≡ true → SaysFactAt at (said_lines self.now)
-            (statement_of fact.new) (offsets_of fact.new.offsets) }
-        ensures kept { result ≡ false → fact.new ≡ fact.old }
-    {
-        begin_fact(&self.runs, &self.list[at], fact)
-    }
-
-    /// Whether the line at a place is an exit's, which the lent fact then says but for its details, with
-    /// all offsets.
-    pub fn begin_exit(&self, at: usize, exit: &mut Fact) -> bool
-        requires { at < length (said_lines self.now) }
-        ensures there { result ≡ begins_exit (drop at (said_lines self.now)) }
-        ensures says { result ≡ true →
-            SaysExitAt at (said_lines self.now) (statement_of exit.new) }
-        ensures offsets { result ≡ true → (o : ℕ) → o < 8 →
-            offsets_of exit.new.offsets o ≡ true }
-        ensures kept { result ≡ false → exit.new ≡ exit.old }
-    {
-        begin_exit(&self.runs, &self.list[at], exit)
-    }
-
-    /// Whether the line at a place is a cell or an equation, which the lent fact then says too.
-    pub fn add_to(&self, at: usize, fact: &mut Fact) -> bool
-        requires place { at < length (said_lines self.now) }
-        requires room { HasRoomUnder (statement_of fact.old) (drop at (said_lines self.now)) }
-        ensures more { result ≡ true →
-            with_details (statement_of fact.new) (drop (at + 1) (said_lines self.now)) ≡
-            with_details (statement_of fact.old) (drop at (said_lines self.now)) }
-        ensures done { result ≡ false → statement_of fact.new ≡
-            with_details (statement_of fact.old) (drop at (said_lines self.now)) }
-        ensures offsets { offsets_of fact.new.offsets ≡ offsets_of fact.old.offsets }
-    {
-        add(&self.runs, &self.list[at], fact)
-    }
-
-    /// Adds a line, or leaves all as it is.
-    pub fn push(&mut self, line: &Line) -> Result<(), AllocError>
+    /// Adds a line that was read, or leaves what is said as it is.
+    pub fn push(&mut self, line: &PackedLine, runs: &[Run]) -> Result<(), AllocError>
+        requires { LiesWithin (length runs.now) line.now }
         ensures added { OnOk result
-            (said_lines self.new ≡ said_lines self.old ++ said line.now ∷ []) }
+            (said_lines self.new ≡ said_lines self.old ++ said_at runs.now line.now ∷ []) }
         ensures same { OnErr result (said_lines self.new ≡ said_lines self.old) }
     {
-        let count = self.runs.len();
-        let Ok(packed) = pack(&mut self.runs, line) else {
-            self.runs.truncate(count);
-            return Err(AllocError);
-        };
-        let Ok(()) = self.list.push(packed) else {
-            self.runs.truncate(count);
-            return Err(AllocError);
-        };
+        let first = self.runs.len();
+        self.runs.extend_from_slice(runs)?;
+        self.list.push(KeptLine { first, line: *line })?;
         Ok(())
     }
 
-    /// Adds a line that says more of the one before, or leaves all as it is.
-    pub fn push_detail(&mut self, detail: &Detail) -> Result<(), AllocError>
+    /// Adds the line of a claim, or leaves what is said as it is.
+    pub fn claim(&mut self, claim: &Claim<'_>) -> Result<(), AllocError>
         ensures added { OnOk result
-            (said_lines self.new ≡ said_lines self.old ++ said_detail detail.now ∷ []) }
+            (said_lines self.new ≡ said_lines self.old ++ claimed_line claim.now ∷ []) }
         ensures same { OnErr result (said_lines self.new ≡ said_lines self.old) }
     {
-        let count = self.runs.len();
-        let Ok(packed) = pack_detail(&mut self.runs, detail) else {
-            self.runs.truncate(count);
-            return Err(AllocError);
-        };
-        let Ok(()) = self.list.push(packed) else {
-            self.runs.truncate(count);
-            return Err(AllocError);
-        };
+        let first = self.runs.len();
+        let line = pack(&mut self.runs, claim)?;
+        self.list.push(KeptLine { first, line })?;
         Ok(())
     }
 

@@ -5,12 +5,10 @@ ghost use Rattle.std.specs.Prelude.{IfSome, false};
 ghost use Rattle.certificate.specs.declared.Version.{Version as Spelled};
 ghost use Rattle.certificate.specs.Spelling.{version_text};
 ghost use Rattle.certificate.specs.Faults.{most_bytes, NoFeed, HasFault};
-ghost use Rattle.certificate.specs.Detail.{said_detail};
-ghost use Rattle.certificate.specs.Order.{Spells};
 ghost use Rattle.certificate.specs.Parser.{WasRead, Seen, IsSmall, Refuses, IsParsed};
 
-use crate::details::{Detail, read_detail};
 use crate::lines::KeptLines;
+use crate::packed::Runs;
 use crate::progress::Progress;
 use crate::{Certificate, CertificateFault, Version};
 use arrayvec::ArrayVec;
@@ -23,13 +21,15 @@ const MOST_BYTES: usize = 1_048_576;
 const MOST_OF_A_LINE: usize = 32_768;
 
 /// A certificate's text as far as it was taken: what its whole lines say and what that means for
-/// those that follow, and the bytes of the line since then, of which there may be too many.
+/// those that follow, the bytes of the line since then, of which there may be too many, and room for
+/// the runs of a line's sets.
 #[derive(Drop)]
 pub struct Parser<A: Allocator> {
     kept: KeptLines<A>,
     progress: Option<Progress>,
     line: ArrayVec<u8, MOST_OF_A_LINE>,
     is_long: bool,
+    runs: Runs,
     count: usize,
 }
 
@@ -75,6 +75,7 @@ impl<A: Allocator + Copy> Parser<A> {
             progress: None,
             line: ArrayVec::new(),
             is_long: false,
+            runs: ArrayVec::new(),
             count: 0,
         }
     }
@@ -112,30 +113,6 @@ impl<A: Allocator> Parser<A> {
         }
     }
 
-    /// Ends a further line, one under a fact or an exit.
-    fn end_detail(&mut self, progress: Progress, detail: &Detail) -> Result<(), CertificateFault>
-        requires next { self.old.progress ≡ Some progress }
-        requires count { self.old.count ≤ most_bytes }
-        requires number { progress.number ≤ self.old.count + 1 }
-        requires short { self.old.is_long ≡ false }
-        requires spells { Spells progress.version (said_detail detail.now) self.old.line.items }
-        ensures count { self.new.count ≡ self.old.count }
-        ensures number { IfSome self.new.progress (λ g. g.number ≤ self.new.count + 2) }
-        ensures seen { (bytes : List ℕ) → Seen self.old bytes → length bytes < most_bytes →
-            MatchResult result (λ u. Seen self.new (bytes ++ 10 ∷ []))
-            (Refuses (bytes ++ 10 ∷ [])) }
-    {
-        let mut next = progress;
-        if let Err(fault) = next.accept_detail(detail) {
-            return Err(fault);
-        }
-        let Ok(()) = self.kept.keep_detail(detail) else {
-            return Err(CertificateFault::NoMemory);
-        };
-        self.keep(next);
-        Ok(())
-    }
-
     /// Ends a further line.
     fn end_next(&mut self, progress: Progress) -> Result<(), CertificateFault>
         requires next { self.old.progress ≡ Some progress }
@@ -150,30 +127,11 @@ impl<A: Allocator> Parser<A> {
         if self.is_long {
             return Err(CertificateFault::BadLine(progress.number()));
         }
-        match read_detail(&self.line) {
-            Some(detail) => self.end_detail(progress, &detail),
-            None => self.end_other(progress),
-        }
-    }
-
-    /// Ends a further line of any kind. What it says may hold sets by lanes, of which the place is set
-    /// to 0 at each call: so it isn't a part of `end_next`, which most lines leave before.
-    #[inline(never)]
-    fn end_other(&mut self, progress: Progress) -> Result<(), CertificateFault>
-        requires next { self.old.progress ≡ Some progress }
-        requires count { self.old.count ≤ most_bytes }
-        requires number { progress.number ≤ self.old.count + 1 }
-        requires short { self.old.is_long ≡ false }
-        ensures count { self.new.count ≡ self.old.count }
-        ensures number { IfSome self.new.progress (λ g. g.number ≤ self.new.count + 2) }
-        ensures seen { (bytes : List ℕ) → Seen self.old bytes → length bytes < most_bytes →
-            MatchResult result (λ u. Seen self.new (bytes ++ 10 ∷ []))
-            (Refuses (bytes ++ 10 ∷ [])) }
-    {
         let mut next = progress;
-        match next.accept(&self.line) {
+        self.runs.clear();
+        match next.accept(&self.line, &mut self.runs) {
             Ok(line) => {
-                let Ok(()) = self.kept.keep(&line) else {
+                let Ok(()) = self.kept.keep(&line, &self.runs) else {
                     return Err(CertificateFault::NoMemory);
                 };
                 self.keep(next);
@@ -280,6 +238,7 @@ impl<A: Allocator> Parser<A> {
             progress,
             line,
             is_long,
+            runs: _,
             count: _,
         } = self;
         let Some(progress) = progress else {

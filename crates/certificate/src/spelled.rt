@@ -9,9 +9,8 @@ ghost use Rattle.wordset.specs.Words.{some_below};
 ghost use Rattle.wordset.specs.Lanes.{words};
 ghost use Rattle.wordset.specs.Links.{links_of};
 ghost use Rattle.facts.specs.Meaning.{name_of, equation_of, offsets_of};
-ghost use Rattle.certificate.specs.Spelling.{marks, set_text, digits, offsets_text, name_text, mq_text, version_text};
-ghost use Rattle.certificate.specs.Line.{End, rank_text, words_text, routine_line, cell_line, equation_line, line_text, ended, all_ended};
-ghost use Rattle.certificate.specs.Line.{FactIs, ExitIs, IsLine};
+ghost use Rattle.certificate.specs.Spelling.{marks, set_text, digits, offsets_text, name_text, mq_text, version_text, End, rank_text, words_text, routine_line, cell_line, equation_line, line_text, ended, all_ended, FactIs, ExitIs};
+ghost use Rattle.certificate.specs.Line.{IsLine};
 ghost use Rattle.certificate.specs.Reading.{Each};
 ghost use Rattle.certificate.specs.Fields.{run_text};
 ghost use Rattle.certificate.specs.Spelled.{Adds};
@@ -21,7 +20,7 @@ ghost use Rattle.certificate.specs.Found.{first_with_details};
 
 use crate::Version;
 use crate::packed::{
-    PackedLine, PackedLines, PackedRegisters, PackedRoutine, Run, Span, Spans, last_before, set_of,
+    Counts, PackedLine, PackedLines, PackedRegisters, PackedRoutine, Run, last_before, set_of,
     stand_apart,
 };
 use arrayvec::ArrayVec;
@@ -179,22 +178,21 @@ impl LineText {
     }
 
     /// Adds the first one of two sets.
-    fn one(&mut self, runs: &[Run], sets: Spans)
+    fn one(&mut self, runs: &[Run], sets: Counts)
         requires { AreWithin (length runs.now) sets }
         ensures { Adds self.old.bytes.items self.new.bytes.items
             (set_text (one_at runs.now sets)) }
     {
-        self.set_in(runs, sets.first, usize::from(sets.one));
+        self.set_in(runs, 0, usize::from(sets.one));
     }
 
     /// Adds the other one.
-    fn other(&mut self, runs: &[Run], sets: Spans)
+    fn other(&mut self, runs: &[Run], sets: Counts)
         requires { AreWithin (length runs.now) sets }
         ensures { Adds self.old.bytes.items self.new.bytes.items
             (set_text (other_at runs.now sets)) }
     {
-        let first = sets.first + usize::from(sets.one);
-        self.set_in(runs, first, usize::from(sets.other));
+        self.set_in(runs, usize::from(sets.one), usize::from(sets.other));
     }
 
     /// Adds an octal digit, where it's wanted.
@@ -248,7 +246,7 @@ impl LineText {
     }
 
     /// Adds what MQ may hold, of which version 1 says nothing.
-    fn mq(&mut self, version: Version, runs: &[Run], sets: Spans)
+    fn mq(&mut self, version: Version, runs: &[Run], sets: Counts)
         requires { AreWithin (length runs.now) sets }
         ensures { Adds self.old.bytes.items self.new.bytes.items
             (mq_text version (other_at runs.now sets)) }
@@ -344,15 +342,15 @@ impl LineText {
     }
 
     /// Adds the line of a tracked cell.
-    fn cell(&mut self, runs: &[Run], cell: Word, span: Span)
-        requires { span.first + span.count ≤ length runs.now }
+    fn cell(&mut self, runs: &[Run], cell: Word, count: u16)
+        requires { count ≤ length runs.now }
         ensures { Adds self.old.bytes.items self.new.bytes.items
-            (cell_line (record { address = cell; set = set_at runs.now span.first span.count })) }
+            (cell_line (record { address = cell; set = set_at runs.now 0 count })) }
     {
         self.text(b"cell ");
         self.word(cell);
         self.text(b" ");
-        self.set_in(runs, span.first, usize::from(span.count));
+        self.set_in(runs, 0, usize::from(count));
     }
 
     /// Adds the line of an equation.
@@ -385,7 +383,7 @@ impl LineText {
             PackedLine::Exit(entry, offset, registers) => {
                 self.exit(version, runs, *entry, *offset, registers);
             }
-            PackedLine::Cell(cell, span) => self.cell(runs, *cell, *span),
+            PackedLine::Cell(cell, count) => self.cell(runs, *cell, *count),
             PackedLine::Equation(equation) => self.equation(equation),
             PackedLine::End => self.text(b"end"),
         }
@@ -430,7 +428,8 @@ fn put_lines<A: Allocator, W: ByteSink>(
 {
     let mut text = LineText::new();
     for at in 0..lines.len() {
-        text.put_line(version, lines.runs(), lines.packed(at));
+        let (runs, line) = lines.line(at);
+        text.put_line(version, runs, line);
         if let Err(failed) = put(sink, &text.bytes) {
             return Err(failed);
         }
@@ -455,11 +454,11 @@ fn put_details<A: Allocator, W: ByteSink>(
 {
     let mut text = LineText::new();
     for at in start..lines.len() {
-        let line = lines.packed(at);
+        let (runs, line) = lines.line(at);
         if !line.is_detail() {
             return Ok(());
         }
-        text.put_line(version, lines.runs(), line);
+        text.put_line(version, runs, line);
         if let Err(failed) = put(sink, &text.bytes) {
             return Err(failed);
         }
@@ -486,7 +485,8 @@ pub fn put_with_details<A: Allocator, W: ByteSink>(
         return Ok(());
     }
     let mut text = LineText::new();
-    text.put_line(version, lines.runs(), lines.packed(start));
+    let (runs, line) = lines.line(start);
+    text.put_line(version, runs, line);
     put(sink, &text.bytes)?;
     put_details(sink, version, lines, start + 1)
 }

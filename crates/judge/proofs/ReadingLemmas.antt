@@ -13,20 +13,17 @@ use Rattle.declaration.proofs.AnswerLemmas.{one_declaration}
 use Rattle.facts.specs.Facts.{Fact}
 use Rattle.facts.specs.declared.Condition.{Condition}
 use Rattle.facts.specs.declared.Condition.TheVariants.{V1, V2, V3, V4, V5, V6, V7, V8, V9, V10, V11, V12, V13, V14, V15}
-use Rattle.certificate.specs.declared.packed.Run.{Run}
-use Rattle.certificate.specs.declared.packed.PackedLine.{PackedLine}
-use Rattle.certificate.specs.declared.packed.PackedLine.TheVariants as packed
 use Rattle.certificate.specs.Certificate.{Certificate}
 use Rattle.certificate.specs.Exact.{SameLines, SameCertificate}
 use Rattle.certificate.specs.Faults.{IsText, most_bytes}
 use Rattle.certificate.specs.Gathered.{routines_of}
 use Rattle.certificate.specs.Kept as certified
-use Rattle.certificate.specs.Packed.{one_at, other_at, lines_in}
-use Rattle.certificate.specs.Reading.{AreLines, sites_in, writes_in}
-use Rattle.certificate.specs.Spelling.{text}
+use Rattle.certificate.specs.Packed.{said_lines}
+use Rattle.certificate.specs.Reading.{AreLines, Each, sites_in, writes_in}
+use Rattle.certificate.specs.Spelling.{Line, RoutineIs, text}
 use Rattle.certificate.specs.declared.Version.{Version}
 use Rattle.certificate.proofs.FromOrderLemmas.{reading_law}
-use Rattle.certificate.proofs.PackedLemmas.{runs_past}
+use Rattle.certificate.proofs.PackedLemmas.{SetsEnd, sets_end}
 use Rattle.certificate.proofs.SameMeaningLemmas.{meaning_law}
 use Rattle.certificate.proofs.SameTextLemmas.{spelling_law}
 use Rattle.judge.specs.Conditions.{Case, HoldsAt, IsAsked, IsAskedAs, IsFirst, IsValid, is_first_condition, order, place_among}
@@ -43,25 +40,15 @@ either_past : (b : Bool) (s t : Words) (v : ℕ) → s v ≡ false → t v ≡ f
 either_past true s t v e f = e
 either_past false s t v e f = f
 
-sites_past : (runs : List Run) (ls : List PackedLine) (e v : ℕ) → 4096 ≤ v → sites_in (routines_of (lines_in runs ls)) e v ≡ false
-sites_past runs [] e v h = refl
-sites_past runs (packed.Routine r ∷ ls) e v h =
-    either_past (r.entry == e) (one_at runs r.sets) (sites_in (routines_of (lines_in runs ls)) e) v (runs_past _ v h) (sites_past runs ls e v h)
-sites_past runs (packed.Fact a r offsets ∷ ls) e v h = sites_past runs ls e v h
-sites_past runs (packed.Exit x o r ∷ ls) e v h = sites_past runs ls e v h
-sites_past runs (packed.Cell a s ∷ ls) e v h = sites_past runs ls e v h
-sites_past runs (packed.Equation q ∷ ls) e v h = sites_past runs ls e v h
-sites_past runs (packed.End ∷ ls) e v h = sites_past runs ls e v h
+sites_past : (ls : List Line) (e v : ℕ) → Each SetsEnd ls → 4096 ≤ v → sites_in (routines_of ls) e v ≡ false
+sites_past [] e v p h = refl
+sites_past (RoutineIs r ∷ ls) e v p h = either_past (r.entry == e) r.sites (sites_in (routines_of ls) e) v (p.0.0 v h) (sites_past ls e v p.1 h)
+sites_past (l ∷ ls) e v p h = sites_past ls e v p.1 h
 
-writes_past : (runs : List Run) (ls : List PackedLine) (e v : ℕ) → 4096 ≤ v → writes_in (routines_of (lines_in runs ls)) e v ≡ false
-writes_past runs [] e v h = refl
-writes_past runs (packed.Routine r ∷ ls) e v h =
-    either_past (r.entry == e) (other_at runs r.sets) (writes_in (routines_of (lines_in runs ls)) e) v (runs_past _ v h) (writes_past runs ls e v h)
-writes_past runs (packed.Fact a r offsets ∷ ls) e v h = writes_past runs ls e v h
-writes_past runs (packed.Exit x o r ∷ ls) e v h = writes_past runs ls e v h
-writes_past runs (packed.Cell a s ∷ ls) e v h = writes_past runs ls e v h
-writes_past runs (packed.Equation q ∷ ls) e v h = writes_past runs ls e v h
-writes_past runs (packed.End ∷ ls) e v h = writes_past runs ls e v h
+writes_past : (ls : List Line) (e v : ℕ) → Each SetsEnd ls → 4096 ≤ v → writes_in (routines_of ls) e v ≡ false
+writes_past [] e v p h = refl
+writes_past (RoutineIs r ∷ ls) e v p h = either_past (r.entry == e) r.writes (writes_in (routines_of ls) e) v (p.0.1 v h) (writes_past ls e v p.1 h)
+writes_past (l ∷ ls) e v p h = writes_past ls e v p.1 h
 
 abbrev judged : Image → Declaration → Words → (ℕ → ℕ) → (ℕ → Words) → (ℕ → Words) → Words → (ℕ → Fact) → (ℕ → Words) → (ℕ → ℕ → Fact) → Case
 judged i d l r s w h f x g = record {
@@ -81,7 +68,9 @@ abbrev judged_by : Image → Declaration → Certificate → Case
 judged_by i d c = record { image = i; declaration = d; certificate = c }
 
 pub kept_of_words : (c : certified.Kept) → SetsAreOfWords (certified.claims c)
-kept_of_words c = record { sites = λ e v past. sites_past c.lines.runs c.lines.list e v past; writes = λ e v past. writes_past c.lines.runs c.lines.list e v past }
+kept_of_words c =
+    let ends : Each SetsEnd (said_lines c.lines) = sets_end c.lines.runs c.lines.list in
+    record { sites = λ e v past. sites_past (said_lines c.lines) e v ends past; writes = λ e v past. writes_past (said_lines c.lines) e v ends past }
 
 restated_is : (i i' : Image) (d d' : Declaration) (c e : Certificate) → i ≡ i' → d ≡ d' → SetsAreOfWords c → SetsAreOfWords e → SameCertificate c e →
     restated (judged_by i d c) e.fact e.exit ≡ judged_by i' d' e

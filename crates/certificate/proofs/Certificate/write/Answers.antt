@@ -1,7 +1,6 @@
 use Rattle.std.proofs.Common.{◌≡◌, ◌++◌, sym}
 use Rattle.std.specs.Prelude.{codes}
-use Rattle.certificate.specs.Spelling.{version_text, text}
-use Rattle.certificate.specs.Line.{ended, all_ended}
+use Rattle.certificate.specs.Spelling.{version_text, text, ended, all_ended}
 use Rattle.certificate.specs.Found.{all_said}
 use Rattle.certificate.specs.Kept.{meaning}
 use Rattle.certificate.specs.Packed.{said_lines}

@@ -1,9 +1,8 @@
 use Rattle.std.proofs.Common.{◌≡◌, ◌∙◌, ap, drop, List}
-use Rattle.certificate.specs.Line.{Line, all_ended}
-use Rattle.certificate.specs.Spelling.{fact_text_at}
+use Rattle.certificate.specs.Spelling.{fact_text_at, Line, all_ended}
 use Rattle.certificate.specs.Gathered.{gathered}
 use Rattle.certificate.specs.Found.{all_said, first_with_details}
-use Rattle.certificate.specs.Kept.{meaning}
+use Rattle.certificate.specs.Kept.{Kept, meaning}
 use Rattle.certificate.specs.Packed.{said_lines}
 use Rattle.certificate.proofs.FoundLemmas.{places_of_order}
 use Rattle.certificate.proofs.ReaderLemmas.{formed}
@@ -20,18 +19,20 @@ pub returns-in-Ok-clause-whole : goal.returns-in-Ok-clause-whole
 returns-in-Ok-clause-whole g c =
     let v = c.self.inside.version in
     let e : all_ended v (first_with_details (drop c.from-start.result (said_lines c.lines.result.now))) ≡ fact_text_at (meaning c.args.self.now) c.args.at =
-    rw (← c.self.view_is, c.lines.ensures)
+    rw c.lines.ensures
     (ap (λ (x : List Line). all_ended v (first_with_details x)) c.from-start.ensures ∙
     (fact_found v c.index.result (all_said c.self.inside.kept) c.index.ensures.small c.self.invariant.order c.self.invariant.no_end ∙
-    ap (fact_text_at (gathered v (all_said c.self.inside.kept))) c.index.ensures.same)) in
+    (ap (fact_text_at (gathered v (all_said c.self.inside.kept))) c.index.ensures.same ∙
+    ap (λ (k : Kept). fact_text_at (meaning k) c.args.at) c.self.view_is))) in
     rw e at c.in-Ok.ensures.whole
 
 pub returns-in-Err-clause-front : goal.returns-in-Err-clause-front
 returns-in-Err-clause-front g c =
     let v = c.self.inside.version in
     let e : all_ended v (first_with_details (drop c.from-start.result (said_lines c.lines.result.now))) ≡ fact_text_at (meaning c.args.self.now) c.args.at =
-    rw (← c.self.view_is, c.lines.ensures)
+    rw c.lines.ensures
     (ap (λ (x : List Line). all_ended v (first_with_details x)) c.from-start.ensures ∙
     (fact_found v c.index.result (all_said c.self.inside.kept) c.index.ensures.small c.self.invariant.order c.self.invariant.no_end ∙
-    ap (fact_text_at (gathered v (all_said c.self.inside.kept))) c.index.ensures.same)) in
+    (ap (fact_text_at (gathered v (all_said c.self.inside.kept))) c.index.ensures.same ∙
+    ap (λ (k : Kept). fact_text_at (meaning k) c.args.at) c.self.view_is))) in
     rw e at c.in-Err.ensures.front

@@ -1,11 +1,17 @@
-use Rattle.std.proofs.Common.{ap, ◌∙◌, List, ℕ, [], Some}
+use Rattle.std.proofs.Common.{◌≡◌, ap, ◌∙◌, List, ℕ, [], Some, length, refl, arith}
 use Rattle.std.proofs.lemmas.Bool.{false≢true}
+use Rattle.std.specs.Prelude.{codes, ◌++◌}
+use Rattle.word12.specs.Words.{octal_text}
+use Rattle.certificate.specs.Spelling.{set_text}
+use Rattle.certificate.specs.Packed.{added}
+use Rattle.certificate.specs.Fields.{left}
 use Rattle.certificate.proofs.LineLemmas.{cell_fields}
 use Rattle.certificate.proofs.line.read_cell.Goals as goal
 
 pub returns-else-is_done-clause-only : goal.returns-else-is_done-clause-only
 returns-else-is_done-clause-only c = λ t form e.
+    let none : length c.args.runs.now.items ≡ 0 = ap length c.requires in
     let address = c.word-cell.ensures.only t.address _ form.address
     (c.skip.ensures.only _ (c.of-fields.ensures ∙ ap (λ (x : List ℕ). Some x) (e ∙ cell_fields t))) in
-    let set = c.some_set-set.ensures.only t.set [] form.set tt (c.skip-2.ensures.only _ address.1) in
+    let set = c.some_set-count.ensures.only t.set [] (omega arith) form.set tt (c.skip-2.ensures.only _ address.1) in
     false≢true (c.if-is_done.ensures.1 set.1)

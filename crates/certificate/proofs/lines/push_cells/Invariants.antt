@@ -1,7 +1,7 @@
 use Rattle.std.proofs.Common.{◌≡◌, ◌++◌, map, take}
 use Rattle.facts.specs.Meaning.{tracked_cells}
 use Rattle.certificate.specs.Packed.{said_lines}
-use Rattle.certificate.specs.Line.{CellIs}
+use Rattle.certificate.specs.Spelling.{CellIs}
 use Rattle.certificate.proofs.lines.push_cells.Given as goal
 
 abbrev pub invariant-loop-at : goal.invariant-loop-at

@@ -1,7 +1,7 @@
 use Rattle.std.proofs.Common.{◌<◌, ◌∙◌, ap, subst, sym}
 use Rattle.wordset.specs.Words.{Words}
 use Rattle.facts.specs.Meaning.{statement_of}
-use Rattle.certificate.proofs.DetailAddedLemmas.{row_there}
+use Rattle.certificate.proofs.AddingLemmas.{row_there}
 use Rattle.certificate.proofs.packed.put_mq.Goals as goal
 
 pub returns-then-count-eq1-clause-statement : goal.returns-then-count-eq1-clause-statement

@@ -1,6 +1,6 @@
 use Rattle.std.proofs.Common.{◌≡◌, ◌++◌, ℕ, List, false, drop}
 use Rattle.std.specs.Io.KnownBytes.{Appends}
-use Rattle.certificate.specs.Line.{all_ended}
+use Rattle.certificate.specs.Spelling.{all_ended}
 use Rattle.certificate.specs.Order.{details_of_last}
 use Rattle.certificate.specs.Packed.{said_lines}
 use Rattle.certificate.proofs.spelled.put_details.Given as goal

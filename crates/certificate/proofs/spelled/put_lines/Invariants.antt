@@ -1,6 +1,6 @@
 use Rattle.std.proofs.Common.{◌≡◌, false, take}
 use Rattle.std.specs.Io.KnownBytes.{Appends}
-use Rattle.certificate.specs.Line.{all_ended}
+use Rattle.certificate.specs.Spelling.{all_ended}
 use Rattle.certificate.specs.Packed.{said_lines}
 use Rattle.certificate.proofs.spelled.put_lines.Given as goal
 

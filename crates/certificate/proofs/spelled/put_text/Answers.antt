@@ -1,8 +1,7 @@
 use Rattle.std.proofs.Common.{◌++◌}
 use Rattle.std.specs.Prelude.{codes}
 use Rattle.std.proofs.KnownBytes.{Appends-trans}
-use Rattle.certificate.specs.Spelling.{version_text}
-use Rattle.certificate.specs.Line.{ended, all_ended}
+use Rattle.certificate.specs.Spelling.{version_text, ended, all_ended}
 use Rattle.certificate.specs.Packed.{said_lines}
 use Rattle.streams.proofs.BytesLemmas.{front_after}
 use Rattle.certificate.proofs.SpelledLemmas.{front_more}

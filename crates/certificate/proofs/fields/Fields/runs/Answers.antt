@@ -1,35 +1,46 @@
 use Rattle.std.proofs.Common.{refl}
-use Rattle.wordset.specs.Lanes.{words}
 use Rattle.certificate.specs.Fields.{left}
-use Rattle.certificate.proofs.RunLemmas.{begun_with, going_on, ending, shorter}
+use Rattle.certificate.proofs.RunLemmas.{none_read, going_on, no_room, ending, shorter}
 use Rattle.certificate.proofs.fields.Fields.runs.Goals as goal
 
 pub loop-self-init : goal.loop-self-init
-loop-self-init c =
-    begun_with (left c.args.self.now) (left c.run-low.new.self) (words c.range-set.result) c.run-low.result.0 c.run-low.result.1 c.index-next.result
-    (record { read = c.run-low.ensures.read; order = c.run-low.ensures.order; only = c.run-low.ensures.only })
-    c.index-next.ensures.same c.index-next.ensures.small c.range-set.ensures
+loop-self-init c = none_read (left c.args.self.now) c.args.runs.now.items
 
-pub loop-self-preserved : goal.loop-self-preserved
-loop-self-preserved c =
-    going_on (left c.args.self.now) (left c.loop-self.self) (left c.takes.new.self) (left c.run-low-in-loop-self.new.self)
-    (words c.loop-self.set) (words c.range.result) (words c.union-set.result) c.loop-self.next
-    c.run-low-in-loop-self.result.0 c.run-low-in-loop-self.result.1 c.index-next-in-loop-self.result
-    c.loop-self.invariant (c.loop-self-test.ensures.taken refl) c.loop-self-test.ensures.only
-    (record { read = c.run-low-in-loop-self.ensures.read; order = c.run-low-in-loop-self.ensures.order; only = c.run-low-in-loop-self.ensures.only })
-    c.index-next-in-loop-self.ensures.same c.index-next-in-loop-self.ensures.small c.range.ensures c.union-set.ensures
+pub returns-in_default-clause-front : goal.returns-in_default-clause-front
+returns-in_default-clause-front c =
+    rw c.in_default.ensures.err ((no_room (left c.args.self.now) (left c.loop-self.self) (left c.run-first.new.self) (left c.fail.new.self) c.args.runs.now.items c.loop-self.runs.items c.loop-self.next
+    (record { first = c.run-first.result.0; last = c.run-first.result.1 }) c.loop-self.invariant (record { read = c.run-first.ensures.read; order = c.run-first.ensures.order; only = c.run-first.ensures.only }) c.in_default.ensures.full c.fail.ensures).front)
+
+pub returns-in_default-clause-only : goal.returns-in_default-clause-only
+returns-in_default-clause-only c =
+    rw c.in_default.ensures.err ((no_room (left c.args.self.now) (left c.loop-self.self) (left c.run-first.new.self) (left c.fail.new.self) c.args.runs.now.items c.loop-self.runs.items c.loop-self.next
+    (record { first = c.run-first.result.0; last = c.run-first.result.1 }) c.loop-self.invariant (record { read = c.run-first.ensures.read; order = c.run-first.ensures.order; only = c.run-first.ensures.only }) c.in_default.ensures.full c.fail.ensures).only)
+
+pub returns-then-not-takes-clause-front : goal.returns-then-not-takes-clause-front
+returns-then-not-takes-clause-front c =
+    (ending (left c.args.self.now) (left c.loop-self.self) (left c.run-first.new.self) (left c.takes.new.self) c.args.runs.now.items c.loop-self.runs.items c.try_push.new.self.items
+    c.loop-self.next c.index-next.result (record { first = c.run-first.result.0; last = c.run-first.result.1 }) c.loop-self.invariant (record { read = c.run-first.ensures.read; order = c.run-first.ensures.order; only = c.run-first.ensures.only }) c.index-next.ensures.same c.index-next.ensures.small c.in-Ok.ensures.ok
+    (c.if-not-takes.ensures.kept refl) c.if-not-takes.ensures.only).front
+
+pub returns-then-not-takes-clause-read : goal.returns-then-not-takes-clause-read
+returns-then-not-takes-clause-read c =
+    (ending (left c.args.self.now) (left c.loop-self.self) (left c.run-first.new.self) (left c.takes.new.self) c.args.runs.now.items c.loop-self.runs.items c.try_push.new.self.items
+    c.loop-self.next c.index-next.result (record { first = c.run-first.result.0; last = c.run-first.result.1 }) c.loop-self.invariant (record { read = c.run-first.ensures.read; order = c.run-first.ensures.order; only = c.run-first.ensures.only }) c.index-next.ensures.same c.index-next.ensures.small c.in-Ok.ensures.ok
+    (c.if-not-takes.ensures.kept refl) c.if-not-takes.ensures.only).read
+
+pub returns-then-not-takes-clause-only : goal.returns-then-not-takes-clause-only
+returns-then-not-takes-clause-only c =
+    (ending (left c.args.self.now) (left c.loop-self.self) (left c.run-first.new.self) (left c.takes.new.self) c.args.runs.now.items c.loop-self.runs.items c.try_push.new.self.items
+    c.loop-self.next c.index-next.result (record { first = c.run-first.result.0; last = c.run-first.result.1 }) c.loop-self.invariant (record { read = c.run-first.ensures.read; order = c.run-first.ensures.order; only = c.run-first.ensures.only }) c.index-next.ensures.same c.index-next.ensures.small c.in-Ok.ensures.ok
+    (c.if-not-takes.ensures.kept refl) c.if-not-takes.ensures.only).only
 
 pub loop-self-smaller : goal.loop-self-smaller
 loop-self-smaller c =
-    shorter (left c.loop-self.self) (left c.takes.new.self) (left c.run-low-in-loop-self.new.self)
-    c.run-low-in-loop-self.result.0 c.run-low-in-loop-self.result.1 (c.loop-self-test.ensures.taken refl) c.run-low-in-loop-self.ensures.read
+    shorter (left c.loop-self.self) (left c.run-first.new.self) (left c.takes.new.self) c.run-first.result.0 c.run-first.result.1 c.run-first.ensures.read
+    (c.if-not-takes.ensures.taken refl)
 
-pub returns-clause-read : goal.returns-clause-read
-returns-clause-read c =
-    (ending (left c.args.self.now) (left c.loop-self.self) (left c.takes.new.self) (words c.loop-self.set) c.loop-self.next
-    c.loop-self.invariant (c.loop-self-test.ensures.kept refl) c.loop-self-test.ensures.only).read
-
-pub returns-clause-only : goal.returns-clause-only
-returns-clause-only c =
-    (ending (left c.args.self.now) (left c.loop-self.self) (left c.takes.new.self) (words c.loop-self.set) c.loop-self.next
-    c.loop-self.invariant (c.loop-self-test.ensures.kept refl) c.loop-self-test.ensures.only).only
+pub loop-self-preserved : goal.loop-self-preserved
+loop-self-preserved c =
+    going_on (left c.args.self.now) (left c.loop-self.self) (left c.run-first.new.self) (left c.takes.new.self) c.args.runs.now.items c.loop-self.runs.items
+    c.try_push.new.self.items c.loop-self.next c.index-next.result (record { first = c.run-first.result.0; last = c.run-first.result.1 }) c.loop-self.invariant (record { read = c.run-first.ensures.read; order = c.run-first.ensures.order; only = c.run-first.ensures.only }) c.index-next.ensures.same c.index-next.ensures.small
+    c.in-Ok.ensures.ok (c.if-not-takes.ensures.taken refl) c.if-not-takes.ensures.only

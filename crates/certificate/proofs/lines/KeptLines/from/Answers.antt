@@ -1,7 +1,7 @@
 use Rattle.std.proofs.Common.{◌∙◌, sym, arith}
 use Rattle.certificate.specs.Found.{all_said}
 use Rattle.certificate.proofs.FoundLemmas.{sought, sought_none}
-use Rattle.certificate.proofs.DetailLemmas.{nothing_from}
+use Rattle.std.proofs.lemmas.List.{drop_all}
 use Rattle.certificate.proofs.lines.KeptLines.from.Goals as goal
 
 pub index-requires : goal.index-requires
@@ -17,6 +17,6 @@ returns-in-Ok g c =
 
 pub returns-in-Err : goal.returns-in-Err
 returns-in-Err g c =
-    nothing_from (all_said c.args.self.now) c.len.result (let e = c.len.ensures in omega (arith, e)) ∙
+    drop_all c.len.result (all_said c.args.self.now) (let e = c.len.ensures in omega (arith, e)) ∙
     sym (sought_none c.args.self.now c.deref.result.now c.args.place c.in-Err.field-0 c.binary_search.result c.deref.ensures.value c.in-Err.is
     c.binary_search.ensures.position c.requires.indexed c.requires.order)

@@ -1,5 +1,5 @@
 use Rattle.std.proofs.Common.{◌≤◌, [], ◌∷◌, length, length-append, arith}
-use Rattle.certificate.specs.Line.{line_text}
+use Rattle.certificate.specs.Spelling.{line_text}
 use Rattle.certificate.specs.Packed.{said_at}
 use Rattle.certificate.proofs.LengthLemmas.{line_short}
 use Rattle.certificate.proofs.SpelledLemmas.{joined, whole}

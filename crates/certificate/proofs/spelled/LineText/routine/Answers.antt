@@ -1,4 +1,4 @@
-use Rattle.certificate.specs.Line.{rank_text}
+use Rattle.certificate.specs.Spelling.{rank_text}
 use Rattle.certificate.specs.Spelled.{Adds}
 use Rattle.certificate.proofs.SpelledLemmas.{joined}
 use Rattle.certificate.proofs.spelled.LineText.routine.Goals as goal

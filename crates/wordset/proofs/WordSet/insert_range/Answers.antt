@@ -8,7 +8,7 @@ use Rattle.wordset.specs.Lanes.{words}
 use Rattle.wordset.proofs.WordSet.insert_range.Goals as goal
 use Rattle.wordset.proofs.LaneBits.{AreLanes-set, or_bit}
 use Rattle.wordset.proofs.SetLemmas.{words_are}
-use Rattle.wordset.proofs.Ranges.{lane_between, lane_beside, words_of_bits, union_past}
+use Rattle.wordset.proofs.RangeLemmas.{lane_between, lane_beside, words_of_bits, union_past}
 
 pub loop-i-init : goal.loop-i-init
 loop-i-init c = record {

@@ -8,7 +8,7 @@ use Rattle.wordset.specs.Words.{between}
 use Rattle.wordset.proofs.WordSet.short_range.Goals as goal
 use Rattle.wordset.proofs.LaneBits.{filled, AreLanes-set}
 use Rattle.wordset.proofs.SetLemmas.{words_are}
-use Rattle.wordset.proofs.Ranges.{lane_between, lane_outside, words_of_lanes, range_past}
+use Rattle.wordset.proofs.RangeLemmas.{lane_between, lane_outside, words_of_lanes, range_past}
 
 none : (k : ℕ) → get_or {A = ℕ} (replicate 64 0) k 0 ≡ 0
 none k = elim (cases_lt k 64) [

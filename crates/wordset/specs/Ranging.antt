@@ -22,4 +22,4 @@ abbrev pub GivesRange : Ranges → Option (ℕ × ℕ) → Ranges → Type 0
 GivesRange before given after = MatchOption given
     (HasNoneFrom before.next (words before.set.now))
     (λ range. IsFirstFrom before.next (words before.set.now) range.0 × IsLastFrom range.0 (words before.set.now) range.1
-        × RangesFrom before.set.now (range.1 + 1) after)
+    × RangesFrom before.set.now (range.1 + 1) after)

@@ -1,4 +1,4 @@
-use Rattle.std.proofs.Common.{ap, ◌∙◌, sym, nat_lt, ◌<◌, ◌≤◌, ◌+◌, ◌*◌, ◌≢◌, ◌||◌, ℕ, length, arith, inl, inr, get_or-set_other, get_or-set_same, w64, below_more, refl, get_or, ◌≡◌, ◌==◌, ◌⊎◌}
+use Rattle.std.proofs.Common.{ap, ◌∙◌, nat_lt, ◌<◌, ◌≤◌, ◌+◌, ◌*◌, ◌≢◌, ◌||◌, ℕ, length, arith, inl, inr, get_or-set_other, get_or-set_same, w64, below_more, refl, get_or, ◌≡◌, ◌==◌, ◌⊎◌}
 use Rattle.std.specs.Prelude.{bit_and}
 use Rattle.std.specs.Int.{bit_at, bit_not}
 use Rattle.std.proofs.lemmas.Nat.{and_le_l, or_lt}

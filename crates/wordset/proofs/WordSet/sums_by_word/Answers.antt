@@ -1,4 +1,4 @@
-use Rattle.std.proofs.Common.{◌≡◌, ◌||◌, ◌∙◌, sym, ap}
+use Rattle.std.proofs.Common.{◌||◌, ◌∙◌, ap}
 use Rattle.wordset.specs.Lanes.{words}
 use Rattle.wordset.proofs.IterLemmas.{none_gathered, image_gathered, all_gathered}
 use Rattle.wordset.proofs.SumLemmas.{sums_all, has_some_from}

@@ -130,10 +130,8 @@ impl<A: Allocator + Copy> Kept<A> {
         known: &Known<'_>,
         limits: &Limits,
     ) -> Result<(), Halt> {
-        let mut next = 0usize;
-        while let Some(cell) = tracked.first_from(next) {
+        for cell in tracked.iter() {
             self.track(cell, left_to(known, &Name::Cell(cell), limits), 0)?;
-            next = cell.index() + 1;
         }
         Ok(())
     }

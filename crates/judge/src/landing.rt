@@ -70,12 +70,10 @@ impl<A: Allocator, C: Claims> Spot<'_, A, C> {
             LandsAt (case_of C.claims self.now) (routine_at self.now) a (known_of known.now)) }
     {
         let owner = self.owner();
-        let mut from = 0usize;
-        while let Some(at) = addresses.first_from(from) {
+        for at in addresses.iter() {
             if !self.lands(&owner, at, known, next) {
                 return false;
             }
-            from = at.index() + 1;
         }
         true
     }

@@ -17,7 +17,7 @@ mod map;
 mod steps;
 mod survey;
 mod tape;
-mod text;
+pub mod text;
 mod trials;
 mod variables;
 mod walk;

@@ -167,10 +167,9 @@ impl Map {
             return;
         }
         self.round.calls.insert(here.at);
-        let mut next = 0usize;
-        while let Some(entry) = self.called.first_from(next) {
+        let called = self.called;
+        for entry in called.iter() {
             self.enter(tape, walk, here, entry);
-            next = entry.index() + 1;
         }
     }
 
@@ -214,10 +213,9 @@ impl Map {
     /// Goes on from JMP where it isn't known where it goes.
     fn jump_by_table(&mut self, tape: &Tape<'_>, walk: &mut Walk, here: &Spot) {
         self.round.jumps.insert(here.at);
-        let mut next = 0usize;
-        while let Some(to) = self.jumped.first_from(next) {
+        let jumped = self.jumped;
+        for to in jumped.iter() {
             self.go(tape, walk, here, to);
-            next = to.index() + 1;
         }
     }
 }

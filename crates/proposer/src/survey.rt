@@ -263,8 +263,7 @@ impl<A: Allocator + Copy> Survey<A> {
     ) -> Result<(), NoMemory>
         ensures declaration { self.new.declaration ≡ self.old.declaration }
     {
-        let mut next = 0usize;
-        while let Some(at) = places.first_from(next) {
+        for at in places.iter() {
             if let Some(owner) = record.owner(at) {
                 let entry = entry_of(&owner);
                 if let Some(called) = entry {
@@ -275,7 +274,6 @@ impl<A: Allocator + Copy> Survey<A> {
                     .push(Visit { entry, spot })
                     .map_err(|_| NoMemory)?;
             }
-            next = at.index() + 1;
         }
         Ok(())
     }

@@ -1,6 +1,8 @@
 //! The text of a declaration.
 
-ghost use Rattle.std.specs.Prelude.{◌≤◌};
+ghost use Rattle.std.specs.Prelude.{◌≡◌, ◌++◌, ◌∷◌, OnOk};
+ghost use Rattle.word12.specs.Words.{octal_text};
+ghost use Rattle.proposer.specs.Texts.{range_text};
 
 use crate::map::Map;
 use crate::tape::Tape;
@@ -9,78 +11,70 @@ use std::alloc::{AllocError, Allocator};
 use word12::Word;
 use wordset::WordSet;
 
-/// How many runs a line has at most where there may be several of its kind: with a kind of five letters
-/// it has 75 columns then.
-const MOST_RUNS: usize = 7;
+/// How many ranges a line has at most where there may be several of its kind: with a kind of five
+/// letters it has 75 columns then.
+const MOST_RANGES: usize = 7;
 
 /// Adds a word in octal, after a space.
-fn push_word<A: Allocator>(text: &mut Vec<u8, A>, word: Word) -> Result<(), AllocError> {
+fn push_word<A: Allocator>(text: &mut Vec<u8, A>, word: Word) -> Result<(), AllocError>
+    ensures { OnOk result (text.new.items ≡ text.old.items ++ 32 ∷ octal_text word) }
+{
     text.extend_from_slice(b" ")?;
     text.extend_from_slice(&word.to_octal())
 }
 
-/// Adds a run of words, after a space.
-fn push_run<A: Allocator>(text: &mut Vec<u8, A>, low: Word, high: Word) -> Result<(), AllocError> {
-    push_word(text, low)?;
-    if low == high {
+/// Adds a range of words, after a space: its first word, and the last where it's another one.
+pub fn push_range<A: Allocator>(
+    text: &mut Vec<u8, A>,
+    first: Word,
+    last: Word,
+) -> Result<(), AllocError>
+    ensures { OnOk result (text.new.items ≡ text.old.items ++ 32 ∷ range_text first last) }
+{
+    push_word(text, first)?;
+    if first == last {
         return Ok(());
     }
     text.extend_from_slice(b"-")?;
-    text.extend_from_slice(&high.to_octal())
+    text.extend_from_slice(&last.to_octal())
 }
 
-/// The last word of the run of a set that begins with a word.
-fn last_of_run(set: &WordSet, low: Word) -> Word
-    ensures { low ≤ result }
-{
-    match WordSet::all().minus(set).first_from(low.index() + 1) {
-        None => Word::from_index(0o7777),
-        Some(end) => Word::from_index(end.index() - 1),
-    }
-}
-
-/// Adds the runs of a set.
-fn push_runs<A: Allocator>(text: &mut Vec<u8, A>, set: &WordSet) -> Result<(), AllocError> {
-    let mut next = 0usize;
-    while let Some(low) = set.first_from(next) {
-        let high = last_of_run(set, low);
-        push_run(text, low, high)?;
-        next = high.index() + 1;
+/// Adds the ranges of a set.
+fn push_ranges<A: Allocator>(text: &mut Vec<u8, A>, set: &WordSet) -> Result<(), AllocError> {
+    for (first, last) in set.ranges() {
+        push_range(text, first, last)?;
     }
     Ok(())
 }
 
-/// Begins a line after so many runs, if there is none yet or the last is full.
+/// Begins a line after so many ranges, if there is none yet or the last is full.
 fn push_line_break<A: Allocator>(
     text: &mut Vec<u8, A>,
     kind: &[u8],
-    runs: usize,
+    ranges: usize,
 ) -> Result<(), AllocError> {
-    if runs % MOST_RUNS != 0 {
+    if ranges % MOST_RANGES != 0 {
         return Ok(());
     }
-    if runs != 0 {
+    if ranges != 0 {
         text.extend_from_slice(b"\n")?;
     }
     text.extend_from_slice(kind)
 }
 
-/// Adds lines of a kind with the runs of a set, if it has a word.
+/// Adds lines of a kind with the ranges of a set, if it has a word.
 fn push_cells<A: Allocator>(
     text: &mut Vec<u8, A>,
     kind: &[u8],
     set: &WordSet,
 ) -> Result<(), AllocError> {
-    let mut next = 0usize;
-    let mut runs = 0usize;
-    while let Some(low) = set.first_from(next) {
-        push_line_break(text, kind, runs)?;
-        let high = last_of_run(set, low);
-        push_run(text, low, high)?;
-        next = high.index() + 1;
-        runs = runs.saturating_add(1);
+    let mut ranges = 0usize;
+    for (first, last) in set.ranges() {
+        push_line_break(text, kind, ranges)?;
+        push_range(text, first, last)?;
+        ranges = ranges.saturating_add(1);
     }
-    if runs != 0 {
+    if ranges != 0 {
         text.extend_from_slice(b"\n")?;
     }
     Ok(())
@@ -131,12 +125,10 @@ impl Map {
         kind: &[u8],
         halts: &WordSet,
     ) -> Result<(), AllocError> {
-        let mut next = 0usize;
-        while let Some(at) = halts.first_from(next) {
+        for at in halts.iter() {
             text.extend_from_slice(kind)?;
             push_word(text, at)?;
             self.push_remark(text, tape, b" / ", at)?;
-            next = at.index() + 1;
         }
         Ok(())
     }
@@ -184,7 +176,7 @@ impl Map {
         text.extend_from_slice(b"sub")?;
         push_word(text, entry)?;
         text.extend_from_slice(b" body")?;
-        push_runs(text, body)?;
+        push_ranges(text, body)?;
         text.extend_from_slice(b" returns")?;
         for offset in 0..8usize {
             if self.may_return(entry, offset) {

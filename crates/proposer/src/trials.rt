@@ -84,12 +84,10 @@ impl Map {
             .minus(&self.round.named)
             .minus(&self.entries);
         let mut words = WordSet::empty();
-        let mut next = 0usize;
-        while let Some(cell) = cells.first_from(next) {
+        for cell in cells.iter() {
             if let Some(word) = tape.get(cell) {
                 words.insert(word);
             }
-            next = cell.index() + 1;
         }
         words.meet(&all)
     }

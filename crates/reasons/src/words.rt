@@ -79,12 +79,10 @@ impl<A: Allocator, C: Claims> Spot<'_, A, C> {
         ensures none { IfNone result ((b : ℕ) → b < 4096 → words cells.now b ≡ true →
             (here self.now).declaration.entry b ≡ false) }
     {
-        let mut next = 0usize;
-        while let Some(cell) = cells.first_from(next) {
+        for cell in cells.iter() {
             if self.place.declaration.is_entry(cell) {
                 return Some(cell);
             }
-            next = cell.index() + 1;
         }
         None
     }
@@ -96,12 +94,10 @@ impl<A: Allocator, C: Claims> Spot<'_, A, C> {
         ensures none { IfNone result ((b : ℕ) → b < 4096 → words cells.now b ≡ true →
             (here self.now).declaration.entry b ≡ true) }
     {
-        let mut next = 0usize;
-        while let Some(cell) = cells.first_from(next) {
+        for cell in cells.iter() {
             if !self.place.declaration.is_entry(cell) {
                 return Some(cell);
             }
-            next = cell.index() + 1;
         }
         None
     }

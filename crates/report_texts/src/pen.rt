@@ -161,15 +161,15 @@ impl<A: Allocator> Pen<A> {
         if set.is_empty() {
             self.put(b"-");
         }
+        let mut runs = set.ranges();
         let mut rest = *set;
         for count in 0..MOST_RUNS {
-            let Some(first) = rest.least() else {
+            let Some((first, last)) = runs.next() else {
                 return;
             };
             if count > 0 {
                 self.put(b",");
             }
-            let last = last_from(set, first);
             self.run(first, last, linked);
             rest = rest.minus(&WordSet::range(first, last));
         }
@@ -258,16 +258,5 @@ impl<A: Allocator> Pen<A> {
     pub(crate) fn item(&mut self, text: &[u8]) {
         self.separate();
         self.say(text);
-    }
-}
-
-/// The last word of the run of a set that begins with one of its words.
-fn last_from(set: &WordSet, first: Word) -> Word {
-    if !set.contains(first.add(Word::from_index(1))) {
-        return first;
-    }
-    match WordSet::all().minus(set).first_from(first.index()) {
-        Some(next) => next.add(Word::from_index(4095)),
-        None => Word::from_index(4095),
     }
 }

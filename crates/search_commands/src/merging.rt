@@ -1,8 +1,7 @@
 //! The text of a declaration with what another declaration has and it lacks.
 
-ghost use Rattle.std.specs.Prelude.{◌≤◌};
-
 use declaration::{Declaration, Offsets, Routine};
+use proposer::text::push_range;
 use std::alloc::{AllocError, Allocator};
 use streams::text::{self, Words};
 use word12::Word;
@@ -135,38 +134,10 @@ fn addition_to<A: Allocator, B: Allocator>(
     Some(Addition { body, offsets })
 }
 
-/// Adds a range, behind a space.
-fn push_range<A: Allocator>(
-    text: &mut Vec<u8, A>,
-    low: Word,
-    high: Word,
-) -> Result<(), AllocError> {
-    text.extend_from_slice(b" ")?;
-    text.extend_from_slice(&low.to_octal())?;
-    if low == high {
-        return Ok(());
-    }
-    text.extend_from_slice(b"-")?;
-    text.extend_from_slice(&high.to_octal())
-}
-
-/// The last word of the range of a set that begins with a word.
-fn last_of_range(set: &WordSet, low: Word) -> Word
-    ensures { low ≤ result }
-{
-    match WordSet::all().minus(set).first_from(low.index() + 1) {
-        None => Word::from_index(0o7777),
-        Some(end) => Word::from_index(end.index() - 1),
-    }
-}
-
 /// Adds the ranges of a set, each behind a space.
 fn push_ranges<A: Allocator>(text: &mut Vec<u8, A>, set: &WordSet) -> Result<(), AllocError> {
-    let mut next = 0usize;
-    while let Some(low) = set.first_from(next) {
-        let high = last_of_range(set, low);
-        push_range(text, low, high)?;
-        next = high.index() + 1;
+    for (first, last) in set.ranges() {
+        push_range(text, first, last)?;
     }
     Ok(())
 }
@@ -208,13 +179,10 @@ fn push_cells<A: Allocator>(
     kind: &[u8],
     set: &WordSet,
 ) -> Result<(), AllocError> {
-    let mut next = 0usize;
     let mut ranges = 0usize;
-    while let Some(low) = set.first_from(next) {
+    for (first, last) in set.ranges() {
         push_line_break(text, kind, ranges)?;
-        let high = last_of_range(set, low);
-        push_range(text, low, high)?;
-        next = high.index() + 1;
+        push_range(text, first, last)?;
         ranges = ranges.saturating_add(1);
     }
     if ranges != 0 {
@@ -229,12 +197,10 @@ fn push_halts<A: Allocator>(
     kind: &[u8],
     set: &WordSet,
 ) -> Result<(), AllocError> {
-    let mut next = 0usize;
-    while let Some(at) = set.first_from(next) {
+    for at in set.iter() {
         text.extend_from_slice(kind)?;
         push_range(text, at, at)?;
         end_line(text)?;
-        next = at.index() + 1;
     }
     Ok(())
 }

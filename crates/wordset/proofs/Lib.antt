@@ -3,7 +3,7 @@ pub mod SetLemmas
 pub mod LaneBits
 pub mod Counts
 pub mod Shifts
-pub mod Ranges
+pub mod RangeLemmas
 pub mod Firsts
 pub mod CarryLemmas
 pub mod Parts
@@ -13,3 +13,5 @@ pub mod SumLemmas
 pub mod Halves
 pub mod Cleared
 pub mod Pairs
+pub mod IterLemmas
+pub mod RangingLemmas

@@ -3,3 +3,5 @@ pub mod Lanes
 pub mod Links
 pub mod Bits
 pub mod Operate
+pub mod Iterating
+pub mod Ranging

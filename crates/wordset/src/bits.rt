@@ -72,10 +72,8 @@ impl WordSet {
         ensures { SameWords (words result) (ands (words self.now) (words other.now)) }
     {
         let mut found = WordSet::empty();
-        let mut next = 0usize;
-        while let Some(word) = self.first_from(next) {
+        for word in self.iter() {
             other.put_ands_with(word, &mut found);
-            next = word.index() + 1;
         }
         found
     }
@@ -85,10 +83,8 @@ impl WordSet {
         ensures { (v : ℕ) → v < 4096 → words found.new v ≡
             (words found.old v || some_below 4096 (λ y. words self.now y && (bit_and word y == v))) }
     {
-        let mut next = 0usize;
-        while let Some(other) = self.first_from(next) {
+        for other in self.iter() {
             found.insert(word.and(other));
-            next = other.index() + 1;
         }
     }
 
@@ -111,10 +107,8 @@ impl WordSet {
             return self.or_any(Word::from_index(0o7777));
         }
         let mut found = WordSet::empty();
-        let mut next = 0usize;
-        while let Some(word) = self.first_from(next) {
+        for word in self.iter() {
             found = found.union(&other.or_word(word));
-            next = word.index() + 1;
         }
         found
     }

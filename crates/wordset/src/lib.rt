@@ -15,11 +15,15 @@ use std::simd::prelude::*;
 use word12::Word;
 
 mod bits;
+mod iter;
 mod links;
 mod operate;
+mod ranges;
 mod sums;
 
+pub use iter::Iter;
 pub use links::{Carries, Links};
+pub use ranges::Ranges;
 
 /// A set of words.
 #[derive(Clone, Copy, PartialEq, Eq, Debug)]

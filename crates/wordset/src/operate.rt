@@ -77,12 +77,10 @@ impl WordSet {
     {
         let mut found = WordSet::empty();
         let mut links = Links::none();
-        let mut next = 0usize;
-        while let Some(ac) = self.first_from(next) {
+        for ac in self.iter() {
             let (image, after) = operate1(word, ac, link);
             found.insert(image);
             links = links.with(after);
-            next = ac.index() + 1;
         }
         (found, links)
     }

@@ -50,10 +50,8 @@ impl WordSet {
         }
         let lanes = other.lanes_twice();
         let mut found = WordSet::empty();
-        let mut next = 0usize;
-        while let Some(word) = self.first_from(next) {
+        for word in self.iter() {
             found = found.union(&other.shift_from(&lanes, word));
-            next = word.index() + 1;
         }
         found
     }

@@ -1,6 +1,6 @@
 use Rattle.std.proofs.Common.{arith}
 use Rattle.wordset.proofs.lane_below.Goals as goal
-use Rattle.wordset.proofs.Ranges.{lane_whole, lane_part}
+use Rattle.wordset.proofs.RangeLemmas.{lane_whole, lane_part}
 
 pub returns-then-first-end : goal.returns-then-first-end
 returns-then-first-end c = λ j h. lane_whole c.args.end c.args.i j (omega (arith, c.if-first-end.true)) h

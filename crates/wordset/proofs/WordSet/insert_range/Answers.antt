@@ -1,4 +1,4 @@
-use Rattle.std.proofs.Common.{ap, ◌∙◌, sym, nat_lt, ◌<◌, ◌≤◌, ◌+◌, ◌*◌, ◌≢◌, ◌||◌, ℕ, length, arith, inl, inr, get_or-set_other, get_or-set_same, w64, below_more, refl, get_or, ◌≡◌, ◌==◌, ◌⊎◌}
+use Rattle.std.proofs.Common.{ap, ◌∙◌, nat_lt, ◌<◌, ◌≤◌, ◌+◌, ◌*◌, ◌≢◌, ◌||◌, ℕ, length, arith, inl, inr, get_or-set_other, get_or-set_same, w64, below_more, refl, get_or, ◌≡◌, ◌==◌, ◌⊎◌}
 use Rattle.std.specs.Prelude.{bit_and}
 use Rattle.std.specs.Int.{bit_at, bit_not}
 use Rattle.std.proofs.lemmas.Nat.{and_le_l, or_lt}
@@ -8,7 +8,7 @@ use Rattle.wordset.specs.Lanes.{words}
 use Rattle.wordset.proofs.WordSet.insert_range.Goals as goal
 use Rattle.wordset.proofs.LaneBits.{AreLanes-set, or_bit}
 use Rattle.wordset.proofs.SetLemmas.{words_are}
-use Rattle.wordset.proofs.Ranges.{lane_between, lane_beside, words_of_bits, union_past}
+use Rattle.wordset.proofs.RangeLemmas.{lane_between, lane_beside, words_of_bits, union_past}
 
 pub loop-i-init : goal.loop-i-init
 loop-i-init c = record {

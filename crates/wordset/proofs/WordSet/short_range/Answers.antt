@@ -1,5 +1,4 @@
-use Rattle.std.proofs.Common.{ap, ◌∙◌, nat_lt, ◌<◌, ◌≤◌, ◌+◌, ◌*◌, ◌^◌, ◌≢◌, ℕ, length, arith, lit<, inl, inr, get_or-set_other, get_or-set_same, w64, below_more, refl, get_or, replicate, ◌≡◌, ◌==◌, ◌⊎◌}
-use Rattle.std.specs.Prelude.{bit_and}
+use Rattle.std.proofs.Common.{ap, ◌∙◌, nat_lt, ◌<◌, ◌≤◌, ◌+◌, ◌*◌, ◌≢◌, ℕ, length, arith, lit<, inl, inr, get_or-set_other, get_or-set_same, w64, below_more, get_or, replicate, ◌≡◌, ◌==◌, ◌⊎◌}
 use Rattle.std.specs.Int.{bit_at, bit_not}
 use Rattle.std.proofs.lemmas.List.{get_or-replicate, get_or_past}
 use Rattle.std.proofs.lemmas.Nat.{and_le_l}
@@ -8,7 +7,7 @@ use Rattle.wordset.specs.Words.{between}
 use Rattle.wordset.proofs.WordSet.short_range.Goals as goal
 use Rattle.wordset.proofs.LaneBits.{filled, AreLanes-set}
 use Rattle.wordset.proofs.SetLemmas.{words_are}
-use Rattle.wordset.proofs.Ranges.{lane_between, lane_outside, words_of_lanes, range_past}
+use Rattle.wordset.proofs.RangeLemmas.{lane_between, lane_outside, words_of_lanes, range_past}
 
 none : (k : ℕ) → get_or {A = ℕ} (replicate 64 0) k 0 ≡ 0
 none k = elim (cases_lt k 64) [

@@ -1,10 +1,8 @@
-use Rattle.std.proofs.Common.{ℕ, ◌≡◌, ◌<◌, ◌-◌, true, false}
+use Rattle.std.proofs.Common.{◌≡◌, false}
 use Rattle.wordset.specs.Lanes.{words}
+use Rattle.wordset.proofs.IterLemmas.{Passed}
 use Rattle.reasons.specs.Spots.{here}
 use Rattle.reasons.proofs.spot.Spot.first_entry.Given as goal
 
 abbrev pub invariant-loop-cell : goal.invariant-loop-cell
-invariant-loop-cell g l = (b : ℕ) → b < l.next → words l.cells b ≡ true → (here l.self).declaration.entry b ≡ false
-
-abbrev pub decreases-loop-cell : goal.decreases-loop-cell
-decreases-loop-cell g l = 4096 - l.next
+invariant-loop-cell g l = Passed (λ b. (here l.self).declaration.entry b ≡ false) (words l.cells) l.cell-iterator

@@ -9,7 +9,7 @@ use Rattle.wordset.specs.Words.{between, union, all_words}
 use Rattle.wordset.specs.Lanes.{words}
 use Rattle.wordset.proofs.SetLemmas.{words_bit, words_past, equal_words, all_past, all_everything}
 use Rattle.wordset.proofs.LaneBits.{and_bit, not_bit, or_false}
-use Rattle.wordset.proofs.Tests.{both_ways, and_both, and_first, and_second, true_false}
+use Rattle.wordset.proofs.Tests.{both_ways, and_both, and_first, and_second}
 
 to_le : (a b : ℕ) → nat_le a b ≡ true → a ≤ b
 to_le a b e = grind (arith, nat_tests)

@@ -1,0 +1,7 @@
+-- What stands in the text of a declaration.
+use Rattle.std.specs.Prelude.{ℕ, ◌==◌, List, [], ◌∷◌, ◌++◌, if◌then◌else◌}
+use Rattle.word12.specs.Words.{octal_text}
+
+-- A range of words: the first in four octal digits, and where the last is another word, a hyphen and the last.
+abbrev pub range_text : ℕ → ℕ → List ℕ
+range_text first last = octal_text first ++ (if first == last then [] else 45 ∷ octal_text last)

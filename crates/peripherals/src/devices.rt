@@ -82,25 +82,24 @@ impl Panel {
 
     /// What a device word makes of the devices, the bytes put out apart.
     #[tactic(auto, unfolding(crate::specs::Devices::devices_after))]
-    fn after(self, operation: DeviceOperation) -> Panel
-        ensures { (ac : ℕ) → GoesOn self (word_of operation) ac result }
+    fn go_on(&mut self, operation: DeviceOperation)
+        ensures { (ac : ℕ) → GoesOn self.old (word_of operation) ac self.new }
     {
-        let mut after = self;
         match operation {
-            DeviceOperation::ReadReaderBuffer => after.reader.flag = false,
+            DeviceOperation::ReadReaderBuffer => self.reader.flag = false,
             DeviceOperation::FetchReaderFrame | DeviceOperation::ReadReaderBufferAndFetchFrame => {
-                after.reader.fetch()
+                self.reader.fetch()
             }
-            DeviceOperation::ClearPunchFlag => after.punch.flag = false,
-            DeviceOperation::Punch => after.punch.busy = true,
-            DeviceOperation::ClearPunchFlagAndPunch => after.punch.begin(),
+            DeviceOperation::ClearPunchFlag => self.punch.flag = false,
+            DeviceOperation::Punch => self.punch.busy = true,
+            DeviceOperation::ClearPunchFlagAndPunch => self.punch.begin(),
             DeviceOperation::ClearKeyboardFlag
             | DeviceOperation::ClearKeyboardFlagAndAccumulator
-            | DeviceOperation::TakeKeyboardByte => after.keyboard.flag = false,
-            DeviceOperation::SetPrinterFlag => after.printer.flag = true,
-            DeviceOperation::ClearPrinterFlag => after.printer.flag = false,
-            DeviceOperation::Print => after.printer.busy = true,
-            DeviceOperation::ClearPrinterFlagAndPrint => after.printer.begin(),
+            | DeviceOperation::TakeKeyboardByte => self.keyboard.flag = false,
+            DeviceOperation::SetPrinterFlag => self.printer.flag = true,
+            DeviceOperation::ClearPrinterFlag => self.printer.flag = false,
+            DeviceOperation::Print => self.printer.busy = true,
+            DeviceOperation::ClearPrinterFlagAndPrint => self.printer.begin(),
             DeviceOperation::DisableInterrupts
             | DeviceOperation::SkipOnReaderFlag
             | DeviceOperation::SkipOnPunchFlag
@@ -108,12 +107,11 @@ impl Panel {
             | DeviceOperation::ReadKeyboardBuffer
             | DeviceOperation::SkipOnPrinterFlag => {}
         }
-        after
     }
 
     /// What a device word makes of the accumulator and whether it skips.
-    fn answer(self, operation: DeviceOperation, ac: Word) -> IotAnswer
-        ensures { Answers (processor_action operation) ac (panel_answer self (word_of operation))
+    fn answer(&self, operation: DeviceOperation, ac: Word) -> IotAnswer
+        ensures { Answers (processor_action operation) ac (panel_answer self.now (word_of operation))
             result.ac result.skip }
     {
         let (ac, skip) = match operation {
@@ -208,7 +206,7 @@ impl Bus for Panel {
             return IotAnswer { ac, skip: false };
         };
         let answer = self.answer(operation, ac);
-        *self = self.after(operation);
+        self.go_on(operation);
         answer
     }
 

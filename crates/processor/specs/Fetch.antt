@@ -29,7 +29,8 @@ decoded (Group3 o) word memory = fetch.Operate3 word
 decoded (Device a) word memory = fetch.Device word
 decoded Undefined word memory = fetch.Unsupported word
 
--- The instruction at the program counter as a fetch gives it.
+-- What the machine is about to do in a state: the word at the program counter as a machine of this profile decodes it, with
+-- the effective address that the memory of this state gives.
 abbrev pub fetched : Profile → State → DecodedInstruction
 fetched profile s = decoded (instruction profile s) (s.memory s.pc) s.memory
 

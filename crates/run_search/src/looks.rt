@@ -2,8 +2,6 @@
 
 use crate::asking::Ask;
 use instruct::{Instruction, Operation, Profile, decode, refers_indirectly};
-use peripherals::NoMemory;
-use std::alloc::Allocator;
 use word12::Word;
 
 /// What is worth a look.
@@ -65,11 +63,10 @@ fn look_at_test(word: Word) -> Look {
 }
 
 /// What is worth a look at each of the 4096 words.
-pub(crate) fn looks<A: Allocator>(alloc: A, profile: Profile) -> Result<Vec<Look, A>, NoMemory> {
-    let mut looks = Vec::new(alloc);
+pub(crate) fn looks(profile: Profile) -> [Look; 4096] {
+    let mut looks = [Look::Nothing; 4096];
     for index in 0..4096usize {
-        let look = Look::at(Word::from_index(index), profile);
-        looks.push(look).map_err(|_| NoMemory)?;
+        looks[index] = Look::at(Word::from_index(index), profile);
     }
-    Ok(looks)
+    looks
 }

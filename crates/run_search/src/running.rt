@@ -67,7 +67,9 @@ pub(crate) struct Run<A: Allocator> {
     purpose: Purpose,
     /// The kept state from which the script goes on.
     pub(crate) base: usize,
+    /// The events since, without the last steps: so many events from the start are in it.
     pub(crate) script: Script<A>,
+    written: u32,
     /// How long all is from the start.
     pub(crate) extent: Extent,
     /// The inputs that were given, and how many of them came before the kept state.
@@ -82,6 +84,8 @@ pub(crate) struct Run<A: Allocator> {
     stirred: u32,
     last_asked: u32,
     last_new: u32,
+    /// Up to so many events it's certain that the run goes on.
+    certain: u32,
     /// After so many events without anything new the run is over when an input is asked for.
     most_stale: u32,
 }
@@ -117,6 +121,7 @@ impl<A: Allocator + Copy> Run<A> {
             purpose: plan.purpose,
             base: plan.base,
             script: Script::new(alloc),
+            written: extent.events,
             extent,
             inputs: Vec::new(alloc),
             before_base: 0,
@@ -126,12 +131,14 @@ impl<A: Allocator + Copy> Run<A> {
             stirred: extent.events,
             last_asked: extent.events,
             last_new: extent.events,
+            certain: 0,
             most_stale,
         }
     }
 
     /// Takes the events since the kept state out.
     pub(crate) fn take_script(&mut self, alloc: A) -> Script<A> {
+        self.write_steps();
         std::mem::replace(&mut self.script, Script::new(alloc))
     }
 
@@ -166,8 +173,10 @@ impl<A: Allocator + Copy> Run<A> {
         requires profile { profile_of watcher.old.world ≡ (meaning declaration.now).profile }
         ensures profile { profile_of watcher.new.world ≡ (meaning declaration.now).profile }
     {
+        self.write_steps();
         self.script.add(&event)?;
         self.extent.add();
+        self.written = self.extent.events;
         self.stirs();
         watcher.next(declaration, event)?;
         Ok(())
@@ -234,7 +243,7 @@ impl<A: Allocator + Copy> Run<A> {
         match take_step(watcher, declaration, turns)? {
             Stepped::NoTurn => return Ok(Progress::Over),
             Stepped::Broke => return Ok(Progress::Broken),
-            Stepped::Kept => self.made_step(),
+            Stepped::Kept => self.extent.step(),
         }
         match watcher.world().halted_at() {
             None => Ok(self.goes_on(watcher)),
@@ -246,10 +255,11 @@ impl<A: Allocator + Copy> Run<A> {
         }
     }
 
-    /// A step was made.
-    fn made_step(&mut self) {
-        self.script.add_step();
-        self.extent.step();
+    /// Puts the last steps into the script.
+    pub(crate) fn write_steps(&mut self) {
+        let steps = self.since(self.written);
+        self.script.add_steps(steps);
+        self.written = self.extent.events;
     }
 
     /// How many events there were since there were so many.
@@ -258,12 +268,29 @@ impl<A: Allocator + Copy> Run<A> {
     }
 
     /// Whether the run goes on, by how long nothing has happened.
-    fn goes_on(&self, watcher: &Watcher<A>) -> Progress {
-        if self.since(self.last_asked) > MOST_QUIET || self.waits(watcher) {
-            Progress::Over
-        } else {
+    #[inline(always)]
+    fn goes_on(&mut self, watcher: &Watcher<A>) -> Progress {
+        if self.extent.events <= self.certain {
             Progress::GoesOn
+        } else {
+            self.still_goes_on(watcher)
         }
+    }
+
+    /// The same, and up to how many events that is certain then.
+    #[inline(never)]
+    fn still_goes_on(&mut self, watcher: &Watcher<A>) -> Progress {
+        if self.since(self.last_asked) > MOST_QUIET || self.waits(watcher) {
+            return Progress::Over;
+        }
+        let quiet = self.last_asked.saturating_add(MOST_QUIET);
+        let idle = self.stirred.saturating_add(MOST_IDLE);
+        self.certain = if self.purpose == Purpose::Roam || quiet < idle {
+            quiet
+        } else {
+            idle
+        };
+        Progress::GoesOn
     }
 
     /// Whether nothing has happened for long, and no completion is still to come.

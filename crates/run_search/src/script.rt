@@ -82,7 +82,12 @@ impl<A: Allocator> Script<A> {
 
     /// Adds a step.
     pub(crate) fn add_step(&mut self) {
-        self.steps = self.steps.saturating_add(1);
+        self.add_steps(1);
+    }
+
+    /// Adds so many steps.
+    pub(crate) fn add_steps(&mut self, steps: u32) {
+        self.steps = self.steps.saturating_add(steps);
     }
 
     /// Adds an event that is no step.

@@ -51,15 +51,13 @@ pub struct RunSearch<A: Allocator> {
     random: Random,
     alphabet: Alphabet<A>,
     /// What is worth a look at each of the 4096 words.
-    looks: Vec<Look, A>,
+    looks: [Look; 4096],
     seen: Seen<A>,
     tree: Tree<A>,
     aims: Aims<A>,
     record: Record<A>,
     /// Whether what steps do is recorded: that takes time.
     records: bool,
-    /// What the step that is about to be made does, where that is recorded.
-    sight: Option<Sight>,
     /// The steps that were made, and one for each run without a step.
     clock: u32,
     /// What it was when the last run began.
@@ -101,21 +99,11 @@ struct Glance {
 }
 
 impl Glance {
-    /// What is to be seen before the next step of a machine that is watched, where that is worth a look.
-    fn at<A: Allocator>(watcher: &Watcher<A>, look: Look) -> Glance {
-        let cpu = watcher.world().cpu();
-        let word = cpu.memory.get(cpu.pc);
-        let place = match look {
-            Look::Address => effective_address(&cpu.memory, word, cpu.pc),
-            Look::Stored => target(word, cpu.pc),
-            _ => Word::ZERO,
-        };
-        Glance {
-            at: cpu.pc,
-            ac: cpu.ac,
-            look,
-            place,
-        }
+    /// Whether the next step asks for an input, or a device is busy.
+    #[inline(always)]
+    fn asks_or_waits<A: Allocator>(&self, watcher: &Watcher<A>) -> bool {
+        let panel = watcher.world().panel();
+        matches!(self.look, Look::Asks(_)) || panel.printer.busy || panel.punch.busy
     }
 }
 
@@ -134,13 +122,12 @@ impl<A: Allocator + Copy> RunSearch<A> {
             alloc,
             random: Random::new(seed),
             alphabet: Alphabet::of(alloc, program.image)?,
-            looks: looks(alloc, program.declaration.profile())?,
+            looks: looks(program.declaration.profile()),
             seen: Seen::nothing(alloc)?,
             tree: Tree::new(alloc, program)?,
             aims: Aims::none(alloc)?,
             record: Record::nothing(alloc)?,
             records: false,
-            sight: None,
             clock: 0,
             begun: 0,
             roamed: 0,
@@ -482,9 +469,11 @@ impl<A: Allocator + Copy> RunSearch<A> {
         ensures within { turns.new.spent ≤ turns.new.limit }
     {
         turns.are_within();
+        // What a step that was tried before asks for is given.
+        let mut is_prepared = trial.is_tried;
         for _step in 0..trial.left {
-            match self.advance(program, trial, turns)? {
-                Progress::GoesOn => {}
+            match self.advance(program, trial, is_prepared, turns)? {
+                Progress::GoesOn => is_prepared = false,
                 Progress::Over => return Ok(false),
                 Progress::Broken => return Ok(true),
             }
@@ -492,11 +481,13 @@ impl<A: Allocator + Copy> RunSearch<A> {
         Ok(false)
     }
 
-    /// Makes the next step of a run.
+    /// Makes the next step of a run, for which all may be prepared.
+    #[inline(always)]
     fn advance<D: Allocator>(
         &mut self,
         program: &DeclaredProgram<'_, D>,
         trial: &mut Trial<A>,
+        is_prepared: bool,
         turns: &mut Turns,
     ) -> Result<Progress, NoMemory>
         requires profile { profile_of trial.old.watcher.world
@@ -508,43 +499,16 @@ impl<A: Allocator + Copy> RunSearch<A> {
         ensures within { turns.new.spent ≤ turns.new.limit }
     {
         turns.are_within();
-        let look = self.look(&trial.watcher);
-        if !self.is_ready(program, trial, look)? {
-            return Ok(Progress::Over);
+        let glance = self.glance(&trial.watcher);
+        if glance.asks_or_waits(&trial.watcher) && !is_prepared {
+            if !self.prepare(program, trial, glance.look)? {
+                return Ok(Progress::Over);
+            }
         }
-        self.step(
-            program,
-            &mut trial.watcher,
-            &mut trial.run,
-            &trial.plan,
-            look,
-            turns,
-        )
-    }
-
-    /// Gives what the next step asks for, unless it was tried before. False where the run is over.
-    fn is_ready<D: Allocator>(
-        &mut self,
-        program: &DeclaredProgram<'_, D>,
-        trial: &mut Trial<A>,
-        look: Look,
-    ) -> Result<bool, NoMemory>
-        requires profile { profile_of trial.old.watcher.world
-            ≡ (meaning program.now.declaration.now).profile }
-        ensures profile { profile_of trial.new.watcher.world
-            ≡ (meaning program.now.declaration.now).profile }
-    {
-        if trial.is_tried {
-            trial.is_tried = false;
-            return Ok(true);
+        if self.records {
+            return self.step_recorded(program, trial, turns);
         }
-        self.prepare(
-            program,
-            &mut trial.watcher,
-            &mut trial.run,
-            &trial.plan,
-            look,
-        )
+        self.step(program, trial, &glance, turns)
     }
 
     /// What steps were seen to do in all runs so far, apart from those that only break a rule once more;
@@ -559,7 +523,8 @@ impl<A: Allocator + Copy> RunSearch<A> {
     }
 
     /// The whole of a run that broke a rule, from the start.
-    fn found(&self, run: Run<A>) -> Result<Option<Found<A>>, NoMemory> {
+    fn found(&self, mut run: Run<A>) -> Result<Option<Found<A>>, NoMemory> {
+        run.write_steps();
         let Run {
             base,
             script: end,
@@ -578,17 +543,24 @@ impl<A: Allocator + Copy> RunSearch<A> {
     }
 
     /// Gives what the next step asks for, and lets devices get done. False where the run is over.
+    #[inline(never)]
     fn prepare<D: Allocator>(
         &mut self,
         program: &DeclaredProgram<'_, D>,
-        watcher: &mut Watcher<A>,
-        run: &mut Run<A>,
-        plan: &Plan<A>,
+        trial: &mut Trial<A>,
         look: Look,
     ) -> Result<bool, NoMemory>
-        requires profile { profile_of watcher.old.world ≡ (meaning program.now.declaration.now).profile }
-        ensures profile { profile_of watcher.new.world ≡ (meaning program.now.declaration.now).profile }
+        requires profile { profile_of trial.old.watcher.world
+            ≡ (meaning program.now.declaration.now).profile }
+        ensures profile { profile_of trial.new.watcher.world
+            ≡ (meaning program.now.declaration.now).profile }
     {
+        let Trial {
+            watcher,
+            run,
+            plan,
+            ..
+        } = trial;
         if let Some(ask) = self.ask(watcher, run, plan, look) {
             self.keep(watcher, run, ask)?;
             if !run.is_asked() {
@@ -656,55 +628,76 @@ impl<A: Allocator + Copy> RunSearch<A> {
         Ok(())
     }
 
-    /// What is worth a look at the next step.
-    fn look(&self, watcher: &Watcher<A>) -> Look {
+    /// What is to be seen before the next step of a machine that is watched.
+    #[inline(always)]
+    fn glance(&self, watcher: &Watcher<A>) -> Glance {
         let cpu = watcher.world().cpu();
         let word = cpu.memory.get(cpu.pc);
-        self.looks
-            .get(word.index())
-            .copied()
-            .unwrap_or(Look::Nothing)
+        let look = self.looks[word.index()];
+        let place = match look {
+            Look::Address => effective_address(&cpu.memory, word, cpu.pc),
+            Look::Stored => target(word, cpu.pc),
+            _ => Word::ZERO,
+        };
+        Glance {
+            at: cpu.pc,
+            ac: cpu.ac,
+            look,
+            place,
+        }
     }
 
     /// Makes a step, and notes what is new.
+    #[inline(always)]
     fn step<D: Allocator>(
         &mut self,
         program: &DeclaredProgram<'_, D>,
-        watcher: &mut Watcher<A>,
-        run: &mut Run<A>,
-        plan: &Plan<A>,
-        look: Look,
+        trial: &mut Trial<A>,
+        glance: &Glance,
         turns: &mut Turns,
     ) -> Result<Progress, NoMemory>
-        requires profile { profile_of watcher.old.world ≡ (meaning program.now.declaration.now).profile }
-        ensures profile { profile_of watcher.new.world ≡ (meaning program.now.declaration.now).profile }
+        requires profile { profile_of trial.old.watcher.world
+            ≡ (meaning program.now.declaration.now).profile }
+        ensures profile { profile_of trial.new.watcher.world
+            ≡ (meaning program.now.declaration.now).profile }
         ensures limit { turns.new.limit ≡ turns.old.limit }
         ensures rises { turns.old.spent ≤ turns.new.spent }
         ensures within { turns.new.spent ≤ turns.new.limit }
     {
-        if self.records {
-            self.sight = Some(Sight::of(watcher));
-        }
-        let glance = Glance::at(watcher, look);
-        let before = turns.spent();
-        let progress = run.step(watcher, program.declaration, turns)?;
-        if plan.purpose == Purpose::Repeat {
-            return Ok(progress);
-        }
-        if self.records && turns.spent() != before && progress != Progress::Broken {
-            self.record_step();
-        }
-        if progress == Progress::GoesOn {
-            self.note(watcher, run, plan, &glance)?;
+        let progress = trial
+            .run
+            .step(&mut trial.watcher, program.declaration, turns)?;
+        if progress == Progress::GoesOn && trial.plan.purpose != Purpose::Repeat {
+            self.note(&trial.watcher, &mut trial.run, &trial.plan, glance)?;
         }
         Ok(progress)
     }
 
-    /// Records the step that was made, where that is wanted.
-    fn record_step(&mut self) {
-        if let Some(sight) = &self.sight {
-            self.record.makes(sight);
+    /// The same, and records what the step does, if it's made.
+    #[inline(never)]
+    fn step_recorded<D: Allocator>(
+        &mut self,
+        program: &DeclaredProgram<'_, D>,
+        trial: &mut Trial<A>,
+        turns: &mut Turns,
+    ) -> Result<Progress, NoMemory>
+        requires profile { profile_of trial.old.watcher.world
+            ≡ (meaning program.now.declaration.now).profile }
+        ensures profile { profile_of trial.new.watcher.world
+            ≡ (meaning program.now.declaration.now).profile }
+        ensures limit { turns.new.limit ≡ turns.old.limit }
+        ensures rises { turns.old.spent ≤ turns.new.spent }
+        ensures within { turns.new.spent ≤ turns.new.limit }
+    {
+        let sight = Sight::of(&trial.watcher);
+        let glance = self.glance(&trial.watcher);
+        let before = turns.spent();
+        let progress = self.step(program, trial, &glance, turns)?;
+        let is_made = turns.spent() != before && progress != Progress::Broken;
+        if is_made && trial.plan.purpose != Purpose::Repeat {
+            self.record.makes(&sight);
         }
+        Ok(progress)
     }
 
     /// Notes what is new after a step.

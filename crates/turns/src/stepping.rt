@@ -2,8 +2,11 @@
 
 ghost use Rattle.std.specs.Prelude.{◌≡◌, ◌≢◌, ◌≤◌, ◌+◌, IfOk};
 ghost use Rattle.declaration.specs.Kept.{meaning};
+ghost use Rattle.peripherals.specs.declared.Event.{Event};
 ghost use Rattle.peripherals.specs.World.{profile_of};
-ghost use Rattle.turns.specs.declared.stepping.Stepped.TheVariants.{NoTurn};
+ghost use Rattle.policy.specs.OpenCalls.{machine_of, calls_of};
+ghost use Rattle.policy.specs.WatchedSteps.{Goes};
+ghost use Rattle.turns.specs.declared.stepping.Stepped.TheVariants.{Kept, NoTurn};
 
 use crate::Turns;
 use declaration::Declaration;
@@ -32,6 +35,10 @@ pub fn take_step<A: Allocator, D: Allocator>(
 ) -> Result<Stepped, NoMemory>
     requires profile { profile_of watcher.old.world ≡ (meaning declaration.now).profile }
     ensures profile { profile_of watcher.new.world ≡ (meaning declaration.now).profile }
+    // Where it is told that the step was made, it was.
+    ensures made { IfOk result (λ stepped. stepped ≡ Kept → Goes (meaning declaration.now)
+        (machine_of watcher.old) (calls_of watcher.old) Event.Step
+        (machine_of watcher.new) (calls_of watcher.new)) }
     ensures counted { IfOk result (λ stepped. stepped ≢ NoTurn
         → turns.new.spent ≡ turns.old.spent + 1) }
     ensures limit { turns.new.limit ≡ turns.old.limit }

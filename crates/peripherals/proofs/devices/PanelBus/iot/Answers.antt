@@ -4,4 +4,4 @@ pub returns-clause-table : goal.returns-clause-table
 returns-clause-table c = rw (← c.in-Some.ensures.exact, c.in-Some.ensures.word) c.answer-answer.ensures
 
 pub returns-clause-device : goal.returns-clause-device
-returns-clause-device c = rw c.in-Some.ensures.word (c.after.ensures c.args.ac)
+returns-clause-device c = rw c.in-Some.ensures.word (c.go_on.ensures c.args.ac)

@@ -4,9 +4,9 @@ use Rattle.std.specs.Ordering.{nat_cmp}
 use Rattle.std.specs.BTreeMap.{get}
 use Rattle.wordset.specs.Lanes.{words}
 use Rattle.wordset.specs.Links.{links_of}
-use Rattle.facts.specs.Statements as said
-use Rattle.facts.specs.Statements.{Statement}
-use Rattle.facts.specs.Meaning.{equation_of, tracked_of}
+use Rattle.domain.specs.Statements as said
+use Rattle.domain.specs.Statements.{Statement}
+use Rattle.domain.specs.Meaning.{equation_of, tracked_of}
 use Rattle.analyser.specs.declared.kept.Line.{Line}
 use Rattle.analyser.specs.declared.kept.Kept.{Kept}
 use Rattle.analyser.specs.declared.table.Row.{Row}

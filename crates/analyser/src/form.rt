@@ -1,7 +1,7 @@
 //! Whether what is kept is of the form that the text of a certificate wants.
 
 ghost use Rattle.std.specs.Prelude.{◌≡◌, true, map};
-ghost use Rattle.facts.specs.Meaning.{equation_of};
+ghost use Rattle.domain.specs.Meaning.{equation_of};
 ghost use Rattle.certificate.specs.Reading.{Each, RiseFrom, IsTracked, IsEquation, IsStatement, place_of_equation};
 ghost use Rattle.analyser.specs.Claimed.{cell_of, said_of};
 

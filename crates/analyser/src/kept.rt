@@ -1,7 +1,7 @@
 //! Facts as they are kept: only as long as what they say.
 
 ghost use Rattle.std.specs.Prelude.{◌≡◌, ◌<◌, ◌≤◌, ◌+◌, ◌^◌, ◌++◌, length, map, true};
-ghost use Rattle.facts.specs.Meaning.{statement_of, offsets_of, equation_of};
+ghost use Rattle.domain.specs.Meaning.{statement_of, offsets_of, equation_of};
 ghost use Rattle.certificate.specs.Reading.{place_of_equation};
 ghost use Rattle.analyser.specs.Claimed.{cell_of, said_of, has_room};
 

@@ -2,8 +2,8 @@
 use Rattle.std.proofs.Common.{◌≡◌, ◌+◌, ◌<◌, Bool, true, false, List, [], ◌∷◌, ◌++◌, length, refl, ap, ◌∙◌, arith}
 use Rattle.std.specs.Prelude.{map, if◌then◌else◌}
 use Rattle.wordset.specs.Words.{Words}
-use Rattle.facts.specs.Facts.{Equation}
-use Rattle.facts.specs.Statements.{TrackedCell}
+use Rattle.domain.specs.Facts.{Equation}
+use Rattle.domain.specs.Statements.{TrackedCell}
 use Rattle.certificate.specs.declared.Version.{Version}
 use Rattle.certificate.specs.declared.lines.KeptLines.{KeptLines}
 use Rattle.certificate.specs.Spelling.{RoutineLine, FactLine, ExitLine, Line, Registers, RoutineIs, FactIs, ExitIs, CellIs, EquationIs, registers_of}

@@ -4,7 +4,7 @@ use Rattle.std.specs.Prelude.{if◌then◌else◌}
 use Rattle.std.proofs.lemmas.Bool.{cases_lt, true≢false, false≢true}
 use Rattle.std.proofs.lemmas.Bool.Decides.{eqb_tells}
 use Rattle.wordset.specs.Words.{Words, SameWords, nothing, everything, some_below, has_some}
-use Rattle.facts.specs.Facts.{Name, Ac, Cell, Equation}
+use Rattle.domain.specs.Facts.{Name, Ac, Cell, Equation}
 use Rattle.certificate.specs.declared.Version.{Version}
 use Rattle.certificate.specs.declared.Version.TheVariants.{One, Two}
 use Rattle.certificate.specs.Reading.{FitsVersion, IsEquation, place_of_name}

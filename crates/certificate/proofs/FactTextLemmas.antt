@@ -5,8 +5,8 @@ use Rattle.std.specs.Io.KnownBytes.{Appends}
 use Rattle.streams.specs.Bytes.{AppendsFront}
 use Rattle.streams.proofs.BytesLemmas.{front_after}
 use Rattle.std.proofs.lemmas.Bool.{eq-eqb, ne_eqb, cases_eq}
-use Rattle.facts.specs.Facts.{Equation}
-use Rattle.facts.specs.Statements.{TrackedCell}
+use Rattle.domain.specs.Facts.{Equation}
+use Rattle.domain.specs.Statements.{TrackedCell}
 use Rattle.certificate.specs.declared.Version.{Version}
 use Rattle.certificate.specs.Spelling.{RoutineLine, FactLine, ExitLine, Lines, fact_text_in, fact_text_at, Line, RoutineIs, FactIs, CellIs, EquationIs, registers_of, lines_of_fact, lines_of_exit, line_text, ended, all_ended}
 use Rattle.certificate.specs.Reading.{RiseFrom, Each, IsRoutine, AreLines}

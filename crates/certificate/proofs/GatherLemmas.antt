@@ -2,8 +2,8 @@
 -- says.
 use Rattle.std.proofs.Common.{◌≡◌, ◌+◌, ◌<◌, ◌≤◌, Bool, true, false, List, [], ◌∷◌, ◌++◌, refl, ap, ◌∙◌, sym, arith, append_assoc, append-nil}
 use Rattle.std.specs.Prelude.{not, ◌&&◌, ◌||◌, map, flat_map}
-use Rattle.facts.specs.Facts.{Equation}
-use Rattle.facts.specs.Statements.{TrackedCell}
+use Rattle.domain.specs.Facts.{Equation}
+use Rattle.domain.specs.Statements.{TrackedCell}
 use Rattle.certificate.specs.declared.Version.{Version}
 use Rattle.certificate.specs.Spelling.{RoutineLine, FactLine, ExitLine, Lines, version_text, text, Line, RoutineIs, FactIs, ExitIs, CellIs, EquationIs, End, details, lines_of_fact, lines_of_exit, lines_of, ended, all_ended}
 use Rattle.certificate.specs.Reading.{Each}

@@ -4,7 +4,7 @@ use Rattle.std.specs.Prelude.{if◌then◌else◌, codes}
 use Rattle.std.proofs.lemmas.Bool.{true≢false, false≢true, ne_eqb}
 use Rattle.word12.specs.Words.{octal_text}
 use Rattle.wordset.specs.Words.{Words, some_below, has_some}
-use Rattle.facts.specs.Facts.{Name, Ac, Cell}
+use Rattle.domain.specs.Facts.{Name, Ac, Cell}
 use Rattle.certificate.specs.declared.Version.{Version}
 use Rattle.certificate.specs.declared.Version.TheVariants.{One, Two}
 use Rattle.certificate.specs.Spelling.{begins, ends, mark, marks, digits, set_text, offsets_text, mq_text, name_text, Registers, Line, RoutineIs, FactIs, ExitIs, CellIs, EquationIs, End, words_text, rank_text, line_text}

@@ -7,7 +7,7 @@ use Rattle.certificate.specs.declared.Version.TheVariants.{One, Two}
 use Rattle.wordset.specs.Words.{Words, has_some, some_below}
 use Rattle.certificate.specs.Reading.{FitsVersion}
 use Rattle.certificate.specs.Line.{IsRegisters}
-use Rattle.facts.specs.Statements.{TrackedCell}
+use Rattle.domain.specs.Statements.{TrackedCell}
 use Rattle.certificate.specs.Spelling.{RoutineLine, set_text, digits, mq_text, offsets_text, Registers, FactIs, ExitIs, words_text, rank_text, routine_line, cell_line, line_text}
 use Rattle.certificate.specs.Fields.{EndsField}
 

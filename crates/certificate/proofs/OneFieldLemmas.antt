@@ -6,7 +6,7 @@ use Rattle.std.proofs.lemmas.List.{append_cancel_left}
 use Rattle.word12.specs.Words.{octal_text}
 use Rattle.wordset.specs.Words.{Words, SameWords, some_below}
 use Rattle.wordset.proofs.Tests.{IsSome, some_to, some_from, some_none_of, none_of_some}
-use Rattle.facts.specs.Facts.{Name, Ac, Cell}
+use Rattle.domain.specs.Facts.{Name, Ac, Cell}
 use Rattle.certificate.specs.Spelling.{digits, set_text, offsets_text, name_text, rank_text}
 use Rattle.certificate.specs.Reading.{place_of_name}
 use Rattle.certificate.specs.Fields.{run_text, NoDash, EndsField}

@@ -5,8 +5,8 @@ use Rattle.std.proofs.lemmas.Bool.{false≢true, eq-eqb}
 use Rattle.std.proofs.lemmas.List.{append_cancel_left}
 use Rattle.word12.specs.Words.{octal_text}
 use Rattle.wordset.specs.Words.{Words, SameWords, some_below, has_some}
-use Rattle.facts.specs.Facts.{Name, Ac, Cell, Equation}
-use Rattle.facts.specs.Statements.{TrackedCell}
+use Rattle.domain.specs.Facts.{Name, Ac, Cell, Equation}
+use Rattle.domain.specs.Statements.{TrackedCell}
 use Rattle.certificate.specs.declared.Version.{Version}
 use Rattle.certificate.specs.declared.Version.TheVariants.{One, Two}
 use Rattle.certificate.specs.Spelling.{RoutineLine, begins, ends, mark, marks, digits, set_text, offsets_text, mq_text, name_text, version_text, Registers, Line, RoutineIs, FactIs, ExitIs, CellIs, EquationIs, End, words_text, rank_text, routine_line, cell_line, equation_line, line_text}

@@ -10,8 +10,8 @@ use native.Mathlib.Numerals.{unary_clauses}
 use Rattle.wordset.specs.Words.{Words, SameWords, all_words, everything, difference, nothing, between, union, IsFirstFrom, HasNoneFrom}
 use Rattle.wordset.specs.Lanes.{words}
 use Rattle.wordset.proofs.SetLemmas.{words_are, all_past, all_everything}
-use Rattle.facts.specs.Statements.{TrackedCell, cell_at}
-use Rattle.facts.specs.Meaning.{offsets_of}
+use Rattle.domain.specs.Statements.{TrackedCell, cell_at}
+use Rattle.domain.specs.Meaning.{offsets_of}
 use Rattle.certificate.specs.declared.packed.Run.{Run}
 use Rattle.certificate.specs.declared.packed.Counts.{Counts}
 use Rattle.certificate.specs.declared.packed.PackedRegisters.{PackedRegisters}

@@ -3,9 +3,9 @@ use Rattle.std.proofs.Common.{◌≡◌, ℕ, ◌<◌, ◌==◌, Bool, true, fal
 use Rattle.std.specs.Prelude.{◌&&◌, if◌then◌else◌}
 use Rattle.std.proofs.lemmas.Bool.{true≢false, false≢true}
 use Rattle.wordset.specs.Words.{Words, SameWords}
-use Rattle.facts.specs.Facts.{Name, Ac, Cell}
-use Rattle.facts.specs.Statements.{TrackedCell, Statement, tracked, sets_of, fact_of, unknown}
-use Rattle.facts.specs.Same.{Agree}
+use Rattle.domain.specs.Facts.{Name, Ac, Cell}
+use Rattle.domain.specs.Statements.{TrackedCell, Statement, tracked, sets_of, fact_of, unknown}
+use Rattle.domain.specs.Same.{Agree}
 use Rattle.certificate.specs.Spelling.{RoutineLine, ExitLine, Lines}
 use Rattle.certificate.specs.Reading.{has_routine, rank_in, sites_in, writes_in, has_fact_in, fact_in, is_exit, has_exit_in, exit_in, certificate_of}
 use Rattle.certificate.specs.Exact.{Alike, SameRoutineLine, SameCell, SameStatement, SameFactLine, SameExitLine, SameLines, SameCertificate, MeaningLaw}

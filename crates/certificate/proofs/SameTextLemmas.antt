@@ -4,7 +4,7 @@ use Rattle.std.specs.Prelude.{not, ◌&&◌, if◌then◌else◌, codes, map, fl
 use Rattle.std.proofs.lemmas.Bool.{eq-eqb, cases_lt}
 use Rattle.word12.specs.Words.{octal_text}
 use Rattle.wordset.specs.Words.{Words, SameWords, some_below, has_some}
-use Rattle.facts.specs.Statements.{Statement}
+use Rattle.domain.specs.Statements.{Statement}
 use Rattle.certificate.specs.declared.Version.{Version}
 use Rattle.certificate.specs.declared.Version.TheVariants.{One, Two}
 use Rattle.certificate.specs.Spelling.{Lines, begins, ends, mark, marks, set_text, digits, offsets_text, mq_text, version_text, text, Registers, Line, RoutineIs, FactIs, ExitIs, CellIs, EquationIs, End, rank_text, words_text, equation_line, line_text, registers_of, details, lines_of_fact, lines_of_exit, lines_of, ended, all_ended}

@@ -1,7 +1,7 @@
 -- Texts of lines; what holds of lists alike; and lines in the other order.
 use Rattle.std.proofs.Common.{◌≡◌, ℕ, List, [], ◌∷◌, ◌++◌, refl, ◌∙◌, sym, append_assoc, append-nil}
 use Rattle.std.proofs.lemmas.List.Concat.{flat_map-append}
-use Rattle.facts.specs.Statements.{Statement}
+use Rattle.domain.specs.Statements.{Statement}
 use Rattle.certificate.specs.declared.Version.{Version}
 use Rattle.certificate.specs.Spelling.{Line, line_text, registers_of, ended, all_ended}
 use Rattle.certificate.specs.Reading.{Each, IsStatement}

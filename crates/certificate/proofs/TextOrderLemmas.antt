@@ -1,8 +1,8 @@
 -- The lines of a certificate come in order.
 use Rattle.std.proofs.Common.{◌≡◌, ℕ, ◌+◌, ◌*◌, ◌<◌, ◌≤◌, true, false, List, [], ◌∷◌, ◌++◌, length, refl, ap, ◌∙◌, sym, subst, arith}
 use Rattle.std.specs.Prelude.{map, flat_map}
-use Rattle.facts.specs.Facts.{Equation}
-use Rattle.facts.specs.Statements.{TrackedCell, Statement}
+use Rattle.domain.specs.Facts.{Equation}
+use Rattle.domain.specs.Statements.{TrackedCell, Statement}
 use Rattle.certificate.specs.declared.Version.{Version}
 use Rattle.certificate.specs.Spelling.{RoutineLine, FactLine, ExitLine, Lines, text, Line, RoutineIs, FactIs, ExitIs, CellIs, EquationIs, End, registers_of, details, lines_of_fact, lines_of_exit, lines_of}
 use Rattle.certificate.specs.Reading.{RiseFrom, place_of_equation, Each, IsTracked, IsEquation, IsStatement, IsRoutine, IsFactLine, IsExit, AreLines}

@@ -1,7 +1,7 @@
 -- What a line adds to what is said of a fact, and where there is room for it; it serves private contracts.
 use Rattle.std.specs.Prelude.{◌≡◌, ℕ, ◌+◌, ◌<◌, ◌≤◌, List, [], ◌∷◌, ◌++◌, length, drop, Some}
 use Rattle.wordset.specs.Words.{Words, everything}
-use Rattle.facts.specs.Statements.{Statement, fact_of}
+use Rattle.domain.specs.Statements.{Statement, fact_of}
 use Rattle.wordset.specs.Lanes.{words}
 use Rattle.certificate.specs.declared.Routine.{Routine}
 use Rattle.certificate.specs.Spelling.{Line, RoutineIs, FactIs, ExitIs, CellIs, EquationIs}

@@ -3,7 +3,7 @@ use Rattle.std.specs.Prelude.{ℕ, Bool, ◌||◌, Some, None}
 use Rattle.wordset.specs.Words.{Words, nothing, some_below}
 use Rattle.processor.specs.Runs.{Image}
 use Rattle.declaration.specs.Declaration.{Routine, Declaration}
-use Rattle.facts.specs.Facts.{Fact, Place}
+use Rattle.domain.specs.Facts.{Fact, Place}
 
 -- For each routine that is listed its rank, the addresses of the JMS words that call it and the cells that it and its
 -- callees may write; a fact at some addresses; and for some entries and offsets what holds when the routine returns so.

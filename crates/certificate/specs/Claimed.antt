@@ -1,6 +1,6 @@
 -- The lines of what is added to a certificate.
 use Rattle.wordset.specs.Lanes.{words}
-use Rattle.facts.specs.Meaning.{tracked_of, equation_of, offsets_of, statement_of}
+use Rattle.domain.specs.Meaning.{tracked_of, equation_of, offsets_of, statement_of}
 use Rattle.certificate.specs.declared.packed.Claim.{Claim}
 use Rattle.certificate.specs.declared.packed.Claim.TheVariants as claim
 use Rattle.certificate.specs.Spelling.{Line, RoutineIs, FactIs, ExitIs, CellIs, EquationIs, registers_of}

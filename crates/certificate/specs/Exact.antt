@@ -1,8 +1,8 @@
 -- One spelling has one meaning: which certificates say the same, and what holds of the texts that they have.
 use Rattle.std.specs.Prelude.{◌≡◌, ℕ, ◌<◌, ◌≤◌, ◌⊎◌, List, [], ◌∷◌, length}
 use Rattle.wordset.specs.Words.{SameWords, SameLinks}
-use Rattle.facts.specs.Statements.{TrackedCell, Statement}
-use Rattle.facts.specs.Same.{Agree}
+use Rattle.domain.specs.Statements.{TrackedCell, Statement}
+use Rattle.domain.specs.Same.{Agree}
 use Rattle.certificate.specs.declared.Version.{Version}
 use Rattle.certificate.specs.declared.CertificateFault.{CertificateFault}
 use Rattle.certificate.specs.Spelling.{RoutineLine, FactLine, ExitLine, Lines, text, Line, line_text}

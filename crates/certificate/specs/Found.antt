@@ -1,8 +1,8 @@
 -- How a line is found by its place, and what stands there; it serves private contracts.
 use Rattle.std.specs.Prelude.{◌≡◌, ℕ, ◌+◌, ◌≤◌, ◌<◌, ◌==◌, get_or, Bool, true, false, if◌then◌else◌, List, [], ◌∷◌, ◌++◌, length, map, Option, Some, None}
-use Rattle.facts.specs.Facts.{Fact, Equation}
+use Rattle.domain.specs.Facts.{Fact, Equation}
 use Rattle.wordset.specs.Words.{everything}
-use Rattle.facts.specs.Statements.{TrackedCell, Statement, fact_of, unknown}
+use Rattle.domain.specs.Statements.{TrackedCell, Statement, fact_of, unknown}
 use Rattle.wordset.specs.Lanes.{words}
 use Rattle.certificate.specs.declared.Version.{Version}
 use Rattle.certificate.specs.declared.Routine.{Routine}

@@ -1,7 +1,7 @@
 -- What the lines of a certificate after the first one say together. They stand in their order.
 use Rattle.std.specs.Prelude.{List, [], ◌∷◌}
-use Rattle.facts.specs.Facts.{Equation}
-use Rattle.facts.specs.Statements.{TrackedCell, Statement}
+use Rattle.domain.specs.Facts.{Equation}
+use Rattle.domain.specs.Statements.{TrackedCell, Statement}
 use Rattle.certificate.specs.declared.Version.{Version}
 use Rattle.certificate.specs.Spelling.{RoutineLine, FactLine, ExitLine, Lines, Registers, Line, RoutineIs, FactIs, ExitIs, CellIs, EquationIs}
 

@@ -1,8 +1,8 @@
 -- What may be added to a certificate, and what it says then.
 use Rattle.std.specs.Prelude.{◌≡◌, ℕ, ◌+◌, ◌*◌, ◌<◌, [], ◌∷◌, ◌++◌, length}
 use Rattle.wordset.specs.Lanes.{words}
-use Rattle.facts.specs.declared.fact.Fact.{Fact}
-use Rattle.facts.specs.Meaning.{statement_of, offsets_of}
+use Rattle.domain.specs.declared.fact.Fact.{Fact}
+use Rattle.domain.specs.Meaning.{statement_of, offsets_of}
 use Rattle.certificate.specs.declared.Routine.{Routine}
 use Rattle.certificate.specs.declared.Version.{Version}
 use Rattle.certificate.specs.declared.Version.TheVariants.{Two}

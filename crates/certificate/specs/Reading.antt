@@ -1,8 +1,8 @@
 -- Which lines make a certificate, and which certificate they make.
 use Rattle.std.specs.Prelude.{◌≡◌, ℕ, ◌+◌, ◌*◌, ◌<◌, ◌≤◌, ◌==◌, Bool, true, false, if◌then◌else◌, List, [], ◌∷◌, length, map, Option, Some, None}
 use Rattle.wordset.specs.Words.{Words, SameWords, nothing, everything, some_below, has_some}
-use Rattle.facts.specs.Facts.{Name, Ac, Cell, Equation, Fact}
-use Rattle.facts.specs.Statements.{TrackedCell, Statement, fact_of, unknown}
+use Rattle.domain.specs.Facts.{Name, Ac, Cell, Equation, Fact}
+use Rattle.domain.specs.Statements.{TrackedCell, Statement, fact_of, unknown}
 use Rattle.certificate.specs.declared.Version.{Version}
 use Rattle.certificate.specs.declared.Version.TheVariants.{One, Two}
 use Rattle.certificate.specs.Spelling.{RoutineLine, FactLine, ExitLine, Lines}

@@ -1,8 +1,8 @@
 -- A certificate line by line and the text that it has, as a sample of the spelling.
 use Rattle.std.specs.Prelude.{◌≡◌, ℕ, ◌==◌, ◌||◌, List, [], ◌∷◌, ◌++◌, codes}
 use Rattle.wordset.specs.Words.{one, nothing, everything, between}
-use Rattle.facts.specs.Facts.{Cell}
-use Rattle.facts.specs.Statements.{Statement}
+use Rattle.domain.specs.Facts.{Cell}
+use Rattle.domain.specs.Statements.{Statement}
 use Rattle.certificate.specs.declared.Version.TheVariants.{Two}
 use Rattle.certificate.specs.Spelling.{Lines, text}
 use Rattle.certificate.specs.Reading.{AreLines}

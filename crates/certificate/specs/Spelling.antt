@@ -3,8 +3,8 @@ use Rattle.std.specs.Prelude.{ℕ, ◌+◌, ◌-◌, ◌/◌, ◌%◌, ◌==◌,
 use Rattle.std.proofs.Common.{zero, suc}
 use Rattle.word12.specs.Words.{octal_text}
 use Rattle.wordset.specs.Words.{Words, some_below, has_some}
-use Rattle.facts.specs.Facts.{Name, Ac, Cell, Equation}
-use Rattle.facts.specs.Statements.{TrackedCell, Statement}
+use Rattle.domain.specs.Facts.{Name, Ac, Cell, Equation}
+use Rattle.domain.specs.Statements.{TrackedCell, Statement}
 use Rattle.certificate.specs.declared.Version.{Version}
 use Rattle.certificate.specs.declared.Version.TheVariants.{One, Two}
 

@@ -5,15 +5,15 @@ ghost use Rattle.word12.specs.Words.{octal_text};
 ghost use Rattle.std.specs.Option.{IsSomeAnd};
 ghost use Rattle.wordset.specs.Words.{Words, SameWords, SameLinks, some_below, has_some, everything};
 ghost use Rattle.wordset.specs.Links.{links_of};
-ghost use Rattle.facts.specs.Facts.{Name as Named};
-ghost use Rattle.facts.specs.Meaning.{name_of, offsets_of};
+ghost use Rattle.domain.specs.Facts.{Name as Named};
+ghost use Rattle.domain.specs.Meaning.{name_of, offsets_of};
 ghost use Rattle.certificate.specs.Spelling.{marks, set_text, digits, offsets_text, name_text, rank_text};
 ghost use Rattle.certificate.specs.Reading.{place_of_name};
 ghost use Rattle.certificate.specs.Packed.{Begins, added};
 ghost use Rattle.certificate.specs.Fields.{left, WasFirst, run_text, NoDash, EndsField};
 
 use crate::packed::{Run, Runs};
-use facts::{Name, Offsets};
+use domain::{Name, Offsets};
 use word12::{Link, Word};
 use wordset::Links;
 

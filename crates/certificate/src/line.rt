@@ -3,9 +3,9 @@
 ghost use Rattle.std.specs.Prelude.{ℕ, ◌≡◌, ◌+◌, ◌<◌, ◌≤◌, ◌↔◌, List, [], ◌++◌, length, true, codes, Some, IfSome, IsTrue};
 ghost use Rattle.std.specs.Option.{IsSomeAnd};
 ghost use Rattle.wordset.specs.Words.{Words, SameWords};
-ghost use Rattle.facts.specs.Facts.{Equation as Equal};
-ghost use Rattle.facts.specs.Statements.{TrackedCell as Tracked};
-ghost use Rattle.facts.specs.Meaning.{name_of, equation_of};
+ghost use Rattle.domain.specs.Facts.{Equation as Equal};
+ghost use Rattle.domain.specs.Statements.{TrackedCell as Tracked};
+ghost use Rattle.domain.specs.Meaning.{name_of, equation_of};
 ghost use Rattle.certificate.specs.declared.Version.{Version as Spelled};
 ghost use Rattle.certificate.specs.declared.packed.Run.{Run};
 ghost use Rattle.certificate.specs.Spelling.{RoutineLine as SaidRoutine, mq_text, Line as SaidLine, Registers as SaidRegisters, RoutineIs, FactIs, ExitIs, CellIs, EquationIs, End, routine_line, cell_line, equation_line, line_text, words_text};
@@ -18,7 +18,7 @@ ghost use Rattle.certificate.specs.Packed.{Begins, added, registers_at, said_at,
 use crate::Version;
 use crate::fields::Fields;
 use crate::packed::{Counts, PackedLine, PackedRegisters, PackedRoutine, Runs};
-use facts::{Equation, Name};
+use domain::{Equation, Name};
 use word12::Word;
 
 /// Adds the run or runs of what MQ may hold: in version 1 any word, and nothing stands for that.

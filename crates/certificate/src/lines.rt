@@ -2,8 +2,8 @@
 
 ghost use Rattle.std.specs.Prelude.{ℕ, ◌≡◌, ◌+◌, ◌<◌, ◌≤◌, ◌^◌, List, [], ◌∷◌, ◌++◌, length, map, drop, OnOk, OnErr, Some, IfSome, is_some, true, false};
 ghost use Rattle.std.specs.Prelude.{is_ok, if◌then◌else◌, ◌↔◌, IsTrue};
-ghost use Rattle.facts.specs.Meaning.{statement_of, offsets_of, tracked_cells, equation_of, meaning as fact_meaning};
-ghost use Rattle.facts.specs.Changes.{with_offsets};
+ghost use Rattle.domain.specs.Meaning.{statement_of, offsets_of, tracked_cells, equation_of, meaning as fact_meaning};
+ghost use Rattle.domain.specs.Changes.{with_offsets};
 ghost use Rattle.wordset.specs.Words.{everything};
 ghost use Rattle.certificate.specs.Spelling.{RoutineLine as SaidRoutine, Line as SaidLine, CellIs, EquationIs};
 ghost use Rattle.certificate.specs.Reading.{RiseFrom};
@@ -16,7 +16,7 @@ ghost use Rattle.certificate.specs.Found.{from_place, all_said, Keeps, unended, 
 use crate::Routine;
 use crate::packed::{Claim, PackedLine, PackedLines, Run, add, begin_exit, begin_fact, routine_of};
 use crate::progress::{LAST_PLACE, place_of};
-use facts::{Equation, Fact, TrackedCells};
+use domain::{Equation, Fact, TrackedCells};
 use std::alloc::{AllocError, Allocator};
 
 /// Lines in their order. Those that aren't details of another one have rising places, so that they

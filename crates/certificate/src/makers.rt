@@ -8,7 +8,7 @@ use crate::lines::KeptLines;
 use crate::packed::Claim;
 use crate::progress::{FIRST_EXIT, FIRST_FACT};
 use crate::{Certificate, Routine, Version};
-use facts::{Fact, TrackedCells};
+use domain::{Fact, TrackedCells};
 use std::alloc::Allocator;
 use thiserror::Error;
 use word12::Word;

@@ -2,7 +2,7 @@
 
 ghost use Rattle.std.specs.Prelude.{ℕ, ◌≡◌, ◌+◌, ◌<◌, ◌≤◌, List, [], ◌∷◌, ◌++◌, length, take, drop, true, false, is_some, IfOk, IfSome, OnOk, OnErr};
 ghost use Rattle.wordset.specs.Lanes.{words};
-ghost use Rattle.facts.specs.Meaning.{statement_of, offsets_of};
+ghost use Rattle.domain.specs.Meaning.{statement_of, offsets_of};
 ghost use Rattle.certificate.specs.declared.packed.Run.{Run};
 ghost use Rattle.certificate.specs.Spelling.{registers_of};
 ghost use Rattle.certificate.specs.Order.{is_detail, is_end};
@@ -15,7 +15,7 @@ ghost use Rattle.certificate.specs.Packed.{Begins, set_of_runs, added, set_at, o
 
 use crate::Routine;
 use arrayvec::ArrayVec;
-use facts::{Equation, Fact, Offsets, TrackedCell};
+use domain::{Equation, Fact, Offsets, TrackedCell};
 use std::alloc::{AllocError, Allocator};
 use std::marker::Model;
 use word12::Word;

@@ -1,7 +1,7 @@
 //! The lines of a certificate, one after another.
 
 ghost use Rattle.std.specs.Prelude.{ℕ, ◌≡◌, ◌+◌, ◌<◌, ◌≤◌, ◌^◌, ◌↔◌, List, [], ◌∷◌, length, true, false, IsTrue, IfOk};
-ghost use Rattle.facts.specs.Meaning.{equation_of};
+ghost use Rattle.domain.specs.Meaning.{equation_of};
 ghost use Rattle.certificate.specs.declared.packed.Run.{Run};
 ghost use Rattle.certificate.specs.Reading.{place_of_equation};
 ghost use Rattle.certificate.specs.Spelling.{Line as SaidLine};
@@ -12,7 +12,7 @@ ghost use Rattle.certificate.specs.Packed.{said_at, LiesWithin};
 use crate::line::read_line;
 use crate::packed::{PackedLine, Runs};
 use crate::{CertificateFault, Version};
-use facts::{Equation, Name};
+use domain::{Equation, Name};
 
 /// The place of a fact at 0000; those of routines are their entries.
 pub const FIRST_FACT: usize = 4096;

@@ -8,7 +8,7 @@ ghost use Rattle.word12.specs.Words.{octal_text};
 ghost use Rattle.wordset.specs.Words.{some_below};
 ghost use Rattle.wordset.specs.Lanes.{words};
 ghost use Rattle.wordset.specs.Links.{links_of};
-ghost use Rattle.facts.specs.Meaning.{name_of, equation_of, offsets_of};
+ghost use Rattle.domain.specs.Meaning.{name_of, equation_of, offsets_of};
 ghost use Rattle.certificate.specs.Spelling.{marks, set_text, digits, offsets_text, name_text, mq_text, version_text, End, rank_text, words_text, routine_line, cell_line, equation_line, line_text, ended, all_ended, FactIs, ExitIs};
 ghost use Rattle.certificate.specs.Line.{IsLine};
 ghost use Rattle.certificate.specs.Reading.{Each};
@@ -24,7 +24,7 @@ use crate::packed::{
     stand_apart,
 };
 use arrayvec::ArrayVec;
-use facts::{Equation, Name, Offsets};
+use domain::{Equation, Name, Offsets};
 use std::alloc::Allocator;
 use streams::{ByteSink, Failed, put};
 use word12::Word;

@@ -5,8 +5,8 @@ use Rattle.std.proofs.Math.Bool.{and-true}
 use Rattle.std.proofs.lemmas.Bool.{cases_eq, eq-eqb, ne_eqb}
 use Rattle.std.proofs.Math.Path.{fun_ext}
 use Rattle.wordset.specs.Words.{Words, nothing, everything, one, some_below}
-use Rattle.facts.specs.Facts.{Name, Ac, Cell, Fact}
-use Rattle.facts.specs.Statements.{TrackedCell, tracked, sets_of, fact_of}
+use Rattle.domain.specs.Facts.{Name, Ac, Cell, Fact}
+use Rattle.domain.specs.Statements.{TrackedCell, tracked, sets_of, fact_of}
 use Rattle.certificate.specs.Certificate.{Certificate}
 use Rattle.certificate.specs.declared.Version.TheVariants.{One}
 use Rattle.certificate.specs.Faults.{IsText}

@@ -6,8 +6,8 @@ use Rattle.instruct.specs.declared.Profile.TheVariants.{Pdp8I}
 use Rattle.instruct.specs.Instructions.{meaning_of}
 use Rattle.wordset.specs.Words.{Words, plus, nothing, everything, one, some_below, how_many}
 use Rattle.declaration.specs.Declaration.{Routine, IsDeclared}
-use Rattle.facts.specs.Facts.{Name, Ac, Cell, Fact, narrowed, possible, Entails, joined}
-use Rattle.facts.specs.Changes.{moved, assigned, copied, with_equations, with_offsets}
+use Rattle.domain.specs.Facts.{Name, Ac, Cell, Fact, narrowed, possible, Entails, joined}
+use Rattle.domain.specs.Changes.{moved, assigned, copied, with_equations, with_offsets}
 use Rattle.facts.specs.Outcomes.{Outcome, Goes, given, dca_case, part2, operated2}
 use Rattle.facts.specs.Starts.{HoldsOfStarts}
 use Rattle.facts.specs.declared.Condition.TheVariants.{V1, V2, V3, V4, V5, V6, V7, V8, V9, V10, V11, V12, V13, V14, V15}

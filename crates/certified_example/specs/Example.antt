@@ -4,7 +4,7 @@ use Rattle.instruct.specs.declared.Profile.TheVariants.{Pdp8I}
 use Rattle.wordset.specs.Words.{Words, nothing, everything, one}
 use Rattle.processor.specs.Runs.{Image}
 use Rattle.declaration.specs.Declaration.{Routine, Declaration}
-use Rattle.facts.specs.Facts.{Name, Ac, Cell, Fact}
+use Rattle.domain.specs.Facts.{Name, Ac, Cell, Fact}
 use Rattle.certificate.specs.Certificate.{Certificate}
 use Rattle.judge.specs.Conditions.{Case}
 

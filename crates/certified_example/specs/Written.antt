@@ -1,7 +1,7 @@
 -- The certificate of the small program line by line, and its text.
 use Rattle.std.specs.Prelude.{◌≡◌, ℕ, List, [], ◌∷◌, ◌++◌, codes}
 use Rattle.wordset.specs.Words.{Words, nothing, everything, one}
-use Rattle.facts.specs.Statements.{Statement, TrackedCell}
+use Rattle.domain.specs.Statements.{Statement, TrackedCell}
 use Rattle.certificate.specs.declared.Version.TheVariants.{One}
 use Rattle.certificate.specs.Faults.{IsText}
 use Rattle.certificate.specs.Spelling.{FactLine, Lines, text}

@@ -7,7 +7,7 @@ use Rattle.bin_tape.proofs.OneAnswer.{one_tape}
 use Rattle.peripherals.specs.Loading.{image_of}
 use Rattle.declaration.specs.Declaration.{Declaration}
 use Rattle.declaration.proofs.AnswerLemmas.{one_declaration}
-use Rattle.facts.specs.Statements.{Statement}
+use Rattle.domain.specs.Statements.{Statement}
 use Rattle.certificate.specs.declared.Version.{Version}
 use Rattle.certificate.specs.declared.Version.TheVariants.{One, Two}
 use Rattle.certificate.specs.Exact.{SameCertificate, SameLines}

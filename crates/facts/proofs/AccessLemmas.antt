@@ -6,7 +6,7 @@ use Rattle.processor.specs.Cells.{Cells}
 use Rattle.processor.specs.Machine.{State, place, instruction, steps_pointer}
 use Rattle.policy.specs.Calls.{Calls}
 use Rattle.policy.specs.Rules.{pointer_of, read_by, written_by}
-use Rattle.facts.specs.Facts.{Fact, Place}
+use Rattle.domain.specs.Facts.{Fact, Place}
 use Rattle.facts.specs.Outcomes.{targets}
 use Rattle.facts.specs.Conditions.{may_read, may_write, WritesAreDeclared}
 use Rattle.facts.specs.Access.{IsStateOf, ReadsAreForeseen, WritesAreForeseen, CallsAreForeseen, WordsAreForeseen, EntailedFactsHold}

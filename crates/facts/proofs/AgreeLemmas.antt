@@ -2,8 +2,8 @@
 use Rattle.std.proofs.Common.{Bool, refl, sym, ◌∙◌, subst}
 use Rattle.std.specs.Prelude.{IsTrue, ◌↔◌}
 use Rattle.wordset.specs.Words.{SameWords}
-use Rattle.facts.specs.Facts.{Name, Fact, Among, narrowed, Entails, EntailsOffsets}
-use Rattle.facts.specs.Same.{SameFact, Agree}
+use Rattle.domain.specs.Facts.{Name, Fact, Among, narrowed, Entails, EntailsOffsets}
+use Rattle.domain.specs.Same.{SameFact, Agree}
 use Rattle.facts.proofs.Alike.{narrowed_same, same_law}
 
 pub agree_refl : (f : Fact) → Agree f f

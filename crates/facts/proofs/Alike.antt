@@ -3,8 +3,8 @@ use Rattle.std.proofs.Common.{◌≡◌, ℕ, zero, suc, ◌<◌, ◌==◌, Bool
 use Rattle.std.specs.Prelude.{if◌then◌else◌}
 use Rattle.std.proofs.lemmas.Bool.{and_parts, and_from}
 use Rattle.wordset.specs.Words.{plus, minus, Words, SameWords, some_below, first_below, only_of, only, without}
-use Rattle.facts.specs.Facts.{Name, same, Equation, Fact, met_by, narrowed, Among, Knows, KnowsAll}
-use Rattle.facts.specs.Same.{SameFact, SameLaw}
+use Rattle.domain.specs.Facts.{Name, same, Equation, Fact, met_by, narrowed, Among, Knows, KnowsAll}
+use Rattle.domain.specs.Same.{SameFact, SameLaw}
 use Rattle.facts.proofs.Numbers.{plus_lt, minus_lt}
 
 both_ways : (a b : Bool) → (a ≡ true → b ≡ true) → (b ≡ true → a ≡ true) → a ≡ b

@@ -12,7 +12,7 @@ use Rattle.instruct.specs.Instructions.{Meaning, And, Tad, Isz, Dca, Jms, Jmp, G
 use Rattle.instruct.proofs.KindLemmas.{reference_meaning, group2_meaning}
 use Rattle.wordset.specs.Words.{Words, SameWords, IsWithin, nothing, only}
 use Rattle.processor.specs.Machine.{steps_pointer}
-use Rattle.facts.specs.Facts.{Fact, Place, is_routine}
+use Rattle.domain.specs.Facts.{Fact, Place, is_routine}
 use Rattle.facts.specs.Outcomes.{targets, meaning_at}
 use Rattle.facts.specs.Conditions.{may_read, may_write, reads_operand, stores, counts, CountsItsReturn, MayWrite}
 use Rattle.policy.specs.Rules.{HaltsDeclared}

@@ -9,7 +9,7 @@ use Rattle.instruct.specs.Bits.{is_indirect, named_cell}
 use Rattle.instruct.specs.Instructions.{Meaning, And, Tad, Isz, Dca, Jms, Jmp, Group1, Group2, Group3, Device, Undefined, kind_of, operation_of, reference}
 use Rattle.wordset.specs.Words.{Words, SameWords}
 use Rattle.declaration.specs.Declaration.{Declaration, IsListed}
-use Rattle.facts.specs.Facts.{Cell, Fact, Place, narrowed, possible, tape_word}
+use Rattle.domain.specs.Facts.{Cell, Fact, Place, narrowed, possible, tape_word}
 use Rattle.facts.specs.Outcomes.{meaning_at}
 use Rattle.facts.specs.Conditions.{calls, jumps, called, is_call, calls_through_index, returned_through, ReadsAreListed}
 use Rattle.facts.proofs.AskedLemmas.{refers_to, unless_memory}

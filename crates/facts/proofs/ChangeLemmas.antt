@@ -5,15 +5,16 @@ use Rattle.std.proofs.lemmas.List.{map-append}
 use Rattle.wordset.specs.Words.{minus, Words, SameWords, shifted, union}
 use Rattle.wordset.specs.Lanes.{words}
 use Rattle.wordset.specs.Links.{links_of}
-use Rattle.facts.specs.Facts.{Name, Ac, Cell, Equation, joined, outside, has_cell, is_outside}
-use Rattle.facts.specs.Same.{Agree}
+use Rattle.domain.specs.Facts.{Name, Ac, Cell, Equation, joined, outside, has_cell, is_outside}
+use Rattle.domain.specs.Same.{Agree}
 use Rattle.facts.proofs.Numbers.{minus_lt}
-use Rattle.facts.specs.declared.fact.Fact.{Fact as CodeFact}
+use Rattle.domain.specs.declared.fact.Fact.{Fact as CodeFact}
 use Rattle.facts.specs.declared.known.Known.{Known}
 use Rattle.facts.specs.declared.known.Change.{Change}
-use Rattle.facts.specs.declared.names.Equation.{Equation as CodeEquation}
+use Rattle.domain.specs.declared.names.Equation.{Equation as CodeEquation}
 use Rattle.facts.specs.declared.known.Change.TheVariants.{Unchanged, Replaced, Counted, Stored}
-use Rattle.facts.specs.Meaning.{known_of, known_set, equation_of, changed, IsUnchanged, source_words, cell_words, meaning, offsets_of}
+use Rattle.domain.specs.Meaning.{equation_of, cell_words, meaning, offsets_of}
+use Rattle.facts.specs.Knowing.{known_of, known_set, changed, IsUnchanged, source_words}
 
 pub has_cell_words : (lanes : List ℕ) (a : ℕ) → has_cell (words lanes) a ≡ words lanes a
 unfolding words

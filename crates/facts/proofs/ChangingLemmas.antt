@@ -8,16 +8,17 @@ use Rattle.std.specs.Borrow.{Bor}
 use Rattle.wordset.specs.Words.{minus, Words, SameWords, SameLinks, one, shifted, union}
 use Rattle.wordset.specs.Lanes.{words}
 use Rattle.wordset.specs.Links.{links_of}
-use Rattle.facts.specs.Facts.{Name, Ac, Cell, same, Fact, Equation, narrowed, has_cell}
-use Rattle.facts.specs.Changes.{moved_equations, free_of, cells_of, with_set, copied, moved, assigned, smeared, smeared_set, with_name, with_equations, with_mq, with_link, with_offsets}
-use Rattle.facts.specs.Same.{Agree}
+use Rattle.domain.specs.Facts.{Name, Ac, Cell, same, Fact, Equation, narrowed, has_cell}
+use Rattle.domain.specs.Changes.{moved_equations, free_of, cells_of, with_set, copied, moved, assigned, smeared, smeared_set, with_name, with_equations, with_mq, with_link, with_offsets}
+use Rattle.domain.specs.Same.{Agree}
 use Rattle.facts.proofs.Numbers.{minus_lt}
 use Rattle.facts.proofs.AgreeLemmas.{agree_trans, narrowed_agree}
-use Rattle.facts.specs.declared.offsets.Offsets.{Offsets}
+use Rattle.domain.specs.declared.offsets.Offsets.{Offsets}
 use Rattle.facts.specs.declared.known.Known.{Known}
-use Rattle.facts.specs.declared.names.Equation.{Equation as CodeEquation}
+use Rattle.domain.specs.declared.names.Equation.{Equation as CodeEquation}
 use Rattle.facts.specs.declared.known.Change.TheVariants.{Unchanged, Replaced, Counted, Stored}
-use Rattle.facts.specs.Meaning.{known_of, known_set, equation_of, offsets_of, changed, IsUnchanged, source_words}
+use Rattle.domain.specs.Meaning.{equation_of, offsets_of}
+use Rattle.facts.specs.Knowing.{known_of, known_set, changed, IsUnchanged, source_words}
 
 pub ac_sets : (k : Known) (set : Bor (List ℕ)) (new : Words) → SameWords (words set.now) new → (n : Name) → SameWords (known_set (record k { ac = set }) n) (with_set Ac new (known_set k) n)
 ac_sets k set new s Ac v lt = s v lt

@@ -13,8 +13,8 @@ use Rattle.processor.specs.Machine.{State, Answer, Answers, seen, place, steps_p
 use Rattle.declaration.specs.Declaration.{IsDeclared}
 use Rattle.policy.specs.Calls.{Calls}
 use Rattle.policy.specs.Runs.{GoesOn}
-use Rattle.facts.specs.Facts.{Cell, Fact, Place, StandsIn, Means, is_routine}
-use Rattle.facts.specs.Changes.{moved}
+use Rattle.domain.specs.Facts.{Cell, Fact, Place, StandsIn, Means, is_routine}
+use Rattle.domain.specs.Changes.{moved}
 use Rattle.facts.specs.Outcomes.{stepped, targets, outcomes_of, all_operated2, ac_after, link_after}
 use Rattle.facts.specs.Conditions.{may_write, WritesAreDeclared, EntriesAreKept}
 use Rattle.facts.specs.Law.{IsState, TopIsEntry, IsOrdinary, LandsIn, SomeOutcome, StepLaw}

@@ -14,9 +14,9 @@ use Rattle.instruct.specs.Devices.{device_operation}
 use Rattle.instruct.specs.Instructions.{Meaning, Group1, Group2, Undefined, DeviceAction, kind_of, meaning_of, instruction_of, operation_of, reference, reference_at, processor_action, device_action, device_meaning, mq_meaning, group3_meaning, operate_meaning, is_group1}
 use Rattle.instruct.proofs.KindLemmas.{reference_meaning, group1_meaning, group2_meaning, group3_meaning_of, device_meaning_of, undefined_meaning}
 use Rattle.wordset.specs.Words.{everything, one, plus}
-use Rattle.facts.specs.Facts.{Fact, Place}
+use Rattle.domain.specs.Facts.{Fact, Place}
 use Rattle.facts.specs.Outcomes.{Outcome, goes, operated1, operated3, device_outcomes, outcomes_of, outcomes_at}
-use Rattle.facts.specs.Same.{AgreeingOutcomes}
+use Rattle.facts.specs.Agreeing.{AgreeingOutcomes}
 
 pub refers : (os : List Outcome) (pl : Place) (f : Fact) (at w n : ℕ) (i : Bool) (o p : Operation) → i ≡ is_indirect w → n ≡ named_cell w at → p ≡ operation_of w → p ≡ o →
     AgreeingOutcomes os (outcomes_of pl f at (reference o i n)) → AgreeingOutcomes os (outcomes_of pl f at (reference_at (operation_of w) w at))

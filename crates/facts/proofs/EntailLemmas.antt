@@ -4,12 +4,13 @@ use Rattle.std.proofs.lemmas.Bool.{and_from, and_parts, eqb-true, eq-eqb, true�
 use Rattle.std.proofs.lemmas.List.{drop_more}
 use Rattle.std.proofs.Math.ListN.{drop_of_length-le}
 use Rattle.wordset.specs.Words.{plus, minus, Words, SameWords, IsWithin, only}
-use Rattle.facts.specs.Facts.{Name, Ac, Cell, same, Equation, Fact, narrowed, met_by, Knows, KnowsAll, Entails, EntailsOffsets}
-use Rattle.facts.specs.declared.fact.Fact.{Fact as CodeFact}
-use Rattle.facts.specs.declared.names.Equation.{Equation as CodeEquation}
-use Rattle.facts.specs.Statements.{TrackedCell, tracked}
+use Rattle.domain.specs.Facts.{Name, Ac, Cell, same, Equation, Fact, narrowed, met_by, Knows, KnowsAll, Entails, EntailsOffsets}
+use Rattle.domain.specs.declared.fact.Fact.{Fact as CodeFact}
+use Rattle.domain.specs.declared.names.Equation.{Equation as CodeEquation}
+use Rattle.domain.specs.Statements.{TrackedCell, tracked, cell_at}
 use Rattle.facts.specs.Showing.{Shows, EachWithin, EntailsRegisters}
-use Rattle.facts.specs.Meaning.{Meets, equation_of, statement_of, meaning}
+use Rattle.domain.specs.Meaning.{equation_of, statement_of, meaning}
+use Rattle.facts.specs.Knowing.{Meets}
 
 pub back_twice : (v k : ℕ) → v < 4096 → minus v (minus 0 k) ≡ plus v k
 back_twice v k h = omega arith
@@ -135,3 +136,19 @@ unspoken f n e old h v lt = go (same e.left n) (same e.right n) h (old v) _ _
     go false true h o x y = absurd (true≢false h)
     go false false h true x y = refl
     go false false h false x y = refl
+
+-- Tracked cells one by one.
+pub cell_dropped : (cells : List TrackedCell) (i : ℕ) → i < length cells → drop i cells ≡ cell_at cells i ∷ drop (i + 1) cells
+cell_dropped cells i h = drop_more cells i _ h
+
+pub each_step : (f : Fact) (cells : List TrackedCell) (i : ℕ) → i < length cells → IsWithin (narrowed f (Cell (cell_at cells i).address)) (cell_at cells i).set →
+    (EachWithin f (drop i cells) ↔ EachWithin f cells) → (EachWithin f (drop (i + 1) cells) ↔ EachWithin f cells)
+each_step f cells i lt w h = (
+  λ r. h.0 (subst (EachWithin f) (sym (cell_dropped cells i lt)) (w, r)),
+  λ a. (let p : EachWithin f (cell_at cells i ∷ drop (i + 1) cells) = subst (EachWithin f) (cell_dropped cells i lt) (h.1 a) in p.1),
+)
+
+pub each_fails : (f : Fact) (cells : List TrackedCell) (i : ℕ) → i < length cells → (IsWithin (narrowed f (Cell (cell_at cells i).address)) (cell_at cells i).set → ⊥) →
+    (EachWithin f (drop i cells) ↔ EachWithin f cells) → IsTrue false ↔ EachWithin f cells
+each_fails f cells i lt not h =
+    not_true (λ a. (let p : EachWithin f (cell_at cells i ∷ drop (i + 1) cells) = subst (EachWithin f) (cell_dropped cells i lt) (h.1 a) in not p.0))

@@ -2,8 +2,8 @@ use Rattle.std.proofs.Common.{◌≡◌, ℕ, ◌<◌, ◌==◌, Bool, true, fal
 use Rattle.std.specs.Prelude.{if◌then◌else◌, nat_lt}
 use Rattle.std.proofs.lemmas.Bool.{and_from, cases_Bool, eqb-true, ne_eqb, true≢false, false≢true}
 use Rattle.wordset.specs.Words.{plus, minus, Words, union, shifted}
-use Rattle.facts.specs.Facts.{Name, Ac, Cell, same, Equation, Fact, Values, IsTrueOf, AllTrue, Holds, met_by, narrowed, Among, Knows, KnowsAll, Entails, has_cell, is_outside, outside, joined}
-use Rattle.facts.specs.Changes.{moved_equations, with_set, moved, free_of, assigned, cells_of, smeared_set, smeared, oriented, copy_of, copied, with_equations}
+use Rattle.domain.specs.Facts.{Name, Ac, Cell, same, Equation, Fact, Values, IsTrueOf, AllTrue, Holds, met_by, narrowed, Among, Knows, KnowsAll, Entails, has_cell, is_outside, outside, joined}
+use Rattle.domain.specs.Changes.{moved_equations, with_set, moved, free_of, assigned, cells_of, smeared_set, smeared, oriented, copy_of, copied, with_equations}
 use Rattle.facts.proofs.Numbers.{minus_plus, moved_number, or_left, or_right, only_tells}
 
 pub same_true : (m n : Name) → same m n ≡ true → m ≡ n

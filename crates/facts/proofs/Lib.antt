@@ -7,7 +7,6 @@ pub mod Covers
 pub mod Starting
 pub mod Alike
 pub mod EntailLemmas
-pub mod TrackingLemmas
 pub mod ChangeLemmas
 pub mod StartLemmas
 pub mod AgreeLemmas

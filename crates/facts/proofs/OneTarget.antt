@@ -4,7 +4,7 @@ use Rattle.std.specs.Prelude.{if◌then◌else◌}
 use Rattle.std.proofs.lemmas.Bool.{eq-eqb, eqb-true, ne_eqb, cases_eq}
 use Rattle.wordset.specs.Words.{Words, SameWords, one, only, only_of, first_below, some_below, without}
 use Rattle.wordset.proofs.Tests.{both_ways, some_from, some_none_of}
-use Rattle.facts.specs.Facts.{Place, Fact, words_in}
+use Rattle.domain.specs.Facts.{Place, Fact, words_in}
 use Rattle.facts.specs.Outcomes.{words_at, targets}
 use Rattle.facts.proofs.Alike.{only_same}
 use Rattle.facts.proofs.Numbers.{only_tells}

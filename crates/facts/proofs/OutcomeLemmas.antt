@@ -2,10 +2,11 @@
 use Rattle.std.proofs.Common.{◌≡◌, ℕ, ◌+◌, ◌-◌, ◌<◌, ◌%◌, ◌==◌, Bool, true, false, not, ◌&&◌, Some, List, [], ◌∷◌, ◌++◌, refl, sym, ap, ◌∙◌, subst, arith}
 use Rattle.std.specs.Prelude.{if◌then◌else◌}
 use Rattle.wordset.specs.Words.{plus, minus, Words, SameWords, one, everything, has_some, without, shifted}
-use Rattle.facts.specs.Facts.{Ac, Cell, Fact, Place, narrowed}
+use Rattle.domain.specs.Facts.{Ac, Cell, Fact, Place, narrowed}
 use Rattle.facts.specs.Outcomes.{Outcome, Goes, CallsTo, Returns, alive, given, goes, isz_case}
-use Rattle.facts.specs.Changes.{moved, with_name, with_offsets}
-use Rattle.facts.specs.Same.{Agree, AgreeingOutcome, AgreeingOutcomes}
+use Rattle.domain.specs.Changes.{moved, with_name, with_offsets}
+use Rattle.domain.specs.Same.{Agree}
+use Rattle.facts.specs.Agreeing.{AgreeingOutcome, AgreeingOutcomes}
 use Rattle.facts.proofs.Numbers.{minus_lt}
 use Rattle.facts.proofs.Alike.{some_same}
 use Rattle.facts.proofs.AgreeLemmas.{narrowed_agree}

@@ -3,9 +3,9 @@ use Rattle.std.proofs.Common.{◌≡◌, ℕ, ◌+◌, ◌-◌, ◌/◌, ◌<◌
 use Rattle.std.specs.Prelude.{if◌then◌else◌, bit_and, bit_or}
 use Rattle.wordset.specs.Words.{minus, Words, SameWords, SameLinks, everything, all_words, some_below, sums, carries, toggled, ands, ors, or_any, images, images_at, shifted, without}
 use Rattle.std.proofs.lemmas.Bool.{lt-ltb}
-use Rattle.facts.specs.Facts.{Cell, Fact, Place, narrowed, words_in, own_words, is_routine, tape_word}
+use Rattle.domain.specs.Facts.{Cell, Fact, Place, narrowed, words_in, own_words, is_routine, tape_word}
 use Rattle.facts.specs.Outcomes.{words_at}
-use Rattle.facts.specs.Same.{Agree}
+use Rattle.domain.specs.Same.{Agree}
 use Rattle.facts.proofs.Alike.{some_same}
 use Rattle.facts.proofs.Numbers.{minus_lt}
 use Rattle.facts.proofs.AgreeLemmas.{narrowed_agree}

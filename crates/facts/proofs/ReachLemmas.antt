@@ -3,10 +3,11 @@ use Rattle.std.proofs.Common.{◌≡◌, ℕ, Bool, true, false, ◌&&◌, List,
 use Rattle.std.proofs.lemmas.Bool.{eq-eqb}
 use Rattle.wordset.specs.Words.{Words, SameWords, everything, shifted}
 use Rattle.processor.specs.Machine.{steps_pointer}
-use Rattle.facts.specs.Facts.{Cell, Fact, Place, narrowed, words_in, is_routine}
-use Rattle.facts.specs.Changes.{moved}
+use Rattle.domain.specs.Facts.{Cell, Fact, Place, narrowed, words_in, is_routine}
+use Rattle.domain.specs.Changes.{moved}
 use Rattle.facts.specs.Outcomes.{Outcome, Returns, stepped, targets, alive, given, goes, jmp}
-use Rattle.facts.specs.Same.{Agree, AgreeingOutcomes}
+use Rattle.domain.specs.Same.{Agree}
+use Rattle.facts.specs.Agreeing.{AgreeingOutcomes}
 
 pub step_yes : {k : Fact} (i : Bool) (c : ℕ) (f : Fact) → steps_pointer i c ≡ true → Agree k (moved (Cell c) 1 f) → Agree k (stepped i c f)
 step_yes i c f e h = rw e h

@@ -5,10 +5,11 @@ use Rattle.std.proofs.lemmas.Bool.Decides.{nat_tests}
 use Rattle.instruct.specs.Bits.{has_bit}
 use Rattle.instruct.specs.Operates.{MqOperate, mq_operate_of}
 use Rattle.wordset.specs.Words.{Words, SameWords, everything, between, one, plus}
-use Rattle.facts.specs.Facts.{Name, Ac, Fact, same}
-use Rattle.facts.specs.Changes.{moved, assigned, with_name, with_mq}
+use Rattle.domain.specs.Facts.{Name, Ac, Fact, same}
+use Rattle.domain.specs.Changes.{moved, assigned, with_name, with_mq}
 use Rattle.facts.specs.Outcomes.{Outcome, goes, changes_ac, related1, operated3}
-use Rattle.facts.specs.Same.{Agree, AgreeingOutcomes}
+use Rattle.domain.specs.Same.{Agree}
+use Rattle.facts.specs.Agreeing.{AgreeingOutcomes}
 
 pub related_none : {k : Fact} (w : ℕ) (f : Fact) (s : Words) → changes_ac w ≡ true → Agree k (assigned Ac s f) → Agree k (with_name Ac s (related1 w f))
 unfolding assigned

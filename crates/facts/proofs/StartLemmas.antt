@@ -10,15 +10,15 @@ use Rattle.wordset.specs.declared.links.Links.{Links}
 use Rattle.processor.specs.Runs.{Image}
 use Rattle.bin_tape.specs.Image.{word_at, HoldsWords}
 use Rattle.peripherals.specs.Loading.{image_of}
-use Rattle.facts.specs.Facts.{Ac, Cell, Fact, Place}
-use Rattle.facts.specs.Statements.{TrackedCell, tracked, cell_at}
+use Rattle.domain.specs.Facts.{Ac, Cell, Fact, Place}
+use Rattle.domain.specs.Statements.{TrackedCell, tracked, cell_at}
 use Rattle.facts.specs.Starts.{each_below, has_each, are_always, holds_before, AreTapeWords, HoldsOfStarts}
 use Rattle.facts.specs.Showing.{MayStart, AreCells, allows_all}
 use Rattle.facts.proofs.Starting.{each_from, each_at, start_law}
 use Rattle.facts.proofs.EntailLemmas.{not_true}
-use Rattle.facts.proofs.TrackingLemmas.{cell_dropped}
-use Rattle.facts.specs.declared.fact.Fact.{Fact as CodeFact}
-use Rattle.facts.specs.Meaning.{statement_of, meaning}
+use Rattle.facts.proofs.EntailLemmas.{cell_dropped}
+use Rattle.domain.specs.declared.fact.Fact.{Fact as CodeFact}
+use Rattle.domain.specs.Meaning.{statement_of, meaning}
 
 pub both_ways : (a b : Bool) → (a ≡ true → b ≡ true) → (b ≡ true → a ≡ true) → a ≡ b
 both_ways true b h g = sym (h refl)

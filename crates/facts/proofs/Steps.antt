@@ -10,8 +10,8 @@ use Rattle.processor.specs.Cells.{Cells, updated}
 use Rattle.processor.specs.Machine.{State, seen, place, steps_pointer, next_pc}
 use Rattle.declaration.specs.Declaration.{IsDeclared}
 use Rattle.policy.specs.Calls.{Calls}
-use Rattle.facts.specs.Facts.{Name, Ac, Cell, same, Fact, Values, Holds, narrowed, values, Place, OwnWord, StandsIn, Means, is_routine, words_in}
-use Rattle.facts.specs.Changes.{with_set, moved, assigned, smeared, with_equations, with_mq, with_link, with_offsets, with_name}
+use Rattle.domain.specs.Facts.{Name, Ac, Cell, same, Fact, Values, Holds, narrowed, values, Place, OwnWord, StandsIn, Means, is_routine, words_in}
+use Rattle.domain.specs.Changes.{with_set, moved, assigned, smeared, with_equations, with_mq, with_link, with_offsets, with_name}
 use Rattle.facts.specs.Outcomes.{stepped, targets, words_at, Outcome, Goes, given, alive, goes, tad_word, tad_case, tad_fact, tad, isz_case, dca_case, jmp, anded, ac_after, link_after, changes_ac, related1, operated1, part2, related2, operated2, all_operated2, operated3, device_outcomes}
 use Rattle.facts.specs.Law.{IsState, TopIsEntry, LandsIn, SomeOutcome}
 use Rattle.facts.proofs.Numbers.{minus_plus, minus_other, plus_lt, or_left, or_right, only_tells, some_from}

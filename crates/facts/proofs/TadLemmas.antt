@@ -2,10 +2,10 @@
 use Rattle.std.proofs.Common.{◌≡◌, ℕ, Bool, true, false, Option, Some, None, [], ◌∷◌, refl, ap, ◌∙◌}
 use Rattle.std.specs.Prelude.{if◌then◌else◌}
 use Rattle.wordset.specs.Words.{Words, SameLinks, sums, carries, toggled, only}
-use Rattle.facts.specs.Facts.{Ac, Cell, Fact, Place, narrowed}
-use Rattle.facts.specs.Changes.{moved, assigned, with_equations, with_link}
+use Rattle.domain.specs.Facts.{Ac, Cell, Fact, Place, narrowed}
+use Rattle.domain.specs.Changes.{moved, assigned, with_equations, with_link}
 use Rattle.facts.specs.Outcomes.{words_at, tad_word, tad_case, tad_fact}
-use Rattle.facts.specs.Same.{Agree}
+use Rattle.domain.specs.Same.{Agree}
 
 pub tad_related : (pl : Place) (f : Fact) (v : Words) (y a : ℕ) (w : Option ℕ) (k : Fact) → pl.declaration.variable y ≡ true →
     Agree k (with_equations (record { left = Ac; right = Cell y; more = a } ∷ []) (assigned Ac (sums (narrowed f Ac) v) f)) → Agree k (tad_case pl f v (Some y) (Some a) w)

@@ -6,7 +6,7 @@ use Rattle.processor.specs.Machine.{State, instruction, place}
 use Rattle.declaration.specs.Declaration.{IsDeclared}
 use Rattle.policy.specs.Calls.{Calls}
 use Rattle.policy.specs.Rules.{read_by, written_by}
-use Rattle.facts.specs.Facts.{Fact, Place, Means, possible, Entails, EntailsOffsets}
+use Rattle.domain.specs.Facts.{Fact, Place, Means, possible, Entails, EntailsOffsets}
 use Rattle.facts.specs.Conditions.{may_read, may_write, called, WritesAreDeclared}
 use Rattle.facts.specs.Law.{IsState, IsBegun, TopIsEntry}
 

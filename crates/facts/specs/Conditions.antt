@@ -7,7 +7,7 @@ use Rattle.wordset.specs.Words.{Words, only}
 use Rattle.processor.specs.Machine.{steps_pointer}
 use Rattle.declaration.specs.Declaration.{Routine, Declaration, IsListed}
 use Rattle.policy.specs.Rules.{pointer_of, IsSupported, HaltsDeclared}
-use Rattle.facts.specs.Facts.{Fact, Place}
+use Rattle.domain.specs.Facts.{Fact, Place}
 use Rattle.facts.specs.Outcomes.{targets}
 use Rattle.facts.specs.declared.Condition.{Condition}
 use Rattle.facts.specs.declared.Condition.TheVariants.{V3, V5, V6, V13, V14}

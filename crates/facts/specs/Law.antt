@@ -6,7 +6,7 @@ use Rattle.processor.specs.Machine.{State, Answer, instruction, Step}
 use Rattle.declaration.specs.Declaration.{Declaration, IsDeclared}
 use Rattle.policy.specs.Calls.{Calls}
 use Rattle.policy.specs.Runs.{GoesOn}
-use Rattle.facts.specs.Facts.{Fact, Place, Means}
+use Rattle.domain.specs.Facts.{Fact, Place, Means}
 use Rattle.facts.specs.Outcomes.{Outcome, Goes, CallsTo, Returns, outcomes_of}
 use Rattle.facts.specs.Conditions.{WritesAreDeclared, EntriesAreKept}
 

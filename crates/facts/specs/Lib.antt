@@ -1,14 +1,10 @@
-pub mod Facts
-pub mod Statements
-pub mod Tracking
-pub mod Changes
 pub mod Outcomes
 pub mod Conditions
 pub mod Law
 pub mod Starts
-pub mod Same
-pub mod Meaning
 pub mod Showing
 pub mod Places
 pub mod Slots
 pub mod Access
+pub mod Knowing
+pub mod Agreeing

@@ -5,8 +5,8 @@ use Rattle.instruct.specs.Operates.{operate1_of, skips_of, is_halt, MqOperate, M
 use Rattle.instruct.specs.Instructions.{Meaning, meaning_of, And, Tad, Isz, Dca, Jms, Jmp, Group1, Group2, Group3, Device, Undefined, DeviceAction, Skips, Ors, Clears, Takes, Leaves}
 use Rattle.wordset.specs.Words.{plus, Words, everything, one, some_below, has_some, has_link, without, shifted, sums, carries, toggled, only, ands, ors, or_any, images}
 use Rattle.processor.specs.Machine.{steps_pointer, next_pc}
-use Rattle.facts.specs.Facts.{Ac, Cell, Fact, Place, narrowed, words_in, is_routine}
-use Rattle.facts.specs.Changes.{moved, assigned, smeared, copied, with_equations, with_mq, with_link, with_offsets, with_name}
+use Rattle.domain.specs.Facts.{Ac, Cell, Fact, Place, narrowed, words_in, is_routine}
+use Rattle.domain.specs.Changes.{moved, assigned, smeared, copied, with_equations, with_mq, with_link, with_offsets, with_name}
 
 -- The fact that the access sees: a stepped pointer counts up first.
 abbrev pub stepped : Bool → ℕ → Fact → Fact

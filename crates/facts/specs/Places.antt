@@ -5,7 +5,7 @@ use Rattle.wordset.specs.Lanes.{words}
 use Rattle.peripherals.specs.Loading.{image_of}
 use Rattle.declaration.specs.Declaration.{Routine}
 use Rattle.declaration.specs.Kept.{Kept, meaning}
-use Rattle.facts.specs.Facts as spec
+use Rattle.domain.specs.Facts as spec
 use Rattle.facts.specs.declared.place.Running.{Running}
 use Rattle.facts.specs.declared.place.Place.{Place}
 

@@ -1,8 +1,8 @@
 -- Parts of an entailment, as the code tests them.
 use Rattle.std.specs.Prelude.{◌≡◌, ℕ, ◌<◌, Bool, true, ◌&&◌, Some, List, [], ◌∷◌}
 use Rattle.wordset.specs.Words.{plus, only, IsWithin, IsLinkWithin}
-use Rattle.facts.specs.Facts.{Ac, Cell, Equation, Fact, narrowed}
-use Rattle.facts.specs.Statements.{TrackedCell, tracked}
+use Rattle.domain.specs.Facts.{Ac, Cell, Equation, Fact, narrowed}
+use Rattle.domain.specs.Statements.{TrackedCell, tracked}
 use Rattle.facts.specs.Starts.{each_below, has_each}
 use Rattle.processor.specs.Runs.{Image}
 

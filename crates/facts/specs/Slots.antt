@@ -2,7 +2,7 @@
 use Rattle.std.specs.Prelude.{List, [], ◌∷◌, ◌++◌, Option, Some, None}
 use Rattle.wordset.specs.Lanes.{words}
 use Rattle.facts.specs.Outcomes as spec
-use Rattle.facts.specs.Meaning.{known_of}
+use Rattle.facts.specs.Knowing.{known_of}
 use Rattle.facts.specs.declared.outcome.Outcome.{Outcome}
 use Rattle.facts.specs.declared.outcome.Outcome.TheVariants.{Goes, Calls, Returns}
 

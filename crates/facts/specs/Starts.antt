@@ -3,7 +3,7 @@ use Rattle.std.specs.Prelude.{◌≡◌, ℕ, ◌%◌, ◌<◌, ◌≤◌, ◌==
 use Rattle.wordset.specs.Words.{plus, Words, some_below}
 use Rattle.processor.specs.Machine.{State}
 use Rattle.processor.specs.Runs.{Image, IsStart}
-use Rattle.facts.specs.Facts.{Name, Ac, Cell, same, Equation, Fact, Place, Means}
+use Rattle.domain.specs.Facts.{Name, Ac, Cell, same, Equation, Fact, Place, Means}
 
 -- The fact holds of every start of the machine, with no call open.
 abbrev pub HoldsOfStarts : Place → Fact → Type 0

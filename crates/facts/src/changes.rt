@@ -5,15 +5,15 @@ ghost use Rattle.std.specs.Prelude.{ℕ, ◌≡◌, ◌≤◌, ◌+◌, ◌-◌,
 ghost use Rattle.wordset.specs.Words.{one, shifted};
 ghost use Rattle.wordset.specs.Lanes.{words};
 ghost use Rattle.wordset.specs.Links.{links_of};
-ghost use Rattle.facts.specs.Facts.{Ac, Cell};
-ghost use Rattle.facts.specs.Changes.{copied, moved, assigned, smeared, with_equations, with_name, with_mq, with_link, with_offsets};
-ghost use Rattle.facts.specs.Same.{Agree};
-ghost use Rattle.facts.specs.Meaning.{equation_of, offsets_of, known_of, IsUnchanged};
+ghost use Rattle.domain.specs.Facts.{Ac, Cell};
+ghost use Rattle.domain.specs.Changes.{copied, moved, assigned, smeared, with_equations, with_name, with_mq, with_link, with_offsets};
+ghost use Rattle.domain.specs.Same.{Agree};
+ghost use Rattle.domain.specs.Meaning.{equation_of, offsets_of};
+ghost use Rattle.facts.specs.Knowing.{known_of, IsUnchanged};
 
 use crate::equations::{Equations, add_all, add_free, copy_to, free, free_of_cells, raise};
 use crate::known::{Change, Known};
-use crate::names::{Equation, Name};
-use crate::offsets::Offsets;
+use domain::{Equation, Name, Offsets};
 use word12::Word;
 use wordset::{Links, WordSet};
 

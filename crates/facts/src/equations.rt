@@ -3,12 +3,12 @@
 ghost use Rattle.std.specs.Prelude.{◌≡◌, ◌≤◌, ◌+◌, ◌++◌, length, map};
 ghost use Rattle.arrayvec.specs.ArrayVec.{array_vec_len};
 ghost use Rattle.wordset.specs.Lanes.{words};
-ghost use Rattle.facts.specs.Facts.{same, has_cell, is_outside, outside};
-ghost use Rattle.facts.specs.Changes.{moved_equations, free_of, cells_of, copied};
-ghost use Rattle.facts.specs.Meaning.{name_of, equation_of};
+ghost use Rattle.domain.specs.Facts.{same, has_cell, is_outside, outside};
+ghost use Rattle.domain.specs.Changes.{moved_equations, free_of, cells_of, copied};
+ghost use Rattle.domain.specs.Meaning.{name_of, equation_of};
 
-use crate::names::{Equation, Name, is_same_name, negated, turned};
 use arrayvec::ArrayVec;
+use domain::{Equation, Name, is_same_name, negated, turned};
 use word12::Word;
 use wordset::WordSet;
 

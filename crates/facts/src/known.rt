@@ -8,19 +8,17 @@ ghost use Rattle.std.specs.Prelude.{ℕ, false, ◌≡◌, ◌<◌, ◌≤◌, �
 ghost use Rattle.wordset.specs.Words.{Words, SameWords, IsWithin, one, plus, shifted, union};
 ghost use Rattle.wordset.specs.Lanes.{words};
 ghost use Rattle.wordset.specs.Links.{links_of};
-ghost use Rattle.facts.specs.Facts.{Ac, Cell, same, narrowed, Among, Knows, KnowsAll, Entails, EntailsOffsets, joined};
-ghost use Rattle.facts.specs.Changes.{moved, assigned, smeared, with_equations, with_name, with_mq, with_link, with_offsets};
-ghost use Rattle.facts.specs.Statements.{cell_at};
-ghost use Rattle.facts.specs.Same.{Agree};
-ghost use Rattle.facts.specs.Meaning.{name_of, equation_of, tracked_cells, offsets_of, meaning, cell_words, source_words, changed, known_of, Meets, IsUnchanged};
+ghost use Rattle.domain.specs.Facts.{Ac, Cell, same, narrowed, Among, Knows, KnowsAll, Entails, EntailsOffsets, joined};
+ghost use Rattle.domain.specs.Changes.{moved, assigned, smeared, with_equations, with_name, with_mq, with_link, with_offsets};
+ghost use Rattle.domain.specs.Statements.{cell_at};
+ghost use Rattle.domain.specs.Same.{Agree};
+ghost use Rattle.domain.specs.Meaning.{name_of, equation_of, tracked_cells, offsets_of, meaning, cell_words};
+ghost use Rattle.facts.specs.Knowing.{source_words, changed, known_of, Meets, IsUnchanged};
 ghost use Rattle.facts.specs.Showing.{Shows, EachWithin, EntailsRegisters};
 
 use crate::equations::{Equations, add_all, has_cell, keep_outside};
-use crate::fact::Fact;
-use crate::names::{Equation, Name, is_same_equation, is_same_name, negated};
-use crate::offsets::Offsets;
 use crate::room::Room;
-use crate::tracking::TrackedCells;
+use domain::{Equation, Fact, Name, Offsets, TrackedCells, is_same_equation, is_same_name, negated};
 use word12::Word;
 use wordset::{Links, WordSet};
 

@@ -1,7 +1,7 @@
 //! Words that are worked out into places which are lent for them.
 
 ghost use Rattle.std.specs.Prelude.{◌≡◌};
-ghost use Rattle.wordset.specs.Words.{SameWords, SameLinks, between, one, all_words, shifted, without, sums, carries, ands, or_any, images};
+ghost use Rattle.wordset.specs.Words.{SameWords, SameLinks, one, all_words, shifted, without, sums, carries, ands, or_any, images};
 ghost use Rattle.wordset.specs.Lanes.{words};
 ghost use Rattle.wordset.specs.Links.{links_of, carries_of};
 ghost use Rattle.wordset.specs.Operate.{accumulator_after, link_after};
@@ -35,19 +35,6 @@ pub(crate) fn put_all(place: &mut WordSet) -> &WordSet
 {
     *place = WordSet::all();
     place
-}
-
-/// Puts the words from one to another, both of them, into their place; none where the second is the
-/// lesser.
-pub(crate) fn put_row(place: &mut WordSet, first: Word, last: Word)
-    ensures { words place.new ≡ between first last }
-{
-    if first.index() == 0 && last.index() == 4095 {
-        *place = WordSet::all();
-    } else {
-        *place = WordSet::empty();
-        place.insert_range(first, last);
-    }
 }
 
 /// Puts the sums a + b, modulo 4096, of the words a of one set and b of another into their place, and

@@ -4,7 +4,7 @@
 ghost use Rattle.facts.specs.Access.{CallsAreForeseen, EntailedFactsHold, ReadsAreForeseen, WordsAreForeseen, WritesAreForeseen};
 ghost use Rattle.facts.specs.Law.{StepLaw};
 ghost use Rattle.facts.specs.Starts.{StartLaw};
-ghost use Rattle.facts.specs.Same.{SameLaw};
+ghost use Rattle.domain.specs.Same.{SameLaw};
 
 mod asked;
 mod changes;
@@ -12,31 +12,24 @@ mod conditions;
 mod dispatch;
 mod entailment;
 mod equations;
-mod fact;
 mod known;
 mod lent;
-mod names;
-mod offsets;
 mod outcome;
 mod place;
 mod references;
 mod registers;
 mod room;
 mod skipping;
-mod tracking;
 
 pub use asked::post;
 pub use conditions::{reads, writes};
 pub use dispatch::outcomes;
+pub use domain::{Equation, Fact, Name, Offsets, TrackedCell, TrackedCells};
 pub use entailment::{entails, entails_return, holds_before, is_always, narrowed};
-pub use fact::Fact;
 pub use known::Known;
-pub use names::{Equation, Name};
-pub use offsets::Offsets;
 pub use outcome::{Outcome, Outcomes};
 pub use place::{Place, Running};
 pub use room::Room;
-pub use tracking::{TrackedCell, TrackedCells};
 
 /// The conditions that a certificate must meet.
 #[derive(Clone, Copy, PartialEq, Eq, Debug)]

@@ -4,10 +4,11 @@ ghost use Rattle.std.specs.Prelude.{◌≡◌, ◌&&◌};
 ghost use Rattle.wordset.specs.Words.{Words, SameWords, has_link, all_words, everything, one, plus};
 ghost use Rattle.wordset.specs.Lanes.{words};
 ghost use Rattle.wordset.specs.Links.{links_of};
-ghost use Rattle.facts.specs.Facts.{Ac, Fact, narrowed};
+ghost use Rattle.domain.specs.Facts.{Ac, Fact, narrowed};
 ghost use Rattle.facts.specs.Outcomes.{alive, given, goes, Goes, CallsTo, Returns};
-ghost use Rattle.facts.specs.Same.{Agree, AgreeingOutcomes};
-ghost use Rattle.facts.specs.Meaning.{known_of};
+ghost use Rattle.domain.specs.Same.{Agree};
+ghost use Rattle.facts.specs.Agreeing.{AgreeingOutcomes};
+ghost use Rattle.facts.specs.Knowing.{known_of};
 ghost use Rattle.facts.specs.Slots.{slot};
 
 use crate::known::Known;

@@ -3,17 +3,17 @@
 ghost use Rattle.std.specs.Prelude.{ℕ, ◌≡◌, ◌<◌, ◌||◌, ◌&&◌};
 ghost use Rattle.wordset.specs.Words.{SameWords, only, shifted};
 ghost use Rattle.wordset.specs.Lanes.{words};
-ghost use Rattle.facts.specs.Facts.{is_routine, own_words, words_in, tape_word};
+ghost use Rattle.domain.specs.Facts.{is_routine, own_words, words_in, tape_word};
 ghost use Rattle.facts.specs.Outcomes.{words_at};
-ghost use Rattle.facts.specs.Meaning.{known_of};
+ghost use Rattle.facts.specs.Knowing.{known_of};
 ghost use Rattle.facts.specs.Places.{place_of};
 
 use crate::entailment::word_of;
 use crate::known::Known;
 use crate::lent::{put_all, put_one, put_set};
-use crate::names::Name;
 use bin_tape::Image;
 use declaration::Declaration;
+use domain::Name;
 use std::alloc::Allocator;
 use word12::Word;
 use wordset::WordSet;

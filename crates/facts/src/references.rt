@@ -4,23 +4,24 @@ ghost use Rattle.std.specs.Prelude.{ℕ, ◌≡◌, ◌≤◌, ◌++◌, ◌&&�
 ghost use Rattle.wordset.specs.Words.{Words, SameWords, everything, only, sums, some_below, has_some, without};
 ghost use Rattle.wordset.specs.Lanes.{words};
 ghost use Rattle.processor.specs.Machine.{steps_pointer};
-ghost use Rattle.facts.specs.Facts as said;
-ghost use Rattle.facts.specs.Facts.{Ac, Cell, narrowed, is_routine};
+ghost use Rattle.domain.specs.Facts as said;
+ghost use Rattle.domain.specs.Facts.{Ac, Cell, narrowed, is_routine};
 ghost use Rattle.facts.specs.Outcomes.{targets, alive, given, anded, tad_word, tad_case, tad, dca_case, isz_case, jmp, CallsTo};
-ghost use Rattle.facts.specs.Same.{Agree, AgreeingOutcomes};
-ghost use Rattle.facts.specs.Meaning.{known_of, IsUnchanged};
+ghost use Rattle.domain.specs.Same.{Agree};
+ghost use Rattle.facts.specs.Agreeing.{AgreeingOutcomes};
+ghost use Rattle.facts.specs.Knowing.{known_of, IsUnchanged};
 ghost use Rattle.facts.specs.Places.{place_of};
 ghost use Rattle.facts.specs.Slots.{slot};
 
 use crate::equations::{Equations, has_cell};
 use crate::known::Known;
 use crate::lent::{put_all, put_ands, put_counted, put_one, put_sums};
-use crate::names::Name;
 use crate::outcome::{
     Outcome, address_after, address_skipped_to, calling, going, going_if, returning,
 };
 use crate::place::Place;
 use crate::room::Way;
+use domain::Name;
 use processor::is_auto_index;
 use std::alloc::Allocator;
 use word12::Word;

@@ -6,19 +6,20 @@ ghost use Rattle.wordset.specs.Lanes.{words};
 ghost use Rattle.instruct.specs.Bits.{has_bit};
 ghost use Rattle.instruct.specs.Operates.{any_test_holds, skips_of};
 ghost use Rattle.processor.specs.Machine.{next_pc};
-ghost use Rattle.facts.specs.Facts as said;
+ghost use Rattle.domain.specs.Facts as said;
 ghost use Rattle.facts.specs.Outcomes.{related2, operated2};
-ghost use Rattle.facts.specs.Same.{Agree, AgreeingOutcomes};
-ghost use Rattle.facts.specs.Meaning.{known_of};
+ghost use Rattle.domain.specs.Same.{Agree};
+ghost use Rattle.facts.specs.Agreeing.{AgreeingOutcomes};
+ghost use Rattle.facts.specs.Knowing.{known_of};
 ghost use Rattle.facts.specs.Slots.{slot};
 
 use crate::equations::Equations;
 use crate::known::Known;
 use crate::lent::{put_all, put_one, put_set};
-use crate::names::Name;
 use crate::outcome::{Outcome, address_after, address_skipped_to, going_if};
 use crate::place::union_if;
 use crate::room::Way;
+use domain::Name;
 use word12::{Link, Word};
 use wordset::{Links, WordSet};
 

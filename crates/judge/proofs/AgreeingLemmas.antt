@@ -7,11 +7,12 @@ use Rattle.instruct.specs.Instructions.{Meaning, And, Tad, Isz, Dca, Jms, Jmp, G
 use Rattle.processor.specs.Machine.{steps_pointer, next_pc}
 use Rattle.policy.specs.Rules.{pointer_of}
 use Rattle.wordset.specs.Words.{Words, SameWords, plus, one, everything, some_below, has_some, only, shifted, sums, without, or_any}
-use Rattle.facts.specs.Facts.{Name, Ac, Cell, Fact, Place, is_routine, is_outside, joined, narrowed, outside, possible, tape_word, words_in}
-use Rattle.facts.specs.Changes.{moved, assigned, smeared, with_equations, with_link, with_name, with_offsets}
+use Rattle.domain.specs.Facts.{Name, Ac, Cell, Fact, Place, is_routine, is_outside, joined, narrowed, outside, possible, tape_word, words_in}
+use Rattle.domain.specs.Changes.{moved, assigned, smeared, with_equations, with_link, with_name, with_offsets}
 use Rattle.facts.specs.Conditions.{CountsItsReturn, may_read, may_store, may_write}
 use Rattle.facts.specs.Outcomes.{Outcome, Goes, CallsTo, Returns, ac_after, alive, all_operated2, anded, changes_ac, dca_case, device_outcomes, given, goes, isz_case, jmp, link_after, operated1, operated2, operated3, outcomes_of, part2, related1, related2, stepped, tad, tad_case, tad_fact, tad_word, targets, words_at}
-use Rattle.facts.specs.Same.{Agree, AgreeingOutcomes}
+use Rattle.domain.specs.Same.{Agree}
+use Rattle.facts.specs.Agreeing.{AgreeingOutcomes}
 use Rattle.facts.proofs.Alike.{only_same}
 use Rattle.facts.proofs.AgreeLemmas.{narrowed_agree}
 use Rattle.facts.proofs.ChangingLemmas.{assigned_agree, deposited_words, later_agree, link_agree, moved_agree, mq_agree, name_agree, smeared_agree, told_agree}

@@ -6,8 +6,8 @@ use Rattle.instruct.specs.Instructions.{Meaning, And, Tad, Isz, Dca, Jms, Jmp, G
 use Rattle.wordset.specs.Words.{Words, SameWords, IsWithin, everything, plus}
 use Rattle.wordset.specs.Lanes.{words}
 use Rattle.declaration.specs.Declaration.{Routine}
-use Rattle.facts.specs.Facts.{Fact, Entails, EntailsOffsets, joined}
-use Rattle.facts.specs.Changes.{with_offsets}
+use Rattle.domain.specs.Facts.{Fact, Entails, EntailsOffsets, joined}
+use Rattle.domain.specs.Changes.{with_offsets}
 use Rattle.facts.specs.Conditions.{called, is_call, calls_through_index, returned_through}
 use Rattle.facts.specs.Places as kept
 use Rattle.facts.specs.declared.place.Running.{Running}

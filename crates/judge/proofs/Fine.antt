@@ -2,7 +2,7 @@
 use Rattle.std.proofs.Common.{◌≡◌, ℕ, ◌<◌, true}
 use Rattle.instruct.specs.Instructions.{Meaning, meaning_of}
 use Rattle.declaration.specs.Declaration.{Routine}
-use Rattle.facts.specs.Facts.{possible}
+use Rattle.domain.specs.Facts.{possible}
 use Rattle.facts.specs.declared.Condition.TheVariants.{V3, V4, V5, V6, V7, V8, V9, V10, V11, V12, V13, V14, V15}
 use Rattle.facts.proofs.Numbers.{or_left, or_right}
 use Rattle.judge.specs.Conditions.{Case, place_in, fact_at, IsIn, IsLine, IsValid, HoldsFor}

@@ -7,7 +7,7 @@ use Rattle.processor.specs.Cells.{Cells, updated}
 use Rattle.processor.specs.Machine.{seen, steps_pointer}
 use Rattle.declaration.specs.Declaration.{IsDeclared}
 use Rattle.policy.specs.Calls.{Call, Calls, current}
-use Rattle.facts.specs.Facts.{Cell, Fact, values, OwnWord, joined}
+use Rattle.domain.specs.Facts.{Cell, Fact, values, OwnWord, joined}
 use Rattle.facts.specs.Conditions.{MayWrite}
 use Rattle.facts.specs.Law.{TopIsEntry}
 use Rattle.facts.proofs.Laws.{HoldsOutside, still_outside}

@@ -9,8 +9,8 @@ use Rattle.processor.specs.Machine.{State, Answer, seen, place, steps_pointer, D
 use Rattle.declaration.specs.Declaration.{Routine, IsDeclared}
 use Rattle.policy.specs.Calls.{Call, Calls, current, returned, calls_of, calls_after}
 use Rattle.policy.specs.Runs.{GoesOn}
-use Rattle.facts.specs.Facts.{Cell, Fact, Values, Holds, values, Place, StandsIn, Means, Entails, EntailsOffsets, joined}
-use Rattle.facts.specs.Changes.{with_offsets}
+use Rattle.domain.specs.Facts.{Cell, Fact, Values, Holds, values, Place, StandsIn, Means, Entails, EntailsOffsets, joined}
+use Rattle.domain.specs.Changes.{with_offsets}
 use Rattle.facts.specs.Outcomes.{Outcome, Goes, CallsTo, Returns, outcomes_of}
 use Rattle.facts.specs.Conditions.{may_write}
 use Rattle.facts.specs.Law.{IsState, IsOrdinary, LandsIn, SomeOutcome}

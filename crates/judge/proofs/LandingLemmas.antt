@@ -4,9 +4,10 @@ use Rattle.std.specs.Prelude.{IsTrue, ◌↔◌}
 use Rattle.std.proofs.lemmas.Bool.{false≢true, true≢false}
 use Rattle.std.proofs.Math.ListN.{drop_of_length-le}
 use Rattle.declaration.specs.Declaration.{Routine}
-use Rattle.facts.specs.Facts.{Fact, Entails, EntailsOffsets}
+use Rattle.domain.specs.Facts.{Fact, Entails, EntailsOffsets}
 use Rattle.facts.specs.Outcomes.{Outcome, Goes, CallsTo, Returns}
-use Rattle.facts.specs.Same.{Agree, AgreeingOutcome, AgreeingOutcomes}
+use Rattle.domain.specs.Same.{Agree}
+use Rattle.facts.specs.Agreeing.{AgreeingOutcome, AgreeingOutcomes}
 use Rattle.facts.specs.Slots.{slot, slots}
 use Rattle.facts.specs.declared.outcome.Outcome.{Outcome as Given}
 use Rattle.facts.proofs.Alike.{same_law}

@@ -11,7 +11,7 @@ use Rattle.policy.specs.Calls.{Calls, current, calls_after}
 use Rattle.declaration.specs.Declaration.{IsListed}
 use Rattle.policy.specs.Rules.{pointer_of, stored_at, CountsOwnEntry, WritesDeclared, CallsEntries, FindsItsCall, ReturnsToItsCall, ReadsListed, IsLegal}
 use Rattle.policy.specs.Runs.{DeclaredRun, IsSafeInRuns}
-use Rattle.facts.specs.Facts.{Means}
+use Rattle.domain.specs.Facts.{Means}
 use Rattle.facts.specs.Conditions.{may_read}
 use Rattle.facts.proofs.Numbers.{or_left, or_right}
 use Rattle.facts.proofs.Covers.{NamesWord, meaning_names, Accessed}

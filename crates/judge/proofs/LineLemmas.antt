@@ -3,7 +3,7 @@ use Rattle.std.proofs.Common.{◌≡◌, ℕ, ◌<◌, Bool, true, false, not, S
 use Rattle.std.specs.Prelude.{IsTrue, ◌↔◌, MatchResult, Result}
 use Rattle.wordset.specs.Words.{Words, some_below}
 use Rattle.wordset.proofs.Tests.{or_left, or_right, true_false, none_of_some, some_none_of}
-use Rattle.facts.specs.Facts.{Fact}
+use Rattle.domain.specs.Facts.{Fact}
 use Rattle.facts.specs.Starts.{HoldsOfStarts}
 use Rattle.facts.specs.declared.Condition.{Condition}
 use Rattle.declaration.specs.Declaration.{Routine}

@@ -10,7 +10,7 @@ use Rattle.peripherals.specs.Loading.{image_of}
 use Rattle.declaration.specs.Declaration.{Declaration}
 use Rattle.declaration.specs.Text.{Declares, ListsRoutines}
 use Rattle.declaration.proofs.AnswerLemmas.{one_declaration}
-use Rattle.facts.specs.Facts.{Fact}
+use Rattle.domain.specs.Facts.{Fact}
 use Rattle.facts.specs.declared.Condition.{Condition}
 use Rattle.facts.specs.declared.Condition.TheVariants.{V1, V2, V3, V4, V5, V6, V7, V8, V9, V10, V11, V12, V13, V14, V15}
 use Rattle.certificate.specs.Certificate.{Certificate}

@@ -7,11 +7,11 @@ use Rattle.processor.specs.Machine.{State}
 use Rattle.processor.specs.Runs.{IsStart}
 use Rattle.declaration.specs.Declaration.{Routine, Declaration}
 use Rattle.certificate.specs.Certificate.{writes_of}
-use Rattle.facts.specs.Facts.{Name, Ac, Cell, Fact, Place, AllTrue, Means, joined, possible, values}
-use Rattle.facts.specs.Changes.{with_offsets}
+use Rattle.domain.specs.Facts.{Name, Ac, Cell, Fact, Place, AllTrue, Means, joined, possible, values}
+use Rattle.domain.specs.Changes.{with_offsets}
 use Rattle.facts.specs.Conditions.{EntriesAreKept, ReadsAreListed, WritesAreDeclared, WritesAreListed}
 use Rattle.facts.specs.Outcomes.{Outcome, Goes, CallsTo, Returns, outcomes_of, targets}
-use Rattle.facts.specs.Same.{Agree}
+use Rattle.domain.specs.Same.{Agree}
 use Rattle.facts.specs.declared.Condition.{Condition}
 use Rattle.facts.specs.declared.Condition.TheVariants.{V1, V2, V3, V4, V5, V6, V7, V8, V9, V10, V11, V12, V13, V14, V15}
 use Rattle.facts.proofs.Alike.{same_law, some_same}

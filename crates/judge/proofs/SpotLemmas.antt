@@ -1,10 +1,10 @@
 -- What is asked at a spot, by its own place and fact.
 use Rattle.std.proofs.Common.{◌≡◌, ℕ, Bool, List, ap, subst}
 use Rattle.std.specs.Prelude.{IsTrue, ◌↔◌}
-use Rattle.facts.specs.Facts.{Fact, Place}
+use Rattle.domain.specs.Facts.{Fact, Place}
 use Rattle.facts.specs.Outcomes.{Outcome, outcomes_at}
-use Rattle.facts.specs.Same.{AgreeingOutcomes}
-use Rattle.facts.specs.Meaning.{meaning}
+use Rattle.facts.specs.Agreeing.{AgreeingOutcomes}
+use Rattle.domain.specs.Meaning.{meaning}
 use Rattle.facts.specs.Places as kept
 use Rattle.facts.specs.declared.Condition.TheVariants.{V4}
 use Rattle.certificate.specs.Certificate.{Certificate}

@@ -9,7 +9,7 @@ use Rattle.std.proofs.Common.{false, inl, inr}
 use Rattle.wordset.specs.Words.{Words, SameWords, how_many, one}
 use Rattle.instruct.specs.Instructions.{meaning_of}
 use Rattle.declaration.specs.Declaration.{Routine, IsDeclared}
-use Rattle.facts.specs.Facts.{Fact, Place, possible}
+use Rattle.domain.specs.Facts.{Fact, Place, possible}
 use Rattle.facts.specs.declared.Condition.{Condition}
 use Rattle.facts.specs.declared.Condition.TheVariants.{V1, V2, V3}
 use Rattle.judge.specs.Conditions.{Case, HoldsAt, HoldsFor, HoldsForEach, HasFewWords, IsIn, fact_at, place_in, place_among}

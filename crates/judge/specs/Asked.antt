@@ -4,7 +4,7 @@ use Rattle.wordset.specs.Words.{Words, nothing}
 use Rattle.wordset.specs.Lanes.{words}
 use Rattle.declaration.specs.Declaration.{Routine}
 use Rattle.certificate.specs.Certificate.{Certificate, names_routine, sites_of, writes_of}
-use Rattle.facts.specs.Facts.{possible}
+use Rattle.domain.specs.Facts.{possible}
 use Rattle.facts.specs.declared.Condition.{Condition}
 use Rattle.facts.specs.declared.Condition.TheVariants.{V3}
 use Rattle.judge.specs.Judged.{judged}

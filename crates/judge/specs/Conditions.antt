@@ -6,8 +6,8 @@ use Rattle.processor.specs.Machine.{steps_pointer}
 use Rattle.processor.specs.Runs.{Image}
 use Rattle.declaration.specs.Declaration.{Routine, Declaration}
 use Rattle.policy.specs.Rules.{IsSupported, HaltsDeclared}
-use Rattle.facts.specs.Facts.{Fact, Place, possible, Entails, EntailsOffsets, joined}
-use Rattle.facts.specs.Changes.{with_offsets}
+use Rattle.domain.specs.Facts.{Fact, Place, possible, Entails, EntailsOffsets, joined}
+use Rattle.domain.specs.Changes.{with_offsets}
 use Rattle.facts.specs.Outcomes.{Outcome, Goes, CallsTo, Returns, outcomes_of, targets}
 use Rattle.facts.specs.Conditions.{WritesAreDeclared, EntriesAreKept, WritesAreListed, ReadsAreListed}
 use Rattle.facts.specs.Starts.{HoldsOfStarts}

@@ -9,7 +9,7 @@ use Rattle.peripherals.specs.Events.{IsLoaded}
 use Rattle.declaration.specs.Declaration.{Declaration, IsDeclared}
 use Rattle.policy.specs.Calls.{Calls, current}
 use Rattle.policy.specs.Runs.{DeclaredRun, DeclaredEvents}
-use Rattle.facts.specs.Facts.{Means}
+use Rattle.domain.specs.Facts.{Means}
 use Rattle.facts.specs.declared.Condition.{Condition}
 use Rattle.certificate.specs.Certificate.{Certificate}
 use Rattle.certificate.specs.Exact.{SameCertificate}

@@ -1,7 +1,7 @@
 -- Facts that claims were read into, as the code keeps them; it serves private contracts.
 use Rattle.std.specs.Prelude.{◌≡◌, ℕ, true, Some}
 use Rattle.wordset.specs.Lanes.{words}
-use Rattle.facts.specs.Meaning.{meaning}
+use Rattle.domain.specs.Meaning.{meaning}
 use Rattle.certificate.specs.Certificate.{Certificate}
 use Rattle.judge.specs.declared.spot.Page.{Page}
 use Rattle.judge.specs.declared.lines.Body.{Body}

@@ -4,7 +4,7 @@ use Rattle.instruct.specs.Instructions.{meaning_of}
 use Rattle.peripherals.specs.Loading.{image_of}
 use Rattle.declaration.specs.Declaration.{Routine}
 use Rattle.declaration.specs.Kept as declared
-use Rattle.facts.specs.Meaning.{meaning}
+use Rattle.domain.specs.Meaning.{meaning}
 use Rattle.facts.specs.Places as kept
 use Rattle.certificate.specs.Certificate.{Certificate, sites_of, writes_of}
 use Rattle.judge.specs.declared.spot.Spot.{Spot}

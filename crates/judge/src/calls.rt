@@ -4,8 +4,8 @@ ghost use Rattle.std.specs.Prelude.{ℕ, ◌≡◌, ◌<◌, ◌≤◌, ◌↔�
 ghost use Rattle.wordset.specs.Lanes.{words};
 ghost use Rattle.instruct.specs.Instructions.{meaning_of};
 ghost use Rattle.wordset.specs.Words.{everything};
-ghost use Rattle.facts.specs.Changes.{with_offsets};
-ghost use Rattle.facts.specs.Meaning.{meaning};
+ghost use Rattle.domain.specs.Changes.{with_offsets};
+ghost use Rattle.domain.specs.Meaning.{meaning};
 ghost use Rattle.facts.specs.declared.Condition.TheVariants.{V7, V8, V9, V10, V11, V12};
 ghost use Rattle.judge.specs.Conditions.{MayCall, MayReturn, CoversCallee, LandsAfter, EachTarget, fact_at};
 ghost use Rattle.judge.specs.Callees.{HoldsOfCallee, IsBelow, LandsBy, ReturnsBy, ReturnsThrough};

@@ -3,8 +3,8 @@
 ghost use Rattle.std.specs.Prelude.{ℕ, ◌≡◌, ◌<◌, true, false, is_some, IfSome, IfNone, MatchOption};
 ghost use Rattle.wordset.specs.Words.{everything, nothing, HasNoneFrom, IsFirstFrom};
 ghost use Rattle.wordset.specs.Lanes.{words};
-ghost use Rattle.facts.specs.Changes.{with_offsets};
-ghost use Rattle.facts.specs.Meaning.{meaning};
+ghost use Rattle.domain.specs.Changes.{with_offsets};
+ghost use Rattle.domain.specs.Meaning.{meaning};
 ghost use Rattle.certificate.specs.Certificate as said;
 ghost use Rattle.certificate.specs.Certificate.{names_routine, claimed};
 ghost use Rattle.certificate.specs.Kept.{claims};

@@ -2,9 +2,9 @@
 
 ghost use Rattle.std.specs.Prelude.{ℕ, ◌≡◌, ◌<◌, ◌↔◌, true, IsTrue};
 ghost use Rattle.wordset.specs.Lanes.{words};
-ghost use Rattle.facts.specs.Facts as said;
-ghost use Rattle.facts.specs.Same.{Agree};
-ghost use Rattle.facts.specs.Meaning.{known_of};
+ghost use Rattle.domain.specs.Facts as said;
+ghost use Rattle.domain.specs.Same.{Agree};
+ghost use Rattle.facts.specs.Knowing.{known_of};
 ghost use Rattle.facts.specs.Slots.{outcome_of, slot, slots};
 ghost use Rattle.facts.specs.declared.Condition.TheVariants.{V4};
 ghost use Rattle.judge.specs.Conditions.{LandsAt, OutcomeLands, EachOutcome};

@@ -2,7 +2,7 @@
 
 ghost use Rattle.std.specs.Prelude.{◌≡◌, ◌↔◌, Some, true, false, IsTrue, MatchResult};
 ghost use Rattle.wordset.specs.Words.{some_below};
-ghost use Rattle.facts.specs.Meaning.{meaning};
+ghost use Rattle.domain.specs.Meaning.{meaning};
 ghost use Rattle.facts.specs.Places.{routine_of, sites_of, writes_of};
 ghost use Rattle.judge.specs.Conditions.{StartsWell, IsPlaced, fact_at};
 ghost use Rattle.judge.specs.Pages.{Shows, Tells};

@@ -2,7 +2,7 @@
 
 ghost use Rattle.std.specs.Prelude.{◌≡◌, Some, true, IsTrue};
 ghost use Rattle.certificate.specs.Certificate as said;
-ghost use Rattle.facts.specs.Meaning.{meaning};
+ghost use Rattle.domain.specs.Meaning.{meaning};
 ghost use Rattle.judge.specs.Judged.{judged};
 ghost use Rattle.judge.specs.Asked.{IsBody};
 ghost use Rattle.judge.specs.Pages.{Shows};

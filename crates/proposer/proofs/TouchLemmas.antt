@@ -4,7 +4,7 @@ use Rattle.std.specs.Prelude.{◌↔◌, ◌&&◌, ◌||◌, not}
 use Rattle.std.proofs.lemmas.Bool.{cases_eq, or_cases, true≢false}
 use Rattle.wordset.specs.Words.{Words, union}
 use Rattle.declaration.specs.Declaration.{Routine}
-use Rattle.facts.specs.Facts.{Fact, Place}
+use Rattle.domain.specs.Facts.{Fact, Place}
 use Rattle.judge.specs.Conditions.{Case, IsIn, fact_at, place_in}
 use Rattle.proposer.specs.Needed.{IsReadSomewhere}
 use Rattle.proposer.specs.Touched.{HasTouched, IsTouched, IsTouchedBy, IsTouchedFrom, has_line, is_own}

@@ -2,7 +2,7 @@
 use Rattle.std.specs.Prelude.{ℕ, ◌≡◌, ◌<◌, true, Some}
 use Rattle.wordset.specs.Words.{Words}
 use Rattle.declaration.specs.Declaration.{Routine}
-use Rattle.facts.specs.Facts.{possible}
+use Rattle.domain.specs.Facts.{possible}
 use Rattle.facts.specs.Conditions.{may_read}
 use Rattle.facts.specs.Outcomes.{meaning_at}
 use Rattle.judge.specs.Conditions.{Case, IsIn, fact_at, place_in}

@@ -7,7 +7,7 @@ use Rattle.peripherals.specs.Loading.{image_of}
 use Rattle.declaration.specs.Declaration.{Routine, Declaration}
 use Rattle.declaration.specs.Kept.{Kept, meaning}
 use Rattle.facts.specs.Conditions.{may_read, may_write}
-use Rattle.facts.specs.Facts.{Fact, Place, possible}
+use Rattle.domain.specs.Facts.{Fact, Place, possible}
 use Rattle.facts.specs.Outcomes.{meaning_at}
 use Rattle.certificate.specs.Certificate.{Certificate, sites_of}
 use Rattle.judge.specs.Conditions.{Case, IsIn, fact_at, place_in}

@@ -5,7 +5,7 @@ ghost use Rattle.wordset.specs.Words.{SameWords};
 ghost use Rattle.wordset.specs.Lanes.{words};
 ghost use Rattle.declaration.specs.Declaration.{Routine as MainOrEntry};
 ghost use Rattle.declaration.specs.Kept as declared;
-ghost use Rattle.facts.specs.Meaning.{meaning};
+ghost use Rattle.domain.specs.Meaning.{meaning};
 ghost use Rattle.facts.specs.Outcomes.{meaning_at};
 ghost use Rattle.facts.specs.Places.{place_of, routine_of, sites_of};
 ghost use Rattle.certificate.specs.Kept.{claims};

@@ -1,9 +1,10 @@
 -- Where a fact arrives, one that agrees arrives too.
 use Rattle.std.proofs.Common.{◌≡◌, ℕ, Bool, List, [], ◌∷◌, ◌∙◌, subst}
 use Rattle.declaration.specs.Declaration.{Routine}
-use Rattle.facts.specs.Facts.{Fact, Place}
+use Rattle.domain.specs.Facts.{Fact, Place}
 use Rattle.facts.specs.Outcomes.{Outcome, Goes, CallsTo, Returns}
-use Rattle.facts.specs.Same.{Agree, AgreeingOutcome, AgreeingOutcomes}
+use Rattle.domain.specs.Same.{Agree}
+use Rattle.facts.specs.Agreeing.{AgreeingOutcome, AgreeingOutcomes}
 use Rattle.facts.proofs.Alike.{same_law}
 use Rattle.facts.proofs.AgreeLemmas.{same_fact}
 use Rattle.certificate.specs.Certificate.{Certificate}

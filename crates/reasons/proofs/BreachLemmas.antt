@@ -2,8 +2,9 @@
 use Rattle.std.proofs.Common.{◌≡◌, ℕ, ◌+◌, ◌<◌, Option, Some, None, List, [], ◌∷◌, ◌++◌, length, get_or, drop, inl, inr, sym, ◌∙◌, subst, zero, suc}
 use Rattle.std.specs.Prelude.{IfSome}
 use Rattle.declaration.specs.Declaration.{Routine, Declaration}
-use Rattle.facts.specs.Facts.{Fact, Place}
-use Rattle.facts.specs.Same.{Agree, AgreeingOutcome, AgreeingOutcomes}
+use Rattle.domain.specs.Facts.{Fact, Place}
+use Rattle.domain.specs.Same.{Agree}
+use Rattle.facts.specs.Agreeing.{AgreeingOutcome, AgreeingOutcomes}
 use Rattle.facts.specs.Outcomes.{Outcome, Goes, CallsTo, Returns}
 use Rattle.facts.specs.Slots.{slot, slots}
 use Rattle.facts.specs.declared.Condition.{Condition}

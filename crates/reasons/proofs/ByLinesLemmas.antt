@@ -4,7 +4,7 @@ use Rattle.std.proofs.lemmas.Bool.{cases_lt, false≢true, true≢false}
 use Rattle.wordset.specs.Words.{how_many}
 use Rattle.declaration.specs.Declaration.{Routine}
 use Rattle.facts.specs.Conditions.{called}
-use Rattle.facts.specs.Facts.{Fact, Place, possible}
+use Rattle.domain.specs.Facts.{Fact, Place, possible}
 use Rattle.facts.specs.Outcomes.{Outcome, Goes, CallsTo, Returns, meaning_at, outcomes_at}
 use Rattle.facts.specs.declared.Condition.{Condition}
 use Rattle.facts.specs.declared.Condition.TheVariants.{V1, V2, V3, V6, V8}

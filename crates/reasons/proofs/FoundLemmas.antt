@@ -5,8 +5,8 @@ use Rattle.std.proofs.lemmas.Bool.{true≢false}
 use Rattle.instruct.specs.Instructions.{Meaning, Jms, Jmp}
 use Rattle.wordset.specs.Words.{Words, one, plus}
 use Rattle.declaration.specs.Declaration.{Routine, IsDeclared, IsListed}
-use Rattle.facts.specs.Facts.{Fact, Place, joined}
-use Rattle.facts.specs.Changes.{with_offsets}
+use Rattle.domain.specs.Facts.{Fact, Place, joined}
+use Rattle.domain.specs.Changes.{with_offsets}
 use Rattle.facts.specs.Conditions.{MayWrite, called, calls_through_index, returned_through}
 use Rattle.facts.specs.Outcomes.{Outcome, Goes, CallsTo, Returns, outcomes_of}
 use Rattle.facts.specs.declared.Condition.{Condition}

@@ -5,21 +5,21 @@ use Rattle.std.proofs.Math.ListN.{drop_of_length-le}
 use Rattle.std.proofs.lemmas.Bool.{and_from, eq-eqb, lt-ltb, true≢false}
 use Rattle.wordset.specs.Words.{Words, IsLinkWithin, IsWithin, SameLinks, SameWords, all_words, everything}
 use Rattle.processor.specs.Runs.{Image}
-use Rattle.facts.specs.Facts.{Ac, Cell, Entails, EntailsOffsets, Fact, Among, Equation, Knows, KnowsAll, narrowed, tape_word}
+use Rattle.domain.specs.Facts.{Ac, Cell, Entails, EntailsOffsets, Fact, Among, Equation, Knows, KnowsAll, narrowed, tape_word}
 use Rattle.facts.specs.Showing.{EachWithin, EntailsRegisters, MayStart, allows_all}
 use Rattle.facts.specs.Starts.{are_always, has_each, holds_before, is_always}
-use Rattle.facts.specs.Statements.{TrackedCell, cell_at, tracked}
-use Rattle.facts.specs.Same.{Agree}
-use Rattle.facts.specs.Changes.{with_offsets}
-use Rattle.facts.specs.Meaning.{equation_of, meaning, statement_of}
-use Rattle.facts.specs.declared.fact.Fact.{Fact as CodeFact}
-use Rattle.facts.specs.declared.names.Equation.{Equation as CodeEquation}
+use Rattle.domain.specs.Statements.{TrackedCell, cell_at, tracked}
+use Rattle.domain.specs.Same.{Agree}
+use Rattle.domain.specs.Changes.{with_offsets}
+use Rattle.domain.specs.Meaning.{equation_of, meaning, statement_of}
+use Rattle.domain.specs.declared.fact.Fact.{Fact as CodeFact}
+use Rattle.domain.specs.declared.names.Equation.{Equation as CodeEquation}
 use Rattle.facts.proofs.Alike.{narrowed_same, only_same, same_law}
 use Rattle.facts.proofs.AgreeLemmas.{agree_sym, same_fact, narrowed_agree}
 use Rattle.facts.proofs.EntailLemmas.{drop_item, entails_iff}
 use Rattle.facts.proofs.StartLemmas.{test_all}
 use Rattle.facts.proofs.Starting.{each_from}
-use Rattle.facts.proofs.TrackingLemmas.{entry_within}
+use Rattle.domain.proofs.TrackingLemmas.{entry_within}
 use Rattle.reasons.specs.Gaps.{IsLinkBeyond, IsGap}
 use Rattle.reasons.specs.declared.gap.Gap.{Gap}
 use Rattle.reasons.specs.declared.gap.Gap.TheVariants as gap

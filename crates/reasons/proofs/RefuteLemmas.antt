@@ -6,10 +6,10 @@ use Rattle.wordset.specs.Words.{Words, everything, how_many, one, plus, some_bel
 use Rattle.wordset.proofs.Tests.{some_to}
 use Rattle.processor.specs.Runs.{Image}
 use Rattle.declaration.specs.Declaration.{Routine, IsDeclared}
-use Rattle.facts.specs.Changes.{with_offsets}
+use Rattle.domain.specs.Changes.{with_offsets}
 use Rattle.facts.specs.Conditions.{called, calls_through_index, returned_through}
-use Rattle.facts.specs.Facts.{Ac, Cell, Equation, Fact, Among, Entails, EntailsOffsets, Knows, KnowsAll, joined, possible, tape_word}
-use Rattle.facts.specs.Meaning.{equation_of}
+use Rattle.domain.specs.Facts.{Ac, Cell, Equation, Fact, Among, Entails, EntailsOffsets, Knows, KnowsAll, joined, possible, tape_word}
+use Rattle.domain.specs.Meaning.{equation_of}
 use Rattle.facts.specs.Outcomes.{Outcome, Goes, CallsTo, Returns, outcomes_at}
 use Rattle.facts.specs.Starts.{AreTapeWords, are_always, has_each, is_always}
 use Rattle.facts.specs.declared.Condition.{Condition}

@@ -3,8 +3,8 @@ use Rattle.std.specs.Prelude.{◌≡◌, ℕ, ◌+◌, ◌<◌, ◌≤◌, true,
 use Rattle.wordset.specs.Words.{everything, plus, one}
 use Rattle.declaration.specs.Declaration.{Routine, Declaration, IsListed}
 use Rattle.policy.specs.Rules.{IsSupported, HaltsDeclared}
-use Rattle.facts.specs.Facts.{Fact, Place, joined}
-use Rattle.facts.specs.Changes.{with_offsets}
+use Rattle.domain.specs.Facts.{Fact, Place, joined}
+use Rattle.domain.specs.Changes.{with_offsets}
 use Rattle.facts.specs.Outcomes.{Outcome, Goes, CallsTo, Returns, meaning_at, outcomes_at}
 use Rattle.facts.specs.Conditions.{MayWrite, EntriesAreKept, may_write, may_read, called, calls_through_index, returned_through}
 use Rattle.facts.specs.declared.Condition.{Condition}

@@ -2,10 +2,10 @@
 use Rattle.std.specs.Prelude.{◌≡◌, ℕ, ◌<◌, true, false}
 use Rattle.wordset.specs.Words.{Words, everything}
 use Rattle.processor.specs.Runs.{Image}
-use Rattle.facts.specs.Facts.{Ac, Fact, Among, Knows, narrowed, tape_word}
-use Rattle.facts.specs.Facts as name
+use Rattle.domain.specs.Facts.{Ac, Fact, Among, Knows, narrowed, tape_word}
+use Rattle.domain.specs.Facts as name
 use Rattle.facts.specs.Starts.{is_always}
-use Rattle.facts.specs.Meaning.{equation_of}
+use Rattle.domain.specs.Meaning.{equation_of}
 use Rattle.reasons.specs.declared.gap.Gap.{Gap}
 use Rattle.reasons.specs.declared.gap.Gap.TheVariants as gap
 

@@ -5,8 +5,8 @@ use Rattle.instruct.specs.Instructions.{Meaning}
 use Rattle.wordset.specs.Words.{how_many, one, plus}
 use Rattle.declaration.specs.Declaration.{Routine}
 use Rattle.policy.specs.Rules.{IsSupported, HaltsDeclared}
-use Rattle.facts.specs.Facts.{Fact, Place, Entails, EntailsOffsets, joined, possible}
-use Rattle.facts.specs.Changes.{with_offsets}
+use Rattle.domain.specs.Facts.{Fact, Place, Entails, EntailsOffsets, joined, possible}
+use Rattle.domain.specs.Changes.{with_offsets}
 use Rattle.facts.specs.Outcomes.{Outcome, Goes, CallsTo, Returns, meaning_at, outcomes_of}
 use Rattle.facts.specs.Conditions.{WritesAreDeclared, WritesAreListed, EntriesAreKept, ReadsAreListed, called, calls_through_index, returned_through}
 use Rattle.facts.specs.declared.Condition.{Condition}

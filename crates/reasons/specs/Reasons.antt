@@ -3,7 +3,7 @@ use Rattle.std.specs.Prelude.{◌≡◌, ℕ, ◌<◌, true, false, ◌⊎◌, N
 use Rattle.wordset.specs.Words.{how_many}
 use Rattle.processor.specs.Runs.{Image}
 use Rattle.declaration.specs.Declaration.{Routine, Declaration}
-use Rattle.facts.specs.Facts.{Fact, Place, possible}
+use Rattle.domain.specs.Facts.{Fact, Place, possible}
 use Rattle.facts.specs.declared.Condition.{Condition}
 use Rattle.facts.specs.declared.Condition.TheVariants.{V1, V2, V3}
 use Rattle.certificate.specs.Certificate.{Certificate, names_routine}

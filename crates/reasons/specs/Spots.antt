@@ -6,8 +6,8 @@ use Rattle.peripherals.specs.Loading.{image_of}
 use Rattle.declaration.specs.Declaration.{Routine, Declaration}
 use Rattle.declaration.specs.Kept.{Kept}
 use Rattle.declaration.specs.Kept as declared
-use Rattle.facts.specs.Facts.{Fact, Place, possible}
-use Rattle.facts.specs.Meaning.{meaning}
+use Rattle.domain.specs.Facts.{Fact, Place, possible}
+use Rattle.domain.specs.Meaning.{meaning}
 use Rattle.facts.specs.Places.{place_of}
 use Rattle.facts.specs.declared.Condition.{Condition}
 use Rattle.certificate.specs.Certificate.{Certificate, sites_of}

@@ -2,7 +2,7 @@
 
 ghost use Rattle.std.specs.Prelude.{ℕ, ◌≡◌, ◌<◌, true, IfNone, IfSome};
 ghost use Rattle.wordset.specs.Lanes.{words};
-ghost use Rattle.facts.specs.Meaning.{known_of};
+ghost use Rattle.facts.specs.Knowing.{known_of};
 ghost use Rattle.facts.specs.Slots.{outcome_of, slot, slots};
 ghost use Rattle.facts.specs.declared.Condition.TheVariants.{V4};
 ghost use Rattle.judge.specs.Conditions.{EachOutcome};

@@ -3,7 +3,7 @@
 ghost use Rattle.std.specs.Prelude.{ℕ, ◌≡◌, ◌<◌, true, false, IfNone, IfSome, List, Option};
 ghost use Rattle.peripherals.specs.Loading.{image_of};
 ghost use Rattle.declaration.specs.Kept as declared;
-ghost use Rattle.facts.specs.Meaning.{meaning};
+ghost use Rattle.domain.specs.Meaning.{meaning};
 ghost use Rattle.judge.specs.Conditions.{IsPlaced, LinesArePlaced, StartsWell};
 ghost use Rattle.judge.specs.Judged.{judged};
 ghost use Rattle.reasons.specs.Reasons.{IsMisplaced, IsWrongStart};

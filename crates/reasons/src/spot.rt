@@ -3,7 +3,7 @@
 ghost use Rattle.std.specs.Prelude.{◌≡◌, IfNone, IfSome};
 ghost use Rattle.wordset.specs.Words.{SameWords};
 ghost use Rattle.wordset.specs.Lanes.{words};
-ghost use Rattle.facts.specs.Meaning.{meaning};
+ghost use Rattle.domain.specs.Meaning.{meaning};
 ghost use Rattle.facts.specs.Places.{routine_of, sites_of};
 ghost use Rattle.facts.specs.declared.Condition.TheVariants.{V3};
 ghost use Rattle.reasons.specs.Keeping.{EachKeepsHere, WordsKeepHere};

@@ -3,8 +3,8 @@
 ghost use Rattle.std.specs.Prelude.{ℕ, ◌≡◌, ◌<◌, true, is_some, IfSome};
 ghost use Rattle.wordset.specs.Words.{everything};
 ghost use Rattle.wordset.specs.Lanes.{words};
-ghost use Rattle.facts.specs.Changes.{with_offsets};
-ghost use Rattle.facts.specs.Meaning.{meaning};
+ghost use Rattle.domain.specs.Changes.{with_offsets};
+ghost use Rattle.domain.specs.Meaning.{meaning};
 
 use facts::Fact;
 use judge::{Claims, Routine};

@@ -7,9 +7,9 @@ use Rattle.bin_tape.specs.Image.{word_at}
 use Rattle.declaration.specs.Declaration.{Declaration}
 use Rattle.facts.specs.declared.Condition.{Condition}
 use Rattle.facts.specs.declared.Condition.TheVariants as condition
-use Rattle.facts.specs.declared.names.Name.{Name}
-use Rattle.facts.specs.declared.names.Name.TheVariants as name
-use Rattle.facts.specs.declared.names.Equation.{Equation}
+use Rattle.domain.specs.declared.names.Name.{Name}
+use Rattle.domain.specs.declared.names.Name.TheVariants as name
+use Rattle.domain.specs.declared.names.Equation.{Equation}
 use Rattle.certificate.specs.Spelling.{Lines, fact_text_at}
 use Rattle.judge.specs.Conditions.{Case, IsFirst}
 use Rattle.judge.specs.declared.judging.Refusal.{Refusal}

@@ -1,6 +1,6 @@
 use Rattle.std.proofs.Common.{drop, map}
 use Rattle.certificate.specs.Reading.{Each, IsEquation}
-use Rattle.facts.specs.Meaning.{equation_of}
+use Rattle.domain.specs.Meaning.{equation_of}
 use Rattle.analyser.proofs.form.are_oriented.Given as goal
 
 abbrev pub invariant-loop-equation : goal.invariant-loop-equation

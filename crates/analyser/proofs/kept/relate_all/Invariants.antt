@@ -1,5 +1,5 @@
 use Rattle.std.proofs.Common.{◌≡◌, ◌++◌, map, take}
-use Rattle.facts.specs.Meaning.{statement_of, offsets_of, equation_of}
+use Rattle.domain.specs.Meaning.{statement_of, offsets_of, equation_of}
 use Rattle.analyser.proofs.kept.relate_all.Given as goal
 
 abbrev pub invariant-loop-equation : goal.invariant-loop-equation

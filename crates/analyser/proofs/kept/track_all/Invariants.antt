@@ -1,5 +1,5 @@
 use Rattle.std.proofs.Common.{◌≡◌, ◌++◌, map, take}
-use Rattle.facts.specs.Meaning.{statement_of, offsets_of}
+use Rattle.domain.specs.Meaning.{statement_of, offsets_of}
 use Rattle.analyser.specs.Claimed.{cell_of}
 use Rattle.analyser.proofs.kept.track_all.Given as goal
 

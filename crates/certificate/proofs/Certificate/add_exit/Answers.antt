@@ -1,6 +1,6 @@
 use Rattle.std.proofs.Common.{◌<◌, map, refl}
 use Rattle.std.specs.Prelude.{is_ok}
-use Rattle.facts.specs.Meaning.{tracked_cells, equation_of, statement_of}
+use Rattle.domain.specs.Meaning.{tracked_cells, equation_of, statement_of}
 use Rattle.certificate.specs.Spelling.{registers_of}
 use Rattle.certificate.specs.Made.{exit_at}
 use Rattle.certificate.proofs.AddedLemmas.{exit_kept}

@@ -1,5 +1,5 @@
 use Rattle.std.proofs.Common.{◌∙◌, sym, drop}
-use Rattle.facts.specs.Meaning.{statement_of}
+use Rattle.domain.specs.Meaning.{statement_of}
 use Rattle.certificate.specs.Packed.{said_at, said_lines}
 use Rattle.certificate.proofs.AddingLemmas.{room_left, room_there, added_there, done_there}
 use Rattle.certificate.proofs.lines.add_details.Goals as goal

@@ -1,5 +1,5 @@
 use Rattle.std.proofs.Common.{◌≡◌, drop}
-use Rattle.facts.specs.Meaning.{statement_of, offsets_of}
+use Rattle.domain.specs.Meaning.{statement_of, offsets_of}
 use Rattle.certificate.specs.Found.{with_details}
 use Rattle.certificate.specs.Packed.{said_lines}
 use Rattle.certificate.proofs.lines.add_details.Given as goal

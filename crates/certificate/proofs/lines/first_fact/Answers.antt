@@ -1,8 +1,8 @@
 use Rattle.std.proofs.Common.{◌∙◌, ◌+◌, ap, sym, refl, drop, List, Some}
 use Rattle.std.proofs.lemmas.Bool.{true≢false}
 use Rattle.wordset.specs.Words.{Words}
-use Rattle.facts.specs.Statements.{Statement, fact_of}
-use Rattle.facts.specs.Meaning.{statement_of, offsets_of}
+use Rattle.domain.specs.Statements.{Statement, fact_of}
+use Rattle.domain.specs.Meaning.{statement_of, offsets_of}
 use Rattle.certificate.specs.Spelling.{Line}
 use Rattle.certificate.specs.Packed.{said_at, said_lines}
 use Rattle.certificate.specs.Found.{begins_fact}

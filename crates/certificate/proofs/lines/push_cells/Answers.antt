@@ -1,7 +1,7 @@
 use Rattle.std.proofs.Common.{◌∙◌, ◌++◌, List, ap, map, take, arith}
 use Rattle.std.proofs.lemmas.List.{take_all}
-use Rattle.facts.specs.Statements.{TrackedCell}
-use Rattle.facts.specs.Meaning.{tracked_of, tracked_cells}
+use Rattle.domain.specs.Statements.{TrackedCell}
+use Rattle.domain.specs.Meaning.{tracked_of, tracked_cells}
 use Rattle.certificate.specs.Spelling.{CellIs}
 use Rattle.certificate.specs.Packed.{said_lines}
 use Rattle.certificate.proofs.PackedLemmas.{cell_more}

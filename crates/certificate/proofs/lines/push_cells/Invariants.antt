@@ -1,5 +1,5 @@
 use Rattle.std.proofs.Common.{◌≡◌, ◌++◌, map, take}
-use Rattle.facts.specs.Meaning.{tracked_cells}
+use Rattle.domain.specs.Meaning.{tracked_cells}
 use Rattle.certificate.specs.Packed.{said_lines}
 use Rattle.certificate.specs.Spelling.{CellIs}
 use Rattle.certificate.proofs.lines.push_cells.Given as goal

@@ -1,5 +1,5 @@
 use Rattle.std.proofs.Common.{◌≡◌, ◌++◌, map, take}
-use Rattle.facts.specs.Meaning.{equation_of}
+use Rattle.domain.specs.Meaning.{equation_of}
 use Rattle.certificate.specs.Packed.{said_lines}
 use Rattle.certificate.specs.Spelling.{EquationIs}
 use Rattle.certificate.proofs.lines.push_equations.Given as goal

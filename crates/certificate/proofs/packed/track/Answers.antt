@@ -1,6 +1,6 @@
 use Rattle.std.proofs.Common.{◌<◌, ◌∙◌, ◌++◌, ◌∷◌, [], ap, subst, sym, arith}
 use Rattle.wordset.specs.Words.{Words}
-use Rattle.facts.specs.Meaning.{statement_of}
+use Rattle.domain.specs.Meaning.{statement_of}
 use Rattle.certificate.proofs.AddingLemmas.{row_there}
 use Rattle.certificate.proofs.packed.track.Goals as goal
 

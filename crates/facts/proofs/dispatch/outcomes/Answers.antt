@@ -1,5 +1,5 @@
 use Rattle.std.proofs.Common.{◌∙◌, sym}
-use Rattle.facts.specs.Meaning.{meaning}
+use Rattle.domain.specs.Meaning.{meaning}
 use Rattle.facts.specs.Places.{place_of}
 use Rattle.facts.proofs.DispatchLemmas.{by_reference, by_group1, by_group2, by_group3, by_nothing, first_group_8e, kind_here}
 use Rattle.facts.proofs.dispatch.outcomes.Goals as goal

@@ -1,6 +1,6 @@
 use Rattle.std.proofs.Common.{drop}
 use Rattle.facts.specs.Showing.{AreCells}
-use Rattle.facts.specs.Meaning.{tracked_cells}
+use Rattle.domain.specs.Meaning.{tracked_cells}
 use Rattle.facts.proofs.entailment.look_at.Given as goal
 
 abbrev pub invariant-loop-at : goal.invariant-loop-at

@@ -1,6 +1,6 @@
 use Rattle.std.proofs.Common.{◌∙◌, sym, ap, arith}
 use Rattle.peripherals.specs.Loading.{image_of}
-use Rattle.facts.specs.Meaning.{tracked_cells}
+use Rattle.domain.specs.Meaning.{tracked_cells}
 use Rattle.facts.specs.Starts.{has_each}
 use Rattle.wordset.specs.Lanes.{words}
 use Rattle.facts.proofs.StartLemmas.{start_step, start_fails, start_end}

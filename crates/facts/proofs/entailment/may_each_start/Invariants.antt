@@ -2,7 +2,7 @@ use Rattle.std.proofs.Common.{drop}
 use Rattle.std.specs.Prelude.{◌↔◌}
 use Rattle.peripherals.specs.Loading.{image_of}
 use Rattle.facts.specs.Showing.{MayStart}
-use Rattle.facts.specs.Meaning.{tracked_cells}
+use Rattle.domain.specs.Meaning.{tracked_cells}
 use Rattle.facts.proofs.entailment.may_each_start.Given as goal
 
 abbrev pub invariant-loop-at : goal.invariant-loop-at

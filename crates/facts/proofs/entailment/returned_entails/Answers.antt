@@ -1,4 +1,4 @@
-use Rattle.facts.specs.Facts.{joined}
+use Rattle.domain.specs.Facts.{joined}
 use Rattle.facts.proofs.AgreeLemmas.{entails_agree}
 use Rattle.facts.proofs.entailment.returned_entails.Goals as goal
 

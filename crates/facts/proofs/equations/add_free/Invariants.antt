@@ -1,7 +1,7 @@
 use Rattle.std.proofs.Common.{◌≡◌, ◌≤◌, ◌+◌, ◌++◌, length, drop, map}
-use Rattle.facts.specs.Facts.{same}
-use Rattle.facts.specs.Changes.{free_of}
-use Rattle.facts.specs.Meaning.{name_of, equation_of}
+use Rattle.domain.specs.Facts.{same}
+use Rattle.domain.specs.Changes.{free_of}
+use Rattle.domain.specs.Meaning.{name_of, equation_of}
 use Rattle.facts.proofs.equations.add_free.Given as goal
 
 abbrev pub invariant-loop-e : goal.invariant-loop-e

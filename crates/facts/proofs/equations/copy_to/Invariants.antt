@@ -1,6 +1,6 @@
 use Rattle.std.proofs.Common.{◌≡◌, ◌≤◌, ◌++◌, length, drop, map}
-use Rattle.facts.specs.Changes.{copied}
-use Rattle.facts.specs.Meaning.{equation_of}
+use Rattle.domain.specs.Changes.{copied}
+use Rattle.domain.specs.Meaning.{equation_of}
 use Rattle.facts.proofs.equations.copy_to.Given as goal
 
 abbrev pub invariant-loop-e : goal.invariant-loop-e

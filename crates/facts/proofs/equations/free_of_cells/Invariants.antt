@@ -1,7 +1,7 @@
 use Rattle.std.proofs.Common.{◌≡◌, ◌≤◌, ◌++◌, length, drop, map}
-use Rattle.facts.specs.Changes.{free_of, cells_of}
+use Rattle.domain.specs.Changes.{free_of, cells_of}
 use Rattle.wordset.specs.Lanes.{words}
-use Rattle.facts.specs.Meaning.{equation_of}
+use Rattle.domain.specs.Meaning.{equation_of}
 use Rattle.facts.proofs.equations.free_of_cells.Given as goal
 
 abbrev pub invariant-loop-e : goal.invariant-loop-e

@@ -1,7 +1,7 @@
 use Rattle.std.proofs.Common.{◌≡◌, ◌≤◌, ◌++◌, length, drop, map}
-use Rattle.facts.specs.Facts.{outside}
+use Rattle.domain.specs.Facts.{outside}
 use Rattle.wordset.specs.Lanes.{words}
-use Rattle.facts.specs.Meaning.{equation_of}
+use Rattle.domain.specs.Meaning.{equation_of}
 use Rattle.facts.proofs.equations.keep_outside.Given as goal
 
 abbrev pub invariant-loop-e : goal.invariant-loop-e

@@ -1,6 +1,6 @@
 use Rattle.std.proofs.Common.{◌≡◌, ◌≤◌, ◌++◌, length, drop, map}
-use Rattle.facts.specs.Changes.{moved_equations}
-use Rattle.facts.specs.Meaning.{name_of, equation_of}
+use Rattle.domain.specs.Changes.{moved_equations}
+use Rattle.domain.specs.Meaning.{name_of, equation_of}
 use Rattle.facts.proofs.equations.raise.Given as goal
 
 abbrev pub invariant-loop-e : goal.invariant-loop-e

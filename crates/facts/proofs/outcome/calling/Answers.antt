@@ -1,7 +1,7 @@
 use Rattle.std.proofs.Common.{◌∙◌}
 use Rattle.facts.proofs.PlaceLemmas.{all_same}
 use Rattle.wordset.specs.Lanes.{words}
-use Rattle.facts.specs.Meaning.{known_of}
+use Rattle.facts.specs.Knowing.{known_of}
 use Rattle.facts.proofs.OutcomeLemmas.{calls_some, given_none, alive_same}
 use Rattle.facts.proofs.outcome.calling.Goals as goal
 

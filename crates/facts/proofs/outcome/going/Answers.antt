@@ -1,6 +1,6 @@
 use Rattle.std.proofs.Common.{◌∙◌}
 use Rattle.wordset.specs.Lanes.{words}
-use Rattle.facts.specs.Meaning.{known_of}
+use Rattle.facts.specs.Knowing.{known_of}
 use Rattle.facts.proofs.OutcomeLemmas.{goes_some, given_none, alive_same}
 use Rattle.facts.proofs.outcome.going.Goals as goal
 

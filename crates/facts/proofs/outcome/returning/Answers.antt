@@ -1,6 +1,6 @@
 use Rattle.std.proofs.Common.{◌∙◌}
 use Rattle.facts.proofs.PlaceLemmas.{all_same}
-use Rattle.facts.specs.Meaning.{known_of}
+use Rattle.facts.specs.Knowing.{known_of}
 use Rattle.facts.proofs.OutcomeLemmas.{returns_some, given_none, alive_same}
 use Rattle.facts.proofs.outcome.returning.Goals as goal
 

@@ -1,4 +1,4 @@
-use Rattle.facts.specs.Facts.{Ac}
+use Rattle.domain.specs.Facts.{Ac}
 use Rattle.facts.proofs.AgreeLemmas.{agree_trans}
 use Rattle.facts.proofs.ChangingLemmas.{name_agree, moved_agree, assigned_agree}
 use Rattle.facts.proofs.references.after_sum.Goals as goal

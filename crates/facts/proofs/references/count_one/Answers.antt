@@ -1,8 +1,8 @@
 use Rattle.std.proofs.Common.{◌≡◌, ◌∙◌, ap, lit<}
 use Rattle.wordset.specs.Words.{Words, SameWords, one, plus, without, shifted}
 use Rattle.wordset.specs.Lanes.{words}
-use Rattle.facts.specs.Facts.{narrowed, Ac, Cell, has_cell}
-use Rattle.facts.specs.Changes.{moved, with_name}
+use Rattle.domain.specs.Facts.{narrowed, Ac, Cell, has_cell}
+use Rattle.domain.specs.Changes.{moved, with_name}
 use Rattle.facts.specs.Slots.{slot}
 use Rattle.facts.proofs.AgreeLemmas.{agree_trans, narrowed_agree}
 use Rattle.facts.proofs.ChangeLemmas.{has_cell_words}

@@ -1,6 +1,6 @@
 use Rattle.std.proofs.Common.{◌∙◌}
 use Rattle.wordset.specs.Words.{one, everything, plus}
-use Rattle.facts.specs.Facts.{Ac}
+use Rattle.domain.specs.Facts.{Ac}
 use Rattle.facts.proofs.PlaceLemmas.{all_same}
 use Rattle.facts.proofs.AgreeLemmas.{agree_trans, narrowed_agree}
 use Rattle.facts.proofs.ChangingLemmas.{later_agree}

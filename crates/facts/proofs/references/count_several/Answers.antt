@@ -2,8 +2,8 @@ use Rattle.std.proofs.Common.{◌≡◌, ◌∙◌}
 use Rattle.std.specs.Prelude.{◌&&◌}
 use Rattle.wordset.specs.Words.{SameWords, one, everything, plus, shifted, some_below, has_some, without}
 use Rattle.wordset.specs.Lanes.{words}
-use Rattle.facts.specs.Facts.{Ac, Cell, Fact, narrowed}
-use Rattle.facts.specs.Changes.{smeared}
+use Rattle.domain.specs.Facts.{Ac, Cell, Fact, narrowed}
+use Rattle.domain.specs.Changes.{smeared}
 use Rattle.facts.specs.Outcomes.{alive, Goes}
 use Rattle.facts.proofs.PlaceLemmas.{all_same, both_same, without_agree}
 use Rattle.facts.proofs.AgreeLemmas.{agree_trans, narrowed_agree}

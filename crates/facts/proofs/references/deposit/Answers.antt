@@ -1,7 +1,7 @@
 use Rattle.std.proofs.Common.{◌≡◌, ◌∙◌, Some, None, sym}
 use Rattle.wordset.specs.Words.{SameWords, one, everything, only, plus}
 use Rattle.wordset.specs.Lanes.{words}
-use Rattle.facts.specs.Facts.{narrowed, Ac}
+use Rattle.domain.specs.Facts.{narrowed, Ac}
 use Rattle.facts.proofs.Alike.{only_same}
 use Rattle.facts.proofs.PlaceLemmas.{all_same}
 use Rattle.facts.proofs.AgreeLemmas.{agree_trans, narrowed_agree}

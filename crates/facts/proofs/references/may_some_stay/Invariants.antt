@@ -1,8 +1,8 @@
 use Rattle.std.proofs.Common.{◌≡◌, ℕ, ◌<◌, ◌-◌, true, false}
 use Rattle.wordset.specs.Words.{has_some, without}
 use Rattle.wordset.specs.Lanes.{words}
-use Rattle.facts.specs.Facts.{Cell, narrowed}
-use Rattle.facts.specs.Meaning.{known_of}
+use Rattle.domain.specs.Facts.{Cell, narrowed}
+use Rattle.facts.specs.Knowing.{known_of}
 use Rattle.facts.proofs.references.may_some_stay.Given as goal
 
 abbrev pub invariant-loop-cell : goal.invariant-loop-cell

@@ -1,7 +1,7 @@
 use Rattle.std.proofs.Common.{◌≡◌, ◌∙◌, sym, false}
 use Rattle.wordset.specs.Lanes.{words}
-use Rattle.facts.specs.Facts.{Cell, narrowed}
-use Rattle.facts.specs.Meaning.{known_of}
+use Rattle.domain.specs.Facts.{Cell, narrowed}
+use Rattle.facts.specs.Knowing.{known_of}
 use Rattle.facts.proofs.EachLemmas.{one_more, all_pass, some_has, none_has}
 use Rattle.facts.proofs.references.may_some_wrap.Goals as goal
 

@@ -1,7 +1,7 @@
 use Rattle.std.proofs.Common.{◌≡◌, ℕ, ◌<◌, ◌-◌, true, false}
 use Rattle.wordset.specs.Lanes.{words}
-use Rattle.facts.specs.Facts.{Cell, narrowed}
-use Rattle.facts.specs.Meaning.{known_of}
+use Rattle.domain.specs.Facts.{Cell, narrowed}
+use Rattle.facts.specs.Knowing.{known_of}
 use Rattle.facts.proofs.references.may_some_wrap.Given as goal
 
 abbrev pub invariant-loop-cell : goal.invariant-loop-cell

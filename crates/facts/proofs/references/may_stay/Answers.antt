@@ -1,6 +1,6 @@
 use Rattle.wordset.specs.Lanes.{words}
-use Rattle.facts.specs.Facts.{Cell, narrowed}
-use Rattle.facts.specs.Meaning.{known_of}
+use Rattle.domain.specs.Facts.{Cell, narrowed}
+use Rattle.facts.specs.Knowing.{known_of}
 use Rattle.facts.proofs.OutcomeLemmas.{stays_test}
 use Rattle.facts.proofs.references.may_stay.Goals as goal
 

@@ -2,7 +2,7 @@ use Rattle.std.proofs.Common.{refl, ap, sym, ◌∙◌}
 use Rattle.wordset.specs.Words.{Words, SameWords, one, ors}
 use Rattle.wordset.specs.Lanes.{words}
 use Rattle.instruct.specs.Operates.{Mql, Mqa, Swp, ClaMqa}
-use Rattle.facts.specs.Facts.{Ac, narrowed}
+use Rattle.domain.specs.Facts.{Ac, narrowed}
 use Rattle.facts.proofs.PlaceLemmas.{ors_same}
 use Rattle.facts.proofs.AgreeLemmas.{narrowed_agree}
 use Rattle.facts.proofs.RegisterLemmas.{exchange_is, kept_mq}

@@ -1,5 +1,5 @@
 use Rattle.std.proofs.Common.{◌∙◌}
-use Rattle.facts.specs.Facts.{Ac}
+use Rattle.domain.specs.Facts.{Ac}
 use Rattle.facts.proofs.AgreeLemmas.{agree_trans, narrowed_agree}
 use Rattle.facts.proofs.registers.leave.Goals as goal
 

@@ -2,7 +2,7 @@ use Rattle.std.proofs.Common.{◌∙◌}
 use Rattle.wordset.specs.Words.{SameWords, SameLinks, images}
 use Rattle.wordset.specs.Lanes.{words}
 use Rattle.wordset.specs.Links.{links_of}
-use Rattle.facts.specs.Facts.{narrowed, Ac}
+use Rattle.domain.specs.Facts.{narrowed, Ac}
 use Rattle.facts.specs.Outcomes.{operated1, ac_after, link_after}
 use Rattle.facts.proofs.PlaceLemmas.{images_same}
 use Rattle.facts.proofs.AgreeLemmas.{agree_trans, narrowed_agree}

@@ -1,8 +1,8 @@
 use Rattle.std.proofs.Common.{◌∙◌, ap}
 use Rattle.wordset.specs.Words.{SameWords, or_any}
 use Rattle.wordset.specs.Lanes.{words}
-use Rattle.facts.specs.Facts.{Ac, narrowed}
-use Rattle.facts.specs.Changes.{assigned}
+use Rattle.domain.specs.Facts.{Ac, narrowed}
+use Rattle.domain.specs.Changes.{assigned}
 use Rattle.facts.proofs.PlaceLemmas.{or_any_same}
 use Rattle.facts.proofs.AgreeLemmas.{agree_trans, narrowed_agree}
 use Rattle.facts.proofs.ChangingLemmas.{assigned_agree}

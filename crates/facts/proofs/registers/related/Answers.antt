@@ -1,9 +1,9 @@
 use Rattle.std.proofs.Common.{◌∙◌, sym, subst}
 use Rattle.wordset.specs.Lanes.{words}
-use Rattle.facts.specs.Facts.{Ac}
-use Rattle.facts.specs.Changes.{moved, with_name}
-use Rattle.facts.specs.Same.{Agree}
-use Rattle.facts.specs.Meaning.{known_of}
+use Rattle.domain.specs.Facts.{Ac}
+use Rattle.domain.specs.Changes.{moved, with_name}
+use Rattle.domain.specs.Same.{Agree}
+use Rattle.facts.specs.Knowing.{known_of}
 use Rattle.facts.proofs.AgreeLemmas.{agree_trans}
 use Rattle.facts.proofs.ChangingLemmas.{assigned_agree, moved_agree, name_agree}
 use Rattle.facts.proofs.RegisterLemmas.{related_none, related_moved, related_kept}

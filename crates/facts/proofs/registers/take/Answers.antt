@@ -1,7 +1,7 @@
 use Rattle.std.proofs.Common.{◌∙◌, ap}
 use Rattle.wordset.specs.Words.{Words}
-use Rattle.facts.specs.Facts.{Ac}
-use Rattle.facts.specs.Changes.{assigned, with_mq}
+use Rattle.domain.specs.Facts.{Ac}
+use Rattle.domain.specs.Changes.{assigned, with_mq}
 use Rattle.facts.proofs.AgreeLemmas.{agree_trans, narrowed_agree}
 use Rattle.facts.proofs.ChangingLemmas.{assigned_agree, mq_agree}
 use Rattle.facts.proofs.registers.take.Goals as goal

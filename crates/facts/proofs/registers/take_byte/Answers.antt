@@ -1,7 +1,7 @@
 use Rattle.std.proofs.Common.{◌∙◌, refl}
 use Rattle.std.specs.Prelude.{nat_lt}
-use Rattle.facts.specs.Facts.{Ac}
-use Rattle.facts.specs.Changes.{assigned}
+use Rattle.domain.specs.Facts.{Ac}
+use Rattle.domain.specs.Changes.{assigned}
 use Rattle.facts.proofs.AgreeLemmas.{agree_trans, narrowed_agree}
 use Rattle.facts.proofs.ChangingLemmas.{assigned_agree}
 use Rattle.facts.proofs.RegisterLemmas.{bytes_same}

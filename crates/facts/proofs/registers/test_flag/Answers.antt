@@ -1,7 +1,7 @@
 use Rattle.std.proofs.Common.{◌∙◌}
 use Rattle.wordset.specs.Words.{SameWords, everything, one, plus}
 use Rattle.wordset.specs.Lanes.{words}
-use Rattle.facts.specs.Facts.{Ac, narrowed}
+use Rattle.domain.specs.Facts.{Ac, narrowed}
 use Rattle.facts.proofs.PlaceLemmas.{all_same}
 use Rattle.facts.proofs.AgreeLemmas.{agree_trans, narrowed_agree}
 use Rattle.facts.proofs.OutcomeLemmas.{append_agree}

@@ -3,7 +3,7 @@ use Rattle.std.specs.Prelude.{if◌then◌else◌}
 use Rattle.instruct.specs.Bits.{has_bit}
 use Rattle.wordset.specs.Words.{Words, SameWords, one, or_any}
 use Rattle.wordset.specs.Lanes.{words}
-use Rattle.facts.specs.Facts.{Ac}
+use Rattle.domain.specs.Facts.{Ac}
 use Rattle.facts.proofs.PlaceLemmas.{or_any_same}
 use Rattle.facts.proofs.AgreeLemmas.{agree_trans}
 use Rattle.facts.proofs.ChangingLemmas.{assigned_agree, name_agree}

@@ -4,11 +4,11 @@ use Rattle.instruct.specs.Operates.{skips_of}
 use Rattle.wordset.specs.Words.{SameWords, everything, one}
 use Rattle.wordset.specs.Lanes.{words}
 use Rattle.processor.specs.Machine.{next_pc}
-use Rattle.facts.specs.Facts.{narrowed, Ac}
-use Rattle.facts.specs.Changes.{with_link}
+use Rattle.domain.specs.Facts.{narrowed, Ac}
+use Rattle.domain.specs.Changes.{with_link}
 use Rattle.facts.specs.Outcomes.{part2, related2}
-use Rattle.facts.specs.Same.{Agree}
-use Rattle.facts.specs.Meaning.{known_of}
+use Rattle.domain.specs.Same.{Agree}
+use Rattle.facts.specs.Knowing.{known_of}
 use Rattle.facts.proofs.PlaceLemmas.{all_same}
 use Rattle.facts.proofs.AgreeLemmas.{agree_trans, narrowed_agree}
 use Rattle.facts.proofs.ChangingLemmas.{link_agree}

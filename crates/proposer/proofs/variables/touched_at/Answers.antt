@@ -1,6 +1,6 @@
 use Rattle.std.proofs.Common.{sym, ◌∙◌}
 use Rattle.wordset.specs.Lanes.{words}
-use Rattle.facts.specs.Meaning.{meaning}
+use Rattle.domain.specs.Meaning.{meaning}
 use Rattle.facts.specs.Places.{place_of}
 use Rattle.facts.proofs.EachLemmas.{one_more, all_pass}
 use Rattle.proposer.specs.Touched.{HasTouched, IsTouchedBy}

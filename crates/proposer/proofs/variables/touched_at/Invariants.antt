@@ -1,6 +1,6 @@
 use Rattle.std.proofs.Common.{ℕ, ◌≡◌, ◌<◌, ◌-◌, true}
 use Rattle.wordset.specs.Lanes.{words}
-use Rattle.facts.specs.Meaning.{meaning}
+use Rattle.domain.specs.Meaning.{meaning}
 use Rattle.facts.specs.Places.{place_of}
 use Rattle.proposer.specs.Touched.{HasTouched, IsTouchedBy}
 use Rattle.proposer.proofs.variables.touched_at.Given as goal

@@ -2,7 +2,7 @@ use Rattle.std.proofs.Common.{◌≡◌, true, ap, sym, ◌∙◌}
 use Rattle.wordset.specs.Lanes.{words}
 use Rattle.certificate.specs.Kept.{claims}
 use Rattle.declaration.specs.Declaration.{Routine}
-use Rattle.facts.specs.Meaning.{meaning}
+use Rattle.domain.specs.Meaning.{meaning}
 use Rattle.facts.specs.Places.{place_of}
 use Rattle.judge.specs.Conditions.{IsIn, fact_at, place_in}
 use Rattle.judge.specs.Judged.{judged}

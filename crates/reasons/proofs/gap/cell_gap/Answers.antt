@@ -1,10 +1,11 @@
 use Rattle.std.proofs.Common.{◌<◌, length, arith, ap, subst, sym}
 use Rattle.wordset.specs.Words.{SameWords}
 use Rattle.wordset.specs.Lanes.{words}
-use Rattle.facts.specs.Meaning.{known_of, tracked_cells}
+use Rattle.domain.specs.Meaning.{tracked_cells}
+use Rattle.facts.specs.Knowing.{known_of}
 use Rattle.facts.specs.Showing.{EachWithin}
-use Rattle.facts.specs.Statements.{TrackedCell, tracked}
-use Rattle.facts.proofs.TrackingLemmas.{each_step}
+use Rattle.domain.specs.Statements.{TrackedCell, tracked}
+use Rattle.facts.proofs.EntailLemmas.{each_step}
 use Rattle.reasons.proofs.GapLemmas.{all_within, cell_within}
 use Rattle.reasons.proofs.gap.cell_gap.Goals as goal
 

@@ -1,6 +1,7 @@
 use Rattle.std.proofs.Common.{drop}
 use Rattle.std.specs.Prelude.{◌↔◌}
-use Rattle.facts.specs.Meaning.{known_of, tracked_cells}
+use Rattle.domain.specs.Meaning.{tracked_cells}
+use Rattle.facts.specs.Knowing.{known_of}
 use Rattle.facts.specs.Showing.{EachWithin}
 use Rattle.reasons.proofs.gap.cell_gap.Given as goal
 

@@ -2,9 +2,9 @@ use Rattle.std.proofs.Common.{◌<◌, length, arith, ap, refl, subst, sym}
 use Rattle.wordset.specs.Words.{SameWords}
 use Rattle.wordset.specs.Lanes.{words}
 use Rattle.peripherals.specs.Loading.{image_of}
-use Rattle.facts.specs.Meaning.{tracked_cells}
+use Rattle.domain.specs.Meaning.{tracked_cells}
 use Rattle.facts.specs.Showing.{MayStart}
-use Rattle.facts.specs.Statements.{TrackedCell, tracked}
+use Rattle.domain.specs.Statements.{TrackedCell, tracked}
 use Rattle.facts.proofs.StartLemmas.{start_end, start_step}
 use Rattle.reasons.proofs.GapLemmas.{cell_allowed}
 use Rattle.reasons.proofs.gap.cell_gap_at_start.Goals as goal

@@ -1,7 +1,7 @@
 use Rattle.std.proofs.Common.{drop}
 use Rattle.std.specs.Prelude.{◌↔◌}
 use Rattle.peripherals.specs.Loading.{image_of}
-use Rattle.facts.specs.Meaning.{tracked_cells}
+use Rattle.domain.specs.Meaning.{tracked_cells}
 use Rattle.facts.specs.Showing.{MayStart}
 use Rattle.reasons.proofs.gap.cell_gap_at_start.Given as goal
 

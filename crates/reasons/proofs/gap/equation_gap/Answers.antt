@@ -1,7 +1,8 @@
 use Rattle.std.proofs.Common.{arith, sym, ◌∙◌, subst}
 use Rattle.std.proofs.lemmas.Bool.{true≢false}
-use Rattle.facts.specs.Facts.{Among, KnowsAll}
-use Rattle.facts.specs.Meaning.{equation_of, known_of}
+use Rattle.domain.specs.Facts.{Among, KnowsAll}
+use Rattle.domain.specs.Meaning.{equation_of}
+use Rattle.facts.specs.Knowing.{known_of}
 use Rattle.facts.proofs.EntailLemmas.{knows_step}
 use Rattle.reasons.proofs.GapLemmas.{all_known, among_item}
 use Rattle.reasons.proofs.gap.equation_gap.Goals as goal

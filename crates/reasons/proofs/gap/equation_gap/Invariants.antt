@@ -1,7 +1,8 @@
 use Rattle.std.proofs.Common.{drop, map}
 use Rattle.std.specs.Prelude.{◌↔◌}
-use Rattle.facts.specs.Facts.{KnowsAll}
-use Rattle.facts.specs.Meaning.{known_of, equation_of}
+use Rattle.domain.specs.Facts.{KnowsAll}
+use Rattle.domain.specs.Meaning.{equation_of}
+use Rattle.facts.specs.Knowing.{known_of}
 use Rattle.reasons.proofs.gap.equation_gap.Given as goal
 
 abbrev pub invariant-loop-equation : goal.invariant-loop-equation

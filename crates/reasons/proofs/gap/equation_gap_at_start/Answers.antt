@@ -1,7 +1,7 @@
 use Rattle.std.proofs.Common.{◌≡◌, true, arith, sym, ◌∙◌, subst}
 use Rattle.peripherals.specs.Loading.{image_of}
-use Rattle.facts.specs.Facts.{Among}
-use Rattle.facts.specs.Meaning.{equation_of}
+use Rattle.domain.specs.Facts.{Among}
+use Rattle.domain.specs.Meaning.{equation_of}
 use Rattle.facts.specs.Starts.{are_always}
 use Rattle.reasons.proofs.GapLemmas.{all_always, always_step, among_item}
 use Rattle.reasons.proofs.gap.equation_gap_at_start.Goals as goal

@@ -1,7 +1,7 @@
 use Rattle.std.proofs.Common.{◌≡◌, drop, map}
 use Rattle.peripherals.specs.Loading.{image_of}
 use Rattle.facts.specs.Starts.{are_always}
-use Rattle.facts.specs.Meaning.{equation_of}
+use Rattle.domain.specs.Meaning.{equation_of}
 use Rattle.reasons.proofs.gap.equation_gap_at_start.Given as goal
 
 abbrev pub invariant-loop-equation : goal.invariant-loop-equation

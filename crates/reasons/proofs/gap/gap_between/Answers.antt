@@ -1,4 +1,4 @@
-use Rattle.facts.specs.Meaning.{known_of}
+use Rattle.facts.specs.Knowing.{known_of}
 use Rattle.reasons.proofs.FoundLemmas.{none_weaker}
 use Rattle.reasons.proofs.GapLemmas.{entails_all}
 use Rattle.reasons.proofs.gap.gap_between.Goals as goal

@@ -1,6 +1,6 @@
 use Rattle.std.proofs.Common.{◌≡◌, true, arith, sym, ap, ◌∙◌}
 use Rattle.wordset.specs.Words.{Words}
-use Rattle.facts.specs.Meaning.{offsets_of}
+use Rattle.domain.specs.Meaning.{offsets_of}
 use Rattle.reasons.proofs.SetLemmas.{below_next}
 use Rattle.reasons.proofs.gap.offset_gap.Goals as goal
 

@@ -1,5 +1,5 @@
 use Rattle.std.proofs.Common.{◌≡◌, ℕ, ◌<◌, true}
-use Rattle.facts.specs.Meaning.{offsets_of}
+use Rattle.domain.specs.Meaning.{offsets_of}
 use Rattle.reasons.proofs.gap.offset_gap.Given as goal
 
 abbrev pub invariant-loop-offset : goal.invariant-loop-offset

@@ -1,4 +1,5 @@
-use Rattle.facts.specs.Meaning.{known_of, meaning}
+use Rattle.domain.specs.Meaning.{meaning}
+use Rattle.facts.specs.Knowing.{known_of}
 use Rattle.wordset.specs.Lanes.{words}
 use Rattle.wordset.specs.Links.{links_of}
 use Rattle.reasons.proofs.GapLemmas.{link_gap, registers_within}

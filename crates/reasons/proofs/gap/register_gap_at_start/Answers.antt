@@ -1,6 +1,6 @@
 use Rattle.wordset.specs.Lanes.{words}
 use Rattle.wordset.specs.Links.{links_of}
-use Rattle.facts.specs.Meaning.{meaning}
+use Rattle.domain.specs.Meaning.{meaning}
 use Rattle.reasons.proofs.GapLemmas.{registers_allowed, start_link}
 use Rattle.reasons.proofs.gap.register_gap_at_start.Goals as goal
 

@@ -1,6 +1,6 @@
 use Rattle.std.proofs.Common.{sym, ap, ◌∙◌}
 use Rattle.wordset.specs.Words.{Words}
-use Rattle.facts.specs.Meaning.{meaning}
+use Rattle.domain.specs.Meaning.{meaning}
 use Rattle.reasons.proofs.SetLemmas.{none_below}
 use Rattle.reasons.proofs.lines.first_offset.Goals as goal
 

@@ -1,5 +1,5 @@
 use Rattle.std.proofs.Common.{ℕ, ◌≡◌, ◌<◌, false}
-use Rattle.facts.specs.Meaning.{meaning}
+use Rattle.domain.specs.Meaning.{meaning}
 use Rattle.reasons.proofs.lines.first_offset.Given as goal
 
 abbrev pub invariant-loop-offset : goal.invariant-loop-offset

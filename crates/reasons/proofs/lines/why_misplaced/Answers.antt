@@ -1,7 +1,7 @@
 use Rattle.std.proofs.Common.{inr, not, sym, ap, ◌∙◌}
 use Rattle.wordset.specs.Words.{Words}
-use Rattle.facts.specs.Facts.{Fact}
-use Rattle.facts.specs.Meaning.{offsets_of}
+use Rattle.domain.specs.Facts.{Fact}
+use Rattle.domain.specs.Meaning.{offsets_of}
 use Rattle.judge.proofs.LineLemmas.{not_empty}
 use Rattle.reasons.proofs.lines.why_misplaced.Goals as goal
 

@@ -1,6 +1,6 @@
 use Rattle.std.proofs.Common.{◌∙◌, sym}
 use Rattle.std.proofs.lemmas.Bool.{true≢false}
-use Rattle.facts.specs.Meaning.{meaning}
+use Rattle.domain.specs.Meaning.{meaning}
 use Rattle.judge.specs.Judged.{judged}
 use Rattle.judge.proofs.LineLemmas.{start_iff}
 use Rattle.reasons.proofs.lines.why_start.Goals as goal

@@ -1,5 +1,5 @@
 use Rattle.std.proofs.Common.{refl}
-use Rattle.facts.specs.Meaning.{offsets_of}
+use Rattle.domain.specs.Meaning.{offsets_of}
 use Rattle.certificate.specs.Fields.{left}
 use Rattle.certificate.proofs.DigitLemmas.{no_digits, digit_there, digit_missing, all_digits}
 use Rattle.certificate.proofs.fields.Fields.digits.Goals as goal

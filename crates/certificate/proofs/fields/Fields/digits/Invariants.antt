@@ -1,4 +1,4 @@
-use Rattle.facts.specs.Meaning.{offsets_of}
+use Rattle.domain.specs.Meaning.{offsets_of}
 use Rattle.certificate.specs.Fields.{left}
 use Rattle.certificate.proofs.DigitLemmas.{DigitsRead}
 use Rattle.certificate.proofs.fields.Fields.digits.Given as goal

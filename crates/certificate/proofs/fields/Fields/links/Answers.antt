@@ -1,6 +1,6 @@
 use Rattle.wordset.specs.Words.{some_below}
 use Rattle.wordset.specs.Links.{links_of}
-use Rattle.facts.specs.Meaning.{offsets_of}
+use Rattle.domain.specs.Meaning.{offsets_of}
 use Rattle.certificate.specs.Fields.{left}
 use Rattle.certificate.proofs.DigitLemmas.{no_links, links_read, not_true}
 use Rattle.certificate.proofs.fields.Fields.links.Goals as goal

@@ -1,5 +1,5 @@
 use Rattle.std.proofs.Common.{refl}
-use Rattle.facts.specs.Meaning.{offsets_of}
+use Rattle.domain.specs.Meaning.{offsets_of}
 use Rattle.certificate.specs.Fields.{left}
 use Rattle.certificate.proofs.DigitLemmas.{dash_read, offsets_read, offsets_fail, has_offset}
 use Rattle.certificate.proofs.fields.Fields.offsets.Goals as goal

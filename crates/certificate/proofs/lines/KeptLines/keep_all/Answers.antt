@@ -1,5 +1,5 @@
 use Rattle.std.proofs.Common.{map}
-use Rattle.facts.specs.Meaning.{tracked_cells, equation_of}
+use Rattle.domain.specs.Meaning.{tracked_cells, equation_of}
 use Rattle.certificate.specs.Claimed.{claimed_line}
 use Rattle.certificate.proofs.MakerLemmas.{index_more}
 use Rattle.certificate.proofs.lines.KeptLines.keep_all.Goals as goal

@@ -1,4 +1,4 @@
-use Rattle.facts.specs.Meaning.{offsets_of}
+use Rattle.domain.specs.Meaning.{offsets_of}
 use Rattle.certificate.specs.Spelling.{digits}
 use Rattle.certificate.specs.Spelled.{Adds}
 use Rattle.certificate.proofs.spelled.LineText.digits.Given as goal

@@ -1,7 +1,7 @@
 use Rattle.std.proofs.Common.{◌∙◌, ap, map}
-use Rattle.facts.specs.Facts.{Cell}
-use Rattle.facts.specs.Changes.{moved_equations}
-use Rattle.facts.specs.Meaning.{equation_of}
+use Rattle.domain.specs.Facts.{Cell}
+use Rattle.domain.specs.Changes.{moved_equations}
+use Rattle.domain.specs.Meaning.{equation_of}
 use Rattle.facts.proofs.ChangingLemmas.{counted_cell}
 use Rattle.facts.proofs.known.Known.counted_to.Goals as goal
 

@@ -1,7 +1,8 @@
 use Rattle.std.proofs.Common.{map, arith}
-use Rattle.facts.specs.Changes.{copied}
+use Rattle.domain.specs.Changes.{copied}
 use Rattle.wordset.specs.Lanes.{words}
-use Rattle.facts.specs.Meaning.{known_of, equation_of}
+use Rattle.domain.specs.Meaning.{equation_of}
+use Rattle.facts.specs.Knowing.{known_of}
 use Rattle.facts.proofs.ChangingLemmas.{deposited_agree}
 use Rattle.facts.proofs.known.Known.deposited.Goals as goal
 

@@ -1,9 +1,9 @@
 use Rattle.std.proofs.Common.{◌∙◌, ap, sym, subst}
 use Rattle.std.specs.Prelude.{IsTrue, ◌↔◌}
 use Rattle.wordset.specs.Words.{Words}
-use Rattle.facts.specs.Facts.{Cell, KnowsAll}
+use Rattle.domain.specs.Facts.{Cell, KnowsAll}
 use Rattle.facts.specs.Showing.{EachWithin}
-use Rattle.facts.specs.Meaning.{known_of}
+use Rattle.facts.specs.Knowing.{known_of}
 use Rattle.facts.proofs.EntailLemmas.{entails_iff, registers_of, not_true, not_both, tracked_each}
 use Rattle.facts.proofs.known.Known.entails.Goals as goal
 

@@ -1,6 +1,6 @@
 use Rattle.std.proofs.Common.{arith}
 use Rattle.facts.proofs.EntailLemmas.{not_both}
-use Rattle.facts.proofs.TrackingLemmas.{each_step, each_fails}
+use Rattle.facts.proofs.EntailLemmas.{each_step, each_fails}
 use Rattle.facts.proofs.known.Known.is_each_within.Goals as goal
 
 pub returns-then-not-is_within : goal.returns-then-not-is_within

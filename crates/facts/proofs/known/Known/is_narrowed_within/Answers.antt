@@ -1,8 +1,9 @@
 use Rattle.wordset.specs.Words.{SameWords}
 use Rattle.wordset.specs.Lanes.{words}
-use Rattle.facts.specs.Facts.{Cell, narrowed}
-use Rattle.facts.specs.Statements.{cell_at}
-use Rattle.facts.specs.Meaning.{known_of, tracked_cells}
+use Rattle.domain.specs.Facts.{Cell, narrowed}
+use Rattle.domain.specs.Statements.{cell_at}
+use Rattle.domain.specs.Meaning.{tracked_cells}
+use Rattle.facts.specs.Knowing.{known_of}
 use Rattle.facts.proofs.EntailLemmas.{within_same, same_flip}
 use Rattle.facts.proofs.known.Known.is_narrowed_within.Goals as goal
 

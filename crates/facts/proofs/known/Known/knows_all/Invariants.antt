@@ -1,7 +1,8 @@
 use Rattle.std.proofs.Common.{drop, map}
 use Rattle.std.specs.Prelude.{◌↔◌}
-use Rattle.facts.specs.Facts.{KnowsAll}
-use Rattle.facts.specs.Meaning.{known_of, equation_of}
+use Rattle.domain.specs.Facts.{KnowsAll}
+use Rattle.domain.specs.Meaning.{equation_of}
+use Rattle.facts.specs.Knowing.{known_of}
 use Rattle.facts.proofs.known.Known.knows_all.Given as goal
 
 abbrev pub invariant-loop-e : goal.invariant-loop-e

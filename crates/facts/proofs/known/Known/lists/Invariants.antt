@@ -1,7 +1,7 @@
 use Rattle.std.proofs.Common.{drop, map}
 use Rattle.std.specs.Prelude.{◌↔◌}
-use Rattle.facts.specs.Facts.{Among}
-use Rattle.facts.specs.Meaning.{equation_of}
+use Rattle.domain.specs.Facts.{Among}
+use Rattle.domain.specs.Meaning.{equation_of}
 use Rattle.facts.proofs.known.Known.lists.Given as goal
 
 abbrev pub invariant-loop-e : goal.invariant-loop-e

@@ -1,7 +1,8 @@
 use Rattle.std.proofs.Common.{◌∙◌, sym}
-use Rattle.facts.specs.Facts.{narrowed}
+use Rattle.domain.specs.Facts.{narrowed}
 use Rattle.wordset.specs.Lanes.{words}
-use Rattle.facts.specs.Meaning.{known_of, name_of, equation_of}
+use Rattle.domain.specs.Meaning.{name_of, equation_of}
+use Rattle.facts.specs.Knowing.{known_of}
 use Rattle.facts.proofs.EntailLemmas.{narrowed_step, narrowed_end, unspoken}
 use Rattle.facts.proofs.known.Known.narrow_into.Goals as goal
 

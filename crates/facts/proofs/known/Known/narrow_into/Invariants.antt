@@ -1,8 +1,9 @@
 use Rattle.std.proofs.Common.{◌≡◌, ◌<◌, ℕ, drop, map}
 use Rattle.std.specs.Prelude.{◌&&◌}
-use Rattle.facts.specs.Facts.{met_by}
+use Rattle.domain.specs.Facts.{met_by}
 use Rattle.wordset.specs.Lanes.{words}
-use Rattle.facts.specs.Meaning.{known_of, name_of, equation_of}
+use Rattle.domain.specs.Meaning.{name_of, equation_of}
+use Rattle.facts.specs.Knowing.{known_of}
 use Rattle.facts.proofs.known.Known.narrow_into.Given as goal
 
 abbrev pub invariant-loop-e : goal.invariant-loop-e

@@ -1,5 +1,5 @@
 use Rattle.std.proofs.Common.{◌∙◌, ap, map}
-use Rattle.facts.specs.Meaning.{equation_of}
+use Rattle.domain.specs.Meaning.{equation_of}
 use Rattle.facts.proofs.ChangingLemmas.{raised_to_agrees}
 use Rattle.facts.proofs.known.Known.raised_to.Goals as goal
 

@@ -1,10 +1,10 @@
 use Rattle.std.proofs.Common.{◌∙◌, ◌++◌, ap, refl, map, List}
 use Rattle.wordset.specs.Lanes.{words}
-use Rattle.facts.specs.Facts.{Equation, outside}
+use Rattle.domain.specs.Facts.{Equation, outside}
 use Rattle.facts.specs.declared.known.Known.{Known}
 use Rattle.facts.specs.declared.known.Source.TheVariants.{Joined}
 use Rattle.facts.specs.declared.known.Change.TheVariants.{Unchanged}
-use Rattle.facts.specs.Meaning.{equation_of}
+use Rattle.domain.specs.Meaning.{equation_of}
 use Rattle.facts.proofs.ChangeLemmas.{joined_agree, map_both}
 use Rattle.facts.proofs.known.Known.returned.Goals as goal
 

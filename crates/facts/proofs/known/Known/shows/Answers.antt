@@ -1,5 +1,6 @@
 use Rattle.std.proofs.Common.{◌∙◌}
-use Rattle.facts.specs.Meaning.{known_of, equation_of}
+use Rattle.domain.specs.Meaning.{equation_of}
+use Rattle.facts.specs.Knowing.{known_of}
 use Rattle.facts.proofs.Alike.{only_same}
 use Rattle.facts.proofs.EntailLemmas.{shows_some, shows_left, shows_right}
 use Rattle.facts.proofs.known.Known.shows.Goals as goal

@@ -1,9 +1,10 @@
 use Rattle.std.proofs.Common.{◌∙◌, ap, map, subst}
-use Rattle.facts.specs.Facts.{Cell, narrowed}
-use Rattle.facts.specs.Changes.{moved_equations}
+use Rattle.domain.specs.Facts.{Cell, narrowed}
+use Rattle.domain.specs.Changes.{moved_equations}
 use Rattle.wordset.specs.Words.{SameWords, shifted}
 use Rattle.wordset.specs.Lanes.{words}
-use Rattle.facts.specs.Meaning.{known_of, equation_of}
+use Rattle.domain.specs.Meaning.{equation_of}
+use Rattle.facts.specs.Knowing.{known_of}
 use Rattle.facts.proofs.ChangingLemmas.{moved_pointer}
 use Rattle.facts.proofs.known.Known.stepped.Goals as goal
 

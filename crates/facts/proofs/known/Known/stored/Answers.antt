@@ -1,5 +1,5 @@
 use Rattle.std.proofs.Common.{◌∙◌, ap, map}
-use Rattle.facts.specs.Meaning.{equation_of}
+use Rattle.domain.specs.Meaning.{equation_of}
 use Rattle.facts.proofs.ChangingLemmas.{smeared_stored}
 use Rattle.facts.proofs.known.Known.stored.Goals as goal
 

@@ -2,10 +2,10 @@ use Rattle.std.proofs.Common.{◌≡◌, ◌∙◌}
 use Rattle.wordset.specs.Words.{SameWords, SameLinks, one, everything, plus, sums, carries, toggled, only}
 use Rattle.wordset.specs.Lanes.{words}
 use Rattle.wordset.specs.Links.{links_of}
-use Rattle.facts.specs.Facts.{narrowed, Ac}
+use Rattle.domain.specs.Facts.{narrowed, Ac}
 use Rattle.facts.specs.Outcomes.{words_at, tad_case, tad_fact}
-use Rattle.facts.specs.Same.{Agree}
-use Rattle.facts.specs.Meaning.{known_of}
+use Rattle.domain.specs.Same.{Agree}
+use Rattle.facts.specs.Knowing.{known_of}
 use Rattle.facts.specs.Places.{place_of}
 use Rattle.facts.proofs.Alike.{only_same}
 use Rattle.facts.proofs.PlaceLemmas.{all_same, at_agree, sums_same, carries_same, toggled_same}

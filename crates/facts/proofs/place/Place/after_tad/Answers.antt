@@ -1,6 +1,6 @@
 use Rattle.std.proofs.Common.{◌∙◌, sym, List, [], ◌∷◌}
-use Rattle.facts.specs.Facts.{Ac, Cell, Equation}
-use Rattle.facts.specs.Meaning.{known_of}
+use Rattle.domain.specs.Facts.{Ac, Cell, Equation}
+use Rattle.facts.specs.Knowing.{known_of}
 use Rattle.facts.specs.Places.{place_of}
 use Rattle.facts.proofs.AgreeLemmas.{agree_trans}
 use Rattle.facts.proofs.ChangingLemmas.{assigned_agree, told_agree}

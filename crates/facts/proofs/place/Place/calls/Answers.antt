@@ -2,7 +2,7 @@ use Rattle.std.proofs.Common.{◌∙◌, sym, subst}
 use Rattle.wordset.specs.Words.{SameWords}
 use Rattle.wordset.specs.Lanes.{words}
 use Rattle.facts.specs.Conditions.{called}
-use Rattle.facts.specs.Meaning.{meaning}
+use Rattle.domain.specs.Meaning.{meaning}
 use Rattle.facts.specs.Places.{place_of}
 use Rattle.facts.proofs.AskedLemmas.{no_words}
 use Rattle.facts.proofs.CallLemmas.{calls_none, call_meaning}

@@ -3,7 +3,7 @@ use Rattle.wordset.specs.Words.{SameWords}
 use Rattle.wordset.specs.Lanes.{words}
 use Rattle.instruct.specs.Instructions.{operation_of}
 use Rattle.facts.specs.Conditions.{may_read}
-use Rattle.facts.specs.Meaning.{meaning}
+use Rattle.domain.specs.Meaning.{meaning}
 use Rattle.facts.specs.Places.{place_of}
 use Rattle.facts.proofs.AskedLemmas.{no_reference, no_words, refers_to, reads_none, reads_reference}
 use Rattle.facts.proofs.place.Place.cells_read.Goals as goal

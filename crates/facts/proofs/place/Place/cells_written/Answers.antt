@@ -4,7 +4,7 @@ use Rattle.wordset.specs.Lanes.{words}
 use Rattle.instruct.specs.Instructions.{operation_of}
 use Rattle.facts.specs.Outcomes.{targets}
 use Rattle.facts.specs.Conditions.{may_write}
-use Rattle.facts.specs.Meaning.{meaning}
+use Rattle.domain.specs.Meaning.{meaning}
 use Rattle.facts.specs.Places.{place_of}
 use Rattle.facts.proofs.AskedLemmas.{no_reference, no_words, or_false, refers_to, writes_none, writes_reference}
 use Rattle.facts.proofs.place.Place.cells_written.Goals as goal

@@ -1,7 +1,7 @@
 use Rattle.std.proofs.Common.{◌∙◌}
 use Rattle.wordset.specs.Words.{SameWords, one, everything, plus, ands}
 use Rattle.wordset.specs.Lanes.{words}
-use Rattle.facts.specs.Facts.{narrowed, Ac}
+use Rattle.domain.specs.Facts.{narrowed, Ac}
 use Rattle.facts.specs.Outcomes.{words_at}
 use Rattle.facts.specs.Places.{place_of}
 use Rattle.facts.proofs.PlaceLemmas.{all_same, at_agree, ands_same}

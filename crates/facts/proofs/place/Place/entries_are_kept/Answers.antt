@@ -4,7 +4,7 @@ use Rattle.wordset.specs.Words.{Words}
 use Rattle.wordset.specs.Lanes.{words}
 use Rattle.facts.specs.Conditions.{CountsItsReturn}
 use Rattle.facts.specs.Outcomes.{meaning_at}
-use Rattle.facts.specs.Meaning.{meaning}
+use Rattle.domain.specs.Meaning.{meaning}
 use Rattle.facts.specs.Places.{place_of}
 use Rattle.facts.proofs.AskedLemmas.{over, over_none}
 use Rattle.facts.proofs.EachLemmas.{one_fails, all_pass}

@@ -2,7 +2,7 @@ use Rattle.std.proofs.Common.{◌≡◌, ℕ, ◌<◌, ◌-◌, true}
 use Rattle.wordset.specs.Lanes.{words}
 use Rattle.facts.specs.Conditions.{CountsItsReturn}
 use Rattle.facts.specs.Outcomes.{meaning_at}
-use Rattle.facts.specs.Meaning.{meaning}
+use Rattle.domain.specs.Meaning.{meaning}
 use Rattle.facts.specs.Places.{place_of}
 use Rattle.facts.proofs.place.Place.entries_are_kept.Given as goal
 

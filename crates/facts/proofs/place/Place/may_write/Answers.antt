@@ -1,7 +1,7 @@
 use Rattle.std.proofs.Common.{◌∙◌, ap, refl, Option}
 use Rattle.std.specs.Prelude.{◌||◌}
 use Rattle.wordset.specs.Lanes.{words}
-use Rattle.facts.specs.Facts.{is_routine}
+use Rattle.domain.specs.Facts.{is_routine}
 use Rattle.facts.specs.Places.{routine_of}
 use Rattle.facts.specs.declared.place.Running.{Running}
 use Rattle.facts.proofs.AskedLemmas.{listed_iff}

@@ -2,7 +2,8 @@ use Rattle.std.proofs.Common.{◌∙◌, ap, arith}
 use Rattle.std.specs.Prelude.{◌||◌}
 use Rattle.wordset.specs.Words.{Words, shifted}
 use Rattle.wordset.specs.Lanes.{words}
-use Rattle.facts.specs.Meaning.{offsets_of, known_of}
+use Rattle.domain.specs.Meaning.{offsets_of}
+use Rattle.facts.specs.Knowing.{known_of}
 use Rattle.facts.proofs.PlaceLemmas.{some_none, some_step, own_end, and_both}
 use Rattle.facts.proofs.place.Place.own_words.Goals as goal
 

@@ -2,7 +2,7 @@ use Rattle.std.proofs.Common.{◌≡◌, ◌+◌, ◌<◌, ℕ}
 use Rattle.std.specs.Prelude.{◌&&◌}
 use Rattle.wordset.specs.Words.{some_below, minus}
 use Rattle.wordset.specs.Lanes.{words}
-use Rattle.facts.specs.Meaning.{offsets_of}
+use Rattle.domain.specs.Meaning.{offsets_of}
 use Rattle.facts.proofs.place.Place.own_words.Given as goal
 
 abbrev pub invariant-loop-o : goal.invariant-loop-o

@@ -1,7 +1,7 @@
 use Rattle.std.proofs.Common.{◌∙◌, sym, subst, ap}
 use Rattle.wordset.specs.Words.{Words, SameWords}
 use Rattle.wordset.specs.Lanes.{words}
-use Rattle.facts.specs.Facts.{tape_word}
+use Rattle.domain.specs.Facts.{tape_word}
 use Rattle.facts.proofs.CallLemmas.{possible_variable, possible_tape}
 use Rattle.facts.proofs.PlaceLemmas.{all_same}
 use Rattle.facts.proofs.place.Place.possible_words.Goals as goal

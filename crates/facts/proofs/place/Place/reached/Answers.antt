@@ -1,8 +1,8 @@
 use Rattle.std.proofs.Common.{◌∙◌, ap, sym, subst}
 use Rattle.wordset.specs.Words.{Words, SameWords, shifted}
 use Rattle.wordset.specs.Lanes.{words}
-use Rattle.facts.specs.Facts.{Cell, narrowed}
-use Rattle.facts.specs.Meaning.{known_of}
+use Rattle.domain.specs.Facts.{Cell, narrowed}
+use Rattle.facts.specs.Knowing.{known_of}
 use Rattle.facts.specs.Places.{place_of}
 use Rattle.facts.proofs.AgreeLemmas.{narrowed_agree}
 use Rattle.facts.proofs.ChangeLemmas.{shifts_same}

@@ -1,7 +1,7 @@
 use Rattle.std.proofs.Common.{◌≡◌, ◌⊎◌, Some}
 use Rattle.declaration.specs.Declaration.{IsListed}
 use Rattle.facts.specs.Outcomes.{meaning_at}
-use Rattle.facts.specs.Meaning.{meaning}
+use Rattle.domain.specs.Meaning.{meaning}
 use Rattle.facts.specs.Places.{place_of}
 use Rattle.facts.proofs.AskedLemmas.{over}
 use Rattle.facts.proofs.CallLemmas.{reads_anyhow}

@@ -1,7 +1,7 @@
 use Rattle.std.proofs.Common.{◌∙◌, sym}
-use Rattle.facts.specs.Facts.{Cell}
+use Rattle.domain.specs.Facts.{Cell}
 use Rattle.wordset.specs.Lanes.{words}
-use Rattle.facts.specs.Meaning.{known_of}
+use Rattle.facts.specs.Knowing.{known_of}
 use Rattle.facts.specs.Places.{place_of}
 use Rattle.facts.proofs.AgreeLemmas.{agree_trans, agree_refl}
 use Rattle.facts.proofs.OneTarget.{direct_target}

@@ -3,8 +3,8 @@ use Rattle.std.specs.Prelude.{◌&&◌, ◌||◌}
 use Rattle.wordset.specs.Words.{Words, some_below, IsFirstFrom, HasNoneFrom}
 use Rattle.wordset.specs.Lanes.{words}
 use Rattle.wordset.proofs.Tests.{some_none, some_next, some_last}
-use Rattle.facts.specs.Facts.{words_in}
-use Rattle.facts.specs.Meaning.{known_of}
+use Rattle.domain.specs.Facts.{words_in}
+use Rattle.facts.specs.Knowing.{known_of}
 use Rattle.facts.specs.Places.{place_of}
 use Rattle.facts.proofs.place.Place.words_at_each.Goals as goal
 

@@ -2,8 +2,8 @@ use Rattle.std.proofs.Common.{◌≤◌, ◌-◌}
 use Rattle.std.specs.Prelude.{◌&&◌}
 use Rattle.wordset.specs.Words.{SameWords, some_below}
 use Rattle.wordset.specs.Lanes.{words}
-use Rattle.facts.specs.Facts.{words_in}
-use Rattle.facts.specs.Meaning.{known_of}
+use Rattle.domain.specs.Facts.{words_in}
+use Rattle.facts.specs.Knowing.{known_of}
 use Rattle.facts.specs.Places.{place_of}
 use Rattle.facts.proofs.place.Place.words_at_each.Given as goal
 

@@ -1,7 +1,7 @@
 use Rattle.std.proofs.Common.{◌∙◌, sym, subst}
 use Rattle.wordset.specs.Words.{SameWords}
 use Rattle.wordset.specs.Lanes.{words}
-use Rattle.facts.specs.Facts.{tape_word}
+use Rattle.domain.specs.Facts.{tape_word}
 use Rattle.facts.proofs.PlaceLemmas.{in_variable, in_own, in_entry, in_tape, all_same}
 use Rattle.facts.proofs.place.Place.words_in.Goals as goal
 

@@ -1,5 +1,5 @@
 use Rattle.facts.specs.Conditions.{MayWrite}
-use Rattle.facts.specs.Meaning.{meaning}
+use Rattle.domain.specs.Meaning.{meaning}
 use Rattle.facts.specs.Places.{place_of, writes_of}
 use Rattle.facts.proofs.AskedLemmas.{over, over_none}
 use Rattle.facts.proofs.place.Place.writes_are_listed.Goals as goal

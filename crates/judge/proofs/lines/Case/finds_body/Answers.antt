@@ -1,7 +1,7 @@
 use Rattle.std.proofs.Common.{◌≡◌, ◌∙◌, true, None, Some, inl, inr, ap, sym, refl}
 use Rattle.wordset.specs.Words.{some_below}
 use Rattle.wordset.proofs.Tests.{none_of_some}
-use Rattle.facts.specs.Facts.{Fact}
+use Rattle.domain.specs.Facts.{Fact}
 use Rattle.judge.specs.Conditions.{fact_at}
 use Rattle.judge.specs.Asked.{case_kept}
 use Rattle.judge.proofs.LineLemmas.{nowhere, counts_in_main, is_unlisted, counts_nowhere, is_body, not_false, not_true}

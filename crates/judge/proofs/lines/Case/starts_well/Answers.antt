@@ -1,5 +1,5 @@
 use Rattle.std.proofs.Common.{◌∙◌, sym, ap}
-use Rattle.facts.specs.Meaning.{meaning}
+use Rattle.domain.specs.Meaning.{meaning}
 use Rattle.judge.specs.Conditions.{fact_at}
 use Rattle.judge.specs.Asked.{case_kept}
 use Rattle.judge.proofs.LineLemmas.{start_iff}

@@ -1,6 +1,6 @@
 use Rattle.std.proofs.Common.{ap, refl}
 use Rattle.wordset.specs.Words.{one}
-use Rattle.facts.specs.Changes.{with_offsets}
+use Rattle.domain.specs.Changes.{with_offsets}
 use Rattle.judge.specs.Spots.{case_of}
 use Rattle.judge.proofs.CallLemmas.{lands_equally}
 use Rattle.judge.proofs.spot.Spot.enters.Goals as goal

@@ -1,5 +1,5 @@
 use Rattle.std.proofs.Common.{sym, ap, ◌∙◌}
-use Rattle.facts.specs.Meaning.{meaning}
+use Rattle.domain.specs.Meaning.{meaning}
 use Rattle.judge.specs.Spots.{case_of}
 use Rattle.judge.proofs.LandingLemmas.{lands_some}
 use Rattle.judge.proofs.spot.Spot.lands.Goals as goal

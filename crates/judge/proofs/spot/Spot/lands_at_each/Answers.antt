@@ -1,6 +1,6 @@
 use Rattle.std.proofs.Common.{refl, sym, subst}
 use Rattle.wordset.proofs.IterLemmas.{none_yet, one_more, one_fails, all_pass}
-use Rattle.facts.specs.Meaning.{known_of}
+use Rattle.facts.specs.Knowing.{known_of}
 use Rattle.facts.proofs.AgreeLemmas.{agree_refl}
 use Rattle.judge.specs.Conditions.{LandsAt}
 use Rattle.judge.specs.Spots.{case_of}

@@ -1,6 +1,6 @@
 use Rattle.wordset.specs.Lanes.{words}
 use Rattle.wordset.proofs.IterLemmas.{Passed}
-use Rattle.facts.specs.Meaning.{known_of}
+use Rattle.facts.specs.Knowing.{known_of}
 use Rattle.judge.specs.Conditions.{LandsAt}
 use Rattle.judge.specs.Spots.{case_of, routine_at}
 use Rattle.judge.proofs.spot.Spot.lands_at_each.Given as goal

@@ -4,7 +4,7 @@ use Rattle.wordset.specs.Words.{Words}
 use Rattle.certificate.specs.Certificate.{writes_of}
 use Rattle.facts.specs.Outcomes.{meaning_at}
 use Rattle.facts.specs.Conditions.{WritesAreListed}
-use Rattle.facts.specs.Meaning.{meaning}
+use Rattle.domain.specs.Meaning.{meaning}
 use Rattle.facts.specs.Places.{place_of}
 use Rattle.judge.specs.Spots.{case_of, routine_at}
 use Rattle.judge.proofs.SpotLemmas.{meant}

@@ -1,7 +1,7 @@
 use Rattle.std.proofs.Common.{Some, refl}
 use Rattle.wordset.specs.Words.{one, plus}
-use Rattle.facts.specs.Changes.{with_offsets}
-use Rattle.facts.specs.Meaning.{known_of}
+use Rattle.domain.specs.Changes.{with_offsets}
+use Rattle.facts.specs.Knowing.{known_of}
 use Rattle.reasons.specs.Spots.{claimed_by, counts_lines, fact_of, here}
 use Rattle.reasons.proofs.ArriveLemmas.{arrives_equally}
 use Rattle.reasons.proofs.BreachLemmas.{misses_equally}

@@ -2,8 +2,9 @@ use Rattle.std.proofs.Common.{◌+◌, ◌∙◌, refl, sym}
 use Rattle.std.proofs.lemmas.Bool.{true≢false}
 use Rattle.wordset.specs.Words.{plus}
 use Rattle.wordset.specs.Lanes.{words}
-use Rattle.facts.specs.Facts.{joined}
-use Rattle.facts.specs.Meaning.{known_of, meaning}
+use Rattle.domain.specs.Facts.{joined}
+use Rattle.domain.specs.Meaning.{meaning}
+use Rattle.facts.specs.Knowing.{known_of}
 use Rattle.judge.proofs.CallLemmas.{return_place, joined_equally}
 use Rattle.reasons.specs.Spots.{claimed_by, counts_lines, fact_of, here}
 use Rattle.reasons.proofs.ArriveLemmas.{arrives_equally}

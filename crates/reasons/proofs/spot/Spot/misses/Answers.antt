@@ -1,6 +1,6 @@
 use Rattle.std.proofs.Common.{◌∙◌, sym, subst}
-use Rattle.facts.specs.Facts.{Entails, EntailsOffsets}
-use Rattle.facts.specs.Meaning.{known_of}
+use Rattle.domain.specs.Facts.{Entails, EntailsOffsets}
+use Rattle.facts.specs.Knowing.{known_of}
 use Rattle.reasons.proofs.spot.Spot.misses.Goals as goal
 
 pub returns-in-None-clause-none : goal.returns-in-None-clause-none

@@ -1,6 +1,6 @@
 use Rattle.std.proofs.Common.{subst}
 use Rattle.wordset.specs.Lanes.{words}
-use Rattle.facts.specs.Meaning.{known_of}
+use Rattle.facts.specs.Knowing.{known_of}
 use Rattle.facts.proofs.EachLemmas.{one_more, all_pass}
 use Rattle.reasons.specs.Keeping.{ArrivesHere}
 use Rattle.reasons.specs.Spots.{here}

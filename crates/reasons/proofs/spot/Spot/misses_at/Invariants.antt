@@ -1,6 +1,6 @@
 use Rattle.std.proofs.Common.{◌≡◌, ℕ, ◌<◌, ◌-◌, true}
 use Rattle.wordset.specs.Lanes.{words}
-use Rattle.facts.specs.Meaning.{known_of}
+use Rattle.facts.specs.Knowing.{known_of}
 use Rattle.reasons.specs.Keeping.{ArrivesHere}
 use Rattle.reasons.specs.Spots.{here}
 use Rattle.reasons.proofs.spot.Spot.misses_at.Given as goal

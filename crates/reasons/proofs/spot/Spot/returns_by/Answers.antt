@@ -1,7 +1,8 @@
 use Rattle.std.proofs.Common.{sym, ap, ◌∙◌}
 use Rattle.std.proofs.lemmas.Bool.{true≢false}
 use Rattle.wordset.specs.Words.{Words}
-use Rattle.facts.specs.Meaning.{known_of, meaning}
+use Rattle.domain.specs.Meaning.{meaning}
+use Rattle.facts.specs.Knowing.{known_of}
 use Rattle.reasons.specs.Spots.{claimed_by, fact_of}
 use Rattle.reasons.proofs.GapLemmas.{exit_entailed, exit_gap, gap_agrees}
 use Rattle.reasons.proofs.spot.Spot.returns_by.Goals as goal

@@ -1,6 +1,6 @@
 use Rattle.std.proofs.Common.{arith}
-use Rattle.facts.proofs.TrackingLemmas.{same_cells, within_entries}
-use Rattle.facts.proofs.tracking.TrackedCells.is_within_at.Goals as goal
+use Rattle.domain.proofs.TrackingLemmas.{same_cells, within_entries}
+use Rattle.domain.proofs.tracking.TrackedCells.is_within_at.Goals as goal
 
 pub returns : goal.returns
 returns c = λ t. rw (← c.self.view_is, ← c.others.view_is) (within_entries c.self.inside.whole.items c.others.inside.whole.items c.self.inside.entries.items c.others.inside.entries.items

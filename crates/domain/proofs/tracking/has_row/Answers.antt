@@ -1,7 +1,7 @@
 use Rattle.std.proofs.Common.{◌∙◌, ap}
 use Rattle.wordset.specs.Words.{Words}
-use Rattle.facts.proofs.TrackingLemmas.{whole_got}
-use Rattle.facts.proofs.tracking.has_row.Goals as goal
+use Rattle.domain.proofs.TrackingLemmas.{whole_got}
+use Rattle.domain.proofs.tracking.has_row.Goals as goal
 
 pub returns-in-Whole : goal.returns-in-Whole
 returns-in-Whole c = λ t. rw c.in-Whole.is (λ v lt h. ap (λ (s : Words). s v)

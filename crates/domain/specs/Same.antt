@@ -1,8 +1,7 @@
 -- Facts that agree: what code knows of a fact is its words below 4096, and its equations in some order.
 use Rattle.std.specs.Prelude.{◌≡◌, ℕ, ◌<◌, List, [], ◌∷◌}
 use Rattle.wordset.specs.Words.{SameWords, SameLinks}
-use Rattle.facts.specs.Facts.{Name, Equation, Fact, Among, Entails, EntailsOffsets}
-use Rattle.facts.specs.Outcomes.{Outcome, Goes, CallsTo, Returns}
+use Rattle.domain.specs.Facts.{Name, Equation, Fact, Among, Entails, EntailsOffsets}
 
 -- The two lists have the same equations, in whatever order and however often.
 pub record SameEquations (es gs : List Equation) : Type 0 where
@@ -36,16 +35,3 @@ pub record Agree (a b : Fact) : Type 0 where
   pub link : SameLinks a.link b.link
   pub equations : a.equations ≡ b.equations
   pub offsets : (o : ℕ) → o < 8 → a.offsets o ≡ b.offsets o
-
--- The two outcomes are of one kind, at the same addresses, with facts that agree.
-abbrev pub AgreeingOutcome : Outcome → Outcome → Type 0
-AgreeingOutcome (Goes n f) (Goes m g) = SameWords n m × Agree f g
-AgreeingOutcome (CallsTo n f) (CallsTo m g) = SameWords n m × Agree f g
-AgreeingOutcome (Returns f) (Returns g) = Agree f g
-AgreeingOutcome _ _ = ⊥
-
--- The outcomes agree one by one, in their order.
-abbrev pub AgreeingOutcomes : List Outcome → List Outcome → Type 0
-AgreeingOutcomes [] [] = Unit {0}
-AgreeingOutcomes (o ∷ os) (p ∷ ps) = AgreeingOutcome o p × AgreeingOutcomes os ps
-AgreeingOutcomes _ _ = ⊥

@@ -3,11 +3,11 @@ use Rattle.std.specs.Prelude.{ℕ, ◌<◌, ◌≤◌, List, [], length, map, ge
 use Rattle.std.specs.List.{AllByRecursion}
 use Rattle.wordset.specs.Words.{Words, between}
 use Rattle.wordset.specs.Lanes.{words}
-use Rattle.facts.specs.Statements as said
-use Rattle.facts.specs.declared.tracking.TrackedCell.{TrackedCell}
-use Rattle.facts.specs.declared.tracking.Held.{Held}
-use Rattle.facts.specs.declared.tracking.Held.TheVariants.{Row, Whole}
-use Rattle.facts.specs.declared.tracking.Entry.{Entry}
+use Rattle.domain.specs.Statements as said
+use Rattle.domain.specs.declared.tracking.TrackedCell.{TrackedCell}
+use Rattle.domain.specs.declared.tracking.Held.{Held}
+use Rattle.domain.specs.declared.tracking.Held.TheVariants.{Row, Whole}
+use Rattle.domain.specs.declared.tracking.Entry.{Entry}
 
 -- The tracked cell that is meant.
 abbrev pub tracked_of : TrackedCell → said.TrackedCell

@@ -1,7 +1,7 @@
 -- What may happen to a fact: a word that moves by a count, one that takes a new value, one of several cells that changes.
 use Rattle.std.specs.Prelude.{ℕ, ◌==◌, Bool, false, ◌||◌, if◌then◌else◌, List, [], ◌∷◌, ◌++◌, nat_lt}
 use Rattle.wordset.specs.Words.{plus, minus, Words, union, shifted}
-use Rattle.facts.specs.Facts.{Name, Ac, Cell, same, Equation, Fact, narrowed, has_cell}
+use Rattle.domain.specs.Facts.{Name, Ac, Cell, same, Equation, Fact, narrowed, has_cell}
 
 -- An equation after n's word went up by k.
 abbrev pub moved_equation : Name → ℕ → Equation → Equation

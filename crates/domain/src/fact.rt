@@ -4,16 +4,15 @@ ghost use Rattle.std.specs.Prelude.{ℕ, ◌≡◌, ◌<◌, ◌≤◌, ◌↔�
 ghost use Rattle.wordset.specs.Words.{SameWords, between, nothing};
 ghost use Rattle.wordset.specs.Lanes.{words};
 ghost use Rattle.wordset.specs.Links.{links_of};
-ghost use Rattle.facts.specs.Facts.{narrowed};
-ghost use Rattle.facts.specs.Changes.{with_offsets};
-ghost use Rattle.facts.specs.Statements.{unknown};
-ghost use Rattle.facts.specs.Same.{SameFact};
-ghost use Rattle.facts.specs.Meaning.{name_of, equation_of, tracked_cells, offsets_of, statement_of, cell_words, meaning};
+ghost use Rattle.domain.specs.Facts.{narrowed};
+ghost use Rattle.domain.specs.Changes.{with_offsets};
+ghost use Rattle.domain.specs.Statements.{unknown};
+ghost use Rattle.domain.specs.Same.{SameFact};
+ghost use Rattle.domain.specs.Meaning.{name_of, equation_of, tracked_cells, offsets_of, statement_of, cell_words, meaning};
 
-use crate::lent::put_row;
 use crate::names::{Equation, Name};
 use crate::offsets::Offsets;
-use crate::tracking::TrackedCells;
+use crate::tracking::{TrackedCells, put_row};
 use arrayvec::ArrayVec;
 use word12::Word;
 use wordset::{Links, WordSet};
@@ -69,7 +68,7 @@ impl Fact {
     }
 
     /// The words that the accumulator may hold, lent.
-    pub(crate) fn accumulator_lent(&self) -> &WordSet
+    pub fn accumulator_lent(&self) -> &WordSet
         ensures { words result.now ≡ (statement_of self.now).ac }
     {
         &self.ac
@@ -83,7 +82,7 @@ impl Fact {
     }
 
     /// The words that MQ may hold, lent.
-    pub(crate) fn mq_lent(&self) -> &WordSet
+    pub fn mq_lent(&self) -> &WordSet
         ensures { words result.now ≡ (statement_of self.now).mq }
     {
         &self.mq
@@ -130,7 +129,7 @@ impl Fact {
     }
 
     /// Puts the words that a cell may hold into their place.
-    pub(crate) fn put_set_of(&self, cell: Word, place: &mut WordSet)
+    pub fn put_set_of(&self, cell: Word, place: &mut WordSet)
         ensures { SameWords (words place.new) (cell_words self.now cell) }
     {
         self.cells.put_set_of(cell, place);

@@ -1,5 +1,5 @@
-use Rattle.facts.proofs.TrackingLemmas.{whole_added}
-use Rattle.facts.proofs.tracking.TrackedCells.push.Goals as goal
+use Rattle.domain.proofs.TrackingLemmas.{whole_added}
+use Rattle.domain.proofs.tracking.TrackedCells.push.Goals as goal
 
 pub returns : goal.returns
 returns c = rw (← c.self.view_is) (whole_added c.self.inside.whole.items c.push.new.self.items c.self.inside.entries.items c.push-2.new.self.items

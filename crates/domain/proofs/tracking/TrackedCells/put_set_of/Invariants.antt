@@ -1,9 +1,9 @@
 use Rattle.std.proofs.Common.{◌≡◌, ◌<◌, ℕ, drop, map}
 use Rattle.std.specs.Prelude.{◌&&◌}
 use Rattle.wordset.specs.Lanes.{words}
-use Rattle.facts.specs.Statements.{tracked}
-use Rattle.facts.specs.Tracking.{entry_of, tracked_cells}
-use Rattle.facts.proofs.tracking.TrackedCells.put_set_of.Given as goal
+use Rattle.domain.specs.Statements.{tracked}
+use Rattle.domain.specs.Tracking.{entry_of, tracked_cells}
+use Rattle.domain.proofs.tracking.TrackedCells.put_set_of.Given as goal
 
 abbrev pub invariant-loop-entry : goal.invariant-loop-entry
 invariant-loop-entry l = (v : ℕ) → v < 4096 →

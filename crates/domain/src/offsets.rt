@@ -1,7 +1,7 @@
 //! How far a return word may have been counted up.
 
 ghost use Rattle.std.specs.Prelude.{◌≡◌, ◌<◌, ◌==◌, ◌-◌, ◌↔◌, ◌||◌, ℕ, IsTrue, true, false, if◌then◌else◌};
-ghost use Rattle.facts.specs.Meaning.{offsets_of};
+ghost use Rattle.domain.specs.Meaning.{offsets_of};
 
 /// Some of the offsets 0 to 7, by which a routine's return word may have been counted up.
 ///
@@ -68,7 +68,7 @@ impl Offsets {
     }
 
     /// The offsets after the return word went up by one.
-    pub(crate) fn counted(self) -> Offsets
+    pub fn counted(self) -> Offsets
         ensures { (o : ℕ) → o < 8 →
             offsets_of result o ≡ (if o == 0 then false else offsets_of self (o - 1)) }
     {

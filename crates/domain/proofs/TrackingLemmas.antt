@@ -7,15 +7,12 @@ use Rattle.std.proofs.Math.ListN.{drop_of_length-le}
 use Rattle.std.proofs.lemmas.List.{drop_more, get_or-map, length-map, map-append}
 use Rattle.wordset.specs.Words.{Words, IsWithin}
 use Rattle.wordset.specs.Lanes.{words}
-use Rattle.facts.specs.Facts.{Fact, Cell, narrowed}
-use Rattle.facts.specs.Showing.{EachWithin}
-use Rattle.facts.specs.Statements.{TrackedCell, tracked, cell_at}
-use Rattle.facts.specs.declared.tracking.TrackedCell.{TrackedCell as Whole}
-use Rattle.facts.specs.declared.tracking.Held.{Held}
-use Rattle.facts.specs.declared.tracking.Held.TheVariants as held
-use Rattle.facts.specs.declared.tracking.Entry.{Entry}
-use Rattle.facts.specs.Tracking.{tracked_of, held_words, entry_of, IsPlaceBelow, IsEntryBelow, AreKept}
-use Rattle.facts.proofs.EntailLemmas.{not_true}
+use Rattle.domain.specs.Statements.{TrackedCell, tracked, cell_at}
+use Rattle.domain.specs.declared.tracking.TrackedCell.{TrackedCell as Whole}
+use Rattle.domain.specs.declared.tracking.Held.{Held}
+use Rattle.domain.specs.declared.tracking.Held.TheVariants as held
+use Rattle.domain.specs.declared.tracking.Entry.{Entry}
+use Rattle.domain.specs.Tracking.{tracked_of, held_words, entry_of, IsPlaceBelow, IsEntryBelow, AreKept}
 
 -- Which one is given past the end makes no difference before it.
 pub get_any : {A : Type 0} (xs : List A) (i : ℕ) (d e : A) → i < length xs → get_or xs i d ≡ get_or xs i e
@@ -91,22 +88,6 @@ below_more m n (e ∷ es) h a = (go e.held a.0, below_more m n es h a.1)
 all_and_one : (n : ℕ) (es : List Entry) (e : Entry) → AllByRecursion (IsEntryBelow n) es → IsEntryBelow n e → AllByRecursion (IsEntryBelow n) (es ++ e ∷ [])
 all_and_one n [] e a b = (b, tt)
 all_and_one n (x ∷ es) e a b = (a.0, all_and_one n es e a.1 b)
-
--- Tracked cells one by one.
-pub cell_dropped : (cells : List TrackedCell) (i : ℕ) → i < length cells → drop i cells ≡ cell_at cells i ∷ drop (i + 1) cells
-cell_dropped cells i h = drop_more cells i _ h
-
-pub each_step : (f : Fact) (cells : List TrackedCell) (i : ℕ) → i < length cells → IsWithin (narrowed f (Cell (cell_at cells i).address)) (cell_at cells i).set →
-    (EachWithin f (drop i cells) ↔ EachWithin f cells) → (EachWithin f (drop (i + 1) cells) ↔ EachWithin f cells)
-each_step f cells i lt w h = (
-  λ r. h.0 (subst (EachWithin f) (sym (cell_dropped cells i lt)) (w, r)),
-  λ a. (let p : EachWithin f (cell_at cells i ∷ drop (i + 1) cells) = subst (EachWithin f) (cell_dropped cells i lt) (h.1 a) in p.1),
-)
-
-pub each_fails : (f : Fact) (cells : List TrackedCell) (i : ℕ) → i < length cells → (IsWithin (narrowed f (Cell (cell_at cells i).address)) (cell_at cells i).set → ⊥) →
-    (EachWithin f (drop i cells) ↔ EachWithin f cells) → IsTrue false ↔ EachWithin f cells
-each_fails f cells i lt not h =
-    not_true (λ a. (let p : EachWithin f (cell_at cells i ∷ drop (i + 1) cells) = subst (EachWithin f) (cell_dropped cells i lt) (h.1 a) in not p.0))
 
 -- The words of a cell, entry by entry.
 pub met_end : (whole : List Whole) (entries : List Entry) (i : ℕ) (cell : ℕ) (set all : Words) → length entries ≤ i →

@@ -4,10 +4,9 @@
 ghost use Rattle.std.specs.Prelude.{ℕ, ◌≡◌, ◌<◌, ◌≤◌, ◌↔◌, ◌∷◌, [], ◌++◌, length, IsTrue};
 ghost use Rattle.wordset.specs.Words.{SameWords, IsWithin, between, meet, nothing};
 ghost use Rattle.wordset.specs.Lanes.{words};
-ghost use Rattle.facts.specs.Statements.{tracked, cell_at};
-ghost use Rattle.facts.specs.Tracking.{tracked_of, held_words, tracked_cells, IsPlaceBelow};
+ghost use Rattle.domain.specs.Statements.{tracked, cell_at};
+ghost use Rattle.domain.specs.Tracking.{tracked_of, held_words, tracked_cells, IsPlaceBelow};
 
-use crate::lent::put_row;
 use arrayvec::ArrayVec;
 use std::marker::Model;
 use word12::Word;
@@ -73,7 +72,7 @@ pub struct TrackedCells {
 }
 
 impl Model for TrackedCells {
-    ghost use Rattle.facts.specs.Tracking.{Kept, AreKept};
+    ghost use Rattle.domain.specs.Tracking.{Kept, AreKept};
 
     ghost Value = { Kept };
 
@@ -157,6 +156,19 @@ fn keep_held(whole: &[TrackedCell], held: &Held, set: &mut WordSet)
     }
 }
 
+/// Puts the words from one to another, both of them, into their place; none where the second is the
+/// lesser.
+pub(crate) fn put_row(place: &mut WordSet, first: Word, last: Word)
+    ensures { words place.new ≡ between first last }
+{
+    if first.index() == 0 && last.index() == 4095 {
+        *place = WordSet::all();
+    } else {
+        *place = WordSet::empty();
+        place.insert_range(first, last);
+    }
+}
+
 impl TrackedCells {
     /// No cell.
     pub fn new() -> TrackedCells
@@ -208,7 +220,7 @@ impl TrackedCells {
     }
 
     /// Whether the one at a place may hold all words of a set.
-    pub(crate) fn has_all(&self, at: usize, set: &WordSet) -> bool
+    pub fn has_all(&self, at: usize, set: &WordSet) -> bool
         requires { at < length (tracked_cells self.now) }
         ensures { IsTrue result ↔ IsWithin (words set.now) (cell_at (tracked_cells self.now) at).set }
     {
@@ -245,7 +257,7 @@ impl TrackedCells {
     /// Whether the cell of the one at a place there is seen to hold no word here that it may not hold
     /// there. The facts of neighbours mostly track the same cells in the same order, so the same
     /// place is looked at first.
-    pub(crate) fn has_within(&self, others: &TrackedCells, at: usize) -> bool
+    pub fn has_within(&self, others: &TrackedCells, at: usize) -> bool
         requires { at < length (tracked_cells others.now) }
         ensures { IsTrue result →
             IsWithin (tracked (cell_at (tracked_cells others.now) at).address (tracked_cells self.now)) (cell_at (tracked_cells others.now) at).set }
@@ -263,7 +275,7 @@ impl TrackedCells {
 
     /// Puts the words of a cell into their place: those that all its entries allow, or all words where
     /// it has none.
-    pub(crate) fn put_set_of(&self, cell: Word, place: &mut WordSet)
+    pub fn put_set_of(&self, cell: Word, place: &mut WordSet)
         ensures { SameWords (words place.new) (tracked cell (tracked_cells self.now)) }
     {
         *place = WordSet::all();

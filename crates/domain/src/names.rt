@@ -2,9 +2,9 @@
 
 ghost use Rattle.std.specs.Prelude.{◌≡◌, ◌↔◌, IsTrue};
 ghost use Rattle.wordset.specs.Words.{plus, minus};
-ghost use Rattle.facts.specs.Facts.{Ac, Cell, same};
-ghost use Rattle.facts.specs.Changes.{oriented};
-ghost use Rattle.facts.specs.Meaning.{name_of, equation_of};
+ghost use Rattle.domain.specs.Facts.{Ac, Cell, same};
+ghost use Rattle.domain.specs.Changes.{oriented};
+ghost use Rattle.domain.specs.Meaning.{name_of, equation_of};
 
 use word12::Word;
 
@@ -47,7 +47,7 @@ impl Default for Equation {
 }
 
 /// Whether two names are one.
-pub(crate) fn is_same_name(a: &Name, b: &Name) -> bool
+pub fn is_same_name(a: &Name, b: &Name) -> bool
     ensures { result ≡ same (name_of a.now) (name_of b.now) }
 {
     match a {
@@ -63,21 +63,21 @@ pub(crate) fn is_same_name(a: &Name, b: &Name) -> bool
 }
 
 /// Whether two equations are one.
-pub(crate) fn is_same_equation(a: &Equation, b: &Equation) -> bool
+pub fn is_same_equation(a: &Equation, b: &Equation) -> bool
     ensures { IsTrue result ↔ (equation_of a.now ≡ equation_of b.now) }
 {
     is_same_name(&a.left, &b.left) && a.right == b.right && a.more == b.more
 }
 
 /// The word that takes back what another adds.
-pub(crate) fn negated(word: Word) -> Word
+pub fn negated(word: Word) -> Word
     ensures { result ≡ minus 0 word }
 {
     word.complement().increment()
 }
 
 /// The equation y = z + k, with the lesser cell at its left.
-pub(crate) fn turned(y: Word, z: Word, k: Word) -> Equation
+pub fn turned(y: Word, z: Word, k: Word) -> Equation
     ensures { equation_of result ≡ oriented y z k }
 {
     if y < z {

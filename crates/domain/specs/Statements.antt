@@ -1,7 +1,7 @@
 -- What is said of a fact in so many words: sets for some cells, and equations. Every other cell may hold any word.
 use Rattle.std.specs.Prelude.{ℕ, ◌==◌, true, ◌&&◌, if◌then◌else◌, List, [], ◌∷◌, get_or}
 use Rattle.wordset.specs.Words.{Words, nothing, everything}
-use Rattle.facts.specs.Facts.{Name, Ac, Cell, Equation, Fact}
+use Rattle.domain.specs.Facts.{Name, Ac, Cell, Equation, Fact}
 
 -- A tracked cell and its words.
 pub record TrackedCell : Type 0 where

@@ -1,0 +1,6 @@
+pub mod Facts
+pub mod Statements
+pub mod Tracking
+pub mod Changes
+pub mod Same
+pub mod Meaning

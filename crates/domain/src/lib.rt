@@ -1,0 +1,13 @@
+//! Facts: what is known of a running program whenever the program counter is at an address. In the words of abstract
+//! interpretation this is the domain: sets of words, equations between words, and offsets of a return word.
+#![tactic(auto)]
+
+mod fact;
+mod names;
+mod offsets;
+mod tracking;
+
+pub use fact::Fact;
+pub use names::{Equation, Name, is_same_equation, is_same_name, negated, turned};
+pub use offsets::Offsets;
+pub use tracking::{TrackedCell, TrackedCells};

@@ -13,23 +13,14 @@ ghost use Rattle.proposer.specs.Needed.{ReadsAreNeeded};
 ghost use Rattle.proposer.specs.declared.Verdict.TheVariants.{TurnsSpent};
 ghost use Rattle.proposer.specs.Proposals.{AreNeeded, Fits, IsListed, IsShown, IsSpentUp, IsTold, is_safe};
 
-mod map;
-mod steps;
-mod survey;
-mod tape;
-pub mod text;
-mod trials;
 mod variables;
-mod walk;
 
-use crate::map::Map;
-use crate::survey::{Findings, surveyed};
-use crate::tape::{Tape, Visits};
-use crate::text::push_reads;
-use crate::variables::{Breadth, lists_needed, read, written};
+use crate::variables::{lists_needed, read, written};
 use analyser::guess_within;
 use bin_tape::Image;
 use certificate::Certificate;
+pub use control_flow::ObservedRuns;
+use control_flow::{Breadth, Findings, Map, Tape, push_reads, surveyed};
 use declaration::{Declaration, DeclarationFault};
 use instruct::Profile;
 use judge::judge;
@@ -63,18 +54,9 @@ pub struct Proposal<A: Allocator> {
     /// where an unsupported word stands. There the declaration stops short.
     pub unfollowed: WordSet,
     /// In which runs it was seen what the program does, if it was.
-    pub seen: Option<Seen>,
+    pub seen: Option<ObservedRuns>,
     /// What is known of the declaration.
     pub verdict: Verdict<A>,
-}
-
-/// The runs in which it was seen what a program does.
-#[derive(Clone, Copy, PartialEq, Eq, Debug)]
-pub struct Seen {
-    /// How many there were.
-    pub runs: u32,
-    /// How many steps they made in all.
-    pub steps: u32,
 }
 
 /// Proposes what a program may do, from a tape's words, the start and the machine alone.
@@ -107,10 +89,7 @@ pub fn propose<A: Allocator + Copy>(
     ensures rises { turns.old.spent ≤ turns.new.spent }
     ensures within { turns.new.spent ≤ turns.new.limit }
 {
-    let tape = Tape {
-        image,
-        visits: None,
-    };
+    let tape = Tape::of(image);
     let map = Map::of(&tape, start, profile);
     let proposal = widened(alloc, &tape, &map, turns)?;
     if proposal.is_safe() {
@@ -150,14 +129,7 @@ fn by_runs<'x, A: Allocator + Copy>(
     ensures within { turns.new.spent ≤ turns.new.limit }
 {
     turns.are_within();
-    let tape = Tape {
-        image,
-        visits: Some(Visits {
-            places: &found.places,
-            owners: &found.owners,
-            seen: found.seen,
-        }),
-    };
+    let tape = found.tape(image);
     match attempt(alloc, &tape, &found.map, &found.variables, turns) {
         Ok(seen) => cut_down(alloc, &tape, &found.map, seen, turns),
         Err(ProposeFault::NoMemory) => Err(ProposeFault::NoMemory),
@@ -269,7 +241,7 @@ fn widened<A: Allocator + Copy>(
     ensures rises { turns.old.spent ≤ turns.new.spent }
     ensures within { turns.new.spent ≤ turns.new.limit }
 {
-    if !map.round.stores_anywhere {
+    if !map.stores_anywhere() {
         let cells = map.variables(tape.image, Breadth::Stored);
         let proposal = attempt(alloc, tape, map, &cells, turns)?;
         if !proposal.is_stuck() || !map.changes_code() {

@@ -14,8 +14,6 @@ ghost use Rattle.proposer.specs.Needed.{ReadsAreNeeded};
 ghost use Rattle.proposer.specs.Touched.{IsBody, IsTouched, IsTouchedBy, IsTouchedFrom, has_line, is_own, place_with, routine_with, sites_with, touches};
 ghost use Rattle.proposer.specs.declared.variables.Access.TheVariants.{Read};
 
-use crate::map::Map;
-use crate::trials::loaded;
 use bin_tape::Image;
 use certificate::{Certificate, Routine};
 use declaration::{Declaration, Owner};
@@ -23,30 +21,6 @@ use facts::{Fact, Place, Running, reads, writes};
 use std::alloc::Allocator;
 use word12::Word;
 use wordset::WordSet;
-
-/// Which cells are taken for variables, beside those that instructions store in by name.
-#[derive(Clone, Copy)]
-pub(crate) enum Breadth {
-    /// None.
-    Stored,
-    /// Those that are no code and that no instruction names, and those without a word on the tape.
-    Tables,
-    /// All that are no code.
-    Data,
-}
-
-impl Map {
-    /// The cells that are taken for variables.
-    pub(crate) fn variables(&self, image: &Image, breadth: Breadth) -> WordSet {
-        let data = WordSet::all().minus(&self.round.code);
-        let more = match breadth {
-            Breadth::Stored => WordSet::empty(),
-            Breadth::Tables => data.minus(&loaded(image).meet(&self.round.named)),
-            Breadth::Data => data,
-        };
-        self.stored.union(&more).minus(&self.entries)
-    }
-}
 
 /// The body that has an address: main's, or that of the routine of an entry, with what is claimed of
 /// it.

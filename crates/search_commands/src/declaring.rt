@@ -19,7 +19,7 @@ use declaration::{Declaration, DeclarationFault};
 use instruct::Profile;
 use itoa::Buffer;
 pub use options::DeclareOptions;
-use proposer::{Proposal, Seen, Verdict, propose, propose_with_reads};
+use proposer::{ObservedRuns, Proposal, Verdict, propose, propose_with_reads};
 use std::alloc::{AllocError, Allocator};
 use streams::{ByteSink, ByteSource, put};
 use turns::{ProposeFault, Turns};
@@ -62,12 +62,12 @@ fn push_verdict<A: Allocator, B: Allocator>(
 /// Adds a comment that says in which runs it was seen what the program does, if it was.
 pub(crate) fn push_seen<A: Allocator>(
     text: &mut Vec<u8, A>,
-    seen: Option<Seen>,
+    seen: Option<ObservedRuns>,
 ) -> Result<(), AllocError> {
     let Some(seen) = seen else {
         return Ok(());
     };
-    text.extend_from_slice(b"/ Seen in ")?;
+    text.extend_from_slice(b"/ ObservedRuns in ")?;
     text.extend_from_slice(Buffer::new().format(seen.runs).as_bytes())?;
     text.extend_from_slice(b" runs of ")?;
     text.extend_from_slice(Buffer::new().format(seen.steps).as_bytes())?;

@@ -1,0 +1,29 @@
+//! How control goes through the program of a tape, from its words and from runs: what its routines are, where their bodies end,
+//! and which cells it may change; and the text of a declaration that says so. Nothing is promised of what is found here:
+//! who reads the text judges it.
+#![tactic(auto)]
+
+mod map;
+mod steps;
+mod survey;
+mod tape;
+mod text;
+mod trials;
+mod variables;
+mod walk;
+
+pub use map::Map;
+pub use survey::{Findings, surveyed};
+pub use tape::Tape;
+pub use text::{push_range, push_reads};
+pub use variables::Breadth;
+
+/// The runs in which it was seen what a program does.
+#[derive(Clone, Copy, PartialEq, Eq, Debug)]
+pub struct ObservedRuns {
+    /// How many there were.
+    pub runs: u32,
+    /// How many steps they made in all.
+    pub steps: u32,
+}
+

@@ -1,0 +1,213 @@
+//! How control goes through a program, as far as its words alone tell.
+
+ghost use Rattle.std.specs.Prelude.{◌≡◌};
+
+use crate::tape::{Tape, Visit};
+use crate::walk::{Spot, Walk};
+use instruct::Profile;
+use word12::Word;
+use wordset::WordSet;
+
+/// How often all bodies are gone through at most, until nothing new is found.
+const MOST_ROUNDS: usize = 1024;
+
+/// Each cell is met at most once for each of eight offsets.
+const MOST_STEPS: usize = 8 * 4096;
+
+/// What is found of a program's control: what is kept from one round through all bodies to the next,
+/// and the last round.
+#[derive(Clone, Copy, PartialEq, Eq)]
+pub struct Map {
+    pub start: Word,
+    pub profile: Profile,
+    /// The halts after which it goes on.
+    pub(crate) pauses: WordSet,
+    /// The cells that JMS goes to.
+    pub(crate) entries: WordSet,
+    /// By offset the entries whose routines may return so.
+    pub(crate) returns: [WordSet; 8],
+    /// The cells that ISZ or DCA name, and pointers that are stepped.
+    pub(crate) stored: WordSet,
+    /// The words of tables to which a JMS goes of which it isn't known where it goes; and to which a
+    /// JMP.
+    pub(crate) called: WordSet,
+    pub(crate) jumped: WordSet,
+    /// The cells in which runs were seen to halt, where another word may stand there.
+    pub(crate) halted: WordSet,
+    /// The cells that can't be entries, by what runs were seen to do.
+    pub(crate) banned: WordSet,
+    pub(crate) round: Round,
+}
+
+/// What is found on one round.
+#[derive(Clone, Copy, PartialEq, Eq)]
+pub(crate) struct Round {
+    /// The cells of the bodies.
+    pub(crate) code: WordSet,
+    /// The cells that some instruction names as its operand or its pointer.
+    pub(crate) named: WordSet,
+    /// The cells that hold a HLT.
+    pub(crate) halts: WordSet,
+    /// Whether some instruction stores through a pointer whose word isn't known.
+    pub(crate) stores_anywhere: bool,
+    /// Where control goes to what can't be in the body, or stands at an unsupported word.
+    pub(crate) astray: WordSet,
+    /// JMS and JMP words of which it isn't known where they go.
+    pub(crate) calls: WordSet,
+    pub(crate) jumps: WordSet,
+}
+
+impl Round {
+    /// Nothing is found yet.
+    fn new() -> Round {
+        Round {
+            code: WordSet::empty(),
+            named: WordSet::empty(),
+            halts: WordSet::empty(),
+            stores_anywhere: false,
+            astray: WordSet::empty(),
+            calls: WordSet::empty(),
+            jumps: WordSet::empty(),
+        }
+    }
+}
+
+impl Map {
+    /// What is found of a program that starts here.
+    pub fn of(tape: &Tape<'_>, start: Word, profile: Profile) -> Map
+        ensures start { result.start ≡ start }
+        ensures profile { result.profile ≡ profile }
+    {
+        let mut map = Map {
+            start,
+            profile,
+            pauses: WordSet::empty(),
+            entries: WordSet::empty(),
+            returns: [WordSet::empty(); 8],
+            stored: WordSet::empty(),
+            called: WordSet::empty(),
+            jumped: WordSet::empty(),
+            halted: WordSet::empty(),
+            banned: WordSet::empty(),
+            round: Round::new(),
+        };
+        map.settle(tape);
+        map.try_halts(tape, &WordSet::empty());
+        map.try_tables(tape);
+        map.try_halts(tape, &WordSet::empty());
+        // No round changes these, and so it needs no proof.
+        map.start = start;
+        map.profile = profile;
+        map
+    }
+
+    /// Where control can't be followed.
+    pub fn unfollowed(&self) -> WordSet {
+        let mut cells = self.round.astray;
+        if self.called.is_empty() {
+            cells = cells.union(&self.round.calls);
+        }
+        if self.jumped.is_empty() {
+            cells = cells.union(&self.round.jumps);
+        }
+        cells
+    }
+
+    /// Whether some instruction stores through a pointer whose word isn't known.
+    pub fn stores_anywhere(&self) -> bool {
+        self.round.stores_anywhere
+    }
+
+    /// Whether some code may be changed.
+    pub fn changes_code(&self) -> bool {
+        !self.round.code.meet(&self.stored).is_empty()
+    }
+
+    /// Whether the routine of an entry may return at an offset.
+    pub(crate) fn may_return(&self, entry: Word, offset: usize) -> bool {
+        match self.returns.get(offset) {
+            None => false,
+            Some(entries) => entries.contains(entry),
+        }
+    }
+
+    /// Goes through all bodies until nothing new is found.
+    pub(crate) fn settle(&mut self, tape: &Tape<'_>) {
+        for _round in 0..MOST_ROUNDS {
+            let before = *self;
+            self.go_through(tape);
+            if *self == before {
+                return;
+            }
+        }
+    }
+
+    /// Goes through all bodies once.
+    fn go_through(&mut self, tape: &Tape<'_>) {
+        self.forget();
+        self.follow_main(tape);
+        let mut next = 0usize;
+        while let Some(entry) = self.entries.first_from(next) {
+            self.follow_routine(tape, entry);
+            next = entry.index() + 1;
+        }
+    }
+
+    /// Forgets the last round.
+    pub(crate) fn forget(&mut self) {
+        self.round = Round::new();
+    }
+
+    /// Follows main's body, and gives its cells.
+    pub(crate) fn follow_main(&mut self, tape: &Tape<'_>) -> WordSet {
+        let mut walk = Walk::new(None);
+        walk.meet(Spot {
+            at: self.start,
+            offset: 0,
+        });
+        self.meet_visits(tape, &mut walk);
+        self.follow(tape, &mut walk)
+    }
+
+    /// Follows the body of an entry, and gives its cells. Those of bodies that were followed before
+    /// can't be in it.
+    pub(crate) fn follow_routine(&mut self, tape: &Tape<'_>, entry: Word) -> WordSet {
+        let mut walk = Walk::new(Some(entry));
+        let here = Spot {
+            at: entry,
+            offset: 0,
+        };
+        self.go(tape, &mut walk, &here, entry.increment());
+        self.meet_visits(tape, &mut walk);
+        self.follow(tape, &mut walk)
+    }
+
+    /// Meets the cells of a body from which runs were seen to make steps.
+    fn meet_visits(&self, tape: &Tape<'_>, walk: &mut Walk) {
+        if let Some(visits) = tape.visits {
+            self.meet_all(visits.places, walk);
+        }
+    }
+
+    /// Meets the cells of these visits that the running routine's body may have.
+    fn meet_all(&self, visits: &[Visit], walk: &mut Walk) {
+        for visit in visits {
+            if visit.entry == walk.entry && !self.entries.contains(visit.spot.at) {
+                walk.meet(visit.spot);
+            }
+        }
+    }
+
+    /// Goes on from all cells that are met, and gives them.
+    fn follow(&mut self, tape: &Tape<'_>, walk: &mut Walk) -> WordSet {
+        for _step in 0..MOST_STEPS {
+            let Some(here) = walk.next() else {
+                break;
+            };
+            self.visit(tape, walk, &here);
+        }
+        let cells = walk.cells();
+        self.round.code = self.round.code.union(&cells);
+        cells
+    }
+}

@@ -1,0 +1,74 @@
+//! A tape, with what runs were seen to do.
+
+ghost use Rattle.std.specs.Prelude.{◌≡◌};
+
+use crate::ObservedRuns;
+use crate::walk::Spot;
+use bin_tape::Image;
+use declaration::Owner;
+use word12::Word;
+
+/// Where a step was made, and the running routine's entry, if it wasn't main.
+#[derive(Clone, Copy)]
+pub(crate) struct Visit {
+    pub(crate) entry: Option<Word>,
+    pub(crate) spot: Spot,
+}
+
+/// From where steps were made.
+#[derive(Clone, Copy)]
+pub(crate) struct Visits<'a> {
+    /// Each place from which one was made.
+    pub(crate) places: &'a [Visit],
+    /// By address the routine that ran when one was first made.
+    pub(crate) owners: &'a [Option<Owner>],
+    pub(crate) seen: ObservedRuns,
+}
+
+/// A tape, with what runs were seen to do, if there were runs.
+#[derive(Clone, Copy)]
+pub struct Tape<'a> {
+    pub image: &'a Image,
+    pub(crate) visits: Option<Visits<'a>>,
+}
+
+impl<'a> Tape<'a> {
+    /// A tape alone, without runs.
+    pub fn of(image: &'a Image) -> Tape<'a>
+        ensures { result.image.now ≡ image.now }
+    {
+        Tape {
+            image,
+            visits: None,
+        }
+    }
+
+    /// The word for an address, if the tape has one.
+    pub(crate) fn get(&self, at: Word) -> Option<Word> {
+        self.image.get(at)
+    }
+
+    /// In which runs it was seen what the program does, if there were runs.
+    pub fn seen(&self) -> Option<ObservedRuns> {
+        self.visits.map(|visits| visits.seen)
+    }
+
+    /// The routine that ran when a step was made from an address, if one was.
+    pub(crate) fn owner(&self, at: Word) -> Option<Owner> {
+        self.visits?.owners.get(at.index()).copied().flatten()
+    }
+
+    /// Whether a cell that is stored in may be taken for code: without runs each, else one from which a
+    /// step was made.
+    pub(crate) fn may_be_code(&self, at: Word) -> bool {
+        self.visits.is_none() || self.owner(at).is_some()
+    }
+
+    /// Whether a cell may be in a body: no step was made from it while another routine ran.
+    pub(crate) fn may_be_in(&self, body: Owner, at: Word) -> bool {
+        match self.owner(at) {
+            None => true,
+            Some(owner) => owner == body,
+        }
+    }
+}

@@ -1,0 +1,189 @@
+//! The text of a declaration.
+
+ghost use Rattle.std.specs.Prelude.{◌≡◌, ◌++◌, ◌∷◌, OnOk};
+ghost use Rattle.word12.specs.Words.{octal_text};
+ghost use Rattle.control_flow.specs.Texts.{range_text};
+
+use crate::map::Map;
+use crate::tape::Tape;
+use instruct::{Profile, name};
+use std::alloc::{AllocError, Allocator};
+use word12::Word;
+use wordset::WordSet;
+
+/// How many ranges a line has at most where there may be several of its kind: with a kind of five
+/// letters it has 75 columns then.
+const MOST_RANGES: usize = 7;
+
+/// Adds a word in octal, after a space.
+fn push_word<A: Allocator>(text: &mut Vec<u8, A>, word: Word) -> Result<(), AllocError>
+    ensures { OnOk result (text.new.items ≡ text.old.items ++ 32 ∷ octal_text word) }
+{
+    text.extend_from_slice(b" ")?;
+    text.extend_from_slice(&word.to_octal())
+}
+
+/// Adds a range of words, after a space: its first word, and the last where it's another one.
+pub fn push_range<A: Allocator>(
+    text: &mut Vec<u8, A>,
+    first: Word,
+    last: Word,
+) -> Result<(), AllocError>
+    ensures { OnOk result (text.new.items ≡ text.old.items ++ 32 ∷ range_text first last) }
+{
+    push_word(text, first)?;
+    if first == last {
+        return Ok(());
+    }
+    text.extend_from_slice(b"-")?;
+    text.extend_from_slice(&last.to_octal())
+}
+
+/// Adds the ranges of a set.
+fn push_ranges<A: Allocator>(text: &mut Vec<u8, A>, set: &WordSet) -> Result<(), AllocError> {
+    for (first, last) in set.ranges() {
+        push_range(text, first, last)?;
+    }
+    Ok(())
+}
+
+/// Begins a line after so many ranges, if there is none yet or the last is full.
+fn push_line_break<A: Allocator>(
+    text: &mut Vec<u8, A>,
+    kind: &[u8],
+    ranges: usize,
+) -> Result<(), AllocError> {
+    if ranges % MOST_RANGES != 0 {
+        return Ok(());
+    }
+    if ranges != 0 {
+        text.extend_from_slice(b"\n")?;
+    }
+    text.extend_from_slice(kind)
+}
+
+/// Adds lines of a kind with the ranges of a set, if it has a word.
+fn push_cells<A: Allocator>(
+    text: &mut Vec<u8, A>,
+    kind: &[u8],
+    set: &WordSet,
+) -> Result<(), AllocError> {
+    let mut ranges = 0usize;
+    for (first, last) in set.ranges() {
+        push_line_break(text, kind, ranges)?;
+        push_range(text, first, last)?;
+        ranges = ranges.saturating_add(1);
+    }
+    if ranges != 0 {
+        text.extend_from_slice(b"\n")?;
+    }
+    Ok(())
+}
+
+/// Adds the lines of a list of cells that may be read; a list without a cell is a line too.
+pub fn push_reads<A: Allocator>(
+    text: &mut Vec<u8, A>,
+    cells: &WordSet,
+) -> Result<(), AllocError> {
+    if cells.is_empty() {
+        return text.extend_from_slice(b"read\n");
+    }
+    push_cells(text, b"read", cells)
+}
+
+impl Map {
+    /// The text of the declaration with these variables.
+    pub fn text<A: Allocator>(
+        &self,
+        alloc: A,
+        tape: &Tape<'_>,
+        variables: &WordSet,
+    ) -> Result<Vec<u8, A>, AllocError> {
+        let mut text = Vec::new(alloc);
+        if self.profile == Profile::Pdp8E {
+            text.extend_from_slice(b"profile 8e\n")?;
+        }
+        push_cells(&mut text, b"start", &WordSet::one(self.start))?;
+        let mut again = *self;
+        again.forget();
+        push_cells(&mut text, b"main", &again.follow_main(tape))?;
+        again.push_routines(&mut text, tape)?;
+        push_cells(&mut text, b"var", variables)?;
+        let halts = self.round.halts.union(&self.halted);
+        let stops = halts.minus(&self.pauses);
+        self.push_halts(&mut text, tape, b"stop", &stops)?;
+        let pauses = halts.meet(&self.pauses);
+        self.push_halts(&mut text, tape, b"pause", &pauses)?;
+        Ok(text)
+    }
+
+    /// Adds a line for each halt of a set, with the name of its word.
+    fn push_halts<A: Allocator>(
+        &self,
+        text: &mut Vec<u8, A>,
+        tape: &Tape<'_>,
+        kind: &[u8],
+        halts: &WordSet,
+    ) -> Result<(), AllocError> {
+        for at in halts.iter() {
+            text.extend_from_slice(kind)?;
+            push_word(text, at)?;
+            self.push_remark(text, tape, b" / ", at)?;
+        }
+        Ok(())
+    }
+
+    /// Ends a line with a comment that names the word at an address, if the tape has one.
+    fn push_remark<A: Allocator>(
+        &self,
+        text: &mut Vec<u8, A>,
+        tape: &Tape<'_>,
+        before: &[u8],
+        at: Word,
+    ) -> Result<(), AllocError> {
+        if let Some(word) = tape.get(at) {
+            text.extend_from_slice(before)?;
+            text.extend_from_slice(name(word, self.profile).as_bytes())?;
+        }
+        text.extend_from_slice(b"\n")
+    }
+
+    /// Adds a line for each routine, whose bodies are followed again.
+    fn push_routines<A: Allocator>(
+        &mut self,
+        text: &mut Vec<u8, A>,
+        tape: &Tape<'_>,
+    ) -> Result<(), AllocError> {
+        let mut next = 0usize;
+        while let Some(entry) = self.entries.first_from(next) {
+            let body = self.follow_routine(tape, entry);
+            if !body.is_empty() {
+                self.push_routine(text, tape, entry, &body)?;
+            }
+            next = entry.index() + 1;
+        }
+        Ok(())
+    }
+
+    /// Adds the line of a routine, with the name of its first word.
+    fn push_routine<A: Allocator>(
+        &self,
+        text: &mut Vec<u8, A>,
+        tape: &Tape<'_>,
+        entry: Word,
+        body: &WordSet,
+    ) -> Result<(), AllocError> {
+        text.extend_from_slice(b"sub")?;
+        push_word(text, entry)?;
+        text.extend_from_slice(b" body")?;
+        push_ranges(text, body)?;
+        text.extend_from_slice(b" returns")?;
+        for offset in 0..8usize {
+            if self.may_return(entry, offset) {
+                text.extend_from_slice(b" ")?;
+                text.push(b'0' + offset as u8)?;
+            }
+        }
+        self.push_remark(text, tape, b" / begins with ", entry.increment())
+    }
+}

@@ -1,0 +1,3 @@
+pub mod Claimed
+pub mod Halts
+pub mod Making

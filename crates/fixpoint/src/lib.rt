@@ -1,0 +1,21 @@
+//! The search for what is known at each address: on from the start by what each instruction makes of a fact, with sets that are
+//! widened where they grow, until nothing grows. In the words of abstract interpretation what it ends at is a fixpoint. What
+//! it finds is only a guess, which `judge` tests.
+#![tactic(auto)]
+
+mod form;
+mod halt;
+mod joining;
+mod kept;
+mod making;
+mod needs;
+mod program;
+mod ranks;
+mod search;
+mod table;
+mod widening;
+
+pub use halt::Halt;
+pub use program::Program;
+pub use search::Search;
+pub use widening::{MANY_RUNS, ONE_RUN};

@@ -1,0 +1,347 @@
+//! What is analysed: a tape's words and a declaration.
+
+ghost use Rattle.std.specs.Prelude.{◌≡◌};
+
+use crate::halt::Halt;
+use crate::widening::Limits;
+use bin_tape::Image;
+use certificate::Routine;
+use declaration::{Declaration, Owner};
+use facts::{Fact, Place, Running};
+use instruct::{refers_indirectly, target};
+use std::alloc::Allocator;
+use word12::Word;
+use wordset::WordSet;
+
+/// The most cells that are tracked.
+const MOST_TRACKED: usize = 64;
+
+/// What is analysed, the addresses of all bodies, those whose words may look at an entry, the cells
+/// that instructions name or that stand in bodies, those that facts speak of at most, and where their
+/// sets may end.
+#[derive(Drop)]
+pub struct Program<'a, D: Allocator> {
+    pub image: &'a Image,
+    pub declaration: &'a Declaration<D>,
+    pub(crate) bodies: WordSet,
+    pub(crate) lookers: WordSet,
+    pub(crate) named: WordSet,
+    pub(crate) tracked: WordSet,
+    pub(crate) limits: Limits,
+}
+
+/// The body that has an address: main's, or that of the routine of an entry, with what is known of
+/// its calls.
+#[derive(Clone, Copy)]
+pub(crate) enum Body {
+    Main,
+    Of(Word, Routine),
+}
+
+/// A fact at an address of a body. It's large, so the same one serves all visits.
+#[derive(Drop)]
+pub(crate) struct Visit {
+    pub(crate) at: Word,
+    pub(crate) fact: Fact,
+    pub(crate) body: Body,
+}
+
+impl Visit {
+    /// Before the first visit.
+    pub(crate) fn first() -> Visit {
+        Visit {
+            at: Word::ZERO,
+            fact: Fact::any(),
+            body: Body::Main,
+        }
+    }
+}
+
+impl Body {
+    /// The routine, if it isn't main's.
+    fn running(&self) -> Option<Running<'_>> {
+        match self {
+            Body::Main => None,
+            Body::Of(entry, routine) => Some(Running {
+                entry: *entry,
+                sites: &routine.sites,
+                writes: &routine.writes,
+            }),
+        }
+    }
+}
+
+/// Where a fact of a body stands.
+pub(crate) fn place_in<'a, D: Allocator>(
+    image: &'a Image,
+    declaration: &'a Declaration<D>,
+    body: &'a Body,
+) -> Place<'a, D> {
+    let routine = body.running();
+    Place {
+        image,
+        declaration,
+        routine,
+    }
+}
+
+/// Whether a word is a memory reference.
+pub(crate) fn is_reference(word: Word) -> bool {
+    word.index() < 0o6000
+}
+
+/// Whether a memory reference is ISZ or DCA.
+fn stores(word: Word) -> bool {
+    let operation = word.index() / 0o1000;
+    operation == 2 || operation == 3
+}
+
+/// The JMS that refers to the same cells as a word.
+fn as_call(word: Word) -> Word {
+    Word::from_index(0o4000 + word.index() % 0o1000)
+}
+
+/// Adds a cell to the tracked ones, if there is room.
+fn add_cell(cells: &mut WordSet, cell: Word) {
+    if cells.count() < MOST_TRACKED {
+        cells.insert(cell);
+    }
+}
+
+impl<'a, D: Allocator> Program<'a, D> {
+    /// A tape's words and a declaration, with sets of at most so many runs. The cells that facts speak
+    /// of are the variables that instructions name, then those in bodies, then those on the tape; at
+    /// most 64.
+    pub fn of(
+        image: &'a Image,
+        declaration: &'a Declaration<D>,
+        most_runs: usize,
+    ) -> Program<'a, D>
+        ensures image { result.image.now ≡ image.now }
+        ensures declaration { result.declaration.now ≡ declaration.now }
+    {
+        let bodies = bodies_of(declaration);
+        let mut named = WordSet::empty();
+        add_named(&mut named, image, declaration, &bodies);
+        add_code(&mut named, declaration, &bodies);
+        let mut tracked = named;
+        add_loaded(&mut tracked, image, declaration);
+        Program {
+            image,
+            declaration,
+            bodies,
+            lookers: lookers(image, declaration, &bodies),
+            named,
+            tracked,
+            limits: Limits {
+                counted: counted(image, &bodies),
+                landmarks: landmarks(image, declaration, &bodies),
+                most_runs,
+            },
+        }
+    }
+}
+
+/// The addresses of all bodies.
+fn bodies_of<D: Allocator>(declaration: &Declaration<D>) -> WordSet {
+    let mut bodies = *declaration.main();
+    for routine in declaration.routines() {
+        bodies = bodies.union(routine.body());
+    }
+    bodies
+}
+
+/// Adds the variables that the instructions of bodies name.
+fn add_named<D: Allocator>(
+    cells: &mut WordSet,
+    image: &Image,
+    declaration: &Declaration<D>,
+    bodies: &WordSet,
+) {
+    for index in 0..4096usize {
+        let at = Word::from_index(index);
+        if let Some(word) = code_at(image, bodies, at) {
+            let named = target(word, at);
+            if is_reference(word) && declaration.is_variable(named) {
+                add_cell(cells, named);
+            }
+        }
+    }
+}
+
+/// Adds the variables in bodies.
+fn add_code<D: Allocator>(cells: &mut WordSet, declaration: &Declaration<D>, bodies: &WordSet) {
+    for index in 0..4096usize {
+        let at = Word::from_index(index);
+        if declaration.is_variable(at) && bodies.contains(at) {
+            add_cell(cells, at);
+        }
+    }
+}
+
+/// Adds the variables that the tape has words for.
+fn add_loaded<D: Allocator>(cells: &mut WordSet, image: &Image, declaration: &Declaration<D>) {
+    for index in 0..4096usize {
+        let at = Word::from_index(index);
+        if declaration.is_variable(at) && image.get(at).is_some() {
+            add_cell(cells, at);
+        }
+    }
+}
+
+/// The addresses of bodies whose words may look at an entry: those that may be written, those that
+/// refer indirectly, and those that name one.
+fn lookers<D: Allocator>(image: &Image, declaration: &Declaration<D>, bodies: &WordSet) -> WordSet {
+    let mut addresses = bodies.meet(declaration.variables());
+    for index in 0..4096usize {
+        let at = Word::from_index(index);
+        if let Some(word) = code_at(image, bodies, at) {
+            if is_reference(word)
+                && (refers_indirectly(word) || declaration.is_entry(target(word, at)))
+            {
+                addresses.insert(at);
+            }
+        }
+    }
+    addresses
+}
+
+/// The cells that ISZ counts by name.
+fn counted(image: &Image, bodies: &WordSet) -> WordSet {
+    let mut cells = WordSet::empty();
+    for index in 0..4096usize {
+        let at = Word::from_index(index);
+        if let Some(word) = code_at(image, bodies, at) {
+            if word.index() / 0o1000 == 2 && !refers_indirectly(word) {
+                cells.insert(target(word, at));
+            }
+        }
+    }
+    cells
+}
+
+/// Words at which sets may end: the tape's words that are no instructions, each with what makes it 0,
+/// and the ends of what may be written and read.
+fn landmarks<D: Allocator>(
+    image: &Image,
+    declaration: &Declaration<D>,
+    bodies: &WordSet,
+) -> WordSet {
+    let mut words = ends(declaration.variables());
+    for index in 0..4096usize {
+        let at = Word::from_index(index);
+        if !bodies.contains(at) {
+            if let Some(word) = image.get(at) {
+                words.insert(word);
+                words.insert(word.complement().increment());
+            }
+        }
+    }
+    words
+}
+
+/// The first words of each run of a set, and those past its end.
+fn ends(set: &WordSet) -> WordSet {
+    let after = set.shift(Word::ZERO.increment());
+    set.minus(&after).union(&after.minus(set))
+}
+
+/// The tape's word at an address of a body.
+fn code_at(image: &Image, bodies: &WordSet, at: Word) -> Option<Word> {
+    if !bodies.contains(at) {
+        return None;
+    }
+    image.get(at)
+}
+
+impl<D: Allocator> Program<'_, D> {
+    /// Whether an address is in a body.
+    pub(crate) fn has(&self, body: &Body, at: Word) -> bool {
+        match body {
+            Body::Main => self.declaration.in_main(at),
+            Body::Of(entry, _) => self.declaration.in_body(*entry, at),
+        }
+    }
+
+    /// The tape's word at an address of a body, if it can't be written.
+    pub(crate) fn fixed_word(&self, at: Word) -> Option<Word> {
+        if self.declaration.is_variable(at) {
+            return None;
+        }
+        code_at(self.image, &self.bodies, at)
+    }
+
+    /// The cell that a memory reference refers to, which names a cell, if it's the same at all times.
+    pub(crate) fn place_named(&self, word: Word, named: Word) -> Option<Word> {
+        if !refers_indirectly(word) {
+            return Some(named);
+        }
+        if self.declaration.is_variable(named) || self.declaration.is_entry(named) {
+            return None;
+        }
+        self.image.get(named)
+    }
+
+    /// The cells of the body of an entry.
+    pub(crate) fn body_of(&self, entry: Word) -> WordSet {
+        for routine in self.declaration.routines() {
+            if routine.entry() == entry {
+                return *routine.body();
+            }
+        }
+        WordSet::empty()
+    }
+
+    /// The owner of an address.
+    pub(crate) fn owner(&self, at: Word) -> Result<Owner, Halt> {
+        match self.declaration.owner_of(at) {
+            None => Err(Halt::Stuck(at)),
+            Some(owner) => Ok(owner),
+        }
+    }
+
+    /// The words that are possible where a fact stands.
+    pub(crate) fn possible(&self, visit: &Visit) -> WordSet {
+        place_in(self.image, self.declaration, &visit.body).possible_words(&visit.fact, visit.at)
+    }
+
+    /// Whether a word's reads are listed, and it calls through no auto-index cell.
+    pub(crate) fn may_stand(&self, visit: &Visit, word: Word) -> bool {
+        let place = place_in(self.image, self.declaration, &visit.body);
+        if place.steps_call_pointer(visit.at, word) {
+            return false;
+        }
+        place.reads_are_listed(&visit.fact, visit.at, word)
+    }
+
+    /// The cells that a word may write, save the one that a JMS itself writes.
+    pub(crate) fn written(&self, visit: &Visit, word: Word) -> WordSet {
+        if !is_reference(word) {
+            return WordSet::empty();
+        }
+        let mut cells = if stores(word) {
+            self.targets(visit, word)
+        } else {
+            WordSet::empty()
+        };
+        let named = target(word, visit.at);
+        if refers_indirectly(word) && named.index() / 8 == 1 {
+            cells.insert(named);
+        }
+        cells
+    }
+
+    /// The cells that a memory reference refers to.
+    fn targets(&self, visit: &Visit, word: Word) -> WordSet {
+        place_in(self.image, self.declaration, &visit.body).calls(
+            &visit.fact,
+            visit.at,
+            as_call(word),
+        )
+    }
+
+    /// The entry through which a word returns.
+    pub(crate) fn returned_entry(&self, visit: &Visit, word: Word) -> Option<Word> {
+        place_in(self.image, self.declaration, &visit.body).returned_entry(visit.at, word)
+    }
+}

@@ -6,16 +6,16 @@ use command_line::{
     CheckRequest, GuessRequest, MigrateRequest, RefuteRequest, ReportRequest, VerifyRequest,
     WatchRequest,
 };
-use commands::checking::check;
-use commands::explaining::explain;
-use commands::guessing::guess;
-use commands::migrating::migrate;
-use commands::refuting::refute;
-use commands::reporting::{Form, report};
-use commands::status::{Fault, Status};
-use commands::stuck::guess_or_explain;
-use commands::verifying::{Answer, Lack, answer_status, verify, verify_proposed};
-use commands::watching::watch;
+use verdict_commands::checking::check;
+use verdict_commands::explaining::explain;
+use search_commands::guessing::guess;
+use verdict_commands::migrating::migrate;
+use machine_commands::refuting::refute;
+use report_commands::reporting::{Form, report};
+use command_parts::status::{Fault, Status};
+use search_commands::stuck::guess_or_explain;
+use search_commands::verifying::{Answer, Lack, answer_status, verify, verify_proposed};
+use machine_commands::watching::watch;
 use program_files::drafted::{is_stuck, report_stuck_files};
 use program_files::faults::{bound_lines, omissions, stuck_address, with_omissions};
 use program_files::files::{open_input, open_output};

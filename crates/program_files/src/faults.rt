@@ -7,7 +7,7 @@ use bin_tape::Image;
 use bound_texts::push_bound;
 use command_line::FileNames;
 use command_parts::inputs::{declaration_from, tape_from};
-use commands::status::{DeviceFault, Fault};
+use command_parts::status::{DeviceFault, Fault};
 use declaration::{Declaration, DeclarationFault};
 use explanations::push_advice;
 use fault_texts::{FaultyFile, push_fault, push_omissions};

@@ -4,7 +4,7 @@ ghost use Rattle.std.specs.Prelude.{◌≡◌, false, IfOk};
 ghost use Rattle.std.specs.List.{AllByRecursion};
 
 use command_line::Destination;
-use commands::status::{DeviceFault, Fault};
+use command_parts::status::{DeviceFault, Fault};
 use either::Either;
 use std::alloc::Global;
 use std::fs;

@@ -2,8 +2,8 @@
 
 ghost use Rattle.std.specs.Prelude.{◌≡◌, false, IfOk};
 
-use commands::status::{DeviceFault, Fault};
-use commands::verifying::{Answer, Proposed};
+use command_parts::status::{DeviceFault, Fault};
+use search_commands::verifying::{Answer, Proposed};
 use std::alloc::Global;
 use std::fs;
 use std::rt::Files;

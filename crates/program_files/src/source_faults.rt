@@ -1,7 +1,7 @@
 //! What is told of the faults of a source.
 
 use crate::telling::{tell, tell_with};
-use commands::status::{Fault, Status};
+use command_parts::status::{Fault, Status};
 use instruct::Profile;
 use pal_asm::PalFault;
 use source_texts::push_faults;

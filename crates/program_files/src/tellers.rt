@@ -3,7 +3,7 @@
 ghost use Rattle.std.specs.Prelude.{◌≡◌, false, IfOk};
 
 use crate::files::input_of;
-use commands::status::Fault;
+use command_parts::status::Fault;
 use either::Either;
 use std::io::{self, Printer};
 use std::rt::Files;

@@ -1,7 +1,7 @@
 //! What is told on standard error of a fault.
 
 use command_line::Misuse;
-use commands::status::{Fault, Status};
+use command_parts::status::{Fault, Status};
 
 /// Writes the line of a fault to standard error.
 pub fn tell<R: Eprint>(rt: &R, fault: Fault) -> Status {

@@ -8,7 +8,7 @@ use crate::programs::{
 };
 use crate::spots::{Spot, behind_lines, line_counts, line_of, on_line, spot_of};
 use command_line::{Sourced, Task};
-use commands::status::{Fault, Status};
+use command_parts::status::{Fault, Status};
 use declaration::DeclarationFault;
 use fault_texts::{FaultyFile, push_fault};
 use labels::{Numbered, number};

@@ -2,7 +2,7 @@
 
 use crate::spots::{Spot, line_counts, spot_of};
 use command_line::{Misuse, Sourced, Task};
-use commands::status::{Fault, Status};
+use command_parts::status::{Fault, Status};
 use instruct::Profile;
 use labels::{NumberingFault, PlaceFault, declared_lines};
 use program_files::files::open_input;

@@ -2,8 +2,8 @@
 
 use crate::programs::SourceText;
 use crate::spots::{line_counts, spot_of};
-use commands::reporting::{SourceNote, SourceNotes, notes_of};
-use commands::status::Fault;
+use report_commands::reporting::{SourceNote, SourceNotes, notes_of};
+use command_parts::status::Fault;
 use itoa::Buffer;
 use labels::machine_of;
 use pal_asm::{AssembleFault, assemble};

@@ -4,7 +4,7 @@ ghost use Rattle.std.specs.Prelude.{◌≤◌};
 
 use clap::Error;
 use command_line::{CommandLine, Misuse, Refused, Request, parse_arguments};
-use commands::status::{DeviceFault, Fault, Status};
+use command_parts::status::{DeviceFault, Fault, Status};
 use explanations::{push_codes, push_explanations};
 use file_requests::joined::{hold_session, sit_down, watch_joined};
 use file_requests::promises::{

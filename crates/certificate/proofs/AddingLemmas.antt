@@ -6,7 +6,7 @@ use Rattle.wordset.specs.Words.{Words, everything, between}
 use Rattle.wordset.specs.Lanes.{words}
 use Rattle.domain.specs.Facts.{Equation}
 use Rattle.domain.specs.Statements.{TrackedCell, Statement, fact_of}
-use Rattle.certificate.specs.declared.Routine.{Routine}
+use Rattle.certificate.specs.declared.RoutineClaim.{RoutineClaim}
 use Rattle.certificate.specs.Spelling.{RoutineLine, Line, RoutineIs, FactIs, ExitIs, CellIs, EquationIs}
 use Rattle.certificate.specs.declared.packed.Run.{Run}
 use Rattle.certificate.specs.Order.{is_detail}
@@ -146,12 +146,12 @@ exit_there lines i l s e h =
     record { fact = ap first_exit e ∙ f.fact; statement = ap exit_statement e ∙ f.statement; room = λ q. f.room (rw e at q) }
 
 -- A routine's line at a place.
-is_routine : (l : Line) (ls : List Line) (given : Routine) (rs : List RoutineLine) (e : ℕ) → IsRoutineLine l given → SaysFirst rs e (l ∷ ls) → IsRoutineOf rs e given
+is_routine : (l : Line) (ls : List Line) (given : RoutineClaim) (rs : List RoutineLine) (e : ℕ) → IsRoutineLine l given → SaysFirst rs e (l ∷ ls) → IsRoutineOf rs e given
 is_routine (RoutineIs r) ls given rs e h says =
     record { rank = h.0 ∙ sym says.rank; sites = h.1 ∙ sym says.sites; writes = h.2 ∙ sym says.writes }
 is_routine l ls given rs e h says = absurd h
 
-pub routine_there : (lines : List Line) (i : ℕ) (l : Line) (given : Option Routine) (rs : List RoutineLine) (e : ℕ) → drop i lines ≡ l ∷ drop (i + 1) lines →
+pub routine_there : (lines : List Line) (i : ℕ) (l : Line) (given : Option RoutineClaim) (rs : List RoutineLine) (e : ℕ) → drop i lines ≡ l ∷ drop (i + 1) lines →
     IfSome given (λ r. IsRoutineLine l r) → SaysFirst rs e (drop i lines) → IfSome given (λ r. IsRoutineOf rs e r)
 routine_there lines i l None rs e is h says = tt
 routine_there lines i l (Some r) rs e is h says = is_routine l (drop (i + 1) lines) r rs e h (rw is at says)

@@ -3,7 +3,7 @@ use Rattle.std.specs.Prelude.{◌≡◌, ℕ, ◌+◌, ◌<◌, ◌≤◌, List,
 use Rattle.wordset.specs.Words.{Words, everything}
 use Rattle.domain.specs.Statements.{Statement, fact_of}
 use Rattle.wordset.specs.Lanes.{words}
-use Rattle.certificate.specs.declared.Routine.{Routine}
+use Rattle.certificate.specs.declared.RoutineClaim.{RoutineClaim}
 use Rattle.certificate.specs.Spelling.{Line, RoutineIs, FactIs, ExitIs, CellIs, EquationIs}
 use Rattle.certificate.specs.Gathered.{cells_under, equations_under, stated}
 use Rattle.certificate.specs.Found.{with_details, first_fact, first_exit, fact_statement, exit_statement, FitUnderFirst}
@@ -35,7 +35,7 @@ IsExitLine (ExitIs e o r) s = s ≡ stated r []
 IsExitLine _ s = ⊥
 
 -- The line is a routine's with this rank, these sites and these written cells.
-abbrev pub IsRoutineLine : Line → Routine → Type 0
+abbrev pub IsRoutineLine : Line → RoutineClaim → Type 0
 IsRoutineLine (RoutineIs r) given = (given.rank ≡ r.rank) × (words given.sites ≡ r.sites) × (words given.writes ≡ r.writes)
 IsRoutineLine _ given = ⊥
 

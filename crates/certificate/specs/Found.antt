@@ -5,7 +5,7 @@ use Rattle.wordset.specs.Words.{everything}
 use Rattle.domain.specs.Statements.{TrackedCell, Statement, fact_of, unknown}
 use Rattle.wordset.specs.Lanes.{words}
 use Rattle.certificate.specs.declared.Version.{Version}
-use Rattle.certificate.specs.declared.Routine.{Routine}
+use Rattle.certificate.specs.declared.RoutineClaim.{RoutineClaim}
 use Rattle.certificate.specs.declared.lines.KeptLines.{KeptLines}
 use Rattle.certificate.specs.Spelling.{RoutineLine, Line, RoutineIs, FactIs, ExitIs, CellIs, EquationIs, End}
 use Rattle.certificate.specs.Reading.{rank_in, sites_in, writes_in}
@@ -134,7 +134,7 @@ exit_statement (ExitIs e o r ∷ ls) = Some (stated r ls)
 exit_statement (_ ∷ ls) = None
 
 -- A routine that is given is what the routines say of an entry.
-pub record IsRoutineOf (rs : List RoutineLine) (e : ℕ) (r : Routine) : Type 0 where
+pub record IsRoutineOf (rs : List RoutineLine) (e : ℕ) (r : RoutineClaim) : Type 0 where
   pub rank : r.rank ≡ rank_in rs e
   pub sites : words r.sites ≡ sites_in rs e
   pub writes : words r.writes ≡ writes_in rs e

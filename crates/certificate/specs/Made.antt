@@ -3,14 +3,14 @@ use Rattle.std.specs.Prelude.{◌≡◌, ℕ, ◌+◌, ◌*◌, ◌<◌, [], ◌
 use Rattle.wordset.specs.Lanes.{words}
 use Rattle.domain.specs.declared.fact.Fact.{Fact}
 use Rattle.domain.specs.Meaning.{statement_of, offsets_of}
-use Rattle.certificate.specs.declared.Routine.{Routine}
+use Rattle.certificate.specs.declared.RoutineClaim.{RoutineClaim}
 use Rattle.certificate.specs.declared.Version.{Version}
 use Rattle.certificate.specs.declared.Version.TheVariants.{Two}
 use Rattle.certificate.specs.Spelling.{RoutineLine, FactLine, ExitLine, Lines}
 use Rattle.certificate.specs.Reading.{Each, IsStatement}
 
 -- The line of a routine by its entry.
-abbrev pub routine_at : ℕ → Routine → RoutineLine
+abbrev pub routine_at : ℕ → RoutineClaim → RoutineLine
 routine_at e r = record { entry = e; rank = r.rank; sites = words r.sites; writes = words r.writes }
 
 -- The line of a fact by its address.

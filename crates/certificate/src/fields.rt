@@ -13,7 +13,7 @@ ghost use Rattle.certificate.specs.Packed.{Begins, added};
 ghost use Rattle.certificate.specs.Fields.{left, WasFirst, run_text, NoDash, EndsField};
 
 use crate::packed::{Run, Runs};
-use domain::{Name, Offsets};
+use domain::{CountedOffsets, Name};
 use word12::{Link, Word};
 use wordset::Links;
 
@@ -221,7 +221,7 @@ impl<'a> Fields<'a> {
     }
 
     /// Some of the digits below `count`, in rising order.
-    fn digits(&mut self, count: usize) -> Offsets
+    fn digits(&mut self, count: usize) -> CountedOffsets
         requires { count ≤ 8 }
         ensures read { WasFirst self.old self.new (digits count (offsets_of result)) }
         ensures others { (v : ℕ) → count ≤ v → v < 8 → offsets_of result v ≡ false }
@@ -229,7 +229,7 @@ impl<'a> Fields<'a> {
             Some (digits count s ++ rest) →
             ((v : ℕ) → v < count → offsets_of result v ≡ s v) × (left self.new ≡ Some rest) }
     {
-        let mut found = Offsets::none();
+        let mut found = CountedOffsets::none();
         for digit in 0..count {
             if self.takes(b'0' + digit as u8) {
                 found.insert(digit);
@@ -254,14 +254,14 @@ impl<'a> Fields<'a> {
     }
 
     /// Offsets, `-` where there are none.
-    pub fn offsets(&mut self) -> Offsets
+    pub fn offsets(&mut self) -> CountedOffsets
         ensures read { WasFirst self.old self.new (offsets_text (offsets_of result)) }
         ensures only { (s : Words) (rest : List ℕ) → EndsField rest → left self.old ≡
             Some (offsets_text s ++ rest) →
             ((o : ℕ) → o < 8 → offsets_of result o ≡ s o) × (left self.new ≡ Some rest) }
     {
         if self.takes(b'-') {
-            return Offsets::none();
+            return CountedOffsets::none();
         }
         let offsets = self.digits(8);
         if offsets.is_empty() {
@@ -299,7 +299,7 @@ impl<'a> Fields<'a> {
 }
 
 /// The links of which the numbers are among these digits.
-fn links_among(digits: Offsets) -> Links
+fn links_among(digits: CountedOffsets) -> Links
     ensures { SameLinks (links_of result) (offsets_of digits) }
 {
     match (digits.contains(0), digits.contains(1)) {

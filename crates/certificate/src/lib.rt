@@ -56,7 +56,7 @@ pub enum Version {
 /// What is claimed of a routine: its rank, below 64 in a certificate, the addresses of the JMS words
 /// that call it, and the cells that it and its callees may write.
 #[derive(Clone, Copy, PartialEq, Eq, Debug)]
-pub struct Routine {
+pub struct RoutineClaim {
     /// Its rank.
     pub rank: usize,
     /// The addresses of the JMS words that call it.
@@ -175,7 +175,7 @@ impl<A: Allocator> Certificate<A> {
     }
 
     /// What is claimed of the routine of an entry, if it's listed.
-    pub fn routine(&self, entry: Word) -> Option<Routine>
+    pub fn routine(&self, entry: Word) -> Option<RoutineClaim>
         ensures listed { is_some result ≡ (claims self.now).listed entry }
         ensures rank { IfSome result (λ r. r.rank ≡ (claims self.now).rank entry) }
         ensures sites { IfSome result (λ r. words r.sites ≡ (claims self.now).sites entry) }

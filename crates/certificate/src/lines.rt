@@ -13,7 +13,7 @@ ghost use Rattle.certificate.specs.Claimed.{claimed_line};
 ghost use Rattle.certificate.specs.Packed.{Begins, said_at, said_lines, LiesWithin};
 ghost use Rattle.certificate.specs.Found.{from_place, all_said, Keeps, unended, Extends, HasMore, IsIndexed, HasBetween, IsNextPlace, FitUnderFirst, with_details, IsRoutineOf, begins_routine, begins_fact, begins_exit, first_fact, first_exit, fact_statement, exit_statement, SaysFirst};
 
-use crate::Routine;
+use crate::RoutineClaim;
 use crate::packed::{Claim, PackedLine, PackedLines, Run, add, begin_exit, begin_fact, routine_of};
 use crate::progress::{LAST_PLACE, place_of};
 use domain::{Equation, Fact, TrackedCells};
@@ -222,7 +222,7 @@ fn add_details<A: Allocator>(fact: &mut Fact, lines: &PackedLines<A>, start: usi
 }
 
 /// What the line at a place says of a routine, if there is one and it does.
-pub fn first_routine<A: Allocator>(lines: &PackedLines<A>, start: usize) -> Option<Routine>
+pub fn first_routine<A: Allocator>(lines: &PackedLines<A>, start: usize) -> Option<RoutineClaim>
     ensures there { is_some result ≡ begins_routine (drop start (said_lines lines.now)) }
     ensures says { (rs : List SaidRoutine) (e : ℕ) → SaysFirst rs e (drop start (said_lines lines.now)) →
         IfSome result (λ r. IsRoutineOf rs e r) }

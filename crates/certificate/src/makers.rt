@@ -7,7 +7,7 @@ ghost use Rattle.certificate.specs.Made.{no_lines, routine_at, fact_at, exit_at,
 use crate::lines::KeptLines;
 use crate::packed::Claim;
 use crate::progress::{FIRST_EXIT, FIRST_FACT};
-use crate::{Certificate, Routine, Version};
+use crate::{Certificate, RoutineClaim, Version};
 use domain::{Fact, TrackedCells};
 use std::alloc::Allocator;
 use thiserror::Error;
@@ -37,7 +37,7 @@ impl<A: Allocator> Certificate<A> {
     /// # Errors
     ///
     /// `NoMemory` where more room was refused; nothing is added then.
-    pub fn add_routine(&mut self, entry: Word, routine: &Routine) -> Result<(), NoMemory>
+    pub fn add_routine(&mut self, entry: Word, routine: &RoutineClaim) -> Result<(), NoMemory>
         requires { MayAddRoutine (meaning self.old) (routine_at entry routine.now) }
         ensures added { OnOk result (meaning self.new ≡
             with_routine (meaning self.old) (routine_at entry routine.now)) }

@@ -13,9 +13,9 @@ ghost use Rattle.certificate.specs.Claimed.{claimed_line};
 ghost use Rattle.certificate.specs.Spelled.{IsLastOf};
 ghost use Rattle.certificate.specs.Packed.{Begins, set_of_runs, added, set_at, one_at, other_at, registers_at, said_at, said_lines, StandApart, AreWithin, LiesWithin, AreLaid, IsPacked};
 
-use crate::Routine;
+use crate::RoutineClaim;
 use arrayvec::ArrayVec;
-use domain::{Equation, Fact, Offsets, TrackedCell};
+use domain::{CountedOffsets, Equation, Fact, TrackedCell};
 use std::alloc::{AllocError, Allocator};
 use std::marker::Model;
 use word12::Word;
@@ -68,7 +68,7 @@ pub enum PackedLine {
     /// A routine.
     Routine(PackedRoutine),
     /// What holds at an address, and the offsets; the cells and equations follow.
-    Fact(Word, PackedRegisters, Offsets),
+    Fact(Word, PackedRegisters, CountedOffsets),
     /// What holds when the routine of an entry returns by an offset; the cells and equations follow.
     Exit(Word, u8, PackedRegisters),
     /// A tracked cell of the fact or exit before, and how many runs its set has.
@@ -83,7 +83,7 @@ pub enum PackedLine {
 /// holds when the routine of an entry returns by an offset, a tracked cell or an equation.
 #[derive(Clone, Copy)]
 pub enum Claim<'a> {
-    Routine(Word, u8, &'a Routine),
+    Routine(Word, u8, &'a RoutineClaim),
     Fact(Word, &'a Fact),
     Exit(Word, u8, &'a Fact),
     Cell(&'a TrackedCell),
@@ -366,7 +366,7 @@ fn put_several_in_mq(runs: &[Run], first: usize, count: usize, fact: &mut Fact)
 
 /// The lent fact says what these registers and offsets say, and nothing of any cell.
 #[inline(never)]
-fn begin(runs: &[Run], registers: &PackedRegisters, offsets: Offsets, fact: &mut Fact)
+fn begin(runs: &[Run], registers: &PackedRegisters, offsets: CountedOffsets, fact: &mut Fact)
     requires { AreWithin (length runs.now) registers.now.sets }
     ensures statement { statement_of fact.new ≡ stated (registers_at runs.now registers.now) [] }
     ensures offsets { offsets_of fact.new.offsets ≡ offsets_of offsets }
@@ -465,7 +465,7 @@ pub fn begin_exit(runs: &[Run], packed: &PackedLine, exit: &mut Fact) -> bool
 {
     match packed {
         PackedLine::Exit(_, _, registers) => {
-            begin(runs, registers, Offsets::all(), exit);
+            begin(runs, registers, CountedOffsets::all(), exit);
             true
         }
         _ => false,
@@ -474,14 +474,14 @@ pub fn begin_exit(runs: &[Run], packed: &PackedLine, exit: &mut Fact) -> bool
 
 /// What a line says of a routine, if it does.
 #[inline(never)]
-pub fn routine_of(runs: &[Run], packed: &PackedLine) -> Option<Routine>
+pub fn routine_of(runs: &[Run], packed: &PackedLine) -> Option<RoutineClaim>
     requires { LiesWithin (length runs.now) packed.now }
     ensures there { is_some result ≡ begins_routine (said_at runs.now packed.now ∷ []) }
     ensures says { IfSome result (λ r. IsRoutineLine (said_at runs.now packed.now) r) }
 {
     match packed {
         PackedLine::Routine(routine) => {
-            let mut said = Routine {
+            let mut said = RoutineClaim {
                 rank: usize::from(routine.rank),
                 sites: WordSet::empty(),
                 writes: WordSet::empty(),

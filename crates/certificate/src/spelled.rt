@@ -24,7 +24,7 @@ use crate::packed::{
     stand_apart,
 };
 use arrayvec::ArrayVec;
-use domain::{Equation, Name, Offsets};
+use domain::{CountedOffsets, Equation, Name};
 use std::alloc::Allocator;
 use streams::{ByteSink, Failed, put};
 use word12::Word;
@@ -215,7 +215,7 @@ impl LineText {
     }
 
     /// Adds the offsets' digits in rising order.
-    fn digits(&mut self, offsets: Offsets)
+    fn digits(&mut self, offsets: CountedOffsets)
         ensures { Adds self.old.bytes.items self.new.bytes.items (digits 8 (offsets_of offsets)) }
     {
         for offset in 0..8usize {
@@ -224,7 +224,7 @@ impl LineText {
     }
 
     /// Adds offsets, `-` where there are none.
-    fn offsets(&mut self, offsets: Offsets)
+    fn offsets(&mut self, offsets: CountedOffsets)
         ensures { Adds self.old.bytes.items self.new.bytes.items
             (offsets_text (offsets_of offsets)) }
     {
@@ -306,7 +306,7 @@ impl LineText {
         runs: &[Run],
         at: Word,
         registers: &PackedRegisters,
-        offsets: Offsets,
+        offsets: CountedOffsets,
     )
         requires { AreWithin (length runs.now) registers.now.sets }
         ensures { Adds self.old.bytes.items self.new.bytes.items

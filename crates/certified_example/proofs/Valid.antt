@@ -7,12 +7,12 @@ use Rattle.instruct.specs.Instructions.{meaning_of}
 use Rattle.wordset.specs.Words.{Words, plus, nothing, everything, one, some_below, how_many}
 use Rattle.declaration.specs.Declaration.{Routine, IsDeclared}
 use Rattle.domain.specs.Facts.{Name, Ac, Cell, Fact, narrowed, possible, Entails, joined}
-use Rattle.domain.specs.Changes.{moved, assigned, copied, with_equations, with_offsets}
-use Rattle.facts.specs.Outcomes.{Outcome, Goes, given, dca_case, part2, operated2}
+use Rattle.domain.specs.Changes.{moved, strongly_updated, copied, with_equations, with_offsets}
+use Rattle.facts.specs.Outcomes.{Successor, Goes, given, dca_case, part2, operated2}
 use Rattle.facts.specs.Starts.{HoldsOfStarts}
 use Rattle.facts.specs.declared.Condition.TheVariants.{V1, V2, V3, V4, V5, V6, V7, V8, V9, V10, V11, V12, V13, V14, V15}
 use Rattle.facts.proofs.Numbers.{some_from}
-use Rattle.judge.specs.Conditions.{place_in, fact_at, LandsAt, IsPlaced, EachOutcome, OutcomeLands, IsValid}
+use Rattle.judge.specs.Conditions.{place_in, fact_at, LandsAt, IsPlaced, EachSuccessor, SuccessorLands, IsValid}
 use Rattle.judge.proofs.Fine.{Fine}
 use Rattle.certified_example.specs.Example.{main_cells, body, declaration, knowing, any, clear, changed, fact, certificate, example}
 use Rattle.certified_example.proofs.Sets.{and_false, none_in, few, only_one}
@@ -83,11 +83,11 @@ is_declared = record {
 any_entailed : (f : Fact) (offsets : Words) → Entails f (knowing any offsets)
 any_entailed f offsets = record { sets = λ n v lt h. refl; mq = λ v lt h. refl; link = λ l lt h. refl; equations = tt }
 
-each_given : (p : Outcome → Type 0) (b : Bool) (o : Outcome) → p o → EachOutcome p (given b o)
+each_given : (p : Successor → Type 0) (b : Bool) (o : Successor) → p o → EachSuccessor p (given b o)
 each_given p true o h = (h, tt)
 each_given p false o h = tt
 
-none_given : (p : Outcome → Type 0) (b : Bool) (o : Outcome) → b ≡ false → EachOutcome p (given b o)
+none_given : (p : Successor → Type 0) (b : Bool) (o : Successor) → b ≡ false → EachSuccessor p (given b o)
 none_given p true o e = absurd (true≢false e)
 none_given p false o e = tt
 
@@ -100,7 +100,7 @@ in_routine : (r : Routine) → body r 0o211 ≡ true → r ≡ Some 0o210
 in_routine None h = absurd (false≢true h)
 in_routine (Some e) h = ap Some (eqb-true e 0o210 (and_parts (e == 0o210) true h).0)
 
-each_append : (p : Outcome → Type 0) (os qs : List Outcome) → EachOutcome p os → EachOutcome p qs → EachOutcome p (os ++ qs)
+each_append : (p : Successor → Type 0) (os qs : List Successor) → EachSuccessor p os → EachSuccessor p qs → EachSuccessor p (os ++ qs)
 each_append p [] qs h g = g
 each_append p (o ∷ os) qs h g = (h.0, each_append p os qs h.1 g)
 
@@ -122,10 +122,10 @@ one_lands a f l q lq h = subst (λ x. LandsAt example None x f) (sym (eqb-true q
 
 -- 0200: DCA 0202
 first_fine : Fine example None 0o200 (meaning_of Pdp8I 0o200 0o3202)
-unfolding meaning_of assigned narrowed
+unfolding meaning_of strongly_updated narrowed
 first_fine = record {
   v3 = tt;
-  v4 = subst (λ o. EachOutcome (OutcomeLands example None) (dca_case (place_in example None) 0o200 (fact 0o200) (one 0o202) o)) (sym (only_one 0o202 (omega arith))) deposits;
+  v4 = subst (λ o. EachSuccessor (SuccessorLands example None) (dca_case (place_in example None) 0o200 (fact 0o200) (one 0o202) o)) (sym (only_one 0o202 (omega arith))) deposits;
   v5 = λ a lt h. inl (let q : a ≡ 0o202 = eqb-true a 0o202 h in rw q refl);
   v6 = λ a lt h. tt;
   v7 = (tt, tt);
@@ -140,7 +140,7 @@ first_fine = record {
 }
   where
     after : Fact
-    after = assigned Ac (one 0) (with_equations (copied 0o202 []) (assigned (Cell 0o202) (narrowed (fact 0o200) Ac) (fact 0o200)))
+    after = strongly_updated Ac (one 0) (with_equations (copied 0o202 []) (strongly_updated (Cell 0o202) (narrowed (fact 0o200) Ac) (fact 0o200)))
 
     sets : (n : Name) (v : ℕ) → v < 4096 → narrowed after n v ≡ true → clear n v ≡ true
     sets Ac v lt g = (and_parts (v == 0) true g).0
@@ -154,15 +154,15 @@ first_fine = record {
       offsets = λ n lt g. g;
     }
 
-    deposits : EachOutcome (OutcomeLands example None) (dca_case (place_in example None) 0o200 (fact 0o200) (one 0o202) (Some 0o202))
-    deposits = each_given (OutcomeLands example None) _ (Goes (one 0o201) after) (one_lands 0o201 after lands)
+    deposits : EachSuccessor (SuccessorLands example None) (dca_case (place_in example None) 0o200 (fact 0o200) (one 0o202) (Some 0o202))
+    deposits = each_given (SuccessorLands example None) _ (Goes (one 0o201) after) (one_lands 0o201 after lands)
 
 -- 0201: DCA 0202, with the accumulator 0
 second_fine : Fine example None 0o201 (meaning_of Pdp8I 0o201 0o3202)
-unfolding meaning_of assigned narrowed
+unfolding meaning_of strongly_updated narrowed
 second_fine = record {
   v3 = tt;
-  v4 = subst (λ o. EachOutcome (OutcomeLands example None) (dca_case (place_in example None) 0o201 (fact 0o201) (one 0o202) o)) (sym (only_one 0o202 (omega arith))) deposits;
+  v4 = subst (λ o. EachSuccessor (SuccessorLands example None) (dca_case (place_in example None) 0o201 (fact 0o201) (one 0o202) o)) (sym (only_one 0o202 (omega arith))) deposits;
   v5 = λ a lt h. inl (let q : a ≡ 0o202 = eqb-true a 0o202 h in rw q refl);
   v6 = λ a lt h. tt;
   v7 = (tt, tt);
@@ -177,7 +177,7 @@ second_fine = record {
 }
   where
     after : Fact
-    after = assigned Ac (one 0) (with_equations (copied 0o202 []) (assigned (Cell 0o202) (narrowed (fact 0o201) Ac) (fact 0o201)))
+    after = strongly_updated Ac (one 0) (with_equations (copied 0o202 []) (strongly_updated (Cell 0o202) (narrowed (fact 0o201) Ac) (fact 0o201)))
 
     cell : (b : Bool) (v : ℕ) → (let c : Words = if b then narrowed (fact 0o201) Ac else everything in (c v && true) ≡ true) → (let c : Words = if b then one 0 else everything in c v ≡ true)
     cell true v g = (and_parts (v == 0) true (and_parts ((v == 0) && true) true g).0).0
@@ -195,15 +195,15 @@ second_fine = record {
       offsets = λ n lt g. g;
     }
 
-    deposits : EachOutcome (OutcomeLands example None) (dca_case (place_in example None) 0o201 (fact 0o201) (one 0o202) (Some 0o202))
-    deposits = each_given (OutcomeLands example None) _ (Goes (one 0o202) after) (one_lands 0o202 after lands)
+    deposits : EachSuccessor (SuccessorLands example None) (dca_case (place_in example None) 0o201 (fact 0o201) (one 0o202) (Some 0o202))
+    deposits = each_given (SuccessorLands example None) _ (Goes (one 0o202) after) (one_lands 0o202 after lands)
 
 -- 0202: AND 0000, in the cell of changeable code
 third_fine : Fine example None 0o202 (meaning_of Pdp8I 0o202 0)
-unfolding meaning_of assigned
+unfolding meaning_of strongly_updated
 third_fine = record {
   v3 = tt;
-  v4 = each_given (OutcomeLands example None) _ _ (one_lands 0o203 _ (main_lands 0o203 _ refl refl refl refl));
+  v4 = each_given (SuccessorLands example None) _ _ (one_lands 0o203 _ (main_lands 0o203 _ refl refl refl refl));
   v5 = λ a lt h. absurd (false≢true h);
   v6 = λ a lt h. tt;
   v7 = (tt, tt);
@@ -222,7 +222,7 @@ fourth_fine : Fine example None 0o203 (meaning_of Pdp8I 0o203 0o4210)
 unfolding meaning_of joined
 fourth_fine = record {
   v3 = tt;
-  v4 = each_given (OutcomeLands example None) _ _ tt;
+  v4 = each_given (SuccessorLands example None) _ _ tt;
   v5 = λ a lt h. absurd (false≢true h);
   v6 = λ a lt h. tt;
   v7 = (refl, λ e lt h. record { entry = h; listed = h; lower = tt });
@@ -247,7 +247,7 @@ fifth_fine : Fine example None 0o204 (meaning_of Pdp8I 0o204 0o1410)
 unfolding meaning_of moved
 fifth_fine = record {
   v3 = tt;
-  v4 = each_given (OutcomeLands example None) _ _ (one_lands 0o205 _ (main_lands 0o205 _ refl refl refl refl));
+  v4 = each_given (SuccessorLands example None) _ _ (one_lands 0o205 _ (main_lands 0o205 _ refl refl refl refl));
   v5 = λ a lt h. inl (pointer a h);
   v6 = λ a lt h. tt;
   v7 = (tt, tt);
@@ -286,13 +286,13 @@ sixth_fine = record {
   v15 = λ a lt h. inl tt;
 }
   where
-    p : Outcome → Type 0
-    p = OutcomeLands example None
+    p : Successor → Type 0
+    p = SuccessorLands example None
 
-    skips : (l : ℕ) → EachOutcome p (operated2 0o205 0o7402 (fact 0o205) l true)
+    skips : (l : ℕ) → EachSuccessor p (operated2 0o205 0o7402 (fact 0o205) l true)
     skips l = none_given p _ _ (and_none _ _ (none_in 4096 (part2 0o7402 (fact 0o205) l true) (λ k lt. and_false (narrowed (fact 0o205) Ac k))))
 
-    stays : (l : ℕ) → EachOutcome p (operated2 0o205 0o7402 (fact 0o205) l false)
+    stays : (l : ℕ) → EachSuccessor p (operated2 0o205 0o7402 (fact 0o205) l false)
     stays l = each_given p _ _ (one_lands 0o206 _ (main_lands 0o206 _ refl refl refl refl))
 
 -- 0206: JMP 0200
@@ -300,7 +300,7 @@ seventh_fine : Fine example None 0o206 (meaning_of Pdp8I 0o206 0o5200)
 unfolding meaning_of
 seventh_fine = record {
   v3 = tt;
-  v4 = each_given (OutcomeLands example None) _ _ (one_lands 0o200 _ (main_lands 0o200 _ refl refl refl refl));
+  v4 = each_given (SuccessorLands example None) _ _ (one_lands 0o200 _ (main_lands 0o200 _ refl refl refl refl));
   v5 = λ a lt h. absurd (false≢true h);
   v6 = λ a lt h. tt;
   v7 = (tt, tt);
@@ -319,7 +319,7 @@ return_fine : Fine example (Some 0o210) 0o211 (meaning_of Pdp8I 0o211 0o5610)
 unfolding meaning_of
 return_fine = record {
   v3 = tt;
-  v4 = each_given (OutcomeLands example (Some 0o210)) _ _ tt;
+  v4 = each_given (SuccessorLands example (Some 0o210)) _ _ tt;
   v5 = λ a lt h. absurd (false≢true h);
   v6 = λ a lt h. absurd (false≢true h);
   v7 = (tt, tt);

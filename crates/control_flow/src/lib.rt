@@ -26,4 +26,3 @@ pub struct ObservedRuns {
     /// How many steps they made in all.
     pub steps: u32,
 }
-

@@ -81,10 +81,7 @@ fn push_cells<A: Allocator>(
 }
 
 /// Adds the lines of a list of cells that may be read; a list without a cell is a line too.
-pub fn push_reads<A: Allocator>(
-    text: &mut Vec<u8, A>,
-    cells: &WordSet,
-) -> Result<(), AllocError> {
+pub fn push_reads<A: Allocator>(text: &mut Vec<u8, A>, cells: &WordSet) -> Result<(), AllocError> {
     if cells.is_empty() {
         return text.extend_from_slice(b"read\n");
     }

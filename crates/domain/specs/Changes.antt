@@ -33,8 +33,8 @@ free_of names [] = []
 free_of names (e ∷ es) = if names e.left || names e.right then free_of names es else e ∷ free_of names es
 
 -- The fact after n took some word of the set.
-unfoldable pub assigned : Name → Words → Fact → Fact
-assigned n set f = record f {
+unfoldable pub strongly_updated : Name → Words → Fact → Fact
+strongly_updated n set f = record f {
   set = with_set n set f.set;
   equations = free_of (λ m. same m n) f.equations;
 }
@@ -46,15 +46,15 @@ cells_of cells (Cell a) = has_cell cells a
 
 -- The sets after one cell a of the set, unknown which, took some word of new a: each of them may still hold its old
 -- word.
-abbrev pub smeared_set : Words → (ℕ → Words) → (Name → Words) → Name → Words
-smeared_set cells new sets Ac = sets Ac
-smeared_set cells new sets (Cell a) =
+abbrev pub weakly_updated_sets : Words → (ℕ → Words) → (Name → Words) → Name → Words
+weakly_updated_sets cells new sets Ac = sets Ac
+weakly_updated_sets cells new sets (Cell a) =
     if has_cell cells a then union (sets (Cell a)) (new a) else sets (Cell a)
 
 -- The fact after one cell a of the set, unknown which, took some word of new a.
-unfoldable pub smeared : Words → (ℕ → Words) → Fact → Fact
-smeared cells new f = record f {
-  set = λ n. smeared_set cells new f.set n;
+unfoldable pub weakly_updated : Words → (ℕ → Words) → Fact → Fact
+weakly_updated cells new f = record f {
+  set = λ n. weakly_updated_sets cells new f.set n;
   equations = free_of (cells_of cells) f.equations;
 }
 

@@ -10,7 +10,7 @@ pub use Rattle.domain.specs.Tracking.{tracked_of, tracked_cells}
 use Rattle.domain.specs.declared.names.Name.{Name}
 use Rattle.domain.specs.declared.names.Name.TheVariants as name
 use Rattle.domain.specs.declared.names.Equation.{Equation}
-use Rattle.domain.specs.declared.offsets.Offsets.{Offsets}
+use Rattle.domain.specs.declared.offsets.CountedOffsets.{CountedOffsets}
 use Rattle.domain.specs.declared.fact.Fact.{Fact}
 
 -- The name that is meant.
@@ -23,7 +23,7 @@ abbrev pub equation_of : Equation → spec.Equation
 equation_of e = record { left = name_of e.left; right = Cell e.right; more = e.more }
 
 -- The offsets that are meant, each of them below 8.
-abbrev pub offsets_of : Offsets → Words
+abbrev pub offsets_of : CountedOffsets → Words
 offsets_of o k = slice_index_or o.known k false
 
 -- What a fact in code says, but for its offsets: the words of the accumulator and of MQ, the links, the tracked cells

@@ -11,7 +11,7 @@ ghost use Rattle.domain.specs.Same.{SameFact};
 ghost use Rattle.domain.specs.Meaning.{name_of, equation_of, tracked_cells, offsets_of, statement_of, cell_words, meaning};
 
 use crate::names::{Equation, Name};
-use crate::offsets::Offsets;
+use crate::offsets::CountedOffsets;
 use crate::tracking::{TrackedCells, put_row};
 use arrayvec::ArrayVec;
 use word12::Word;
@@ -30,7 +30,7 @@ pub struct Fact {
     link: Links,
     cells: TrackedCells,
     equations: ArrayVec<Equation, 32>,
-    offsets: Offsets,
+    offsets: CountedOffsets,
 }
 
 impl Fact {
@@ -46,7 +46,7 @@ impl Fact {
             link: Links::both(),
             cells: TrackedCells::new(),
             equations: ArrayVec::new(),
-            offsets: Offsets::none(),
+            offsets: CountedOffsets::none(),
         }
     }
 
@@ -111,7 +111,7 @@ impl Fact {
     }
 
     /// How far the running routine's return word may have been counted up.
-    pub fn offsets(&self) -> Offsets
+    pub fn offsets(&self) -> CountedOffsets
         ensures { offsets_of result ≡ (meaning self.now).offsets }
     {
         self.offsets
@@ -182,7 +182,7 @@ impl Fact {
     }
 
     /// Lets the return word have been counted up by these.
-    pub fn set_offsets(&mut self, offsets: Offsets)
+    pub fn set_offsets(&mut self, offsets: CountedOffsets)
         ensures fact { meaning self.new ≡ with_offsets (offsets_of offsets) (meaning self.old) }
         ensures statement { statement_of self.new ≡ statement_of self.old }
         ensures offsets { offsets_of self.new.offsets ≡ offsets_of offsets }

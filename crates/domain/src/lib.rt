@@ -9,5 +9,5 @@ mod tracking;
 
 pub use fact::Fact;
 pub use names::{Equation, Name, is_same_equation, is_same_name, negated, turned};
-pub use offsets::Offsets;
+pub use offsets::CountedOffsets;
 pub use tracking::{TrackedCell, TrackedCells};

@@ -7,23 +7,23 @@ ghost use Rattle.domain.specs.Meaning.{offsets_of};
 ///
 /// Contracts see them as `offsets_of` gives them.
 #[derive(Clone, Copy, PartialEq, Eq, Debug)]
-pub struct Offsets {
+pub struct CountedOffsets {
     known: [bool; 8],
 }
 
-impl Offsets {
+impl CountedOffsets {
     /// No offset.
-    pub fn none() -> Offsets
+    pub fn none() -> CountedOffsets
         ensures { (o : ℕ) → o < 8 → offsets_of result o ≡ false }
     {
-        Offsets { known: [false; 8] }
+        CountedOffsets { known: [false; 8] }
     }
 
     /// All eight offsets.
-    pub fn all() -> Offsets
+    pub fn all() -> CountedOffsets
         ensures { (o : ℕ) → o < 8 → offsets_of result o ≡ true }
     {
-        Offsets { known: [true; 8] }
+        CountedOffsets { known: [true; 8] }
     }
 
     /// Whether an offset is among them.
@@ -55,7 +55,7 @@ impl Offsets {
     }
 
     /// Whether each offset is among the others.
-    pub fn is_subset(self, other: Offsets) -> bool
+    pub fn is_subset(self, other: CountedOffsets) -> bool
         ensures { IsTrue result ↔ ((o : ℕ) → o < 8 → offsets_of self o ≡ true →
             offsets_of other o ≡ true) }
     {
@@ -68,12 +68,12 @@ impl Offsets {
     }
 
     /// The offsets after the return word went up by one.
-    pub fn counted(self) -> Offsets
+    pub fn counted(self) -> CountedOffsets
         ensures { (o : ℕ) → o < 8 →
             offsets_of result o ≡ (if o == 0 then false else offsets_of self (o - 1)) }
     {
         let [a, b, c, d, e, f, g, _] = self.known;
-        Offsets {
+        CountedOffsets {
             known: [false, a, b, c, d, e, f, g],
         }
     }

@@ -9,12 +9,12 @@ use Rattle.domain.specs.Facts.{Name, Ac, Cell, Equation, joined, outside, has_ce
 use Rattle.domain.specs.Same.{Agree}
 use Rattle.facts.proofs.Numbers.{minus_lt}
 use Rattle.domain.specs.declared.fact.Fact.{Fact as CodeFact}
-use Rattle.facts.specs.declared.known.Known.{Known}
-use Rattle.facts.specs.declared.known.Change.{Change}
+use Rattle.facts.specs.declared.state.AbstractState.{AbstractState}
+use Rattle.facts.specs.declared.state.Update.{Update}
 use Rattle.domain.specs.declared.names.Equation.{Equation as CodeEquation}
-use Rattle.facts.specs.declared.known.Change.TheVariants.{Unchanged, Replaced, Counted, Stored}
+use Rattle.facts.specs.declared.state.Update.TheVariants.{Unchanged, Strong, WeakIncrement, WeakStore}
 use Rattle.domain.specs.Meaning.{equation_of, cell_words, meaning, offsets_of}
-use Rattle.facts.specs.Knowing.{known_of, known_set, changed, IsUnchanged, source_words}
+use Rattle.facts.specs.Knowing.{fact_of_state, sets_of_state, changed, IsUnchanged, source_words}
 
 pub has_cell_words : (lanes : List ℕ) (a : ℕ) → has_cell (words lanes) a ≡ words lanes a
 unfolding words
@@ -27,10 +27,10 @@ has_cell_words lanes a = go (nat_lt a 4096) _
 pub shifts_same : {a b : Words} (k : ℕ) → SameWords a b → SameWords (shifted a k) (shifted b k)
 shifts_same k e v lt = e (minus v k) (minus_lt v k)
 
-pub joined_agree : (call exit : CodeFact) (written : Words) (k : Known) → ((a : ℕ) → source_words k.base a ≡ (if has_cell written a then cell_words exit a else cell_words call a)) →
+pub joined_agree : (call exit : CodeFact) (written : Words) (k : AbstractState) → ((a : ℕ) → source_words k.base a ≡ (if has_cell written a then cell_words exit a else cell_words call a)) →
     IsUnchanged k.pointer → IsUnchanged k.target → words k.ac.now ≡ words exit.ac → words k.mq.now ≡ words exit.mq → links_of k.link ≡ links_of exit.link → offsets_of k.offsets ≡ offsets_of call.offsets →
     map equation_of k.equations.now ≡ outside written (map equation_of call.equations.items) ++ map equation_of exit.equations.items →
-    Agree (known_of k) (joined (meaning call) (meaning exit) written)
+    Agree (fact_of_state k) (joined (meaning call) (meaning exit) written)
 unfolding joined
 joined_agree call exit written k b p t ac mq link offsets es = record {
   sets = sets;
@@ -40,7 +40,7 @@ joined_agree call exit written k b p t ac mq link offsets es = record {
   offsets = λ o lt. ap (λ (s : Words). s o) offsets;
 }
   where
-    sets : (n : Name) → (let chosen : Words = if is_outside written n then (meaning call).set n else (meaning exit).set n in SameWords (known_set k n) chosen)
+    sets : (n : Name) → (let chosen : Words = if is_outside written n then (meaning call).set n else (meaning exit).set n in SameWords (sets_of_state k n) chosen)
     sets Ac v lt = ap (λ (s : Words). s v) ac
     sets (Cell a) v lt = rw (t, p, b a) (go (has_cell written a))
       where
@@ -52,9 +52,9 @@ joined_agree call exit written k b p t ac mq link offsets es = record {
 pub map_both : (xs ys : List CodeEquation) (es : List Equation) → map equation_of xs ≡ es → map equation_of (xs ++ ys) ≡ es ++ map equation_of ys
 map_both xs ys es e = map-append equation_of xs ys ∙ ap (λ (z : List Equation). z ++ map equation_of ys) e
 
-pub fact_agrees : (f : CodeFact) (k : Known) → ((a : ℕ) → source_words k.base a ≡ cell_words f a) →
+pub fact_agrees : (f : CodeFact) (k : AbstractState) → ((a : ℕ) → source_words k.base a ≡ cell_words f a) →
     IsUnchanged k.pointer → IsUnchanged k.target → words k.ac.now ≡ words f.ac → words k.mq.now ≡ words f.mq → links_of k.link ≡ links_of f.link → offsets_of k.offsets ≡ offsets_of f.offsets →
-    map equation_of k.equations.now ≡ map equation_of f.equations.items → Agree (known_of k) (meaning f)
+    map equation_of k.equations.now ≡ map equation_of f.equations.items → Agree (fact_of_state k) (meaning f)
 fact_agrees f k b p t ac mq link offsets es = record {
   sets = sets;
   mq = λ v lt. ap (λ (s : Words). s v) mq;
@@ -63,18 +63,18 @@ fact_agrees f k b p t ac mq link offsets es = record {
   offsets = λ o lt. ap (λ (s : Words). s o) offsets;
 }
   where
-    sets : (n : Name) → SameWords (known_set k n) ((meaning f).set n)
+    sets : (n : Name) → SameWords (sets_of_state k n) ((meaning f).set n)
     sets Ac v lt = ap (λ (s : Words). s v) ac
     sets (Cell a) v lt = rw (t, p, b a) refl
 
-pub changed_same : (c : Change) (a : ℕ) {s t : Words} → SameWords s t → SameWords (changed c a s) (changed c a t)
+pub changed_same : (c : Update) (a : ℕ) {s t : Words} → SameWords s t → SameWords (changed c a s) (changed c a t)
 changed_same Unchanged a h v lt = h v lt
-changed_same (Replaced c r) a {s} {t} h v lt = go (a == c)
+changed_same (Strong c r) a {s} {t} h v lt = go (a == c)
   where
     go : (b : Bool) → (let x : Words = if b then words r.now else s in let y : Words = if b then words r.now else t in x v ≡ y v)
     go true = refl
     go false = h v lt
-changed_same (Counted p) a {s} {t} h v lt = go (has_cell (words p.now) a)
+changed_same (WeakIncrement p) a {s} {t} h v lt = go (has_cell (words p.now) a)
   where
     more : s (minus v 1) ≡ t (minus v 1)
     more = h (minus v 1) (minus_lt v 1)
@@ -82,13 +82,13 @@ changed_same (Counted p) a {s} {t} h v lt = go (has_cell (words p.now) a)
     go : (b : Bool) → (let x : Words = if b then union s (shifted s 1) else s in let y : Words = if b then union t (shifted t 1) else t in x v ≡ y v)
     go true = rw (h v lt, more) refl
     go false = h v lt
-changed_same (Stored p r) a {s} {t} h v lt = go (has_cell (words p.now) a)
+changed_same (WeakStore p r) a {s} {t} h v lt = go (has_cell (words p.now) a)
   where
     go : (b : Bool) → (let x : Words = if b then union s (words r.now) else s in let y : Words = if b then union t (words r.now) else t in x v ≡ y v)
     go true = rw (h v lt) refl
     go false = h v lt
 
-pub set_same : (k : Known) (a : ℕ) {s t u : Words} → SameWords s (source_words k.base a) → SameWords t (changed k.pointer a s) → SameWords u (changed k.target a t) →
-    SameWords u (known_set k (Cell a))
+pub set_same : (k : AbstractState) (a : ℕ) {s t u : Words} → SameWords s (source_words k.base a) → SameWords t (changed k.pointer a s) → SameWords u (changed k.target a t) →
+    SameWords u (sets_of_state k (Cell a))
 set_same k a old seen new v lt =
     new v lt ∙ changed_same k.target a (λ w l. seen w l ∙ changed_same k.pointer a old w l) v lt

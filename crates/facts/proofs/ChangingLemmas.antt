@@ -9,24 +9,24 @@ use Rattle.wordset.specs.Words.{minus, Words, SameWords, SameLinks, one, shifted
 use Rattle.wordset.specs.Lanes.{words}
 use Rattle.wordset.specs.Links.{links_of}
 use Rattle.domain.specs.Facts.{Name, Ac, Cell, same, Fact, Equation, narrowed, has_cell}
-use Rattle.domain.specs.Changes.{moved_equations, free_of, cells_of, with_set, copied, moved, assigned, smeared, smeared_set, with_name, with_equations, with_mq, with_link, with_offsets}
+use Rattle.domain.specs.Changes.{moved_equations, free_of, cells_of, with_set, copied, moved, strongly_updated, weakly_updated, weakly_updated_sets, with_name, with_equations, with_mq, with_link, with_offsets}
 use Rattle.domain.specs.Same.{Agree}
 use Rattle.facts.proofs.Numbers.{minus_lt}
 use Rattle.facts.proofs.AgreeLemmas.{agree_trans, narrowed_agree}
-use Rattle.domain.specs.declared.offsets.Offsets.{Offsets}
-use Rattle.facts.specs.declared.known.Known.{Known}
+use Rattle.domain.specs.declared.offsets.CountedOffsets.{CountedOffsets}
+use Rattle.facts.specs.declared.state.AbstractState.{AbstractState}
 use Rattle.domain.specs.declared.names.Equation.{Equation as CodeEquation}
-use Rattle.facts.specs.declared.known.Change.TheVariants.{Unchanged, Replaced, Counted, Stored}
+use Rattle.facts.specs.declared.state.Update.TheVariants.{Unchanged, Strong, WeakIncrement, WeakStore}
 use Rattle.domain.specs.Meaning.{equation_of, offsets_of}
-use Rattle.facts.specs.Knowing.{known_of, known_set, changed, IsUnchanged, source_words}
+use Rattle.facts.specs.Knowing.{fact_of_state, sets_of_state, changed, IsUnchanged, source_words}
 
-pub ac_sets : (k : Known) (set : Bor (List ℕ)) (new : Words) → SameWords (words set.now) new → (n : Name) → SameWords (known_set (record k { ac = set }) n) (with_set Ac new (known_set k) n)
+pub ac_sets : (k : AbstractState) (set : Bor (List ℕ)) (new : Words) → SameWords (words set.now) new → (n : Name) → SameWords (sets_of_state (record k { ac = set }) n) (with_set Ac new (sets_of_state k) n)
 ac_sets k set new s Ac v lt = s v lt
 ac_sets k set new s (Cell a) v lt = refl
 
 -- a new word for a cell, where its slot is free
-pub target_sets : (k : Known) (c : ℕ) (set : Bor (List ℕ)) (new : Words) → IsUnchanged k.target → SameWords (words set.now) new → (n : Name) →
-    SameWords (known_set (record k { target = Replaced c set }) n) (with_set (Cell c) new (known_set k) n)
+pub target_sets : (k : AbstractState) (c : ℕ) (set : Bor (List ℕ)) (new : Words) → IsUnchanged k.target → SameWords (words set.now) new → (n : Name) →
+    SameWords (sets_of_state (record k { target = Strong c set }) n) (with_set (Cell c) new (sets_of_state k) n)
 target_sets k c set new u s Ac v lt = refl
 target_sets k c set new u s (Cell a) v lt = go (a == c)
   where
@@ -37,8 +37,8 @@ target_sets k c set new u s (Cell a) v lt = go (a == c)
     go true = s v lt
     go false = rw u refl
 
-pub pointer_sets : (k : Known) (c : ℕ) (set : Bor (List ℕ)) (new : Words) → IsUnchanged k.pointer → IsUnchanged k.target → SameWords (words set.now) new → (n : Name) →
-    SameWords (known_set (record k { pointer = Replaced c set; target = Unchanged }) n) (with_set (Cell c) new (known_set k) n)
+pub pointer_sets : (k : AbstractState) (c : ℕ) (set : Bor (List ℕ)) (new : Words) → IsUnchanged k.pointer → IsUnchanged k.target → SameWords (words set.now) new → (n : Name) →
+    SameWords (sets_of_state (record k { pointer = Strong c set; target = Unchanged }) n) (with_set (Cell c) new (sets_of_state k) n)
 pointer_sets k c set new p u s Ac v lt = refl
 pointer_sets k c set new p u s (Cell a) v lt = go (a == c)
   where
@@ -49,42 +49,42 @@ pointer_sets k c set new p u s (Cell a) v lt = go (a == c)
     go true = s v lt
     go false = rw (u, p) refl
 
-pub assigned_ac : (k : Known) (set : Bor (List ℕ)) (es : Bor (List CodeEquation)) → map equation_of es.now ≡ free_of (λ m. same m Ac) (map equation_of k.equations.now) →
-    Agree (known_of (record k { ac = set; equations = es })) (assigned Ac (words set.now) (known_of k))
-unfolding assigned
+pub assigned_ac : (k : AbstractState) (set : Bor (List ℕ)) (es : Bor (List CodeEquation)) → map equation_of es.now ≡ free_of (λ m. same m Ac) (map equation_of k.equations.now) →
+    Agree (fact_of_state (record k { ac = set; equations = es })) (strongly_updated Ac (words set.now) (fact_of_state k))
+unfolding strongly_updated
 assigned_ac k set es e = record { sets = ac_sets k set (words set.now) (λ v lt. refl); mq = λ v lt. refl; link = λ l lt. refl; equations = e; offsets = λ o lt. refl }
 
-pub summed_agrees : (k : Known) (first : List Equation) (set : Bor (List ℕ)) (es : Bor (List CodeEquation)) → map equation_of es.now ≡ first ++ free_of (λ m. same m Ac) (map equation_of k.equations.now) →
-    Agree (known_of (record k { ac = set; equations = es })) (with_equations first (assigned Ac (words set.now) (known_of k)))
-unfolding assigned
+pub summed_agrees : (k : AbstractState) (first : List Equation) (set : Bor (List ℕ)) (es : Bor (List CodeEquation)) → map equation_of es.now ≡ first ++ free_of (λ m. same m Ac) (map equation_of k.equations.now) →
+    Agree (fact_of_state (record k { ac = set; equations = es })) (with_equations first (strongly_updated Ac (words set.now) (fact_of_state k)))
+unfolding strongly_updated
 summed_agrees k first set es e = record { sets = ac_sets k set (words set.now) (λ v lt. refl); mq = λ v lt. refl; link = λ l lt. refl; equations = e; offsets = λ o lt. refl }
 
-pub assigned_cell : (k : Known) (c d : ℕ) (set : Bor (List ℕ)) (es : Bor (List CodeEquation)) → d ≡ c → IsUnchanged k.target → map equation_of es.now ≡ free_of (λ m. same m (Cell c)) (map equation_of k.equations.now) →
-    Agree (known_of (record k { target = Replaced d set; equations = es })) (assigned (Cell c) (words set.now) (known_of k))
-unfolding assigned
+pub assigned_cell : (k : AbstractState) (c d : ℕ) (set : Bor (List ℕ)) (es : Bor (List CodeEquation)) → d ≡ c → IsUnchanged k.target → map equation_of es.now ≡ free_of (λ m. same m (Cell c)) (map equation_of k.equations.now) →
+    Agree (fact_of_state (record k { target = Strong d set; equations = es })) (strongly_updated (Cell c) (words set.now) (fact_of_state k))
+unfolding strongly_updated
 assigned_cell k c d set es is u e = rw is (record { sets = target_sets k c set (words set.now) u (λ v lt. refl); mq = λ v lt. refl; link = λ l lt. refl; equations = e; offsets = λ o lt. refl })
 
-pub raised_to_agrees : (k : Known) (j : ℕ) (set : Bor (List ℕ)) (es : Bor (List CodeEquation)) → map equation_of es.now ≡ moved_equations Ac j (map equation_of k.equations.now) →
-    Agree (known_of (record k { ac = set; equations = es })) (with_name Ac (words set.now) (moved Ac j (known_of k)))
+pub raised_to_agrees : (k : AbstractState) (j : ℕ) (set : Bor (List ℕ)) (es : Bor (List CodeEquation)) → map equation_of es.now ≡ moved_equations Ac j (map equation_of k.equations.now) →
+    Agree (fact_of_state (record k { ac = set; equations = es })) (with_name Ac (words set.now) (moved Ac j (fact_of_state k)))
 unfolding moved
 raised_to_agrees k j set es e = record { sets = sets; mq = λ v lt. refl; link = λ l lt. refl; equations = e; offsets = λ o lt. refl }
   where
-    sets : (n : Name) → SameWords (known_set (record k { ac = set; equations = es }) n) (with_set Ac (words set.now) (with_set Ac (shifted (narrowed (known_of k) Ac) j) (known_set k)) n)
+    sets : (n : Name) → SameWords (sets_of_state (record k { ac = set; equations = es }) n) (with_set Ac (words set.now) (with_set Ac (shifted (narrowed (fact_of_state k) Ac) j) (sets_of_state k)) n)
     sets Ac v lt = refl
     sets (Cell a) v lt = refl
 
-pub moved_pointer : (k : Known) (c d : ℕ) (set : Bor (List ℕ)) (es : Bor (List CodeEquation)) → d ≡ c → IsUnchanged k.pointer → IsUnchanged k.target → SameWords (words set.now) (shifted (narrowed (known_of k) (Cell c)) 1) →
+pub moved_pointer : (k : AbstractState) (c d : ℕ) (set : Bor (List ℕ)) (es : Bor (List CodeEquation)) → d ≡ c → IsUnchanged k.pointer → IsUnchanged k.target → SameWords (words set.now) (shifted (narrowed (fact_of_state k) (Cell c)) 1) →
     map equation_of es.now ≡ moved_equations (Cell c) 1 (map equation_of k.equations.now) →
-    Agree (known_of (record k { pointer = Replaced d set; target = Unchanged; equations = es })) (moved (Cell c) 1 (known_of k))
+    Agree (fact_of_state (record k { pointer = Strong d set; target = Unchanged; equations = es })) (moved (Cell c) 1 (fact_of_state k))
 unfolding moved
 moved_pointer k c d set es is p u s e = rw is (record { sets = pointer_sets k c set _ p u s; mq = λ v lt. refl; link = λ l lt. refl; equations = e; offsets = λ o lt. refl })
 
-pub counted_cell : (k : Known) (c d : ℕ) (set : Bor (List ℕ)) (es : Bor (List CodeEquation)) → d ≡ c → IsUnchanged k.target → map equation_of es.now ≡ moved_equations (Cell c) 1 (map equation_of k.equations.now) →
-    Agree (known_of (record k { target = Replaced d set; equations = es })) (with_name (Cell c) (words set.now) (moved (Cell c) 1 (known_of k)))
+pub counted_cell : (k : AbstractState) (c d : ℕ) (set : Bor (List ℕ)) (es : Bor (List CodeEquation)) → d ≡ c → IsUnchanged k.target → map equation_of es.now ≡ moved_equations (Cell c) 1 (map equation_of k.equations.now) →
+    Agree (fact_of_state (record k { target = Strong d set; equations = es })) (with_name (Cell c) (words set.now) (moved (Cell c) 1 (fact_of_state k)))
 unfolding moved
 counted_cell k c d set es is u e = rw is (record { sets = sets; mq = λ v lt. refl; link = λ l lt. refl; equations = e; offsets = λ o lt. refl })
   where
-    sets : (n : Name) → SameWords (known_set (record k { target = Replaced c set; equations = es }) n) (with_set (Cell c) (words set.now) (with_set (Cell c) (shifted (narrowed (known_of k) (Cell c)) 1) (known_set k)) n)
+    sets : (n : Name) → SameWords (sets_of_state (record k { target = Strong c set; equations = es }) n) (with_set (Cell c) (words set.now) (with_set (Cell c) (shifted (narrowed (fact_of_state k) (Cell c)) 1) (sets_of_state k)) n)
     sets Ac v lt = refl
     sets (Cell a) v lt = go (a == c)
       where
@@ -92,25 +92,25 @@ counted_cell k c d set es is u e = rw is (record { sets = sets; mq = λ v lt. re
         old = changed k.pointer a (source_words k.base a)
 
         go : (b : Bool) → (let x : Words = if b then words set.now else old in
-            let y : Words = if b then words set.now else (if b then shifted (narrowed (known_of k) (Cell c)) 1 else changed k.target a old) in x v ≡ y v)
+            let y : Words = if b then words set.now else (if b then shifted (narrowed (fact_of_state k) (Cell c)) 1 else changed k.target a old) in x v ≡ y v)
         go true = refl
         go false = rw u refl
 
-pub smeared_counted : (k : Known) (cells : Bor (List ℕ)) (es : Bor (List CodeEquation)) → IsUnchanged k.target → map equation_of es.now ≡ free_of (cells_of (words cells.now)) (map equation_of k.equations.now) →
-    Agree (known_of (record k { target = Counted cells; equations = es })) (smeared (words cells.now) (λ y. shifted (known_set k (Cell y)) 1) (known_of k))
-unfolding smeared
+pub smeared_counted : (k : AbstractState) (cells : Bor (List ℕ)) (es : Bor (List CodeEquation)) → IsUnchanged k.target → map equation_of es.now ≡ free_of (cells_of (words cells.now)) (map equation_of k.equations.now) →
+    Agree (fact_of_state (record k { target = WeakIncrement cells; equations = es })) (weakly_updated (words cells.now) (λ y. shifted (sets_of_state k (Cell y)) 1) (fact_of_state k))
+unfolding weakly_updated
 smeared_counted k cells es u e = record { sets = sets; mq = λ v lt. refl; link = λ l lt. refl; equations = e; offsets = λ o lt. refl }
   where
-    sets : (n : Name) → SameWords (known_set (record k { target = Counted cells; equations = es }) n) (smeared_set (words cells.now) (λ y. shifted (known_set k (Cell y)) 1) (known_set k) n)
+    sets : (n : Name) → SameWords (sets_of_state (record k { target = WeakIncrement cells; equations = es }) n) (weakly_updated_sets (words cells.now) (λ y. shifted (sets_of_state k (Cell y)) 1) (sets_of_state k) n)
     sets Ac v lt = refl
     sets (Cell a) v lt = rw u refl
 
-pub smeared_stored : (k : Known) (cells set : Bor (List ℕ)) (es : Bor (List CodeEquation)) → IsUnchanged k.target → map equation_of es.now ≡ free_of (cells_of (words cells.now)) (map equation_of k.equations.now) →
-    Agree (known_of (record k { target = Stored cells set; equations = es })) (smeared (words cells.now) (λ y. words set.now) (known_of k))
-unfolding smeared
+pub smeared_stored : (k : AbstractState) (cells set : Bor (List ℕ)) (es : Bor (List CodeEquation)) → IsUnchanged k.target → map equation_of es.now ≡ free_of (cells_of (words cells.now)) (map equation_of k.equations.now) →
+    Agree (fact_of_state (record k { target = WeakStore cells set; equations = es })) (weakly_updated (words cells.now) (λ y. words set.now) (fact_of_state k))
+unfolding weakly_updated
 smeared_stored k cells set es u e = record { sets = sets; mq = λ v lt. refl; link = λ l lt. refl; equations = e; offsets = λ o lt. refl }
   where
-    sets : (n : Name) → SameWords (known_set (record k { target = Stored cells set; equations = es }) n) (smeared_set (words cells.now) (λ y. words set.now) (known_set k) n)
+    sets : (n : Name) → SameWords (sets_of_state (record k { target = WeakStore cells set; equations = es }) n) (weakly_updated_sets (words cells.now) (λ y. words set.now) (sets_of_state k) n)
     sets Ac v lt = refl
     sets (Cell a) v lt = rw u refl
 
@@ -122,8 +122,8 @@ with_set_same f g s t n h e m v lt = go (same m n)
     go true = e v lt
     go false = h m v lt
 
-pub assigned_agree : {f g : Fact} {s t : Words} (n : Name) → Agree f g → SameWords s t → Agree (assigned n s f) (assigned n t g)
-unfolding assigned
+pub assigned_agree : {f g : Fact} {s t : Words} (n : Name) → Agree f g → SameWords s t → Agree (strongly_updated n s f) (strongly_updated n t g)
+unfolding strongly_updated
 assigned_agree {f} {g} {s} {t} n h e = record {
   sets = with_set_same f.set g.set s t n h.sets e;
   mq = h.mq;
@@ -145,8 +145,8 @@ moved_agree {f} {g} n k h = record {
   offsets = h.offsets;
 }
 
-pub smeared_agree : {f g : Fact} {p q : Words} {s t : ℕ → Words} → Agree f g → SameWords p q → ((y : ℕ) → SameWords (s y) (t y)) → Agree (smeared p s f) (smeared q t g)
-unfolding smeared
+pub smeared_agree : {f g : Fact} {p q : Words} {s t : ℕ → Words} → Agree f g → SameWords p q → ((y : ℕ) → SameWords (s y) (t y)) → Agree (weakly_updated p s f) (weakly_updated q t g)
+unfolding weakly_updated
 smeared_agree {f} {g} {p} {q} {s} {t} h e n = record { sets = sets; mq = h.mq; link = h.link; equations = frees; offsets = h.offsets }
   where
     has : (a : ℕ) → has_cell p a ≡ has_cell q a
@@ -166,7 +166,7 @@ smeared_agree {f} {g} {p} {q} {s} {t} h e n = record { sets = sets; mq = h.mq; l
     frees : free_of (cells_of p) f.equations ≡ free_of (cells_of q) g.equations
     frees = ap (λ x. free_of x f.equations) names ∙ ap (free_of (cells_of q)) h.equations
 
-    sets : (m : Name) → SameWords (smeared_set p s f.set m) (smeared_set q t g.set m)
+    sets : (m : Name) → SameWords (weakly_updated_sets p s f.set m) (weakly_updated_sets q t g.set m)
     sets Ac v lt = h.sets Ac v lt
     sets (Cell a) v lt = go (has_cell p a) (has_cell q a) (has a)
       where
@@ -185,53 +185,53 @@ mq_agree h e = record { sets = h.sets; mq = e; link = h.link; equations = h.equa
 pub name_agree : {f g : Fact} {s t : Words} (n : Name) → Agree f g → SameWords s t → Agree (with_name n s f) (with_name n t g)
 name_agree {f} {g} {s} {t} n h e = record { sets = with_set_same f.set g.set s t n h.sets e; mq = h.mq; link = h.link; equations = h.equations; offsets = h.offsets }
 
-pub same_agrees : (k : Known) → Agree (known_of k) (known_of k)
+pub same_agrees : (k : AbstractState) → Agree (fact_of_state k) (fact_of_state k)
 same_agrees k = record { sets = λ n v lt. refl; mq = λ v lt. refl; link = λ l lt. refl; equations = refl; offsets = λ o lt. refl }
 
-pub holding_agrees : (k : Known) (set : Bor (List ℕ)) → Agree (known_of (record k { ac = set })) (with_name Ac (words set.now) (known_of k))
+pub holding_agrees : (k : AbstractState) (set : Bor (List ℕ)) → Agree (fact_of_state (record k { ac = set })) (with_name Ac (words set.now) (fact_of_state k))
 holding_agrees k set = record { sets = ac_sets k set (words set.now) (λ v lt. refl); mq = λ v lt. refl; link = λ l lt. refl; equations = refl; offsets = λ o lt. refl }
 
 -- the sets of names aren't touched by what else is known
-same_sets : (k : Known) (mq : Bor (List ℕ)) (link : CodeLinks) (es : Bor (List CodeEquation)) (o : Offsets) (n : Name) → SameWords (known_set (record k { mq = mq; link = link; equations = es; offsets = o }) n) (known_set k n)
+same_sets : (k : AbstractState) (mq : Bor (List ℕ)) (link : CodeLinks) (es : Bor (List CodeEquation)) (o : CountedOffsets) (n : Name) → SameWords (sets_of_state (record k { mq = mq; link = link; equations = es; offsets = o }) n) (sets_of_state k n)
 same_sets k mq link es o Ac v lt = refl
 same_sets k mq link es o (Cell a) v lt = refl
 
-pub link_agrees : (k : Known) (l : CodeLinks) → Agree (known_of (record k { link = l })) (with_link (links_of l) (known_of k))
+pub link_agrees : (k : AbstractState) (l : CodeLinks) → Agree (fact_of_state (record k { link = l })) (with_link (links_of l) (fact_of_state k))
 link_agrees k l = record { sets = same_sets k k.mq l k.equations k.offsets; mq = λ v lt. refl; link = λ n lt. refl; equations = refl; offsets = λ o lt. refl }
 
-pub mq_agrees : (k : Known) (set : Bor (List ℕ)) → Agree (known_of (record k { mq = set })) (with_mq (words set.now) (known_of k))
+pub mq_agrees : (k : AbstractState) (set : Bor (List ℕ)) → Agree (fact_of_state (record k { mq = set })) (with_mq (words set.now) (fact_of_state k))
 mq_agrees k set = record { sets = same_sets k set k.link k.equations k.offsets; mq = λ v lt. refl; link = λ n lt. refl; equations = refl; offsets = λ o lt. refl }
 
-pub offsets_agree : (k : Known) (o : Offsets) → Agree (known_of (record k { offsets = o })) (with_offsets (offsets_of o) (known_of k))
+pub offsets_agree : (k : AbstractState) (o : CountedOffsets) → Agree (fact_of_state (record k { offsets = o })) (with_offsets (offsets_of o) (fact_of_state k))
 offsets_agree k o = record { sets = same_sets k k.mq k.link k.equations o; mq = λ v lt. refl; link = λ n lt. refl; equations = refl; offsets = λ n lt. refl }
 
 pub entered_agrees : {k f g : Fact} {o none : Words} → Agree k (with_offsets o f) → Agree f g → ((n : ℕ) → n < 8 → o n ≡ (none n || (n == 0))) → ((n : ℕ) → n < 8 → none n ≡ false) → Agree k (with_offsets (one 0) g)
 entered_agrees h a e q =
     agree_trans h (record { sets = a.sets; mq = a.mq; link = a.link; equations = a.equations; offsets = λ n lt. e n lt ∙ ap (λ b. b || (n == 0)) (q n lt) })
 
-pub told_agrees : (k : Known) (es : Bor (List CodeEquation)) (more : List Equation) → map equation_of es.now ≡ more ++ map equation_of k.equations.now →
-    Agree (known_of (record k { equations = es })) (with_equations more (known_of k))
+pub told_agrees : (k : AbstractState) (es : Bor (List CodeEquation)) (more : List Equation) → map equation_of es.now ≡ more ++ map equation_of k.equations.now →
+    Agree (fact_of_state (record k { equations = es })) (with_equations more (fact_of_state k))
 told_agrees k es more e = record { sets = same_sets k k.mq k.link es k.offsets; mq = λ v lt. refl; link = λ n lt. refl; equations = e; offsets = λ o lt. refl }
 
-pub deposited_agree : (f g h i : Fact) (s : Words) (y : ℕ) (es : List Equation) (zero : Words) → Agree g (assigned (Cell y) s f) → Agree h (with_equations es g) → zero ≡ one 0 →
-    Agree i (assigned Ac zero h) → Agree i (assigned Ac (one 0) (with_equations es (assigned (Cell y) s f)))
+pub deposited_agree : (f g h i : Fact) (s : Words) (y : ℕ) (es : List Equation) (zero : Words) → Agree g (strongly_updated (Cell y) s f) → Agree h (with_equations es g) → zero ≡ one 0 →
+    Agree i (strongly_updated Ac zero h) → Agree i (strongly_updated Ac (one 0) (with_equations es (strongly_updated (Cell y) s f)))
 deposited_agree f g h i s y es zero put told z done =
     agree_trans done (assigned_agree Ac (agree_trans told (told_agree es put)) (λ v lt. ap (λ (x : Words). x v) z))
 
 pub deposited_words : {f g : Fact} {s t : Words} → Agree f g → (y : ℕ) → SameWords s t →
-    Agree (assigned Ac (one 0) (with_equations (copied y f.equations) (assigned (Cell y) s f))) (assigned Ac (one 0) (with_equations (copied y g.equations) (assigned (Cell y) t g)))
+    Agree (strongly_updated Ac (one 0) (with_equations (copied y f.equations) (strongly_updated (Cell y) s f))) (strongly_updated Ac (one 0) (with_equations (copied y g.equations) (strongly_updated (Cell y) t g)))
 deposited_words {f} {g} {s} {t} h y e =
     let es : copied y f.equations ≡ copied y g.equations = ap (copied y) h.equations in
-    subst (λ xs. Agree (assigned Ac (one 0) (with_equations (copied y f.equations) (assigned (Cell y) s f))) (assigned Ac (one 0) (with_equations xs (assigned (Cell y) t g)))) es
+    subst (λ xs. Agree (strongly_updated Ac (one 0) (with_equations (copied y f.equations) (strongly_updated (Cell y) s f))) (strongly_updated Ac (one 0) (with_equations xs (strongly_updated (Cell y) t g)))) es
     (assigned_agree Ac (told_agree (copied y f.equations) (assigned_agree (Cell y) h e)) (λ v lt. refl))
 
-pub stored_words : {f g k r : Fact} {p q s t zero : Words} → Agree f g → SameWords p q → SameWords s t → Agree k (smeared p (λ y. s) f) → zero ≡ one 0 → Agree r (assigned Ac zero k) →
-    Agree r (assigned Ac (one 0) (smeared q (λ y. t) g))
+pub stored_words : {f g k r : Fact} {p q s t zero : Words} → Agree f g → SameWords p q → SameWords s t → Agree k (weakly_updated p (λ y. s) f) → zero ≡ one 0 → Agree r (strongly_updated Ac zero k) →
+    Agree r (strongly_updated Ac (one 0) (weakly_updated q (λ y. t) g))
 stored_words h e n put z done =
     agree_trans done (assigned_agree Ac (agree_trans put (smeared_agree h e (λ y. n))) (λ v lt. ap (λ (x : Words). x v) z))
 
-pub later_agrees : (k : Known) (o : Offsets) → ((n : ℕ) → n < 8 → offsets_of o n ≡ (if n == 0 then false else offsets_of k.offsets (n - 1))) →
-    Agree (known_of (record k { offsets = o })) (with_offsets (λ n. if n == 0 then false else (known_of k).offsets (n - 1)) (known_of k))
+pub later_agrees : (k : AbstractState) (o : CountedOffsets) → ((n : ℕ) → n < 8 → offsets_of o n ≡ (if n == 0 then false else offsets_of k.offsets (n - 1))) →
+    Agree (fact_of_state (record k { offsets = o })) (with_offsets (λ n. if n == 0 then false else (fact_of_state k).offsets (n - 1)) (fact_of_state k))
 later_agrees k o h = record { sets = same_sets k k.mq k.link k.equations o; mq = λ v lt. refl; link = λ n lt. refl; equations = refl; offsets = h }
 
 pub later_agree : {f g : Fact} → Agree f g → Agree (with_offsets (λ n. if n == 0 then false else f.offsets (n - 1)) f) (with_offsets (λ n. if n == 0 then false else g.offsets (n - 1)) g)

@@ -15,44 +15,44 @@ use Rattle.instruct.specs.Instructions.{Meaning, Group1, Group2, Undefined, Devi
 use Rattle.instruct.proofs.KindLemmas.{reference_meaning, group1_meaning, group2_meaning, group3_meaning_of, device_meaning_of, undefined_meaning}
 use Rattle.wordset.specs.Words.{everything, one, plus}
 use Rattle.domain.specs.Facts.{Fact, Place}
-use Rattle.facts.specs.Outcomes.{Outcome, goes, operated1, operated3, device_outcomes, outcomes_of, outcomes_at}
-use Rattle.facts.specs.Agreeing.{AgreeingOutcomes}
+use Rattle.facts.specs.Outcomes.{Successor, goes, operated1, operated3, device_outcomes, outcomes_of, outcomes_at}
+use Rattle.facts.specs.Agreeing.{AgreeingSuccessors}
 
-pub refers : (os : List Outcome) (pl : Place) (f : Fact) (at w n : ℕ) (i : Bool) (o p : Operation) → i ≡ is_indirect w → n ≡ named_cell w at → p ≡ operation_of w → p ≡ o →
-    AgreeingOutcomes os (outcomes_of pl f at (reference o i n)) → AgreeingOutcomes os (outcomes_of pl f at (reference_at (operation_of w) w at))
+pub refers : (os : List Successor) (pl : Place) (f : Fact) (at w n : ℕ) (i : Bool) (o p : Operation) → i ≡ is_indirect w → n ≡ named_cell w at → p ≡ operation_of w → p ≡ o →
+    AgreeingSuccessors os (outcomes_of pl f at (reference o i n)) → AgreeingSuccessors os (outcomes_of pl f at (reference_at (operation_of w) w at))
 refers os pl f at w n i o p ei en ep is h =
     let same : reference o i n ≡ reference (operation_of w) (is_indirect w) (named_cell w at) =
     ap (λ x. reference x i n) (sym is ∙ ep) ∙ ap (λ x. reference (operation_of w) x n) ei ∙ ap (λ x. reference (operation_of w) (is_indirect w) x) en in
-    subst (λ m. AgreeingOutcomes os (outcomes_of pl f at m)) same h
+    subst (λ m. AgreeingSuccessors os (outcomes_of pl f at m)) same h
 
-pub by_reference : (os : List Outcome) (pl : Place) (f : Fact) (at w : ℕ) → kind_of (meaning_of pl.declaration.profile at w) ≡ Memory → AgreeingOutcomes os (outcomes_of pl f at (reference_at (operation_of w) w at)) →
-    AgreeingOutcomes os (outcomes_at pl f at w)
-by_reference os pl f at w k h = subst (λ m. AgreeingOutcomes os (outcomes_of pl f at m)) (sym (reference_meaning pl.declaration.profile at w k)) h
+pub by_reference : (os : List Successor) (pl : Place) (f : Fact) (at w : ℕ) → kind_of (meaning_of pl.declaration.profile at w) ≡ Memory → AgreeingSuccessors os (outcomes_of pl f at (reference_at (operation_of w) w at)) →
+    AgreeingSuccessors os (outcomes_at pl f at w)
+by_reference os pl f at w k h = subst (λ m. AgreeingSuccessors os (outcomes_of pl f at m)) (sym (reference_meaning pl.declaration.profile at w k)) h
 
-pub by_group1 : (os : List Outcome) (pl : Place) (f : Fact) (at w : ℕ) → kind_of (meaning_of pl.declaration.profile at w) ≡ Operate1 → AgreeingOutcomes os (goes everything f everything (one (plus at 1)) (operated1 w f)) →
-    AgreeingOutcomes os (outcomes_at pl f at w)
-by_group1 os pl f at w k h = subst (λ m. AgreeingOutcomes os (outcomes_of pl f at m)) (sym (group1_meaning pl.declaration.profile at w k)) h
+pub by_group1 : (os : List Successor) (pl : Place) (f : Fact) (at w : ℕ) → kind_of (meaning_of pl.declaration.profile at w) ≡ Operate1 → AgreeingSuccessors os (goes everything f everything (one (plus at 1)) (operated1 w f)) →
+    AgreeingSuccessors os (outcomes_at pl f at w)
+by_group1 os pl f at w k h = subst (λ m. AgreeingSuccessors os (outcomes_of pl f at m)) (sym (group1_meaning pl.declaration.profile at w k)) h
 
-pub by_group2 : (os : List Outcome) (pl : Place) (f : Fact) (at w : ℕ) → kind_of (meaning_of pl.declaration.profile at w) ≡ Operate2 → AgreeingOutcomes os (outcomes_of pl f at (Group2 w)) → AgreeingOutcomes os (outcomes_at pl f at w)
-by_group2 os pl f at w k h = subst (λ m. AgreeingOutcomes os (outcomes_of pl f at m)) (sym (group2_meaning pl.declaration.profile at w k)) h
+pub by_group2 : (os : List Successor) (pl : Place) (f : Fact) (at w : ℕ) → kind_of (meaning_of pl.declaration.profile at w) ≡ Operate2 → AgreeingSuccessors os (outcomes_of pl f at (Group2 w)) → AgreeingSuccessors os (outcomes_at pl f at w)
+by_group2 os pl f at w k h = subst (λ m. AgreeingSuccessors os (outcomes_of pl f at m)) (sym (group2_meaning pl.declaration.profile at w k)) h
 
-pub by_group3 : (os : List Outcome) (pl : Place) (f : Fact) (at w : ℕ) → kind_of (meaning_of pl.declaration.profile at w) ≡ Operate3 →
-    ((o : MqOperate) → mq_operate_of w ≡ Some o → AgreeingOutcomes os (goes everything f everything (one (plus at 1)) (operated3 o f))) → AgreeingOutcomes os (outcomes_at pl f at w)
+pub by_group3 : (os : List Successor) (pl : Place) (f : Fact) (at w : ℕ) → kind_of (meaning_of pl.declaration.profile at w) ≡ Operate3 →
+    ((o : MqOperate) → mq_operate_of w ≡ Some o → AgreeingSuccessors os (goes everything f everything (one (plus at 1)) (operated3 o f))) → AgreeingSuccessors os (outcomes_at pl f at w)
 by_group3 os pl f at w k h =
     let told = group3_meaning_of pl.declaration.profile at w k in
-    subst (λ m. AgreeingOutcomes os (outcomes_of pl f at m)) (sym told.2) (h told.0 told.1)
+    subst (λ m. AgreeingSuccessors os (outcomes_of pl f at m)) (sym told.2) (h told.0 told.1)
 
 some_action : {a b : DeviceAction} → Some a ≡ Some b → a ≡ b
 some_action e = cc
 
-pub by_device : (os : List Outcome) (pl : Place) (f : Fact) (at w : ℕ) (o : DeviceOperation) → kind_of (meaning_of pl.declaration.profile at w) ≡ Iot → Some o ≡ device_operation pl.declaration.profile w →
-    AgreeingOutcomes os (device_outcomes at f (processor_action o)) → AgreeingOutcomes os (outcomes_at pl f at w)
+pub by_device : (os : List Successor) (pl : Place) (f : Fact) (at w : ℕ) (o : DeviceOperation) → kind_of (meaning_of pl.declaration.profile at w) ≡ Iot → Some o ≡ device_operation pl.declaration.profile w →
+    AgreeingSuccessors os (device_outcomes at f (processor_action o)) → AgreeingSuccessors os (outcomes_at pl f at w)
 by_device os pl f at w o k e h =
     let told = device_meaning_of pl.declaration.profile at w k in
     let same : processor_action o ≡ told.0 = some_action (ap (λ x. option_map processor_action x) e ∙ told.1) in
-    subst (λ m. AgreeingOutcomes os (outcomes_of pl f at m)) (sym told.2) (subst (λ a. AgreeingOutcomes os (device_outcomes at f a)) same h)
+    subst (λ m. AgreeingSuccessors os (outcomes_of pl f at m)) (sym told.2) (subst (λ a. AgreeingSuccessors os (device_outcomes at f a)) same h)
 
-pub by_no_device : (os : List Outcome) (pl : Place) (f : Fact) (at w : ℕ) → kind_of (meaning_of pl.declaration.profile at w) ≡ Iot → None ≡ device_operation pl.declaration.profile w → AgreeingOutcomes os (outcomes_at pl f at w)
+pub by_no_device : (os : List Successor) (pl : Place) (f : Fact) (at w : ℕ) → kind_of (meaning_of pl.declaration.profile at w) ≡ Iot → None ≡ device_operation pl.declaration.profile w → AgreeingSuccessors os (outcomes_at pl f at w)
 by_no_device os pl f at w k e =
     let told = device_meaning_of pl.declaration.profile at w k in
     absurd (none_some (ap (λ x. option_map processor_action x) e ∙ told.1))
@@ -60,8 +60,8 @@ by_no_device os pl f at w k e =
     none_some : {a : DeviceAction} → None ≡ Some a → ⊥
     none_some q = cc
 
-pub by_nothing : (os : List Outcome) (pl : Place) (f : Fact) (at w : ℕ) → kind_of (meaning_of pl.declaration.profile at w) ≡ Unsupported → os ≡ [] → AgreeingOutcomes os (outcomes_at pl f at w)
-by_nothing os pl f at w k e = subst (λ m. AgreeingOutcomes os (outcomes_of pl f at m)) (sym (undefined_meaning pl.declaration.profile at w k)) (rw e tt)
+pub by_nothing : (os : List Successor) (pl : Place) (f : Fact) (at w : ℕ) → kind_of (meaning_of pl.declaration.profile at w) ≡ Unsupported → os ≡ [] → AgreeingSuccessors os (outcomes_at pl f at w)
+by_nothing os pl f at w k e = subst (λ m. AgreeingSuccessors os (outcomes_of pl f at m)) (sym (undefined_meaning pl.declaration.profile at w k)) (rw e tt)
 
 -- each word of group 1 of the 8/I is one of the 8/E
 kind_if : (b : Bool) (x y p q : Meaning) → (kind_of x ≡ Operate1 → kind_of p ≡ Operate1) → (kind_of y ≡ Operate1 → kind_of q ≡ Operate1) → kind_of (if b then x else y) ≡ Operate1 → kind_of (if b then p else q) ≡ Operate1

@@ -3,7 +3,7 @@ use Rattle.std.specs.Prelude.{if◌then◌else◌, nat_lt}
 use Rattle.std.proofs.lemmas.Bool.{and_from, cases_Bool, eqb-true, ne_eqb, true≢false, false≢true}
 use Rattle.wordset.specs.Words.{plus, minus, Words, union, shifted}
 use Rattle.domain.specs.Facts.{Name, Ac, Cell, same, Equation, Fact, Values, IsTrueOf, AllTrue, Holds, met_by, narrowed, Among, Knows, KnowsAll, Entails, has_cell, is_outside, outside, joined}
-use Rattle.domain.specs.Changes.{moved_equations, with_set, moved, free_of, assigned, cells_of, smeared_set, smeared, oriented, copy_of, copied, with_equations}
+use Rattle.domain.specs.Changes.{moved_equations, with_set, moved, free_of, strongly_updated, cells_of, weakly_updated_sets, weakly_updated, oriented, copy_of, copied, with_equations}
 use Rattle.facts.proofs.Numbers.{minus_plus, moved_number, or_left, or_right, only_tells}
 
 pub same_true : (m n : Name) → same m n ≡ true → m ≡ n
@@ -90,8 +90,8 @@ free_all {v} {w} names o (e ∷ es) t = go (free_all names o es t.1) (names e.le
     go rest false true p q = rest
     go rest false false p q = (o e.left p ∙ (t.0 ∙ ap (λ x. plus x e.more) (sym (o e.right q))), rest)
 
-pub assigned_holds : {n : Name} {f : Fact} {v w : Values} (set : Words) → Holds f v → OnlyAt n v w → set (w n) ≡ true → Holds (assigned n set f) w
-unfolding assigned
+pub assigned_holds : {n : Name} {f : Fact} {v w : Values} (set : Words) → Holds f v → OnlyAt n v w → set (w n) ≡ true → Holds (strongly_updated n set f) w
+unfolding strongly_updated
 assigned_holds {n} {f} {v} {w} set h o e = record {
   sets = set_at n set f.set w e (λ m q. rw (o.others m q) (h.sets m));
   equations = free_all (λ m. same m n) (λ m q. o.others m q) f.equations h.equations;
@@ -99,8 +99,8 @@ assigned_holds {n} {f} {v} {w} set h o e = record {
 
 pub smeared_holds : {f : Fact} {v w : Values} (cells : Words) (new : ℕ → Words) → Holds f v → w Ac ≡ v Ac →
     ((a : ℕ) → (nat_lt a 4096 && cells a) ≡ false → w (Cell a) ≡ v (Cell a)) →
-    ((a : ℕ) → (nat_lt a 4096 && cells a) ≡ true → (w (Cell a) ≡ v (Cell a)) ⊎ (new a (w (Cell a)) ≡ true)) → Holds (smeared cells new f) w
-unfolding smeared
+    ((a : ℕ) → (nat_lt a 4096 && cells a) ≡ true → (w (Cell a) ≡ v (Cell a)) ⊎ (new a (w (Cell a)) ≡ true)) → Holds (weakly_updated cells new f) w
+unfolding weakly_updated
 smeared_holds {f} {v} {w} cells new h ac out within = record {
   sets = sets;
   equations = free_all (cells_of cells) kept f.equations h.equations;
@@ -110,7 +110,7 @@ smeared_holds {f} {v} {w} cells new h ac out within = record {
     kept Ac q = ac
     kept (Cell a) q = out a q
 
-    sets : (m : Name) → smeared_set cells new f.set m (w m) ≡ true
+    sets : (m : Name) → weakly_updated_sets cells new f.set m (w m) ≡ true
     sets Ac = rw ac (h.sets Ac)
     sets (Cell a) = go (nat_lt a 4096 && cells a) refl
       where
@@ -148,10 +148,10 @@ copy_all {v} {w} y ws e o (g ∷ es) t = go (copy_all y ws e o es t.1) g.left g.
         at false n = (turn (nat_lt y z) n, rest)
 
 pub copied_holds : {f : Fact} {v w : Values} (y : ℕ) (set : Words) → WordsAre v → Holds f v → OnlyAt (Cell y) v w → w (Cell y) ≡ v Ac → set (w (Cell y)) ≡ true →
-    Holds (with_equations (copied y f.equations) (assigned (Cell y) set f)) w
-unfolding assigned
+    Holds (with_equations (copied y f.equations) (strongly_updated (Cell y) set f)) w
+unfolding strongly_updated
 copied_holds {f} {v} {w} y set ws h o e s =
-    let a : Holds (assigned (Cell y) set f) w = assigned_holds set h o s in
+    let a : Holds (strongly_updated (Cell y) set f) w = assigned_holds set h o s in
     record {
       sets = a.sets;
       equations = all_append w (copied y f.equations) _ (copy_all y ws e o f.equations h.equations) a.equations;

@@ -5,9 +5,9 @@ use Rattle.wordset.specs.Words.{Words, SameWords, everything, shifted}
 use Rattle.processor.specs.Machine.{steps_pointer}
 use Rattle.domain.specs.Facts.{Cell, Fact, Place, narrowed, words_in, is_routine}
 use Rattle.domain.specs.Changes.{moved}
-use Rattle.facts.specs.Outcomes.{Outcome, Returns, stepped, targets, alive, given, goes, jmp}
+use Rattle.facts.specs.Outcomes.{Successor, Returns, stepped, targets, alive, given, goes, jmp}
 use Rattle.domain.specs.Same.{Agree}
-use Rattle.facts.specs.Agreeing.{AgreeingOutcomes}
+use Rattle.facts.specs.Agreeing.{AgreeingSuccessors}
 
 pub step_yes : {k : Fact} (i : Bool) (c : ℕ) (f : Fact) → steps_pointer i c ≡ true → Agree k (moved (Cell c) 1 f) → Agree k (stepped i c f)
 step_yes i c f e h = rw e h
@@ -26,10 +26,10 @@ pub moved_here : (f : Fact) (c : ℕ) → (moved (Cell c) 1 f).set (Cell c) ≡ 
 unfolding moved
 moved_here f c = rw (eq-eqb c c refl) refl
 
-pub jump_returns : (os : List Outcome) (pl : Place) (i : Bool) (c : ℕ) (f : Fact) (p : Words) → (i && is_routine pl.routine c) ≡ true →
-    AgreeingOutcomes os (given (alive p f everything f) (Returns f)) → AgreeingOutcomes os (jmp pl i c f p)
+pub jump_returns : (os : List Successor) (pl : Place) (i : Bool) (c : ℕ) (f : Fact) (p : Words) → (i && is_routine pl.routine c) ≡ true →
+    AgreeingSuccessors os (given (alive p f everything f) (Returns f)) → AgreeingSuccessors os (jmp pl i c f p)
 jump_returns os pl i c f p e h = rw e h
 
-pub jump_goes : (os : List Outcome) (pl : Place) (i : Bool) (c : ℕ) (f : Fact) (p : Words) → (i && is_routine pl.routine c) ≡ false →
-    AgreeingOutcomes os (goes p f everything p f) → AgreeingOutcomes os (jmp pl i c f p)
+pub jump_goes : (os : List Successor) (pl : Place) (i : Bool) (c : ℕ) (f : Fact) (p : Words) → (i && is_routine pl.routine c) ≡ false →
+    AgreeingSuccessors os (goes p f everything p f) → AgreeingSuccessors os (jmp pl i c f p)
 jump_goes os pl i c f p e h = rw e h

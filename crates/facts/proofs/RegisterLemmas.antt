@@ -6,27 +6,27 @@ use Rattle.instruct.specs.Bits.{has_bit}
 use Rattle.instruct.specs.Operates.{MqOperate, mq_operate_of}
 use Rattle.wordset.specs.Words.{Words, SameWords, everything, between, one, plus}
 use Rattle.domain.specs.Facts.{Name, Ac, Fact, same}
-use Rattle.domain.specs.Changes.{moved, assigned, with_name, with_mq}
-use Rattle.facts.specs.Outcomes.{Outcome, goes, changes_ac, related1, operated3}
+use Rattle.domain.specs.Changes.{moved, strongly_updated, with_name, with_mq}
+use Rattle.facts.specs.Outcomes.{Successor, goes, changes_ac, related1, operated3}
 use Rattle.domain.specs.Same.{Agree}
-use Rattle.facts.specs.Agreeing.{AgreeingOutcomes}
+use Rattle.facts.specs.Agreeing.{AgreeingSuccessors}
 
-pub related_none : {k : Fact} (w : ℕ) (f : Fact) (s : Words) → changes_ac w ≡ true → Agree k (assigned Ac s f) → Agree k (with_name Ac s (related1 w f))
-unfolding assigned
+pub related_none : {k : Fact} (w : ℕ) (f : Fact) (s : Words) → changes_ac w ≡ true → Agree k (strongly_updated Ac s f) → Agree k (with_name Ac s (related1 w f))
+unfolding strongly_updated
 related_none {k} w f s e h = go (changes_ac w) e
   where
     twice : (b : Bool) (n : Name) (v : ℕ) → (let x : Words = if b then s else f.set n in let y : Words = if b then everything else f.set n in let z : Words = if b then s else y in x v ≡ z v)
     twice true n v = refl
     twice false n v = refl
 
-    go : (b : Bool) → b ≡ true → (let r : Fact = if b then assigned Ac everything f else (if has_bit 0 w then moved Ac 1 f else f) in Agree k (with_name Ac s r))
+    go : (b : Bool) → b ≡ true → (let r : Fact = if b then strongly_updated Ac everything f else (if has_bit 0 w then moved Ac 1 f else f) in Agree k (with_name Ac s r))
     go true q = record { sets = λ n v lt. h.sets n v lt ∙ twice (same n Ac) n v; mq = h.mq; link = h.link; equations = h.equations; offsets = h.offsets }
     go false q = absurd (cc)
 
 pub related_moved : {k : Fact} (w : ℕ) (f : Fact) (s : Words) → changes_ac w ≡ false → has_bit 0 w ≡ true → Agree k (with_name Ac s (moved Ac 1 f)) → Agree k (with_name Ac s (related1 w f))
 related_moved {k} w f s e i h = go (changes_ac w) (has_bit 0 w) e i
   where
-    go : (b c : Bool) → b ≡ false → c ≡ true → (let r : Fact = if b then assigned Ac everything f else (if c then moved Ac 1 f else f) in Agree k (with_name Ac s r))
+    go : (b c : Bool) → b ≡ false → c ≡ true → (let r : Fact = if b then strongly_updated Ac everything f else (if c then moved Ac 1 f else f) in Agree k (with_name Ac s r))
     go false true p q = h
     go false false p q = absurd (cc)
     go true c p q = absurd (cc)
@@ -34,7 +34,7 @@ related_moved {k} w f s e i h = go (changes_ac w) (has_bit 0 w) e i
 pub related_kept : {k : Fact} (w : ℕ) (f : Fact) (s : Words) → changes_ac w ≡ false → has_bit 0 w ≡ false → Agree k (with_name Ac s f) → Agree k (with_name Ac s (related1 w f))
 related_kept {k} w f s e i h = go (changes_ac w) (has_bit 0 w) e i
   where
-    go : (b c : Bool) → b ≡ false → c ≡ false → (let r : Fact = if b then assigned Ac everything f else (if c then moved Ac 1 f else f) in Agree k (with_name Ac s r))
+    go : (b c : Bool) → b ≡ false → c ≡ false → (let r : Fact = if b then strongly_updated Ac everything f else (if c then moved Ac 1 f else f) in Agree k (with_name Ac s r))
     go false false p q = h
     go false true p q = absurd (cc)
     go true c p q = absurd (cc)
@@ -48,16 +48,16 @@ bytes_same {s} low high e l h v lt = ap (λ (x : Words). x v) e ∙ ap (λ n. na
 some_is : {a b : MqOperate} → Some a ≡ Some b → a ≡ b
 some_is e = cc
 
-pub exchange_is : (os : List Outcome) (at w k : ℕ) (p o : MqOperate) (f : Fact) → w ≡ k → mq_operate_of k ≡ Some p → mq_operate_of w ≡ Some o →
-    AgreeingOutcomes os (goes everything f everything (one (plus at 1)) (operated3 p f)) → AgreeingOutcomes os (goes everything f everything (one (plus at 1)) (operated3 o f))
+pub exchange_is : (os : List Successor) (at w k : ℕ) (p o : MqOperate) (f : Fact) → w ≡ k → mq_operate_of k ≡ Some p → mq_operate_of w ≡ Some o →
+    AgreeingSuccessors os (goes everything f everything (one (plus at 1)) (operated3 p f)) → AgreeingSuccessors os (goes everything f everything (one (plus at 1)) (operated3 o f))
 exchange_is os at w k p o f e q r h =
     let same : p ≡ o = some_is (sym q ∙ (ap mq_operate_of (sym e) ∙ r)) in
-    subst (λ x. AgreeingOutcomes os (goes everything f everything (one (plus at 1)) (operated3 x f))) same h
+    subst (λ x. AgreeingSuccessors os (goes everything f everything (one (plus at 1)) (operated3 x f))) same h
 
-same_mq : (g : Fact) (t : Words) → with_mq g.mq (assigned Ac t g) ≡ assigned Ac t g
-unfolding assigned
+same_mq : (g : Fact) (t : Words) → with_mq g.mq (strongly_updated Ac t g) ≡ strongly_updated Ac t g
+unfolding strongly_updated
 same_mq g t = refl
 
-pub kept_mq : (os : List Outcome) (at : ℕ) (f : Fact) (s : Words) → AgreeingOutcomes os (goes everything f everything (one (plus at 1)) (with_mq f.mq (assigned Ac s f))) →
-    AgreeingOutcomes os (goes everything f everything (one (plus at 1)) (assigned Ac s f))
-kept_mq os at f s h = subst (λ x. AgreeingOutcomes os (goes everything f everything (one (plus at 1)) x)) (same_mq f s) h
+pub kept_mq : (os : List Successor) (at : ℕ) (f : Fact) (s : Words) → AgreeingSuccessors os (goes everything f everything (one (plus at 1)) (with_mq f.mq (strongly_updated Ac s f))) →
+    AgreeingSuccessors os (goes everything f everything (one (plus at 1)) (strongly_updated Ac s f))
+kept_mq os at f s h = subst (λ x. AgreeingSuccessors os (goes everything f everything (one (plus at 1)) x)) (same_mq f s) h

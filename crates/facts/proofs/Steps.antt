@@ -11,8 +11,8 @@ use Rattle.processor.specs.Machine.{State, seen, place, steps_pointer, next_pc}
 use Rattle.declaration.specs.Declaration.{IsDeclared}
 use Rattle.policy.specs.Calls.{Calls}
 use Rattle.domain.specs.Facts.{Name, Ac, Cell, same, Fact, Values, Holds, narrowed, values, Place, OwnWord, StandsIn, Means, is_routine, words_in}
-use Rattle.domain.specs.Changes.{with_set, moved, assigned, smeared, with_equations, with_mq, with_link, with_offsets, with_name}
-use Rattle.facts.specs.Outcomes.{stepped, targets, words_at, Outcome, Goes, given, alive, goes, tad_word, tad_case, tad_fact, tad, isz_case, dca_case, jmp, anded, ac_after, link_after, changes_ac, related1, operated1, part2, related2, operated2, all_operated2, operated3, device_outcomes}
+use Rattle.domain.specs.Changes.{with_set, moved, strongly_updated, weakly_updated, with_equations, with_mq, with_link, with_offsets, with_name}
+use Rattle.facts.specs.Outcomes.{stepped, targets, words_at, Successor, Goes, given, alive, goes, tad_word, tad_case, tad_fact, tad, isz_case, dca_case, jmp, anded, ac_after, link_after, changes_ac, related1, operated1, part2, related2, operated2, all_operated2, operated3, device_outcomes}
 use Rattle.facts.specs.Law.{IsState, TopIsEntry, LandsIn, SomeOutcome}
 use Rattle.facts.proofs.Numbers.{minus_plus, minus_other, plus_lt, or_left, or_right, only_tells, some_from}
 use Rattle.facts.proofs.Operates.{and_word, or_word, ac_after_word, link_after_bit, ac_kept, operate2_word, mq_words, ands_true, ors_true, or_byte_true, or_word_true}
@@ -23,15 +23,15 @@ use Rattle.facts.proofs.Cells.{updated_same, words_updated, values_words, value_
 abbrev pub after_pointer : Bool → ℕ → State → State
 after_pointer i c s = record s { memory = seen i c s.memory }
 
-pub some_given : (p : Outcome → Type 0) (b : Bool) (o : Outcome) → b ≡ true → p o → SomeOutcome p (given b o)
+pub some_given : (p : Successor → Type 0) (b : Bool) (o : Successor) → b ≡ true → p o → SomeOutcome p (given b o)
 some_given p true o e h = inl h
 some_given p false o e h = absurd (false≢true e)
 
-pub some_left : (p : Outcome → Type 0) (os qs : List Outcome) → SomeOutcome p os → SomeOutcome p (os ++ qs)
+pub some_left : (p : Successor → Type 0) (os qs : List Successor) → SomeOutcome p os → SomeOutcome p (os ++ qs)
 some_left p [] qs h = absurd h
 some_left p (o ∷ os) qs h = elim h [ inl x ↦ inl x | inr x ↦ inr (some_left p os qs x) ]
 
-pub some_right : (p : Outcome → Type 0) (os qs : List Outcome) → SomeOutcome p qs → SomeOutcome p (os ++ qs)
+pub some_right : (p : Successor → Type 0) (os qs : List Successor) → SomeOutcome p qs → SomeOutcome p (os ++ qs)
 some_right p [] qs h = h
 some_right p (o ∷ os) qs h = inr (some_right p os qs h)
 
@@ -40,7 +40,7 @@ has_word set w h e = some_from 4096 set w h e
 
 module _ (pl : Place) (dd : IsDeclared pl.declaration) (start : Cells) (sw : (a : ℕ) → start a < 4096) (loaded : (a w : ℕ) → pl.image a ≡ Some w → start a ≡ w) where
   -- the outcome is where t is
-  abbrev pub Lands : State → Calls → Outcome → Type 0
+  abbrev pub Lands : State → Calls → Successor → Type 0
   Lands t ks = LandsIn pl start t ks
 
   -- what holds of a fact that says no more of the same memory
@@ -188,7 +188,7 @@ module _ (pl : Place) (dd : IsDeclared pl.declaration) (start : Cells) (sw : (a 
       sum : sums (narrowed f Ac) v (plus s.ac (s.memory y)) ≡ true
       sum = sum_true (narrowed f Ac) v s.ac (s.memory y) ss.ac (ss.words y) (ac_true f s ks ss h) vy
 
-      plain : Holds (assigned Ac (sums (narrowed f Ac) v) f) now
+      plain : Holds (strongly_updated Ac (sums (narrowed f Ac) v) f) now
       plain = assigned_holds (sums (narrowed f Ac) v) h.holds moves sum
 
       word : (o : Option ℕ) → ((z : ℕ) → o ≡ Some z → z ≡ s.memory y) → Holds (tad_word f v o) now
@@ -207,7 +207,7 @@ module _ (pl : Place) (dd : IsDeclared pl.declaration) (start : Cells) (sw : (a 
       go (Some z) (Some a) q r = at (pl.declaration.variable z) refl
         where
           at : (b : Bool) → pl.declaration.variable z ≡ b →
-              Holds (if b then with_equations (record { left = Ac; right = Cell z; more = a } ∷ []) (assigned Ac (sums (narrowed f Ac) v) f) else tad_word f v ow) now
+              Holds (if b then with_equations (record { left = Ac; right = Cell z; more = a } ∷ []) (strongly_updated Ac (sums (narrowed f Ac) v) f) else tad_word f v ow) now
           at false e = word ow hw
           at true e =
               let zv : now (Cell z) ≡ s.memory z = value_of pl.declaration start (plus s.ac (s.memory y)) s.memory z e in
@@ -217,7 +217,7 @@ module _ (pl : Place) (dd : IsDeclared pl.declaration) (start : Cells) (sw : (a 
               record { sets = plain.sets; equations = (comm ∙ (rw (zv, zy, az) refl), plain.equations) }
 
   pub tad_step : (f : Fact) (s : State) (ks : Calls) (p : Words) (y : ℕ) → IsState s → Means pl start f s ks → y < 4096 → p y ≡ true → SomeOutcome (Lands (added s y) ks) (tad pl s.pc f p)
-  unfolding assigned moved
+  unfolding strongly_updated moved
   tad_step f s ks p y ss h lt e =
       goes_to p everything (one (plus s.pc 1)) f (tad_fact pl f p) s (added s y) ks y 0 ss h lt e zero_word refl (plus_lt s.ac (s.memory y)) small ss.mq (eq-eqb (plus s.pc 1) (plus s.pc 1) refl) means
     where
@@ -373,7 +373,7 @@ module _ (pl : Place) (dd : IsDeclared pl.declaration) (start : Cells) (sw : (a 
 
   isz_many : (f : Fact) (s : State) (ks : Calls) (p : Words) (y : ℕ) → IsState s → TopIsEntry pl.declaration ks → Means pl start f s ks → y < 4096 → p y ≡ true →
       pl.declaration.variable y ≡ true → SomeOutcome (Lands (counted s y) ks) (isz_case pl s.pc f p None)
-  unfolding smeared
+  unfolding weakly_updated
   isz_many f s ks p y ss top h lt e var = elim (zero_test (s.memory y) (ss.words y)) [
     | inl z ↦ some_left (Lands (counted s y) ks) _ _
         (some_given (Lands (counted s y) ks) _ _
@@ -415,8 +415,8 @@ module _ (pl : Place) (dd : IsDeclared pl.declaration) (start : Cells) (sw : (a 
       out : (a : ℕ) → (nat_lt a 4096 && p a) ≡ false → now (Cell a) ≡ was (Cell a)
       out a q = moves.others (Cell a) (same_cell a y (λ g. true≢false (sym (and_from _ _ (lt-ltb y 4096 lt) e) ∙ (rw g at q))))
 
-      means : (pc : ℕ) → Means pl start (smeared p (λ a. shifted (f.set (Cell a)) 1) f) (record s { pc = pc; memory = updated s.memory y (plus (s.memory y) 1) }) ks
-      means pc = means_updated f (smeared p (λ a. shifted (f.set (Cell a)) 1) f) s ks y (plus (s.memory y) 1) s.ac pc top var h (smeared_holds p (λ a. shifted (f.set (Cell a)) 1) h.holds refl out within) refl refl refl
+      means : (pc : ℕ) → Means pl start (weakly_updated p (λ a. shifted (f.set (Cell a)) 1) f) (record s { pc = pc; memory = updated s.memory y (plus (s.memory y) 1) }) ks
+      means pc = means_updated f (weakly_updated p (λ a. shifted (f.set (Cell a)) 1) f) s ks y (plus (s.memory y) 1) s.ac pc top var h (smeared_holds p (λ a. shifted (f.set (Cell a)) 1) h.holds refl out within) refl refl refl
 
   pub isz_step : (f : Fact) (s : State) (ks : Calls) (p : Words) (y : ℕ) → IsState s → TopIsEntry pl.declaration ks → Means pl start f s ks → y < 4096 → p y ≡ true →
       MayCount f p y → SomeOutcome (Lands (counted s y) ks) (isz_case pl s.pc f p (only p))
@@ -440,7 +440,7 @@ module _ (pl : Place) (dd : IsDeclared pl.declaration) (start : Cells) (sw : (a 
 
   pub dca_step : (f : Fact) (s : State) (ks : Calls) (p : Words) (y : ℕ) → IsState s → TopIsEntry pl.declaration ks → Means pl start f s ks → y < 4096 → p y ≡ true →
       pl.declaration.variable y ≡ true → SomeOutcome (Lands (deposited s y) ks) (dca_case pl s.pc f p (only p))
-  unfolding assigned smeared
+  unfolding strongly_updated weakly_updated
   dca_step f s ks p y ss top h lt e var = go (only p) refl
     where
       was : Values
@@ -496,12 +496,12 @@ module _ (pl : Place) (dd : IsDeclared pl.declaration) (start : Cells) (sw : (a 
       SomeOutcome (Lands (record s { pc = y }) ks) (jmp pl i c f p)
   jmp_step f s ks i c p y ss h lt e r = rw r (goes_to p everything p f f s _ ks y 0 ss h lt e zero_word refl ss.ac ss.link ss.mq e (same_step f s ks y h))
 
-  -- AC alone is assigned
+  -- AC alone is strongly_updated
   ac_means : (f : Fact) (s : State) (ks : Calls) (set : Words) (ac pc : ℕ) → IsState s → Means pl start f s ks → set ac ≡ true →
-      Means pl start (assigned Ac set f) (record s { ac = ac; link = s.link; pc = pc }) ks
-  unfolding assigned
+      Means pl start (strongly_updated Ac set f) (record s { ac = ac; link = s.link; pc = pc }) ks
+  unfolding strongly_updated
   ac_means f s ks set ac pc ss h e =
-      means_like f (assigned Ac set f) s ks ac s.link s.mq pc h (assigned_holds set h.holds (ac_values pl.declaration start s.ac ac s.memory) e) h.mq h.link refl
+      means_like f (strongly_updated Ac set f) s ks ac s.link s.mq pc h (assigned_holds set h.holds (ac_values pl.declaration start s.ac ac s.memory) e) h.mq h.link refl
 
   -- AC's set is narrowed to one that has its word, and the link changes
   set_means : (f : Fact) (s : State) (ks : Calls) (set links : Words) (link pc : ℕ) → Means pl start f s ks → set s.ac ≡ true → links link ≡ true →
@@ -557,7 +557,7 @@ module _ (pl : Place) (dd : IsDeclared pl.declaration) (start : Cells) (sw : (a 
       up true ac e = subst (λ x. Means pl start (moved Ac 1 f) (at x) ks) (sym e) (count_means f s ks pc ss h)
       up false ac e = subst (λ x. Means pl start f (at x) ks) (sym e) (same_step f s ks pc h)
 
-      go : (b : Bool) → changes_ac w ≡ b → Means pl start (if b then assigned Ac everything f else (if has_bit 0 w then moved Ac 1 f else f)) (at (ac_after w s.ac s.link)) ks
+      go : (b : Bool) → changes_ac w ≡ b → Means pl start (if b then strongly_updated Ac everything f else (if has_bit 0 w then moved Ac 1 f else f)) (at (ac_after w s.ac s.link)) ks
       go true e = ac_means f s ks everything (ac_after w s.ac s.link) pc ss h refl
       go false e = up (has_bit 0 w) (ac_after w s.ac s.link) (ac_kept w s.ac s.link e)
 
@@ -588,7 +588,7 @@ module _ (pl : Place) (dd : IsDeclared pl.declaration) (start : Cells) (sw : (a 
       at x = record s { ac = x; pc = pc }
 
       go : (p q : Bool) → Means pl start
-          (if p then assigned Ac (or_any 4095 (if q then one 0 else part)) f else (if q then assigned Ac (one 0) f else with_name Ac part f))
+          (if p then strongly_updated Ac (or_any 4095 (if q then one 0 else part)) f else (if q then strongly_updated Ac (one 0) f else with_name Ac part f))
           (at (if p then bit_or (if q then 0 else s.ac) v else (if q then 0 else s.ac))) ks
       go true true = ac_means f s ks (or_any 4095 (one 0)) _ pc ss h (or_word_true (one 0) 0 v (omega arith) lt refl)
       go true false = ac_means f s ks (or_any 4095 part) _ pc ss h (or_word_true part s.ac v ss.ac lt e)
@@ -624,10 +624,10 @@ module _ (pl : Place) (dd : IsDeclared pl.declaration) (start : Cells) (sw : (a 
 
       one_case : (b : Bool) → b ≡ skips_of w s.ac s.link → 1 ≡ s.link → SomeOutcome (Lands (operated w s v b) ks) (all_operated2 s.pc w f)
       one_case true e z =
-          let p : Outcome → Type 0 = Lands (operated w s v true) ks in
+          let p : Successor → Type 0 = Lands (operated w s v true) ks in
           some_right p (operated2 s.pc w f 0 true) _ (some_right p (operated2 s.pc w f 0 false) _ (some_left p _ _ (operated2_step w f s ks v 1 true ss h lt z e)))
       one_case false e z =
-          let p : Outcome → Type 0 = Lands (operated w s v false) ks in
+          let p : Successor → Type 0 = Lands (operated w s v false) ks in
           some_right p (operated2 s.pc w f 0 true) _ (some_right p (operated2 s.pc w f 0 false) _ (some_right p (operated2 s.pc w f 1 true) _ (operated2_step w f s ks v 1 false ss h lt z e)))
 
   -- group 3
@@ -639,19 +639,19 @@ module _ (pl : Place) (dd : IsDeclared pl.declaration) (start : Cells) (sw : (a 
 
   operated3_means : (o : MqOperate) (f : Fact) (s : State) (ks : Calls) → IsState s → Means pl start f s ks → Means pl start (operated3 o f) (exchanged_state o s) ks
   operated3_means Mql f s ks ss h =
-      mq_means (assigned Ac (one 0) f) (record s { ac = 0; pc = plus s.pc 1 }) ks (narrowed f Ac) s.ac
+      mq_means (strongly_updated Ac (one 0) f) (record s { ac = 0; pc = plus s.pc 1 }) ks (narrowed f Ac) s.ac
       (ac_means f s ks (one 0) 0 (plus s.pc 1) ss h refl) (ac_true f s ks ss h)
   operated3_means Mqa f s ks ss h =
       ac_means f s ks (ors (narrowed f Ac) f.mq) (bit_or s.ac s.mq) (plus s.pc 1) ss h (ors_true (narrowed f Ac) f.mq s.ac s.mq ss.ac ss.mq (ac_true f s ks ss h) h.mq)
   operated3_means Swp f s ks ss h =
-      mq_means (assigned Ac f.mq f) (record s { ac = s.mq; pc = plus s.pc 1 }) ks (narrowed f Ac) s.ac
+      mq_means (strongly_updated Ac f.mq f) (record s { ac = s.mq; pc = plus s.pc 1 }) ks (narrowed f Ac) s.ac
       (ac_means f s ks f.mq s.mq (plus s.pc 1) ss h h.mq) (ac_true f s ks ss h)
   operated3_means Cam f s ks ss h =
-      mq_means (assigned Ac (one 0) f) (record s { ac = 0; pc = plus s.pc 1 }) ks (one 0) 0
+      mq_means (strongly_updated Ac (one 0) f) (record s { ac = 0; pc = plus s.pc 1 }) ks (one 0) 0
       (ac_means f s ks (one 0) 0 (plus s.pc 1) ss h refl) refl
   operated3_means ClaMqa f s ks ss h = ac_means f s ks f.mq s.mq (plus s.pc 1) ss h h.mq
   operated3_means ClaSwp f s ks ss h =
-      mq_means (assigned Ac f.mq f) (record s { ac = s.mq; pc = plus s.pc 1 }) ks (one 0) 0
+      mq_means (strongly_updated Ac f.mq f) (record s { ac = s.mq; pc = plus s.pc 1 }) ks (one 0) 0
       (ac_means f s ks f.mq s.mq (plus s.pc 1) ss h h.mq) refl
 
   pub operate3_step : (o : MqOperate) (f : Fact) (s : State) (ks : Calls) → IsState s → Means pl start f s ks →
@@ -672,9 +672,9 @@ module _ (pl : Place) (dd : IsDeclared pl.declaration) (start : Cells) (sw : (a 
 
   -- the accumulator takes a word of the set
   pub ac_step : (f : Fact) (s : State) (ks : Calls) (set : Words) (ac : ℕ) → IsState s → Means pl start f s ks → ac < 4096 → set ac ≡ true →
-      SomeOutcome (Lands (record s { ac = ac; pc = plus s.pc 1 }) ks) (goes everything f everything (one (plus s.pc 1)) (assigned Ac set f))
+      SomeOutcome (Lands (record s { ac = ac; pc = plus s.pc 1 }) ks) (goes everything f everything (one (plus s.pc 1)) (strongly_updated Ac set f))
   ac_step f s ks set ac ss h lt e =
-      goes_to everything everything (one (plus s.pc 1)) f (assigned Ac set f) s _ ks 0 0 ss h zero_word refl zero_word refl lt ss.link ss.mq
+      goes_to everything everything (one (plus s.pc 1)) f (strongly_updated Ac set f) s _ ks 0 0 ss h zero_word refl zero_word refl lt ss.link ss.mq
       (eq-eqb (plus s.pc 1) _ refl) (ac_means f s ks set ac (plus s.pc 1) ss h e)
 
   pub or_step : (f : Fact) (s : State) (ks : Calls) (b : ℕ) → IsState s → Means pl start f s ks → b < 256 →

@@ -3,26 +3,26 @@ use Rattle.std.proofs.Common.{◌≡◌, ℕ, Bool, true, false, Option, Some, N
 use Rattle.std.specs.Prelude.{if◌then◌else◌}
 use Rattle.wordset.specs.Words.{Words, SameLinks, sums, carries, toggled, only}
 use Rattle.domain.specs.Facts.{Ac, Cell, Fact, Place, narrowed}
-use Rattle.domain.specs.Changes.{moved, assigned, with_equations, with_link}
+use Rattle.domain.specs.Changes.{moved, strongly_updated, with_equations, with_link}
 use Rattle.facts.specs.Outcomes.{words_at, tad_word, tad_case, tad_fact}
 use Rattle.domain.specs.Same.{Agree}
 
 pub tad_related : (pl : Place) (f : Fact) (v : Words) (y a : ℕ) (w : Option ℕ) (k : Fact) → pl.declaration.variable y ≡ true →
-    Agree k (with_equations (record { left = Ac; right = Cell y; more = a } ∷ []) (assigned Ac (sums (narrowed f Ac) v) f)) → Agree k (tad_case pl f v (Some y) (Some a) w)
+    Agree k (with_equations (record { left = Ac; right = Cell y; more = a } ∷ []) (strongly_updated Ac (sums (narrowed f Ac) v) f)) → Agree k (tad_case pl f v (Some y) (Some a) w)
 tad_related pl f v y a w k var h = rw var h
 
 word_keeps : (f : Fact) (v : Words) (w : Option ℕ) → ((tad_word f v w).mq ≡ f.mq) × ((tad_word f v w).offsets ≡ f.offsets)
-unfolding moved assigned
+unfolding moved strongly_updated
 word_keeps f v None = (refl, refl)
 word_keeps f v (Some w) = (refl, refl)
 
 tad_keeps : (pl : Place) (f : Fact) (v : Words) (y a w : Option ℕ) → ((tad_case pl f v y a w).mq ≡ f.mq) × ((tad_case pl f v y a w).offsets ≡ f.offsets)
-unfolding assigned
+unfolding strongly_updated
 tad_keeps pl f v None a w = word_keeps f v w
 tad_keeps pl f v (Some y) None w = word_keeps f v w
 tad_keeps pl f v (Some y) (Some a) w = go (pl.declaration.variable y)
   where
-    go : (b : Bool) → (let s : Fact = if b then with_equations (record { left = Ac; right = Cell y; more = a } ∷ []) (assigned Ac (sums (narrowed f Ac) v) f) else tad_word f v w in (s.mq ≡ f.mq) × (s.offsets ≡ f.offsets))
+    go : (b : Bool) → (let s : Fact = if b then with_equations (record { left = Ac; right = Cell y; more = a } ∷ []) (strongly_updated Ac (sums (narrowed f Ac) v) f) else tad_word f v w in (s.mq ≡ f.mq) × (s.offsets ≡ f.offsets))
     go true = (refl, refl)
     go false = word_keeps f v w
 

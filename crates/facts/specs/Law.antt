@@ -7,7 +7,7 @@ use Rattle.declaration.specs.Declaration.{Declaration, IsDeclared}
 use Rattle.policy.specs.Calls.{Calls}
 use Rattle.policy.specs.Runs.{GoesOn}
 use Rattle.domain.specs.Facts.{Fact, Place, Means}
-use Rattle.facts.specs.Outcomes.{Outcome, Goes, CallsTo, Returns, outcomes_of}
+use Rattle.facts.specs.Outcomes.{Successor, Goes, CallsTo, Returns, outcomes_of}
 use Rattle.facts.specs.Conditions.{WritesAreDeclared, EntriesAreKept}
 
 -- The registers and the cells of a state hold words, and the link a bit.
@@ -35,13 +35,13 @@ IsOrdinary d (Jmp i c) = i ≡ true → d.entry c ≡ false
 IsOrdinary d _ = Unit {0}
 
 -- A state is at one of an outcome's addresses, and its fact holds, of the same call list.
-abbrev pub LandsIn : Place → Cells → State → Calls → Outcome → Type 0
+abbrev pub LandsIn : Place → Cells → State → Calls → Successor → Type 0
 LandsIn pl start t ks (Goes next f) = (next t.pc ≡ true) × Means pl start f t ks
 LandsIn pl start t ks (CallsTo next f) = ⊥
 LandsIn pl start t ks (Returns f) = ⊥
 
 -- Some outcome of the list has the property.
-abbrev pub SomeOutcome : (Outcome → Type 0) → List Outcome → Type 0
+abbrev pub SomeOutcome : (Successor → Type 0) → List Successor → Type 0
 SomeOutcome p [] = ⊥
 SomeOutcome p (o ∷ os) = p o ⊎ SomeOutcome p os
 

@@ -6,7 +6,7 @@ use Rattle.instruct.specs.Instructions.{Meaning, meaning_of, And, Tad, Isz, Dca,
 use Rattle.wordset.specs.Words.{plus, Words, everything, one, some_below, has_some, has_link, without, shifted, sums, carries, toggled, only, ands, ors, or_any, images}
 use Rattle.processor.specs.Machine.{steps_pointer, next_pc}
 use Rattle.domain.specs.Facts.{Ac, Cell, Fact, Place, narrowed, words_in, is_routine}
-use Rattle.domain.specs.Changes.{moved, assigned, smeared, copied, with_equations, with_mq, with_link, with_offsets, with_name}
+use Rattle.domain.specs.Changes.{moved, strongly_updated, weakly_updated, copied, with_equations, with_mq, with_link, with_offsets, with_name}
 
 -- The fact that the access sees: a stepped pointer counts up first.
 abbrev pub stepped : Bool → ℕ → Fact → Fact
@@ -23,13 +23,13 @@ abbrev pub words_at : Place → Fact → Words → Words
 words_at pl f targets v = some_below 4096 (λ a. targets a && words_in pl f a v)
 
 -- The run goes on at one of these addresses; or it calls one of these entries; or it returns.
-pub data Outcome : Type 0 where
-  Goes : Words → Fact → Outcome
-  CallsTo : Words → Fact → Outcome
-  Returns : Fact → Outcome
+pub data Successor : Type 0 where
+  Goes : Words → Fact → Successor
+  CallsTo : Words → Fact → Successor
+  Returns : Fact → Successor
 
 -- An outcome that is given where the test is true.
-abbrev pub given : Bool → Outcome → List Outcome
+abbrev pub given : Bool → Successor → List Successor
 given b o = if b then o ∷ [] else []
 
 -- The targets, the old accumulator's narrowed set, the new accumulator's, MQ's and link's sets and the changed cell's set
@@ -39,24 +39,24 @@ alive p f changed g =
     has_some p && (has_some (narrowed f Ac) && (has_some (g.set Ac) && (has_some g.mq && (has_link g.link && has_some changed))))
 
 -- The outcome that goes on at these addresses with the fact g, where it can come about.
-abbrev pub goes : Words → Fact → Words → Words → Fact → List Outcome
+abbrev pub goes : Words → Fact → Words → Words → Fact → List Successor
 goes p f changed next g = given (alive p f changed g) (Goes next g)
 
 -- AND: all a and v.
-abbrev pub anded : Place → ℕ → Fact → Words → List Outcome
+abbrev pub anded : Place → ℕ → Fact → Words → List Successor
 anded pl at f p =
-    goes p f everything (one (plus at 1)) (assigned Ac (ands (narrowed f Ac) (words_at pl f p)) f)
+    goes p f everything (one (plus at 1)) (strongly_updated Ac (ands (narrowed f Ac) (words_at pl f p)) f)
 
 -- TAD with one word added moves the accumulator's equations by it; otherwise they are dropped.
 abbrev pub tad_word : Fact → Words → Option ℕ → Fact
 tad_word f v (Some w) = with_name Ac (sums (narrowed f Ac) v) (moved Ac w f)
-tad_word f v None = assigned Ac (sums (narrowed f Ac) v) f
+tad_word f v None = strongly_updated Ac (sums (narrowed f Ac) v) f
 
 -- TAD of one variable y to one word a: the accumulator is y + a.
 abbrev pub tad_case : Place → Fact → Words → Option ℕ → Option ℕ → Option ℕ → Fact
 tad_case pl f v (Some y) (Some a) w =
     if pl.declaration.variable y
-    then with_equations (record { left = Ac; right = Cell y; more = a } ∷ []) (assigned Ac (sums (narrowed f Ac) v) f)
+    then with_equations (record { left = Ac; right = Cell y; more = a } ∷ []) (strongly_updated Ac (sums (narrowed f Ac) v) f)
     else tad_word f v w
 tad_case pl f v (Some y) None w = tad_word f v w
 tad_case pl f v None a w = tad_word f v w
@@ -72,13 +72,13 @@ tad_fact pl f p =
     }
 
 -- TAD goes on at the next address.
-abbrev pub tad : Place → ℕ → Fact → Words → List Outcome
+abbrev pub tad : Place → ℕ → Fact → Words → List Successor
 tad pl at f p = goes p f everything (one (plus at 1)) (tad_fact pl f p)
 
 -- ISZ of one variable: it skips where the variable was 7777, and otherwise leaves it not zero. ISZ of any other one cell
 -- counts the offsets up: the only such cell that the conditions let it write is the running routine's own entry. ISZ of
 -- several cells counts an unknown one of them up.
-abbrev pub isz_case : Place → ℕ → Fact → Words → Option ℕ → List Outcome
+abbrev pub isz_case : Place → ℕ → Fact → Words → Option ℕ → List Successor
 isz_case pl at f p (Some y) =
     if pl.declaration.variable y
     then
@@ -88,7 +88,7 @@ isz_case pl at f p (Some y) =
     (with_name (Cell y) (without 0 (shifted (narrowed f (Cell y)) 1)) (moved (Cell y) 1 f))
     else goes p f everything (one (plus at 1)) (with_offsets (λ o. if o == 0 then false else f.offsets (o - 1)) f)
 isz_case pl at f p None =
-    let counted : Fact = smeared p (λ y. shifted (f.set (Cell y)) 1) f in
+    let counted : Fact = weakly_updated p (λ y. shifted (f.set (Cell y)) 1) f in
     given (some_below 4096 (λ y. p y && narrowed f (Cell y) 4095) && alive p f everything counted)
     (Goes (one (plus at 2)) counted) ++
     given (some_below 4096 (λ y. p y && has_some (without 4095 (narrowed f (Cell y)))) && alive p f everything counted)
@@ -96,15 +96,15 @@ isz_case pl at f p None =
 
 -- DCA: the one target takes the accumulator's words and equations, or an unknown one of several its words; then the
 -- accumulator is 0.
-abbrev pub dca_case : Place → ℕ → Fact → Words → Option ℕ → List Outcome
+abbrev pub dca_case : Place → ℕ → Fact → Words → Option ℕ → List Successor
 dca_case pl at f p (Some y) =
     goes p f (narrowed f Ac) (one (plus at 1))
-    (assigned Ac (one 0) (with_equations (copied y f.equations) (assigned (Cell y) (narrowed f Ac) f)))
+    (strongly_updated Ac (one 0) (with_equations (copied y f.equations) (strongly_updated (Cell y) (narrowed f Ac) f)))
 dca_case pl at f p None =
-    goes p f everything (one (plus at 1)) (assigned Ac (one 0) (smeared p (λ y. narrowed f Ac) f))
+    goes p f everything (one (plus at 1)) (strongly_updated Ac (one 0) (weakly_updated p (λ y. narrowed f Ac) f))
 
 -- JMP goes to each target; JMP I through the running routine's own entry returns.
-abbrev pub jmp : Place → Bool → ℕ → Fact → Words → List Outcome
+abbrev pub jmp : Place → Bool → ℕ → Fact → Words → List Successor
 jmp pl i c f p =
     if i && is_routine pl.routine c then given (alive p f everything f) (Returns f) else goes p f everything p f
 
@@ -123,7 +123,7 @@ changes_ac w = has_bit 7 w || (has_bit 5 w || (has_bit 3 w || (has_bit 2 w || ha
 -- With IAC alone of these the equations move by one.
 abbrev pub related1 : ℕ → Fact → Fact
 related1 w f =
-    if changes_ac w then assigned Ac everything f else (if has_bit 0 w then moved Ac 1 f else f)
+    if changes_ac w then strongly_updated Ac everything f else (if has_bit 0 w then moved Ac 1 f else f)
 
 -- Group 1: the images of the words and links.
 abbrev pub operated1 : ℕ → Fact → Fact
@@ -138,41 +138,41 @@ part2 w f l skip a = narrowed f Ac a && (if skips_of w a l then skip else not sk
 -- Then CLA, then OSR, by which any bits may come in.
 abbrev pub related2 : ℕ → Words → Fact → Fact
 related2 w part f =
-    if has_bit 2 w then assigned Ac (or_any 4095 (if has_bit 7 w then one 0 else part)) f
-    else (if has_bit 7 w then assigned Ac (one 0) f else with_name Ac part f)
+    if has_bit 2 w then strongly_updated Ac (or_any 4095 (if has_bit 7 w then one 0 else part)) f
+    else (if has_bit 7 w then strongly_updated Ac (one 0) f else with_name Ac part f)
 
 -- The words that skip, or those that don't, under one link; then what the word makes of them.
-abbrev pub operated2 : ℕ → ℕ → Fact → ℕ → Bool → List Outcome
+abbrev pub operated2 : ℕ → ℕ → Fact → ℕ → Bool → List Successor
 operated2 at w f l skip =
     let after : Fact = with_link (one l) (related2 w (part2 w f l skip) f) in
     given (f.link l && (has_some (part2 w f l skip) && alive everything f everything after))
     (Goes (one (next_pc at skip)) after)
 
 -- Each link by itself, with and without a skip.
-abbrev pub all_operated2 : ℕ → ℕ → Fact → List Outcome
+abbrev pub all_operated2 : ℕ → ℕ → Fact → List Successor
 all_operated2 at w f =
     operated2 at w f 0 true ++ (operated2 at w f 0 false ++ (operated2 at w f 1 true ++ operated2 at w f 1 false))
 
 -- Group 3 moves words between the accumulator and MQ; no equation of the accumulator stays.
 abbrev pub operated3 : MqOperate → Fact → Fact
-operated3 Mql f = with_mq (narrowed f Ac) (assigned Ac (one 0) f)
-operated3 Mqa f = assigned Ac (ors (narrowed f Ac) f.mq) f
-operated3 Swp f = with_mq (narrowed f Ac) (assigned Ac f.mq f)
-operated3 Cam f = with_mq (one 0) (assigned Ac (one 0) f)
-operated3 ClaMqa f = assigned Ac f.mq f
-operated3 ClaSwp f = with_mq (one 0) (assigned Ac f.mq f)
+operated3 Mql f = with_mq (narrowed f Ac) (strongly_updated Ac (one 0) f)
+operated3 Mqa f = strongly_updated Ac (ors (narrowed f Ac) f.mq) f
+operated3 Swp f = with_mq (narrowed f Ac) (strongly_updated Ac f.mq f)
+operated3 Cam f = with_mq (one 0) (strongly_updated Ac (one 0) f)
+operated3 ClaMqa f = strongly_updated Ac f.mq f
+operated3 ClaSwp f = with_mq (one 0) (strongly_updated Ac f.mq f)
 
 -- Device words: a flag may be set or not, and a byte may be any.
-abbrev pub device_outcomes : ℕ → Fact → DeviceAction → List Outcome
+abbrev pub device_outcomes : ℕ → Fact → DeviceAction → List Successor
 device_outcomes at f Skips =
     goes everything f everything (one (plus at 1)) f ++ goes everything f everything (one (plus at 2)) f
-device_outcomes at f Ors = goes everything f everything (one (plus at 1)) (assigned Ac (or_any 255 (narrowed f Ac)) f)
-device_outcomes at f Clears = goes everything f everything (one (plus at 1)) (assigned Ac (one 0) f)
-device_outcomes at f Takes = goes everything f everything (one (plus at 1)) (assigned Ac (λ v. nat_lt v 256) f)
+device_outcomes at f Ors = goes everything f everything (one (plus at 1)) (strongly_updated Ac (or_any 255 (narrowed f Ac)) f)
+device_outcomes at f Clears = goes everything f everything (one (plus at 1)) (strongly_updated Ac (one 0) f)
+device_outcomes at f Takes = goes everything f everything (one (plus at 1)) (strongly_updated Ac (λ v. nat_lt v 256) f)
 device_outcomes at f Leaves = goes everything f everything (one (plus at 1)) f
 
 -- The outcomes of an instruction at an address. A HLT at a stop has none.
-abbrev pub outcomes_of : Place → Fact → ℕ → Meaning → List Outcome
+abbrev pub outcomes_of : Place → Fact → ℕ → Meaning → List Successor
 outcomes_of pl f at (And i c) = anded pl at (stepped i c f) (targets pl i c f)
 outcomes_of pl f at (Tad i c) = tad pl at (stepped i c f) (targets pl i c f)
 outcomes_of pl f at (Isz i c) = isz_case pl at (stepped i c f) (targets pl i c f) (only (targets pl i c f))
@@ -191,5 +191,5 @@ abbrev pub meaning_at : Place → ℕ → ℕ → Meaning
 meaning_at pl at word = meaning_of pl.declaration.profile at word
 
 -- The outcomes of a word that stands at an address.
-abbrev pub outcomes_at : Place → Fact → ℕ → ℕ → List Outcome
+abbrev pub outcomes_at : Place → Fact → ℕ → ℕ → List Successor
 outcomes_at pl f at word = outcomes_of pl f at (meaning_at pl at word)

@@ -6,21 +6,21 @@ use Rattle.peripherals.specs.Loading.{image_of}
 use Rattle.declaration.specs.Declaration.{Routine}
 use Rattle.declaration.specs.Kept.{Kept, meaning}
 use Rattle.domain.specs.Facts as spec
-use Rattle.facts.specs.declared.place.Running.{Running}
+use Rattle.facts.specs.declared.place.Context.{Context}
 use Rattle.facts.specs.declared.place.Place.{Place}
 
 -- The routine that is meant; none is main.
-abbrev pub routine_of : Option Running → Routine
+abbrev pub routine_of : Option Context → Routine
 routine_of None = None
 routine_of (Some r) = Some r.entry
 
 -- The sites of the routine; main has none.
-abbrev pub sites_of : Option Running → Words
+abbrev pub sites_of : Option Context → Words
 sites_of None = nothing
 sites_of (Some r) = words r.sites.now
 
 -- The cells that the routine may write.
-abbrev pub writes_of : Option Running → Words
+abbrev pub writes_of : Option Context → Words
 writes_of None = nothing
 writes_of (Some r) = words r.writes.now
 

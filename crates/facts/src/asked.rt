@@ -8,7 +8,7 @@ ghost use Rattle.instruct.specs.Instructions.{kind_of, operation_of};
 ghost use Rattle.policy.specs.Rules.{IsSupported, HaltsDeclared};
 ghost use Rattle.domain.specs.Facts.{possible};
 ghost use Rattle.facts.specs.Outcomes.{meaning_at, outcomes_at};
-ghost use Rattle.facts.specs.Agreeing.{AgreeingOutcomes};
+ghost use Rattle.facts.specs.Agreeing.{AgreeingSuccessors};
 ghost use Rattle.facts.specs.Conditions.{CountsItsReturn, KeepsConditions, BreaksFirst, WritesAreDeclared, EntriesAreKept, WritesAreListed, ReadsAreListed, calls, is_call, jumps, called, calls_through_index, returned_through};
 ghost use Rattle.domain.specs.Meaning.{meaning};
 ghost use Rattle.facts.specs.Places.{place_of, writes_of};
@@ -17,10 +17,10 @@ ghost use Rattle.facts.specs.Slots.{slots};
 use crate::Condition;
 use crate::dispatch::outcomes;
 use crate::entailment::{narrowed, word_of};
-use crate::outcome::Outcomes;
 use crate::place::Place;
 use crate::references::steps_pointer;
-use crate::room::Room;
+use crate::scratch::Scratch;
+use crate::successor::Outcomes;
 use domain::{Fact, Name};
 use instruct::{Instruction, Operation, decode, halts, refers_indirectly, target};
 use std::alloc::Allocator;
@@ -263,10 +263,10 @@ pub fn post<'a, A: Allocator>(
     at: Word,
     word: Word,
     place: &Place<'_, A>,
-    room: &'a mut Room,
+    room: &'a mut Scratch,
 ) -> Result<Outcomes<'a>, Condition>
     ensures outcomes { IfOk result (λ given.
-        AgreeingOutcomes (slots given.all) (outcomes_at (place_of place.now) (meaning fact.now) at
+        AgreeingSuccessors (slots given.all) (outcomes_at (place_of place.now) (meaning fact.now) at
         word)) }
     ensures kept { OnOk result (KeepsConditions (place_of place.now) (writes_of place.now.routine)
         (meaning fact.now) at (meaning_at (place_of place.now) at word)) }

@@ -6,14 +6,14 @@ ghost use Rattle.wordset.specs.Words.{one, shifted};
 ghost use Rattle.wordset.specs.Lanes.{words};
 ghost use Rattle.wordset.specs.Links.{links_of};
 ghost use Rattle.domain.specs.Facts.{Ac, Cell};
-ghost use Rattle.domain.specs.Changes.{copied, moved, assigned, smeared, with_equations, with_name, with_mq, with_link, with_offsets};
+ghost use Rattle.domain.specs.Changes.{copied, moved, strongly_updated, weakly_updated, with_equations, with_name, with_mq, with_link, with_offsets};
 ghost use Rattle.domain.specs.Same.{Agree};
 ghost use Rattle.domain.specs.Meaning.{equation_of, offsets_of};
-ghost use Rattle.facts.specs.Knowing.{known_of, IsUnchanged};
+ghost use Rattle.facts.specs.Knowing.{fact_of_state, IsUnchanged};
 
 use crate::equations::{Equations, add_all, add_free, copy_to, free, free_of_cells, raise};
-use crate::known::{Change, Known};
-use domain::{Equation, Name, Offsets};
+use crate::state::{AbstractState, Update};
+use domain::{CountedOffsets, Equation, Name};
 use word12::Word;
 use wordset::{Links, WordSet};
 
@@ -24,7 +24,7 @@ fn one() -> Word
     Word::ZERO.increment()
 }
 
-impl<'a> Known<'a> {
+impl<'a> AbstractState<'a> {
     /// After a cell's word went up by one, where a pointer is stepped.
     #[inline(never)]
     pub(crate) fn stepped(
@@ -32,19 +32,19 @@ impl<'a> Known<'a> {
         cell: Word,
         place: &'a mut WordSet,
         list: &'a mut Equations,
-    ) -> Known<'a>
+    ) -> AbstractState<'a>
         requires pointer { IsUnchanged self.now.pointer }
         requires target { IsUnchanged self.now.target }
         requires room { length self.now.equations.now ≤ 32 }
-        ensures same { Agree (known_of result) (moved (Cell cell) 1 (known_of self.now)) }
+        ensures same { Agree (fact_of_state result) (moved (Cell cell) 1 (fact_of_state self.now)) }
         ensures target { IsUnchanged result.target }
         ensures len { length result.equations.now ≤ length self.now.equations.now }
     {
         let set = self.shifted_in(&Name::Cell(cell), one(), place);
         raise(&Name::Cell(cell), one(), self.equations, list);
-        Known {
-            pointer: Change::Replaced(cell.index(), set),
-            target: Change::Unchanged,
+        AbstractState {
+            pointer: Update::Strong(cell.index(), set),
+            target: Update::Unchanged,
             equations: list.as_slice(),
             ..*self
         }
@@ -53,14 +53,14 @@ impl<'a> Known<'a> {
     /// After the accumulator took some word of a set.
     #[inline(never)]
     #[tactic(auto, using(crate::proofs::ChangingLemmas::assigned_ac))]
-    pub(crate) fn with_ac(&self, set: &'a WordSet, list: &'a mut Equations) -> Known<'a>
+    pub(crate) fn with_ac(&self, set: &'a WordSet, list: &'a mut Equations) -> AbstractState<'a>
         requires room { length self.now.equations.now ≤ 64 }
-        ensures same { Agree (known_of result) (assigned Ac (words set.now) (known_of self.now)) }
+        ensures same { Agree (fact_of_state result) (strongly_updated Ac (words set.now) (fact_of_state self.now)) }
         ensures target { result.target ≡ self.now.target }
         ensures len { length result.equations.now ≤ length self.now.equations.now }
     {
         free(&Name::Accumulator, self.equations, list);
-        Known {
+        AbstractState {
             ac: set,
             equations: list.as_slice(),
             ..*self
@@ -74,33 +74,33 @@ impl<'a> Known<'a> {
         cell: Word,
         set: &'a WordSet,
         list: &'a mut Equations,
-    ) -> Known<'a>
+    ) -> AbstractState<'a>
         requires target { IsUnchanged self.now.target }
         requires room { length self.now.equations.now ≤ 32 }
-        ensures same { Agree (known_of result)
-            (assigned (Cell cell) (words set.now) (known_of self.now)) }
+        ensures same { Agree (fact_of_state result)
+            (strongly_updated (Cell cell) (words set.now) (fact_of_state self.now)) }
         ensures len { length result.equations.now ≤ length self.now.equations.now }
     {
         free(&Name::Cell(cell), self.equations, list);
-        Known {
-            target: Change::Replaced(cell.index(), set),
+        AbstractState {
+            target: Update::Strong(cell.index(), set),
             equations: list.as_slice(),
             ..*self
         }
     }
 
     /// After one of some cells, unknown which, went up by one.
-    pub(crate) fn counted(&self, cells: &'a WordSet, list: &'a mut Equations) -> Known<'a>
+    pub(crate) fn counted(&self, cells: &'a WordSet, list: &'a mut Equations) -> AbstractState<'a>
         requires target { IsUnchanged self.now.target }
         requires room { length self.now.equations.now ≤ 32 }
-        ensures same { Agree (known_of result)
-            (smeared (words cells.now) (λ y. shifted ((known_of self.now).set (Cell y)) 1)
-            (known_of self.now)) }
+        ensures same { Agree (fact_of_state result)
+            (weakly_updated (words cells.now) (λ y. shifted ((fact_of_state self.now).set (Cell y)) 1)
+            (fact_of_state self.now)) }
         ensures len { length result.equations.now ≤ length self.now.equations.now }
     {
         free_of_cells(cells, self.equations, list);
-        Known {
-            target: Change::Counted(cells),
+        AbstractState {
+            target: Update::WeakIncrement(cells),
             equations: list.as_slice(),
             ..*self
         }
@@ -112,16 +112,16 @@ impl<'a> Known<'a> {
         cells: &'a WordSet,
         set: &'a WordSet,
         list: &'a mut Equations,
-    ) -> Known<'a>
+    ) -> AbstractState<'a>
         requires target { IsUnchanged self.now.target }
         requires room { length self.now.equations.now ≤ 32 }
-        ensures same { Agree (known_of result)
-            (smeared (words cells.now) (λ y. words set.now) (known_of self.now)) }
+        ensures same { Agree (fact_of_state result)
+            (weakly_updated (words cells.now) (λ y. words set.now) (fact_of_state self.now)) }
         ensures len { length result.equations.now ≤ length self.now.equations.now }
     {
         free_of_cells(cells, self.equations, list);
-        Known {
-            target: Change::Stored(cells, set),
+        AbstractState {
+            target: Update::WeakStore(cells, set),
             equations: list.as_slice(),
             ..*self
         }
@@ -133,16 +133,16 @@ impl<'a> Known<'a> {
         cell: Word,
         set: &'a WordSet,
         list: &'a mut Equations,
-    ) -> Known<'a>
+    ) -> AbstractState<'a>
         requires target { IsUnchanged self.now.target }
         requires room { length self.now.equations.now ≤ 32 }
-        ensures same { Agree (known_of result)
-            (with_name (Cell cell) (words set.now) (moved (Cell cell) 1 (known_of self.now))) }
+        ensures same { Agree (fact_of_state result)
+            (with_name (Cell cell) (words set.now) (moved (Cell cell) 1 (fact_of_state self.now))) }
         ensures len { length result.equations.now ≤ length self.now.equations.now }
     {
         raise(&Name::Cell(cell), one(), self.equations, list);
-        Known {
-            target: Change::Replaced(cell.index(), set),
+        AbstractState {
+            target: Update::Strong(cell.index(), set),
             equations: list.as_slice(),
             ..*self
         }
@@ -150,28 +150,28 @@ impl<'a> Known<'a> {
 
     /// What is known, unchanged.
     #[tactic(auto, using(crate::proofs::ChangingLemmas::same_agrees))]
-    pub(crate) fn same(&self) -> Known<'a>
-        ensures same { Agree (known_of result) (known_of self.now) }
+    pub(crate) fn same(&self) -> AbstractState<'a>
+        ensures same { Agree (fact_of_state result) (fact_of_state self.now) }
         ensures target { result.target ≡ self.now.target }
         ensures len { length result.equations.now ≤ length self.now.equations.now }
     {
-        Known { ..*self }
+        AbstractState { ..*self }
     }
 
     /// With other words of the accumulator; its equations stay.
     #[tactic(auto, using(crate::proofs::ChangingLemmas::holding_agrees))]
-    pub(crate) fn holding(self, set: &'a WordSet) -> Known<'a>
-        ensures { Agree (known_of result) (with_name Ac (words set.now) (known_of self.entry)) }
+    pub(crate) fn holding(self, set: &'a WordSet) -> AbstractState<'a>
+        ensures { Agree (fact_of_state result) (with_name Ac (words set.now) (fact_of_state self.entry)) }
     {
-        Known { ac: set, ..self }
+        AbstractState { ac: set, ..self }
     }
 
     /// With other links.
     #[tactic(auto, using(crate::proofs::ChangingLemmas::link_agrees))]
-    pub(crate) fn with_link(self, links: Links) -> Known<'a>
-        ensures { Agree (known_of result) (with_link (links_of links) (known_of self.entry)) }
+    pub(crate) fn with_link(self, links: Links) -> AbstractState<'a>
+        ensures { Agree (fact_of_state result) (with_link (links_of links) (fact_of_state self.entry)) }
     {
-        Known {
+        AbstractState {
             link: links,
             ..self
         }
@@ -179,29 +179,29 @@ impl<'a> Known<'a> {
 
     /// With other words of MQ.
     #[tactic(auto, using(crate::proofs::ChangingLemmas::mq_agrees))]
-    pub(crate) fn with_mq(self, set: &'a WordSet) -> Known<'a>
-        ensures { Agree (known_of result) (with_mq (words set.now) (known_of self.entry)) }
+    pub(crate) fn with_mq(self, set: &'a WordSet) -> AbstractState<'a>
+        ensures { Agree (fact_of_state result) (with_mq (words set.now) (fact_of_state self.entry)) }
     {
-        Known { mq: set, ..self }
+        AbstractState { mq: set, ..self }
     }
 
     /// With other offsets.
     #[tactic(auto, using(crate::proofs::ChangingLemmas::offsets_agree))]
-    pub(crate) fn with_offsets(self, offsets: Offsets) -> Known<'a>
-        ensures { Agree (known_of result)
-            (with_offsets (offsets_of offsets) (known_of self.entry)) }
+    pub(crate) fn with_offsets(self, offsets: CountedOffsets) -> AbstractState<'a>
+        ensures { Agree (fact_of_state result)
+            (with_offsets (offsets_of offsets) (fact_of_state self.entry)) }
     {
-        Known { offsets, ..self }
+        AbstractState { offsets, ..self }
     }
 
     /// After the running routine's return word went up by one.
     #[tactic(auto, using(crate::proofs::ChangingLemmas::later_agrees))]
-    pub(crate) fn returning_later(&self) -> Known<'a>
-        ensures { Agree (known_of result)
-            (with_offsets (λ o. if o == 0 then false else (known_of self.now).offsets (o - 1))
-            (known_of self.now)) }
+    pub(crate) fn returning_later(&self) -> AbstractState<'a>
+        ensures { Agree (fact_of_state result)
+            (with_offsets (λ o. if o == 0 then false else (fact_of_state self.now).offsets (o - 1))
+            (fact_of_state self.now)) }
     {
-        Known {
+        AbstractState {
             offsets: self.offsets.counted(),
             ..*self
         }
@@ -209,13 +209,18 @@ impl<'a> Known<'a> {
 
     /// After the accumulator's word went up by k, where these words of it are left.
     #[inline(never)]
-    pub(crate) fn raised_to(&self, k: Word, set: &'a WordSet, list: &'a mut Equations) -> Known<'a>
+    pub(crate) fn raised_to(
+        &self,
+        k: Word,
+        set: &'a WordSet,
+        list: &'a mut Equations,
+    ) -> AbstractState<'a>
         requires room { length self.now.equations.now ≤ 32 }
-        ensures { Agree (known_of result) (with_name Ac (words set.now)
-            (moved Ac k (known_of self.now))) }
+        ensures { Agree (fact_of_state result) (with_name Ac (words set.now)
+            (moved Ac k (fact_of_state self.now))) }
     {
         raise(&Name::Accumulator, k, self.equations, list);
-        Known {
+        AbstractState {
             ac: set,
             equations: list.as_slice(),
             ..*self
@@ -232,11 +237,11 @@ impl<'a> Known<'a> {
         more: Word,
         set: &'a WordSet,
         list: &'a mut Equations,
-    ) -> Known<'a>
+    ) -> AbstractState<'a>
         requires room { length self.now.equations.now ≤ 32 }
-        ensures { Agree (known_of result) (with_equations
+        ensures { Agree (fact_of_state result) (with_equations
             (record { left = Ac; right = Cell cell; more = more } ∷ [])
-            (assigned Ac (words set.now) (known_of self.now))) }
+            (strongly_updated Ac (words set.now) (fact_of_state self.now))) }
     {
         list.clear();
         list.push(Equation {
@@ -245,7 +250,7 @@ impl<'a> Known<'a> {
             more,
         });
         add_free(&Name::Accumulator, self.equations, list);
-        Known {
+        AbstractState {
             ac: set,
             equations: list.as_slice(),
             ..*self
@@ -254,16 +259,16 @@ impl<'a> Known<'a> {
 
     /// With what the equations of another say of the accumulator, said of a cell, before its own.
     #[tactic(auto, using(crate::proofs::ChangingLemmas::told_agrees))]
-    fn told(&self, cell: Word, equations: &[Equation], list: &'a mut Equations) -> Known<'a>
+    fn told(&self, cell: Word, equations: &[Equation], list: &'a mut Equations) -> AbstractState<'a>
         requires { length equations.now + length self.now.equations.now ≤ 64 }
-        ensures same { Agree (known_of result) (with_equations
-            (copied cell (map equation_of equations.now)) (known_of self.now)) }
+        ensures same { Agree (fact_of_state result) (with_equations
+            (copied cell (map equation_of equations.now)) (fact_of_state self.now)) }
         ensures len { length result.equations.now ≤ length equations.now +
             length self.now.equations.now }
     {
         copy_to(cell, equations, list);
         add_all(list, self.equations);
-        Known {
+        AbstractState {
             equations: list.as_slice(),
             ..*self
         }
@@ -278,13 +283,13 @@ impl<'a> Known<'a> {
         first: &'a mut Equations,
         second: &'a mut Equations,
         third: &'a mut Equations,
-    ) -> Known<'a>
+    ) -> AbstractState<'a>
         requires target { IsUnchanged self.now.target }
         requires zero { words zero.now ≡ one 0 }
         requires room { length self.now.equations.now ≤ 32 }
-        ensures { Agree (known_of result) (assigned Ac (one 0)
-            (with_equations (copied cell (known_of self.now).equations)
-            (assigned (Cell cell) (words set.now) (known_of self.now)))) }
+        ensures { Agree (fact_of_state result) (strongly_updated Ac (one 0)
+            (with_equations (copied cell (fact_of_state self.now).equations)
+            (strongly_updated (Cell cell) (words set.now) (fact_of_state self.now)))) }
     {
         let put = self.with_cell(cell, set, first);
         let told = put.told(cell, self.equations, second);

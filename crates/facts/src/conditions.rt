@@ -12,12 +12,12 @@ ghost use Rattle.facts.specs.Outcomes.{meaning_at, targets};
 ghost use Rattle.facts.specs.Conditions.{may_read, may_write, reads_operand, stores, counts, CountsItsReturn, MayWrite};
 ghost use Rattle.domain.specs.Same.{Agree};
 ghost use Rattle.domain.specs.Meaning.{meaning};
-ghost use Rattle.facts.specs.Knowing.{known_of, IsUnchanged};
+ghost use Rattle.facts.specs.Knowing.{fact_of_state, IsUnchanged};
 ghost use Rattle.facts.specs.Places.{place_of, writes_of};
 
-use crate::known::Known;
 use crate::place::{Place, union_if};
 use crate::references::steps_pointer;
+use crate::state::AbstractState;
 use domain::Fact;
 use instruct::{Instruction, Operation, decode, refers_indirectly, target};
 use std::alloc::Allocator;
@@ -86,7 +86,7 @@ impl<A: Allocator> Place<'_, A> {
             return WordSet::one(named);
         }
         let mut place = WordSet::all();
-        *self.reached(indirect, named, &Known::of(fact), &mut place)
+        *self.reached(indirect, named, &AbstractState::of(fact), &mut place)
     }
 
     /// The cells that a word at the address of a fact may read.

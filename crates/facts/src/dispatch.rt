@@ -10,19 +10,19 @@ ghost use Rattle.domain.specs.Facts as said;
 ghost use Rattle.facts.specs.Outcomes as told;
 ghost use Rattle.facts.specs.Outcomes.{stepped, targets, all_operated2, outcomes_of, outcomes_at};
 ghost use Rattle.domain.specs.Same.{Agree};
-ghost use Rattle.facts.specs.Agreeing.{AgreeingOutcomes};
+ghost use Rattle.facts.specs.Agreeing.{AgreeingSuccessors};
 ghost use Rattle.domain.specs.Meaning.{meaning};
-ghost use Rattle.facts.specs.Knowing.{known_of, IsUnchanged};
+ghost use Rattle.facts.specs.Knowing.{fact_of_state, IsUnchanged};
 ghost use Rattle.facts.specs.Places.{place_of};
 ghost use Rattle.facts.specs.Slots.{slot, slots};
 
-use crate::known::Known;
-use crate::outcome::{Outcome, Outcomes};
 use crate::place::Place;
 use crate::references::{call, deposit, steps_pointer};
 use crate::registers::{exchange, operate, transfer};
-use crate::room::{Room, Way};
+use crate::scratch::{Scratch, SuccessorScratch};
 use crate::skipping::branch;
+use crate::state::AbstractState;
+use crate::successor::{Outcomes, Successor};
 use domain::Fact;
 use instruct::{DeviceOperation, Instruction, Operation, decode, halts, refers_indirectly, target};
 use std::alloc::Allocator;
@@ -39,9 +39,9 @@ fn nowhere<'a>() -> Outcomes<'a>
 }
 
 /// One outcome, if it is there.
-fn one<'a>(outcome: Option<Outcome<'a>>) -> Outcomes<'a>
-    ensures { (given : List told.Outcome) → AgreeingOutcomes (slot outcome.entry) given →
-        AgreeingOutcomes (slots result.all) given }
+fn one<'a>(outcome: Option<Successor<'a>>) -> Outcomes<'a>
+    ensures { (given : List told.Successor) → AgreeingSuccessors (slot outcome.entry) given →
+        AgreeingSuccessors (slots result.all) given }
 {
     Outcomes {
         all: [outcome, None, None, None],
@@ -49,10 +49,10 @@ fn one<'a>(outcome: Option<Outcome<'a>>) -> Outcomes<'a>
 }
 
 /// Two outcomes, so far as they are there.
-fn two<'a>(outcomes: (Option<Outcome<'a>>, Option<Outcome<'a>>)) -> Outcomes<'a>
-    ensures { (given : List told.Outcome) → AgreeingOutcomes
+fn two<'a>(outcomes: (Option<Successor<'a>>, Option<Successor<'a>>)) -> Outcomes<'a>
+    ensures { (given : List told.Successor) → AgreeingSuccessors
         (slot outcomes.entry.0 ++ slot outcomes.entry.1) given →
-        AgreeingOutcomes (slots result.all) given }
+        AgreeingSuccessors (slots result.all) given }
 {
     let (first, second) = outcomes;
     Outcomes {
@@ -62,10 +62,15 @@ fn two<'a>(outcomes: (Option<Outcome<'a>>, Option<Outcome<'a>>)) -> Outcomes<'a>
 
 /// The outcomes of a word of group 2: each link by itself, with and without a skip.
 #[inline(never)]
-fn branches<'a>(at: Word, word: Word, known: &Known<'a>, room: &'a mut Room) -> Outcomes<'a>
+fn branches<'a>(
+    at: Word,
+    word: Word,
+    known: &AbstractState<'a>,
+    room: &'a mut Scratch,
+) -> Outcomes<'a>
     requires room { length known.now.equations.now ≤ 32 }
-    ensures { (f : said.Fact) → Agree (known_of known.now) f →
-        AgreeingOutcomes (slots result.all) (all_operated2 at word f) }
+    ensures { (f : said.Fact) → Agree (fact_of_state known.now) f →
+        AgreeingSuccessors (slots result.all) (all_operated2 at word f) }
 {
     let first = branch(at, word, known, Link::CLEAR, true, &mut room.one);
     let second = branch(at, word, known, Link::CLEAR, false, &mut room.two);
@@ -90,12 +95,18 @@ fn single_target(indirect: bool, named: Word, targets: &WordSet) -> Option<Word>
 
 impl<A: Allocator> Place<'_, A> {
     /// The outcomes of a memory reference: a stepped pointer counts up first.
-    fn refer<'a>(&self, at: Word, word: Word, known: &Known<'a>, room: &'a mut Room) -> Outcomes<'a>
+    fn refer<'a>(
+        &self,
+        at: Word,
+        word: Word,
+        known: &AbstractState<'a>,
+        room: &'a mut Scratch,
+    ) -> Outcomes<'a>
         requires pointer { IsUnchanged known.now.pointer }
         requires target { IsUnchanged known.now.target }
         requires room { length known.now.equations.now ≤ 32 }
-        ensures { (f : said.Fact) → Agree (known_of known.now) f →
-            AgreeingOutcomes (slots result.all) (outcomes_of (place_of self.now) f at
+        ensures { (f : said.Fact) → Agree (fact_of_state known.now) f →
+            AgreeingSuccessors (slots result.all) (outcomes_of (place_of self.now) f at
             (reference_at (operation_of word) word at)) }
     {
         let indirect = refers_indirectly(word);
@@ -130,20 +141,20 @@ impl<A: Allocator> Place<'_, A> {
         &self,
         at: Word,
         word: Word,
-        seen: &Known<'a>,
+        seen: &AbstractState<'a>,
         reached: &'a WordSet,
         single: &Option<Word>,
-        way: &'a mut Way,
-        other: &'a mut Way,
+        way: &'a mut SuccessorScratch,
+        other: &'a mut SuccessorScratch,
     ) -> Outcomes<'a>
         requires single { single.now ≡ only (words reached.now) }
         requires target { IsUnchanged seen.now.target }
         requires room { length seen.now.equations.now ≤ 32 }
         ensures { (f : said.Fact) →
-            Agree (known_of seen.now) (stepped (is_indirect word) (named_cell word at) f) →
+            Agree (fact_of_state seen.now) (stepped (is_indirect word) (named_cell word at) f) →
             SameWords (words reached.now)
             (targets (place_of self.now) (is_indirect word) (named_cell word at) f) →
-            AgreeingOutcomes (slots result.all) (outcomes_of (place_of self.now) f at
+            AgreeingSuccessors (slots result.all) (outcomes_of (place_of self.now) f at
             (reference_at (operation_of word) word at)) }
     {
         let indirect = refers_indirectly(word);
@@ -159,10 +170,16 @@ impl<A: Allocator> Place<'_, A> {
     }
 
     /// The outcomes of a word of group 2. A HLT at a stop has none.
-    fn skip<'a>(&self, at: Word, word: Word, known: &Known<'a>, room: &'a mut Room) -> Outcomes<'a>
+    fn skip<'a>(
+        &self,
+        at: Word,
+        word: Word,
+        known: &AbstractState<'a>,
+        room: &'a mut Scratch,
+    ) -> Outcomes<'a>
         requires room { length known.now.equations.now ≤ 32 }
-        ensures { (f : said.Fact) → Agree (known_of known.now) f →
-            AgreeingOutcomes (slots result.all) (outcomes_of (place_of self.now) f at (Group2 word)) }
+        ensures { (f : said.Fact) → Agree (fact_of_state known.now) f →
+            AgreeingSuccessors (slots result.all) (outcomes_of (place_of self.now) f at (Group2 word)) }
     {
         if halts(word) && self.declaration.is_stop(at) {
             return nowhere();
@@ -175,13 +192,13 @@ impl<A: Allocator> Place<'_, A> {
         &self,
         at: Word,
         word: Word,
-        known: &Known<'a>,
-        room: &'a mut Room,
+        known: &AbstractState<'a>,
+        room: &'a mut Scratch,
     ) -> Outcomes<'a>
         requires kind { kind_of (meaning_of (place_of self.now).declaration.profile at word) ≡ Iot }
         requires room { length known.now.equations.now ≤ 32 }
-        ensures { (f : said.Fact) → Agree (known_of known.now) f →
-            AgreeingOutcomes (slots result.all) (outcomes_at (place_of self.now) f at word) }
+        ensures { (f : said.Fact) → Agree (fact_of_state known.now) f →
+            AgreeingSuccessors (slots result.all) (outcomes_at (place_of self.now) f at word) }
     {
         match DeviceOperation::of(word, self.declaration.profile()) {
             Some(operation) => two(transfer(at, operation, known, &mut room.one, &mut room.two)),
@@ -200,12 +217,12 @@ pub fn outcomes<'a, A: Allocator>(
     at: Word,
     word: Word,
     place: &Place<'_, A>,
-    room: &'a mut Room,
+    room: &'a mut Scratch,
 ) -> Outcomes<'a>
-    ensures { AgreeingOutcomes (slots result.all)
+    ensures { AgreeingSuccessors (slots result.all)
         (outcomes_at (place_of place.now) (meaning fact.now) at word) }
 {
-    let known = Known::of(fact);
+    let known = AbstractState::of(fact);
     match decode(word, place.declaration.profile()) {
         Instruction::Memory => return place.refer(at, word, &known, room),
         Instruction::Operate1 => return one(operate(at, word, &known, &mut room.one)),

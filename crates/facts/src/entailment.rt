@@ -12,7 +12,7 @@ ghost use Rattle.facts.specs.Places.{main_of};
 ghost use Rattle.facts.specs.Showing.{MayStart, AreCells, allows_all};
 
 use crate::equations::Equations;
-use crate::known::Known;
+use crate::state::AbstractState;
 use arrayvec::ArrayVec;
 use bin_tape::Image;
 use declaration::Declaration;
@@ -27,7 +27,7 @@ use wordset::WordSet;
 pub fn narrowed(fact: &Fact, name: &Name) -> WordSet
     ensures { SameWords (words result) (narrowed (meaning fact.now) (name_of name.now)) }
 {
-    Known::of(fact).narrowed(name)
+    AbstractState::of(fact).narrowed(name)
 }
 
 /// Whether a fact entails another: what the one leaves possible the other allows.
@@ -35,7 +35,7 @@ pub fn entails(a: &Fact, b: &Fact) -> bool
     ensures { IsTrue result ↔
         (Entails (meaning a.now) (meaning b.now) × EntailsOffsets (meaning a.now) (meaning b.now)) }
 {
-    Known::of(a).entails(b)
+    AbstractState::of(a).entails(b)
 }
 
 /// Whether what a caller's fact and an exit's say after a call entails a fact: the exit's of the
@@ -64,7 +64,7 @@ fn returned_entails<'a>(
         (meaning after.now) ×
         EntailsOffsets (meaning call.now) (meaning after.now)) }
 {
-    Known::returned(call, exit, written, list).entails(after)
+    AbstractState::returned(call, exit, written, list).entails(after)
 }
 
 /// Whether a fact holds of every start of a declared tape, with no call open: whatever the

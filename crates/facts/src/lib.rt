@@ -12,24 +12,24 @@ mod conditions;
 mod dispatch;
 mod entailment;
 mod equations;
-mod known;
 mod lent;
-mod outcome;
 mod place;
 mod references;
 mod registers;
-mod room;
+mod scratch;
 mod skipping;
+mod state;
+mod successor;
 
 pub use asked::post;
 pub use conditions::{reads, writes};
 pub use dispatch::outcomes;
-pub use domain::{Equation, Fact, Name, Offsets, TrackedCell, TrackedCells};
+pub use domain::{CountedOffsets, Equation, Fact, Name, TrackedCell, TrackedCells};
 pub use entailment::{entails, entails_return, holds_before, is_always, narrowed};
-pub use known::Known;
-pub use outcome::{Outcome, Outcomes};
-pub use place::{Place, Running};
-pub use room::Room;
+pub use place::{Context, Place};
+pub use scratch::Scratch;
+pub use state::AbstractState;
+pub use successor::{Outcomes, Successor};
 
 /// The conditions that a certificate must meet.
 #[derive(Clone, Copy, PartialEq, Eq, Debug)]

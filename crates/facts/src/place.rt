@@ -5,12 +5,12 @@ ghost use Rattle.wordset.specs.Words.{SameWords, only, shifted};
 ghost use Rattle.wordset.specs.Lanes.{words};
 ghost use Rattle.domain.specs.Facts.{is_routine, own_words, words_in, tape_word};
 ghost use Rattle.facts.specs.Outcomes.{words_at};
-ghost use Rattle.facts.specs.Knowing.{known_of};
+ghost use Rattle.facts.specs.Knowing.{fact_of_state};
 ghost use Rattle.facts.specs.Places.{place_of};
 
 use crate::entailment::word_of;
-use crate::known::Known;
 use crate::lent::{put_all, put_one, put_set};
+use crate::state::AbstractState;
 use bin_tape::Image;
 use declaration::Declaration;
 use domain::Name;
@@ -20,7 +20,7 @@ use wordset::WordSet;
 
 /// The routine whose body has a fact's address.
 #[derive(Clone, Copy)]
-pub struct Running<'a> {
+pub struct Context<'a> {
     /// Its entry.
     pub entry: Word,
     /// The addresses of the JMS words from which it may be called.
@@ -39,7 +39,7 @@ pub struct Place<'a, A: Allocator> {
     /// The program's declaration.
     pub declaration: &'a Declaration<A>,
     /// The routine whose body has the address, or main.
-    pub routine: Option<Running<'a>>,
+    pub routine: Option<Context<'a>>,
 }
 
 /// The tape's word, or all words where the tape has none, in a place for them.
@@ -92,9 +92,9 @@ impl<A: Allocator> Place<'_, A> {
 
     /// The words that the running routine's entry may hold, in a place for them: a site, one more, and
     /// an offset.
-    fn own_words<'b>(&self, known: &Known<'_>, place: &'b mut WordSet) -> &'b WordSet
+    fn own_words<'b>(&self, known: &AbstractState<'_>, place: &'b mut WordSet) -> &'b WordSet
         ensures { SameWords (words result.now) (own_words (place_of self.now).sites
-            (known_of known.now)) }
+            (fact_of_state known.now)) }
     {
         let sites = self.sites();
         let offsets = known.offsets();
@@ -109,11 +109,11 @@ impl<A: Allocator> Place<'_, A> {
     /// routine's own return words, any word in another entry, else the tape's word.
     pub(crate) fn words_in<'b>(
         &self,
-        known: &Known<'_>,
+        known: &AbstractState<'_>,
         cell: Word,
         place: &'b mut WordSet,
     ) -> &'b WordSet
-        ensures { SameWords (words result.now) (words_in (place_of self.now) (known_of known.now)
+        ensures { SameWords (words result.now) (words_in (place_of self.now) (fact_of_state known.now)
             cell) }
     {
         if self.declaration.is_variable(cell) {
@@ -132,14 +132,14 @@ impl<A: Allocator> Place<'_, A> {
     /// place for them.
     pub(crate) fn words_at<'b>(
         &self,
-        known: &Known<'_>,
+        known: &AbstractState<'_>,
         cells: &WordSet,
         single: &Option<Word>,
         place: &'b mut WordSet,
     ) -> &'b WordSet
         requires { single.now ≡ only (words cells.now) }
         ensures { SameWords (words result.now)
-            (words_at (place_of self.now) (known_of known.now) (words cells.now)) }
+            (words_at (place_of self.now) (fact_of_state known.now) (words cells.now)) }
     {
         match single {
             Some(cell) => self.words_in(known, *cell, place),
@@ -151,12 +151,12 @@ impl<A: Allocator> Place<'_, A> {
     #[inline(never)]
     fn words_at_each<'b>(
         &self,
-        known: &Known<'_>,
+        known: &AbstractState<'_>,
         cells: &WordSet,
         place: &'b mut WordSet,
     ) -> &'b WordSet
         ensures { SameWords (words result.now)
-            (words_at (place_of self.now) (known_of known.now) (words cells.now)) }
+            (words_at (place_of self.now) (fact_of_state known.now) (words cells.now)) }
     {
         let mut one = WordSet::all();
         let mut set = WordSet::empty();

@@ -8,19 +8,19 @@ ghost use Rattle.domain.specs.Facts as said;
 ghost use Rattle.domain.specs.Facts.{Ac, Cell, narrowed, is_routine};
 ghost use Rattle.facts.specs.Outcomes.{targets, alive, given, anded, tad_word, tad_case, tad, dca_case, isz_case, jmp, CallsTo};
 ghost use Rattle.domain.specs.Same.{Agree};
-ghost use Rattle.facts.specs.Agreeing.{AgreeingOutcomes};
-ghost use Rattle.facts.specs.Knowing.{known_of, IsUnchanged};
+ghost use Rattle.facts.specs.Agreeing.{AgreeingSuccessors};
+ghost use Rattle.facts.specs.Knowing.{fact_of_state, IsUnchanged};
 ghost use Rattle.facts.specs.Places.{place_of};
 ghost use Rattle.facts.specs.Slots.{slot};
 
 use crate::equations::{Equations, has_cell};
-use crate::known::Known;
 use crate::lent::{put_all, put_ands, put_counted, put_one, put_sums};
-use crate::outcome::{
-    Outcome, address_after, address_skipped_to, calling, going, going_if, returning,
-};
 use crate::place::Place;
-use crate::room::Way;
+use crate::scratch::SuccessorScratch;
+use crate::state::AbstractState;
+use crate::successor::{
+    Successor, address_after, address_skipped_to, calling, going, going_if, returning,
+};
 use domain::Name;
 use processor::is_auto_index;
 use std::alloc::Allocator;
@@ -39,19 +39,19 @@ pub(crate) fn steps_pointer(indirect: bool, named: Word) -> bool
 #[inline(never)]
 pub(crate) fn deposit<'a>(
     at: Word,
-    known: &Known<'a>,
+    known: &AbstractState<'a>,
     targets: &'a WordSet,
     single: &Option<Word>,
-    way: &'a mut Way,
-) -> Option<Outcome<'a>>
+    way: &'a mut SuccessorScratch,
+) -> Option<Successor<'a>>
     requires single { single.now ≡ only (words targets.now) }
     requires target { IsUnchanged known.now.target }
     requires room { length known.now.equations.now ≤ 32 }
-    ensures { (place : said.Place) (f : said.Fact) (p : Words) → Agree (known_of known.now) f →
+    ensures { (place : said.Place) (f : said.Fact) (p : Words) → Agree (fact_of_state known.now) f →
         SameWords (words targets.now) p →
-        AgreeingOutcomes (slot result) (dca_case place at f p (only p)) }
+        AgreeingSuccessors (slot result) (dca_case place at f p (only p)) }
 {
-    let Way {
+    let SuccessorScratch {
         all,
         held,
         ac,
@@ -80,20 +80,20 @@ pub(crate) fn deposit<'a>(
 #[inline(never)]
 pub(crate) fn count_one<'a>(
     at: Word,
-    known: &Known<'a>,
+    known: &AbstractState<'a>,
     targets: &WordSet,
     cell: Word,
-    way: &'a mut Way,
-    other: &'a mut Way,
-) -> (Option<Outcome<'a>>, Option<Outcome<'a>>)
+    way: &'a mut SuccessorScratch,
+    other: &'a mut SuccessorScratch,
+) -> (Option<Successor<'a>>, Option<Successor<'a>>)
     requires target { IsUnchanged known.now.target }
     requires room { length known.now.equations.now ≤ 32 }
     ensures { (place : said.Place) (f : said.Fact) (p : Words) → place.declaration.variable cell ≡
         true →
-        Agree (known_of known.now) f → SameWords (words targets.now) p →
-        AgreeingOutcomes (slot result.0 ++ slot result.1) (isz_case place at f p (Some cell)) }
+        Agree (fact_of_state known.now) f → SameWords (words targets.now) p →
+        AgreeingSuccessors (slot result.0 ++ slot result.1) (isz_case place at f p (Some cell)) }
 {
-    let Way {
+    let SuccessorScratch {
         held,
         read,
         changed,
@@ -112,7 +112,7 @@ pub(crate) fn count_one<'a>(
         address_skipped_to(at, next),
         known.counted_to(cell, zero, first),
     );
-    let Way {
+    let SuccessorScratch {
         changed,
         next,
         first,
@@ -133,17 +133,17 @@ pub(crate) fn count_one<'a>(
 #[inline(never)]
 pub(crate) fn count_own<'a>(
     at: Word,
-    known: &Known<'a>,
+    known: &AbstractState<'a>,
     targets: &WordSet,
     cell: Word,
-    way: &'a mut Way,
-) -> Option<Outcome<'a>>
+    way: &'a mut SuccessorScratch,
+) -> Option<Successor<'a>>
     ensures { (place : said.Place) (f : said.Fact) (p : Words) → place.declaration.variable cell ≡
         false →
-        Agree (known_of known.now) f → SameWords (words targets.now) p →
-        AgreeingOutcomes (slot result) (isz_case place at f p (Some cell)) }
+        Agree (fact_of_state known.now) f → SameWords (words targets.now) p →
+        AgreeingSuccessors (slot result) (isz_case place at f p (Some cell)) }
 {
-    let Way {
+    let SuccessorScratch {
         all,
         held,
         next,
@@ -159,8 +159,8 @@ pub(crate) fn count_own<'a>(
 }
 
 /// Whether a cell may hold 7777.
-fn may_wrap(known: &Known<'_>, cell: Word) -> bool
-    ensures { result ≡ narrowed (known_of known.now) (Cell cell) 4095 }
+fn may_wrap(known: &AbstractState<'_>, cell: Word) -> bool
+    ensures { result ≡ narrowed (fact_of_state known.now) (Cell cell) 4095 }
 {
     known
         .narrowed(&Name::Cell(cell))
@@ -168,8 +168,8 @@ fn may_wrap(known: &Known<'_>, cell: Word) -> bool
 }
 
 /// Whether a cell may hold another word than 7777.
-fn may_stay(known: &Known<'_>, cell: Word) -> bool
-    ensures { result ≡ has_some (without 4095 (narrowed (known_of known.now) (Cell cell))) }
+fn may_stay(known: &AbstractState<'_>, cell: Word) -> bool
+    ensures { result ≡ has_some (without 4095 (narrowed (fact_of_state known.now) (Cell cell))) }
 {
     let mut rest = known.narrowed(&Name::Cell(cell));
     rest.remove(Word::ZERO.complement());
@@ -177,9 +177,9 @@ fn may_stay(known: &Known<'_>, cell: Word) -> bool
 }
 
 /// Whether some of the cells may hold 7777.
-fn may_some_wrap(known: &Known<'_>, cells: &WordSet) -> bool
+fn may_some_wrap(known: &AbstractState<'_>, cells: &WordSet) -> bool
     ensures { result ≡ some_below 4096 (λ y. words cells.now y &&
-        narrowed (known_of known.now) (Cell y) 4095) }
+        narrowed (fact_of_state known.now) (Cell y) 4095) }
 {
     let mut next = 0usize;
     while let Some(cell) = cells.first_from(next) {
@@ -192,10 +192,10 @@ fn may_some_wrap(known: &Known<'_>, cells: &WordSet) -> bool
 }
 
 /// Whether some of the cells may hold another word than 7777.
-fn may_some_stay(known: &Known<'_>, cells: &WordSet) -> bool
+fn may_some_stay(known: &AbstractState<'_>, cells: &WordSet) -> bool
     ensures { result ≡ some_below 4096
         (λ y. words cells.now y && has_some (without 4095
-        (narrowed (known_of known.now) (Cell y)))) }
+        (narrowed (fact_of_state known.now) (Cell y)))) }
 {
     let mut next = 0usize;
     while let Some(cell) = cells.first_from(next) {
@@ -211,18 +211,18 @@ fn may_some_stay(known: &Known<'_>, cells: &WordSet) -> bool
 #[inline(never)]
 pub(crate) fn count_several<'a>(
     at: Word,
-    known: &Known<'a>,
+    known: &AbstractState<'a>,
     targets: &'a WordSet,
-    way: &'a mut Way,
-    other: &'a mut Way,
-) -> (Option<Outcome<'a>>, Option<Outcome<'a>>)
+    way: &'a mut SuccessorScratch,
+    other: &'a mut SuccessorScratch,
+) -> (Option<Successor<'a>>, Option<Successor<'a>>)
     requires target { IsUnchanged known.now.target }
     requires room { length known.now.equations.now ≤ 32 }
-    ensures { (place : said.Place) (f : said.Fact) (p : Words) → Agree (known_of known.now) f →
+    ensures { (place : said.Place) (f : said.Fact) (p : Words) → Agree (fact_of_state known.now) f →
         SameWords (words targets.now) p →
-        AgreeingOutcomes (slot result.0 ++ slot result.1) (isz_case place at f p None) }
+        AgreeingSuccessors (slot result.0 ++ slot result.1) (isz_case place at f p None) }
 {
-    let Way {
+    let SuccessorScratch {
         all,
         held,
         next,
@@ -241,7 +241,7 @@ pub(crate) fn count_several<'a>(
         address_skipped_to(at, next),
         known.counted(targets, first),
     );
-    let Way { next, first, .. } = other;
+    let SuccessorScratch { next, first, .. } = other;
     let goes_on = going_if(
         stays,
         targets,
@@ -256,15 +256,15 @@ pub(crate) fn count_several<'a>(
 /// What is known after a sum: with one word added the accumulator's equations move by it, and
 /// otherwise they are dropped.
 fn after_sum<'a>(
-    known: &Known<'a>,
+    known: &AbstractState<'a>,
     added: &Option<Word>,
     set: &'a WordSet,
     list: &'a mut Equations,
-) -> Known<'a>
+) -> AbstractState<'a>
     requires room { length known.now.equations.now ≤ 32 }
-    ensures { (f : said.Fact) (v : Words) → Agree (known_of known.now) f →
+    ensures { (f : said.Fact) (v : Words) → Agree (fact_of_state known.now) f →
         SameWords (words set.now) (sums (narrowed f Ac) v) →
-        Agree (known_of result) (tad_word f v added.now) }
+        Agree (fact_of_state result) (tad_word f v added.now) }
 {
     match added {
         Some(word) => return known.raised_to(*word, set, list),
@@ -275,15 +275,15 @@ fn after_sum<'a>(
 /// JMS calls each target.
 #[inline(never)]
 pub(crate) fn call<'a>(
-    known: &Known<'a>,
+    known: &AbstractState<'a>,
     targets: &'a WordSet,
-    way: &'a mut Way,
-) -> Option<Outcome<'a>>
-    ensures { (f : said.Fact) (p : Words) → Agree (known_of known.now) f →
+    way: &'a mut SuccessorScratch,
+) -> Option<Successor<'a>>
+    ensures { (f : said.Fact) (p : Words) → Agree (fact_of_state known.now) f →
         SameWords (words targets.now) p →
-        AgreeingOutcomes (slot result) (given (alive p f everything f) (CallsTo p f)) }
+        AgreeingSuccessors (slot result) (given (alive p f everything f) (CallsTo p f)) }
 {
-    let Way { all, held, .. } = way;
+    let SuccessorScratch { all, held, .. } = way;
     let held = known.left_in(&Name::Accumulator, held);
     calling(targets, held, put_all(all), known.same())
 }
@@ -296,12 +296,12 @@ impl<A: Allocator> Place<'_, A> {
         &self,
         indirect: bool,
         named: Word,
-        known: &Known<'_>,
+        known: &AbstractState<'_>,
         place: &'b mut WordSet,
     ) -> &'b WordSet
         requires pointer { IsUnchanged known.now.pointer }
         requires target { IsUnchanged known.now.target }
-        ensures { (f : said.Fact) → Agree (known_of known.now) f →
+        ensures { (f : said.Fact) → Agree (fact_of_state known.now) f →
             SameWords (words result.now) (targets (place_of self.now) indirect named f) }
     {
         if steps_pointer(indirect, named) {
@@ -318,18 +318,18 @@ impl<A: Allocator> Place<'_, A> {
     pub(crate) fn combine<'a>(
         &self,
         at: Word,
-        known: &Known<'a>,
+        known: &AbstractState<'a>,
         targets: &WordSet,
         single: &Option<Word>,
-        way: &'a mut Way,
-    ) -> Option<Outcome<'a>>
+        way: &'a mut SuccessorScratch,
+    ) -> Option<Successor<'a>>
         requires single { single.now ≡ only (words targets.now) }
         requires room { length known.now.equations.now ≤ 32 }
-        ensures { (f : said.Fact) (p : Words) → Agree (known_of known.now) f →
+        ensures { (f : said.Fact) (p : Words) → Agree (fact_of_state known.now) f →
             SameWords (words targets.now) p →
-            AgreeingOutcomes (slot result) (anded (place_of self.now) at f p) }
+            AgreeingSuccessors (slot result) (anded (place_of self.now) at f p) }
     {
-        let Way {
+        let SuccessorScratch {
             all,
             held,
             read,
@@ -354,17 +354,17 @@ impl<A: Allocator> Place<'_, A> {
     #[inline(never)]
     fn after_tad<'a>(
         &self,
-        known: &Known<'a>,
+        known: &AbstractState<'a>,
         target: &Option<Word>,
         ac: &Option<Word>,
         added: &Option<Word>,
         set: &'a WordSet,
         list: &'a mut Equations,
-    ) -> Known<'a>
+    ) -> AbstractState<'a>
         requires room { length known.now.equations.now ≤ 32 }
-        ensures { (f : said.Fact) (v : Words) → Agree (known_of known.now) f →
+        ensures { (f : said.Fact) (v : Words) → Agree (fact_of_state known.now) f →
             SameWords (words set.now) (sums (narrowed f Ac) v) →
-            Agree (known_of result) (tad_case (place_of self.now) f v target.now ac.now added.now) }
+            Agree (fact_of_state result) (tad_case (place_of self.now) f v target.now ac.now added.now) }
     {
         if let Some(cell) = target {
             if let Some(word) = ac {
@@ -381,18 +381,18 @@ impl<A: Allocator> Place<'_, A> {
     pub(crate) fn add<'a>(
         &self,
         at: Word,
-        known: &Known<'a>,
+        known: &AbstractState<'a>,
         targets: &WordSet,
         single: &Option<Word>,
-        way: &'a mut Way,
-    ) -> Option<Outcome<'a>>
+        way: &'a mut SuccessorScratch,
+    ) -> Option<Successor<'a>>
         requires single { single.now ≡ only (words targets.now) }
         requires room { length known.now.equations.now ≤ 32 }
-        ensures { (f : said.Fact) (p : Words) → Agree (known_of known.now) f →
+        ensures { (f : said.Fact) (p : Words) → Agree (fact_of_state known.now) f →
             SameWords (words targets.now) p →
-            AgreeingOutcomes (slot result) (tad (place_of self.now) at f p) }
+            AgreeingSuccessors (slot result) (tad (place_of self.now) at f p) }
     {
-        let Way {
+        let SuccessorScratch {
             all,
             held,
             read,
@@ -428,15 +428,15 @@ impl<A: Allocator> Place<'_, A> {
         &self,
         indirect: bool,
         named: Word,
-        known: &Known<'a>,
+        known: &AbstractState<'a>,
         targets: &'a WordSet,
-        way: &'a mut Way,
-    ) -> Option<Outcome<'a>>
-        ensures { (f : said.Fact) (p : Words) → Agree (known_of known.now) f →
+        way: &'a mut SuccessorScratch,
+    ) -> Option<Successor<'a>>
+        ensures { (f : said.Fact) (p : Words) → Agree (fact_of_state known.now) f →
             SameWords (words targets.now) p →
-            AgreeingOutcomes (slot result) (jmp (place_of self.now) indirect named f p) }
+            AgreeingSuccessors (slot result) (jmp (place_of self.now) indirect named f p) }
     {
-        let Way { all, held, .. } = way;
+        let SuccessorScratch { all, held, .. } = way;
         let held = known.left_in(&Name::Accumulator, held);
         let all = put_all(all);
         if self.is_returning(indirect, named) {
@@ -449,18 +449,18 @@ impl<A: Allocator> Place<'_, A> {
     pub(crate) fn count<'a>(
         &self,
         at: Word,
-        known: &Known<'a>,
+        known: &AbstractState<'a>,
         targets: &'a WordSet,
         single: &Option<Word>,
-        way: &'a mut Way,
-        other: &'a mut Way,
-    ) -> (Option<Outcome<'a>>, Option<Outcome<'a>>)
+        way: &'a mut SuccessorScratch,
+        other: &'a mut SuccessorScratch,
+    ) -> (Option<Successor<'a>>, Option<Successor<'a>>)
         requires single { single.now ≡ only (words targets.now) }
         requires target { IsUnchanged known.now.target }
         requires room { length known.now.equations.now ≤ 32 }
-        ensures { (f : said.Fact) (p : Words) → Agree (known_of known.now) f →
+        ensures { (f : said.Fact) (p : Words) → Agree (fact_of_state known.now) f →
             SameWords (words targets.now) p →
-            AgreeingOutcomes (slot result.0 ++ slot result.1)
+            AgreeingSuccessors (slot result.0 ++ slot result.1)
             (isz_case (place_of self.now) at f p (only p)) }
     {
         match single {

@@ -10,18 +10,18 @@ ghost use Rattle.instruct.specs.Operates.{MqOperate, mq_operate_of};
 ghost use Rattle.instruct.specs.Instructions.{instruction_of, processor_action, Skips, Ors, Clears, Takes, Leaves};
 ghost use Rattle.domain.specs.Facts as said;
 ghost use Rattle.domain.specs.Facts.{Ac, narrowed};
-ghost use Rattle.domain.specs.Changes.{assigned, with_mq, with_name};
+ghost use Rattle.domain.specs.Changes.{strongly_updated, with_mq, with_name};
 ghost use Rattle.facts.specs.Outcomes.{goes, changes_ac, related1, operated1, operated3, device_outcomes};
 ghost use Rattle.domain.specs.Same.{Agree};
-ghost use Rattle.facts.specs.Agreeing.{AgreeingOutcomes};
-ghost use Rattle.facts.specs.Knowing.{known_of};
+ghost use Rattle.facts.specs.Agreeing.{AgreeingSuccessors};
+ghost use Rattle.facts.specs.Knowing.{fact_of_state};
 ghost use Rattle.facts.specs.Slots.{slot};
 
 use crate::equations::Equations;
-use crate::known::Known;
 use crate::lent::{put_all, put_any, put_images, put_one, put_set};
-use crate::outcome::{Outcome, address_after, address_skipped_to, going};
-use crate::room::Way;
+use crate::scratch::SuccessorScratch;
+use crate::state::AbstractState;
+use crate::successor::{Successor, address_after, address_skipped_to, going};
 use domain::Name;
 use instruct::DeviceOperation;
 use word12::Word;
@@ -31,13 +31,13 @@ use wordset::WordSet;
 pub(crate) fn go_on<'a>(
     at: Word,
     held: &WordSet,
-    after: Known<'a>,
+    after: AbstractState<'a>,
     all: &mut WordSet,
     next: &'a mut WordSet,
-) -> Option<Outcome<'a>>
+) -> Option<Successor<'a>>
     ensures { (f h : said.Fact) → SameWords (words held.now) (narrowed f Ac) →
-        Agree (known_of after.entry) h →
-        AgreeingOutcomes (slot result) (goes everything f everything (one (plus at 1)) h) }
+        Agree (fact_of_state after.entry) h →
+        AgreeingSuccessors (slot result) (goes everything f everything (one (plus at 1)) h) }
 {
     let all = put_all(all);
     going(all, held, all, address_after(at, next), after)
@@ -67,14 +67,14 @@ fn increments(word: Word) -> bool
 /// alone its equations move by one.
 fn related<'a>(
     word: Word,
-    known: &Known<'a>,
+    known: &AbstractState<'a>,
     set: &'a WordSet,
     list: &'a mut Equations,
-) -> Known<'a>
+) -> AbstractState<'a>
     requires room { length known.now.equations.now ≤ 32 }
-    ensures { (f : said.Fact) (s : Words) → Agree (known_of known.now) f →
+    ensures { (f : said.Fact) (s : Words) → Agree (fact_of_state known.now) f →
         SameWords (words set.now) s →
-        Agree (known_of result) (with_name Ac s (related1 word f)) }
+        Agree (fact_of_state result) (with_name Ac s (related1 word f)) }
 {
     if changes_accumulator(word) {
         return known.with_ac(set, list);
@@ -90,16 +90,16 @@ fn related<'a>(
 pub(crate) fn operate<'a>(
     at: Word,
     word: Word,
-    known: &Known<'a>,
-    way: &'a mut Way,
-) -> Option<Outcome<'a>>
+    known: &AbstractState<'a>,
+    way: &'a mut SuccessorScratch,
+) -> Option<Successor<'a>>
     requires word { instruction_of Pdp8E word ≡ Operate1 }
     requires room { length known.now.equations.now ≤ 32 }
-    ensures { (f : said.Fact) → Agree (known_of known.now) f →
-        AgreeingOutcomes (slot result) (goes everything f everything (one (plus at 1))
+    ensures { (f : said.Fact) → Agree (fact_of_state known.now) f →
+        AgreeingSuccessors (slot result) (goes everything f everything (one (plus at 1))
         (operated1 word f)) }
 {
-    let Way {
+    let SuccessorScratch {
         all,
         held,
         ac,
@@ -116,14 +116,14 @@ pub(crate) fn operate<'a>(
 /// A flag test: the flag may be set or not.
 pub(crate) fn test_flag<'a>(
     at: Word,
-    known: &Known<'a>,
-    way: &'a mut Way,
-    other: &'a mut Way,
-) -> (Option<Outcome<'a>>, Option<Outcome<'a>>)
-    ensures { (f : said.Fact) → Agree (known_of known.now) f →
-        AgreeingOutcomes (slot result.0 ++ slot result.1) (device_outcomes at f Skips) }
+    known: &AbstractState<'a>,
+    way: &'a mut SuccessorScratch,
+    other: &'a mut SuccessorScratch,
+) -> (Option<Successor<'a>>, Option<Successor<'a>>)
+    ensures { (f : said.Fact) → Agree (fact_of_state known.now) f →
+        AgreeingSuccessors (slot result.0 ++ slot result.1) (device_outcomes at f Skips) }
 {
-    let Way {
+    let SuccessorScratch {
         all,
         held,
         next,
@@ -143,12 +143,16 @@ pub(crate) fn test_flag<'a>(
 }
 
 /// A device's byte, which may be any, is or'd into the accumulator.
-pub(crate) fn or_byte<'a>(at: Word, known: &Known<'a>, way: &'a mut Way) -> Option<Outcome<'a>>
+pub(crate) fn or_byte<'a>(
+    at: Word,
+    known: &AbstractState<'a>,
+    way: &'a mut SuccessorScratch,
+) -> Option<Successor<'a>>
     requires room { length known.now.equations.now ≤ 32 }
-    ensures { (f : said.Fact) → Agree (known_of known.now) f →
-        AgreeingOutcomes (slot result) (device_outcomes at f Ors) }
+    ensures { (f : said.Fact) → Agree (fact_of_state known.now) f →
+        AgreeingSuccessors (slot result) (device_outcomes at f Ors) }
 {
-    let Way {
+    let SuccessorScratch {
         all,
         held,
         ac,
@@ -163,12 +167,16 @@ pub(crate) fn or_byte<'a>(at: Word, known: &Known<'a>, way: &'a mut Way) -> Opti
 }
 
 /// The accumulator is cleared.
-pub(crate) fn clear<'a>(at: Word, known: &Known<'a>, way: &'a mut Way) -> Option<Outcome<'a>>
+pub(crate) fn clear<'a>(
+    at: Word,
+    known: &AbstractState<'a>,
+    way: &'a mut SuccessorScratch,
+) -> Option<Successor<'a>>
     requires room { length known.now.equations.now ≤ 32 }
-    ensures { (f : said.Fact) → Agree (known_of known.now) f →
-        AgreeingOutcomes (slot result) (device_outcomes at f Clears) }
+    ensures { (f : said.Fact) → Agree (fact_of_state known.now) f →
+        AgreeingSuccessors (slot result) (device_outcomes at f Clears) }
 {
-    let Way {
+    let SuccessorScratch {
         all,
         held,
         ac,
@@ -182,12 +190,16 @@ pub(crate) fn clear<'a>(at: Word, known: &Known<'a>, way: &'a mut Way) -> Option
 }
 
 /// A device's byte, which may be any, is taken into the accumulator.
-pub(crate) fn take_byte<'a>(at: Word, known: &Known<'a>, way: &'a mut Way) -> Option<Outcome<'a>>
+pub(crate) fn take_byte<'a>(
+    at: Word,
+    known: &AbstractState<'a>,
+    way: &'a mut SuccessorScratch,
+) -> Option<Successor<'a>>
     requires room { length known.now.equations.now ≤ 32 }
-    ensures { (f : said.Fact) → Agree (known_of known.now) f →
-        AgreeingOutcomes (slot result) (device_outcomes at f Takes) }
+    ensures { (f : said.Fact) → Agree (fact_of_state known.now) f →
+        AgreeingSuccessors (slot result) (device_outcomes at f Takes) }
 {
-    let Way {
+    let SuccessorScratch {
         all,
         held,
         ac,
@@ -202,11 +214,15 @@ pub(crate) fn take_byte<'a>(at: Word, known: &Known<'a>, way: &'a mut Way) -> Op
 }
 
 /// Nothing changes.
-pub(crate) fn leave<'a>(at: Word, known: &Known<'a>, way: &'a mut Way) -> Option<Outcome<'a>>
-    ensures { (f : said.Fact) → Agree (known_of known.now) f →
-        AgreeingOutcomes (slot result) (device_outcomes at f Leaves) }
+pub(crate) fn leave<'a>(
+    at: Word,
+    known: &AbstractState<'a>,
+    way: &'a mut SuccessorScratch,
+) -> Option<Successor<'a>>
+    ensures { (f : said.Fact) → Agree (fact_of_state known.now) f →
+        AgreeingSuccessors (slot result) (device_outcomes at f Leaves) }
 {
-    let Way {
+    let SuccessorScratch {
         all,
         held,
         next,
@@ -220,18 +236,18 @@ pub(crate) fn leave<'a>(at: Word, known: &Known<'a>, way: &'a mut Way) -> Option
 #[inline(never)]
 fn take<'a>(
     at: Word,
-    known: &Known<'a>,
+    known: &AbstractState<'a>,
     set: &WordSet,
     mq: &WordSet,
-    way: &'a mut Way,
-) -> Option<Outcome<'a>>
+    way: &'a mut SuccessorScratch,
+) -> Option<Successor<'a>>
     requires room { length known.now.equations.now ≤ 32 }
-    ensures { (f : said.Fact) (s t : Words) → Agree (known_of known.now) f →
+    ensures { (f : said.Fact) (s t : Words) → Agree (fact_of_state known.now) f →
         SameWords (words set.now) s → SameWords (words mq.now) t →
-        AgreeingOutcomes (slot result) (goes everything f everything (one (plus at 1))
-        (with_mq t (assigned Ac s f))) }
+        AgreeingSuccessors (slot result) (goes everything f everything (one (plus at 1))
+        (with_mq t (strongly_updated Ac s f))) }
 {
-    let Way {
+    let SuccessorScratch {
         all,
         held,
         ac,
@@ -252,13 +268,13 @@ fn take<'a>(
 pub(crate) fn exchange<'a>(
     at: Word,
     word: Word,
-    known: &Known<'a>,
-    way: &'a mut Way,
-) -> Option<Outcome<'a>>
+    known: &AbstractState<'a>,
+    way: &'a mut SuccessorScratch,
+) -> Option<Successor<'a>>
     requires room { length known.now.equations.now ≤ 32 }
     ensures { (o : MqOperate) (f : said.Fact) → mq_operate_of word ≡ Some o →
-        Agree (known_of known.now) f →
-        AgreeingOutcomes (slot result) (goes everything f everything (one (plus at 1))
+        Agree (fact_of_state known.now) f →
+        AgreeingSuccessors (slot result) (goes everything f everything (one (plus at 1))
         (operated3 o f)) }
 {
     let ac = known.narrowed(&Name::Accumulator);
@@ -280,13 +296,13 @@ pub(crate) fn exchange<'a>(
 pub(crate) fn transfer<'a>(
     at: Word,
     operation: DeviceOperation,
-    known: &Known<'a>,
-    way: &'a mut Way,
-    other: &'a mut Way,
-) -> (Option<Outcome<'a>>, Option<Outcome<'a>>)
+    known: &AbstractState<'a>,
+    way: &'a mut SuccessorScratch,
+    other: &'a mut SuccessorScratch,
+) -> (Option<Successor<'a>>, Option<Successor<'a>>)
     requires room { length known.now.equations.now ≤ 32 }
-    ensures { (f : said.Fact) → Agree (known_of known.now) f →
-        AgreeingOutcomes (slot result.0 ++ slot result.1)
+    ensures { (f : said.Fact) → Agree (fact_of_state known.now) f →
+        AgreeingSuccessors (slot result.0 ++ slot result.1)
         (device_outcomes at f (processor_action operation)) }
 {
     match operation {

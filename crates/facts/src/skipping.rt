@@ -9,16 +9,16 @@ ghost use Rattle.processor.specs.Machine.{next_pc};
 ghost use Rattle.domain.specs.Facts as said;
 ghost use Rattle.facts.specs.Outcomes.{related2, operated2};
 ghost use Rattle.domain.specs.Same.{Agree};
-ghost use Rattle.facts.specs.Agreeing.{AgreeingOutcomes};
-ghost use Rattle.facts.specs.Knowing.{known_of};
+ghost use Rattle.facts.specs.Agreeing.{AgreeingSuccessors};
+ghost use Rattle.facts.specs.Knowing.{fact_of_state};
 ghost use Rattle.facts.specs.Slots.{slot};
 
 use crate::equations::Equations;
-use crate::known::Known;
 use crate::lent::{put_all, put_one, put_set};
-use crate::outcome::{Outcome, address_after, address_skipped_to, going_if};
 use crate::place::union_if;
-use crate::room::Way;
+use crate::scratch::SuccessorScratch;
+use crate::state::AbstractState;
+use crate::successor::{Successor, address_after, address_skipped_to, going_if};
 use domain::Name;
 use word12::{Link, Word};
 use wordset::{Links, WordSet};
@@ -134,15 +134,15 @@ fn put_switched<'b>(word: Word, part: &WordSet, place: &'b mut WordSet) -> &'b W
 /// What is known after the test: CLA, then OSR, by which any bits may come in.
 fn after_test<'a>(
     word: Word,
-    known: &Known<'a>,
+    known: &AbstractState<'a>,
     part: &'a WordSet,
     place: &'a mut WordSet,
     list: &'a mut Equations,
-) -> Known<'a>
+) -> AbstractState<'a>
     requires room { length known.now.equations.now ≤ 32 }
-    ensures { (f : said.Fact) (p : Words) → Agree (known_of known.now) f →
+    ensures { (f : said.Fact) (p : Words) → Agree (fact_of_state known.now) f →
         SameWords (words part.now) p →
-        Agree (known_of result) (related2 word p f) }
+        Agree (fact_of_state result) (related2 word p f) }
 {
     if reads_switches(word) {
         return known.with_ac(put_switched(word, part, place), list);
@@ -167,20 +167,20 @@ fn next_address(at: Word, skip: bool, place: &mut WordSet) -> &WordSet
 pub(crate) fn branch<'a>(
     at: Word,
     word: Word,
-    known: &Known<'a>,
+    known: &AbstractState<'a>,
     link: Link,
     skip: bool,
-    way: &'a mut Way,
-) -> Option<Outcome<'a>>
+    way: &'a mut SuccessorScratch,
+) -> Option<Successor<'a>>
     requires link { link < 2 }
     requires room { length known.now.equations.now ≤ 32 }
-    ensures { (f : said.Fact) → Agree (known_of known.now) f →
-        AgreeingOutcomes (slot result) (operated2 at word f link skip) }
+    ensures { (f : said.Fact) → Agree (fact_of_state known.now) f →
+        AgreeingSuccessors (slot result) (operated2 at word f link skip) }
 {
     if !known.link.contains(link) {
         return None;
     }
-    let Way {
+    let SuccessorScratch {
         all,
         held,
         read,

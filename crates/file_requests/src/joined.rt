@@ -3,11 +3,11 @@
 ghost use Rattle.std.specs.Prelude.{◌≡◌, false, IfOk};
 
 use command_line::{Session, TeletypeSession, WatchedSession};
-use machine_commands::session::{Outputs, run_session};
 use command_parts::status::{DeviceFault, Fault, Status};
+use either::Either;
+use machine_commands::session::{Outputs, run_session};
 use machine_commands::teletype::{Typist, teletype};
 use machine_commands::watched_session::watch_session;
-use either::Either;
 use program_files::files::open_input;
 use program_files::tellers::{Nowhere, open_input_if, report_to, tell_to};
 use std::alloc::Global;

@@ -6,26 +6,26 @@ use command_line::{
     CheckRequest, GuessRequest, MigrateRequest, RefuteRequest, ReportRequest, VerifyRequest,
     WatchRequest,
 };
-use verdict_commands::checking::check;
-use verdict_commands::explaining::explain;
-use search_commands::guessing::guess;
-use verdict_commands::migrating::migrate;
-use machine_commands::refuting::refute;
-use report_commands::reporting::{Form, report};
 use command_parts::status::{Fault, Status};
-use search_commands::stuck::guess_or_explain;
-use search_commands::verifying::{Answer, Lack, answer_status, verify, verify_proposed};
+use machine_commands::refuting::refute;
 use machine_commands::watching::watch;
 use program_files::drafted::{is_stuck, report_stuck_files};
 use program_files::faults::{bound_lines, omissions, stuck_address, with_omissions};
 use program_files::files::{open_input, open_output};
 use program_files::saving::{save_answer, save_proposed};
 use program_files::tellers::{report_to, tell_to};
+use report_commands::reporting::{Form, report};
+use search_commands::guessing::guess;
+use search_commands::stuck::guess_or_explain;
+use search_commands::verifying::{Answer, Lack, answer_status, verify, verify_proposed};
 use std::alloc::Global;
 use std::io;
 use std::rt::Files;
 use streams::put;
 use streams::standard::Writes;
+use verdict_commands::checking::check;
+use verdict_commands::explaining::explain;
+use verdict_commands::migrating::migrate;
 
 /// Migrates the certificate of a file.
 #[inline(never)]

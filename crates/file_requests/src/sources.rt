@@ -1,12 +1,12 @@
 //! Sources that are assembled or listed, and what is told of their faults.
 
 use command_line::{AssembleRequest, ListRequest};
-use source_commands::assembling::{assemble, list};
 use command_parts::status::{DeviceFault, Fault, Status};
 use instruct::Profile;
 use program_files::files::{open_inputs, open_output, open_parts};
 use program_files::source_faults::{input_name, output_name, tell_of, tell_size, unopened};
 use program_files::telling::{tell, tell_with};
+use source_commands::assembling::{assemble, list};
 use std::alloc::Global;
 use std::io;
 use std::rt::Files;

@@ -3,12 +3,12 @@
 ghost use Rattle.std.specs.Prelude.{◌≡◌, false};
 
 use command_line::{DeclareRequest, DumpRequest, RunRequest, SourceRequest};
+use command_parts::status::{Fault, Status};
+use machine_commands::running::{dump, run, run_events};
+use program_files::files::{open_input, open_output};
 use search_commands::completing::complete;
 use search_commands::declaring::declare;
-use machine_commands::running::{dump, run, run_events};
 use source_commands::sourcing::{declared_source, source};
-use command_parts::status::{Fault, Status};
-use program_files::files::{open_input, open_output};
 use std::alloc::Global;
 use std::io;
 use std::rt::Files;

@@ -5,13 +5,13 @@ ghost use Rattle.domain.specs.Meaning.{equation_of};
 ghost use Rattle.certificate.specs.Reading.{Each, RiseFrom, IsTracked, IsEquation, IsStatement, place_of_equation};
 ghost use Rattle.fixpoint.specs.Claimed.{cell_of, said_of};
 
-use crate::kept::{Kept, Line, MOST_CELLS, MOST_EQUATIONS, place_of};
+use crate::invariant::{CellInvariant, Invariant, MOST_CELLS, MOST_EQUATIONS, place_of};
 use certificate::Version;
 use facts::{Equation, Name};
 use std::alloc::Allocator;
 
 /// Whether each tracked cell has a word.
-fn have_words(cells: &[Line]) -> bool
+fn have_words(cells: &[CellInvariant]) -> bool
     ensures { result ≡ true → Each IsTracked (map cell_of cells.now) }
 {
     for line in cells {
@@ -24,7 +24,7 @@ fn have_words(cells: &[Line]) -> bool
 }
 
 /// Whether the addresses of tracked cells rise.
-fn cells_rise(cells: &[Line]) -> bool
+fn cells_rise(cells: &[CellInvariant]) -> bool
     ensures { result ≡ true → RiseFrom 0 (map (λ c. c.address) (map cell_of cells.now)) }
 {
     let mut next = 0usize;
@@ -78,7 +78,7 @@ pub(crate) fn equations_rise(equations: &[Equation]) -> bool
     true
 }
 
-impl<A: Allocator> Kept<A> {
+impl<A: Allocator> Invariant<A> {
     /// Whether it is of the form that a version wants.
     pub(crate) fn is_in_form(&self, version: Version) -> bool
         ensures { result ≡ true → IsStatement version (said_of self.now) }

@@ -1,9 +1,9 @@
 //! What a fact and something else that is known say both.
 
 use crate::halt::Halt;
-use crate::kept::{Kept, Line, left_to};
+use crate::invariant::{CellInvariant, Invariant, left_to};
 use crate::widening::{Limits, Pace, widened};
-use facts::{Equation, Known, Name, Offsets};
+use facts::{AbstractState, CountedOffsets, Equation, Name};
 use std::alloc::Allocator;
 use word12::Word;
 use wordset::WordSet;
@@ -49,7 +49,7 @@ fn kept_between(left: &Moved, right: &Moved) -> Option<Equation> {
 }
 
 /// The offsets of both.
-fn joined_offsets(a: Offsets, b: Offsets) -> Offsets {
+fn joined_offsets(a: CountedOffsets, b: CountedOffsets) -> CountedOffsets {
     let mut offsets = a;
     for offset in 0..8usize {
         if b.contains(offset) {
@@ -78,7 +78,7 @@ struct Growth {
 }
 
 /// Whether the equations leave a cell no word outside a set; a set that isn't narrowed is tried first.
-fn is_within(known: &Known<'_>, cell: Word, set: &WordSet) -> bool {
+fn is_within(known: &AbstractState<'_>, cell: Word, set: &WordSet) -> bool {
     let name = Name::Cell(cell);
     known.set(&name).is_subset(set) || known.narrowed(&name).is_subset(set)
 }
@@ -88,7 +88,7 @@ fn add_moved<A: Allocator>(
     moved: &mut Vec<Moved, A>,
     name: Name,
     old: &WordSet,
-    known: &Known<'_>,
+    known: &AbstractState<'_>,
 ) -> Result<(), Halt> {
     let Some(before) = old.only() else {
         return Ok(());
@@ -107,7 +107,7 @@ fn add_moved<A: Allocator>(
 }
 
 /// Joins the words that a cell may hold now to those of its line.
-fn grow(line: &mut Line, known: &Known<'_>, limits: &Limits, pace: Pace) {
+fn grow(line: &mut CellInvariant, known: &AbstractState<'_>, limits: &Limits, pace: Pace) {
     let cell = line.tracked.cell;
     let old = line.tracked.set;
     let set = old.union(&left_to(known, &Name::Cell(cell), limits));
@@ -119,8 +119,8 @@ fn grow(line: &mut Line, known: &Known<'_>, limits: &Limits, pace: Pace) {
 
 /// Joins to each line the words that its cell may hold now, and gathers the cells that moved.
 fn grow_all<A: Allocator>(
-    cells: &mut [Line],
-    known: &Known<'_>,
+    cells: &mut [CellInvariant],
+    known: &AbstractState<'_>,
     limits: &Limits,
     pace: Pace,
     moved: &mut Vec<Moved, A>,
@@ -143,13 +143,13 @@ fn grow_all<A: Allocator>(
     Ok(growth)
 }
 
-impl<A: Allocator + Copy> Kept<A> {
+impl<A: Allocator + Copy> Invariant<A> {
     /// Joins something else that is known: what both say is left. Tells whether less is said than
     /// before.
     pub(crate) fn join(
         &mut self,
         alloc: A,
-        known: &Known<'_>,
+        known: &AbstractState<'_>,
         limits: &Limits,
         pace: Pace,
     ) -> Result<bool, Halt> {
@@ -166,7 +166,7 @@ impl<A: Allocator + Copy> Kept<A> {
     }
 
     /// Drops the equations that aren't known, and tells whether there was one.
-    fn drop_equations(&mut self, alloc: A, known: &Known<'_>) -> Result<bool, Halt> {
+    fn drop_equations(&mut self, alloc: A, known: &AbstractState<'_>) -> Result<bool, Halt> {
         if self.knows_all(known) {
             return Ok(false);
         }
@@ -197,9 +197,9 @@ impl<A: Allocator + Copy> Kept<A> {
     }
 }
 
-impl<A: Allocator> Kept<A> {
+impl<A: Allocator> Invariant<A> {
     /// Whether all equations are known.
-    fn knows_all(&self, known: &Known<'_>) -> bool {
+    fn knows_all(&self, known: &AbstractState<'_>) -> bool {
         for equation in &self.equations {
             if !known.knows(equation) {
                 return false;
@@ -211,7 +211,7 @@ impl<A: Allocator> Kept<A> {
     /// Joins the registers and the offsets, and tells whether one grew.
     fn join_registers(
         &mut self,
-        known: &Known<'_>,
+        known: &AbstractState<'_>,
         limits: &Limits,
         pace: Pace,
         moved: &mut Vec<Moved, A>,
@@ -231,20 +231,20 @@ impl<A: Allocator> Kept<A> {
     }
 
     /// Whether MQ, the link and the offsets have no others.
-    fn covers_registers(&self, known: &Known<'_>) -> bool {
+    fn covers_registers(&self, known: &AbstractState<'_>) -> bool {
         known.mq().is_subset(&self.mq)
             && known.link().is_subset(self.link)
             && known.offsets().is_subset(self.offsets)
     }
 
     /// Whether the accumulator has no other words.
-    fn covers_accumulator(&self, known: &Known<'_>) -> bool {
+    fn covers_accumulator(&self, known: &AbstractState<'_>) -> bool {
         known.accumulator().is_subset(&self.ac)
             || known.narrowed(&Name::Accumulator).is_subset(&self.ac)
     }
 
     /// Whether a name that has one word has no other one now.
-    fn stays(&self, name: &Name, known: &Known<'_>) -> bool {
+    fn stays(&self, name: &Name, known: &AbstractState<'_>) -> bool {
         match name {
             Name::Accumulator => self.covers_accumulator(known),
             Name::Cell(cell) => is_within(known, *cell, &self.set(name)),
@@ -253,7 +253,7 @@ impl<A: Allocator> Kept<A> {
 
     /// Adds those equations that are known now and that the words before fulfil, where not both sides
     /// keep their one word.
-    fn add_shown(&mut self, known: &Known<'_>) -> Result<(), Halt> {
+    fn add_shown(&mut self, known: &AbstractState<'_>) -> Result<(), Halt> {
         for equation in known.equations() {
             if self.shows(equation) && !self.keeps_both(equation, known) {
                 self.relate(*equation)?;
@@ -270,7 +270,7 @@ impl<A: Allocator> Kept<A> {
     }
 
     /// Whether both sides of an equation, which have one word each, have no other one now.
-    fn keeps_both(&self, equation: &Equation, known: &Known<'_>) -> bool {
+    fn keeps_both(&self, equation: &Equation, known: &AbstractState<'_>) -> bool {
         self.stays(&equation.left, known) && self.stays(&Name::Cell(equation.right), known)
     }
 

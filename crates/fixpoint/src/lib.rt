@@ -5,8 +5,8 @@
 
 mod form;
 mod halt;
+mod invariant;
 mod joining;
-mod kept;
 mod making;
 mod needs;
 mod program;

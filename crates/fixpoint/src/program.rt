@@ -5,9 +5,9 @@ ghost use Rattle.std.specs.Prelude.{◌≡◌};
 use crate::halt::Halt;
 use crate::widening::Limits;
 use bin_tape::Image;
-use certificate::Routine;
+use certificate::RoutineClaim;
 use declaration::{Declaration, Owner};
-use facts::{Fact, Place, Running};
+use facts::{Context, Fact, Place};
 use instruct::{refers_indirectly, target};
 use std::alloc::Allocator;
 use word12::Word;
@@ -35,7 +35,7 @@ pub struct Program<'a, D: Allocator> {
 #[derive(Clone, Copy)]
 pub(crate) enum Body {
     Main,
-    Of(Word, Routine),
+    Of(Word, RoutineClaim),
 }
 
 /// A fact at an address of a body. It's large, so the same one serves all visits.
@@ -59,10 +59,10 @@ impl Visit {
 
 impl Body {
     /// The routine, if it isn't main's.
-    fn running(&self) -> Option<Running<'_>> {
+    fn running(&self) -> Option<Context<'_>> {
         match self {
             Body::Main => None,
-            Body::Of(entry, routine) => Some(Running {
+            Body::Of(entry, routine) => Some(Context {
                 entry: *entry,
                 sites: &routine.sites,
                 writes: &routine.writes,
@@ -112,11 +112,7 @@ impl<'a, D: Allocator> Program<'a, D> {
     /// A tape's words and a declaration, with sets of at most so many runs. The cells that facts speak
     /// of are the variables that instructions name, then those in bodies, then those on the tape; at
     /// most 64.
-    pub fn of(
-        image: &'a Image,
-        declaration: &'a Declaration<D>,
-        most_runs: usize,
-    ) -> Program<'a, D>
+    pub fn of(image: &'a Image, declaration: &'a Declaration<D>, most_runs: usize) -> Program<'a, D>
         ensures image { result.image.now ≡ image.now }
         ensures declaration { result.declaration.now ≡ declaration.now }
     {

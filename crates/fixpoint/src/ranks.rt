@@ -1,8 +1,8 @@
 //! Ranks of routines, and calls that go round in a circle.
 
 use crate::making::MOST_ROUTINES;
-use crate::table::Guess;
-use certificate::Routine;
+use crate::table::Candidate;
+use certificate::RoutineClaim;
 use declaration::Declaration;
 use std::alloc::Allocator;
 use word12::Word;
@@ -12,17 +12,17 @@ use wordset::WordSet;
 const LAST_RANK: usize = MOST_ROUTINES - 1;
 
 /// What nothing is known of.
-fn unlisted() -> Routine {
-    Routine {
+fn unlisted() -> RoutineClaim {
+    RoutineClaim {
         rank: 0,
         sites: WordSet::empty(),
         writes: WordSet::empty(),
     }
 }
 
-impl<A: Allocator> Guess<A> {
+impl<A: Allocator> Candidate<A> {
     /// What is claimed of the routine of an entry.
-    pub(crate) fn routine(&self, entry: Word) -> Routine {
+    pub(crate) fn routine(&self, entry: Word) -> RoutineClaim {
         match self.row(entry) {
             None => unlisted(),
             Some(row) => row.routine,

@@ -4,10 +4,10 @@ ghost use Rattle.std.specs.Prelude.{◌≡◌, option_map};
 ghost use Rattle.fixpoint.specs.Claimed.{kept_at, row_at, exit_in};
 
 use crate::halt::Halt;
-use crate::kept::Kept;
+use crate::invariant::Invariant;
 use crate::widening::{Limits, Pace};
-use certificate::Routine;
-use facts::{Fact, Known};
+use certificate::RoutineClaim;
+use facts::{AbstractState, Fact};
 use std::alloc::Allocator;
 use std::collections::BTreeMap;
 use word12::Word;
@@ -15,22 +15,22 @@ use wordset::WordSet;
 
 /// What is claimed of a routine, and what holds at its returns, by offset.
 #[derive(Drop)]
-pub(crate) struct Row<A: Allocator> {
-    pub(crate) routine: Routine,
-    pub(crate) exits: BTreeMap<usize, Kept<A>, A>,
+pub(crate) struct Summary<A: Allocator> {
+    pub(crate) routine: RoutineClaim,
+    pub(crate) exits: BTreeMap<usize, Invariant<A>, A>,
 }
 
 /// What may show a program safe: facts by address, and by entry routines and exits.
 #[derive(Drop)]
-pub(crate) struct Guess<A: Allocator> {
-    facts: BTreeMap<usize, Kept<A>, A>,
-    routines: BTreeMap<usize, Row<A>, A>,
+pub(crate) struct Candidate<A: Allocator> {
+    facts: BTreeMap<usize, Invariant<A>, A>,
+    routines: BTreeMap<usize, Summary<A>, A>,
 }
 
-impl<A: Allocator + Copy> Guess<A> {
+impl<A: Allocator + Copy> Candidate<A> {
     /// Nothing is claimed.
-    pub(crate) fn new(alloc: A) -> Guess<A> {
-        Guess {
+    pub(crate) fn new(alloc: A) -> Candidate<A> {
+        Candidate {
             facts: BTreeMap::new(alloc),
             routines: BTreeMap::new(alloc),
         }
@@ -41,13 +41,13 @@ impl<A: Allocator + Copy> Guess<A> {
         if self.row(entry).is_some() {
             return Ok(());
         }
-        let routine = Routine {
+        let routine = RoutineClaim {
             rank: 0,
             sites: WordSet::empty(),
             writes: WordSet::empty(),
         };
         let exits = BTreeMap::new(alloc);
-        let row = Row { routine, exits };
+        let row = Summary { routine, exits };
         match self.routines.insert(entry.index(), row) {
             Ok(_) => Ok(()),
             Err(_) => Err(Halt::NoMemory),
@@ -55,7 +55,7 @@ impl<A: Allocator + Copy> Guess<A> {
     }
 
     /// Keeps a fact at an address.
-    pub(crate) fn keep(&mut self, at: Word, kept: Kept<A>) -> Result<(), Halt> {
+    pub(crate) fn keep(&mut self, at: Word, kept: Invariant<A>) -> Result<(), Halt> {
         match self.facts.insert(at.index(), kept) {
             Ok(_) => Ok(()),
             Err(_) => Err(Halt::NoMemory),
@@ -67,7 +67,7 @@ impl<A: Allocator + Copy> Guess<A> {
         &mut self,
         entry: Word,
         offset: usize,
-        kept: Kept<A>,
+        kept: Invariant<A>,
     ) -> Result<(), Halt> {
         let Some(row) = self.routines.get_mut(&entry.index()) else {
             return Ok(());
@@ -79,14 +79,14 @@ impl<A: Allocator + Copy> Guess<A> {
     }
 }
 
-impl<A: Allocator + Copy> Guess<A> {
+impl<A: Allocator + Copy> Candidate<A> {
     /// Joins what is known to the fact at an address, if there is one, and tells whether less is said
     /// than before.
     pub(crate) fn join(
         &mut self,
         alloc: A,
         at: Word,
-        known: &Known<'_>,
+        known: &AbstractState<'_>,
         limits: &Limits,
         pace: Pace,
     ) -> Result<bool, Halt> {
@@ -103,7 +103,7 @@ impl<A: Allocator + Copy> Guess<A> {
         alloc: A,
         entry: Word,
         offset: usize,
-        known: &Known<'_>,
+        known: &AbstractState<'_>,
         limits: &Limits,
         pace: Pace,
     ) -> Result<bool, Halt> {
@@ -116,23 +116,23 @@ impl<A: Allocator + Copy> Guess<A> {
     }
 }
 
-impl<A: Allocator> Guess<A> {
+impl<A: Allocator> Candidate<A> {
     /// What is kept at an address.
-    pub(crate) fn kept(&self, at: Word) -> Option<&Kept<A>>
+    pub(crate) fn kept(&self, at: Word) -> Option<&Invariant<A>>
         ensures { option_map (λ k. k.now) result ≡ kept_at self.now at }
     {
         self.facts.get(&at.index())
     }
 
     /// What is kept of the routine of an entry.
-    pub(crate) fn row(&self, entry: Word) -> Option<&Row<A>>
+    pub(crate) fn row(&self, entry: Word) -> Option<&Summary<A>>
         ensures { option_map (λ r. r.now) result ≡ row_at self.now entry }
     {
         self.routines.get(&entry.index())
     }
 
     /// What is kept of a return.
-    pub(crate) fn kept_exit(&self, entry: Word, offset: usize) -> Option<&Kept<A>>
+    pub(crate) fn kept_exit(&self, entry: Word, offset: usize) -> Option<&Invariant<A>>
         ensures { option_map (λ k. k.now) result ≡ exit_in (row_at self.now entry) offset }
     {
         match self.row(entry) {
@@ -160,7 +160,7 @@ impl<A: Allocator> Guess<A> {
     }
 
     /// Claims something else of a routine.
-    pub(crate) fn set_routine(&mut self, entry: Word, routine: Routine) {
+    pub(crate) fn set_routine(&mut self, entry: Word, routine: RoutineClaim) {
         if let Some(row) = self.routines.get_mut(&entry.index()) {
             row.routine = routine;
         }

@@ -8,11 +8,11 @@ use Rattle.processor.specs.Machine.{steps_pointer, next_pc}
 use Rattle.policy.specs.Rules.{pointer_of}
 use Rattle.wordset.specs.Words.{Words, SameWords, plus, one, everything, some_below, has_some, only, shifted, sums, without, or_any}
 use Rattle.domain.specs.Facts.{Name, Ac, Cell, Fact, Place, is_routine, is_outside, joined, narrowed, outside, possible, tape_word, words_in}
-use Rattle.domain.specs.Changes.{moved, assigned, smeared, with_equations, with_link, with_name, with_offsets}
+use Rattle.domain.specs.Changes.{moved, strongly_updated, weakly_updated, with_equations, with_link, with_name, with_offsets}
 use Rattle.facts.specs.Conditions.{CountsItsReturn, may_read, may_store, may_write}
-use Rattle.facts.specs.Outcomes.{Outcome, Goes, CallsTo, Returns, ac_after, alive, all_operated2, anded, changes_ac, dca_case, device_outcomes, given, goes, isz_case, jmp, link_after, operated1, operated2, operated3, outcomes_of, part2, related1, related2, stepped, tad, tad_case, tad_fact, tad_word, targets, words_at}
+use Rattle.facts.specs.Outcomes.{Successor, Goes, CallsTo, Returns, ac_after, alive, all_operated2, anded, changes_ac, dca_case, device_outcomes, given, goes, isz_case, jmp, link_after, operated1, operated2, operated3, outcomes_of, part2, related1, related2, stepped, tad, tad_case, tad_fact, tad_word, targets, words_at}
 use Rattle.domain.specs.Same.{Agree}
-use Rattle.facts.specs.Agreeing.{AgreeingOutcomes}
+use Rattle.facts.specs.Agreeing.{AgreeingSuccessors}
 use Rattle.facts.proofs.Alike.{only_same}
 use Rattle.facts.proofs.AgreeLemmas.{narrowed_agree}
 use Rattle.facts.proofs.ChangingLemmas.{assigned_agree, deposited_words, later_agree, link_agree, moved_agree, mq_agree, name_agree, smeared_agree, told_agree}
@@ -90,11 +90,11 @@ pub offsets_alike : {f g : Fact} (o : Words) → Agree f g → Agree (with_offse
 offsets_alike o h = record { sets = h.sets; mq = h.mq; link = h.link; equations = h.equations; offsets = λ n lt. refl }
 
 -- an outcome that goes on
-goes_agree : {p q s t n m : Words} {f g k l : Fact} → SameWords p q → Agree f g → SameWords s t → SameWords n m → Agree k l → AgreeingOutcomes (goes p f s n k) (goes q g t m l)
+goes_agree : {p q s t n m : Words} {f g k l : Fact} → SameWords p q → Agree f g → SameWords s t → SameWords n m → Agree k l → AgreeingSuccessors (goes p f s n k) (goes q g t m l)
 goes_agree {p} {q} {s} {t} {n} {m} {f} {g} {k} {l} e h c d a = given_agree (alive p f s k) (alive q g t l) (Goes n k) (Goes m l) (alive_agree e h c a) (d, a)
 
 -- memory references
-anded_agree : {f g : Fact} {p q : Words} (pl : Place) (at : ℕ) → Agree f g → SameWords p q → AgreeingOutcomes (anded pl at f p) (anded pl at g q)
+anded_agree : {f g : Fact} {p q : Words} (pl : Place) (at : ℕ) → Agree f g → SameWords p q → AgreeingSuccessors (anded pl at f p) (anded pl at g q)
 anded_agree {f} {g} {p} {q} pl at h e =
     let seen : SameWords (words_at pl f p) (words_at pl g q) = at_agree pl h e in
     goes_agree e h (same everything) (same (one (plus at 1))) (assigned_agree Ac h (ands_same (narrowed_agree h Ac) seen))
@@ -108,8 +108,8 @@ tad_case_agree pl None a o h e = tad_word_agree o h e
 tad_case_agree pl (Some y) None o h e = tad_word_agree o h e
 tad_case_agree {f} {g} {v} {w} pl (Some y) (Some a) o h e = go (pl.declaration.variable y)
   where
-    go : (b : Bool) → (let s : Fact = if b then with_equations (record { left = Ac; right = Cell y; more = a } ∷ []) (assigned Ac (sums (narrowed f Ac) v) f) else tad_word f v o in
-        let t : Fact = if b then with_equations (record { left = Ac; right = Cell y; more = a } ∷ []) (assigned Ac (sums (narrowed g Ac) w) g) else tad_word g w o in Agree s t)
+    go : (b : Bool) → (let s : Fact = if b then with_equations (record { left = Ac; right = Cell y; more = a } ∷ []) (strongly_updated Ac (sums (narrowed f Ac) v) f) else tad_word f v o in
+        let t : Fact = if b then with_equations (record { left = Ac; right = Cell y; more = a } ∷ []) (strongly_updated Ac (sums (narrowed g Ac) w) g) else tad_word g w o in Agree s t)
     go true = told_agree (record { left = Ac; right = Cell y; more = a } ∷ []) (assigned_agree Ac h (sums_same (narrowed_agree h Ac) e))
     go false = tad_word_agree o h e
 
@@ -133,7 +133,7 @@ tad_fact_agree {f} {g} {p} {q} pl h e =
       offsets = h.offsets;
     }
 
-tad_agree : {f g : Fact} {p q : Words} (pl : Place) (at : ℕ) → Agree f g → SameWords p q → AgreeingOutcomes (tad pl at f p) (tad pl at g q)
+tad_agree : {f g : Fact} {p q : Words} (pl : Place) (at : ℕ) → Agree f g → SameWords p q → AgreeingSuccessors (tad pl at f p) (tad pl at g q)
 tad_agree pl at h e = goes_agree e h (same everything) (same (one (plus at 1))) (tad_fact_agree pl h e)
 
 -- ISZ: where it skips, where it doesn't, and of the routine's own entry
@@ -149,19 +149,19 @@ left_fact f y = with_name (Cell y) (left_words f y) (moved (Cell y) 1 f)
 abbrev later : Fact → Fact
 later f = with_offsets (λ o. if o == 0 then false else f.offsets (o - 1)) f
 
-abbrev skipped : ℕ → Fact → Words → ℕ → List Outcome
+abbrev skipped : ℕ → Fact → Words → ℕ → List Successor
 skipped at f p y = given (narrowed f (Cell y) 4095 && alive p f (one 0) (zeroed f y)) (Goes (one (plus at 2)) (zeroed f y))
 
-abbrev stayed : ℕ → Fact → Words → ℕ → List Outcome
+abbrev stayed : ℕ → Fact → Words → ℕ → List Successor
 stayed at f p y = goes p f (left_words f y) (one (plus at 1)) (left_fact f y)
 
-isz_one_agree : {f g : Fact} {p q : Words} (pl : Place) (at y : ℕ) → Agree f g → SameWords p q → AgreeingOutcomes (isz_case pl at f p (Some y)) (isz_case pl at g q (Some y))
+isz_one_agree : {f g : Fact} {p q : Words} (pl : Place) (at y : ℕ) → Agree f g → SameWords p q → AgreeingSuccessors (isz_case pl at f p (Some y)) (isz_case pl at g q (Some y))
 isz_one_agree {f} {g} {p} {q} pl at y h e = go (pl.declaration.variable y)
   where
     zero : Agree (zeroed f y) (zeroed g y)
     zero = name_agree (Cell y) (moved_agree (Cell y) 1 h) (same (one 0))
 
-    skips : AgreeingOutcomes (skipped at f p y) (skipped at g q y)
+    skips : AgreeingSuccessors (skipped at f p y) (skipped at g q y)
     skips = given_agree (narrowed f (Cell y) 4095 && alive p f (one 0) (zeroed f y)) (narrowed g (Cell y) 4095 && alive q g (one 0) (zeroed g y))
         (Goes (one (plus at 2)) (zeroed f y)) (Goes (one (plus at 2)) (zeroed g y))
         (and_both (narrowed_agree h (Cell y) 4095 lit_last) (alive_agree e h (same (one 0)) zero)) (same (one (plus at 2)), zero)
@@ -169,17 +169,17 @@ isz_one_agree {f} {g} {p} {q} pl at y h e = go (pl.declaration.variable y)
     rest : SameWords (left_words f y) (left_words g y)
     rest = without_agree 0 (shifts_agree (narrowed_agree h (Cell y)))
 
-    stays : AgreeingOutcomes (stayed at f p y) (stayed at g q y)
+    stays : AgreeingSuccessors (stayed at f p y) (stayed at g q y)
     stays = goes_agree e h rest (same (one (plus at 1))) (name_agree (Cell y) (moved_agree (Cell y) 1 h) rest)
 
-    go : (b : Bool) → (let x : List Outcome = if b then skipped at f p y ++ stayed at f p y else goes p f everything (one (plus at 1)) (later f) in
-        let z : List Outcome = if b then skipped at g q y ++ stayed at g q y else goes q g everything (one (plus at 1)) (later g) in AgreeingOutcomes x z)
+    go : (b : Bool) → (let x : List Successor = if b then skipped at f p y ++ stayed at f p y else goes p f everything (one (plus at 1)) (later f) in
+        let z : List Successor = if b then skipped at g q y ++ stayed at g q y else goes q g everything (one (plus at 1)) (later g) in AgreeingSuccessors x z)
     go true = append_agree (skipped at f p y) (skipped at g q y) (stayed at f p y) (stayed at g q y) skips stays
     go false = goes_agree e h (same everything) (same (one (plus at 1))) (later_agree h)
 
 -- ISZ of several cells
 abbrev counted : Fact → Words → Fact
-counted f p = smeared p (λ y. shifted (f.set (Cell y)) 1) f
+counted f p = weakly_updated p (λ y. shifted (f.set (Cell y)) 1) f
 
 abbrev some_last : Fact → Words → Bool
 some_last f p = some_below 4096 (λ y. p y && narrowed f (Cell y) 4095)
@@ -187,7 +187,7 @@ some_last f p = some_below 4096 (λ y. p y && narrowed f (Cell y) 4095)
 abbrev some_other : Fact → Words → Bool
 some_other f p = some_below 4096 (λ y. p y && has_some (without 4095 (narrowed f (Cell y))))
 
-isz_agree : {f g : Fact} {p q : Words} (pl : Place) (at : ℕ) (o : Option ℕ) → Agree f g → SameWords p q → AgreeingOutcomes (isz_case pl at f p o) (isz_case pl at g q o)
+isz_agree : {f g : Fact} {p q : Words} (pl : Place) (at : ℕ) (o : Option ℕ) → Agree f g → SameWords p q → AgreeingSuccessors (isz_case pl at f p o) (isz_case pl at g q o)
 isz_agree pl at (Some y) h e = isz_one_agree pl at y h e
 isz_agree {f} {g} {p} {q} pl at None h e =
     let after : Agree (counted f p) (counted g q) = smeared_agree h e (λ y. shifts_agree (h.sets (Cell y))) in
@@ -204,15 +204,15 @@ isz_agree {f} {g} {p} {q} pl at None h e =
     (given_agree (some_other f p && alive p f everything (counted f p)) (some_other g q && alive q g everything (counted g q))
     (Goes (one (plus at 1)) (counted f p)) (Goes (one (plus at 1)) (counted g q)) (and_both other lives) (same (one (plus at 1)), after))
 
-dca_agree : {f g : Fact} {p q : Words} (pl : Place) (at : ℕ) (o : Option ℕ) → Agree f g → SameWords p q → AgreeingOutcomes (dca_case pl at f p o) (dca_case pl at g q o)
+dca_agree : {f g : Fact} {p q : Words} (pl : Place) (at : ℕ) (o : Option ℕ) → Agree f g → SameWords p q → AgreeingSuccessors (dca_case pl at f p o) (dca_case pl at g q o)
 dca_agree pl at (Some y) h e = goes_agree e h (narrowed_agree h Ac) (same (one (plus at 1))) (deposited_words h y (narrowed_agree h Ac))
 dca_agree pl at None h e = goes_agree e h (same everything) (same (one (plus at 1))) (assigned_agree Ac (smeared_agree h e (λ y. narrowed_agree h Ac)) (same (one 0)))
 
-jmp_agree : {f g : Fact} {p q : Words} (pl : Place) (i : Bool) (c : ℕ) → Agree f g → SameWords p q → AgreeingOutcomes (jmp pl i c f p) (jmp pl i c g q)
+jmp_agree : {f g : Fact} {p q : Words} (pl : Place) (i : Bool) (c : ℕ) → Agree f g → SameWords p q → AgreeingSuccessors (jmp pl i c f p) (jmp pl i c g q)
 jmp_agree {f} {g} {p} {q} pl i c h e = go (i && is_routine pl.routine c)
   where
-    go : (b : Bool) → (let x : List Outcome = if b then given (alive p f everything f) (Returns f) else goes p f everything p f in
-        let y : List Outcome = if b then given (alive q g everything g) (Returns g) else goes q g everything q g in AgreeingOutcomes x y)
+    go : (b : Bool) → (let x : List Successor = if b then given (alive p f everything f) (Returns f) else goes p f everything p f in
+        let y : List Successor = if b then given (alive q g everything g) (Returns g) else goes q g everything q g in AgreeingSuccessors x y)
     go true = given_agree (alive p f everything f) (alive q g everything g) (Returns f) (Returns g) (alive_agree e h (same everything) h) h
     go false = goes_agree e h (same everything) e h
 
@@ -220,8 +220,8 @@ jmp_agree {f} {g} {p} {q} pl i c h e = go (i && is_routine pl.routine c)
 related1_agree : {f g : Fact} (w : ℕ) → Agree f g → Agree (related1 w f) (related1 w g)
 related1_agree {f} {g} w h = go (changes_ac w) (has_bit 0 w)
   where
-    go : (b c : Bool) → (let x : Fact = if b then assigned Ac everything f else (if c then moved Ac 1 f else f) in
-        let y : Fact = if b then assigned Ac everything g else (if c then moved Ac 1 g else g) in Agree x y)
+    go : (b c : Bool) → (let x : Fact = if b then strongly_updated Ac everything f else (if c then moved Ac 1 f else f) in
+        let y : Fact = if b then strongly_updated Ac everything g else (if c then moved Ac 1 g else g) in Agree x y)
     go true c = assigned_agree Ac h (same everything)
     go false true = moved_agree Ac 1 h
     go false false = h
@@ -233,8 +233,8 @@ operated1_agree {f} {g} w h =
 related2_agree : {f g : Fact} {s t : Words} (w : ℕ) → Agree f g → SameWords s t → Agree (related2 w s f) (related2 w t g)
 related2_agree {f} {g} {s} {t} w h e = go (has_bit 2 w) (has_bit 7 w)
   where
-    go : (b c : Bool) → (let x : Fact = if b then assigned Ac (or_any 4095 (if has_bit 7 w then one 0 else s)) f else (if c then assigned Ac (one 0) f else with_name Ac s f) in
-        let y : Fact = if b then assigned Ac (or_any 4095 (if has_bit 7 w then one 0 else t)) g else (if c then assigned Ac (one 0) g else with_name Ac t g) in Agree x y)
+    go : (b c : Bool) → (let x : Fact = if b then strongly_updated Ac (or_any 4095 (if has_bit 7 w then one 0 else s)) f else (if c then strongly_updated Ac (one 0) f else with_name Ac s f) in
+        let y : Fact = if b then strongly_updated Ac (or_any 4095 (if has_bit 7 w then one 0 else t)) g else (if c then strongly_updated Ac (one 0) g else with_name Ac t g) in Agree x y)
     go true c = assigned_agree Ac h (or_any_same 4095 (kept_same w e))
     go false true = assigned_agree Ac h (same (one 0))
     go false false = name_agree Ac h e
@@ -245,14 +245,14 @@ after2 w f l skip = with_link (one l) (related2 w (part2 w f l skip) f)
 abbrev alive2 : ℕ → Fact → ℕ → Bool → Bool
 alive2 w f l skip = f.link l && (has_some (part2 w f l skip) && alive everything f everything (after2 w f l skip))
 
-operated2_agree : {f g : Fact} (at w l : ℕ) (skip : Bool) → l < 2 → Agree f g → AgreeingOutcomes (operated2 at w f l skip) (operated2 at w g l skip)
+operated2_agree : {f g : Fact} (at w l : ℕ) (skip : Bool) → l < 2 → Agree f g → AgreeingSuccessors (operated2 at w f l skip) (operated2 at w g l skip)
 operated2_agree {f} {g} at w l skip lt h =
     let part : SameWords (part2 w f l skip) (part2 w g l skip) = λ a less. ap (λ b. b && (if skips_of w a l then skip else not skip)) (narrowed_agree h Ac a less) in
     let after : Agree (after2 w f l skip) (after2 w g l skip) = link_agree (related2_agree w h part) (λ k less. refl) in
     given_agree (alive2 w f l skip) (alive2 w g l skip) (Goes (one (next_pc at skip)) (after2 w f l skip)) (Goes (one (next_pc at skip)) (after2 w g l skip))
     (and_both (h.link l lt) (and_both (has_same part) (alive_agree (same everything) h (same everything) after))) (same (one (next_pc at skip)), after)
 
-all_operated2_agree : {f g : Fact} (at w : ℕ) → Agree f g → AgreeingOutcomes (all_operated2 at w f) (all_operated2 at w g)
+all_operated2_agree : {f g : Fact} (at w : ℕ) → Agree f g → AgreeingSuccessors (all_operated2 at w f) (all_operated2 at w g)
 all_operated2_agree {f} {g} at w h =
     append_agree (operated2 at w f 0 true) (operated2 at w g 0 true)
     (operated2 at w f 0 false ++ (operated2 at w f 1 true ++ operated2 at w f 1 false)) (operated2 at w g 0 false ++ (operated2 at w g 1 true ++ operated2 at w g 1 false))
@@ -267,10 +267,10 @@ all_operated2_agree {f} {g} at w h =
     one_less : 1 < 2
     one_less = omega arith
 
-group2_agree : {f g : Fact} (pl : Place) (at w : ℕ) → Agree f g → AgreeingOutcomes (outcomes_of pl f at (Group2 w)) (outcomes_of pl g at (Group2 w))
+group2_agree : {f g : Fact} (pl : Place) (at w : ℕ) → Agree f g → AgreeingSuccessors (outcomes_of pl f at (Group2 w)) (outcomes_of pl g at (Group2 w))
 group2_agree {f} {g} pl at w h = go (is_halt w && pl.declaration.stop at)
   where
-    go : (b : Bool) → (let x : List Outcome = if b then [] else all_operated2 at w f in let y : List Outcome = if b then [] else all_operated2 at w g in AgreeingOutcomes x y)
+    go : (b : Bool) → (let x : List Successor = if b then [] else all_operated2 at w f in let y : List Successor = if b then [] else all_operated2 at w g in AgreeingSuccessors x y)
     go true = tt
     go false = all_operated2_agree at w h
 
@@ -282,10 +282,10 @@ operated3_agree Cam h = mq_agree (assigned_agree Ac h (same (one 0))) (same (one
 operated3_agree ClaMqa h = assigned_agree Ac h h.mq
 operated3_agree ClaSwp h = mq_agree (assigned_agree Ac h h.mq) (same (one 0))
 
-next_agree : {f g k l : Fact} (at : ℕ) → Agree f g → Agree k l → AgreeingOutcomes (goes everything f everything (one (plus at 1)) k) (goes everything g everything (one (plus at 1)) l)
+next_agree : {f g k l : Fact} (at : ℕ) → Agree f g → Agree k l → AgreeingSuccessors (goes everything f everything (one (plus at 1)) k) (goes everything g everything (one (plus at 1)) l)
 next_agree at h a = goes_agree (same everything) h (same everything) (same (one (plus at 1))) a
 
-device_agree : {f g : Fact} (at : ℕ) (d : DeviceAction) → Agree f g → AgreeingOutcomes (device_outcomes at f d) (device_outcomes at g d)
+device_agree : {f g : Fact} (at : ℕ) (d : DeviceAction) → Agree f g → AgreeingSuccessors (device_outcomes at f d) (device_outcomes at g d)
 device_agree {f} {g} at Skips h =
     append_agree (goes everything f everything (one (plus at 1)) f) (goes everything g everything (one (plus at 1)) g) (goes everything f everything (one (plus at 2)) f) (goes everything g everything (one (plus at 2)) g)
     (next_agree at h h) (goes_agree (same everything) h (same everything) (same (one (plus at 2))) h)
@@ -295,14 +295,14 @@ device_agree at Takes h = next_agree at h (assigned_agree Ac h (same (λ v. nat_
 device_agree at Leaves h = next_agree at h h
 
 -- each word
-pub outcomes_agree : {f g : Fact} (pl : Place) (at : ℕ) (m : Meaning) → Agree f g → AgreeingOutcomes (outcomes_of pl f at m) (outcomes_of pl g at m)
+pub outcomes_agree : {f g : Fact} (pl : Place) (at : ℕ) (m : Meaning) → Agree f g → AgreeingSuccessors (outcomes_of pl f at m) (outcomes_of pl g at m)
 outcomes_agree pl at (And i c) h = anded_agree pl at (stepped_agree i c h) (targets_agree pl i c h)
 outcomes_agree pl at (Tad i c) h = tad_agree pl at (stepped_agree i c h) (targets_agree pl i c h)
 outcomes_agree {f} {g} pl at (Isz i c) h =
-    subst (λ o. AgreeingOutcomes (isz_case pl at (stepped i c f) (targets pl i c f) (only (targets pl i c f))) (isz_case pl at (stepped i c g) (targets pl i c g) o))
+    subst (λ o. AgreeingSuccessors (isz_case pl at (stepped i c f) (targets pl i c f) (only (targets pl i c f))) (isz_case pl at (stepped i c g) (targets pl i c g) o))
     (only_same (targets pl i c f) (targets pl i c g) (targets_agree pl i c h)) (isz_agree pl at (only (targets pl i c f)) (stepped_agree i c h) (targets_agree pl i c h))
 outcomes_agree {f} {g} pl at (Dca i c) h =
-    subst (λ o. AgreeingOutcomes (dca_case pl at (stepped i c f) (targets pl i c f) (only (targets pl i c f))) (dca_case pl at (stepped i c g) (targets pl i c g) o))
+    subst (λ o. AgreeingSuccessors (dca_case pl at (stepped i c f) (targets pl i c f) (only (targets pl i c f))) (dca_case pl at (stepped i c g) (targets pl i c g) o))
     (only_same (targets pl i c f) (targets pl i c g) (targets_agree pl i c h)) (dca_agree pl at (only (targets pl i c f)) (stepped_agree i c h) (targets_agree pl i c h))
 outcomes_agree {f} {g} pl at (Jms i c) h =
     given_agree (alive (targets pl i c f) (stepped i c f) everything (stepped i c f)) (alive (targets pl i c g) (stepped i c g) everything (stepped i c g))

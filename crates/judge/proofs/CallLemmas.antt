@@ -10,7 +10,7 @@ use Rattle.domain.specs.Facts.{Fact, Entails, EntailsOffsets, joined}
 use Rattle.domain.specs.Changes.{with_offsets}
 use Rattle.facts.specs.Conditions.{called, is_call, calls_through_index, returned_through}
 use Rattle.facts.specs.Places as kept
-use Rattle.facts.specs.declared.place.Running.{Running}
+use Rattle.facts.specs.declared.place.Context.{Context}
 use Rattle.certificate.specs.Certificate.{Certificate, writes_of}
 use Rattle.judge.specs.Conditions.{Case, fact_at, place_in, EachTarget, KeepsPointer, CoversCallee, MayReturn, ReturnsWell, LandsAt}
 use Rattle.judge.specs.Callees.{LandsBy, ReturnsBy, ReturnsThrough}
@@ -65,7 +65,7 @@ pub and_pointer : {p : Type 0} (m : Meaning) (b t : Bool) → b ≡ calls_throug
 and_pointer m b t e h told = (λ q. ((keeps_pointer m b e).1 h, told.0 q), λ k. told.1 k.1)
 
 -- In a routine, from its own place.
-covers_own : (c : Certificate) (run : Running) (e : ℕ) (writes : Words) (a b t : Bool) → words run.writes.now ≡ c.writes run.entry → writes ≡ c.writes e →
+covers_own : (c : Certificate) (run : Context) (e : ℕ) (writes : Words) (a b t : Bool) → words run.writes.now ≡ c.writes run.entry → writes ≡ c.writes e →
     a ≡ writes run.entry → a ≡ false → b ≡ words run.writes.now e → b ≡ true → (IsTrue t ↔ IsWithin writes (words run.writes.now)) → IsTrue t ↔ CoversCallee c (Some run.entry) e
 covers_own c run e writes a b t mine theirs own not_own entry is_entry told =
     let within : IsTrue t ↔ IsWithin (c.writes e) (c.writes run.entry) = subst (λ w. IsTrue t ↔ IsWithin w (c.writes run.entry)) theirs (subst (λ w. IsTrue t ↔ IsWithin writes w) mine told) in (
@@ -77,7 +77,7 @@ covers_own c run e writes a b t mine theirs own not_own entry is_entry told =
       λ k. within.1 k.writes,
     )
 
-pub covers_some : (c : Certificate) (o : Option Running) (run : Running) (e : ℕ) (writes : Words) (a b t : Bool) → o ≡ Some run → kept.writes_of o ≡ writes_of c (kept.routine_of o) → writes ≡ c.writes e →
+pub covers_some : (c : Certificate) (o : Option Context) (run : Context) (e : ℕ) (writes : Words) (a b t : Bool) → o ≡ Some run → kept.writes_of o ≡ writes_of c (kept.routine_of o) → writes ≡ c.writes e →
     a ≡ writes run.entry → a ≡ false → b ≡ words run.writes.now e → b ≡ true → (IsTrue t ↔ IsWithin writes (words run.writes.now)) → IsTrue t ↔ CoversCallee c (kept.routine_of o) e
 covers_some c o run e writes a b t is mine theirs own not_own entry is_entry told =
     let here : kept.writes_of (Some run) ≡ writes_of c (kept.routine_of (Some run)) = subst (λ x. kept.writes_of x ≡ writes_of c (kept.routine_of x)) is mine in

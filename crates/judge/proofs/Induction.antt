@@ -11,14 +11,14 @@ use Rattle.policy.specs.Calls.{Call, Calls, current, returned, calls_of, calls_a
 use Rattle.policy.specs.Runs.{GoesOn}
 use Rattle.domain.specs.Facts.{Cell, Fact, Values, Holds, values, Place, StandsIn, Means, Entails, EntailsOffsets, joined}
 use Rattle.domain.specs.Changes.{with_offsets}
-use Rattle.facts.specs.Outcomes.{Outcome, Goes, CallsTo, Returns, outcomes_of}
+use Rattle.facts.specs.Outcomes.{Successor, Goes, CallsTo, Returns, outcomes_of}
 use Rattle.facts.specs.Conditions.{may_write}
 use Rattle.facts.specs.Law.{IsState, IsOrdinary, LandsIn, SomeOutcome}
 use Rattle.facts.proofs.Numbers.{plus_lt, or_left, or_right}
 use Rattle.facts.proofs.Laws.{entails_holds, HoldsOutside, outside_holds, still_outside, joined_holds}
 use Rattle.facts.proofs.Cells.{updated_same, words_updated, values_words, hidden_values, holds_at, rest_updated, own_updated, own_like, possible_true}
 use Rattle.facts.proofs.Covers.{NamesWord, meaning_names, step_state, pointer_written, Accessed, accessed, covered}
-use Rattle.judge.specs.Conditions.{Case, fact_at, place_in, LandsAt, IsLower, CoversCallee, MayCall, MayReturn, OutcomeLands, EachOutcome, IsValid}
+use Rattle.judge.specs.Conditions.{Case, fact_at, place_in, LandsAt, IsLower, CoversCallee, MayCall, MayReturn, SuccessorLands, EachSuccessor, IsValid}
 use Rattle.judge.proofs.Fine.{Fine, fine}
 use Rattle.judge.proofs.Frames.{Below, Frames, MayPut, top_is_entry, updated_frames, call_frames, seen_frames}
 
@@ -50,8 +50,8 @@ module _ (j : Case) (dd : IsDeclared j.declaration) (valid : IsValid j) (start :
     frames = fs;
   }
 
-  arrives : (t : State) (ks : Calls) → IsState t → Frames j start t.memory ks → (os : List Outcome) →
-      EachOutcome (OutcomeLands j (current ks)) os → SomeOutcome (LandsIn (place_in j (current ks)) start t ks) os → Invariant t ks
+  arrives : (t : State) (ks : Calls) → IsState t → Frames j start t.memory ks → (os : List Successor) →
+      EachSuccessor (SuccessorLands j (current ks)) os → SomeOutcome (LandsIn (place_in j (current ks)) start t ks) os → Invariant t ks
   arrives t ks ts fs [] each some = absurd some
   arrives t ks ts fs (Goes next f ∷ os) each some = elim some [
     | inl x ↦ landed (current ks) f t ks refl (each.0 t.pc ts.pc x.0) ts x.1 fs

@@ -5,15 +5,15 @@ use Rattle.std.proofs.lemmas.Bool.{false≢true, true≢false}
 use Rattle.std.proofs.Math.ListN.{drop_of_length-le}
 use Rattle.declaration.specs.Declaration.{Routine}
 use Rattle.domain.specs.Facts.{Fact, Entails, EntailsOffsets}
-use Rattle.facts.specs.Outcomes.{Outcome, Goes, CallsTo, Returns}
+use Rattle.facts.specs.Outcomes.{Successor, Goes, CallsTo, Returns}
 use Rattle.domain.specs.Same.{Agree}
-use Rattle.facts.specs.Agreeing.{AgreeingOutcome, AgreeingOutcomes}
+use Rattle.facts.specs.Agreeing.{AgreeingSuccessor, AgreeingSuccessors}
 use Rattle.facts.specs.Slots.{slot, slots}
-use Rattle.facts.specs.declared.outcome.Outcome.{Outcome as Given}
+use Rattle.facts.specs.declared.successor.Successor.{Successor as Given}
 use Rattle.facts.proofs.Alike.{same_law}
 use Rattle.facts.proofs.AgreeLemmas.{agree_sym, same_fact, entails_agree}
 use Rattle.facts.proofs.EntailLemmas.{drop_item}
-use Rattle.judge.specs.Conditions.{Case, fact_at, LandsAt, OutcomeLands, EachOutcome}
+use Rattle.judge.specs.Conditions.{Case, fact_at, LandsAt, SuccessorLands, EachSuccessor}
 
 pub lands_some : (j : Case) (r : Routine) (a : ℕ) {k f g : Fact} (t b : Bool) → b ≡ true → b ≡ j.declaration.body r a → true ≡ j.certificate.has_fact a → g ≡ fact_at j a →
     (IsTrue t ↔ (Entails k g × EntailsOffsets k g)) → Agree k f → IsTrue t ↔ LandsAt j r a f
@@ -29,7 +29,7 @@ lands_alike j r a {f} {g} agree l =
     let alike = same_law f g (fact_at j a) (same_fact agree) in
     record { there = l.there; inside = l.inside; entails = alike.left l.entails; offsets = alike.left_offsets l.offsets }
 
-outcome_alike : (j : Case) (r : Routine) (o p : Outcome) → AgreeingOutcome o p → OutcomeLands j r o ↔ OutcomeLands j r p
+outcome_alike : (j : Case) (r : Routine) (o p : Successor) → AgreeingSuccessor o p → SuccessorLands j r o ↔ SuccessorLands j r p
 outcome_alike j r (Goes n f) (Goes m g) h = (
   λ l a lt q. lands_alike j r a h.1 (l a lt (h.0 a lt ∙ q)),
   λ l a lt q. lands_alike j r a (agree_sym h.1) (l a lt (sym (h.0 a lt) ∙ q)),
@@ -44,7 +44,7 @@ outcome_alike j r (Returns f) (CallsTo m g) h = absurd h
 outcome_alike j r (Returns f) (Returns g) h = (λ l. tt, λ l. tt)
 
 -- Outcomes that agree land alike.
-pub outcomes_alike : (j : Case) (r : Routine) (os ps : List Outcome) → AgreeingOutcomes os ps → EachOutcome (OutcomeLands j r) os ↔ EachOutcome (OutcomeLands j r) ps
+pub outcomes_alike : (j : Case) (r : Routine) (os ps : List Successor) → AgreeingSuccessors os ps → EachSuccessor (SuccessorLands j r) os ↔ EachSuccessor (SuccessorLands j r) ps
 outcomes_alike j r [] [] h = (λ l. tt, λ l. tt)
 outcomes_alike j r [] (p ∷ ps) h = absurd h
 outcomes_alike j r (o ∷ os) [] h = absurd h
@@ -54,24 +54,24 @@ outcomes_alike j r (o ∷ os) (p ∷ ps) h =
     (λ l. (one.0 l.0, rest.0 l.1), λ l. (one.1 l.0, rest.1 l.1))
 
 -- Each outcome of the slots from one on.
-abbrev pub EachFrom : (Outcome → Type 0) → ℕ → List (Option Given) → Type 0
-EachFrom p i os = EachOutcome p (slots (drop i os))
+abbrev pub EachFrom : (Successor → Type 0) → ℕ → List (Option Given) → Type 0
+EachFrom p i os = EachSuccessor p (slots (drop i os))
 
-slot_then : (p : Outcome → Type 0) (o : Option Given) (rest : List Outcome) → EachOutcome p (slot o ++ rest) ↔ (EachOutcome p (slot o) × EachOutcome p rest)
+slot_then : (p : Successor → Type 0) (o : Option Given) (rest : List Successor) → EachSuccessor p (slot o ++ rest) ↔ (EachSuccessor p (slot o) × EachSuccessor p rest)
 slot_then p None rest = (λ e. (tt, e), λ e. e.1)
 slot_then p (Some o) rest = (λ e. ((e.0, tt), e.1), λ e. (e.0.0, e.1))
 
-slot_next : (p : Outcome → Type 0) (os : List (Option Given)) (i : ℕ) (o : Option Given) → i < length os → o ≡ get_or os i o → EachFrom p i os ↔ (EachOutcome p (slot o) × EachFrom p (i + 1) os)
-slot_next p os i o lt item = subst (λ xs. EachOutcome p (slots xs) ↔ (EachOutcome p (slot o) × EachFrom p (i + 1) os)) (sym (drop_item os i o lt item)) (slot_then p o (slots (drop (i + 1) os)))
+slot_next : (p : Successor → Type 0) (os : List (Option Given)) (i : ℕ) (o : Option Given) → i < length os → o ≡ get_or os i o → EachFrom p i os ↔ (EachSuccessor p (slot o) × EachFrom p (i + 1) os)
+slot_next p os i o lt item = subst (λ xs. EachSuccessor p (slots xs) ↔ (EachSuccessor p (slot o) × EachFrom p (i + 1) os)) (sym (drop_item os i o lt item)) (slot_then p o (slots (drop (i + 1) os)))
 
-pub slot_passes : (p : Outcome → Type 0) (os : List (Option Given)) (i : ℕ) (o : Option Given) → i < length os → o ≡ get_or os i o → EachOutcome p (slot o) →
-    (EachFrom p i os ↔ EachOutcome p (slots os)) → EachFrom p (i + 1) os ↔ EachOutcome p (slots os)
+pub slot_passes : (p : Successor → Type 0) (os : List (Option Given)) (i : ℕ) (o : Option Given) → i < length os → o ≡ get_or os i o → EachSuccessor p (slot o) →
+    (EachFrom p i os ↔ EachSuccessor p (slots os)) → EachFrom p (i + 1) os ↔ EachSuccessor p (slots os)
 slot_passes p os i o lt item passes h = let next = slot_next p os i o lt item in (λ e. h.0 (next.1 (passes, e)), λ e. (next.0 (h.1 e)).1)
 
-pub slot_fails : (p : Outcome → Type 0) (os : List (Option Given)) (i : ℕ) (o : Option Given) (t : Bool) → i < length os → o ≡ get_or os i o → t ≡ false → (EachOutcome p (slot o) → IsTrue t) →
-    (EachFrom p i os ↔ EachOutcome p (slots os)) → IsTrue false ↔ EachOutcome p (slots os)
+pub slot_fails : (p : Successor → Type 0) (os : List (Option Given)) (i : ℕ) (o : Option Given) (t : Bool) → i < length os → o ≡ get_or os i o → t ≡ false → (EachSuccessor p (slot o) → IsTrue t) →
+    (EachFrom p i os ↔ EachSuccessor p (slots os)) → IsTrue false ↔ EachSuccessor p (slots os)
 slot_fails p os i o t lt item fails told h = let next = slot_next p os i o lt item in
     (λ q. absurd (false≢true q), λ e. absurd (true≢false (sym (told (next.0 (h.1 e)).0) ∙ fails)))
 
-pub no_slot : (p : Outcome → Type 0) (os : List (Option Given)) (i : ℕ) → length os ≤ i → (EachFrom p i os ↔ EachOutcome p (slots os)) → IsTrue true ↔ EachOutcome p (slots os)
-no_slot p os i le h = (λ q. h.0 (subst (λ xs. EachOutcome p (slots xs)) (sym (drop_of_length-le os le)) tt), λ e. refl)
+pub no_slot : (p : Successor → Type 0) (os : List (Option Given)) (i : ℕ) → length os ≤ i → (EachFrom p i os ↔ EachSuccessor p (slots os)) → IsTrue true ↔ EachSuccessor p (slots os)
+no_slot p os i le h = (λ q. h.0 (subst (λ xs. EachSuccessor p (slots xs)) (sym (drop_of_length-le os le)) tt), λ e. refl)

@@ -10,13 +10,13 @@ use Rattle.certificate.specs.Certificate.{writes_of}
 use Rattle.domain.specs.Facts.{Name, Ac, Cell, Fact, Place, AllTrue, Means, joined, possible, values}
 use Rattle.domain.specs.Changes.{with_offsets}
 use Rattle.facts.specs.Conditions.{EntriesAreKept, ReadsAreListed, WritesAreDeclared, WritesAreListed}
-use Rattle.facts.specs.Outcomes.{Outcome, Goes, CallsTo, Returns, outcomes_of, targets}
+use Rattle.facts.specs.Outcomes.{Successor, Goes, CallsTo, Returns, outcomes_of, targets}
 use Rattle.domain.specs.Same.{Agree}
 use Rattle.facts.specs.declared.Condition.{Condition}
 use Rattle.facts.specs.declared.Condition.TheVariants.{V1, V2, V3, V4, V5, V6, V7, V8, V9, V10, V11, V12, V13, V14, V15}
 use Rattle.facts.proofs.Alike.{same_law, some_same}
 use Rattle.facts.proofs.AgreeLemmas.{same_fact}
-use Rattle.judge.specs.Conditions.{Case, CoversCallee, EachOutcome, EachTarget, HasFewWords, HoldsAt, HoldsFor, HoldsForEach, IsAskedAs, IsIn, IsLower, IsPlaced, LandsAfter, LandsAt, LinesArePlaced, MayCall, MayReturn, OutcomeLands, ReturnsWell, StartsWell, fact_at, place_in}
+use Rattle.judge.specs.Conditions.{Case, CoversCallee, EachSuccessor, EachTarget, HasFewWords, HoldsAt, HoldsFor, HoldsForEach, IsAskedAs, IsIn, IsLower, IsPlaced, LandsAfter, LandsAt, LinesArePlaced, MayCall, MayReturn, SuccessorLands, ReturnsWell, StartsWell, fact_at, place_in}
 use Rattle.judge.proofs.AgreeingLemmas.{counts_alike, joined_alike, may_read_agree, may_write_agree, offsets_alike, outcomes_agree, possible_agree, targets_agree}
 use Rattle.judge.proofs.LandingLemmas.{lands_alike, outcomes_alike}
 use Rattle.judge.proofs.WordLemmas.{many_same}
@@ -67,19 +67,19 @@ lands_to j fs xs s r a f l =
     let alike = same_law (fact_at j a) (fs a) f (same_fact (s.facts a)) in
     record { there = l.there; inside = l.inside; entails = alike.right l.entails; offsets = alike.right_offsets l.offsets }
 
-outcome_to : (j : Case) (fs : ℕ → Fact) (xs : ℕ → ℕ → Fact) → Restates j fs xs → (r : Routine) (o : Outcome) → OutcomeLands j r o → OutcomeLands (restated j fs xs) r o
+outcome_to : (j : Case) (fs : ℕ → Fact) (xs : ℕ → ℕ → Fact) → Restates j fs xs → (r : Routine) (o : Successor) → SuccessorLands j r o → SuccessorLands (restated j fs xs) r o
 outcome_to j fs xs s r (Goes next f) l = λ a lt is. lands_to j fs xs s r a f (l a lt is)
 outcome_to j fs xs s r (CallsTo next f) l = tt
 outcome_to j fs xs s r (Returns f) l = tt
 
-outcomes_to : (j : Case) (fs : ℕ → Fact) (xs : ℕ → ℕ → Fact) → Restates j fs xs → (r : Routine) (os : List Outcome) → EachOutcome (OutcomeLands j r) os → EachOutcome (OutcomeLands (restated j fs xs) r) os
+outcomes_to : (j : Case) (fs : ℕ → Fact) (xs : ℕ → ℕ → Fact) → Restates j fs xs → (r : Routine) (os : List Successor) → EachSuccessor (SuccessorLands j r) os → EachSuccessor (SuccessorLands (restated j fs xs) r) os
 outcomes_to j fs xs s r [] l = tt
 outcomes_to j fs xs s r (o ∷ os) l = (outcome_to j fs xs s r o l.0, outcomes_to j fs xs s r os l.1)
 
 all_land_to : (j : Case) (fs : ℕ → Fact) (xs : ℕ → ℕ → Fact) → Restates j fs xs → (r : Routine) (a : ℕ) (m : Meaning) → HoldsFor j V4 r a m → HoldsFor (restated j fs xs) V4 r a m
 all_land_to j fs xs s r a m h =
     let alike = outcomes_alike j r (outcomes_of (place_in j r) (fact_at j a) a m) (outcomes_of (place_in j r) (fs a) a m) (outcomes_agree (place_in j r) a m (s.facts a)) in
-    subst (λ pl. EachOutcome (OutcomeLands (restated j fs xs) r) (outcomes_of pl (fs a) a m)) (place_same j fs xs r)
+    subst (λ pl. EachSuccessor (SuccessorLands (restated j fs xs) r) (outcomes_of pl (fs a) a m)) (place_same j fs xs r)
     (outcomes_to j fs xs s r (outcomes_of (place_in j r) (fs a) a m) (alike.0 h))
 
 after_to : (j : Case) (fs : ℕ → Fact) (xs : ℕ → ℕ → Fact) → Restates j fs xs → (r : Routine) (a e : ℕ) → LandsAfter j r a e → LandsAfter (restated j fs xs) r a e

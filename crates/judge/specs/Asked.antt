@@ -10,7 +10,7 @@ use Rattle.facts.specs.declared.Condition.TheVariants.{V3}
 use Rattle.judge.specs.Judged.{judged}
 use Rattle.judge.specs.Spots.{case_of, routine_at}
 use Rattle.judge.specs.Conditions.{Case, HoldsAt, IsLine, IsPlaced, fact_at, place_in, place_among}
-use Rattle.judge.specs.declared.spot.Spot.{Spot}
+use Rattle.judge.specs.declared.point.ProgramPoint.{ProgramPoint}
 use Rattle.judge.specs.declared.lines.Case.{Case as KeptCase}
 use Rattle.judge.specs.declared.lines.Body.{Body}
 use Rattle.judge.specs.declared.lines.Body.TheVariants.{Main, Of}
@@ -20,7 +20,7 @@ abbrev pub case_kept : {A C : Type 0} → (C → Certificate) → KeptCase A C �
 case_kept claims c = judged c.image.now c.declaration.now (claims c.claims.now)
 
 -- The words that are possible at a spot.
-abbrev pub possible_at : {A C : Type 0} → (C → Certificate) → Spot A C → Words
+abbrev pub possible_at : {A C : Type 0} → (C → Certificate) → ProgramPoint A C → Words
 possible_at claims s = possible (place_in (case_of claims s) (routine_at s)) (fact_at (case_of claims s) s.at) s.at
 
 -- The condition asks for few words.

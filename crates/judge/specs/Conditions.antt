@@ -8,7 +8,7 @@ use Rattle.declaration.specs.Declaration.{Routine, Declaration}
 use Rattle.policy.specs.Rules.{IsSupported, HaltsDeclared}
 use Rattle.domain.specs.Facts.{Fact, Place, possible, Entails, EntailsOffsets, joined}
 use Rattle.domain.specs.Changes.{with_offsets}
-use Rattle.facts.specs.Outcomes.{Outcome, Goes, CallsTo, Returns, outcomes_of, targets}
+use Rattle.facts.specs.Outcomes.{Successor, Goes, CallsTo, Returns, outcomes_of, targets}
 use Rattle.facts.specs.Conditions.{WritesAreDeclared, EntriesAreKept, WritesAreListed, ReadsAreListed}
 use Rattle.facts.specs.Starts.{HoldsOfStarts}
 use Rattle.certificate.specs.Certificate.{Certificate, writes_of, place_of, claimed}
@@ -97,15 +97,15 @@ ReturnsWell j r a (Jmp i c) =
 ReturnsWell j r a _ = Unit {0}
 
 -- Where the run goes on after an outcome, there is a fact that it entails.
-abbrev pub OutcomeLands : Case → Routine → Outcome → Type 0
-OutcomeLands j r (Goes next f) = (a : ℕ) → a < 4096 → next a ≡ true → LandsAt j r a f
-OutcomeLands j r (CallsTo next f) = Unit {0}
-OutcomeLands j r (Returns f) = Unit {0}
+abbrev pub SuccessorLands : Case → Routine → Successor → Type 0
+SuccessorLands j r (Goes next f) = (a : ℕ) → a < 4096 → next a ≡ true → LandsAt j r a f
+SuccessorLands j r (CallsTo next f) = Unit {0}
+SuccessorLands j r (Returns f) = Unit {0}
 
 -- Each outcome of the list has the property.
-abbrev pub EachOutcome : (Outcome → Type 0) → List Outcome → Type 0
-EachOutcome p [] = Unit {0}
-EachOutcome p (o ∷ os) = p o × EachOutcome p os
+abbrev pub EachSuccessor : (Successor → Type 0) → List Successor → Type 0
+EachSuccessor p [] = Unit {0}
+EachSuccessor p (o ∷ os) = p o × EachSuccessor p os
 
 -- After each exit of the callee, what the caller knew and what the exit says entail the fact at the return place.
 abbrev pub LandsAfter : Case → Routine → ℕ → ℕ → Type 0
@@ -118,7 +118,7 @@ abbrev pub HoldsFor : Case → Condition → Routine → ℕ → Meaning → Typ
 HoldsFor j V1 r a m = Unit {0}
 HoldsFor j V2 r a m = Unit {0}
 HoldsFor j V3 r a m = IsSupported m
-HoldsFor j V4 r a m = EachOutcome (OutcomeLands j r) (outcomes_of (place_in j r) (fact_at j a) a m)
+HoldsFor j V4 r a m = EachSuccessor (SuccessorLands j r) (outcomes_of (place_in j r) (fact_at j a) a m)
 HoldsFor j V5 r a m = WritesAreDeclared (place_in j r) (fact_at j a) m
 HoldsFor j V6 r a m = WritesAreListed (place_in j r) (writes_of j.certificate r) (fact_at j a) m
 HoldsFor j V7 r a m = KeepsPointer m × EachTarget j r a m (λ e. MayCall j r e)

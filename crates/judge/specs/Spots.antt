@@ -7,13 +7,13 @@ use Rattle.declaration.specs.Kept as declared
 use Rattle.domain.specs.Meaning.{meaning}
 use Rattle.facts.specs.Places as kept
 use Rattle.certificate.specs.Certificate.{Certificate, sites_of, writes_of}
-use Rattle.judge.specs.declared.spot.Spot.{Spot}
+use Rattle.judge.specs.declared.point.ProgramPoint.{ProgramPoint}
 use Rattle.facts.specs.declared.Condition.{Condition}
 use Rattle.judge.specs.Pages.{Shows}
 use Rattle.judge.specs.Conditions.{Case, fact_at, IsIn, HoldsFor}
 
 -- What is judged there.
-abbrev pub case_of : {A C : Type 0} → (C → Certificate) → Spot A C → Case
+abbrev pub case_of : {A C : Type 0} → (C → Certificate) → ProgramPoint A C → Case
 case_of claims s = record {
   image = image_of s.place.image.now;
   declaration = declared.meaning s.place.declaration.now;
@@ -21,12 +21,12 @@ case_of claims s = record {
 }
 
 -- The routine whose body has the address.
-abbrev pub routine_at : {A C : Type 0} → Spot A C → Routine
+abbrev pub routine_at : {A C : Type 0} → ProgramPoint A C → Routine
 routine_at s = kept.routine_of s.place.routine
 
 -- The fact is the one of the address, which is in the routine's body, and the place has what is claimed of the
 -- routine; the other fact that is at hand is claimed too.
-pub record IsSpot {A C : Type 0} (claims : C → Certificate) (s : Spot A C) : Type 0 where
+pub record IsProgramPoint {A C : Type 0} (claims : C → Certificate) (s : ProgramPoint A C) : Type 0 where
   pub fact : meaning s.fact.now ≡ fact_at (case_of claims s) s.at
   pub stands : IsIn (case_of claims s) (routine_at s) s.at
   pub sites : kept.sites_of s.place.routine ≡ sites_of (claims s.claims.now) (routine_at s)
@@ -34,6 +34,6 @@ pub record IsSpot {A C : Type 0} (claims : C → Certificate) (s : Spot A C) : T
   pub following : Shows (claims s.claims.now) s.following.now
 
 -- What a condition asks there of a word.
-abbrev pub HoldsHere : {A C : Type 0} → (C → Certificate) → Spot A C → Condition → ℕ → Type 0
+abbrev pub HoldsHere : {A C : Type 0} → (C → Certificate) → ProgramPoint A C → Condition → ℕ → Type 0
 HoldsHere claims s v w =
     HoldsFor (case_of claims s) v (routine_at s) s.at (meaning_of (case_of claims s).declaration.profile s.at w)

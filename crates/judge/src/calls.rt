@@ -9,12 +9,12 @@ ghost use Rattle.domain.specs.Meaning.{meaning};
 ghost use Rattle.facts.specs.declared.Condition.TheVariants.{V7, V8, V9, V10, V11, V12};
 ghost use Rattle.judge.specs.Conditions.{MayCall, MayReturn, CoversCallee, LandsAfter, EachTarget, fact_at};
 ghost use Rattle.judge.specs.Callees.{HoldsOfCallee, IsBelow, LandsBy, ReturnsBy, ReturnsThrough};
-ghost use Rattle.judge.specs.Spots.{IsSpot, case_of, routine_at, HoldsHere};
+ghost use Rattle.judge.specs.Spots.{IsProgramPoint, case_of, routine_at, HoldsHere};
 
 use crate::claims::Claims;
-use crate::spot::{Others, Spot};
-use certificate::Routine;
-use facts::{Condition, Fact, Known, Room, entails};
+use crate::point::{Others, ProgramPoint};
+use certificate::RoutineClaim;
+use facts::{AbstractState, Condition, Fact, Scratch, entails};
 use std::alloc::Allocator;
 use word12::Word;
 use wordset::WordSet;
@@ -23,10 +23,10 @@ use wordset::WordSet;
 /// 7777.
 const LAST_SITE: usize = 0o7767;
 
-impl<A: Allocator, C: Claims> Spot<'_, A, C> {
+impl<A: Allocator, C: Claims> ProgramPoint<'_, A, C> {
     /// Whether a word calls listed entries of lower rank alone, and not through an auto-index cell.
     pub(crate) fn may_call(&self, word: Word, others: &mut Others) -> bool
-        requires { IsSpot C.claims self.now }
+        requires { IsProgramPoint C.claims self.now }
         ensures { IsTrue result ↔ HoldsHere C.claims self.now V7 word }
     {
         if self.place.steps_call_pointer(self.at, word) {
@@ -37,7 +37,7 @@ impl<A: Allocator, C: Claims> Spot<'_, A, C> {
 
     /// Whether the routine, if it isn't main, covers all that a word calls.
     pub(crate) fn covers_callees(&self, word: Word, others: &mut Others) -> bool
-        requires { IsSpot C.claims self.now }
+        requires { IsProgramPoint C.claims self.now }
         ensures { IsTrue result ↔ HoldsHere C.claims self.now V8 word }
     {
         self.callees_pass(Condition::V8, word, others)
@@ -45,7 +45,7 @@ impl<A: Allocator, C: Claims> Spot<'_, A, C> {
 
     /// Whether the address is a site of all that a word calls.
     pub(crate) fn calls_from_sites(&self, word: Word, others: &mut Others) -> bool
-        requires { IsSpot C.claims self.now }
+        requires { IsProgramPoint C.claims self.now }
         ensures { IsTrue result ↔ HoldsHere C.claims self.now V9 word }
     {
         self.callees_pass(Condition::V9, word, others)
@@ -53,7 +53,7 @@ impl<A: Allocator, C: Claims> Spot<'_, A, C> {
 
     /// Whether the fact lands at the first address of all that a word calls.
     pub(crate) fn enters_callees(&self, word: Word, others: &mut Others) -> bool
-        requires { IsSpot C.claims self.now }
+        requires { IsProgramPoint C.claims self.now }
         ensures { IsTrue result ↔ HoldsHere C.claims self.now V10 word }
     {
         self.callees_pass(Condition::V10, word, others)
@@ -61,7 +61,7 @@ impl<A: Allocator, C: Claims> Spot<'_, A, C> {
 
     /// Whether the run lands after each return of all that a word calls.
     pub(crate) fn lands_after_calls(&self, word: Word, others: &mut Others) -> bool
-        requires { IsSpot C.claims self.now }
+        requires { IsProgramPoint C.claims self.now }
         ensures { IsTrue result ↔ HoldsHere C.claims self.now V11 word }
     {
         self.callees_pass(Condition::V11, word, others)
@@ -70,7 +70,7 @@ impl<A: Allocator, C: Claims> Spot<'_, A, C> {
     /// Whether a word that returns does so from its own routine, at declared offsets whose exits
     /// are entailed.
     pub(crate) fn returns_well(&self, word: Word, exit: &mut Fact) -> bool
-        requires { IsSpot C.claims self.now }
+        requires { IsProgramPoint C.claims self.now }
         ensures { IsTrue result ↔ HoldsHere C.claims self.now V12 word }
     {
         match self.place.returned_entry(self.at, word) {
@@ -81,7 +81,7 @@ impl<A: Allocator, C: Claims> Spot<'_, A, C> {
 
     /// Whether a condition on calls holds of each callee of a word.
     fn callees_pass(&self, condition: Condition, word: Word, others: &mut Others) -> bool
-        requires { IsSpot C.claims self.now }
+        requires { IsProgramPoint C.claims self.now }
         ensures { IsTrue result ↔
             EachTarget (case_of C.claims self.now) (routine_at self.now) self.now.at
             (meaning_of (case_of C.claims self.now).declaration.profile self.now.at word)
@@ -98,7 +98,7 @@ impl<A: Allocator, C: Claims> Spot<'_, A, C> {
     /// alone.
     #[inline(never)]
     fn each_callee_passes(&self, condition: Condition, word: Word, others: &mut Others) -> bool
-        requires { IsSpot C.claims self.now }
+        requires { IsProgramPoint C.claims self.now }
         ensures { IsTrue result ↔
             EachTarget (case_of C.claims self.now) (routine_at self.now) self.now.at
             (meaning_of (case_of C.claims self.now).declaration.profile self.now.at word)
@@ -118,7 +118,7 @@ impl<A: Allocator, C: Claims> Spot<'_, A, C> {
 
     /// Whether a condition on calls holds of a callee.
     fn callee_passes(&self, condition: Condition, entry: Word, others: &mut Others) -> bool
-        requires { IsSpot C.claims self.now }
+        requires { IsProgramPoint C.claims self.now }
         ensures { IsTrue result ↔
             HoldsOfCallee (case_of C.claims self.now) condition (routine_at self.now)
             self.now.at entry }
@@ -134,7 +134,7 @@ impl<A: Allocator, C: Claims> Spot<'_, A, C> {
     }
 
     /// What is claimed of the routine of an entry, and nothing where it isn't listed.
-    fn claimed(&self, entry: Word) -> Routine
+    fn claimed(&self, entry: Word) -> RoutineClaim
         ensures rank { result.rank ≡ (case_of C.claims self.now).certificate.rank entry }
         ensures sites { words result.sites ≡ (case_of C.claims self.now).certificate.sites entry }
         ensures writes { words result.writes ≡
@@ -142,7 +142,7 @@ impl<A: Allocator, C: Claims> Spot<'_, A, C> {
     {
         match self.claims.routine(entry) {
             Some(routine) => routine,
-            None => Routine {
+            None => RoutineClaim {
                 rank: 0,
                 sites: WordSet::empty(),
                 writes: WordSet::empty(),
@@ -180,7 +180,7 @@ impl<A: Allocator, C: Claims> Spot<'_, A, C> {
     /// its written set, and isn't written there itself.
     #[inline(never)]
     fn covers(&self, entry: Word) -> bool
-        requires { IsSpot C.claims self.now }
+        requires { IsProgramPoint C.claims self.now }
         ensures { IsTrue result ↔
             CoversCallee (case_of C.claims self.now).certificate (routine_at self.now) entry }
     {
@@ -213,17 +213,17 @@ impl<A: Allocator, C: Claims> Spot<'_, A, C> {
     /// up.
     #[inline(never)]
     fn enters(&self, entry: Word, next: &mut Fact) -> bool
-        requires { IsSpot C.claims self.now }
+        requires { IsProgramPoint C.claims self.now }
         ensures { IsTrue result ↔
             HoldsOfCallee (case_of C.claims self.now) V10 (routine_at self.now) self.now.at entry }
     {
-        let known = Known::entering(self.fact);
+        let known = AbstractState::entering(self.fact);
         self.lands(&Some(entry), entry.increment(), &known, next)
     }
 
     /// Whether the run lands after each return that is claimed of an entry.
     fn lands_after(&self, entry: Word, others: &mut Others) -> bool
-        requires { IsSpot C.claims self.now }
+        requires { IsProgramPoint C.claims self.now }
         ensures { IsTrue result ↔
             LandsAfter (case_of C.claims self.now) (routine_at self.now) self.now.at entry }
     {
@@ -237,7 +237,7 @@ impl<A: Allocator, C: Claims> Spot<'_, A, C> {
 
     /// Whether the run lands after a return by an offset, if that is claimed of an entry.
     fn lands_by(&self, entry: Word, offset: usize, others: &mut Others) -> bool
-        requires spot { IsSpot C.claims self.now }
+        requires spot { IsProgramPoint C.claims self.now }
         requires offset { offset < 8 }
         ensures { IsTrue result ↔
             LandsBy (case_of C.claims self.now) (routine_at self.now) self.now.at entry offset }
@@ -263,9 +263,9 @@ impl<A: Allocator, C: Claims> Spot<'_, A, C> {
         offset: usize,
         exit: &Fact,
         next: &mut Fact,
-        room: &mut Room,
+        room: &mut Scratch,
     ) -> bool
-        requires spot { IsSpot C.claims self.now }
+        requires spot { IsProgramPoint C.claims self.now }
         requires offset { offset < 8 }
         requires there { (case_of C.claims self.now).certificate.has_exit entry offset ≡ true }
         requires exit { with_offsets everything (meaning exit.now) ≡
@@ -274,14 +274,14 @@ impl<A: Allocator, C: Claims> Spot<'_, A, C> {
             LandsBy (case_of C.claims self.now) (routine_at self.now) self.now.at entry offset }
     {
         let written = self.claimed(entry).writes;
-        let known = Known::after_call(self.fact, exit, &written, room);
+        let known = AbstractState::after_call(self.fact, exit, &written, room);
         let at = self.at.increment().add(Word::from_index(offset));
         self.lands(&self.owner(), at, &known, next)
     }
 
     /// Whether a return through an entry is the routine's own, and each offset of the fact passes.
     fn returns_through(&self, entry: Word, exit: &mut Fact) -> bool
-        requires { IsSpot C.claims self.now }
+        requires { IsProgramPoint C.claims self.now }
         ensures { IsTrue result ↔
             ReturnsThrough (case_of C.claims self.now) (routine_at self.now) self.now.at entry }
     {
@@ -298,7 +298,7 @@ impl<A: Allocator, C: Claims> Spot<'_, A, C> {
 
     /// Whether the routine of an entry may return by an offset, if the fact has that.
     fn returns_by(&self, entry: Word, offset: usize, exit: &mut Fact) -> bool
-        requires spot { IsSpot C.claims self.now }
+        requires spot { IsProgramPoint C.claims self.now }
         requires offset { offset < 8 }
         ensures { IsTrue result ↔
             ReturnsBy (case_of C.claims self.now) self.now.at entry offset }
@@ -321,7 +321,7 @@ impl<A: Allocator, C: Claims> Spot<'_, A, C> {
 
     /// Whether the routine of an entry may return by an offset with what the fact says.
     fn may_return(&self, entry: Word, offset: usize, exit: &mut Fact) -> bool
-        requires spot { IsSpot C.claims self.now }
+        requires spot { IsProgramPoint C.claims self.now }
         requires offset { offset < 8 }
         ensures { IsTrue result ↔
             MayReturn (case_of C.claims self.now) entry (fact_at (case_of C.claims self.now)

@@ -9,7 +9,7 @@ ghost use Rattle.certificate.specs.Certificate as said;
 ghost use Rattle.certificate.specs.Certificate.{names_routine, claimed};
 ghost use Rattle.certificate.specs.Kept.{claims};
 
-use certificate::{Certificate, Routine};
+use certificate::{Certificate, RoutineClaim};
 use facts::Fact;
 use std::alloc::Allocator;
 use word12::Word;
@@ -21,7 +21,7 @@ pub trait Claims {
 
     /// What is claimed of the routine of an entry, if it is listed. One that isn't has rank 0, no
     /// sites and no written set.
-    fn routine(&self, entry: Word) -> Option<Routine>
+    fn routine(&self, entry: Word) -> Option<RoutineClaim>
         ensures listed { is_some result ≡ (claims self.now).listed entry }
         ensures rank { IfSome result (λ r. r.rank ≡ (claims self.now).rank entry) }
         ensures sites { IfSome result (λ r. words r.sites ≡ (claims self.now).sites entry) }
@@ -61,7 +61,7 @@ pub trait Claims {
 impl<A: Allocator> Claims for Certificate<A> {
     ghost claims = { claims };
 
-    fn routine(&self, entry: Word) -> Option<Routine> {
+    fn routine(&self, entry: Word) -> Option<RoutineClaim> {
         self.routine(entry)
     }
 

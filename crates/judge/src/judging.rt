@@ -10,7 +10,7 @@ ghost use Rattle.judge.specs.Pages.{Shows};
 
 use crate::claims::Claims;
 use crate::lines::{Body, Case};
-use crate::spot::{Others, Page};
+use crate::point::{FactCache, Others};
 use bin_tape::Image;
 use declaration::Declaration;
 use facts::Condition;
@@ -52,8 +52,8 @@ pub fn judge<A: Allocator, C: Claims>(
         image,
         declaration,
         claims,
-        &mut Page::new(),
-        &mut Page::new(),
+        &mut FactCache::new(),
+        &mut FactCache::new(),
         &mut Others::new(),
     )
 }
@@ -65,8 +65,8 @@ fn judge_on<A: Allocator, C: Claims>(
     image: &Image,
     declaration: &Declaration<A>,
     claims: &C,
-    even: &mut Page,
-    odd: &mut Page,
+    even: &mut FactCache,
+    odd: &mut FactCache,
     others: &mut Others,
 ) -> Result<(), Refusal>
     requires even { Shows (C.claims claims.now) even.old }

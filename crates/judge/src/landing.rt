@@ -4,21 +4,21 @@ ghost use Rattle.std.specs.Prelude.{ℕ, ◌≡◌, ◌<◌, ◌↔◌, true, Is
 ghost use Rattle.wordset.specs.Lanes.{words};
 ghost use Rattle.domain.specs.Facts as said;
 ghost use Rattle.domain.specs.Same.{Agree};
-ghost use Rattle.facts.specs.Knowing.{known_of};
-ghost use Rattle.facts.specs.Slots.{outcome_of, slot, slots};
+ghost use Rattle.facts.specs.Knowing.{fact_of_state};
+ghost use Rattle.facts.specs.Slots.{successor_of, slot, slots};
 ghost use Rattle.facts.specs.declared.Condition.TheVariants.{V4};
-ghost use Rattle.judge.specs.Conditions.{LandsAt, OutcomeLands, EachOutcome};
+ghost use Rattle.judge.specs.Conditions.{LandsAt, SuccessorLands, EachSuccessor};
 ghost use Rattle.judge.specs.Pages.{Shows};
-ghost use Rattle.judge.specs.Spots.{IsSpot, case_of, routine_at, HoldsHere};
+ghost use Rattle.judge.specs.Spots.{IsProgramPoint, case_of, routine_at, HoldsHere};
 
 use crate::claims::Claims;
-use crate::spot::{Others, Spot};
-use facts::{Fact, Known, Outcome, outcomes};
+use crate::point::{Others, ProgramPoint};
+use facts::{AbstractState, Fact, Successor, outcomes};
 use std::alloc::Allocator;
 use word12::Word;
 use wordset::WordSet;
 
-impl<A: Allocator, C: Claims> Spot<'_, A, C> {
+impl<A: Allocator, C: Claims> ProgramPoint<'_, A, C> {
     /// The routine whose body has the address; none is main.
     pub(crate) fn owner(&self) -> Option<Word>
         ensures { result ≡ routine_at self.now }
@@ -44,11 +44,11 @@ impl<A: Allocator, C: Claims> Spot<'_, A, C> {
         &self,
         owner: &Option<Word>,
         at: Word,
-        known: &Known<'_>,
+        known: &AbstractState<'_>,
         next: &mut Fact,
     ) -> bool
         requires { Shows (C.claims self.now.claims.now) self.now.following.now }
-        ensures { (f : said.Fact) → Agree (known_of known.now) f →
+        ensures { (f : said.Fact) → Agree (fact_of_state known.now) f →
             IsTrue result ↔ LandsAt (case_of C.claims self.now) owner.now at f }
     {
         if !self.is_inside(owner, at) {
@@ -64,10 +64,10 @@ impl<A: Allocator, C: Claims> Spot<'_, A, C> {
     }
 
     /// Whether what is known lands in the same body at each of some addresses.
-    fn lands_at_each(&self, addresses: &WordSet, known: &Known<'_>, next: &mut Fact) -> bool
+    fn lands_at_each(&self, addresses: &WordSet, known: &AbstractState<'_>, next: &mut Fact) -> bool
         requires { Shows (C.claims self.now.claims.now) self.now.following.now }
         ensures { IsTrue result ↔ ((a : ℕ) → a < 4096 → words addresses.now a ≡ true →
-            LandsAt (case_of C.claims self.now) (routine_at self.now) a (known_of known.now)) }
+            LandsAt (case_of C.claims self.now) (routine_at self.now) a (fact_of_state known.now)) }
     {
         let owner = self.owner();
         for at in addresses.iter() {
@@ -79,36 +79,36 @@ impl<A: Allocator, C: Claims> Spot<'_, A, C> {
     }
 
     /// Whether an outcome that goes on lands wherever it goes.
-    fn outcome_lands(&self, outcome: &Outcome<'_>, next: &mut Fact) -> bool
+    fn successor_lands(&self, outcome: &Successor<'_>, next: &mut Fact) -> bool
         requires { Shows (C.claims self.now.claims.now) self.now.following.now }
         ensures { IsTrue result ↔
-            OutcomeLands (case_of C.claims self.now) (routine_at self.now)
-            (outcome_of outcome.now) }
+            SuccessorLands (case_of C.claims self.now) (routine_at self.now)
+            (successor_of outcome.now) }
     {
         match outcome {
-            Outcome::Goes(addresses, known) => self.lands_at_each(*addresses, known, next),
-            Outcome::Calls(_, _) | Outcome::Returns(_) => true,
+            Successor::Goes(addresses, known) => self.lands_at_each(*addresses, known, next),
+            Successor::Calls(_, _) | Successor::Returns(_) => true,
         }
     }
 
     /// Whether an outcome lands, if it is there.
-    fn slot_lands(&self, outcome: &Option<Outcome<'_>>, next: &mut Fact) -> bool
+    fn slot_lands(&self, outcome: &Option<Successor<'_>>, next: &mut Fact) -> bool
         requires { Shows (C.claims self.now.claims.now) self.now.following.now }
         ensures { IsTrue result ↔
-            EachOutcome (OutcomeLands (case_of C.claims self.now) (routine_at self.now))
+            EachSuccessor (SuccessorLands (case_of C.claims self.now) (routine_at self.now))
             (slot outcome.now) }
     {
         match outcome {
             None => true,
-            Some(outcome) => self.outcome_lands(outcome, next),
+            Some(outcome) => self.successor_lands(outcome, next),
         }
     }
 
     /// Whether each of some outcomes lands, so far as they are there.
-    fn each_lands(&self, outcomes: &[Option<Outcome<'_>>], next: &mut Fact) -> bool
+    fn each_lands(&self, outcomes: &[Option<Successor<'_>>], next: &mut Fact) -> bool
         requires { Shows (C.claims self.now.claims.now) self.now.following.now }
         ensures { IsTrue result ↔
-            EachOutcome (OutcomeLands (case_of C.claims self.now) (routine_at self.now))
+            EachSuccessor (SuccessorLands (case_of C.claims self.now) (routine_at self.now))
             (slots outcomes.now) }
     {
         for outcome in outcomes {
@@ -121,7 +121,7 @@ impl<A: Allocator, C: Claims> Spot<'_, A, C> {
 
     /// Whether each outcome of a word that goes on lands wherever it goes.
     pub(crate) fn outcomes_land(&self, word: Word, others: &mut Others) -> bool
-        requires { IsSpot C.claims self.now }
+        requires { IsProgramPoint C.claims self.now }
         ensures { IsTrue result ↔ HoldsHere C.claims self.now V4 word }
     {
         self.each_lands(

@@ -9,11 +9,11 @@ mod judging;
 mod landing;
 pub mod laws;
 mod lines;
-mod spot;
+mod point;
 mod verdict;
 mod words;
 
-pub use certificate::Routine;
+pub use certificate::RoutineClaim;
 pub use claims::Claims;
 pub use facts::Condition;
 pub use judging::{Refusal, judge};

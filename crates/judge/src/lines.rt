@@ -9,11 +9,11 @@ ghost use Rattle.judge.specs.Pages.{Shows, Tells};
 ghost use Rattle.judge.specs.Asked.{case_kept, RoutinesArePlaced, routine_with, sites_with, writes_with, IsBody, HoldsBetween, FailsAtLine};
 
 use crate::claims::Claims;
-use crate::spot::{Others, Page, Spot};
+use crate::point::{FactCache, Others, ProgramPoint};
 use bin_tape::Image;
-use certificate::Routine;
+use certificate::RoutineClaim;
 use declaration::{Declaration, Owner};
-use facts::{Condition, Fact, Running, holds_before};
+use facts::{Condition, Context, Fact, holds_before};
 use std::alloc::Allocator;
 use word12::Word;
 
@@ -32,7 +32,7 @@ pub(crate) struct Case<'a, A: Allocator, C: Claims> {
 #[derive(Clone, Copy)]
 pub(crate) enum Body {
     Main,
-    Of(Word, Routine),
+    Of(Word, RoutineClaim),
 }
 
 impl Body {
@@ -78,14 +78,14 @@ impl Body {
     }
 
     /// The routine, if it isn't main's.
-    pub(crate) fn running(&self) -> Option<Running<'_>>
+    pub(crate) fn running(&self) -> Option<Context<'_>>
         ensures routine { routine_of result ≡ routine_with self.now }
         ensures sites { sites_of result ≡ sites_with self.now }
         ensures writes { writes_of result ≡ writes_with self.now }
     {
         match self {
             Body::Main => None,
-            Body::Of(entry, routine) => Some(Running {
+            Body::Of(entry, routine) => Some(Context {
                 entry: *entry,
                 sites: &routine.sites,
                 writes: &routine.writes,
@@ -103,7 +103,7 @@ fn has_offset(fact: &Fact) -> bool
 
 impl<A: Allocator, C: Claims> Case<'_, A, C> {
     /// Whether there is a fact at the start, and it holds of every start.
-    pub(crate) fn starts_well(&self, page: &mut Page) -> bool
+    pub(crate) fn starts_well(&self, page: &mut FactCache) -> bool
         requires { Shows (C.claims self.now.claims.now) page.old }
         ensures starts { IsTrue result ↔ StartsWell (case_kept C.claims self.now)
             (case_kept C.claims self.now).declaration.start }
@@ -157,8 +157,8 @@ impl<A: Allocator, C: Claims> Case<'_, A, C> {
     pub(crate) fn check_at(
         &self,
         at: Word,
-        even: &mut Page,
-        odd: &mut Page,
+        even: &mut FactCache,
+        odd: &mut FactCache,
         body: &mut Body,
         others: &mut Others,
     ) -> Result<(), Condition>
@@ -184,8 +184,8 @@ impl<A: Allocator, C: Claims> Case<'_, A, C> {
     fn check_page(
         &self,
         at: Word,
-        here: &mut Page,
-        following: &mut Page,
+        here: &mut FactCache,
+        following: &mut FactCache,
         body: &mut Body,
         others: &mut Others,
     ) -> Result<(), Condition>
@@ -214,7 +214,7 @@ impl<A: Allocator, C: Claims> Case<'_, A, C> {
         &self,
         at: Word,
         fact: &Fact,
-        following: &Page,
+        following: &FactCache,
         body: &mut Body,
         others: &mut Others,
     ) -> Result<(), Condition>
@@ -231,7 +231,7 @@ impl<A: Allocator, C: Claims> Case<'_, A, C> {
         if !self.finds_body(at, fact, body) {
             return Err(Condition::V2);
         }
-        Spot::of(
+        ProgramPoint::of(
             self.image,
             self.declaration,
             self.claims,

@@ -6,11 +6,11 @@ ghost use Rattle.wordset.specs.Words.{SameWords, one};
 ghost use Rattle.wordset.specs.Lanes.{words};
 ghost use Rattle.facts.specs.declared.Condition.TheVariants.{V3, V5, V6, V13, V14, V15};
 ghost use Rattle.judge.specs.Conditions.{HoldsAt, HoldsForEach, HasFewWords, place_among};
-ghost use Rattle.judge.specs.Spots.{IsSpot, HoldsHere, case_of};
+ghost use Rattle.judge.specs.Spots.{IsProgramPoint, HoldsHere, case_of};
 ghost use Rattle.judge.specs.Asked.{HoldsBetween, FailsFirst, asks_few, possible_at};
 
 use crate::claims::Claims;
-use crate::spot::{Others, Spot};
+use crate::point::{Others, ProgramPoint};
 use bin_tape::Image;
 use facts::Condition;
 use std::alloc::Allocator;
@@ -57,10 +57,10 @@ fn word_of(image: &Image, at: Word) -> Option<Word>
     image.get(at)
 }
 
-impl<A: Allocator, C: Claims> Spot<'_, A, C> {
+impl<A: Allocator, C: Claims> ProgramPoint<'_, A, C> {
     /// The first condition on words that fails here, if one does.
     pub(crate) fn check(&self, others: &mut Others) -> Result<(), Condition>
-        requires { IsSpot C.claims self.now }
+        requires { IsProgramPoint C.claims self.now }
         ensures { MatchResult result
             (λ _. HoldsBetween (case_of C.claims self.now) 2 15 self.now.at)
             (λ v. FailsFirst (case_of C.claims self.now) 2 self.now.at v) }
@@ -73,7 +73,7 @@ impl<A: Allocator, C: Claims> Spot<'_, A, C> {
 
     /// The tape's word here, where no other one is possible.
     fn only_word(&self) -> Option<Word>
-        requires { IsSpot C.claims self.now }
+        requires { IsProgramPoint C.claims self.now }
         ensures { IfSome result (λ w. SameWords (possible_at C.claims self.now) (one w)) }
     {
         if self.place.declaration.is_variable(self.at) {
@@ -84,7 +84,7 @@ impl<A: Allocator, C: Claims> Spot<'_, A, C> {
 
     /// The first condition that fails here of the only word that is possible, if one does.
     fn check_word(&self, word: Word, others: &mut Others) -> Result<(), Condition>
-        requires spot { IsSpot C.claims self.now }
+        requires spot { IsProgramPoint C.claims self.now }
         requires only { SameWords (possible_at C.claims self.now) (one word) }
         ensures { MatchResult result
             (λ _. HoldsBetween (case_of C.claims self.now) 2 15 self.now.at)
@@ -101,7 +101,7 @@ impl<A: Allocator, C: Claims> Spot<'_, A, C> {
 
     /// Whether a condition holds here, where a word is the only one that is possible.
     fn holds_for_only(&self, condition: Condition, word: Word, others: &mut Others) -> bool
-        requires spot { IsSpot C.claims self.now }
+        requires spot { IsProgramPoint C.claims self.now }
         requires only { SameWords (possible_at C.claims self.now) (one word) }
         requires past { 2 ≤ place_among condition }
         ensures { IsTrue result ↔ HoldsAt (case_of C.claims self.now) condition self.now.at }
@@ -115,7 +115,7 @@ impl<A: Allocator, C: Claims> Spot<'_, A, C> {
     /// for them is made here alone.
     #[inline(never)]
     fn check_words(&self, others: &mut Others) -> Result<(), Condition>
-        requires { IsSpot C.claims self.now }
+        requires { IsProgramPoint C.claims self.now }
         ensures { MatchResult result
             (λ _. HoldsBetween (case_of C.claims self.now) 2 15 self.now.at)
             (λ v. FailsFirst (case_of C.claims self.now) 2 self.now.at v) }
@@ -132,7 +132,7 @@ impl<A: Allocator, C: Claims> Spot<'_, A, C> {
 
     /// The words that are possible here.
     fn possible_words(&self) -> WordSet
-        requires { IsSpot C.claims self.now }
+        requires { IsProgramPoint C.claims self.now }
         ensures { SameWords (words result) (possible_at C.claims self.now) }
     {
         self.place.possible_words(self.fact, self.at)
@@ -140,7 +140,7 @@ impl<A: Allocator, C: Claims> Spot<'_, A, C> {
 
     /// Whether a condition holds here.
     fn holds(&self, condition: Condition, possible: &WordSet, others: &mut Others) -> bool
-        requires spot { IsSpot C.claims self.now }
+        requires spot { IsProgramPoint C.claims self.now }
         requires possible { SameWords (words possible.now) (possible_at C.claims self.now) }
         requires past { 2 ≤ place_among condition }
         ensures { IsTrue result ↔ HoldsAt (case_of C.claims self.now) condition self.now.at }
@@ -153,7 +153,7 @@ impl<A: Allocator, C: Claims> Spot<'_, A, C> {
 
     /// Whether few enough words are possible here, where a condition asks for few.
     fn are_few(&self, condition: Condition, possible: &WordSet) -> bool
-        requires spot { IsSpot C.claims self.now }
+        requires spot { IsProgramPoint C.claims self.now }
         requires possible { SameWords (words possible.now) (possible_at C.claims self.now) }
         ensures { IsTrue result ↔
             (asks_few condition ≡ true → HasFewWords (case_of C.claims self.now) self.now.at) }
@@ -167,7 +167,7 @@ impl<A: Allocator, C: Claims> Spot<'_, A, C> {
 
     /// Whether a condition holds of each word that is possible here.
     fn holds_for_each(&self, condition: Condition, possible: &WordSet, others: &mut Others) -> bool
-        requires spot { IsSpot C.claims self.now }
+        requires spot { IsProgramPoint C.claims self.now }
         requires possible { SameWords (words possible.now) (possible_at C.claims self.now) }
         ensures { IsTrue result ↔ HoldsForEach (case_of C.claims self.now) condition self.now.at }
     {
@@ -184,7 +184,7 @@ impl<A: Allocator, C: Claims> Spot<'_, A, C> {
 
     /// Whether a condition holds of a word here.
     fn holds_for(&self, condition: Condition, word: Word, others: &mut Others) -> bool
-        requires { IsSpot C.claims self.now }
+        requires { IsProgramPoint C.claims self.now }
         ensures { IsTrue result ↔ HoldsHere C.claims self.now condition word }
     {
         match condition {
@@ -214,7 +214,7 @@ impl<A: Allocator, C: Claims> Spot<'_, A, C> {
 
     /// Whether each cell that a word may write is a variable or an entry.
     fn writes_are_declared(&self, word: Word) -> bool
-        requires { IsSpot C.claims self.now }
+        requires { IsProgramPoint C.claims self.now }
         ensures { IsTrue result ↔ HoldsHere C.claims self.now V5 word }
     {
         self.place.writes_are_declared(self.fact, self.at, word)
@@ -222,7 +222,7 @@ impl<A: Allocator, C: Claims> Spot<'_, A, C> {
 
     /// Whether a word writes no entry, save where ISZ counts the routine's own.
     fn entries_are_kept(&self, word: Word) -> bool
-        requires { IsSpot C.claims self.now }
+        requires { IsProgramPoint C.claims self.now }
         ensures { IsTrue result ↔ HoldsHere C.claims self.now V14 word }
     {
         self.place.entries_are_kept(self.fact, self.at, word)
@@ -230,7 +230,7 @@ impl<A: Allocator, C: Claims> Spot<'_, A, C> {
 
     /// Whether each cell that a word may write is one that the routine may write.
     fn writes_are_listed(&self, word: Word) -> bool
-        requires { IsSpot C.claims self.now }
+        requires { IsProgramPoint C.claims self.now }
         ensures { IsTrue result ↔ HoldsHere C.claims self.now V6 word }
     {
         self.place.writes_are_listed(self.fact, self.at, word)
@@ -245,7 +245,7 @@ impl<A: Allocator, C: Claims> Spot<'_, A, C> {
 
     /// Whether each cell that a word may read is on the list of reads, if there is one.
     fn reads_are_listed(&self, word: Word) -> bool
-        requires { IsSpot C.claims self.now }
+        requires { IsProgramPoint C.claims self.now }
         ensures { IsTrue result ↔ HoldsHere C.claims self.now V15 word }
     {
         self.place.reads_are_listed(self.fact, self.at, word)

@@ -6,7 +6,7 @@ use crate::fixtures::{
 use analyser::{GuessFault, Turns, guess_within};
 use certificate::{Certificate, Version};
 use declaration::Declaration;
-use facts::{Equation, Fact, Name, Offsets, entails_return};
+use facts::{CountedOffsets, Equation, Fact, Name, entails_return};
 use instruct::Profile;
 use judge::certify;
 use pal_asm::{assemble, translate};
@@ -202,7 +202,7 @@ fn a_fact_tells_what_it_was_told(rt: HostRuntime) {
     assert_eq!(rt; fact.set(&Name::Cell(word(0o10))).count(), 5);
     assert!(rt; fact.set(&Name::Cell(word(0o11))).is_all() && fact.offsets().is_empty());
     fact.set_mq(WordSet::range(word(3), word(5)));
-    let mut offsets = Offsets::none();
+    let mut offsets = CountedOffsets::none();
     offsets.insert(7);
     fact.set_offsets(offsets);
     assert!(rt; fact.mq().count() == 3 && fact.offsets() == offsets);
@@ -216,7 +216,7 @@ fn a_return_brings_the_exit_and_keeps_what_is_not_written(rt: HostRuntime) {
     let mut exit = Fact::any();
     exit.set_accumulator(WordSet::one(Word::ZERO));
     exit.set_link(Links::one(Link::CLEAR));
-    exit.set_offsets(Offsets::all());
+    exit.set_offsets(CountedOffsets::all());
     let none = WordSet::empty();
     assert!(rt; entails_return(&call, &exit, &none, &hello));
     assert!(rt; !entails_return(&call, &exit, &WordSet::one(word(0o224)), &hello));

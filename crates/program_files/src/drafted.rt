@@ -4,9 +4,9 @@ ghost use Rattle.std.specs.Prelude.{◌≡◌, false};
 
 use crate::files::{open_input, open_output};
 use command_line::Destination;
+use command_parts::status::{Fault, Status};
 use report_commands::drafting::report_draft;
 use report_commands::reporting::{Form, SourceNotes};
-use command_parts::status::{Fault, Status};
 use std::alloc::Global;
 use std::rt::Files;
 use streams::ByteSource;

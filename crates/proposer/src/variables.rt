@@ -15,9 +15,9 @@ ghost use Rattle.proposer.specs.Touched.{IsBody, IsTouched, IsTouchedBy, IsTouch
 ghost use Rattle.proposer.specs.declared.variables.Access.TheVariants.{Read};
 
 use bin_tape::Image;
-use certificate::{Certificate, Routine};
+use certificate::{Certificate, RoutineClaim};
 use declaration::{Declaration, Owner};
-use facts::{Fact, Place, Running, reads, writes};
+use facts::{Context, Fact, Place, reads, writes};
 use std::alloc::Allocator;
 use word12::Word;
 use wordset::WordSet;
@@ -27,18 +27,18 @@ use wordset::WordSet;
 #[derive(Clone, Copy)]
 enum Body {
     Main,
-    Of(Word, Routine),
+    Of(Word, RoutineClaim),
 }
 
 impl Body {
     /// The routine, if it isn't main's.
-    fn running(&self) -> Option<Running<'_>>
+    fn running(&self) -> Option<Context<'_>>
         ensures routine { routine_of result ≡ routine_with self.now }
         ensures sites { sites_of result ≡ sites_with self.now }
     {
         match self {
             Body::Main => None,
-            Body::Of(entry, routine) => Some(Running {
+            Body::Of(entry, routine) => Some(Context {
                 entry: *entry,
                 sites: &routine.sites,
                 writes: &routine.writes,

@@ -4,11 +4,11 @@ use Rattle.std.specs.Prelude.{IfSome}
 use Rattle.declaration.specs.Declaration.{Routine, Declaration}
 use Rattle.domain.specs.Facts.{Fact, Place}
 use Rattle.domain.specs.Same.{Agree}
-use Rattle.facts.specs.Agreeing.{AgreeingOutcome, AgreeingOutcomes}
-use Rattle.facts.specs.Outcomes.{Outcome, Goes, CallsTo, Returns}
+use Rattle.facts.specs.Agreeing.{AgreeingSuccessor, AgreeingSuccessors}
+use Rattle.facts.specs.Outcomes.{Successor, Goes, CallsTo, Returns}
 use Rattle.facts.specs.Slots.{slot, slots}
 use Rattle.facts.specs.declared.Condition.{Condition}
-use Rattle.facts.specs.declared.outcome.Outcome.{Outcome as Given}
+use Rattle.facts.specs.declared.successor.Successor.{Successor as Given}
 use Rattle.facts.proofs.EntailLemmas.{drop_item}
 use Rattle.certificate.specs.Certificate.{Certificate}
 use Rattle.judge.specs.Conditions.{Case, IsIn, fact_at, place_in}
@@ -33,35 +33,35 @@ pub misses_equally : (c : Certificate) (d : Declaration) (r s : Routine) (a b : 
 misses_equally c d r s a b k f g l same at agree fact h =
     subst (λ x. Misses c d x b g l) same (subst (λ x. Misses c d r x g l) at (subst (λ x. Misses c d r a x l) fact (misses_agrees c d r a k f l agree h)))
 
-some_right : (p : Outcome → Type 0) (xs ys : List Outcome) → SomeOutcome p ys → SomeOutcome p (xs ++ ys)
+some_right : (p : Successor → Type 0) (xs ys : List Successor) → SomeOutcome p ys → SomeOutcome p (xs ++ ys)
 some_right p [] ys h = h
 some_right p (x ∷ xs) ys h = inr (some_right p xs ys h)
 
-some_left : (p : Outcome → Type 0) (xs ys : List Outcome) → SomeOutcome p xs → SomeOutcome p (xs ++ ys)
+some_left : (p : Successor → Type 0) (xs ys : List Successor) → SomeOutcome p xs → SomeOutcome p (xs ++ ys)
 some_left p [] ys h = absurd h
 some_left p (x ∷ xs) ys (inl h) = inl h
 some_left p (x ∷ xs) ys (inr h) = inr (some_left p xs ys h)
 
-some_drop : (p : Outcome → Type 0) (os : List (Option Given)) (i : ℕ) → SomeOutcome p (slots (drop i os)) → SomeOutcome p (slots os)
+some_drop : (p : Successor → Type 0) (os : List (Option Given)) (i : ℕ) → SomeOutcome p (slots (drop i os)) → SomeOutcome p (slots os)
 some_drop p [] zero h = h
 some_drop p [] (suc i) h = h
 some_drop p (o ∷ os) zero h = h
 some_drop p (o ∷ os) (suc i) h = some_right p (slot o) (slots os) (some_drop p os i h)
 
 -- What some outcome of a slot has, some outcome of the slots has.
-pub some_slot : (p : Outcome → Type 0) (os : List (Option Given)) (i : ℕ) (o : Option Given) → i < length os → o ≡ get_or os i o → SomeOutcome p (slot o) → SomeOutcome p (slots os)
+pub some_slot : (p : Successor → Type 0) (os : List (Option Given)) (i : ℕ) (o : Option Given) → i < length os → o ≡ get_or os i o → SomeOutcome p (slot o) → SomeOutcome p (slots os)
 some_slot p os i o lt item h =
     some_drop p os i (subst (λ xs. SomeOutcome p (slots xs)) (sym (drop_item os i o lt item)) (some_left p (slot o) (slots (drop (i + 1) os)) h))
 
 -- An outcome that agrees with one that misses.
-outcome_agrees : (c : Certificate) (pl : Place) (a : ℕ) (l : Landing) (o p : Outcome) → AgreeingOutcome o p → OutcomeMisses c pl a l o → OutcomeMisses c pl a l p
+outcome_agrees : (c : Certificate) (pl : Place) (a : ℕ) (l : Landing) (o p : Successor) → AgreeingSuccessor o p → OutcomeMisses c pl a l o → OutcomeMisses c pl a l p
 outcome_agrees c pl a l (Goes n f) (Goes m g) h q = (q.0, sym (h.0 a q.0) ∙ q.1, misses_agrees c pl.declaration pl.routine a f g l h.1 q.2)
 outcome_agrees c pl a l (Goes n f) (CallsTo m g) h q = absurd h
 outcome_agrees c pl a l (Goes n f) (Returns g) h q = absurd h
 outcome_agrees c pl a l (CallsTo n f) p h q = absurd q
 outcome_agrees c pl a l (Returns f) p h q = absurd q
 
-pub outcomes_agree : (c : Certificate) (pl : Place) (a : ℕ) (l : Landing) (os ps : List Outcome) → AgreeingOutcomes os ps → SomeOutcome (OutcomeMisses c pl a l) os → SomeOutcome (OutcomeMisses c pl a l) ps
+pub outcomes_agree : (c : Certificate) (pl : Place) (a : ℕ) (l : Landing) (os ps : List Successor) → AgreeingSuccessors os ps → SomeOutcome (OutcomeMisses c pl a l) os → SomeOutcome (OutcomeMisses c pl a l) ps
 outcomes_agree c pl a l [] ps h q = absurd q
 outcomes_agree c pl a l (o ∷ os) [] h q = absurd h
 outcomes_agree c pl a l (o ∷ os) (p ∷ ps) h (inl q) = inl (outcome_agrees c pl a l o p h.0 q)

@@ -5,11 +5,11 @@ use Rattle.wordset.specs.Words.{how_many}
 use Rattle.declaration.specs.Declaration.{Routine}
 use Rattle.facts.specs.Conditions.{called}
 use Rattle.domain.specs.Facts.{Fact, Place, possible}
-use Rattle.facts.specs.Outcomes.{Outcome, Goes, CallsTo, Returns, meaning_at, outcomes_at}
+use Rattle.facts.specs.Outcomes.{Successor, Goes, CallsTo, Returns, meaning_at, outcomes_at}
 use Rattle.facts.specs.declared.Condition.{Condition}
 use Rattle.facts.specs.declared.Condition.TheVariants.{V1, V2, V3, V6, V8}
 use Rattle.certificate.specs.Certificate.{Certificate}
-use Rattle.judge.specs.Conditions.{Case, EachOutcome, fact_at, place_in}
+use Rattle.judge.specs.Conditions.{Case, EachSuccessor, fact_at, place_in}
 use Rattle.reasons.specs.Breaches.{Breaks, CallBreaks, Misses, OutcomeMisses, ReturnBreaks, SomeOutcome, condition_of, condition_of_call}
 use Rattle.reasons.specs.Keeping.{Arrives, IsLowerIfListed, Keeps, KeepsAt, KeepsCall, OutcomeArrives, ReturnsThrough}
 use Rattle.reasons.specs.Spots.{IsSought}
@@ -23,7 +23,7 @@ use Rattle.reasons.specs.declared.breach.Landing.TheVariants.{NoFact, OtherBody,
 use Rattle.reasons.specs.declared.breach.ReturnBreach.{ReturnBreach}
 use Rattle.reasons.specs.declared.breach.ReturnBreach.TheVariants as return
 use Rattle.reasons.specs.declared.reason.Reason.TheVariants as why
-use Rattle.reasons.specs.declared.spot.Sought.TheVariants.{NotOfLines}
+use Rattle.reasons.specs.declared.point.Sought.TheVariants.{NotOfLines}
 use Rattle.reasons.specs.declared.stuck.TheConstants.{ORDER}
 use Rattle.reasons.proofs.RefuteLemmas.{both, declared_or, few, ranks_clash, too_high}
 
@@ -57,12 +57,12 @@ return_kept lines c pl f e (return.NotDeclared o) keeps breaks = absurd (both (p
 return_kept lines c pl f e (return.NoExit o) keeps breaks = refl
 return_kept lines c pl f e (return.Excluded o g) keeps breaks = refl
 
-outcome_kept : (lines : Bool) (c : Certificate) (pl : Place) (a : ℕ) (l : Landing) (o : Outcome) → OutcomeArrives lines c pl o → OutcomeMisses c pl a l o → is_landing_of_lines l ≡ true
+outcome_kept : (lines : Bool) (c : Certificate) (pl : Place) (a : ℕ) (l : Landing) (o : Successor) → OutcomeArrives lines c pl o → OutcomeMisses c pl a l o → is_landing_of_lines l ≡ true
 outcome_kept lines c pl a l (Goes next f) keeps misses = arrived lines c pl pl.routine a f l (keeps a misses.0 misses.1) misses.2
 outcome_kept lines c pl a l (CallsTo next f) keeps misses = absurd misses
 outcome_kept lines c pl a l (Returns f) keeps misses = absurd misses
 
-outcomes_kept : (lines : Bool) (c : Certificate) (pl : Place) (a : ℕ) (l : Landing) (os : List Outcome) → EachOutcome (OutcomeArrives lines c pl) os → SomeOutcome (OutcomeMisses c pl a l) os → is_landing_of_lines l ≡ true
+outcomes_kept : (lines : Bool) (c : Certificate) (pl : Place) (a : ℕ) (l : Landing) (os : List Successor) → EachSuccessor (OutcomeArrives lines c pl) os → SomeOutcome (OutcomeMisses c pl a l) os → is_landing_of_lines l ≡ true
 outcomes_kept lines c pl a l [] keeps misses = absurd misses
 outcomes_kept lines c pl a l (o ∷ os) keeps (inl misses) = outcome_kept lines c pl a l o keeps.0 misses
 outcomes_kept lines c pl a l (o ∷ os) keeps (inr misses) = outcomes_kept lines c pl a l os keeps.1 misses

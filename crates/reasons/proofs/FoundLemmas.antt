@@ -8,12 +8,12 @@ use Rattle.declaration.specs.Declaration.{Routine, IsDeclared, IsListed}
 use Rattle.domain.specs.Facts.{Fact, Place, joined}
 use Rattle.domain.specs.Changes.{with_offsets}
 use Rattle.facts.specs.Conditions.{MayWrite, called, calls_through_index, returned_through}
-use Rattle.facts.specs.Outcomes.{Outcome, Goes, CallsTo, Returns, outcomes_of}
+use Rattle.facts.specs.Outcomes.{Successor, Goes, CallsTo, Returns, outcomes_of}
 use Rattle.facts.specs.declared.Condition.{Condition}
 use Rattle.facts.specs.declared.Condition.TheVariants.{V1, V2, V3, V4, V5, V6, V7, V8, V9, V10, V11, V12, V13, V14, V15}
 use Rattle.certificate.specs.Certificate.{Certificate, writes_of}
 use Rattle.judge.specs.Asked.{asks_few}
-use Rattle.judge.specs.Conditions.{Case, Covers, CoversCallee, EachOutcome, EachTarget, HoldsAt, HoldsFor, IsAskedAs, IsFirst, IsIn, IsLower, KeepsPointer, LandsAt, LinesArePlaced, OutcomeLands, ReturnsWell, StartsWell, fact_at, order, place_among, place_in}
+use Rattle.judge.specs.Conditions.{Case, Covers, CoversCallee, EachSuccessor, EachTarget, HoldsAt, HoldsFor, IsAskedAs, IsFirst, IsIn, IsLower, KeepsPointer, LandsAt, LinesArePlaced, SuccessorLands, ReturnsWell, StartsWell, fact_at, order, place_among, place_in}
 use Rattle.judge.proofs.OrderLemmas.{IsLater, order_of, start_or_later}
 use Rattle.judge.proofs.WordLemmas.{holds_from}
 use Rattle.reasons.specs.Keeping.{Arrives, IsLowerIfListed, Keeps, KeepsAt, OutcomeArrives, ReturnsThrough, WordsKeep}
@@ -74,14 +74,14 @@ lands : (j : Case) (q r : Routine) (a : ℕ) (f : Fact) → Arrives true j.certi
 lands j q r a f h = let allowed = h.allowed refl in
     record { there = allowed.there; inside = h.inside; entails = allowed.entails; offsets = allowed.offsets }
 
-outcome_lands : (j : Case) (r : Routine) (o : Outcome) → OutcomeArrives true j.certificate (place_in j r) o → OutcomeLands j r o
-outcome_lands j r (Goes next f) h = λ a lt is. lands j r r a f (h a lt is)
-outcome_lands j r (CallsTo next f) h = tt
-outcome_lands j r (Returns f) h = tt
+successor_lands : (j : Case) (r : Routine) (o : Successor) → OutcomeArrives true j.certificate (place_in j r) o → SuccessorLands j r o
+successor_lands j r (Goes next f) h = λ a lt is. lands j r r a f (h a lt is)
+successor_lands j r (CallsTo next f) h = tt
+successor_lands j r (Returns f) h = tt
 
-outcomes_land : (j : Case) (r : Routine) (os : List Outcome) → EachOutcome (OutcomeArrives true j.certificate (place_in j r)) os → EachOutcome (OutcomeLands j r) os
+outcomes_land : (j : Case) (r : Routine) (os : List Successor) → EachSuccessor (OutcomeArrives true j.certificate (place_in j r)) os → EachSuccessor (SuccessorLands j r) os
 outcomes_land j r [] h = tt
-outcomes_land j r (o ∷ os) h = (outcome_lands j r o h.0, outcomes_land j r os h.1)
+outcomes_land j r (o ∷ os) h = (successor_lands j r o h.0, outcomes_land j r os h.1)
 
 through_own : (i x : Bool) (c : ℕ) → i ≡ true → x ≡ true → (if i && x then Some c else None) ≡ Some c
 through_own true true c p q = refl

@@ -20,9 +20,9 @@ use Rattle.facts.proofs.EntailLemmas.{drop_item, entails_iff}
 use Rattle.facts.proofs.StartLemmas.{test_all}
 use Rattle.facts.proofs.Starting.{each_from}
 use Rattle.domain.proofs.TrackingLemmas.{entry_within}
-use Rattle.reasons.specs.Gaps.{IsLinkBeyond, IsGap}
-use Rattle.reasons.specs.declared.gap.Gap.{Gap}
-use Rattle.reasons.specs.declared.gap.Gap.TheVariants as gap
+use Rattle.reasons.specs.Gaps.{IsLinkBeyond, IsCounterexample}
+use Rattle.reasons.specs.declared.counterexample.Counterexample.{Counterexample}
+use Rattle.reasons.specs.declared.counterexample.Counterexample.TheVariants as gap
 
 among_drop : (e : Equation) (es : List CodeEquation) (i : ℕ) → Among e (map equation_of (drop i es)) → Among e (map equation_of es)
 among_drop e [] zero h = h
@@ -47,7 +47,7 @@ known_agree {k} {f} a e h = elim h [
 ]
 
 -- What is excluded of a fact is excluded of one that agrees.
-pub gap_agrees : (k f b : Fact) (g : Gap) → Agree k f → IsGap k b g → IsGap f b g
+pub gap_agrees : (k f b : Fact) (g : Counterexample) → Agree k f → IsCounterexample k b g → IsCounterexample f b g
 gap_agrees k f b (gap.Accumulator w) a h = record { small = h.small; possible = sym (narrowed_agree a Ac w h.small) ∙ h.possible; excluded = h.excluded }
 gap_agrees k f b (gap.Mq w) a h = record { small = h.small; possible = sym (a.mq w h.small) ∙ h.possible; excluded = h.excluded }
 gap_agrees k f b (gap.Link l) a h = record { small = h.small; possible = sym (a.link l h.small) ∙ h.possible; excluded = h.excluded }
@@ -56,10 +56,10 @@ gap_agrees k f b (gap.Equation e) a h = (h.0, λ k. h.1 (known_agree (agree_sym 
 gap_agrees k f b (gap.Offset o) a h = (h.0, sym (a.offsets o h.0) ∙ h.1, h.2)
 
 -- An exit's offsets aren't looked at.
-pub exit_gap : (k f b : Fact) (g : Gap) → ((o : ℕ) → o < 8 → f.offsets o ≡ true) → with_offsets everything f ≡ b → IsGap k f g → IsGap k (with_offsets everything b) g
-exit_gap k f b g all same h = subst (λ x. IsGap k (with_offsets everything x) g) same (whole g h)
+pub exit_gap : (k f b : Fact) (g : Counterexample) → ((o : ℕ) → o < 8 → f.offsets o ≡ true) → with_offsets everything f ≡ b → IsCounterexample k f g → IsCounterexample k (with_offsets everything b) g
+exit_gap k f b g all same h = subst (λ x. IsCounterexample k (with_offsets everything x) g) same (whole g h)
   where
-    whole : (p : Gap) → IsGap k f p → IsGap k (with_offsets everything f) p
+    whole : (p : Counterexample) → IsCounterexample k f p → IsCounterexample k (with_offsets everything f) p
     whole (gap.Accumulator w) q = record { small = q.small; possible = q.possible; excluded = q.excluded }
     whole (gap.Mq w) q = record { small = q.small; possible = q.possible; excluded = q.excluded }
     whole (gap.Link l) q = record { small = q.small; possible = q.possible; excluded = q.excluded }

@@ -10,15 +10,15 @@ use Rattle.domain.specs.Changes.{with_offsets}
 use Rattle.facts.specs.Conditions.{called, calls_through_index, returned_through}
 use Rattle.domain.specs.Facts.{Ac, Cell, Equation, Fact, Among, Entails, EntailsOffsets, Knows, KnowsAll, joined, possible, tape_word}
 use Rattle.domain.specs.Meaning.{equation_of}
-use Rattle.facts.specs.Outcomes.{Outcome, Goes, CallsTo, Returns, outcomes_at}
+use Rattle.facts.specs.Outcomes.{Successor, Goes, CallsTo, Returns, outcomes_at}
 use Rattle.facts.specs.Starts.{AreTapeWords, are_always, has_each, is_always}
 use Rattle.facts.specs.declared.Condition.{Condition}
 use Rattle.facts.specs.declared.Condition.TheVariants.{V1, V2, V3}
 use Rattle.facts.proofs.Starting.{ac_each, cell_each, each_at, equations_always, link_each, mq_each}
 use Rattle.certificate.specs.Certificate.{Certificate}
-use Rattle.judge.specs.Conditions.{Case, Covers, CoversCallee, EachOutcome, EachTarget, HoldsAt, HoldsFor, IsIn, IsLower, IsPlaced, KeepsPointer, LandsAfter, LandsAt, LinesArePlaced, MayCall, MayReturn, OutcomeLands, ReturnsWell, StartsWell, fact_at, place_in}
+use Rattle.judge.specs.Conditions.{Case, Covers, CoversCallee, EachSuccessor, EachTarget, HoldsAt, HoldsFor, IsIn, IsLower, IsPlaced, KeepsPointer, LandsAfter, LandsAt, LinesArePlaced, MayCall, MayReturn, SuccessorLands, ReturnsWell, StartsWell, fact_at, place_in}
 use Rattle.reasons.specs.Breaches.{Breaks, CallBreaks, Misses, OutcomeMisses, ReturnBreaks, SomeOutcome, condition_of, condition_of_call}
-use Rattle.reasons.specs.Gaps.{IsBeyond, IsGap, IsStartGap}
+use Rattle.reasons.specs.Gaps.{IsBeyond, IsCounterexample, IsStartCounterexample}
 use Rattle.reasons.specs.Laws.{ExplainedFails}
 use Rattle.reasons.specs.Reasons.{HasWrongWord, IsMisplaced, IsWrongStart}
 use Rattle.reasons.specs.declared.breach.Breach.{Breach}
@@ -29,8 +29,8 @@ use Rattle.reasons.specs.declared.breach.Landing.{Landing}
 use Rattle.reasons.specs.declared.breach.Landing.TheVariants.{NoFact, OtherBody, Excluded}
 use Rattle.reasons.specs.declared.breach.ReturnBreach.{ReturnBreach}
 use Rattle.reasons.specs.declared.breach.ReturnBreach.TheVariants as return
-use Rattle.reasons.specs.declared.gap.Gap.{Gap}
-use Rattle.reasons.specs.declared.gap.Gap.TheVariants as gap
+use Rattle.reasons.specs.declared.counterexample.Counterexample.{Counterexample}
+use Rattle.reasons.specs.declared.counterexample.Counterexample.TheVariants as gap
 use Rattle.reasons.specs.declared.reason.Reason.{Reason}
 use Rattle.reasons.specs.declared.reason.Reason.TheVariants as why
 
@@ -44,7 +44,7 @@ known_of_all a [] q k h = absurd h
 known_of_all a (x ∷ es) q k (inl same) = subst (λ e. Knows a e) same k.0
 known_of_all a (x ∷ es) q k (inr more) = known_of_all a es q k.1 more
 
-gap_refutes : (a b : Fact) (g : Gap) → IsGap a b g → Entails a b → EntailsOffsets a b → ⊥
+gap_refutes : (a b : Fact) (g : Counterexample) → IsCounterexample a b g → Entails a b → EntailsOffsets a b → ⊥
 gap_refutes a b (gap.Accumulator w) h e o = both (b.set Ac w) (e.sets Ac w h.small h.possible) h.excluded
 gap_refutes a b (gap.Mq w) h e o = both (b.mq w) (e.mq w h.small h.possible) h.excluded
 gap_refutes a b (gap.Link l) h e o = both (b.link l) (e.link l h.small h.possible) h.excluded
@@ -151,12 +151,12 @@ return_refutes j r a e b _ through h well = absurd (none_some e through)
 
 -- ---- outcomes
 
-outcome_refutes : (j : Case) (r : Routine) (b : ℕ) (l : Landing) (o : Outcome) → OutcomeMisses j.certificate (place_in j r) b l o → OutcomeLands j r o → ⊥
+outcome_refutes : (j : Case) (r : Routine) (b : ℕ) (l : Landing) (o : Successor) → OutcomeMisses j.certificate (place_in j r) b l o → SuccessorLands j r o → ⊥
 outcome_refutes j r b l (Goes next f) h lands = misses_refutes j r b f l h.2 (lands b h.0 h.1)
 outcome_refutes j r b l (CallsTo next f) h lands = absurd h
 outcome_refutes j r b l (Returns f) h lands = absurd h
 
-outcomes_refute : (j : Case) (r : Routine) (b : ℕ) (l : Landing) (os : List Outcome) → SomeOutcome (OutcomeMisses j.certificate (place_in j r) b l) os → EachOutcome (OutcomeLands j r) os → ⊥
+outcomes_refute : (j : Case) (r : Routine) (b : ℕ) (l : Landing) (os : List Successor) → SomeOutcome (OutcomeMisses j.certificate (place_in j r) b l) os → EachSuccessor (SuccessorLands j r) os → ⊥
 outcomes_refute j r b l [] h lands = absurd h
 outcomes_refute j r b l (o ∷ os) (inl h) lands = outcome_refutes j r b l o h lands.0
 outcomes_refute j r b l (o ∷ os) (inr h) lands = outcomes_refute j r b l os h lands.1
@@ -260,7 +260,7 @@ always_among image [] q all h = absurd h
 always_among image (e ∷ es) q all (inl same) = subst (λ x. is_always image x ≡ true) same (and_parts (is_always image e) (are_always image es) all).0
 always_among image (e ∷ es) q all (inr more) = always_among image es q (and_parts (is_always image e) (are_always image es) all).1 more
 
-start_gap_refutes : (j : Case) (a : ℕ) (g : Gap) → IsDeclared j.declaration → AreTapeWords j.image → IsStartGap j.image (fact_at j a) g → StartsWell j a → ⊥
+start_gap_refutes : (j : Case) (a : ℕ) (g : Counterexample) → IsDeclared j.declaration → AreTapeWords j.image → IsStartCounterexample j.image (fact_at j a) g → StartsWell j a → ⊥
 start_gap_refutes j a (gap.Accumulator w) declared tape h start =
     both ((fact_at j a).set Ac w) (ac_each (place_in j None) tape declared.start_is_word (fact_at j a) start.1 w h.small) h.excluded
 start_gap_refutes j a (gap.Mq w) declared tape h start =

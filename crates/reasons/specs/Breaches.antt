@@ -5,12 +5,12 @@ use Rattle.declaration.specs.Declaration.{Routine, Declaration, IsListed}
 use Rattle.policy.specs.Rules.{IsSupported, HaltsDeclared}
 use Rattle.domain.specs.Facts.{Fact, Place, joined}
 use Rattle.domain.specs.Changes.{with_offsets}
-use Rattle.facts.specs.Outcomes.{Outcome, Goes, CallsTo, Returns, meaning_at, outcomes_at}
+use Rattle.facts.specs.Outcomes.{Successor, Goes, CallsTo, Returns, meaning_at, outcomes_at}
 use Rattle.facts.specs.Conditions.{MayWrite, EntriesAreKept, may_write, may_read, called, calls_through_index, returned_through}
 use Rattle.facts.specs.declared.Condition.{Condition}
 use Rattle.facts.specs.declared.Condition.TheVariants.{V3, V4, V5, V6, V7, V8, V9, V10, V11, V12, V13, V14, V15}
 use Rattle.certificate.specs.Certificate.{Certificate, writes_of}
-use Rattle.reasons.specs.Gaps.{IsGap}
+use Rattle.reasons.specs.Gaps.{IsCounterexample}
 use Rattle.reasons.specs.declared.breach.Landing.{Landing}
 use Rattle.reasons.specs.declared.breach.Landing.TheVariants.{NoFact, OtherBody, Excluded}
 use Rattle.reasons.specs.declared.breach.CallBreach.{CallBreach}
@@ -25,7 +25,7 @@ use Rattle.reasons.specs.declared.breach.Breach.TheVariants as breach
 abbrev pub Misses : Certificate → Declaration → Routine → ℕ → Fact → Landing → Type 0
 Misses c d r a f NoFact = c.has_fact a ≡ false
 Misses c d r a f OtherBody = d.body r a ≡ false
-Misses c d r a f (Excluded g) = (c.has_fact a ≡ true) × IsGap f (c.fact a) g
+Misses c d r a f (Excluded g) = (c.has_fact a ≡ true) × IsCounterexample f (c.fact a) g
 
 -- In a routine this is true of it.
 abbrev pub InRoutine : Routine → (ℕ → Type 0) → Type 0
@@ -66,16 +66,16 @@ ReturnBreaks c pl f e return.OtherRoutine = pl.routine ≡ Some e → ⊥
 ReturnBreaks c pl f e (return.NotDeclared o) = (o < 8) × (f.offsets o ≡ true) × (pl.declaration.offset e o ≡ false)
 ReturnBreaks c pl f e (return.NoExit o) = (o < 8) × (f.offsets o ≡ true) × (c.has_exit e o ≡ false)
 ReturnBreaks c pl f e (return.Excluded o g) =
-    (o < 8) × (f.offsets o ≡ true) × (c.has_exit e o ≡ true) × IsGap f (with_offsets everything (c.exit e o)) g
+    (o < 8) × (f.offsets o ≡ true) × (c.has_exit e o ≡ true) × IsCounterexample f (with_offsets everything (c.exit e o)) g
 
 -- The outcome goes on at this address, and doesn't land there.
-abbrev pub OutcomeMisses : Certificate → Place → ℕ → Landing → Outcome → Type 0
+abbrev pub OutcomeMisses : Certificate → Place → ℕ → Landing → Successor → Type 0
 OutcomeMisses c pl a l (Goes next f) = (a < 4096) × (next a ≡ true) × Misses c pl.declaration pl.routine a f l
 OutcomeMisses c pl a l (CallsTo next f) = ⊥
 OutcomeMisses c pl a l (Returns f) = ⊥
 
 -- Some outcome of the list has the property.
-abbrev pub SomeOutcome : (Outcome → Type 0) → List Outcome → Type 0
+abbrev pub SomeOutcome : (Successor → Type 0) → List Successor → Type 0
 SomeOutcome p [] = ⊥
 SomeOutcome p (o ∷ os) = p o ⊎ SomeOutcome p os
 

@@ -6,8 +6,8 @@ use Rattle.domain.specs.Facts.{Ac, Fact, Among, Knows, narrowed, tape_word}
 use Rattle.domain.specs.Facts as name
 use Rattle.facts.specs.Starts.{is_always}
 use Rattle.domain.specs.Meaning.{equation_of}
-use Rattle.reasons.specs.declared.gap.Gap.{Gap}
-use Rattle.reasons.specs.declared.gap.Gap.TheVariants as gap
+use Rattle.reasons.specs.declared.counterexample.Counterexample.{Counterexample}
+use Rattle.reasons.specs.declared.counterexample.Counterexample.TheVariants as gap
 
 -- The word is in the one set, and not in the other.
 pub record IsBeyond (set other : Words) (w : ℕ) : Type 0 where
@@ -22,20 +22,20 @@ pub record IsLinkBeyond (set other : Words) (l : ℕ) : Type 0 where
   pub excluded : other l ≡ false
 
 -- The fact a leaves this possible, and the fact b excludes it. An equation of b is excluded where it isn't known by a.
-abbrev pub IsGap : Fact → Fact → Gap → Type 0
-IsGap a b (gap.Accumulator w) = IsBeyond (narrowed a Ac) (b.set Ac) w
-IsGap a b (gap.Mq w) = IsBeyond a.mq b.mq w
-IsGap a b (gap.Link l) = IsLinkBeyond a.link b.link l
-IsGap a b (gap.Cell c w) = IsBeyond (narrowed a (name.Cell c)) (b.set (name.Cell c)) w
-IsGap a b (gap.Equation e) = Among (equation_of e) b.equations × (Knows a (equation_of e) → ⊥)
-IsGap a b (gap.Offset o) = (o < 8) × (a.offsets o ≡ true) × (b.offsets o ≡ false)
+abbrev pub IsCounterexample : Fact → Fact → Counterexample → Type 0
+IsCounterexample a b (gap.Accumulator w) = IsBeyond (narrowed a Ac) (b.set Ac) w
+IsCounterexample a b (gap.Mq w) = IsBeyond a.mq b.mq w
+IsCounterexample a b (gap.Link l) = IsLinkBeyond a.link b.link l
+IsCounterexample a b (gap.Cell c w) = IsBeyond (narrowed a (name.Cell c)) (b.set (name.Cell c)) w
+IsCounterexample a b (gap.Equation e) = Among (equation_of e) b.equations × (Knows a (equation_of e) → ⊥)
+IsCounterexample a b (gap.Offset o) = (o < 8) × (a.offsets o ≡ true) × (b.offsets o ≡ false)
 
 -- At a start of the tape this is possible, and the fact excludes it: whatever the registers hold, a cell holds the tape's
 -- word, or any word where the tape has none, and an equation holds of cells of the tape alone.
-abbrev pub IsStartGap : Image → Fact → Gap → Type 0
-IsStartGap image b (gap.Accumulator w) = IsBeyond everything (b.set Ac) w
-IsStartGap image b (gap.Mq w) = IsBeyond everything b.mq w
-IsStartGap image b (gap.Link l) = IsLinkBeyond everything b.link l
-IsStartGap image b (gap.Cell c w) = IsBeyond (tape_word (image c)) (b.set (name.Cell c)) w
-IsStartGap image b (gap.Equation e) = Among (equation_of e) b.equations × (is_always image (equation_of e) ≡ false)
-IsStartGap image b (gap.Offset o) = ⊥
+abbrev pub IsStartCounterexample : Image → Fact → Counterexample → Type 0
+IsStartCounterexample image b (gap.Accumulator w) = IsBeyond everything (b.set Ac) w
+IsStartCounterexample image b (gap.Mq w) = IsBeyond everything b.mq w
+IsStartCounterexample image b (gap.Link l) = IsLinkBeyond everything b.link l
+IsStartCounterexample image b (gap.Cell c w) = IsBeyond (tape_word (image c)) (b.set (name.Cell c)) w
+IsStartCounterexample image b (gap.Equation e) = Among (equation_of e) b.equations × (is_always image (equation_of e) ≡ false)
+IsStartCounterexample image b (gap.Offset o) = ⊥

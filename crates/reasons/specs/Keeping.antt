@@ -7,14 +7,14 @@ use Rattle.declaration.specs.Declaration.{Routine}
 use Rattle.policy.specs.Rules.{IsSupported, HaltsDeclared}
 use Rattle.domain.specs.Facts.{Fact, Place, Entails, EntailsOffsets, joined, possible}
 use Rattle.domain.specs.Changes.{with_offsets}
-use Rattle.facts.specs.Outcomes.{Outcome, Goes, CallsTo, Returns, meaning_at, outcomes_of}
+use Rattle.facts.specs.Outcomes.{Successor, Goes, CallsTo, Returns, meaning_at, outcomes_of}
 use Rattle.facts.specs.Conditions.{WritesAreDeclared, WritesAreListed, EntriesAreKept, ReadsAreListed, called, calls_through_index, returned_through}
 use Rattle.facts.specs.declared.Condition.{Condition}
 use Rattle.facts.specs.declared.Condition.TheVariants.{V3, V4, V5, V6, V7, V8, V9, V10, V11, V12, V13, V14, V15}
 use Rattle.certificate.specs.Certificate.{Certificate, writes_of}
-use Rattle.judge.specs.Conditions.{Case, CoversCallee, EachOutcome, IsIn, fact_at, place_in}
+use Rattle.judge.specs.Conditions.{Case, CoversCallee, EachSuccessor, IsIn, fact_at, place_in}
 use Rattle.reasons.specs.Spots.{claimed_by, counts_lines, fact_of, here}
-use Rattle.reasons.specs.declared.spot.Spot.{Spot}
+use Rattle.reasons.specs.declared.point.ProgramPoint.{ProgramPoint}
 
 -- There is a fact at the address, and this one entails it.
 pub record IsAllowed (c : Certificate) (a : ℕ) (f : Fact) : Type 0 where
@@ -28,7 +28,7 @@ pub record Arrives (lines : Bool) (c : Certificate) (pl : Place) (r : Routine) (
   pub allowed : lines ≡ true → IsAllowed c a f
 
 -- Where the run goes on after an outcome, it arrives.
-abbrev pub OutcomeArrives : Bool → Certificate → Place → Outcome → Type 0
+abbrev pub OutcomeArrives : Bool → Certificate → Place → Successor → Type 0
 OutcomeArrives lines c pl (Goes next f) = (a : ℕ) → a < 4096 → next a ≡ true → Arrives lines c pl pl.routine a f
 OutcomeArrives lines c pl (CallsTo next f) = Unit {0}
 OutcomeArrives lines c pl (Returns f) = Unit {0}
@@ -89,7 +89,7 @@ pub record ReturnsThrough (lines : Bool) (c : Certificate) (pl : Place) (f : Fac
 -- A word of this meaning keeps the condition.
 abbrev pub Keeps : Bool → Certificate → Place → Fact → ℕ → Condition → Meaning → Type 0
 Keeps lines c pl f a V3 m = IsSupported m
-Keeps lines c pl f a V4 m = EachOutcome (OutcomeArrives lines c pl) (outcomes_of pl f a m)
+Keeps lines c pl f a V4 m = EachSuccessor (OutcomeArrives lines c pl) (outcomes_of pl f a m)
 Keeps lines c pl f a V5 m = WritesAreDeclared pl f m
 Keeps lines c pl f a V6 m = lines ≡ true → WritesAreListed pl (writes_of c pl.routine) f m
 Keeps lines c pl f a V7 m = (calls_through_index m ≡ false) × KeepsCalls lines c pl f a V7 m
@@ -118,39 +118,39 @@ abbrev pub KeepsAt : Bool → Case → Condition → ℕ → Type 0
 KeepsAt lines j v a = (r : Routine) → IsIn j r a → WordsKeep lines j.certificate (place_in j r) (fact_at j a) a v
 
 -- The same at a spot, by the fact there, what is claimed, and whether lines count.
-abbrev pub ArrivesHere : {A C : Type 0} → (C → Certificate) → Spot A C → Routine → ℕ → Fact → Type 0
+abbrev pub ArrivesHere : {A C : Type 0} → (C → Certificate) → ProgramPoint A C → Routine → ℕ → Fact → Type 0
 ArrivesHere claims s r a f = Arrives (counts_lines s.sought) (claimed_by claims s) (here s) r a f
 
-abbrev pub OutcomeArrivesHere : {A C : Type 0} → (C → Certificate) → Spot A C → Outcome → Type 0
+abbrev pub OutcomeArrivesHere : {A C : Type 0} → (C → Certificate) → ProgramPoint A C → Successor → Type 0
 OutcomeArrivesHere claims s o = OutcomeArrives (counts_lines s.sought) (claimed_by claims s) (here s) o
 
-abbrev pub ReturnLandsHere : {A C : Type 0} → (C → Certificate) → Spot A C → ℕ → ℕ → Type 0
+abbrev pub ReturnLandsHere : {A C : Type 0} → (C → Certificate) → ProgramPoint A C → ℕ → ℕ → Type 0
 ReturnLandsHere claims s e o =
     ReturnLands (counts_lines s.sought) (claimed_by claims s) (here s) (fact_of s) s.at e o
 
-abbrev pub IsLowerHere : {A C : Type 0} → (C → Certificate) → Spot A C → ℕ → Type 0
+abbrev pub IsLowerHere : {A C : Type 0} → (C → Certificate) → ProgramPoint A C → ℕ → Type 0
 IsLowerHere claims s e = IsLowerIfListed (claimed_by claims s) (here s).routine e
 
-abbrev pub KeepsCallHere : {A C : Type 0} → (C → Certificate) → Spot A C → Condition → ℕ → Type 0
+abbrev pub KeepsCallHere : {A C : Type 0} → (C → Certificate) → ProgramPoint A C → Condition → ℕ → Type 0
 KeepsCallHere claims s v e =
     KeepsCall (counts_lines s.sought) (claimed_by claims s) (here s) (fact_of s) s.at v e
 
-abbrev pub KeepsCallsHere : {A C : Type 0} → (C → Certificate) → Spot A C → Condition → ℕ → Type 0
+abbrev pub KeepsCallsHere : {A C : Type 0} → (C → Certificate) → ProgramPoint A C → Condition → ℕ → Type 0
 KeepsCallsHere claims s v w =
     KeepsCalls (counts_lines s.sought) (claimed_by claims s) (here s) (fact_of s) s.at v (meaning_at (here s) s.at w)
 
-abbrev pub ReturnsByHere : {A C : Type 0} → (C → Certificate) → Spot A C → ℕ → ℕ → Type 0
+abbrev pub ReturnsByHere : {A C : Type 0} → (C → Certificate) → ProgramPoint A C → ℕ → ℕ → Type 0
 ReturnsByHere claims s e o = ReturnsBy (counts_lines s.sought) (claimed_by claims s) (here s) (fact_of s) e o
 
-abbrev pub ReturnsThroughHere : {A C : Type 0} → (C → Certificate) → Spot A C → ℕ → Type 0
+abbrev pub ReturnsThroughHere : {A C : Type 0} → (C → Certificate) → ProgramPoint A C → ℕ → Type 0
 ReturnsThroughHere claims s e = ReturnsThrough (counts_lines s.sought) (claimed_by claims s) (here s) (fact_of s) e
 
-abbrev pub KeepsHere : {A C : Type 0} → (C → Certificate) → Spot A C → Condition → ℕ → Type 0
+abbrev pub KeepsHere : {A C : Type 0} → (C → Certificate) → ProgramPoint A C → Condition → ℕ → Type 0
 KeepsHere claims s v w =
     Keeps (counts_lines s.sought) (claimed_by claims s) (here s) (fact_of s) s.at v (meaning_at (here s) s.at w)
 
-abbrev pub EachKeepsHere : {A C : Type 0} → (C → Certificate) → Spot A C → Condition → Type 0
+abbrev pub EachKeepsHere : {A C : Type 0} → (C → Certificate) → ProgramPoint A C → Condition → Type 0
 EachKeepsHere claims s v = EachKeeps (counts_lines s.sought) (claimed_by claims s) (here s) (fact_of s) s.at v
 
-abbrev pub WordsKeepHere : {A C : Type 0} → (C → Certificate) → Spot A C → Condition → Type 0
+abbrev pub WordsKeepHere : {A C : Type 0} → (C → Certificate) → ProgramPoint A C → Condition → Type 0
 WordsKeepHere claims s v = WordsKeep (counts_lines s.sought) (claimed_by claims s) (here s) (fact_of s) s.at v

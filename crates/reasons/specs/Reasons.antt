@@ -8,7 +8,7 @@ use Rattle.facts.specs.declared.Condition.{Condition}
 use Rattle.facts.specs.declared.Condition.TheVariants.{V1, V2, V3}
 use Rattle.certificate.specs.Certificate.{Certificate, names_routine}
 use Rattle.judge.specs.Conditions.{Case, IsIn, fact_at, place_in}
-use Rattle.reasons.specs.Gaps.{IsStartGap}
+use Rattle.reasons.specs.Gaps.{IsStartCounterexample}
 use Rattle.reasons.specs.Breaches.{Breaks, condition_of}
 use Rattle.reasons.specs.declared.reason.Reason.{Reason}
 use Rattle.reasons.specs.declared.reason.Reason.TheVariants as why
@@ -16,7 +16,7 @@ use Rattle.reasons.specs.declared.reason.Reason.TheVariants as why
 -- No fact has the address of the start, or the one that has it excludes what is possible at a start.
 abbrev pub IsWrongStart : Image → Certificate → ℕ → Reason → Type 0
 IsWrongStart image c a why.NoFact = c.has_fact a ≡ false
-IsWrongStart image c a (why.StartExcluded g) = (c.has_fact a ≡ true) × IsStartGap image (c.fact a) g
+IsWrongStart image c a (why.StartExcluded g) = (c.has_fact a ≡ true) × IsStartCounterexample image (c.fact a) g
 IsWrongStart image c a _ = ⊥
 
 -- A line at the address isn't where it may be.

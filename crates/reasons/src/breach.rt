@@ -1,6 +1,6 @@
 //! What a possible word breaks.
 
-use crate::gap::Gap;
+use crate::counterexample::Counterexample;
 use word12::Word;
 
 /// Why a run doesn't land at an address.
@@ -11,7 +11,7 @@ pub enum Landing {
     /// The address isn't in the body.
     OtherBody,
     /// The fact at the address excludes what is possible.
-    Excluded(Gap),
+    Excluded(Counterexample),
 }
 
 /// What a call of an entry breaks.
@@ -50,7 +50,7 @@ pub enum ReturnBreach {
     /// The offset is possible and has no exit line.
     NoExit(usize),
     /// The exit line of the offset excludes what is possible.
-    Excluded(usize, Gap),
+    Excluded(usize, Counterexample),
 }
 
 /// What a possible word breaks.

@@ -6,9 +6,9 @@ ghost use Rattle.reasons.specs.Keeping.{IsLowerHere, KeepsCallHere, KeepsCallsHe
 ghost use Rattle.reasons.specs.Spots.{BreaksHere, CallBreaksHere, claimed_by, counts_lines};
 
 use crate::breach::{Breach, CallBreach};
-use crate::spot::Spot;
+use crate::point::ProgramPoint;
 use crate::told::{claimed_exit, claimed_routine};
-use facts::{Condition, Known, Room};
+use facts::{AbstractState, Condition, Scratch};
 use judge::Claims;
 use std::alloc::Allocator;
 use word12::Word;
@@ -17,7 +17,7 @@ use word12::Word;
 /// 7777.
 const LAST_SITE: usize = 0o7767;
 
-impl<A: Allocator, C: Claims> Spot<'_, A, C> {
+impl<A: Allocator, C: Claims> ProgramPoint<'_, A, C> {
     /// A call that the rules on what may be called forbid.
     pub(crate) fn calls_wrongly(&self, word: Word) -> Option<Breach>
         ensures found { IfSome result (BreaksHere C.claims self.now V7 word) }
@@ -143,7 +143,7 @@ impl<A: Allocator, C: Claims> Spot<'_, A, C> {
         ensures found { IfSome result (CallBreaksHere C.claims self.now V10 entry) }
         ensures none { IfNone result (KeepsCallHere C.claims self.now V10 entry) }
     {
-        let known = Known::entering(self.fact);
+        let known = AbstractState::entering(self.fact);
         match self.misses(&Some(entry), entry.increment(), &known) {
             None => None,
             Some(landing) => Some(CallBreach::Enters(landing)),
@@ -171,8 +171,8 @@ impl<A: Allocator, C: Claims> Spot<'_, A, C> {
     {
         let exit = claimed_exit(self.claims, entry, offset)?;
         let written = claimed_routine(self.claims, entry).writes;
-        let mut room = Room::new();
-        let known = Known::after_call(self.fact, &exit, &written, &mut room);
+        let mut room = Scratch::new();
+        let known = AbstractState::after_call(self.fact, &exit, &written, &mut room);
         let next = self.at.increment().add(Word::from_index(offset));
         match self.misses(&self.owner(), next, &known) {
             None => None,

@@ -2,26 +2,26 @@
 
 ghost use Rattle.std.specs.Prelude.{ℕ, ◌≡◌, ◌<◌, true, IfNone, IfSome};
 ghost use Rattle.wordset.specs.Lanes.{words};
-ghost use Rattle.facts.specs.Knowing.{known_of};
-ghost use Rattle.facts.specs.Slots.{outcome_of, slot, slots};
+ghost use Rattle.facts.specs.Knowing.{fact_of_state};
+ghost use Rattle.facts.specs.Slots.{successor_of, slot, slots};
 ghost use Rattle.facts.specs.declared.Condition.TheVariants.{V4};
-ghost use Rattle.judge.specs.Conditions.{EachOutcome};
+ghost use Rattle.judge.specs.Conditions.{EachSuccessor};
 ghost use Rattle.reasons.specs.Breaches.{OutcomeMisses, SomeOutcome};
 ghost use Rattle.reasons.specs.Keeping.{ArrivesHere, KeepsHere, OutcomeArrivesHere};
 ghost use Rattle.reasons.specs.Stuck.{is_landing_of_lines};
 ghost use Rattle.reasons.specs.Spots.{BreaksHere, IsSoughtHere, MissesHere, claimed_by, here};
 
 use crate::breach::{Breach, Landing};
-use crate::gap::gap_between;
-use crate::spot::Spot;
+use crate::counterexample::gap_between;
+use crate::point::ProgramPoint;
 use crate::told::claimed_fact;
-use facts::{Known, Outcome, Room, outcomes};
+use facts::{AbstractState, Scratch, Successor, outcomes};
 use judge::Claims;
 use std::alloc::Allocator;
 use word12::Word;
 use wordset::WordSet;
 
-impl<A: Allocator, C: Claims> Spot<'_, A, C> {
+impl<A: Allocator, C: Claims> ProgramPoint<'_, A, C> {
     /// Whether a routine's body has an address.
     fn is_inside(&self, owner: &Option<Word>, at: Word) -> bool
         ensures { result ≡ (here self.now).declaration.body owner.now at }
@@ -37,12 +37,12 @@ impl<A: Allocator, C: Claims> Spot<'_, A, C> {
         &self,
         owner: &Option<Word>,
         at: Word,
-        known: &Known<'_>,
+        known: &AbstractState<'_>,
     ) -> Option<Landing>
         ensures found { IfSome result
-            (MissesHere C.claims self.now owner.now at (known_of known.now)) }
+            (MissesHere C.claims self.now owner.now at (fact_of_state known.now)) }
         ensures none { IfNone result
-            (ArrivesHere C.claims self.now owner.now at (known_of known.now)) }
+            (ArrivesHere C.claims self.now owner.now at (fact_of_state known.now)) }
     {
         if !self.is_inside(owner, at) {
             return Some(Landing::OtherBody);
@@ -60,12 +60,12 @@ impl<A: Allocator, C: Claims> Spot<'_, A, C> {
     }
 
     /// The first of some addresses at which what is known doesn't land, and why.
-    fn misses_at(&self, addresses: &WordSet, known: &Known<'_>) -> Option<(Word, Landing)>
+    fn misses_at(&self, addresses: &WordSet, known: &AbstractState<'_>) -> Option<(Word, Landing)>
         ensures found { IfSome result (λ found. (found.0 < 4096) ×
             (words addresses.now found.0 ≡ true) × MissesHere C.claims self.now
-            (here self.now).routine found.0 (known_of known.now) found.1) }
+            (here self.now).routine found.0 (fact_of_state known.now) found.1) }
         ensures none { IfNone result ((a : ℕ) → a < 4096 → words addresses.now a ≡ true →
-            ArrivesHere C.claims self.now (here self.now).routine a (known_of known.now)) }
+            ArrivesHere C.claims self.now (here self.now).routine a (fact_of_state known.now)) }
     {
         let owner = self.owner();
         let mut next = 0usize;
@@ -79,28 +79,28 @@ impl<A: Allocator, C: Claims> Spot<'_, A, C> {
     }
 
     /// The first address at which an outcome goes on and doesn't land, and why.
-    fn outcome_misses(&self, outcome: &Outcome<'_>) -> Option<(Word, Landing)>
+    fn outcome_misses(&self, outcome: &Successor<'_>) -> Option<(Word, Landing)>
         ensures found { IfSome result (λ found. OutcomeMisses (claimed_by C.claims self.now)
-            (here self.now) found.0 found.1 (outcome_of outcome.now)) }
+            (here self.now) found.0 found.1 (successor_of outcome.now)) }
         ensures sought { IfSome result (λ found. IsSoughtHere self.now
             (is_landing_of_lines found.1)) }
         ensures none { IfNone result (OutcomeArrivesHere C.claims self.now
-            (outcome_of outcome.now)) }
+            (successor_of outcome.now)) }
     {
         match outcome {
-            Outcome::Goes(addresses, known) => self.misses_at(*addresses, known),
-            Outcome::Calls(_, _) | Outcome::Returns(_) => None,
+            Successor::Goes(addresses, known) => self.misses_at(*addresses, known),
+            Successor::Calls(_, _) | Successor::Returns(_) => None,
         }
     }
 
     /// The same of an outcome that may not be there.
-    fn slot_misses(&self, outcome: &Option<Outcome<'_>>) -> Option<(Word, Landing)>
+    fn slot_misses(&self, outcome: &Option<Successor<'_>>) -> Option<(Word, Landing)>
         ensures found { IfSome result (λ found. SomeOutcome
             (OutcomeMisses (claimed_by C.claims self.now) (here self.now) found.0 found.1)
             (slot outcome.now)) }
         ensures sought { IfSome result (λ found. IsSoughtHere self.now
             (is_landing_of_lines found.1)) }
-        ensures none { IfNone result (EachOutcome (OutcomeArrivesHere C.claims self.now)
+        ensures none { IfNone result (EachSuccessor (OutcomeArrivesHere C.claims self.now)
             (slot outcome.now)) }
     {
         match outcome {
@@ -110,13 +110,13 @@ impl<A: Allocator, C: Claims> Spot<'_, A, C> {
     }
 
     /// The same of some outcomes.
-    fn some_misses(&self, outcomes: &[Option<Outcome<'_>>]) -> Option<(Word, Landing)>
+    fn some_misses(&self, outcomes: &[Option<Successor<'_>>]) -> Option<(Word, Landing)>
         ensures found { IfSome result (λ found. SomeOutcome
             (OutcomeMisses (claimed_by C.claims self.now) (here self.now) found.0 found.1)
             (slots outcomes.now)) }
         ensures sought { IfSome result (λ found. IsSoughtHere self.now
             (is_landing_of_lines found.1)) }
-        ensures none { IfNone result (EachOutcome (OutcomeArrivesHere C.claims self.now)
+        ensures none { IfNone result (EachSuccessor (OutcomeArrivesHere C.claims self.now)
             (slots outcomes.now)) }
     {
         for outcome in outcomes {
@@ -132,7 +132,7 @@ impl<A: Allocator, C: Claims> Spot<'_, A, C> {
         ensures found { IfSome result (BreaksHere C.claims self.now V4 word) }
         ensures none { IfNone result (KeepsHere C.claims self.now V4 word) }
     {
-        let mut room = Room::new();
+        let mut room = Scratch::new();
         let given = outcomes(self.fact, self.at, word, &self.place, &mut room);
         match self.some_misses(&given.all) {
             None => None,

@@ -4,18 +4,18 @@
 
 mod breach;
 mod calls;
-mod gap;
+mod counterexample;
 mod landing;
 pub mod laws;
 mod lines;
+mod point;
 mod reason;
 mod returns;
-mod spot;
 mod stuck;
 mod told;
 mod words;
 
 pub use breach::{Breach, CallBreach, Landing, ReturnBreach};
-pub use gap::Gap;
+pub use counterexample::Counterexample;
 pub use reason::{Reason, why};
 pub use stuck::why_stuck;

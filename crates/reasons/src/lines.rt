@@ -9,7 +9,7 @@ ghost use Rattle.judge.specs.Judged.{judged};
 ghost use Rattle.reasons.specs.Reasons.{IsMisplaced, IsWrongStart};
 ghost use Rattle.certificate.specs.Certificate.{names_routine};
 
-use crate::gap::gap_at_start;
+use crate::counterexample::gap_at_start;
 use crate::reason::Reason;
 use crate::told::claimed_fact;
 use bin_tape::Image;

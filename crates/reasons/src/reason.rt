@@ -12,9 +12,9 @@ ghost use Rattle.reasons.specs.Spots.{IsBody, IsSought, counts_lines};
 ghost use Rattle.reasons.specs.Stuck.{is_of_lines};
 
 use crate::breach::Breach;
-use crate::gap::Gap;
+use crate::counterexample::Counterexample;
 use crate::lines::{why_placed, why_start};
-use crate::spot::{Body, Sought, Spot};
+use crate::point::{Body, ProgramPoint, Sought};
 use crate::told::{claimed_fact, claimed_routine};
 use bin_tape::Image;
 use declaration::{Declaration, Owner};
@@ -29,7 +29,7 @@ pub enum Reason {
     /// V1: no fact has the address.
     NoFact,
     /// V1: the fact excludes what is possible at a start.
-    StartExcluded(Gap),
+    StartExcluded(Counterexample),
     /// V2: a routine or exit line has the address, which isn't an entry.
     LineAtNoEntry,
     /// V2: a fact has the address, which is in no body.
@@ -82,7 +82,7 @@ pub(crate) fn why_words<A: Allocator, C: Claims>(
     declaration.is_declared();
     let fact = claimed_fact(claims, at)?;
     let body = body_of(declaration, claims, at)?;
-    Spot::of(image, declaration, claims, &body, at, &fact, sought).first_breach(condition)
+    ProgramPoint::of(image, declaration, claims, &body, at, &fact, sought).first_breach(condition)
 }
 
 /// Why the fact at an address, if it is the start, doesn't hold of every start.

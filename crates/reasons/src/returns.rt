@@ -6,15 +6,15 @@ ghost use Rattle.reasons.specs.Keeping.{KeepsHere, ReturnsByHere, ReturnsThrough
 ghost use Rattle.reasons.specs.Spots.{BreaksHere, ReturnBreaksHere, here};
 
 use crate::breach::{Breach, ReturnBreach};
-use crate::gap::gap_between;
-use crate::spot::Spot;
+use crate::counterexample::gap_between;
+use crate::point::ProgramPoint;
 use crate::told::claimed_exit;
-use facts::Known;
+use facts::AbstractState;
 use judge::Claims;
 use std::alloc::Allocator;
 use word12::Word;
 
-impl<A: Allocator, C: Claims> Spot<'_, A, C> {
+impl<A: Allocator, C: Claims> ProgramPoint<'_, A, C> {
     /// A return that breaks the rules on returns.
     pub(crate) fn returns_wrongly(&self, word: Word) -> Option<Breach>
         ensures found { IfSome result (BreaksHere C.claims self.now V12 word) }
@@ -72,7 +72,7 @@ impl<A: Allocator, C: Claims> Spot<'_, A, C> {
         let Some(exit) = claimed_exit(self.claims, entry, offset) else {
             return Some(ReturnBreach::NoExit(offset));
         };
-        match gap_between(&Known::of(self.fact), &exit) {
+        match gap_between(&AbstractState::of(self.fact), &exit) {
             None => None,
             Some(found) => Some(ReturnBreach::Excluded(offset, found)),
         }

@@ -5,8 +5,8 @@ ghost use Rattle.judge.specs.Judged.{judged};
 ghost use Rattle.reasons.specs.Reasons.{Explains};
 ghost use Rattle.reasons.specs.Stuck.{EachFailsByLinesAlone, FailsByLinesAlone, IsToldOf, NoneFailsBefore, is_of_lines};
 
+use crate::point::Sought;
 use crate::reason::{Reason, why_words};
-use crate::spot::Sought;
 use bin_tape::Image;
 use declaration::Declaration;
 use facts::Condition;

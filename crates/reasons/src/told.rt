@@ -7,7 +7,7 @@ ghost use Rattle.domain.specs.Changes.{with_offsets};
 ghost use Rattle.domain.specs.Meaning.{meaning};
 
 use facts::Fact;
-use judge::{Claims, Routine};
+use judge::{Claims, RoutineClaim};
 use word12::Word;
 use wordset::WordSet;
 
@@ -41,14 +41,14 @@ pub(crate) fn claimed_exit<C: Claims>(claims: &C, entry: Word, offset: usize) ->
 }
 
 /// What is claimed of the routine of an entry, and nothing where it isn't listed.
-pub(crate) fn claimed_routine<C: Claims>(claims: &C, entry: Word) -> Routine
+pub(crate) fn claimed_routine<C: Claims>(claims: &C, entry: Word) -> RoutineClaim
     ensures rank { result.rank ≡ (C.claims claims.now).rank entry }
     ensures sites { words result.sites ≡ (C.claims claims.now).sites entry }
     ensures writes { words result.writes ≡ (C.claims claims.now).writes entry }
 {
     match claims.routine(entry) {
         Some(routine) => routine,
-        None => Routine {
+        None => RoutineClaim {
             rank: 0,
             sites: WordSet::empty(),
             writes: WordSet::empty(),

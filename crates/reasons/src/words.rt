@@ -10,7 +10,7 @@ ghost use Rattle.reasons.specs.Keeping.{KeepsHere};
 ghost use Rattle.reasons.specs.Spots.{BreaksHere, fact_of, here};
 
 use crate::breach::Breach;
-use crate::spot::Spot;
+use crate::point::ProgramPoint;
 use crate::told::claimed_routine;
 use facts::{Condition, reads, writes};
 use judge::Claims;
@@ -18,7 +18,7 @@ use std::alloc::Allocator;
 use word12::Word;
 use wordset::WordSet;
 
-impl<A: Allocator, C: Claims> Spot<'_, A, C> {
+impl<A: Allocator, C: Claims> ProgramPoint<'_, A, C> {
     /// What a word breaks of a condition.
     pub(crate) fn breach(&self, condition: Condition, word: Word) -> Option<Breach>
         ensures found { IfSome result (BreaksHere C.claims self.now condition word) }

@@ -2,7 +2,7 @@
 
 use crate::pen::Pen;
 use crate::report::{Kind, Report, place_in};
-use certificate::Routine;
+use certificate::RoutineClaim;
 use declaration::Declaration;
 use facts::{Fact, Place, reads, writes};
 use instruct::{Instruction, Operation, decode, refers_indirectly, target};
@@ -75,7 +75,7 @@ fn jumped<D: Allocator>(place: &Place<'_, D>, fact: &Fact, at: Word, word: Word)
 }
 
 /// Where a routine returns: after its sites, by the offsets of a fact.
-fn returned(routine: &Routine, fact: &Fact) -> WordSet {
+fn returned(routine: &RoutineClaim, fact: &Fact) -> WordSet {
     let mut found = WordSet::empty();
     for offset in 0..8usize {
         if fact.offsets().contains(offset) {
@@ -101,7 +101,7 @@ impl Access {
     fn add_indirect<D: Allocator>(
         &mut self,
         place: &Place<'_, D>,
-        routine: &Routine,
+        routine: &RoutineClaim,
         fact: &Fact,
         at: Word,
         word: Word,
@@ -126,7 +126,7 @@ impl Access {
     fn add<D: Allocator>(
         &mut self,
         place: &Place<'_, D>,
-        routine: &Routine,
+        routine: &RoutineClaim,
         fact: &Fact,
         at: Word,
         word: Word,
@@ -141,7 +141,7 @@ impl Access {
 /// What the words that may stand at an address do.
 fn access_of<D: Allocator>(
     place: &Place<'_, D>,
-    routine: &Routine,
+    routine: &RoutineClaim,
     fact: &Fact,
     at: Word,
     words: &WordSet,
@@ -169,7 +169,7 @@ fn write_each<A: Allocator>(pen: &mut Pen<A>, access: &Access) {
 fn write_fixed<A: Allocator, D: Allocator>(
     pen: &mut Pen<A>,
     place: &Place<'_, D>,
-    routine: &Routine,
+    routine: &RoutineClaim,
     fact: &Fact,
     at: Word,
     word: Word,
@@ -188,7 +188,7 @@ fn write_fixed<A: Allocator, D: Allocator>(
 fn write_varying<A: Allocator, D: Allocator>(
     pen: &mut Pen<A>,
     place: &Place<'_, D>,
-    routine: &Routine,
+    routine: &RoutineClaim,
     fact: &Fact,
     at: Word,
 ) {
@@ -209,7 +209,7 @@ pub(crate) fn write_access<A: Allocator, B: Allocator, D: Allocator, C: Allocato
     pen: &mut Pen<A>,
     report: &Report<'_, B, D, C>,
     kind: &Kind,
-    routine: &Routine,
+    routine: &RoutineClaim,
     fact: &Fact,
     at: Word,
 ) {

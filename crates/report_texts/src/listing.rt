@@ -6,7 +6,7 @@ use crate::pen::Pen;
 use crate::report::{Finding, Kind, Report, before, claimed_of, unclaimed};
 use crate::routines::{write_exits, write_routine};
 use crate::source_notes::SourceNote;
-use certificate::{Certificate, Routine};
+use certificate::{Certificate, RoutineClaim};
 use facts::Fact;
 use instruct::{Instruction, decode, name, refers_indirectly, target};
 use std::alloc::Allocator;
@@ -164,7 +164,7 @@ struct Desk {
     /// The address of the fact that was read last.
     last: Option<Word>,
     /// What is claimed of the routine that was looked up last, and its entry; of main nothing is.
-    routine: Routine,
+    routine: RoutineClaim,
     entry: Option<Word>,
 }
 

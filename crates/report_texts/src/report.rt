@@ -3,9 +3,9 @@
 use crate::source_notes::{SourceNote, SourceNotes};
 use crate::variables::{AllHeld, Held, held_of};
 use bin_tape::Image;
-use certificate::{Certificate, Routine};
+use certificate::{Certificate, RoutineClaim};
 use declaration::{Declaration, Owner};
-use facts::{Place, Running};
+use facts::{Context, Place};
 use std::alloc::{AllocError, Allocator};
 use word12::Word;
 use wordset::WordSet;
@@ -96,8 +96,8 @@ fn kinds_of<A: Allocator, D: Allocator>(
 }
 
 /// A routine that is called from nowhere and writes nothing.
-pub(crate) fn unclaimed() -> Routine {
-    Routine {
+pub(crate) fn unclaimed() -> RoutineClaim {
+    RoutineClaim {
         rank: 0,
         sites: WordSet::empty(),
         writes: WordSet::empty(),
@@ -105,7 +105,7 @@ pub(crate) fn unclaimed() -> Routine {
 }
 
 /// What is claimed of a routine, or that it is called from nowhere and writes nothing.
-pub(crate) fn claimed_of<C: Allocator>(certificate: &Certificate<C>, entry: Word) -> Routine {
+pub(crate) fn claimed_of<C: Allocator>(certificate: &Certificate<C>, entry: Word) -> RoutineClaim {
     match certificate.routine(entry) {
         Some(routine) => routine,
         None => unclaimed(),
@@ -223,10 +223,10 @@ pub(crate) fn place_in<'b, D: Allocator>(
     image: &'b Image,
     declaration: &'b Declaration<D>,
     kind: &Kind,
-    routine: &'b Routine,
+    routine: &'b RoutineClaim,
 ) -> Place<'b, D> {
     let running = match kind {
-        Kind::Routine(entry) => Some(Running {
+        Kind::Routine(entry) => Some(Context {
             entry: *entry,
             sites: &routine.sites,
             writes: &routine.writes,

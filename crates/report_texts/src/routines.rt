@@ -3,7 +3,7 @@
 use crate::known::write_exit;
 use crate::pen::Pen;
 use crate::report::Report;
-use certificate::Routine as Claimed;
+use certificate::RoutineClaim as Claimed;
 use declaration::Routine;
 use facts::Fact;
 use std::alloc::Allocator;

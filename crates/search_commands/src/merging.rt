@@ -1,7 +1,7 @@
 //! The text of a declaration with what another declaration has and it lacks.
 
-use declaration::{Declaration, Offsets, Routine};
 use control_flow::push_range;
+use declaration::{Declaration, Offsets, Routine};
 use std::alloc::{AllocError, Allocator};
 use streams::text::{self, Words};
 use word12::Word;

@@ -2,11 +2,11 @@
 
 use crate::programs::SourceText;
 use crate::spots::{line_counts, spot_of};
-use report_commands::reporting::{SourceNote, SourceNotes, notes_of};
 use command_parts::status::Fault;
 use itoa::Buffer;
 use labels::machine_of;
 use pal_asm::{AssembleFault, assemble};
+use report_commands::reporting::{SourceNote, SourceNotes, notes_of};
 use std::alloc::{AllocError, Global};
 use streams::standard::Writes;
 use word12::Word;

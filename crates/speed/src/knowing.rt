@@ -2,7 +2,7 @@
 
 use bin_tape::Image;
 use declaration::Declaration;
-use facts::{Equation, Fact, Name, Outcome, Place, Room, outcomes};
+use facts::{Equation, Fact, Name, Place, Scratch, Successor, outcomes};
 use std::alloc::Allocator;
 use word12::{Link, Word};
 use wordset::Links;
@@ -60,15 +60,15 @@ pub fn after(pairs: usize) -> Fact {
 }
 
 /// Whether an outcome goes on and entails a fact, as a number.
-fn hit(outcome: &Option<Outcome<'_>>, fact: &Fact) -> u64 {
+fn hit(outcome: &Option<Successor<'_>>, fact: &Fact) -> u64 {
     match outcome {
-        Some(Outcome::Goes(_, known)) => { if known.entails(fact) { 1 } else { 0 } }
+        Some(Successor::Goes(_, known)) => { if known.entails(fact) { 1 } else { 0 } }
         _ => 0,
     }
 }
 
 /// Whether the first of some outcomes goes on and entails a fact, as a number.
-fn hit_of(all: &[Option<Outcome<'_>>], fact: &Fact) -> u64 {
+fn hit_of(all: &[Option<Successor<'_>>], fact: &Fact) -> u64 {
     match all.first() {
         None => 0,
         Some(outcome) => hit(outcome, fact),
@@ -81,7 +81,7 @@ fn first_hit<'a, A: Allocator>(
     at: Word,
     place: &Place<'_, A>,
     next: &Fact,
-    room: &'a mut Room,
+    room: &'a mut Scratch,
 ) -> u64 {
     let found = outcomes(fact, at, word(TAD), place, room);
     hit_of(&found.all, next)
@@ -101,7 +101,7 @@ pub fn entailed<'a, A: Allocator>(
         declaration,
         routine: None,
     };
-    let mut room = Room::new();
+    let mut room = Scratch::new();
     let mut hits = 0u64;
     let mut at = word(0o200);
     for _ in 0..times {

@@ -14,8 +14,8 @@ use Rattle.certificate.specs.Spelling.{Lines, fact_text_at}
 use Rattle.judge.specs.Conditions.{Case, IsFirst}
 use Rattle.judge.specs.declared.judging.Refusal.{Refusal}
 use Rattle.reasons.specs.Reasons.{Explains}
-use Rattle.reasons.specs.declared.gap.Gap.{Gap}
-use Rattle.reasons.specs.declared.gap.Gap.TheVariants as gap
+use Rattle.reasons.specs.declared.counterexample.Counterexample.{Counterexample}
+use Rattle.reasons.specs.declared.counterexample.Counterexample.TheVariants as gap
 use Rattle.reasons.specs.declared.breach.Landing.{Landing}
 use Rattle.reasons.specs.declared.breach.Landing.TheVariants as landing
 use Rattle.reasons.specs.declared.breach.CallBreach.{CallBreach}
@@ -70,7 +70,7 @@ abbrev pub equation_text : Equation → List ℕ
 equation_text e = name_text e.left ++ (codes " = " ++ octal_text e.right) ++ (codes " + " ++ octal_text e.more)
 
 -- What may be, as far as is known, though the fact or the exit line that is looked at excludes it.
-abbrev pub gap_text : Gap → List ℕ
+abbrev pub gap_text : Counterexample → List ℕ
 gap_text (gap.Accumulator w) = codes "AC may be " ++ octal_text w
 gap_text (gap.Mq w) = codes "MQ may be " ++ octal_text w
 gap_text (gap.Link l) = codes "the link may be " ++ link_text l

@@ -14,7 +14,7 @@ use facts::{Equation, Name};
 use instruct::Profile;
 use itoa::Buffer;
 use judge::{Condition, Refusal};
-use reasons::{Breach, CallBreach, Gap, Landing, Reason, ReturnBreach};
+use reasons::{Breach, CallBreach, Counterexample, Landing, Reason, ReturnBreach};
 use std::alloc::{AllocError, Allocator};
 use word12::{Link, Word};
 
@@ -117,22 +117,22 @@ fn push_equation<A: Allocator>(text: &mut Vec<u8, A>, equation: &Equation) -> Re
 }
 
 /// Adds what is possible.
-fn push_gap<A: Allocator>(text: &mut Vec<u8, A>, gap: &Gap) -> Result<(), AllocError>
+fn push_gap<A: Allocator>(text: &mut Vec<u8, A>, gap: &Counterexample) -> Result<(), AllocError>
     ensures { OnOk result (text.new.items ≡ text.old.items ++ gap_text gap.now) }
 {
     match gap {
-        Gap::Accumulator(word) => push_place(text, b"AC may be ", *word),
-        Gap::Mq(word) => push_place(text, b"MQ may be ", *word),
-        Gap::Link(link) => push_link(text, *link),
-        Gap::Cell(cell, word) => {
+        Counterexample::Accumulator(word) => push_place(text, b"AC may be ", *word),
+        Counterexample::Mq(word) => push_place(text, b"MQ may be ", *word),
+        Counterexample::Link(link) => push_link(text, *link),
+        Counterexample::Cell(cell, word) => {
             push_place(text, b"the cell ", *cell)?;
             push_place(text, b" may be ", *word)
         }
-        Gap::Equation(equation) => {
+        Counterexample::Equation(equation) => {
             push_equation(text, equation)?;
             text.extend_from_slice(b" may be wrong as far as is known")
         }
-        Gap::Offset(offset) => push_around_number(
+        Counterexample::Offset(offset) => push_around_number(
             text,
             b"the return word may be up by ",
             *offset,

@@ -3,7 +3,7 @@ use Rattle.std.specs.Prelude.{◌&&◌}
 use Rattle.wordset.specs.Words.{SameWords, one, everything, plus, shifted, some_below, has_some, without}
 use Rattle.wordset.specs.Lanes.{words}
 use Rattle.domain.specs.Facts.{Ac, Cell, Fact, narrowed}
-use Rattle.domain.specs.Changes.{smeared}
+use Rattle.domain.specs.Changes.{weakly_updated}
 use Rattle.facts.specs.Outcomes.{alive, Goes}
 use Rattle.facts.proofs.PlaceLemmas.{all_same, both_same, without_agree}
 use Rattle.facts.proofs.AgreeLemmas.{agree_trans, narrowed_agree}
@@ -14,7 +14,7 @@ use Rattle.facts.proofs.references.count_several.Goals as goal
 pub returns : goal.returns
 returns c = λ pl f p h e.
     let held : SameWords (words c.left_in-held.result.now) (narrowed f Ac) = λ v lt. c.left_in-held.ensures v lt ∙ narrowed_agree h Ac v lt in
-    let after : Fact = smeared p (λ y. shifted (f.set (Cell y)) 1) f in
+    let after : Fact = weakly_updated p (λ y. shifted (f.set (Cell y)) 1) f in
     let wraps : c.may_some_wrap-wraps.result ≡ some_below 4096 (λ y. p y && narrowed f (Cell y) 4095) =
     c.may_some_wrap-wraps.ensures ∙ both_same 4096 _ _ _ _ e (λ y l. narrowed_agree h (Cell y) 4095 lit_last) in
     let stays : c.may_some_stay-stays.result ≡ some_below 4096 (λ y. p y && has_some (without 4095 (narrowed f (Cell y)))) =

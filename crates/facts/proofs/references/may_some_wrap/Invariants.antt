@@ -1,11 +1,11 @@
 use Rattle.std.proofs.Common.{◌≡◌, ℕ, ◌<◌, ◌-◌, true, false}
 use Rattle.wordset.specs.Lanes.{words}
 use Rattle.domain.specs.Facts.{Cell, narrowed}
-use Rattle.facts.specs.Knowing.{known_of}
+use Rattle.facts.specs.Knowing.{fact_of_state}
 use Rattle.facts.proofs.references.may_some_wrap.Given as goal
 
 abbrev pub invariant-loop-cell : goal.invariant-loop-cell
-invariant-loop-cell l = (y : ℕ) → y < l.next → words l.cells y ≡ true → narrowed (known_of l.known) (Cell y) 4095 ≡ false
+invariant-loop-cell l = (y : ℕ) → y < l.next → words l.cells y ≡ true → narrowed (fact_of_state l.known) (Cell y) 4095 ≡ false
 
 abbrev pub decreases-loop-cell : goal.decreases-loop-cell
 decreases-loop-cell l = 4096 - l.next

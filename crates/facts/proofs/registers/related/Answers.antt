@@ -3,7 +3,7 @@ use Rattle.wordset.specs.Lanes.{words}
 use Rattle.domain.specs.Facts.{Ac}
 use Rattle.domain.specs.Changes.{moved, with_name}
 use Rattle.domain.specs.Same.{Agree}
-use Rattle.facts.specs.Knowing.{known_of}
+use Rattle.facts.specs.Knowing.{fact_of_state}
 use Rattle.facts.proofs.AgreeLemmas.{agree_trans}
 use Rattle.facts.proofs.ChangingLemmas.{assigned_agree, moved_agree, name_agree}
 use Rattle.facts.proofs.RegisterLemmas.{related_none, related_moved, related_kept}
@@ -15,7 +15,7 @@ returns-then-changes_accumulator c = λ f s h e. related_none c.args.word f s (s
 
 pub returns-then-increments : goal.returns-then-increments
 returns-then-increments c = λ f s h e. related_moved c.args.word f s (sym c.changes_accumulator.ensures ∙ c.if-changes_accumulator.false) (sym c.increments.ensures ∙ c.if-increments.true)
-    (agree_trans (subst (λ k. Agree (known_of c.raised_to.result) (with_name Ac (words c.args.set.now) (moved Ac k (known_of c.args.known.now)))) c.increment.ensures c.raised_to.ensures) (name_agree Ac (moved_agree Ac 1 h) e))
+    (agree_trans (subst (λ k. Agree (fact_of_state c.raised_to.result) (with_name Ac (words c.args.set.now) (moved Ac k (fact_of_state c.args.known.now)))) c.increment.ensures c.raised_to.ensures) (name_agree Ac (moved_agree Ac 1 h) e))
 
 pub returns : goal.returns
 returns c = λ f s h e. related_kept c.args.word f s (sym c.changes_accumulator.ensures ∙ c.if-changes_accumulator.false) (sym c.increments.ensures ∙ c.if-increments.false)

@@ -5,7 +5,7 @@ use Rattle.wordset.specs.Links.{links_of}
 use Rattle.domain.specs.Facts.{narrowed, Ac}
 use Rattle.facts.specs.Outcomes.{words_at, tad_case, tad_fact}
 use Rattle.domain.specs.Same.{Agree}
-use Rattle.facts.specs.Knowing.{known_of}
+use Rattle.facts.specs.Knowing.{fact_of_state}
 use Rattle.facts.specs.Places.{place_of}
 use Rattle.facts.proofs.Alike.{only_same}
 use Rattle.facts.proofs.PlaceLemmas.{all_same, at_agree, sums_same, carries_same, toggled_same}
@@ -23,7 +23,7 @@ returns g c = λ f p h e.
     let w : c.only-2.result ≡ only (words_at (place_of c.args.self.now) f p) = c.only-2.ensures ∙ only_same _ _ seen in
     let links : SameLinks (links_of c.toggled-links.result) (toggled f.link (carries (narrowed f Ac) (words_at (place_of c.args.self.now) f p))) =
     λ k lt. c.toggled-links.ensures k lt ∙ toggled_same h.link (λ j l. c.put_sums-carries.ensures.carries j l ∙ carries_same ac seen j l) k lt in
-    let sum : Agree (known_of c.after_tad-sum.result) (tad_case (place_of c.args.self.now) f (words_at (place_of c.args.self.now) f p) (only p) (only (narrowed f Ac)) (only (words_at (place_of c.args.self.now) f p))) =
+    let sum : Agree (fact_of_state c.after_tad-sum.result) (tad_case (place_of c.args.self.now) f (words_at (place_of c.args.self.now) f p) (only p) (only (narrowed f Ac)) (only (words_at (place_of c.args.self.now) f p))) =
     rw (← t, ← a, ← w) (c.after_tad-sum.ensures f (words_at (place_of c.args.self.now) f p) h set) in
     c.going.ensures p everything (one (plus c.args.at 1)) f (tad_fact (place_of c.args.self.now) f p) e ac (all_same c.put_all.ensures) c.address_after.ensures
-    (tad_agrees (place_of c.args.self.now) f p (known_of c.after_tad-sum.result) _ (links_of c.toggled-links.result) sum c.with_link.ensures links)
+    (tad_agrees (place_of c.args.self.now) f p (fact_of_state c.after_tad-sum.result) _ (links_of c.toggled-links.result) sum c.with_link.ensures links)

@@ -2,7 +2,7 @@ use Rattle.std.proofs.Common.{◌∙◌, ap, sym, subst}
 use Rattle.wordset.specs.Words.{Words, SameWords, shifted}
 use Rattle.wordset.specs.Lanes.{words}
 use Rattle.domain.specs.Facts.{Cell, narrowed}
-use Rattle.facts.specs.Knowing.{known_of}
+use Rattle.facts.specs.Knowing.{fact_of_state}
 use Rattle.facts.specs.Places.{place_of}
 use Rattle.facts.proofs.AgreeLemmas.{narrowed_agree}
 use Rattle.facts.proofs.ChangeLemmas.{shifts_same}
@@ -12,7 +12,7 @@ use Rattle.facts.proofs.place.Place.reached.Goals as goal
 
 pub returns-then-steps_pointer : goal.returns-then-steps_pointer
 returns-then-steps_pointer g c = λ f h. reach_stepped (place_of c.args.self.now) c.args.indirect c.args.named f (sym c.steps_pointer.ensures ∙ c.if-steps_pointer.true)
-    (λ v lt. subst (λ k. SameWords (words c.shifted_in.result.now) (shifted (narrowed (known_of c.args.known.now) (Cell c.args.named)) k)) c.increment.ensures c.shifted_in.ensures v lt
+    (λ v lt. subst (λ k. SameWords (words c.shifted_in.result.now) (shifted (narrowed (fact_of_state c.args.known.now) (Cell c.args.named)) k)) c.increment.ensures c.shifted_in.ensures v lt
     ∙ shifts_same 1 (narrowed_agree h (Cell c.args.named)) v lt ∙ ap (λ (s : Words). s v) (sym (moved_here f c.args.named)))
 
 pub returns-then-indirect : goal.returns-then-indirect

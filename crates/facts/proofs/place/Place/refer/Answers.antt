@@ -1,7 +1,7 @@
 use Rattle.std.proofs.Common.{◌∙◌, sym}
 use Rattle.domain.specs.Facts.{Cell}
 use Rattle.wordset.specs.Lanes.{words}
-use Rattle.facts.specs.Knowing.{known_of}
+use Rattle.facts.specs.Knowing.{fact_of_state}
 use Rattle.facts.specs.Places.{place_of}
 use Rattle.facts.proofs.AgreeLemmas.{agree_trans, agree_refl}
 use Rattle.facts.proofs.OneTarget.{direct_target}
@@ -21,4 +21,4 @@ returns g c = λ f h. c.refer_to-2.ensures f
 
 pub single_target-single-requires : goal.single_target-single-requires
 single_target-single-requires g c = λ direct.
-    direct_target (place_of c.args.self.now) (known_of c.args.known.now) c.refers_indirectly-indirect.result c.target-named.result (words c.reached-targets.result.now) direct (c.reached-targets.ensures (known_of c.args.known.now) (agree_refl _))
+    direct_target (place_of c.args.self.now) (fact_of_state c.args.known.now) c.refers_indirectly-indirect.result c.target-named.result (words c.reached-targets.result.now) direct (c.reached-targets.ensures (fact_of_state c.args.known.now) (agree_refl _))

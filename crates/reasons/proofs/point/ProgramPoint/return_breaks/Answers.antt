@@ -1,0 +1,14 @@
+use Rattle.std.proofs.Common.{arith}
+use Rattle.reasons.specs.Keeping.{ReturnsByHere}
+use Rattle.reasons.proofs.SetLemmas.{below_next}
+use Rattle.reasons.proofs.point.ProgramPoint.return_breaks.Goals as goal
+
+pub loop-offset-preserved : goal.loop-offset-preserved
+loop-offset-preserved g c =
+    below_next (λ o. ReturnsByHere g.C.Claims.claims c.args.self.now c.args.entry o) c.loop-offset.offset c.loop-offset.invariant c.in_default.ensures.none
+
+pub returns-clause-none : goal.returns-clause-none
+returns-clause-none g c = record {
+  own = c.is_own.ensures.0 c.if-not-is_own.false;
+  each = λ o lt. c.loop-offset.invariant o (omega (arith, lt, c.loop-offset-test.false));
+}

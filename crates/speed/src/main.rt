@@ -17,7 +17,7 @@ use bin_tape::{Image, read_tape, write_tape};
 use declaration::Declaration;
 use instruct::Profile;
 use peripherals::{Event, Panel, Seen, Start, World};
-use processor::{Cpu, Successor};
+use processor::{Cpu, Outcome};
 use std::alloc::Allocator;
 use std::{env, io};
 use streams::read_at_most;
@@ -71,8 +71,8 @@ fn run_processor(cpu: &mut Cpu, panel: &mut Panel) -> u64 {
     let mut ran = 1u64;
     for _ in 0..MOST_STEPS {
         match cpu.step(panel) {
-            Successor::Ran => ran = ran.wrapping_add(1),
-            Successor::Halted | Successor::Unsupported(_) => return ran,
+            Outcome::Ran => ran = ran.wrapping_add(1),
+            Outcome::Halted | Outcome::Unsupported(_) => return ran,
         }
     }
     ran

@@ -67,7 +67,7 @@ pub(crate) fn push_seen<A: Allocator>(
     let Some(seen) = seen else {
         return Ok(());
     };
-    text.extend_from_slice(b"/ ObservedRuns in ")?;
+    text.extend_from_slice(b"/ Seen in ")?;
     text.extend_from_slice(Buffer::new().format(seen.runs).as_bytes())?;
     text.extend_from_slice(b" runs of ")?;
     text.extend_from_slice(Buffer::new().format(seen.steps).as_bytes())?;

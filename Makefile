@@ -33,7 +33,7 @@ try:
 
 # Proves the program and all crates below it, side by side, builds it, and runs it on the stored tape.
 run:
-	@echo "Proving pdp8 and all below it. From nothing this takes up to an hour, and a second where nothing has changed since."
+	@echo "Proving pdp8 and all below it. From nothing this takes about an hour, and a second where nothing has changed since."
 	python3 tests/prove.py
 
 # The gate: the page of definitions, the links and lengths of pages, whether each edit applies and that there aren't too many;

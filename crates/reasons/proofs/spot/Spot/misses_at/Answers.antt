@@ -1,19 +1,15 @@
 use Rattle.std.proofs.Common.{subst}
-use Rattle.wordset.specs.Lanes.{words}
+use Rattle.wordset.proofs.IterLemmas.{none_yet, one_more, all_pass}
 use Rattle.facts.specs.Meaning.{known_of}
-use Rattle.facts.proofs.EachLemmas.{one_more, all_pass}
 use Rattle.reasons.specs.Keeping.{ArrivesHere}
-use Rattle.reasons.specs.Spots.{here}
 use Rattle.reasons.proofs.spot.Spot.misses_at.Goals as goal
 
+pub loop-at-init : goal.loop-at-init
+loop-at-init g c = none_yet c.iter-at-items.ensures c.into_iter-at-iterator.ensures.into_iter_gives
+
 pub loop-at-preserved : goal.loop-at-preserved
-loop-at-preserved g c =
-    let s = c.args.self.now in
-    let k = known_of c.args.known.now in
-    one_more (λ a. ArrivesHere g.C.Claims.claims s (here s).routine a k) (words c.args.addresses.now) _ c.in-Some.ensures c.index-next.ensures.same
-    (subst (λ r. ArrivesHere g.C.Claims.claims s r c.in-Some.at k) c.owner-owner.ensures c.in_default-misses.ensures.none) c.loop-at.invariant
+loop-at-preserved g c = one_more c.loop-at.invariant c.in-Some.ensures.steps
+    (subst (λ r. ArrivesHere g.C.Claims.claims c.args.self.now r c.in-Some.at (known_of c.args.known.now)) c.owner-owner.ensures c.in_default.ensures.none)
 
 pub returns-clause-none : goal.returns-clause-none
-returns-clause-none g c =
-    let s = c.args.self.now in
-    all_pass (λ a. ArrivesHere g.C.Claims.claims s (here s).routine a (known_of c.args.known.now)) (words c.args.addresses.now) c.in_default.ensures c.loop-at.invariant
+returns-clause-none g c = all_pass c.loop-at.invariant c.in-None.ensures.steps

@@ -31,7 +31,7 @@ loop-word-preserved g c =
             touched = sym (c.cells.ensures cell lt) ∙ is;
           });
       all =
-          one_more {p = HasTouched c.args.access pl f c.args.at both}
+          one_more {p = HasTouched c.args.access pl f c.args.at both} {it = c.loop-word.word-iterator}
           (record {
             same = c.loop-word.invariant.all.same;
             passed = λ word lt is cell small does. first_of both (words c.loop-word.cells) (words c.cells.result) c.union-cells.ensures cell (c.loop-word.invariant.all.passed word lt is cell small does);

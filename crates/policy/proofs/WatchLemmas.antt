@@ -1,8 +1,8 @@
 -- Watched runs: each event leads to one world, and the code stays.
 use Rattle.std.proofs.Common.{ℕ, ◌≡◌, ◌<◌, ◌≤◌, ◌+◌, Bool, true, false, inl, inr, Option, Some, None, List, [], ◌∷◌, ◌++◌, refl, sym, ap, ◌∙◌, subst, arith}
-use Rattle.std.specs.Prelude.{if◌then◌else◌, not, IsTrue, take, length, slice_get}
+use Rattle.std.specs.Prelude.{if◌then◌else◌, not, is_none, ◌||◌, IsTrue, take, length, slice_get}
 use Rattle.std.proofs.lemmas.Option.{slice_get_within}
-use Rattle.std.proofs.lemmas.Bool.{cases_eq}
+use Rattle.std.proofs.lemmas.Bool.{and_parts, cases_eq}
 use Rattle.instruct.specs.declared.Profile.{Profile}
 use Rattle.instruct.specs.Instructions.{Meaning, And, Tad, Isz, Dca, Jms, Jmp, Group1, Group2, Group3, Device, Undefined}
 use Rattle.processor.specs.Machine.{State, instruction, after}
@@ -12,8 +12,11 @@ use Rattle.peripherals.specs.declared.Event.TheVariants.{Step as Instruct, Key, 
 use Rattle.peripherals.specs.Devices.{WorldState, answer_of}
 use Rattle.peripherals.specs.Events.{Happens}
 use Rattle.peripherals.specs.Seen.{puts_out}
+use Rattle.peripherals.specs.World.{prints, punches, does_print, does_punch}
 use Rattle.peripherals.proofs.OneLemmas.{one_world}
+use Rattle.peripherals.proofs.StepLemmas.{fetched_prints}
 use Rattle.processor.specs.declared.fetch.DecodedInstruction.{DecodedInstruction}
+use Rattle.processor.specs.declared.fetch.DecodedInstruction.TheVariants as fetch
 use Rattle.declaration.specs.Declaration.{Declaration, IsDeclared}
 use Rattle.policy.specs.Calls.{Calls, calls_of, calls_after}
 use Rattle.policy.specs.Rules.{KeepsCode, IsLegal}
@@ -92,6 +95,22 @@ pub call_takes : (d : Declaration) (p : Profile) (t : State) (w : WorldState) (i
 call_takes d p t w i same profile does call =
     let here : CallsRoutine d (instruction d.profile t) t = calls_routine d (instruction d.profile t) t (rw (does, profile) at call) in
     inr (subst (λ (x : State). CallsRoutine d (instruction d.profile x) x) same here)
+
+-- an instruction that prints or punches leaves the call list
+device_follows : (d : Declaration) (i : DecodedInstruction) (at : ℕ) (ks : Calls) → (does_print i || does_punch i) ≡ true → followed d i at ks ≡ ks
+device_follows d (fetch.Refers r) at ks puts = cc
+device_follows d (fetch.Operate1 w) at ks puts = refl
+device_follows d (fetch.Operate2 w) at ks puts = refl
+device_follows d (fetch.Operate3 w) at ks puts = refl
+device_follows d (fetch.Device w) at ks puts = refl
+device_follows d (fetch.Unsupported w) at ks puts = refl
+
+pub output_follows : (d : Declaration) (p : Profile) (w : WorldState) (i : DecodedInstruction) (at : ℕ) (ks : Calls) → i ≡ fetched p w.state →
+    IsTrue (puts_out w Instruct) → followed d i at ks ≡ ks
+output_follows d p w i at ks does puts =
+    let told = fetched_prints p w.state i does in
+    let gives = (and_parts (is_none w.halted_at) (prints (w.state.memory w.state.pc) || punches (w.state.memory w.state.pc)) puts).1 in
+    device_follows d i at ks (rw (told.0, told.1) gives)
 
 -- an event that is no step, and no CONTINUE at a stop
 continued : (d : Declaration) (w x : WorldState) → resumed d w.halted_at ≡ None → x ≡ record w { halted_at = None } → x ≡ record w { halted_at = resumed d w.halted_at }

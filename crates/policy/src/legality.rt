@@ -95,7 +95,7 @@ fn calls_entry<A: Allocator>(declaration: &Declaration<A>, reference: &Reference
 
 /// How far an address is after another, modulo 4096.
 #[inline(always)]
-fn distance(to: Word, from: Word) -> Word
+pub fn distance(to: Word, from: Word) -> Word
     ensures { result ≡ minus to from }
 {
     to.add(from.complement()).increment()

@@ -72,6 +72,7 @@ fn follow_calls<A: Allocator, D: Allocator>(
 ) -> Result<(), NoMemory>
     ensures calls { OnOk result (open_calls calls.new.items
         ≡ followed (meaning declaration.now) instruction.now after (open_calls calls.old.items)) }
+    ensures kept { OnErr result (calls.new.items ≡ calls.old.items) }
     ensures only_calls { OnErr result (IsCall (meaning declaration.now) instruction.now) }
 {
     match instruction {
@@ -165,6 +166,7 @@ impl<A: Allocator> Watcher<A> {
             ≡ calls_after (meaning declaration.now) machine.state (calls_of self.old)) }
         ensures profile { profile_of self.new.world ≡ (meaning declaration.now).profile }
         ensures unchanged { OnErr result (machine_of self.new ≡ machine_of self.old) }
+        ensures calls_unchanged { OnErr result (calls_of self.new ≡ calls_of self.old) }
         ensures only_growth { OnErr result
             (TakesMemory (meaning declaration.now) (machine_of self.old)) }
     {
@@ -196,6 +198,7 @@ impl<A: Allocator> Watcher<A> {
         ensures calls_kept { IfOk result (λ told. (rule : Rule) → told ≡ Some rule
             → calls_of self.new ≡ calls_of self.old) }
         ensures unchanged { OnErr result (machine_of self.new ≡ machine_of self.old) }
+        ensures calls_unchanged { OnErr result (calls_of self.new ≡ calls_of self.old) }
         ensures profile { profile_of self.new.world ≡ (meaning declaration.now).profile }
         ensures only_growth { OnErr result
             (GrowsAt (meaning declaration.now) (machine_of self.old) (calls_of self.old)) }
@@ -231,6 +234,7 @@ impl<A: Allocator> Watcher<A> {
         ensures calls_kept { IfOk result (λ told. (rule : Rule) → told ≡ Some rule
             → calls_of self.new ≡ calls_of self.old) }
         ensures unchanged { OnErr result (machine_of self.new ≡ machine_of self.old) }
+        ensures calls_unchanged { OnErr result (calls_of self.new ≡ calls_of self.old) }
         ensures profile { profile_of self.new.world ≡ (meaning declaration.now).profile }
         ensures only_growth { OnErr result
             (GrowsAt (meaning declaration.now) (machine_of self.old) (calls_of self.old)) }
@@ -254,6 +258,7 @@ impl<A: Allocator> Watcher<A> {
             (machine_of self.new) (calls_of self.new)) }
         ensures none { IfOk result (λ told. told ≡ None) }
         ensures unchanged { OnErr result (machine_of self.new ≡ machine_of self.old) }
+        ensures calls_unchanged { OnErr result (calls_of self.new ≡ calls_of self.old) }
         ensures profile { profile_of self.new.world ≡ (meaning declaration.now).profile }
         ensures only_growth { OnErr result
             (Grows (meaning declaration.now) (machine_of self.old) (calls_of self.old) event) }
@@ -270,7 +275,7 @@ impl<A: Allocator> Watcher<A> {
     /// # Errors
     ///
     /// `NoMemory` where room for a call on the call list, or for a byte that is printed or punched, was
-    /// refused. The machine is as before; the call list may have the call.
+    /// refused. Machine and call list are as before.
     pub fn next<D: Allocator>(
         &mut self,
         declaration: &Declaration<D>,
@@ -286,6 +291,7 @@ impl<A: Allocator> Watcher<A> {
         ensures calls_kept { IfOk result (λ told. (rule : Rule) → told ≡ Some rule
             → calls_of self.new ≡ calls_of self.old) }
         ensures unchanged { OnErr result (machine_of self.new ≡ machine_of self.old) }
+        ensures calls_unchanged { OnErr result (calls_of self.new ≡ calls_of self.old) }
         ensures profile { profile_of self.new.world ≡ (meaning declaration.now).profile }
         ensures only_growth { OnErr result
             (Grows (meaning declaration.now) (machine_of self.old) (calls_of self.old) event) }

@@ -1,11 +1,11 @@
-use Rattle.std.proofs.Common.{◌≡◌, refl, sym, subst}
+use Rattle.std.proofs.Common.{◌≡◌, refl, sym, subst, ◌∙◌}
 use Rattle.processor.specs.Fetch.{fetched}
 use Rattle.processor.specs.Machine.{State}
 use Rattle.processor.specs.Steps.{state_of}
 use Rattle.peripherals.specs.World.{view}
 use Rattle.declaration.specs.Kept.{meaning}
 use Rattle.policy.specs.OpenCalls.{open_calls}
-use Rattle.policy.proofs.WatchLemmas.{calls_by_instruction, call_takes}
+use Rattle.policy.proofs.WatchLemmas.{calls_by_instruction, call_takes, output_follows}
 use Rattle.policy.proofs.watcher.Watcher.carry_out.Goals as goal
 
 pub returns-in-Err-clause-only_growth : goal.returns-in-Err-clause-only_growth
@@ -20,3 +20,8 @@ returns-in-Ok-step-clause-calls g c =
     subst (λ (s : State). c.args.instruction.now ≡ fetched d.profile s) (sym c.cpu.ensures.state) c.requires.fetched in
     calls_by_instruction d d.profile (state_of c.cpu.result.now) (view c.args.self.now.world).state c.args.instruction.now c.increment-after.result (open_calls c.args.self.now.calls.items) (open_calls c.follow_calls.new.calls.items)
     c.cpu.ensures.state refl does c.increment-after.ensures c.in-Ok.ensures.calls
+
+pub returns-in-Err-step-clause-calls_unchanged : goal.returns-in-Err-step-clause-calls_unchanged
+returns-in-Err-step-clause-calls_unchanged g c =
+    let d = meaning c.args.declaration.now in
+    c.in-Ok.ensures.calls ∙ output_follows d d.profile (view c.args.self.now.world) c.args.instruction.now c.increment-after.result (open_calls c.args.self.now.calls.items) c.requires.fetched c.in-Err-step.ensures.only_output

@@ -1,12 +1,12 @@
 #!/bin/bash
 # Times `pdp8 watch` beside `pdp8 run` on the same tape and the same events: a million steps of a loop that counts a cell up
 # through a routine, so that each fourth step is a call or a return. By turns in one run, so many times each; prints the
-# least processor time of each.
+# median and the least processor time of each.
 # PDP8 names a built program in place of this repository's.
 # usage: bench/watch.sh [RUNS]
 set -euo pipefail
 top=$(cd "$(dirname "$0")/.." && pwd)
-runs=${1:-7}
+runs=${1:-25}
 work=$(mktemp -d)
 trap 'rm -r "$work"' EXIT
 program=${PDP8:-$top/crates/pdp8/out/pdp8}
@@ -44,9 +44,10 @@ for ((run = 0; run < runs; run++)); do
     echo "watch $(seconds "$work/watched" "$program" watch "$work/loop.bin" "$work/loop.declaration" "$work/loop.events")"
 done >"$work/times"
 cat "$work/ran" "$work/watched"
-awk '
-    !($1 in least) || $2 < least[$1] { least[$1] = $2 }
-    END {
-        for (name in least) printf "%-6s %.3f s for a million events\n", name, least[name]
-        printf "watching takes %.1f times as long\n", least["watch"] / least["run"]
-    }' "$work/times"
+# The seconds of a command in order: the one in the middle, and the least.
+middle() { grep "^$1 " "$work/times" | cut -d' ' -f2 | sort -n | awk '{ of[NR] = $1 } END { print of[int((NR + 1) / 2)], of[1] }'; }
+read -r ran ran_least < <(middle run)
+read -r watched watched_least < <(middle watch)
+printf 'run    %.3f s for a million events at the median, %.3f at least\n' "$ran" "$ran_least"
+printf 'watch  %.3f s, %.3f at least\n' "$watched" "$watched_least"
+awk -v ran="$ran" -v watched="$watched" 'BEGIN { printf "watching takes %.1f times as long\n", watched / ran }'

@@ -13,7 +13,7 @@ use bin_tape::Image;
 use declaration::Declaration;
 use peripherals::{Event, EventsFault, NoMemory, Start, events};
 use policy::{Rule, Watched, watch};
-use run_search::{DeclaredProgram, RunSearch};
+use run_search::{DeclaredProgram, RunSearch, Trial};
 use std::alloc::Allocator;
 use turns::{GuessFault, Turns};
 
@@ -91,6 +91,7 @@ fn takes_one(before: u32, turns: &mut Turns) -> Result<bool, NoMemory>
 fn try_once<A: Allocator + Copy, D: Allocator>(
     alloc: A,
     search: &mut RunSearch<A>,
+    trial: &mut Trial<A>,
     image: &Image,
     declaration: &Declaration<D>,
     turns: &mut Turns,
@@ -104,7 +105,7 @@ fn try_once<A: Allocator + Copy, D: Allocator>(
     ensures within { turns.new.spent ≤ turns.new.limit }
 {
     let program = DeclaredProgram { image, declaration };
-    match search.try_run(&program, turns)? {
+    match search.try_run(&program, trial, turns)? {
         Some(text) => read_again(alloc, image, declaration, text),
         None => Ok(None),
     }
@@ -141,10 +142,19 @@ pub fn refute_within<A: Allocator + Copy, D: Allocator>(
     ensures within { turns.new.spent ≤ turns.new.limit }
 {
     turns.are_within();
-    let mut search = RunSearch::new(alloc, &DeclaredProgram { image, declaration }, seed)?;
+    let program = DeclaredProgram { image, declaration };
+    let mut search = RunSearch::new(alloc, &program, seed)?;
+    let mut trial = Trial::new(alloc, &program);
     while turns.spent() < turns.limit() {
         let before = turns.spent();
-        if let Some(witness) = try_once(alloc, &mut search, image, declaration, turns)? {
+        if let Some(witness) = try_once(
+            alloc,
+            &mut search,
+            &mut trial,
+            image,
+            declaration,
+            turns,
+        )? {
             return Ok(Some(witness));
         }
         if !takes_one(before, turns)? {

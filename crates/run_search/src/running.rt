@@ -118,6 +118,14 @@ impl<A: Allocator + Copy> Run<A> {
             Purpose::Roam | Purpose::Repeat => u32::MAX,
         };
         Run {
+            most_stale,
+            ..Run::of(alloc, plan, extent, pace)
+        }
+    }
+
+    /// A run of a pace that has not begun, and is as long as it gets inputs.
+    pub(crate) fn of(alloc: A, plan: &Plan<A>, extent: Extent, pace: Pace) -> Run<A> {
+        Run {
             purpose: plan.purpose,
             base: plan.base,
             script: Script::new(alloc),
@@ -132,7 +140,7 @@ impl<A: Allocator + Copy> Run<A> {
             last_asked: extent.events,
             last_new: extent.events,
             certain: 0,
-            most_stale,
+            most_stale: u32::MAX,
         }
     }
 

@@ -1,6 +1,6 @@
 //! The search: run after run, until one breaks a rule.
 
-ghost use Rattle.std.specs.Prelude.{◌≡◌, ◌≤◌, IfOk};
+ghost use Rattle.std.specs.Prelude.{◌≡◌, ◌≤◌, IfOk, OnOk};
 ghost use Rattle.declaration.specs.Kept.{meaning};
 ghost use Rattle.peripherals.specs.World.{profile_of};
 
@@ -8,14 +8,15 @@ use crate::aiming::{Aims, Miss};
 use crate::alphabet::Alphabet;
 use crate::asking::Ask;
 use crate::looks::{Look, looks};
+use crate::pace::Pace;
 use crate::plan::{Plan, Purpose};
 use crate::random::Random;
 use crate::record::{Record, Sight};
 use crate::running::{Input, Progress, Run};
-use crate::script::Script;
+use crate::script::{Extent, Script};
 use crate::seen::Seen;
 use crate::shorten::shortened;
-use crate::tree::{Tail, Tree};
+use crate::tree::{Tail, Tree, start_of};
 use bin_tape::Image;
 use declaration::Declaration;
 use instruct::target;
@@ -88,6 +89,23 @@ pub struct Trial<A: Allocator> {
     left: u32,
 }
 
+impl<A: Allocator + Copy> Trial<A> {
+    /// A run that makes no step: to be lent to a search, which begins it anew.
+    pub fn new<D: Allocator>(alloc: A, program: &DeclaredProgram<'_, D>) -> Trial<A>
+        ensures profile { profile_of result.watcher.world
+            ≡ (meaning program.now.declaration.now).profile }
+    {
+        let plan = Plan::of(alloc, Purpose::Repeat, 0, Vec::new(alloc));
+        Trial {
+            watcher: start_of(alloc, program),
+            run: Run::of(alloc, &plan, Extent::NONE, Pace::prompt()),
+            plan,
+            is_tried: false,
+            left: 0,
+        }
+    }
+}
+
 /// What is seen before a step.
 #[derive(Clone, Copy)]
 struct Glance {
@@ -150,8 +168,9 @@ impl<A: Allocator + Copy> RunSearch<A> {
         Ok(search)
     }
 
-    /// One run. If it breaks a rule, what is told are its events as a text, without those that aren't
-    /// needed, as far as that was found out. A turn is taken for each step.
+    /// One run, for which a trial is lent: it is begun anew. If the run breaks a rule, what is told are its
+    /// events as a text, without those that aren't needed, as far as that was found out. A turn is taken
+    /// for each step.
     ///
     /// # Errors
     ///
@@ -159,16 +178,17 @@ impl<A: Allocator + Copy> RunSearch<A> {
     pub fn try_run<D: Allocator>(
         &mut self,
         program: &DeclaredProgram<'_, D>,
+        trial: &mut Trial<A>,
         turns: &mut Turns,
     ) -> Result<Option<Vec<u8, A>>, NoMemory>
         ensures limit { turns.new.limit ≡ turns.old.limit }
         ensures rises { turns.old.spent ≤ turns.new.spent }
         ensures within { turns.new.spent ≤ turns.new.limit }
     {
-        let Some(found) = self.round(program, turns)? else {
+        let Some(found) = self.round(program, trial, turns)? else {
             return Ok(None);
         };
-        let script = shortened(self.alloc, self, program, found, turns)?;
+        let script = shortened(self.alloc, self, program, trial, found, turns)?;
         Ok(Some(script.text(self.alloc)?))
     }
 
@@ -176,6 +196,7 @@ impl<A: Allocator + Copy> RunSearch<A> {
     fn round<D: Allocator>(
         &mut self,
         program: &DeclaredProgram<'_, D>,
+        trial: &mut Trial<A>,
         turns: &mut Turns,
     ) -> Result<Option<Found<A>>, NoMemory>
         ensures limit { turns.new.limit ≡ turns.old.limit }
@@ -184,7 +205,7 @@ impl<A: Allocator + Copy> RunSearch<A> {
     {
         turns.are_within();
         let plan = self.next_plan()?;
-        self.follow(program, plan, turns)
+        self.follow(program, plan, trial, turns)
     }
 
     /// What to run next: a quarter of all steps go to long runs from the start, the others to runs from
@@ -219,28 +240,28 @@ impl<A: Allocator + Copy> RunSearch<A> {
             ≡ (meaning program.now.declaration.now).profile) }
     {
         let plan = self.next_plan()?;
-        self.trial(program, plan)
+        let mut trial = Trial::new(self.alloc, program);
+        self.restart(program, plan, &mut trial)?;
+        Ok(trial)
     }
 
-    /// A run by a plan, before its first step.
-    fn trial<D: Allocator>(
+    /// Begins a trial anew, by a plan.
+    fn restart<D: Allocator>(
         &mut self,
         program: &DeclaredProgram<'_, D>,
         plan: Plan<A>,
-    ) -> Result<Trial<A>, NoMemory>
-        ensures profile { IfOk result (λ trial. profile_of trial.watcher.world
+        trial: &mut Trial<A>,
+    ) -> Result<(), NoMemory>
+        ensures profile { OnOk result (profile_of trial.new.watcher.world
             ≡ (meaning program.now.declaration.now).profile) }
     {
-        let watcher = self.tree.watcher(program, plan.base)?;
+        self.tree.restore(program, plan.base, &mut trial.watcher)?;
         let extent = self.tree.extent(plan.base);
-        let run = Run::new(self.alloc, &plan, extent, &mut self.random);
-        Ok(Trial {
-            watcher,
-            run,
-            plan,
-            is_tried: false,
-            left: MOST_STEPS,
-        })
+        trial.run = Run::new(self.alloc, &plan, extent, &mut self.random);
+        trial.plan = plan;
+        trial.is_tried = false;
+        trial.left = MOST_STEPS;
+        Ok(())
     }
 
     /// A long run from the start, mostly with the same few inputs.
@@ -396,6 +417,7 @@ impl<A: Allocator + Copy> RunSearch<A> {
         &mut self,
         program: &DeclaredProgram<'_, D>,
         plan: Plan<A>,
+        trial: &mut Trial<A>,
         turns: &mut Turns,
     ) -> Result<Option<Found<A>>, NoMemory>
         ensures limit { turns.new.limit ≡ turns.old.limit }
@@ -403,12 +425,11 @@ impl<A: Allocator + Copy> RunSearch<A> {
         ensures within { turns.new.spent ≤ turns.new.limit }
     {
         turns.are_within();
-        let mut trial = self.trial(program, plan)?;
-        if !self.go_on(program, &mut trial, turns)? {
+        self.restart(program, plan, trial)?;
+        if !self.go_on(program, trial, turns)? {
             return Ok(None);
         }
-        let Trial { run, .. } = trial;
-        self.found(run)
+        self.found(&mut trial.run)
     }
 
     /// Makes the steps of a run. True where the next one breaks a rule: it is not made, and where the run
@@ -523,20 +544,13 @@ impl<A: Allocator + Copy> RunSearch<A> {
     }
 
     /// The whole of a run that broke a rule, from the start.
-    fn found(&self, mut run: Run<A>) -> Result<Option<Found<A>>, NoMemory> {
+    fn found(&self, run: &mut Run<A>) -> Result<Option<Found<A>>, NoMemory> {
         run.write_steps();
-        let Run {
-            base,
-            script: end,
-            inputs: given,
-            before_base,
-            ..
-        } = run;
-        let mut script = self.tree.script(base)?;
-        script.append(&end)?;
+        let mut script = self.tree.script(run.base)?;
+        script.append(&run.script)?;
         script.add_step();
-        let Tail { mut inputs, .. } = self.tree.tail(base, usize::MAX)?;
-        for input in given.iter().skip(before_base) {
+        let Tail { mut inputs, .. } = self.tree.tail(run.base, usize::MAX)?;
+        for input in run.inputs.iter().skip(run.before_base) {
             inputs.push(*input).map_err(|_| NoMemory)?;
         }
         Ok(Some(Found { script, inputs }))

@@ -8,9 +8,10 @@ ghost use Rattle.peripherals.specs.World.{profile_of};
 use crate::plan::{Plan, Purpose};
 use crate::running::Input;
 use crate::script::{Part, Script};
-use crate::search::{DeclaredProgram, Found, RunSearch};
+use crate::search::{DeclaredProgram, Found, RunSearch, Trial};
+use crate::tree::start_of;
 use declaration::Declaration;
-use peripherals::{NoMemory, Start};
+use peripherals::NoMemory;
 use policy::Watcher;
 use std::alloc::Allocator;
 use turns::{Stepped, Turns, take_step};
@@ -26,6 +27,7 @@ pub(crate) fn shortened<A: Allocator + Copy, D: Allocator>(
     alloc: A,
     search: &mut RunSearch<A>,
     program: &DeclaredProgram<'_, D>,
+    trial: &mut Trial<A>,
     found: Found<A>,
     turns: &mut Turns,
 ) -> Result<Script<A>, NoMemory>
@@ -42,9 +44,9 @@ pub(crate) fn shortened<A: Allocator + Copy, D: Allocator>(
         without(alloc, &found.inputs, 0, 0)?,
     );
     let mut best = found;
-    if let Some(prompt) = search.follow(program, plan, turns)? {
+    if let Some(prompt) = search.follow(program, plan, trial, turns)? {
         best = prompt;
-        halve_inputs(alloc, search, program, &mut best, last, turns)?;
+        halve_inputs(alloc, search, program, trial, &mut best, last, turns)?;
     }
     let Found { mut script, .. } = best;
     halve_events(alloc, program, &mut script, last, turns)?;
@@ -72,6 +74,7 @@ fn halve_inputs<A: Allocator + Copy, D: Allocator>(
     alloc: A,
     search: &mut RunSearch<A>,
     program: &DeclaredProgram<'_, D>,
+    trial: &mut Trial<A>,
     found: &mut Found<A>,
     last: u32,
     turns: &mut Turns,
@@ -84,7 +87,7 @@ fn halve_inputs<A: Allocator + Copy, D: Allocator>(
     let mut size = found.inputs.len();
     for _halving in 0..HALVINGS {
         size = size.saturating_add(1) / 2;
-        take_out_inputs(alloc, search, program, found, size, last, turns)?;
+        take_out_inputs(alloc, search, program, trial, found, size, last, turns)?;
         if size <= 1 {
             break;
         }
@@ -97,6 +100,7 @@ fn take_out_inputs<A: Allocator + Copy, D: Allocator>(
     alloc: A,
     search: &mut RunSearch<A>,
     program: &DeclaredProgram<'_, D>,
+    trial: &mut Trial<A>,
     found: &mut Found<A>,
     size: usize,
     last: u32,
@@ -114,7 +118,7 @@ fn take_out_inputs<A: Allocator + Copy, D: Allocator>(
         }
         let given = without(alloc, &found.inputs, place, size)?;
         let plan = Plan::of(alloc, Purpose::Repeat, 0, given);
-        match search.follow(program, plan, turns)? {
+        match search.follow(program, plan, trial, turns)? {
             Some(shorter) => *found = shorter,
             None => place = place.saturating_add(size),
         }
@@ -188,7 +192,7 @@ fn replayed<A: Allocator + Copy, D: Allocator>(
 {
     turns.are_within();
     let declaration = program.declaration;
-    let mut watcher = Watcher::new(alloc, program.image, declaration, &Start::zero());
+    let mut watcher = start_of(alloc, program);
     let mut played = Script::new(alloc);
     let parts = script.parts();
     for index in 0..parts.len() {

@@ -1,6 +1,6 @@
 //! The tree of kept states: those in which a program asks for an input after something new was seen.
 
-ghost use Rattle.std.specs.Prelude.{◌≡◌, IfOk};
+ghost use Rattle.std.specs.Prelude.{◌≡◌, OnOk};
 ghost use Rattle.declaration.specs.Kept.{meaning};
 ghost use Rattle.peripherals.specs.World.{profile_of};
 
@@ -119,13 +119,23 @@ fn take_snapshot<A: Allocator + Copy>(
     })
 }
 
+/// The machine that is watched from the start on.
+pub(crate) fn start_of<A: Allocator + Copy, D: Allocator>(
+    alloc: A,
+    program: &DeclaredProgram<'_, D>,
+) -> Watcher<A>
+    ensures profile { profile_of result.world ≡ (meaning program.now.declaration.now).profile }
+{
+    Watcher::new(alloc, program.image, program.declaration, &Start::zero())
+}
+
 impl<A: Allocator + Copy> Tree<A> {
     /// The tree with the start alone.
     pub(crate) fn new<D: Allocator>(
         alloc: A,
         program: &DeclaredProgram<'_, D>,
     ) -> Result<Tree<A>, NoMemory> {
-        let watcher = Watcher::new(alloc, program.image, program.declaration, &Start::zero());
+        let watcher = start_of(alloc, program);
         let mut tree = Tree {
             alloc,
             tape: watcher.world().cpu().memory.duplicate(),
@@ -220,24 +230,22 @@ impl<A: Allocator + Copy> Tree<A> {
         Ok(group)
     }
 
-    /// A watched machine in a kept state.
-    pub(crate) fn watcher<D: Allocator>(
+    /// Puts a machine that is watched into a kept state.
+    pub(crate) fn restore<D: Allocator>(
         &self,
         program: &DeclaredProgram<'_, D>,
         number: usize,
-    ) -> Result<Watcher<A>, NoMemory>
-        ensures profile { IfOk result (λ watcher. profile_of watcher.world
+        watcher: &mut Watcher<A>,
+    ) -> Result<(), NoMemory>
+        ensures profile { OnOk result (profile_of watcher.new.world
             ≡ (meaning program.now.declaration.now).profile) }
     {
         let Some(kept) = self.states.get(number) else {
-            return Ok(Watcher::new(
-                self.alloc,
-                program.image,
-                program.declaration,
-                &Start::zero(),
-            ));
+            *watcher = start_of(self.alloc, program);
+            return Ok(());
         };
         let machine = &kept.machine;
+        let calls = Vec::from_slice(self.alloc, &machine.calls)?;
         let cpu = Cpu {
             memory: self.memory(machine),
             ac: machine.ac,
@@ -246,12 +254,12 @@ impl<A: Allocator + Copy> Tree<A> {
             pc: machine.pc,
             profile: program.declaration.profile(),
         };
-        let world = World::of(self.alloc, cpu, machine.panel, None);
-        let calls = Vec::from_slice(self.alloc, &machine.calls)?;
-        Ok(Watcher::resume(world, calls))
+        *watcher = Watcher::resume(World::of(self.alloc, cpu, machine.panel, None), calls);
+        Ok(())
     }
 
     /// The memory of a kept machine.
+    #[inline(always)]
     fn memory(&self, machine: &Snapshot<A>) -> Memory {
         let mut memory = self.tape.duplicate();
         for change in &machine.changes {

@@ -363,7 +363,7 @@ const WHY_INPUT: Argument = Argument {
     help: "where an input is refused, writes what is wrong with it",
 };
 
-static VERIFY_ARGUMENTS: [Argument; 9] = [
+const VERIFY_ARGUMENTS: [Argument; 9] = [
     TAPE_OR_SOURCE,
     PROPOSED,
     PARTS,
@@ -375,7 +375,7 @@ static VERIFY_ARGUMENTS: [Argument; 9] = [
     WHY_VERIFY,
 ];
 
-static RUN_ARGUMENTS: [Argument; 14] = [
+const RUN_ARGUMENTS: [Argument; 14] = [
     TAPE,
     START,
     ROUNDS,
@@ -392,17 +392,17 @@ static RUN_ARGUMENTS: [Argument; 14] = [
     WHY_INPUT,
 ];
 
-static TELETYPE_ARGUMENTS: [Argument; 10] = [
+const TELETYPE_ARGUMENTS: [Argument; 10] = [
     TAPE, START, PROFILE, READER, PUNCH, SWITCHES, MARK, RAW, SHOW, WHY_INPUT,
 ];
 
-static DUMP_ARGUMENTS: [Argument; 3] = [TAPE, PROFILE, WHY_INPUT];
+const DUMP_ARGUMENTS: [Argument; 3] = [TAPE, PROFILE, WHY_INPUT];
 
-static ASSEMBLE_ARGUMENTS: [Argument; 5] = [TAPE_OUT, OTHER_SOURCES, OUTPUT, PROFILE, WHY_SOURCE];
+const ASSEMBLE_ARGUMENTS: [Argument; 5] = [TAPE_OUT, OTHER_SOURCES, OUTPUT, PROFILE, WHY_SOURCE];
 
-static LIST_ARGUMENTS: [Argument; 3] = [SOURCE, PROFILE, WHY_SOURCE];
+const LIST_ARGUMENTS: [Argument; 3] = [SOURCE, PROFILE, WHY_SOURCE];
 
-static SOURCE_ARGUMENTS: [Argument; 7] = [
+const SOURCE_ARGUMENTS: [Argument; 7] = [
     TAPE,
     SOURCE_OUT,
     OUTPUT,
@@ -412,7 +412,7 @@ static SOURCE_ARGUMENTS: [Argument; 7] = [
     WHY_INPUT,
 ];
 
-static WATCH_ARGUMENTS: [Argument; 11] = [
+const WATCH_ARGUMENTS: [Argument; 11] = [
     TAPE_OR_SOURCE,
     DECLARED,
     EVENTS,
@@ -426,9 +426,9 @@ static WATCH_ARGUMENTS: [Argument; 11] = [
     WHY_BROKEN,
 ];
 
-static CHECK_ARGUMENTS: [Argument; 5] = [TAPE_OR_SOURCE, DECLARED, CLAIMED, PARTS, WHY_CHECK];
+const CHECK_ARGUMENTS: [Argument; 5] = [TAPE_OR_SOURCE, DECLARED, CLAIMED, PARTS, WHY_CHECK];
 
-static REPORT_ARGUMENTS: [Argument; 8] = [
+const REPORT_ARGUMENTS: [Argument; 8] = [
     TAPE_OR_SOURCE,
     DECLARED,
     CLAIMED,
@@ -439,7 +439,7 @@ static REPORT_ARGUMENTS: [Argument; 8] = [
     WHY_INPUT,
 ];
 
-static DECLARE_ARGUMENTS: [Argument; 9] = [
+const DECLARE_ARGUMENTS: [Argument; 9] = [
     TAPE_OR_SOURCE,
     DECLARATION_OUT,
     OUTPUT,
@@ -451,7 +451,7 @@ static DECLARE_ARGUMENTS: [Argument; 9] = [
     WHY_INPUT,
 ];
 
-static GUESS_ARGUMENTS: [Argument; 7] = [
+const GUESS_ARGUMENTS: [Argument; 7] = [
     TAPE_OR_SOURCE,
     DECLARED,
     GUESSED_OUT,
@@ -461,7 +461,7 @@ static GUESS_ARGUMENTS: [Argument; 7] = [
     WHY_GUESS,
 ];
 
-static REFUTE_ARGUMENTS: [Argument; 8] = [
+const REFUTE_ARGUMENTS: [Argument; 8] = [
     TAPE_OR_SOURCE,
     DECLARED,
     EVENTS_OUT,
@@ -472,146 +472,154 @@ static REFUTE_ARGUMENTS: [Argument; 8] = [
     WHY_BROKEN,
 ];
 
-static PLACE_ARGUMENTS: [Argument; 5] = [PLACED_OUT, OTHER_SOURCES, OUTPUT, LABELLED, WHY_SOURCE];
+const PLACE_ARGUMENTS: [Argument; 5] = [PLACED_OUT, OTHER_SOURCES, OUTPUT, LABELLED, WHY_SOURCE];
 
-static MIGRATE_ARGUMENTS: [Argument; 4] = [CERTIFICATE, CERTIFICATE_OUT, OUTPUT, WHY_INPUT];
+const MIGRATE_ARGUMENTS: [Argument; 4] = [CERTIFICATE, CERTIFICATE_OUT, OUTPUT, WHY_INPUT];
 
-static EXPLAIN_ARGUMENTS: [Argument; 1] = [CODE];
+const EXPLAIN_ARGUMENTS: [Argument; 1] = [CODE];
 
-static VERIFY: Entry = Entry {
+const VERIFY: Entry = Entry {
     name: "verify",
     usage: Some("pdp8 verify [OPTIONS] <TAPE> [DECLARATION]"),
     about: "Says whether a program keeps its declaration: yes, no or not known",
     after_help: "Without DECLARATION, and without /: lines in the source, one is proposed for the start and the machine that --start and --profile name; with one they are its own.\n\nExamples:\n  pdp8 verify hello.bin hello.declaration\n  pdp8 verify --source hello.pal --save hello",
 };
 
-static RUN: Entry = Entry {
+const RUN: Entry = Entry {
     name: "run",
     usage: None,
     about: "Runs a tape and writes where it ended and what it printed and punched",
     after_help: "Example:\n  pdp8 run hello.bin --start 200 --trace",
 };
 
-static SESSION: Entry = Entry {
+const SESSION: Entry = Entry {
     name: "teletype",
     usage: None,
     about: "Runs a tape with you at the teletype: what it prints comes at once, and it gets a key when it asks",
     after_help: "Keys come from standard input, what is printed goes to standard output, and the summary to standard error. The session ends at a halt, at a word that isn't supported, and where a key is asked for and none is left.\n\nExample:\n  pdp8 teletype echo.bin",
 };
 
-static DUMP: Entry = Entry {
+const DUMP: Entry = Entry {
     name: "dump",
     usage: None,
     about: "Writes address, word and name for each word on a tape",
     after_help: "Example:\n  pdp8 dump hello.bin",
 };
 
-static ASSEMBLE: Entry = Entry {
+const ASSEMBLE: Entry = Entry {
     name: "assemble",
     usage: Some("pdp8 assemble [OPTIONS] [-o] <OUT> <SOURCE>..."),
     about: "Assembles a PAL III source and writes its tape",
     after_help: "Without -o OUT comes first, and is emptied before a source is read, also where the source is refused.\n\nExample:\n  pdp8 assemble -o hello.bin hello.pal",
 };
 
-static LIST: Entry = Entry {
+const LIST: Entry = Entry {
     name: "list",
     usage: None,
     about: "Assembles a PAL III source and writes its listing",
     after_help: "Example:\n  pdp8 list hello.pal",
 };
 
-static SOURCE_OF_TAPE: Entry = Entry {
+const SOURCE_OF_TAPE: Entry = Entry {
     name: "source",
     usage: Some("pdp8 source [OPTIONS] <TAPE> [-o] <OUT>"),
     about: "Writes a PAL III source of a tape, from which assemble makes the same words",
     after_help: "The operand OUT is emptied before the tape is read. Without a declaration control is followed from the start, for the machine of --profile; with one they are its own.\n\nExample:\n  pdp8 source hello.bin -o found.pal",
 };
 
-static WATCH: Entry = Entry {
+const WATCH: Entry = Entry {
     name: "watch",
     usage: Some("pdp8 watch [OPTIONS] <TAPE> <DECLARATION> [EVENTS]"),
     about: "Writes whether a run keeps its declaration, or where it first breaks which rule",
     after_help: "Examples:\n  pdp8 watch hello.bin hello.declaration hello.events\n  pdp8 watch --source hello.pal hello.events",
 };
 
-static CHECK: Entry = Entry {
+const CHECK: Entry = Entry {
     name: "check",
     usage: Some("pdp8 check [OPTIONS] <TAPE> <DECLARATION> <CERTIFICATE>"),
     about: "Writes whether a certificate shows that no run breaks its declaration",
     after_help: "Examples:\n  pdp8 check hello.bin hello.declaration hello.certificate --why\n  pdp8 check --source hello.pal hello.certificate --why",
 };
 
-static REPORT: Entry = Entry {
+const REPORT: Entry = Entry {
     name: "report",
     usage: Some("pdp8 report [OPTIONS] <TAPE> <DECLARATION> <CERTIFICATE> [-o] <OUT>"),
     about: "Writes what a certificate says as a page of HTML: verdict, memory, routines, listing",
     after_help: "The operand OUT is emptied before an input is read. The verdict and the status are check's.\n\nExamples:\n  pdp8 report hello.bin hello.declaration hello.certificate -o hello.html\n  pdp8 report --source hello.pal hello.certificate -o hello.html",
 };
 
-static DECLARE: Entry = Entry {
+const DECLARE: Entry = Entry {
     name: "declare",
     usage: Some("pdp8 declare [OPTIONS] <TAPE> [-o] <OUT>"),
     about: "Proposes a declaration: what the program of a tape may do",
     after_help: "The operand OUT is emptied before the tape is read. Where no certificate is found the declaration is written all the same, behind comments that say why if there is room for them, and the status is 1.\n\nExamples:\n  pdp8 declare hello.bin -o hello.declaration\n  pdp8 declare --source hello.pal -o hello.declaration",
 };
 
-static GUESS: Entry = Entry {
+const GUESS: Entry = Entry {
     name: "guess",
     usage: Some("pdp8 guess [OPTIONS] <TAPE> <DECLARATION> [-o] <OUT>"),
     about: "Looks for a certificate that shows that no run breaks a declaration",
     after_help: "The operand OUT is emptied before an input is read, and stays empty where nothing is found. check says yes to what is found: that is proved.\n\nExamples:\n  pdp8 guess hello.bin hello.declaration -o hello.certificate\n  pdp8 guess --source hello.pal -o hello.certificate",
 };
 
-static REFUTE: Entry = Entry {
+const REFUTE: Entry = Entry {
     name: "refute",
     usage: Some("pdp8 refute [OPTIONS] <TAPE> <DECLARATION> [-o] <OUT>"),
     about: "Looks for a run that breaks a declaration, and writes its events",
     after_help: "The operand OUT is emptied before an input is read, and stays empty where nothing is found. The same seed gives the same answer.\n\nExamples:\n  pdp8 refute hello.bin hello.declaration -o found.events --why\n  pdp8 refute --source hello.pal -o found.events --why",
 };
 
-static PLACE: Entry = Entry {
+const PLACE: Entry = Entry {
     name: "place",
     usage: Some("pdp8 place [OPTIONS] [-o] <OUT> <SOURCE>..."),
     about: "Writes a declaration in numbers, whose addresses are symbols of a source",
     after_help: "Without -o OUT comes first, and is emptied before the declaration is written: where an input is refused it stays as it was.\n\nExample:\n  pdp8 place -o hello.declaration hello.pal",
 };
 
-static MIGRATE: Entry = Entry {
+const MIGRATE: Entry = Entry {
     name: "migrate",
     usage: Some("pdp8 migrate [OPTIONS] <CERTIFICATE> [-o] <OUT>"),
     about: "Writes a certificate in version 2, which says what MQ may hold",
     after_help: "The operand OUT is emptied before the certificate is read, also where that is refused.\n\nExample:\n  pdp8 migrate hello.certificate -o hello-2.certificate",
 };
 
-static EXPLAIN: Entry = Entry {
+const EXPLAIN: Entry = Entry {
     name: "explain",
     usage: None,
     about: "Writes what a condition, a rule or a fault means, and what to do",
     after_help: "Without CODE it lists the codes. Those of `no: V5 at 0210`, `broken: event 50 rule 2` and `pdp8: source: IR 1 2` are V5, rule2 and IR.\n\nExample:\n  pdp8 explain V5",
 };
 
+/// The commands with their arguments, in the order of the list.
+const COMMANDS: [(&Entry, &[Argument]); 16] = [
+    (&VERIFY, &VERIFY_ARGUMENTS),
+    (&RUN, &RUN_ARGUMENTS),
+    (&SESSION, &TELETYPE_ARGUMENTS),
+    (&DUMP, &DUMP_ARGUMENTS),
+    (&ASSEMBLE, &ASSEMBLE_ARGUMENTS),
+    (&LIST, &LIST_ARGUMENTS),
+    (&SOURCE_OF_TAPE, &SOURCE_ARGUMENTS),
+    (&WATCH, &WATCH_ARGUMENTS),
+    (&CHECK, &CHECK_ARGUMENTS),
+    (&REPORT, &REPORT_ARGUMENTS),
+    (&DECLARE, &DECLARE_ARGUMENTS),
+    (&GUESS, &GUESS_ARGUMENTS),
+    (&REFUTE, &REFUTE_ARGUMENTS),
+    (&PLACE, &PLACE_ARGUMENTS),
+    (&MIGRATE, &MIGRATE_ARGUMENTS),
+    (&EXPLAIN, &EXPLAIN_ARGUMENTS),
+];
+
 /// The program with all its commands.
 pub(crate) fn command<'a>(alloc: Global) -> Result<Command<'a>, AllocError> {
-    let program = Command::new(alloc, "pdp8")
+    let mut program = Command::new(alloc, "pdp8")
         .bin_name("pdp8")?
         .about("A workbench for PDP-8 paper tapes")
         .version(VERSION)
         .after_help(STATUSES)
         .subcommand_required(true);
-    let program = with_entry(alloc, program, &VERIFY, &VERIFY_ARGUMENTS)?;
-    let program = with_entry(alloc, program, &RUN, &RUN_ARGUMENTS)?;
-    let program = with_entry(alloc, program, &SESSION, &TELETYPE_ARGUMENTS)?;
-    let program = with_entry(alloc, program, &DUMP, &DUMP_ARGUMENTS)?;
-    let program = with_entry(alloc, program, &ASSEMBLE, &ASSEMBLE_ARGUMENTS)?;
-    let program = with_entry(alloc, program, &LIST, &LIST_ARGUMENTS)?;
-    let program = with_entry(alloc, program, &SOURCE_OF_TAPE, &SOURCE_ARGUMENTS)?;
-    let program = with_entry(alloc, program, &WATCH, &WATCH_ARGUMENTS)?;
-    let program = with_entry(alloc, program, &CHECK, &CHECK_ARGUMENTS)?;
-    let program = with_entry(alloc, program, &REPORT, &REPORT_ARGUMENTS)?;
-    let program = with_entry(alloc, program, &DECLARE, &DECLARE_ARGUMENTS)?;
-    let program = with_entry(alloc, program, &GUESS, &GUESS_ARGUMENTS)?;
-    let program = with_entry(alloc, program, &REFUTE, &REFUTE_ARGUMENTS)?;
-    let program = with_entry(alloc, program, &PLACE, &PLACE_ARGUMENTS)?;
-    let program = with_entry(alloc, program, &MIGRATE, &MIGRATE_ARGUMENTS)?;
-    with_entry(alloc, program, &EXPLAIN, &EXPLAIN_ARGUMENTS)
+    for (entry, arguments) in &COMMANDS {
+        program = with_entry(alloc, program, entry, arguments)?;
+    }
+    Ok(program)
 }

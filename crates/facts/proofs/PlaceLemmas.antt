@@ -42,10 +42,6 @@ some_step n test old new e h = rw add-one (h ∙ ap (λ b. b || test n) e ∙ sw
     swap false true = refl
     swap false false = refl
 
-or_false : (a : Bool) → a ≡ (a || false)
-or_false true = refl
-or_false false = refl
-
 -- facts that agree leave the same words
 pub own_agree : {f g : Fact} (s : Words) → Agree f g → SameWords (own_words s f) (own_words s g)
 own_agree s h v lt = some_same 8 _ _ (λ o l. ap (λ b. b && s (minus v (o + 1))) (h.offsets o l))

@@ -97,18 +97,6 @@ one_at {s} {n} {m} e h v lt = ap (λ (x : Words). x v) e ∙ ap (λ k. v == k) h
 pub plus_two : (a n m : ℕ) → n ≡ (a + 1) % 4096 → m ≡ (n + 1) % 4096 → m ≡ plus a 2
 plus_two a n m h g = omega arith
 
--- ISZ of one cell
-pub isz_variable : (pl : Place) (at : ℕ) (f : Fact) (p : Words) (y : ℕ) (a b : List Successor) → pl.declaration.variable y ≡ true →
-    AgreeingSuccessors a (given (narrowed f (Cell y) 4095 && alive p f (one 0) (with_name (Cell y) (one 0) (moved (Cell y) 1 f))) (Goes (one (plus at 2)) (with_name (Cell y) (one 0) (moved (Cell y) 1 f)))) →
-    AgreeingSuccessors b (goes p f (without 0 (shifted (narrowed f (Cell y)) 1)) (one (plus at 1)) (with_name (Cell y) (without 0 (shifted (narrowed f (Cell y)) 1)) (moved (Cell y) 1 f))) →
-    AgreeingSuccessors (a ++ b) (isz_case pl at f p (Some y))
-isz_variable pl at f p y a b var h k = rw var (append_agree a _ b _ h k)
-
-pub isz_own : (pl : Place) (at : ℕ) (f : Fact) (p : Words) (y : ℕ) (a : List Successor) → pl.declaration.variable y ≡ false →
-    AgreeingSuccessors a (goes p f everything (one (plus at 1)) (with_offsets (λ o. if o == 0 then false else f.offsets (o - 1)) f)) →
-    AgreeingSuccessors a (isz_case pl at f p (Some y))
-isz_own pl at f p y a var h = rw var h
-
 pub shifts_agree : {a b : Words} → SameWords a b → SameWords (shifted a 1) (shifted b 1)
 shifts_agree h v lt = h (minus v 1) (minus_lt v 1)
 

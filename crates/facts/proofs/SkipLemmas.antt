@@ -76,12 +76,3 @@ kept_same {s} {t} w h v lt = go (has_bit 7 w)
     go : (b : Bool) → (let x : Words = if b then one 0 else s in let y : Words = if b then one 0 else t in x v ≡ y v)
     go true = refl
     go false = h v lt
-
-pub related_ors : {k : Fact} (w : ℕ) (f : Fact) (p : Words) → has_bit 2 w ≡ true → Agree k (strongly_updated Ac (or_any 4095 (if has_bit 7 w then one 0 else p)) f) → Agree k (related2 w p f)
-related_ors w f p e h = rw e h
-
-pub related_cleared : {k : Fact} (w : ℕ) (f : Fact) (p : Words) → has_bit 2 w ≡ false → has_bit 7 w ≡ true → Agree k (strongly_updated Ac (one 0) f) → Agree k (related2 w p f)
-related_cleared w f p e i h = rw (e, i) h
-
-pub related_left : {k : Fact} (w : ℕ) (f : Fact) (p : Words) → has_bit 2 w ≡ false → has_bit 7 w ≡ false → Agree k (with_name Ac p f) → Agree k (related2 w p f)
-related_left w f p e i h = rw (e, i) h

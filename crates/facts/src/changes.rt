@@ -33,13 +33,9 @@ impl<'a> AbstractState<'a> {
         ensures target { IsUnchanged result.target }
         ensures len { length result.equations.now ≤ length self.now.equations.now }
     {
-        let set = self.shifted_in(&Name::Cell(cell), Word::ZERO.increment(), place);
-        raise(
-            &Name::Cell(cell),
-            Word::ZERO.increment(),
-            self.equations,
-            list,
-        );
+        let one = Word::ZERO.increment();
+        let set = self.shifted_in(&Name::Cell(cell), one, place);
+        raise(&Name::Cell(cell), one, self.equations, list);
         AbstractState {
             pointer: Update::Strong(cell.index(), set),
             target: Update::Unchanged,
@@ -138,12 +134,8 @@ impl<'a> AbstractState<'a> {
             (with_name (Cell cell) (words set.now) (moved (Cell cell) 1 (fact_of_state self.now))) }
         ensures len { length result.equations.now ≤ length self.now.equations.now }
     {
-        raise(
-            &Name::Cell(cell),
-            Word::ZERO.increment(),
-            self.equations,
-            list,
-        );
+        let one = Word::ZERO.increment();
+        raise(&Name::Cell(cell), one, self.equations, list);
         AbstractState {
             target: Update::Strong(cell.index(), set),
             equations: list.as_slice(),

@@ -62,13 +62,8 @@ pub(crate) fn deposit<'a>(
         }
         None => {
             let put = known.stored(targets, held, &mut way.first);
-            going(
-                true,
-                targets,
-                held,
-                next,
-                put.with_ac(zero, &mut way.second),
-            )
+            let cleared = put.with_ac(zero, &mut way.second);
+            going(true, targets, held, next, cleared)
         }
     }
 }

@@ -184,11 +184,6 @@ pub(crate) fn branch<'a>(
     let part = put_part(word, link, skip, held, &mut way.read);
     let after = after_test(word, known, part, &mut way.ac, &mut way.first);
     let next = next_address(at, skip, &mut way.next);
-    going(
-        has_some(part),
-        next,
-        held,
-        next,
-        after.with_link(Links::one(link)),
-    )
+    let linked = after.with_link(Links::one(link));
+    going(has_some(part), next, held, next, linked)
 }

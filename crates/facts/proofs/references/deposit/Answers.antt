@@ -28,7 +28,7 @@ returns-in-None c = λ pl f p h e.
     let ac : SameWords (words c.left_in-held.result.now) (narrowed f Ac) = λ v lt. c.left_in-held.ensures v lt ∙ narrowed_agree h Ac v lt in
     let none : only (words c.args.targets.now) ≡ None = sym c.requires.single ∙ c.in-None.is in
     rw (same, none) (c.going-in-None.ensures p (one (plus c.args.at 1)) f _ (has_same e) ac c.address_after-next.ensures
-    (stored_words h e ac c.stored-put.ensures.same c.put_one-zero.ensures c.with_ac.ensures.same))
+    (stored_words h e ac c.stored-put.ensures.same c.put_one-zero.ensures c.with_ac-cleared.ensures.same))
 
 pub with_ac-after-requires : goal.with_ac-after-requires
 with_ac-after-requires c = record { room = omega (arith, c.told-told.ensures.len, c.with_cell-put.ensures.len, c.requires.room) }

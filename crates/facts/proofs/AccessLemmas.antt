@@ -35,27 +35,12 @@ read_may : (pl : Place) (start : Cells) (f : Fact) (s : State) (ks : Calls) (a :
 read_may pl start f s ks a (And i c) is named declared reads = or_wider (i && (a == c)) _ _ (among pl start f s ks a i c (And i c) is named declared refl) reads
 read_may pl start f s ks a (Tad i c) is named declared reads = or_wider (i && (a == c)) _ _ (among pl start f s ks a i c (Tad i c) is named declared refl) reads
 read_may pl start f s ks a (Isz i c) is named declared reads = or_wider (i && (a == c)) _ _ (among pl start f s ks a i c (Isz i c) is named declared refl) reads
-read_may pl start f s ks a (Dca i c) is named declared reads = reads
-read_may pl start f s ks a (Jms i c) is named declared reads = reads
-read_may pl start f s ks a (Jmp i c) is named declared reads = reads
-read_may pl start f s ks a (Group1 w) is named declared reads = reads
-read_may pl start f s ks a (Group2 w) is named declared reads = reads
-read_may pl start f s ks a (Group3 o) is named declared reads = reads
-read_may pl start f s ks a (Device x) is named declared reads = reads
-read_may pl start f s ks a Undefined is named declared reads = reads
+read_may pl start f s ks a _ is named declared reads = reads
 
 write_may : (pl : Place) (start : Cells) (f : Fact) (s : State) (ks : Calls) (a : ℕ) (m : Meaning) → IsStateOf pl start f s ks → NamesWord m → WritesAreDeclared pl f m → written_by m s.memory a ≡ true → may_write pl f m a ≡ true
-write_may pl start f s ks a (And i c) is named declared writes = writes
-write_may pl start f s ks a (Tad i c) is named declared writes = writes
 write_may pl start f s ks a (Isz i c) is named declared writes = or_wider (pointer_of (Isz i c) a) _ _ (among pl start f s ks a i c (Isz i c) is named declared refl) writes
 write_may pl start f s ks a (Dca i c) is named declared writes = or_wider (pointer_of (Dca i c) a) _ _ (among pl start f s ks a i c (Dca i c) is named declared refl) writes
-write_may pl start f s ks a (Jms i c) is named declared writes = writes
-write_may pl start f s ks a (Jmp i c) is named declared writes = writes
-write_may pl start f s ks a (Group1 w) is named declared writes = writes
-write_may pl start f s ks a (Group2 w) is named declared writes = writes
-write_may pl start f s ks a (Group3 o) is named declared writes = writes
-write_may pl start f s ks a (Device x) is named declared writes = writes
-write_may pl start f s ks a Undefined is named declared writes = writes
+write_may pl start f s ks a _ is named declared writes = writes
 
 pub reads_are_foreseen : ReadsAreForeseen
 reads_are_foreseen pl start f s ks a is declared reads =

@@ -4,13 +4,9 @@ use Rattle.std.specs.Prelude.{if◌then◌else◌}
 use Rattle.std.proofs.lemmas.Bool.{and_parts, and_from}
 use Rattle.wordset.specs.Words.{plus, minus, Words, SameWords, some_below, first_below, only_of, only, without}
 use Rattle.domain.specs.Facts.{Name, same, Equation, Fact, met_by, narrowed, Among, Knows, KnowsAll}
+use Rattle.wordset.proofs.Tests.{both_ways}
 use Rattle.domain.specs.Same.{SameFact, SameLaw}
 use Rattle.facts.proofs.Numbers.{plus_lt, minus_lt}
-
-both_ways : (a b : Bool) → (a ≡ true → b ≡ true) → (b ≡ true → a ≡ true) → a ≡ b
-both_ways true b h g = sym (h refl)
-both_ways false true h g = g refl
-both_ways false false h g = refl
 
 pub some_same : (n : ℕ) (a b : ℕ → Bool) → ((v : ℕ) → v < n → a v ≡ b v) → some_below n a ≡ some_below n b
 unfolding some_below

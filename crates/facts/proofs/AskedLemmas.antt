@@ -1,7 +1,6 @@
 -- What is asked of a word: the cells that it reads and writes.
 use Rattle.std.proofs.Common.{◌≡◌, ℕ, ◌<◌, ◌==◌, Bool, true, false, ◌&&◌, ◌||◌, ◌⊎◌, Option, Some, None, refl, sym, ap, ◌∙◌, subst, inl, inr, arith}
-use Rattle.std.proofs.lemmas.Bool.{eqb-true, false≢true}
-use Rattle.std.proofs.lemmas.Bool.Decides.{nat_tests}
+use Rattle.std.proofs.lemmas.Bool.{eqb-true, eq-eqb, false≢true}
 use Rattle.std.specs.Prelude.{IsTrue, ◌↔◌}
 use Rattle.instruct.specs.declared.Instruction.TheVariants.{Memory, Operate2}
 use Rattle.instruct.specs.declared.Operation.{Operation}
@@ -18,9 +17,6 @@ use Rattle.facts.specs.Conditions.{may_read, may_write, reads_operand, stores, c
 use Rattle.policy.specs.Rules.{HaltsDeclared}
 use Rattle.facts.proofs.Numbers.{or_left, or_right}
 
-same_number : (a : ℕ) → (a == a) ≡ true
-same_number a = grind (arith, nat_tests)
-
 pub or_false : (b : Bool) → b ≡ (b || false)
 or_false true = refl
 or_false false = refl
@@ -34,17 +30,12 @@ false_iff h = (λ t. absurd (false≢true t), λ q. h q)
 -- what is true of all other instructions is true of one that is no memory reference
 pub unless_memory : (P : Meaning → Type 0) → ((w : ℕ) → P (Group1 w)) → ((w : ℕ) → P (Group2 w)) → ((o : MqOperate) → P (Group3 o)) → ((d : DeviceAction) → P (Device d)) → P Undefined →
     (m : Meaning) → (kind_of m ≡ Memory → ⊥) → P m
-unless_memory P one two three device undefined (And i c) h = absurd (h refl)
-unless_memory P one two three device undefined (Tad i c) h = absurd (h refl)
-unless_memory P one two three device undefined (Isz i c) h = absurd (h refl)
-unless_memory P one two three device undefined (Dca i c) h = absurd (h refl)
-unless_memory P one two three device undefined (Jms i c) h = absurd (h refl)
-unless_memory P one two three device undefined (Jmp i c) h = absurd (h refl)
 unless_memory P one two three device undefined (Group1 w) h = one w
 unless_memory P one two three device undefined (Group2 w) h = two w
 unless_memory P one two three device undefined (Group3 o) h = three o
 unless_memory P one two three device undefined (Device d) h = device d
 unless_memory P one two three device undefined Undefined h = undefined
+unless_memory P one two three device undefined _ h = absurd (h refl)
 
 pub refers_to : (pl : Place) (at w n : ℕ) (i : Bool) → kind_of (meaning_at pl at w) ≡ Memory → i ≡ is_indirect w → n ≡ named_cell w at → reference (operation_of w) i n ≡ meaning_at pl at w
 refers_to pl at w n i k ei en = rw (ei, en) (sym (reference_meaning pl.declaration.profile at w k))
@@ -57,9 +48,7 @@ read_by : (pl : Place) (f : Fact) (o : Operation) (i : Bool) (c a : ℕ) → ((i
 read_by pl f operation.And i c a = refl
 read_by pl f operation.Tad i c a = refl
 read_by pl f operation.Isz i c a = refl
-read_by pl f operation.Dca i c a = sym (or_false (i && (a == c)))
-read_by pl f operation.Jms i c a = sym (or_false (i && (a == c)))
-read_by pl f operation.Jmp i c a = sym (or_false (i && (a == c)))
+read_by pl f _ i c a = sym (or_false (i && (a == c)))
 
 pub reads_none : (pl : Place) (f : Fact) (m : Meaning) → (kind_of m ≡ Memory → ⊥) → (a : ℕ) → may_read pl f m a ≡ false
 reads_none pl f m h a = unless_memory (λ m. may_read pl f m a ≡ false) (λ w. refl) (λ w. refl) (λ o. refl) (λ d. refl) refl m h
@@ -71,11 +60,7 @@ reads_reference s p t pl f o n i r er hs hp ht v lt = hs v ∙ rw (hp v, er, ht 
 -- the cells written
 written_by : (pl : Place) (f : Fact) (o : Operation) (i : Bool) (c a : ℕ) → ((steps_pointer i c && (a == c)) || (stores o && targets pl i c f a)) ≡ may_write pl f (reference o i c) a
 written_by pl f operation.And i c a = refl
-written_by pl f operation.Tad i c a = refl
-written_by pl f operation.Isz i c a = refl
-written_by pl f operation.Dca i c a = refl
-written_by pl f operation.Jms i c a = refl
-written_by pl f operation.Jmp i c a = refl
+written_by pl f _ i c a = refl
 
 pub writes_none : (pl : Place) (f : Fact) (m : Meaning) → (kind_of m ≡ Memory → ⊥) → (a : ℕ) → may_write pl f m a ≡ false
 writes_none pl f m h a = unless_memory (λ m. may_write pl f m a ≡ false) (λ w. refl) (λ w. refl) (λ o. refl) (λ d. refl) refl m h
@@ -102,21 +87,14 @@ counts_at {i} {n} pl f at w a k ei en =
     is_own (Some k) e = ap (λ n. Some n) (sym (eqb-true a k e))
 
     go : (o : Operation) → CountsItsReturn pl f (reference o i n) a ↔ ((counts o ≡ true) × (is_routine pl.routine a ≡ true) × (only (targets pl i n f) ≡ Some a) × (f.offsets 7 ≡ false))
-    go operation.Isz = (λ q. (refl, ap (λ r. is_routine r a) q.0 ∙ same_number a, q.1, q.2), λ p. (is_own pl.routine p.1, p.2, p.3))
-    go operation.And = (λ q. absurd q, λ p. absurd (false≢true p.0))
-    go operation.Tad = (λ q. absurd q, λ p. absurd (false≢true p.0))
-    go operation.Dca = (λ q. absurd q, λ p. absurd (false≢true p.0))
-    go operation.Jms = (λ q. absurd q, λ p. absurd (false≢true p.0))
-    go operation.Jmp = (λ q. absurd q, λ p. absurd (false≢true p.0))
+    go operation.Isz = (λ q. (refl, ap (λ r. is_routine r a) q.0 ∙ eq-eqb a a refl, q.1, q.2), λ p. (is_own pl.routine p.1, p.2, p.3))
+    go _ = (λ q. absurd q, λ p. absurd (false≢true p.0))
 
 -- cells that are all on a list or the routine's own entry
-pub iff_trans : {a b c : Type 0} → (a ↔ b) → (b ↔ c) → a ↔ c
-iff_trans h g = (λ x. g.0 (h.0 x), λ x. h.1 (g.1 x))
-
 pub listed_iff : (r : Bool) (cells listed writes : Words) (e : ℕ) → ((a : ℕ) → listed a ≡ (writes a || (a == e))) → (IsTrue r ↔ IsWithin cells listed) →
     IsTrue r ↔ ((a : ℕ) → a < 4096 → cells a ≡ true → MayWrite writes (Some e) a)
 listed_iff r cells listed writes e here h =
-    iff_trans h (λ q a lt c. there a (sym (here a) ∙ q a lt c), λ p a lt c. here a ∙ back a (p a lt c))
+    (λ q a lt c. there a (sym (here a) ∙ h.0 q a lt c), λ p. h.1 (λ a lt c. here a ∙ back a (p a lt c)))
   where
     there : (a : ℕ) → (writes a || (a == e)) ≡ true → (writes a ≡ true) ⊎ (a ≡ e)
     there a t = go (writes a) refl t
@@ -128,7 +106,7 @@ listed_iff r cells listed writes e here h =
     back : (a : ℕ) → (writes a ≡ true) ⊎ (a ≡ e) → (writes a || (a == e)) ≡ true
     back a x = elim x [
       | inl w ↦ or_left (writes a) (a == e) w
-      | inr q ↦ or_right (writes a) (a == e) (ap (λ n. a == n) (sym q) ∙ same_number a)
+      | inr q ↦ or_right (writes a) (a == e) (ap (λ n. a == n) (sym q) ∙ eq-eqb a a refl)
     ]
 
 -- what is asked of each cell, where they are the same cells or none
@@ -143,17 +121,8 @@ pub halts_nowhere : (pl : Place) (at w : ℕ) → (kind_of (meaning_at pl at w) 
 halts_nowhere pl at w h = (λ q. other (meaning_at pl at w) h, λ q. refl)
   where
     other : (m : Meaning) → (kind_of m ≡ Operate2 → ⊥) → HaltsDeclared pl.declaration m at
-    other (And i c) n = tt
-    other (Tad i c) n = tt
-    other (Isz i c) n = tt
-    other (Dca i c) n = tt
-    other (Jms i c) n = tt
-    other (Jmp i c) n = tt
-    other (Group1 a) n = tt
     other (Group2 a) n = absurd (n refl)
-    other (Group3 o) n = tt
-    other (Device a) n = tt
-    other Undefined n = tt
+    other _ n = tt
 
 pub halts_not : (r : Bool) (pl : Place) (at w : ℕ) → kind_of (meaning_at pl at w) ≡ Operate2 → r ≡ is_halt w → r ≡ false → IsTrue true ↔ HaltsDeclared pl.declaration (meaning_at pl at w) at
 halts_not r pl at w k e n =

@@ -17,11 +17,7 @@ use Rattle.facts.proofs.AskedLemmas.{refers_to, unless_memory}
 -- whether a word is a JMS
 reference_call : (o : Operation) (i : Bool) (c : ℕ) → calls o ≡ is_call (reference o i c)
 reference_call operation.And i c = refl
-reference_call operation.Tad i c = refl
-reference_call operation.Isz i c = refl
-reference_call operation.Dca i c = refl
-reference_call operation.Jms i c = refl
-reference_call operation.Jmp i c = refl
+reference_call _ i c = refl
 
 pub no_call : (m : Meaning) → (kind_of m ≡ Memory → ⊥) → false ≡ is_call m
 no_call m h = unless_memory (λ m. false ≡ is_call m) (λ w. refl) (λ w. refl) (λ o. refl) (λ d. refl) refl m h
@@ -32,17 +28,8 @@ call_if r pl at w k er =
 
 -- a word that is no JMS calls nothing, through no cell
 pub calls_none : (m : Meaning) → is_call m ≡ false → (false ≡ calls_through_index m) × ((pl : Place) (f : Fact) (a : ℕ) → called pl f m a ≡ false)
-calls_none (And i c) h = (refl, λ pl f a. refl)
-calls_none (Tad i c) h = (refl, λ pl f a. refl)
-calls_none (Isz i c) h = (refl, λ pl f a. refl)
-calls_none (Dca i c) h = (refl, λ pl f a. refl)
 calls_none (Jms i c) h = absurd (false≢true (sym h))
-calls_none (Jmp i c) h = (refl, λ pl f a. refl)
-calls_none (Group1 w) h = (refl, λ pl f a. refl)
-calls_none (Group2 w) h = (refl, λ pl f a. refl)
-calls_none (Group3 o) h = (refl, λ pl f a. refl)
-calls_none (Device d) h = (refl, λ pl f a. refl)
-calls_none Undefined h = (refl, λ pl f a. refl)
+calls_none _ h = (refl, λ pl f a. refl)
 
 -- a JMS is the one that its bits say
 pub call_meaning : (pl : Place) (at w n : ℕ) (i : Bool) → i ≡ is_indirect w → n ≡ named_cell w at → is_call (meaning_at pl at w) ≡ true → Jms i n ≡ meaning_at pl at w
@@ -52,25 +39,12 @@ call_meaning pl at w n i ei en h =
     jms (operation_of w) (ap is_call here ∙ h) ∙ here
   where
     memory : (m : Meaning) → is_call m ≡ true → kind_of m ≡ Memory
-    memory (And i c) q = refl
-    memory (Tad i c) q = refl
-    memory (Isz i c) q = refl
-    memory (Dca i c) q = refl
     memory (Jms i c) q = refl
-    memory (Jmp i c) q = refl
-    memory (Group1 a) q = absurd (false≢true q)
-    memory (Group2 a) q = absurd (false≢true q)
-    memory (Group3 o) q = absurd (false≢true q)
-    memory (Device d) q = absurd (false≢true q)
-    memory Undefined q = absurd (false≢true q)
+    memory _ q = absurd (false≢true q)
 
     jms : (o : Operation) → is_call (reference o i n) ≡ true → Jms i n ≡ reference o i n
-    jms operation.And q = absurd (false≢true q)
-    jms operation.Tad q = absurd (false≢true q)
-    jms operation.Isz q = absurd (false≢true q)
-    jms operation.Dca q = absurd (false≢true q)
     jms operation.Jms q = refl
-    jms operation.Jmp q = absurd (false≢true q)
+    jms _ q = absurd (false≢true q)
 
 -- the entry through which a word returns
 pub returned_none : (d : Declaration) (m : Meaning) → (kind_of m ≡ Memory → ⊥) → None ≡ returned_through d m
@@ -78,11 +52,7 @@ returned_none d m h = unless_memory (λ m. None ≡ returned_through d m) (λ w.
 
 returned_by : (d : Declaration) (o : Operation) (i : Bool) (c : ℕ) → (if jumps o then (if i && d.entry c then Some c else None) else None) ≡ returned_through d (reference o i c)
 returned_by d operation.And i c = refl
-returned_by d operation.Tad i c = refl
-returned_by d operation.Isz i c = refl
-returned_by d operation.Dca i c = refl
-returned_by d operation.Jms i c = refl
-returned_by d operation.Jmp i c = refl
+returned_by d _ i c = refl
 
 pub returns_if : (x : Option ℕ) (pl : Place) (at w n : ℕ) (i r : Bool) → kind_of (meaning_at pl at w) ≡ Memory → r ≡ jumps (operation_of w) → i ≡ is_indirect w → n ≡ named_cell w at →
     x ≡ (if r then (if i && pl.declaration.entry n then Some n else None) else None) → x ≡ returned_through pl.declaration (meaning_at pl at w)

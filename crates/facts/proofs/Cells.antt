@@ -3,12 +3,12 @@ use Rattle.std.specs.Prelude.{if◌then◌else◌}
 use Rattle.std.proofs.lemmas.Bool.{and_from, eqb-true, eqb-false, eq-eqb, ne_eqb, true≢false, false≢true, cases_eq}
 use Rattle.wordset.specs.Words.{plus, minus, Words, everything}
 use Rattle.processor.specs.Cells.{Cells, updated}
-use Rattle.processor.specs.Machine.{State}
+use Rattle.processor.specs.Machine.{State, seen, place, steps_pointer}
 use Rattle.declaration.specs.Declaration.{Declaration, IsDeclared}
 use Rattle.policy.specs.Calls.{Call, Calls}
 use Rattle.domain.specs.Facts.{Name, Ac, Cell, same, Equation, Fact, Values, AllTrue, Holds, narrowed, values, KeepsRest, Place, OwnWord, StandsIn, Means, own_words, is_routine, tape_word, words_in, possible}
 use Rattle.facts.specs.Law.{IsState, TopIsEntry}
-use Rattle.facts.proofs.Numbers.{some_from}
+use Rattle.facts.proofs.Numbers.{plus_lt, some_from}
 use Rattle.facts.proofs.Laws.{WordsAre, OnlyAt, narrowed_at}
 
 pub updated_same : (m : Cells) (a v : ℕ) → updated m a v a ≡ v
@@ -24,6 +24,18 @@ words_updated m a v h ws b = elim (cases_eq b a) [
   | inl e ↦ (rw (e, updated_same m a v) h)
   | inr n ↦ rw (updated_other m a v b n) (ws b)
 ]
+
+-- memory after a pointer was stepped, and the place that a reference refers to
+pub seen_words : (i : Bool) (c : ℕ) (m : Cells) → ((a : ℕ) → m a < 4096) → (a : ℕ) → seen i c m a < 4096
+seen_words i c m ws a = go (steps_pointer i c)
+  where
+    go : (b : Bool) → (let chosen : Cells = if b then updated m c (plus (m c) 1) else m in chosen a < 4096)
+    go true = words_updated m c (plus (m c) 1) (plus_lt (m c) 1) ws a
+    go false = ws a
+
+pub seen_place : (i : Bool) (c : ℕ) (m : Cells) → ((a : ℕ) → m a < 4096) → c < 4096 → place i c m < 4096
+seen_place false c m ws h = h
+seen_place true c m ws h = seen_words true c m ws c
 
 pub values_words : (d : Declaration) (start : Cells) (ac : ℕ) (m : Cells) → ac < 4096 → ((a : ℕ) → start a < 4096) → ((a : ℕ) → m a < 4096) → WordsAre (values d start ac m)
 values_words d start ac m h sw ws = record { each = each }

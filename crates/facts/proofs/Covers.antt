@@ -20,8 +20,8 @@ use Rattle.facts.specs.Conditions.{may_write, WritesAreDeclared, EntriesAreKept}
 use Rattle.facts.specs.Law.{IsState, TopIsEntry, IsOrdinary, LandsIn, SomeOutcome, StepLaw}
 use Rattle.facts.proofs.Numbers.{plus_lt, or_left, or_right}
 use Rattle.facts.proofs.Operates.{and_word, or_word, ac_after_word, link_after_bit, operate2_word, mq_words}
-use Rattle.facts.proofs.Cells.{words_updated}
-use Rattle.facts.proofs.Steps.{after_pointer, pointer_state, pointer_means, target_true, place_word, tad_step, MayCount, isz_step, dca_step, jmp_step, and_step, operate1_step, operate2_step, operate3_step, skip_step, or_step, clear_step, take_step, leave_step}
+use Rattle.facts.proofs.Cells.{words_updated, seen_words, seen_place}
+use Rattle.facts.proofs.Steps.{after_pointer, pointer_state, pointer_means, target_true, tad_step, MayCount, isz_step, dca_step, jmp_step, and_step, operate1_step, operate2_step, operate3_step, skip_step, or_step, clear_step, take_step, leave_step}
 
 -- an instruction names a word
 abbrev pub NamesWord : Meaning → Type 0
@@ -77,20 +77,9 @@ small_byte b h = omega arith
 mod_two : (n : ℕ) → n % 2 < 2
 mod_two n = omega arith
 
-next_word : (pc : ℕ) (b : Bool) → next_pc pc b < 4096
+pub next_word : (pc : ℕ) (b : Bool) → next_pc pc b < 4096
 next_word pc true = plus_lt pc 2
 next_word pc false = plus_lt pc 1
-
-seen_words : (i : Bool) (c : ℕ) (m : Cells) → ((a : ℕ) → m a < 4096) → (a : ℕ) → seen i c m a < 4096
-seen_words i c m ws a = go (steps_pointer i c)
-  where
-    go : (b : Bool) → (let chosen : Cells = if b then updated m c (plus (m c) 1) else m in chosen a < 4096)
-    go true = words_updated m c (plus (m c) 1) (plus_lt (m c) 1) ws a
-    go false = ws a
-
-seen_place : (i : Bool) (c : ℕ) (m : Cells) → ((a : ℕ) → m a < 4096) → c < 4096 → place i c m < 4096
-seen_place false c m ws h = h
-seen_place true c m ws h = seen_words true c m ws c
 
 device_state : (action : DeviceAction) (s : State) (q : Answer) (ac : ℕ) (skip : Bool) → IsState s → Answers action s.ac q ac skip → ac < 4096
 device_state Skips s q ac skip ss a = subst (λ x. x < 4096) (sym a.1) ss.ac
@@ -169,7 +158,7 @@ module _ (pl : Place) (dd : IsDeclared pl.declaration) (start : Cells) (sw : (a 
         var = var;
         state = pointer_state pl dd start sw loaded i c s ss;
         means = pointer_means pl dd start sw loaded i c f s ks ss top var h;
-        word = place_word pl dd start sw loaded i c s ss lt;
+        word = seen_place i c s.memory ss.words lt;
         target = target_true pl dd start sw loaded i c f s ks ss top var h;
       }
 

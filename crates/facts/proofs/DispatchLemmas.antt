@@ -12,7 +12,7 @@ use Rattle.instruct.specs.Bits.{has_bit, is_indirect, named_cell}
 use Rattle.instruct.specs.Operates.{MqOperate, mq_operate_of}
 use Rattle.instruct.specs.Devices.{device_operation}
 use Rattle.instruct.specs.Instructions.{Meaning, Group1, Group2, Undefined, DeviceAction, kind_of, meaning_of, instruction_of, operation_of, reference, reference_at, processor_action, device_action, device_meaning, mq_meaning, group3_meaning, operate_meaning, is_group1}
-use Rattle.instruct.proofs.KindLemmas.{reference_meaning, group1_meaning, group2_meaning, group3_meaning_of, device_meaning_of, undefined_meaning}
+use Rattle.instruct.proofs.KindLemmas.{group3_meaning_of, device_meaning_of}
 use Rattle.wordset.specs.Words.{everything, one, plus}
 use Rattle.domain.specs.Facts.{Fact, Place}
 use Rattle.facts.specs.Outcomes.{Successor, goes, operated1, operated3, device_outcomes, outcomes_of, outcomes_at}
@@ -25,16 +25,8 @@ refers os pl f at w n i o p ei en ep is h =
     ap (λ x. reference x i n) (sym is ∙ ep) ∙ ap (λ x. reference (operation_of w) x n) ei ∙ ap (λ x. reference (operation_of w) (is_indirect w) x) en in
     subst (λ m. AgreeingSuccessors os (outcomes_of pl f at m)) same h
 
-pub by_reference : (os : List Successor) (pl : Place) (f : Fact) (at w : ℕ) → kind_of (meaning_of pl.declaration.profile at w) ≡ Memory → AgreeingSuccessors os (outcomes_of pl f at (reference_at (operation_of w) w at)) →
-    AgreeingSuccessors os (outcomes_at pl f at w)
-by_reference os pl f at w k h = subst (λ m. AgreeingSuccessors os (outcomes_of pl f at m)) (sym (reference_meaning pl.declaration.profile at w k)) h
-
-pub by_group1 : (os : List Successor) (pl : Place) (f : Fact) (at w : ℕ) → kind_of (meaning_of pl.declaration.profile at w) ≡ Operate1 → AgreeingSuccessors os (goes everything f everything (one (plus at 1)) (operated1 w f)) →
-    AgreeingSuccessors os (outcomes_at pl f at w)
-by_group1 os pl f at w k h = subst (λ m. AgreeingSuccessors os (outcomes_of pl f at m)) (sym (group1_meaning pl.declaration.profile at w k)) h
-
-pub by_group2 : (os : List Successor) (pl : Place) (f : Fact) (at w : ℕ) → kind_of (meaning_of pl.declaration.profile at w) ≡ Operate2 → AgreeingSuccessors os (outcomes_of pl f at (Group2 w)) → AgreeingSuccessors os (outcomes_at pl f at w)
-by_group2 os pl f at w k h = subst (λ m. AgreeingSuccessors os (outcomes_of pl f at m)) (sym (group2_meaning pl.declaration.profile at w k)) h
+pub by_meaning : (os : List Successor) (pl : Place) (f : Fact) (at w : ℕ) {m : Meaning} → meaning_of pl.declaration.profile at w ≡ m → AgreeingSuccessors os (outcomes_of pl f at m) → AgreeingSuccessors os (outcomes_at pl f at w)
+by_meaning os pl f at w e h = subst (λ m. AgreeingSuccessors os (outcomes_of pl f at m)) (sym e) h
 
 pub by_group3 : (os : List Successor) (pl : Place) (f : Fact) (at w : ℕ) → kind_of (meaning_of pl.declaration.profile at w) ≡ Operate3 →
     ((o : MqOperate) → mq_operate_of w ≡ Some o → AgreeingSuccessors os (goes everything f everything (one (plus at 1)) (operated3 o f))) → AgreeingSuccessors os (outcomes_at pl f at w)
@@ -59,9 +51,6 @@ by_no_device os pl f at w k e =
   where
     none_some : {a : DeviceAction} → None ≡ Some a → ⊥
     none_some q = cc
-
-pub by_nothing : (os : List Successor) (pl : Place) (f : Fact) (at w : ℕ) → kind_of (meaning_of pl.declaration.profile at w) ≡ Unsupported → os ≡ [] → AgreeingSuccessors os (outcomes_at pl f at w)
-by_nothing os pl f at w k e = subst (λ m. AgreeingSuccessors os (outcomes_of pl f at m)) (sym (undefined_meaning pl.declaration.profile at w k)) (rw e tt)
 
 -- each word of group 1 of the 8/I is one of the 8/E
 kind_if : (b : Bool) (x y p q : Meaning) → (kind_of x ≡ Operate1 → kind_of p ≡ Operate1) → (kind_of y ≡ Operate1 → kind_of q ≡ Operate1) → kind_of (if b then x else y) ≡ Operate1 → kind_of (if b then p else q) ≡ Operate1

@@ -30,8 +30,8 @@ all_pass p set {from} none before a lt is = elim (cases_lt a from) [
 ]
 
 -- Some word of the set has a property, or none has.
-pub some_has : (set t : Words) {from w : ℕ} → IsFirstFrom from set w → t w ≡ true → true ≡ some_below 4096 (λ y. set y && t y)
-some_has set t {from} {w} first e = sym (some_from 4096 (λ y. set y && t y) w first.small (and_from (set w) (t w) first.within e))
+pub some_has : (set t : Words) {w : ℕ} → w < 4096 → set w ≡ true → t w ≡ true → true ≡ some_below 4096 (λ y. set y && t y)
+some_has set t {w} lt is e = sym (some_from 4096 (λ y. set y && t y) w lt (and_from (set w) (t w) is e))
 
 pub none_has : (set t : Words) → ((a : ℕ) → a < 4096 → set a ≡ true → t a ≡ false) → false ≡ some_below 4096 (λ y. set y && t y)
 none_has set t h = sym (some_none_of 4096 (λ y. set y && t y) (λ v lt. go v lt (set v) refl))

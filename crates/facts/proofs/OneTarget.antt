@@ -6,7 +6,7 @@ use Rattle.wordset.specs.Words.{Words, SameWords, one, only, only_of, first_belo
 use Rattle.wordset.proofs.Tests.{both_ways, some_from, some_none_of}
 use Rattle.domain.specs.Facts.{Place, Fact, words_in}
 use Rattle.facts.specs.Outcomes.{words_at, targets}
-use Rattle.facts.proofs.Alike.{only_same}
+use Rattle.facts.proofs.Alike.{some_same, only_same}
 use Rattle.facts.proofs.Numbers.{only_tells}
 
 -- the least number that passes a test does pass it
@@ -74,19 +74,11 @@ some_one y t lt = go (t y) refl
         pick v true k = rw k (ap t (eqb-true v y k) ∙ e)
         pick v false k = rw k refl
 
--- some word of one set with a property, and of another with the same words
-some_alike : (n : ℕ) (a b t : Words) → ((v : ℕ) → v < n → a v ≡ b v) → some_below n (λ x. a x && t x) ≡ some_below n (λ x. b x && t x)
-unfolding some_below
-some_alike zero a b t h = refl
-some_alike (suc n) a b t h =
-    ap (λ q. (q && t n) || some_below n (λ x. a x && t x)) (h n (omega arith))
-    ∙ ap (λ q. (b n && t n) || q) (some_alike n a b t (λ v l. h v (omega arith)))
-
 -- the words that the one target may hold
 pub words_of_only : (pl : Place) (f : Fact) (p : Words) (y : ℕ) (s : Words) → only p ≡ Some y → SameWords s (words_in pl f y) → SameWords s (words_at pl f p)
 words_of_only pl f p y s e h v lt =
     h v lt ∙ sym (some_one y (λ a. words_in pl f a v) (only_has p y e).0)
-    ∙ sym (some_alike 4096 p (one y) (λ a. words_in pl f a v) (λ a l. only_is p y e a l))
+    ∙ sym (some_same 4096 _ _ (λ a l. ap (λ q. q && words_in pl f a v) (only_is p y e a l)))
 
 -- a direct reference's one target
 pub direct_only : (t : Words) (n : ℕ) → n < 4096 → SameWords t (one n) → Some n ≡ only t

@@ -1,18 +1,27 @@
 -- Outcomes that agree.
-use Rattle.std.proofs.Common.{◌≡◌, ℕ, ◌+◌, ◌-◌, ◌<◌, ◌%◌, ◌==◌, Bool, true, false, not, ◌&&◌, Some, List, [], ◌∷◌, ◌++◌, refl, sym, ap, ◌∙◌, subst, arith}
+use Rattle.std.proofs.Common.{◌≡◌, ℕ, ◌+◌, ◌-◌, ◌<◌, ◌%◌, ◌==◌, Bool, true, false, not, ◌&&◌, Some, List, [], ◌∷◌, ◌++◌, refl, sym, ap, ◌∙◌, subst, arith, lit<}
 use Rattle.std.specs.Prelude.{if◌then◌else◌}
-use Rattle.wordset.specs.Words.{plus, minus, Words, SameWords, one, everything, has_some, without, shifted}
+use Rattle.wordset.specs.Words.{plus, minus, Words, SameWords, one, everything, has_some, has_link, without, shifted}
 use Rattle.domain.specs.Facts.{Ac, Cell, Fact, Place, narrowed}
 use Rattle.facts.specs.Outcomes.{Successor, Goes, CallsTo, Returns, alive, given, goes, isz_case}
 use Rattle.domain.specs.Changes.{moved, with_name, with_offsets}
 use Rattle.domain.specs.Same.{Agree}
 use Rattle.facts.specs.Agreeing.{AgreeingSuccessor, AgreeingSuccessors}
-use Rattle.facts.proofs.Numbers.{minus_lt}
+use Rattle.std.proofs.lemmas.Bool.{eq-eqb}
+use Rattle.facts.proofs.Numbers.{minus_lt, some_from}
 use Rattle.facts.proofs.Alike.{some_same}
 use Rattle.facts.proofs.AgreeLemmas.{narrowed_agree}
+use Rattle.facts.proofs.PlaceLemmas.{and_both}
 
 pub has_same : {s t : Words} → SameWords s t → has_some s ≡ has_some t
 has_same {s} {t} e = some_same 4096 s t e
+
+has_everything : has_some everything ≡ true
+has_everything = some_from 4096 everything 0 (lit< tt) refl
+
+-- one address is some
+pub has_one : {s : Words} {n : ℕ} → n < 4096 → SameWords s (one n) → has_some s ≡ has_some everything
+has_one {n = n} lt e = has_same e ∙ some_from 4096 (one n) n lt (eq-eqb n n refl) ∙ sym has_everything
 
 -- what isn't empty has something
 pub not_empty : {r b : Bool} → r ≡ not b → not r ≡ b
@@ -22,24 +31,33 @@ not_empty {r} {b} e = ap not e ∙ twice b
     twice true = refl
     twice false = refl
 
-pub has_no_second : {r : Bool} (a b c : Bool) → r ≡ not b → r ≡ true → false ≡ (a && (b && c))
-has_no_second a true c e t = absurd (let z : true ≡ false = sym t ∙ e in cc)
-has_no_second true false c e t = refl
-has_no_second false false c e t = refl
+all_five : {a b c d e g h i j k : Bool} → a ≡ g → b ≡ h → c ≡ i → d ≡ j → e ≡ k → (a && (b && (c && (d && e)))) ≡ (g && (h && (i && (j && k))))
+all_five p q r s t = rw (p, q, r, s, t) refl
 
-pub has_words : {r b : Bool} → r ≡ not b → r ≡ false → true ≡ b
-has_words e f = ap not (sym f) ∙ not_empty e
-
-pub all_six : {a b c d e f g h i j k l : Bool} → a ≡ g → b ≡ h → c ≡ i → d ≡ j → e ≡ k → f ≡ l → (a && (b && (c && (d && (e && f))))) ≡ (g && (h && (i && (j && (k && l)))))
-all_six p q r s t u = rw (p, q, r, s, t, u) refl
-
-pub alive_same : {p q s t : Words} {h i : Fact} (f : Fact) → SameWords p q → SameWords s t → Agree h i → alive p f s h ≡ alive q f t i
-alive_same {p} {q} {s} {t} {h} {i} f ep es b =
-    all_six (has_same ep) refl (has_same (b.sets Ac)) (has_same b.mq) (some_same 2 h.link i.link b.link) (has_same es)
+pub alive_same : {held : Words} {g h : Fact} (p q : Words) (f : Fact) → has_some q ≡ has_some p → SameWords held (narrowed f Ac) → Agree g h →
+    (has_some q && (has_some held && (has_some (g.set Ac) && (has_some g.mq && has_link g.link)))) ≡ alive p f everything h
+alive_same {h = h} p q f e a b =
+    all_five e (has_same a) (has_same (b.sets Ac)) (has_same b.mq) (some_same 2 _ _ b.link ∙ full (has_link h.link))
+  where
+    full : (c : Bool) → c ≡ (c && has_some everything)
+    full true = sym has_everything
+    full false = refl
 
 pub alive_agree : {p q s t : Words} {f g h i : Fact} → SameWords p q → Agree f g → SameWords s t → Agree h i → alive p f s h ≡ alive q g t i
-alive_agree {p} {q} {s} {t} {f} {g} {h} {i} ep a es b =
-    all_six (has_same ep) (has_same (narrowed_agree a Ac)) (has_same (b.sets Ac)) (has_same b.mq) (some_same 2 h.link i.link b.link) (has_same es)
+alive_agree ep a es b =
+    all_five (has_same ep) (has_same (narrowed_agree a Ac)) (has_same (b.sets Ac)) (has_same b.mq) (and_both (some_same 2 _ _ b.link) (has_same es))
+
+-- the changed cell's set may be tested by itself
+pub alive_changed : {r : Bool} (p : Words) (f : Fact) (s : Words) (h : Fact) → r ≡ has_some s → (r && alive p f everything h) ≡ alive p f s h
+alive_changed p f s h e = rw (e, has_everything) (go (has_some p) (has_some (narrowed f Ac)) (has_some (h.set Ac)) (has_some h.mq) (has_link h.link) (has_some s))
+  where
+    no : (a : Bool) {x : Bool} → x ≡ false → (a && x) ≡ false
+    no true q = q
+    no false q = refl
+
+    go : (a b c d e k : Bool) → (k && (a && (b && (c && (d && (e && true)))))) ≡ (a && (b && (c && (d && (e && k)))))
+    go a b c d e true = refl
+    go a b c d e false = sym (no a (no b (no c (no d (no e refl)))))
 
 pub given_agree : (a b : Bool) (o : Successor) (p : Successor) → a ≡ b → AgreeingSuccessor o p → AgreeingSuccessors (given a o) (given b p)
 given_agree true true o p e h = (h, tt)
@@ -59,8 +77,8 @@ returns_some {a} {b} f g t e h = let y : b ≡ true = sym e ∙ t in rw y (h, tt
 pub given_none : {a b : Bool} (p : Successor) → a ≡ false → a ≡ b → AgreeingSuccessors [] (given b p)
 given_none {a} {b} p t e = let y : b ≡ false = sym e ∙ t in rw y tt
 
-pub chosen_agrees : {r x : Bool} (os : List Successor) (z : Bool) (o : Successor) → r ≡ x → AgreeingSuccessors os (given (r && z) o) → AgreeingSuccessors os (given (x && z) o)
-chosen_agrees {r} {x} os z o e h = subst (λ b. AgreeingSuccessors os (given (b && z) o)) e h
+pub chosen_agrees : {r x : Bool} (os : List Successor) (o : Successor) → r ≡ x → AgreeingSuccessors os (given r o) → AgreeingSuccessors os (given x o)
+chosen_agrees os o e h = subst (λ b. AgreeingSuccessors os (given b o)) e h
 
 pub append_agree : (a b c d : List Successor) → AgreeingSuccessors a b → AgreeingSuccessors c d → AgreeingSuccessors (a ++ c) (b ++ d)
 append_agree [] [] c d h k = k
@@ -79,31 +97,8 @@ one_at {s} {n} {m} e h v lt = ap (λ (x : Words). x v) e ∙ ap (λ k. v == k) h
 pub plus_two : (a n m : ℕ) → n ≡ (a + 1) % 4096 → m ≡ (n + 1) % 4096 → m ≡ plus a 2
 plus_two a n m h g = omega arith
 
--- ISZ of one cell
-pub isz_variable : (pl : Place) (at : ℕ) (f : Fact) (p : Words) (y : ℕ) (a b : List Successor) → pl.declaration.variable y ≡ true →
-    AgreeingSuccessors a (given (narrowed f (Cell y) 4095 && alive p f (one 0) (with_name (Cell y) (one 0) (moved (Cell y) 1 f))) (Goes (one (plus at 2)) (with_name (Cell y) (one 0) (moved (Cell y) 1 f)))) →
-    AgreeingSuccessors b (goes p f (without 0 (shifted (narrowed f (Cell y)) 1)) (one (plus at 1)) (with_name (Cell y) (without 0 (shifted (narrowed f (Cell y)) 1)) (moved (Cell y) 1 f))) →
-    AgreeingSuccessors (a ++ b) (isz_case pl at f p (Some y))
-isz_variable pl at f p y a b var h k = rw var (append_agree a _ b _ h k)
-
-pub isz_own : (pl : Place) (at : ℕ) (f : Fact) (p : Words) (y : ℕ) (a : List Successor) → pl.declaration.variable y ≡ false →
-    AgreeingSuccessors a (goes p f everything (one (plus at 1)) (with_offsets (λ o. if o == 0 then false else f.offsets (o - 1)) f)) →
-    AgreeingSuccessors a (isz_case pl at f p (Some y))
-isz_own pl at f p y a var h = rw var h
-
 pub shifts_agree : {a b : Words} → SameWords a b → SameWords (shifted a 1) (shifted b 1)
 shifts_agree h v lt = h (minus v 1) (minus_lt v 1)
 
 pub lit_last : 4095 < 4096
 lit_last = omega arith
-
-pub stays_test : (r : Bool) (set rest n : Words) (k : ℕ) → SameWords set n → rest ≡ without k set → k ≡ 4095 → r ≡ not (has_some rest) → not r ≡ has_some (without 4095 n)
-stays_test r set rest n k h e q t = ap not t ∙ twice (has_some rest) ∙ has_same (λ v lt. ap (λ (x : Words). x v) e ∙ ap (λ j. without j set v) q ∙ go v (v == 4095) (h v lt))
-  where
-    twice : (b : Bool) → not (not b) ≡ b
-    twice true = refl
-    twice false = refl
-
-    go : (v : ℕ) (b : Bool) → set v ≡ n v → (if b then false else set v) ≡ (if b then false else n v)
-    go v true z = refl
-    go v false z = z

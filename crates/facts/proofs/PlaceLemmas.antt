@@ -10,23 +10,6 @@ use Rattle.facts.proofs.Alike.{some_same}
 use Rattle.facts.proofs.Numbers.{minus_lt}
 use Rattle.facts.proofs.AgreeLemmas.{narrowed_agree}
 
--- the words of a cell, case by case
-pub in_variable : (pl : Place) (f : Fact) (a : ℕ) (s : Words) → pl.declaration.variable a ≡ true → SameWords s (narrowed f (Cell a)) → SameWords s (words_in pl f a)
-unfolding words_in
-in_variable pl f a s e h v lt = rw e (h v lt)
-
-pub in_own : (pl : Place) (f : Fact) (a : ℕ) (s : Words) → pl.declaration.variable a ≡ false → is_routine pl.routine a ≡ true → SameWords s (own_words pl.sites f) → SameWords s (words_in pl f a)
-unfolding words_in
-in_own pl f a s e o h v lt = rw (e, o) (h v lt)
-
-pub in_entry : (pl : Place) (f : Fact) (a : ℕ) (s : Words) → pl.declaration.variable a ≡ false → is_routine pl.routine a ≡ false → pl.declaration.entry a ≡ true → SameWords s everything → SameWords s (words_in pl f a)
-unfolding words_in
-in_entry pl f a s e o n h v lt = rw (e, o, n) (h v lt)
-
-pub in_tape : (pl : Place) (f : Fact) (a : ℕ) (s : Words) → pl.declaration.variable a ≡ false → is_routine pl.routine a ≡ false → pl.declaration.entry a ≡ false → SameWords s (tape_word (pl.image a)) → SameWords s (words_in pl f a)
-unfolding words_in
-in_tape pl f a s e o n h v lt = rw (e, o, n) (h v lt)
-
 -- one step of a union over numbers
 pub some_none : (test : ℕ → Bool) → false ≡ some_below 0 test
 unfolding some_below
@@ -41,10 +24,6 @@ some_step n test old new e h = rw add-one (h ∙ ap (λ b. b || test n) e ∙ sw
     swap true false = refl
     swap false true = refl
     swap false false = refl
-
-or_false : (a : Bool) → a ≡ (a || false)
-or_false true = refl
-or_false false = refl
 
 -- facts that agree leave the same words
 pub own_agree : {f g : Fact} (s : Words) → Agree f g → SameWords (own_words s f) (own_words s g)

@@ -23,22 +23,6 @@ related_none {k} w f s e h = go (changes_ac w) e
     go true q = record { sets = λ n v lt. h.sets n v lt ∙ twice (same n Ac) n v; mq = h.mq; link = h.link; equations = h.equations; offsets = h.offsets }
     go false q = absurd (cc)
 
-pub related_moved : {k : Fact} (w : ℕ) (f : Fact) (s : Words) → changes_ac w ≡ false → has_bit 0 w ≡ true → Agree k (with_name Ac s (moved Ac 1 f)) → Agree k (with_name Ac s (related1 w f))
-related_moved {k} w f s e i h = go (changes_ac w) (has_bit 0 w) e i
-  where
-    go : (b c : Bool) → b ≡ false → c ≡ true → (let r : Fact = if b then strongly_updated Ac everything f else (if c then moved Ac 1 f else f) in Agree k (with_name Ac s r))
-    go false true p q = h
-    go false false p q = absurd (cc)
-    go true c p q = absurd (cc)
-
-pub related_kept : {k : Fact} (w : ℕ) (f : Fact) (s : Words) → changes_ac w ≡ false → has_bit 0 w ≡ false → Agree k (with_name Ac s f) → Agree k (with_name Ac s (related1 w f))
-related_kept {k} w f s e i h = go (changes_ac w) (has_bit 0 w) e i
-  where
-    go : (b c : Bool) → b ≡ false → c ≡ false → (let r : Fact = if b then strongly_updated Ac everything f else (if c then moved Ac 1 f else f) in Agree k (with_name Ac s r))
-    go false false p q = h
-    go false true p q = absurd (cc)
-    go true c p q = absurd (cc)
-
 pub bytes_same : {s : Words} (low high : ℕ) → s ≡ between low high → low ≡ 0 → high ≡ 255 → SameWords s (λ v. nat_lt v 256)
 bytes_same {s} low high e l h v lt = ap (λ (x : Words). x v) e ∙ ap (λ n. nat_le n v && nat_le v high) l ∙ ap (λ n. nat_le 0 v && nat_le v n) h ∙ below v
   where

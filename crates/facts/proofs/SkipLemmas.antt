@@ -76,26 +76,3 @@ kept_same {s} {t} w h v lt = go (has_bit 7 w)
     go : (b : Bool) → (let x : Words = if b then one 0 else s in let y : Words = if b then one 0 else t in x v ≡ y v)
     go true = refl
     go false = h v lt
-
-pub related_ors : {k : Fact} (w : ℕ) (f : Fact) (p : Words) → has_bit 2 w ≡ true → Agree k (strongly_updated Ac (or_any 4095 (if has_bit 7 w then one 0 else p)) f) → Agree k (related2 w p f)
-related_ors {k} w f p e h = go (has_bit 2 w) e
-  where
-    go : (b : Bool) → b ≡ true → (let r : Fact = if b then strongly_updated Ac (or_any 4095 (if has_bit 7 w then one 0 else p)) f else (if has_bit 7 w then strongly_updated Ac (one 0) f else with_name Ac p f) in Agree k r)
-    go true q = h
-    go false q = absurd (cc)
-
-pub related_cleared : {k : Fact} (w : ℕ) (f : Fact) (p : Words) → has_bit 2 w ≡ false → has_bit 7 w ≡ true → Agree k (strongly_updated Ac (one 0) f) → Agree k (related2 w p f)
-related_cleared {k} w f p e i h = go (has_bit 2 w) (has_bit 7 w) e i
-  where
-    go : (b c : Bool) → b ≡ false → c ≡ true → (let r : Fact = if b then strongly_updated Ac (or_any 4095 (if c then one 0 else p)) f else (if c then strongly_updated Ac (one 0) f else with_name Ac p f) in Agree k r)
-    go false true q r = h
-    go false false q r = absurd (cc)
-    go true c q r = absurd (cc)
-
-pub related_left : {k : Fact} (w : ℕ) (f : Fact) (p : Words) → has_bit 2 w ≡ false → has_bit 7 w ≡ false → Agree k (with_name Ac p f) → Agree k (related2 w p f)
-related_left {k} w f p e i h = go (has_bit 2 w) (has_bit 7 w) e i
-  where
-    go : (b c : Bool) → b ≡ false → c ≡ false → (let r : Fact = if b then strongly_updated Ac (or_any 4095 (if c then one 0 else p)) f else (if c then strongly_updated Ac (one 0) f else with_name Ac p f) in Agree k r)
-    go false false q r = h
-    go false true q r = absurd (cc)
-    go true c q r = absurd (cc)

@@ -5,6 +5,7 @@ use Rattle.std.specs.Option.{ForSome}
 use Rattle.std.proofs.lemmas.Bool.{and_from, and_parts, eqb-true, eq-eqb, true≢false}
 use Rattle.std.proofs.Math.ListN.{drop_of_length-le}
 use Rattle.wordset.specs.Words.{Words, SameWords, everything, some_below}
+use Rattle.wordset.proofs.Tests.{both_ways}
 use Rattle.wordset.specs.Links.{links_of}
 use Rattle.wordset.specs.declared.links.Links.{Links}
 use Rattle.processor.specs.Runs.{Image}
@@ -15,15 +16,9 @@ use Rattle.domain.specs.Statements.{TrackedCell, tracked, cell_at}
 use Rattle.facts.specs.Starts.{each_below, has_each, are_always, holds_before, AreTapeWords, HoldsOfStarts}
 use Rattle.facts.specs.Showing.{MayStart, AreCells, allows_all}
 use Rattle.facts.proofs.Starting.{each_from, each_at, start_law}
-use Rattle.facts.proofs.EntailLemmas.{not_true}
-use Rattle.facts.proofs.EntailLemmas.{cell_dropped}
+use Rattle.facts.proofs.EntailLemmas.{not_true, cell_dropped}
 use Rattle.domain.specs.declared.fact.Fact.{Fact as CodeFact}
 use Rattle.domain.specs.Meaning.{statement_of, meaning}
-
-pub both_ways : (a b : Bool) → (a ≡ true → b ≡ true) → (b ≡ true → a ≡ true) → a ≡ b
-both_ways true b h g = sym (h refl)
-both_ways false true h g = g refl
-both_ways false false h g = refl
 
 pub all_each : (t : Bool) (set : Words) → (IsTrue t ↔ SameWords set everything) → t ≡ each_below 4096 set
 all_each t set h = both_ways t (each_below 4096 set) (λ e. each_from 4096 set (h.0 e)) (λ e. h.1 (λ v lt. each_at 4096 set v lt e))

@@ -1,5 +1,5 @@
 -- The test of a fact against every start is exact.
-use Rattle.std.proofs.Common.{◌≡◌, ℕ, zero, suc, ◌%◌, ◌<◌, ◌==◌, Bool, true, false, not, Option, Some, None, List, [], ◌∷◌, refl, sym, ap, ◌∙◌, subst, inl, inr, arith}
+use Rattle.std.proofs.Common.{◌≡◌, ℕ, zero, suc, ◌%◌, ◌<◌, ◌==◌, Bool, true, false, not, Option, Some, None, List, [], ◌∷◌, refl, sym, ap, ◌∙◌, subst, inl, inr, arith, lit<}
 use Rattle.std.specs.Prelude.{if◌then◌else◌, nat_lt}
 use Rattle.std.proofs.lemmas.Bool.{and_parts, and_from, cases_Bool, eqb-true, eq-eqb, ne_eqb, true≢false, false≢true, ltb-true, ltb-false}
 use Rattle.wordset.specs.Words.{plus, Words, some_below}
@@ -106,9 +106,6 @@ module _ (pl : Place) (tape : AreTapeWords pl.image) (begin : pl.declaration.sta
       (equation_true s st e both.0, all_true s st es both.1)
 
   -- from all starts to the test
-  zeros : (a : ℕ) → 0 < 4096
-  zeros a = omega arith
-
   abbrev pub OfAll : (Values → Type 0) → Type 0
   OfAll p = (s : State) → IsStart pl.image pl.declaration.start s → p (begun s)
 
@@ -145,40 +142,34 @@ module _ (pl : Place) (tape : AreTapeWords pl.image) (begin : pl.declaration.sta
   tape_cell : (a w ac : ℕ) (fill : Cells) → pl.image a ≡ Some w → begun (state_with ac 0 0 fill) (Cell a) ≡ w
   tape_cell a w ac fill e = begun_cell (state_with ac 0 0 fill) a ∙ rw e
 
-  one_word : 1 < 4096
-  one_word = omega arith
-
-  zero_word : 0 < 4096
-  zero_word = omega arith
-
   cells_always : (a b more : ℕ) → (a ≡ b → ⊥) → OfAll (λ v. v (Cell a) ≡ plus (v (Cell b)) more) → is_always_between (pl.image a) (pl.image b) more ≡ true
   cells_always a b more n h = go (pl.image a) (pl.image b) refl refl
     where
       left : (v : ℕ) → v < 4096 → begun (state_with 0 0 0 (but a v)) (Cell a) ≡ plus (begun (state_with 0 0 0 (but a v)) (Cell b)) more
-      left v lt = h (state_with 0 0 0 (but a v)) (start_of 0 zero_word (but a v) (but_words a v lt))
+      left v lt = h (state_with 0 0 0 (but a v)) (start_of 0 (lit< tt) (but a v) (but_words a v lt))
 
       right : (v : ℕ) → v < 4096 → begun (state_with 0 0 0 (but b v)) (Cell a) ≡ plus (begun (state_with 0 0 0 (but b v)) (Cell b)) more
-      right v lt = h (state_with 0 0 0 (but b v)) (start_of 0 zero_word (but b v) (but_words b v lt))
+      right v lt = h (state_with 0 0 0 (but b v)) (start_of 0 (lit< tt) (but b v) (but_words b v lt))
 
       go : (o p : Option ℕ) → pl.image a ≡ o → pl.image b ≡ p → is_always_between o p more ≡ true
-      go (Some x) (Some y) e f = eq-eqb x (plus y more) (sym (tape_cell a x 0 (but a 0) e) ∙ (left 0 zero_word ∙ ap (λ z. plus z more) (tape_cell b y 0 (but a 0) f)))
+      go (Some x) (Some y) e f = eq-eqb x (plus y more) (sym (tape_cell a x 0 (but a 0) e) ∙ (left 0 (lit< tt) ∙ ap (λ z. plus z more) (tape_cell b y 0 (but a 0) f)))
       go (Some x) None e f = absurd (no_shift x more
-          (sym (tape_cell a x 0 (but b 0) e) ∙ (right 0 zero_word ∙ ap (λ z. plus z more) (free_cell b 0 0 f)))
-          (sym (tape_cell a x 0 (but b 1) e) ∙ (right 1 one_word ∙ ap (λ z. plus z more) (free_cell b 1 0 f))))
+          (sym (tape_cell a x 0 (but b 0) e) ∙ (right 0 (lit< tt) ∙ ap (λ z. plus z more) (free_cell b 0 0 f)))
+          (sym (tape_cell a x 0 (but b 1) e) ∙ (right 1 (lit< tt) ∙ ap (λ z. plus z more) (free_cell b 1 0 f))))
       go None p e f = absurd (no_number (laid_cell (pl.image b) 0) more
-          (sym (free_cell a 0 0 e) ∙ (left 0 zero_word ∙ ap (λ z. plus z more) (other_cell a b 0 0 (λ q. n (sym q)))))
-          (sym (free_cell a 1 0 e) ∙ (left 1 one_word ∙ ap (λ z. plus z more) (other_cell a b 1 0 (λ q. n (sym q))))))
+          (sym (free_cell a 0 0 e) ∙ (left 0 (lit< tt) ∙ ap (λ z. plus z more) (other_cell a b 0 0 (λ q. n (sym q)))))
+          (sym (free_cell a 1 0 e) ∙ (left 1 (lit< tt) ∙ ap (λ z. plus z more) (other_cell a b 1 0 (λ q. n (sym q))))))
 
   ac_start : (ac : ℕ) → ac < 4096 → IsStart pl.image pl.declaration.start (state_with ac 0 0 (λ a. 0))
-  ac_start ac lt = start_of ac lt (λ a. 0) zeros
+  ac_start ac lt = start_of ac lt (λ a. 0) (λ a. lit< tt)
 
   of_always : (l r : Name) (more : ℕ) → same l r ≡ false → OfAll (λ v. v l ≡ plus (v r) more) → is_always_of pl.image l r more ≡ true
   of_always (Cell a) (Cell b) more n h = cells_always a b more (λ e. true≢false (sym (eq-eqb a b e) ∙ n)) h
   of_always Ac Ac more n h = absurd (true≢false n)
   of_always Ac (Cell b) more n h = absurd (no_number (begun (state_with 0 0 0 (λ a. 0)) (Cell b)) more
-      (h (state_with 0 0 0 (λ a. 0)) (ac_start 0 zero_word)) (h (state_with 1 0 0 (λ a. 0)) (ac_start 1 one_word)))
+      (h (state_with 0 0 0 (λ a. 0)) (ac_start 0 (lit< tt))) (h (state_with 1 0 0 (λ a. 0)) (ac_start 1 (lit< tt))))
   of_always (Cell a) Ac more n h = absurd (no_shift (begun (state_with 0 0 0 (λ b. 0)) (Cell a)) more
-      (h (state_with 0 0 0 (λ b. 0)) (ac_start 0 zero_word)) (h (state_with 1 0 0 (λ b. 0)) (ac_start 1 one_word)))
+      (h (state_with 0 0 0 (λ b. 0)) (ac_start 0 (lit< tt))) (h (state_with 1 0 0 (λ b. 0)) (ac_start 1 (lit< tt))))
 
   equation_always : (e : Equation) → OfAll (λ v. IsTrueOf v e) → is_always pl.image e ≡ true
   equation_always e h = go (same e.left e.right) refl
@@ -187,7 +178,7 @@ module _ (pl : Place) (tape : AreTapeWords pl.image) (begin : pl.declaration.sta
       go true q =
           let l : e.left ≡ e.right = same_true e.left e.right q in
           let s : State = state_with 0 0 0 (λ a. 0) in
-          let st : IsStart pl.image pl.declaration.start s = ac_start 0 zero_word in
+          let st : IsStart pl.image pl.declaration.start s = ac_start 0 (lit< tt) in
           let t : begun s e.right ≡ plus (begun s e.right) e.more = subst (λ n. begun s n ≡ plus (begun s e.right) e.more) l (h s st) in
           eq-eqb (e.more % 4096) 0 (unturned (begun s e.right) e.more (begun_word s st e.right) t)
       go false q = of_always e.left e.right e.more q h
@@ -228,20 +219,20 @@ module _ (pl : Place) (tape : AreTapeWords pl.image) (begin : pl.declaration.sta
   cell_each f h a = go (pl.image a) refl
     where
       at : (v : ℕ) → v < 4096 → f.set (Cell a) (begun (state_with 0 0 0 (but a v)) (Cell a)) ≡ true
-      at v lt = (h (state_with 0 0 0 (but a v)) (start_of 0 zero_word (but a v) (but_words a v lt))).holds.sets (Cell a)
+      at v lt = (h (state_with 0 0 0 (but a v)) (start_of 0 (lit< tt) (but a v) (but_words a v lt))).holds.sets (Cell a)
 
       go : (o : Option ℕ) → pl.image a ≡ o → has_each o (f.set (Cell a)) ≡ true
       go None e = each_from 4096 (f.set (Cell a)) (λ v lt. rw (free_cell a v 0 e) at (at v lt))
-      go (Some w) e = rw (tape_cell a w 0 (but a 0) e) at (at 0 zero_word)
+      go (Some w) e = rw (tape_cell a w 0 (but a 0) e) at (at 0 (lit< tt))
 
   pub ac_each : (f : Fact) → HoldsOfStarts pl f → (v : ℕ) → v < 4096 → f.set Ac v ≡ true
   ac_each f h v lt = (h (state_with v 0 0 (λ a. 0)) (ac_start v lt)).holds.sets Ac
 
   pub mq_each : (f : Fact) → HoldsOfStarts pl f → (v : ℕ) → v < 4096 → f.mq v ≡ true
-  mq_each f h v lt = (h (state_with 0 0 v (λ a. 0)) (is_start 0 0 v (λ a. 0) zero_word (omega arith) lt zeros)).mq
+  mq_each f h v lt = (h (state_with 0 0 v (λ a. 0)) (is_start 0 0 v (λ a. 0) (lit< tt) (omega arith) lt (λ a. lit< tt))).mq
 
   pub link_each : (f : Fact) → HoldsOfStarts pl f → (l : ℕ) → l < 2 → f.link l ≡ true
-  link_each f h l lt = (h (state_with 0 l 0 (λ a. 0)) (is_start 0 l 0 (λ a. 0) zero_word lt zero_word zeros)).link
+  link_each f h l lt = (h (state_with 0 l 0 (λ a. 0)) (is_start 0 l 0 (λ a. 0) (lit< tt) lt (lit< tt) (λ a. lit< tt))).link
 
   pub equations_always : (f : Fact) → HoldsOfStarts pl f → are_always pl.image f.equations ≡ true
   equations_always f h = all_always f.equations (λ s st. (h s st).holds.equations)

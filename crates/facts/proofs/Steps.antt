@@ -1,5 +1,5 @@
 -- The step law for each instruction: from a state of a fact, a step lands in one of the instruction's outcomes.
-use Rattle.std.proofs.Common.{◌≡◌, ℕ, ◌+◌, ◌-◌, ◌/◌, ◌%◌, ◌<◌, ◌≤◌, ◌==◌, Bool, true, false, not, ◌&&◌, ◌⊎◌, Option, Some, None, List, [], ◌∷◌, ◌++◌, refl, sym, ap, ◌∙◌, subst, inl, inr, arith}
+use Rattle.std.proofs.Common.{◌≡◌, ℕ, ◌+◌, ◌-◌, ◌/◌, ◌%◌, ◌<◌, ◌≤◌, ◌==◌, Bool, true, false, not, ◌&&◌, ◌⊎◌, Option, Some, None, List, [], ◌∷◌, ◌++◌, refl, sym, ap, ◌∙◌, subst, inl, inr, arith, lit<}
 use Rattle.std.specs.Prelude.{if◌then◌else◌, nat_lt, bit_and, bit_or}
 use Rattle.std.proofs.lemmas.Bool.{and_from, eqb-true, eq-eqb, ne_eqb, true≢false, false≢true, cases_eq, lt-ltb}
 use Rattle.instruct.specs.Bits.{has_bit}
@@ -17,7 +17,7 @@ use Rattle.facts.specs.Law.{IsState, TopIsEntry, LandsIn, SomeOutcome}
 use Rattle.facts.proofs.Numbers.{minus_plus, minus_other, plus_lt, or_left, or_right, only_tells, some_from}
 use Rattle.facts.proofs.Operates.{and_word, or_word, ac_after_word, link_after_bit, ac_kept, operate2_word, mq_words, ands_true, ors_true, or_byte_true, or_word_true}
 use Rattle.facts.proofs.Laws.{WordsAre, OnlyAt, narrowed_at, moved_holds, assigned_holds, smeared_holds, copied_holds, same_true, same_cell}
-use Rattle.facts.proofs.Cells.{updated_same, words_updated, values_words, value_of, updated_values, ac_values, hidden_values, holds_at, rest_updated, own_updated, own_like, top_not, word_true}
+use Rattle.facts.proofs.Cells.{updated_same, seen_words, values_words, value_of, updated_values, ac_values, hidden_values, holds_at, rest_updated, own_updated, own_like, top_not, word_true}
 
 -- the state that the access sees
 abbrev pub after_pointer : Bool → ℕ → State → State
@@ -63,14 +63,7 @@ module _ (pl : Place) (dd : IsDeclared pl.declaration) (start : Cells) (sw : (a 
   }
 
   pub pointer_state : (i : Bool) (c : ℕ) (s : State) → IsState s → IsState (after_pointer i c s)
-  pointer_state i c s ss = record { ac = ss.ac; link = ss.link; mq = ss.mq; pc = ss.pc; words = words }
-    where
-      go : (b : Bool) (a : ℕ) → (let m : Cells = if b then updated s.memory c (plus (s.memory c) 1) else s.memory in m a < 4096)
-      go true a = words_updated s.memory c (plus (s.memory c) 1) (plus_lt (s.memory c) 1) ss.words a
-      go false a = ss.words a
-
-      words : (a : ℕ) → seen i c s.memory a < 4096
-      words a = go (steps_pointer i c) a
+  pointer_state i c s ss = record { ac = ss.ac; link = ss.link; mq = ss.mq; pc = ss.pc; words = seen_words i c s.memory ss.words }
 
   pub pointer_means : (i : Bool) (c : ℕ) (f : Fact) (s : State) (ks : Calls) → IsState s → TopIsEntry pl.declaration ks →
       (steps_pointer i c ≡ true → pl.declaration.variable c ≡ true) → Means pl start f s ks → Means pl start (stepped i c f) (after_pointer i c s) ks
@@ -107,10 +100,6 @@ module _ (pl : Place) (dd : IsDeclared pl.declaration) (start : Cells) (sw : (a 
           let x : seen true c s.memory c ≡ s.memory c = rw e in
           rw x (word_true pl dd start sw loaded f s ks c ss h)
 
-  pub place_word : (i : Bool) (c : ℕ) (s : State) → IsState s → c < 4096 → place i c s.memory < 4096
-  place_word false c s ss h = h
-  place_word true c s ss h = (pointer_state true c s ss).words c
-
   -- TAD
   abbrev pub added : State → ℕ → State
   added s y = record s {
@@ -127,9 +116,6 @@ module _ (pl : Place) (dd : IsDeclared pl.declaration) (start : Cells) (sw : (a 
 
   pub ac_some : (f : Fact) (s : State) (ks : Calls) → IsState s → Means pl start f s ks → has_some (narrowed f Ac) ≡ true
   ac_some f s ks ss h = has_word (narrowed f Ac) s.ac ss.ac (ac_true f s ks ss h)
-
-  zero_word : 0 < 4096
-  zero_word = omega arith
 
   alive_true : (p changed : Words) (f g : Fact) (s t : State) (ks : Calls) (y v : ℕ) → IsState s → Means pl start f s ks → y < 4096 → p y ≡ true → v < 4096 → changed v ≡ true →
       t.ac < 4096 → t.link < 2 → t.mq < 4096 → Means pl start g t ks → alive p f changed g ≡ true
@@ -151,24 +137,19 @@ module _ (pl : Place) (dd : IsDeclared pl.declaration) (start : Cells) (sw : (a 
   carry_number : (x y : ℕ) → x < 4096 → y < 4096 → ((x + y) / 4096 ≡ 0) ⊎ ((x + y) / 4096 ≡ 1)
   carry_number x y hx hy = elim (cases_eq ((x + y) / 4096) 0) [ inl e ↦ inl e | inr n ↦ inr (omega arith) ]
 
-  carry_true : (a b : Words) (x y : ℕ) → x < 4096 → y < 4096 → a x ≡ true → b y ≡ true → (x + y) / 4096 ≡ 1 → carries a b 1 ≡ true
-  carry_true a b x y hx hy p q e =
-      some_from 4096 (λ n. a n && some_below 4096 (λ m. b m && ((n + m) / 4096 == 1))) x hx
-      (and_from _ _ p (some_from 4096 (λ m. b m && ((x + m) / 4096 == 1)) y hy (and_from _ _ q (eq-eqb ((x + y) / 4096) 1 e))))
-
-  carry_false : (a b : Words) (x y : ℕ) → x < 4096 → y < 4096 → a x ≡ true → b y ≡ true → (x + y) / 4096 ≡ 0 → carries a b 0 ≡ true
-  carry_false a b x y hx hy p q e =
-      some_from 4096 (λ n. a n && some_below 4096 (λ m. b m && ((n + m) / 4096 == 0))) x hx
-      (and_from _ _ p (some_from 4096 (λ m. b m && ((x + m) / 4096 == 0)) y hy (and_from _ _ q (eq-eqb ((x + y) / 4096) 0 e))))
+  carry_true : (a b : Words) (x y k : ℕ) → x < 4096 → y < 4096 → a x ≡ true → b y ≡ true → (x + y) / 4096 ≡ k → carries a b k ≡ true
+  carry_true a b x y k hx hy p q e =
+      some_from 4096 (λ n. a n && some_below 4096 (λ m. b m && ((n + m) / 4096 == k))) x hx
+      (and_from _ _ p (some_from 4096 (λ m. b m && ((x + m) / 4096 == k)) y hy (and_from _ _ q (eq-eqb ((x + y) / 4096) k e))))
 
   toggle_true : (links a b : Words) (l x y : ℕ) → l < 2 → x < 4096 → y < 4096 → links l ≡ true → a x ≡ true → b y ≡ true → toggled links (carries a b) ((l + (x + y) / 4096) % 2) ≡ true
   toggle_true links a b l x y hl hx hy hk p q = elim (carry_number x y hx hy) [
     | inl e ↦
         (let same_link : (l + (x + y) / 4096) % 2 ≡ l = omega arith in
-        rw same_link (or_left _ _ (and_from _ _ (carry_false a b x y hx hy p q e) hk)))
+        rw same_link (or_left _ _ (and_from _ _ (carry_true a b x y 0 hx hy p q e) hk)))
     | inr e ↦
         (let back : 1 - (l + (x + y) / 4096) % 2 ≡ l = omega arith in
-        or_right _ _ (and_from _ _ (carry_true a b x y hx hy p q e) (rw back hk)))
+        or_right _ _ (and_from _ _ (carry_true a b x y 1 hx hy p q e) (rw back hk)))
   ]
 
   tad_holds : (f : Fact) (s : State) (ks : Calls) (v : Words) (y : ℕ) → IsState s → Means pl start f s ks → v (s.memory y) ≡ true → (oy oa ow : Option ℕ) →
@@ -219,7 +200,7 @@ module _ (pl : Place) (dd : IsDeclared pl.declaration) (start : Cells) (sw : (a 
   pub tad_step : (f : Fact) (s : State) (ks : Calls) (p : Words) (y : ℕ) → IsState s → Means pl start f s ks → y < 4096 → p y ≡ true → SomeOutcome (Lands (added s y) ks) (tad pl s.pc f p)
   unfolding strongly_updated moved
   tad_step f s ks p y ss h lt e =
-      goes_to p everything (one (plus s.pc 1)) f (tad_fact pl f p) s (added s y) ks y 0 ss h lt e zero_word refl (plus_lt s.ac (s.memory y)) small ss.mq (eq-eqb (plus s.pc 1) (plus s.pc 1) refl) means
+      goes_to p everything (one (plus s.pc 1)) f (tad_fact pl f p) s (added s y) ks y 0 ss h lt e (lit< tt) refl (plus_lt s.ac (s.memory y)) small ss.mq (eq-eqb (plus s.pc 1) (plus s.pc 1) refl) means
     where
       x : ℕ
       x = s.memory y
@@ -312,7 +293,7 @@ module _ (pl : Place) (dd : IsDeclared pl.declaration) (start : Cells) (sw : (a 
         some_left (Lands (counted s y) ks) _ _
         (some_given (Lands (counted s y) ks) _ _
         (and_from _ _ (let q : s.memory y ≡ 4095 = z.0 in rw q at (cell_true f s ks y ss h var))
-        (alive_true p (one 0) f _ s (counted s y) ks y 0 ss h lt e zero_word refl ss.ac ss.link ss.mq m))
+        (alive_true p (one 0) f _ s (counted s y) ks y 0 ss h lt e (lit< tt) refl ss.ac ss.link ss.mq m))
         (rw z.1 (eq-eqb (plus s.pc 2) (plus s.pc 2) refl), m)))
     | inr z ↦
         (let m : Means pl start (with_name (Cell y) (without 0 (shifted (narrowed f (Cell y)) 1)) (moved (Cell y) 1 f)) (counted s y) ks =
@@ -358,7 +339,7 @@ module _ (pl : Place) (dd : IsDeclared pl.declaration) (start : Cells) (sw : (a 
       let w = own_more f s.memory y ks h.stands h.own r seven in
       let up : plus (s.memory y) 1 ≡ s.memory y + 1 = w.3 in
       let nz : (plus (s.memory y) 1 == 0) ≡ false = ne_eqb (plus (s.memory y) 1) 0 (let no : plus (s.memory y) 1 ≡ 0 → ⊥ = omega arith in no) in
-      rw var (goes_to p everything (one (plus s.pc 1)) f (with_offsets (λ o. if o == 0 then false else f.offsets (o - 1)) f) s (counted s y) ks y 0 ss h lt e zero_word refl ss.ac ss.link ss.mq
+      rw var (goes_to p everything (one (plus s.pc 1)) f (with_offsets (λ o. if o == 0 then false else f.offsets (o - 1)) f) s (counted s y) ks y 0 ss h lt e (lit< tt) refl ss.ac ss.link ss.mq
       (rw nz (eq-eqb (plus s.pc 1) (plus s.pc 1) refl))
       (record {
         holds = let z : Holds f (values pl.declaration start s.ac (updated s.memory y (plus (s.memory y) 1))) =
@@ -379,14 +360,14 @@ module _ (pl : Place) (dd : IsDeclared pl.declaration) (start : Cells) (sw : (a 
         (some_given (Lands (counted s y) ks) _ _
         (and_from _ _
         (some_from 4096 (λ a. p a && narrowed f (Cell a) 4095) y lt (and_from _ _ e (let q : s.memory y ≡ 4095 = z.0 in rw q at (cell_true f s ks y ss h var))))
-        (alive_true p everything f _ s (counted s y) ks y 0 ss h lt e zero_word refl ss.ac ss.link ss.mq (means _)))
+        (alive_true p everything f _ s (counted s y) ks y 0 ss h lt e (lit< tt) refl ss.ac ss.link ss.mq (means _)))
         (rw z.1 (eq-eqb (plus s.pc 2) (plus s.pc 2) refl), means _))
     | inr z ↦ some_right (Lands (counted s y) ks) _ _
         (some_given (Lands (counted s y) ks) _ _
         (and_from _ _
         (some_from 4096 (λ a. p a && has_some (without 4095 (narrowed f (Cell a)))) y lt
         (and_from _ _ e (has_word (without 4095 (narrowed f (Cell y))) (s.memory y) (ss.words y) (other z.0))))
-        (alive_true p everything f _ s (counted s y) ks y 0 ss h lt e zero_word refl ss.ac ss.link ss.mq (means _)))
+        (alive_true p everything f _ s (counted s y) ks y 0 ss h lt e (lit< tt) refl ss.ac ss.link ss.mq (means _)))
         (rw z.1 (eq-eqb (plus s.pc 1) (plus s.pc 1) refl), means _))
   ]
     where
@@ -478,11 +459,11 @@ module _ (pl : Place) (dd : IsDeclared pl.declaration) (start : Cells) (sw : (a 
 
       go : (o : Option ℕ) → only p ≡ o → SomeOutcome (Lands (deposited s y) ks) (dca_case pl s.pc f p o)
       go None q =
-          goes_to p everything (one (plus s.pc 1)) f _ s (deposited s y) ks y 0 ss h lt e zero_word refl zero_word ss.link ss.mq next
+          goes_to p everything (one (plus s.pc 1)) f _ s (deposited s y) ks y 0 ss h lt e (lit< tt) refl (lit< tt) ss.link ss.mq next
           (means _ refl refl refl (assigned_holds (one 0) (smeared_holds p (λ a. narrowed f Ac) h.holds refl out within) clear refl))
       go (Some z) q =
           let zy : z ≡ y = sym (only_tells p z y q lt e) in
-          rw zy (goes_to p (narrowed f Ac) (one (plus s.pc 1)) f _ s (deposited s y) ks y s.ac ss h lt e ss.ac (ac_true f s ks ss h) zero_word ss.link ss.mq next
+          rw zy (goes_to p (narrowed f Ac) (one (plus s.pc 1)) f _ s (deposited s y) ks y s.ac ss h lt e ss.ac (ac_true f s ks ss h) (lit< tt) ss.link ss.mq next
           (means _ refl refl refl
           (assigned_holds (one 0)
           (copied_holds y (narrowed f Ac) (names_words f s ks ss h) h.holds moves here (rw here (ac_true f s ks ss h))) clear refl)))
@@ -494,7 +475,7 @@ module _ (pl : Place) (dd : IsDeclared pl.declaration) (start : Cells) (sw : (a 
   pub jmp_step : (f : Fact) (s : State) (ks : Calls) (i : Bool) (c : ℕ) (p : Words) (y : ℕ) → IsState s → Means pl start f s ks → y < 4096 → p y ≡ true →
       (i && is_routine pl.routine c) ≡ false →
       SomeOutcome (Lands (record s { pc = y }) ks) (jmp pl i c f p)
-  jmp_step f s ks i c p y ss h lt e r = rw r (goes_to p everything p f f s _ ks y 0 ss h lt e zero_word refl ss.ac ss.link ss.mq e (same_step f s ks y h))
+  jmp_step f s ks i c p y ss h lt e r = rw r (goes_to p everything p f f s _ ks y 0 ss h lt e (lit< tt) refl ss.ac ss.link ss.mq e (same_step f s ks y h))
 
   -- AC alone is strongly_updated
   ac_means : (f : Fact) (s : State) (ks : Calls) (set : Words) (ac pc : ℕ) → IsState s → Means pl start f s ks → set ac ≡ true →
@@ -535,7 +516,7 @@ module _ (pl : Place) (dd : IsDeclared pl.declaration) (start : Cells) (sw : (a 
       let v : words_at pl f p (s.memory y) ≡ true = words_at_true f s ks p y ss h lt e in
       let a : ands (narrowed f Ac) (words_at pl f p) (bit_and s.ac (s.memory y)) ≡ true =
       ands_true (narrowed f Ac) (words_at pl f p) s.ac (s.memory y) ss.ac (ss.words y) (ac_true f s ks ss h) v in
-      goes_to p everything (one (plus s.pc 1)) f _ s _ ks y 0 ss h lt e zero_word refl (and_word s.ac (s.memory y) ss.ac) ss.link ss.mq
+      goes_to p everything (one (plus s.pc 1)) f _ s _ ks y 0 ss h lt e (lit< tt) refl (and_word s.ac (s.memory y) ss.ac) ss.link ss.mq
       (eq-eqb (plus s.pc 1) (plus s.pc 1) refl) (ac_means f s ks (ands (narrowed f Ac) (words_at pl f p)) (bit_and s.ac (s.memory y)) (plus s.pc 1) ss h a)
 
   -- group 1
@@ -567,7 +548,7 @@ module _ (pl : Place) (dd : IsDeclared pl.declaration) (start : Cells) (sw : (a 
   operate1_step w f s ks ss h =
       let a : images (ac_after w) (narrowed f Ac) f.link (ac_after w s.ac s.link) ≡ true = image_true (ac_after w) f s ks ss h in
       let l : images (link_after w) (narrowed f Ac) f.link (link_after w s.ac s.link) ≡ true = image_true (link_after w) f s ks ss h in
-      goes_to everything everything (one (plus s.pc 1)) f (operated1 w f) s _ ks 0 0 ss h zero_word refl zero_word refl
+      goes_to everything everything (one (plus s.pc 1)) f (operated1 w f) s _ ks 0 0 ss h (lit< tt) refl (lit< tt) refl
       (ac_after_word w s.ac s.link ss.ac ss.link) (link_after_bit w s.ac s.link ss.ac ss.link) ss.mq (eq-eqb (plus s.pc 1) (plus s.pc 1) refl)
       (set_means (related1 w f) (record s { ac = ac_after w s.ac s.link }) ks (images (ac_after w) (narrowed f Ac) f.link) (images (link_after w) (narrowed f Ac) f.link)
       (link_after w s.ac s.link) (plus s.pc 1) (related1_means w f s ks s.pc ss h) a l)
@@ -608,7 +589,7 @@ module _ (pl : Place) (dd : IsDeclared pl.declaration) (start : Cells) (sw : (a 
       (related2_means w f s ks (part2 w f l b) v _ ss h lt part) (eq-eqb s.link l (sym el)) in
       some_given (Lands _ ks) _ _
       (and_from _ _ (rw el h.link) (and_from _ _ (has_word (part2 w f l b) s.ac ss.ac part)
-      (alive_true everything everything f _ s _ ks 0 0 ss h zero_word refl zero_word refl (operate2_word w s.ac v ss.ac lt) ss.link ss.mq m)))
+      (alive_true everything everything f _ s _ ks 0 0 ss h (lit< tt) refl (lit< tt) refl (operate2_word w s.ac v ss.ac lt) ss.link ss.mq m)))
       (eq-eqb (next_pc s.pc b) (next_pc s.pc b) refl, m)
 
   pub operate2_step : (w : ℕ) (f : Fact) (s : State) (ks : Calls) (v : ℕ) → IsState s → Means pl start f s ks → v < 4096 →
@@ -657,7 +638,7 @@ module _ (pl : Place) (dd : IsDeclared pl.declaration) (start : Cells) (sw : (a 
   pub operate3_step : (o : MqOperate) (f : Fact) (s : State) (ks : Calls) → IsState s → Means pl start f s ks →
       SomeOutcome (Lands (exchanged_state o s) ks) (goes everything f everything (one (plus s.pc 1)) (operated3 o f))
   operate3_step o f s ks ss h =
-      goes_to everything everything (one (plus s.pc 1)) f (operated3 o f) s (exchanged_state o s) ks 0 0 ss h zero_word refl zero_word refl
+      goes_to everything everything (one (plus s.pc 1)) f (operated3 o f) s (exchanged_state o s) ks 0 0 ss h (lit< tt) refl (lit< tt) refl
       (mq_words o s.ac s.mq ss.ac ss.mq).0 ss.link (mq_words o s.ac s.mq ss.ac ss.mq).1 (eq-eqb (plus s.pc 1) (plus s.pc 1) refl) (operated3_means o f s ks ss h)
 
   -- device words
@@ -665,16 +646,16 @@ module _ (pl : Place) (dd : IsDeclared pl.declaration) (start : Cells) (sw : (a 
       SomeOutcome (Lands (record s { pc = next_pc s.pc skip }) ks) (device_outcomes s.pc f Skips)
   skip_step f s ks true ss h =
       some_right (Lands (record s { pc = plus s.pc 2 }) ks) (goes everything f everything (one (plus s.pc 1)) f) _
-      (goes_to everything everything (one (plus s.pc 2)) f f s _ ks 0 0 ss h zero_word refl zero_word refl ss.ac ss.link ss.mq (eq-eqb (plus s.pc 2) _ refl) (same_step f s ks _ h))
+      (goes_to everything everything (one (plus s.pc 2)) f f s _ ks 0 0 ss h (lit< tt) refl (lit< tt) refl ss.ac ss.link ss.mq (eq-eqb (plus s.pc 2) _ refl) (same_step f s ks _ h))
   skip_step f s ks false ss h =
       some_left (Lands (record s { pc = plus s.pc 1 }) ks) _ _
-      (goes_to everything everything (one (plus s.pc 1)) f f s _ ks 0 0 ss h zero_word refl zero_word refl ss.ac ss.link ss.mq (eq-eqb (plus s.pc 1) _ refl) (same_step f s ks _ h))
+      (goes_to everything everything (one (plus s.pc 1)) f f s _ ks 0 0 ss h (lit< tt) refl (lit< tt) refl ss.ac ss.link ss.mq (eq-eqb (plus s.pc 1) _ refl) (same_step f s ks _ h))
 
   -- the accumulator takes a word of the set
   pub ac_step : (f : Fact) (s : State) (ks : Calls) (set : Words) (ac : ℕ) → IsState s → Means pl start f s ks → ac < 4096 → set ac ≡ true →
       SomeOutcome (Lands (record s { ac = ac; pc = plus s.pc 1 }) ks) (goes everything f everything (one (plus s.pc 1)) (strongly_updated Ac set f))
   ac_step f s ks set ac ss h lt e =
-      goes_to everything everything (one (plus s.pc 1)) f (strongly_updated Ac set f) s _ ks 0 0 ss h zero_word refl zero_word refl lt ss.link ss.mq
+      goes_to everything everything (one (plus s.pc 1)) f (strongly_updated Ac set f) s _ ks 0 0 ss h (lit< tt) refl (lit< tt) refl lt ss.link ss.mq
       (eq-eqb (plus s.pc 1) _ refl) (ac_means f s ks set ac (plus s.pc 1) ss h e)
 
   pub or_step : (f : Fact) (s : State) (ks : Calls) (b : ℕ) → IsState s → Means pl start f s ks → b < 256 →
@@ -685,7 +666,7 @@ module _ (pl : Place) (dd : IsDeclared pl.declaration) (start : Cells) (sw : (a 
 
   pub clear_step : (f : Fact) (s : State) (ks : Calls) → IsState s → Means pl start f s ks →
       SomeOutcome (Lands (record s { ac = 0; pc = plus s.pc 1 }) ks) (device_outcomes s.pc f Clears)
-  clear_step f s ks ss h = ac_step f s ks (one 0) 0 ss h zero_word refl
+  clear_step f s ks ss h = ac_step f s ks (one 0) 0 ss h (lit< tt) refl
 
   pub take_step : (f : Fact) (s : State) (ks : Calls) (b : ℕ) → IsState s → Means pl start f s ks → b < 256 →
       SomeOutcome (Lands (record s { ac = b; pc = plus s.pc 1 }) ks) (device_outcomes s.pc f Takes)
@@ -694,4 +675,4 @@ module _ (pl : Place) (dd : IsDeclared pl.declaration) (start : Cells) (sw : (a 
   pub leave_step : (f : Fact) (s : State) (ks : Calls) → IsState s → Means pl start f s ks →
       SomeOutcome (Lands (record s { pc = plus s.pc 1 }) ks) (device_outcomes s.pc f Leaves)
   leave_step f s ks ss h =
-      goes_to everything everything (one (plus s.pc 1)) f f s _ ks 0 0 ss h zero_word refl zero_word refl ss.ac ss.link ss.mq (eq-eqb (plus s.pc 1) _ refl) (same_step f s ks _ h)
+      goes_to everything everything (one (plus s.pc 1)) f f s _ ks 0 0 ss h (lit< tt) refl (lit< tt) refl ss.ac ss.link ss.mq (eq-eqb (plus s.pc 1) _ refl) (same_step f s ks _ h)

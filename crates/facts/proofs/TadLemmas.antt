@@ -7,10 +7,6 @@ use Rattle.domain.specs.Changes.{moved, strongly_updated, with_equations, with_l
 use Rattle.facts.specs.Outcomes.{words_at, tad_word, tad_case, tad_fact}
 use Rattle.domain.specs.Same.{Agree}
 
-pub tad_related : (pl : Place) (f : Fact) (v : Words) (y a : ℕ) (w : Option ℕ) (k : Fact) → pl.declaration.variable y ≡ true →
-    Agree k (with_equations (record { left = Ac; right = Cell y; more = a } ∷ []) (strongly_updated Ac (sums (narrowed f Ac) v) f)) → Agree k (tad_case pl f v (Some y) (Some a) w)
-tad_related pl f v y a w k var h = rw var h
-
 word_keeps : (f : Fact) (v : Words) (w : Option ℕ) → ((tad_word f v w).mq ≡ f.mq) × ((tad_word f v w).offsets ≡ f.offsets)
 unfolding moved strongly_updated
 word_keeps f v None = (refl, refl)

@@ -1,6 +1,6 @@
 -- Parts of an entailment, as the code tests them.
-use Rattle.std.specs.Prelude.{◌≡◌, ℕ, ◌<◌, Bool, true, ◌&&◌, Some, List, [], ◌∷◌}
-use Rattle.wordset.specs.Words.{plus, only, IsWithin, IsLinkWithin}
+use Rattle.std.specs.Prelude.{◌≡◌, ℕ, ◌<◌, Bool, true, ◌&&◌, if◌then◌else◌, Some, List, [], ◌∷◌}
+use Rattle.wordset.specs.Words.{Words, plus, only, has_some, without, IsWithin, IsLinkWithin}
 use Rattle.domain.specs.Facts.{Ac, Cell, Equation, Fact, narrowed}
 use Rattle.domain.specs.Statements.{TrackedCell, tracked}
 use Rattle.facts.specs.Starts.{each_below, has_each}
@@ -10,6 +10,10 @@ use Rattle.processor.specs.Runs.{Image}
 abbrev pub Shows : Fact → Equation → Type 0
 Shows f e =
     (x : ℕ) × (y : ℕ) × (only (narrowed f e.left) ≡ Some x) × (only (narrowed f e.right) ≡ Some y) × (x ≡ plus y e.more)
+
+-- The set has 7777, or it has another word.
+abbrev pub has_last_or_other : Bool → Words → Bool
+has_last_or_other last set = if last then set 4095 else has_some (without 4095 set)
 
 -- The accumulator, MQ and the link are as b says.
 pub record EntailsRegisters (a b : Fact) : Type 0 where

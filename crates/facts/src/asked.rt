@@ -31,20 +31,14 @@ use wordset::WordSet;
 fn is_jms(word: Word) -> bool
     ensures { result ≡ calls (operation_of word) }
 {
-    match Operation::of(word) {
-        Operation::Jms => true,
-        Operation::And | Operation::Tad | Operation::Isz | Operation::Dca | Operation::Jmp => false,
-    }
+    matches!(Operation::of(word), Operation::Jms)
 }
 
 /// Whether a memory reference is JMP.
 fn is_jmp(word: Word) -> bool
     ensures { result ≡ jumps (operation_of word) }
 {
-    match Operation::of(word) {
-        Operation::Jmp => true,
-        Operation::And | Operation::Tad | Operation::Isz | Operation::Dca | Operation::Jms => false,
-    }
+    matches!(Operation::of(word), Operation::Jmp)
 }
 
 impl<A: Allocator> Place<'_, A> {

@@ -17,13 +17,6 @@ use domain::{CountedOffsets, Equation, Name};
 use word12::Word;
 use wordset::{Links, WordSet};
 
-/// The word 1.
-fn one() -> Word
-    ensures { result ≡ 1 }
-{
-    Word::ZERO.increment()
-}
-
 impl<'a> AbstractState<'a> {
     /// After a cell's word went up by one, where a pointer is stepped.
     #[inline(never)]
@@ -40,8 +33,9 @@ impl<'a> AbstractState<'a> {
         ensures target { IsUnchanged result.target }
         ensures len { length result.equations.now ≤ length self.now.equations.now }
     {
-        let set = self.shifted_in(&Name::Cell(cell), one(), place);
-        raise(&Name::Cell(cell), one(), self.equations, list);
+        let one = Word::ZERO.increment();
+        let set = self.shifted_in(&Name::Cell(cell), one, place);
+        raise(&Name::Cell(cell), one, self.equations, list);
         AbstractState {
             pointer: Update::Strong(cell.index(), set),
             target: Update::Unchanged,
@@ -140,7 +134,8 @@ impl<'a> AbstractState<'a> {
             (with_name (Cell cell) (words set.now) (moved (Cell cell) 1 (fact_of_state self.now))) }
         ensures len { length result.equations.now ≤ length self.now.equations.now }
     {
-        raise(&Name::Cell(cell), one(), self.equations, list);
+        let one = Word::ZERO.increment();
+        raise(&Name::Cell(cell), one, self.equations, list);
         AbstractState {
             target: Update::Strong(cell.index(), set),
             equations: list.as_slice(),
@@ -259,7 +254,12 @@ impl<'a> AbstractState<'a> {
 
     /// With what the equations of another say of the accumulator, said of a cell, before its own.
     #[tactic(auto, using(crate::proofs::ChangingLemmas::told_agrees))]
-    fn told(&self, cell: Word, equations: &[Equation], list: &'a mut Equations) -> AbstractState<'a>
+    pub(crate) fn told(
+        &self,
+        cell: Word,
+        equations: &[Equation],
+        list: &'a mut Equations,
+    ) -> AbstractState<'a>
         requires { length equations.now + length self.now.equations.now ≤ 64 }
         ensures same { Agree (fact_of_state result) (with_equations
             (copied cell (map equation_of equations.now)) (fact_of_state self.now)) }
@@ -272,27 +272,5 @@ impl<'a> AbstractState<'a> {
             equations: list.as_slice(),
             ..*self
         }
-    }
-
-    /// After the accumulator's words were put into a cell, and it was cleared.
-    pub(crate) fn deposited(
-        &self,
-        cell: Word,
-        set: &'a WordSet,
-        zero: &'a WordSet,
-        first: &'a mut Equations,
-        second: &'a mut Equations,
-        third: &'a mut Equations,
-    ) -> AbstractState<'a>
-        requires target { IsUnchanged self.now.target }
-        requires zero { words zero.now ≡ one 0 }
-        requires room { length self.now.equations.now ≤ 32 }
-        ensures { Agree (fact_of_state result) (strongly_updated Ac (one 0)
-            (with_equations (copied cell (fact_of_state self.now).equations)
-            (strongly_updated (Cell cell) (words set.now) (fact_of_state self.now)))) }
-    {
-        let put = self.with_cell(cell, set, first);
-        let told = put.told(cell, self.equations, second);
-        told.with_ac(zero, third)
     }
 }

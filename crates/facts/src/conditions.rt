@@ -28,30 +28,24 @@ use wordset::WordSet;
 fn reads_operand(word: Word) -> bool
     ensures { result ≡ reads_operand (operation_of word) }
 {
-    match Operation::of(word) {
-        Operation::And | Operation::Tad | Operation::Isz => true,
-        Operation::Dca | Operation::Jms | Operation::Jmp => false,
-    }
+    matches!(
+        Operation::of(word),
+        Operation::And | Operation::Tad | Operation::Isz
+    )
 }
 
 /// Whether a memory reference stores where it refers to: ISZ and DCA.
 pub(crate) fn stores(word: Word) -> bool
     ensures { result ≡ stores (operation_of word) }
 {
-    match Operation::of(word) {
-        Operation::Isz | Operation::Dca => true,
-        Operation::And | Operation::Tad | Operation::Jms | Operation::Jmp => false,
-    }
+    matches!(Operation::of(word), Operation::Isz | Operation::Dca)
 }
 
 /// Whether a memory reference is ISZ.
 pub(crate) fn counts(word: Word) -> bool
     ensures { result ≡ counts (operation_of word) }
 {
-    match Operation::of(word) {
-        Operation::Isz => true,
-        Operation::And | Operation::Tad | Operation::Dca | Operation::Jms | Operation::Jmp => false,
-    }
+    matches!(Operation::of(word), Operation::Isz)
 }
 
 /// The cell that a memory reference names, where its pointer is meant.

@@ -38,16 +38,6 @@ fn nowhere<'a>() -> Outcomes<'a>
     }
 }
 
-/// One outcome, if it is there.
-fn one<'a>(outcome: Option<Successor<'a>>) -> Outcomes<'a>
-    ensures { (given : List told.Successor) → AgreeingSuccessors (slot outcome.entry) given →
-        AgreeingSuccessors (slots result.all) given }
-{
-    Outcomes {
-        all: [outcome, None, None, None],
-    }
-}
-
 /// Two outcomes, so far as they are there.
 fn two<'a>(outcomes: (Option<Successor<'a>>, Option<Successor<'a>>)) -> Outcomes<'a>
     ensures { (given : List told.Successor) → AgreeingSuccessors
@@ -113,27 +103,13 @@ impl<A: Allocator> Place<'_, A> {
         let named = target(word, at);
         let targets = self.reached(indirect, named, known, &mut room.targets);
         let single = single_target(indirect, named, targets);
+        let first = &mut room.one;
+        let second = &mut room.two;
         if steps_pointer(indirect, named) {
             let seen = known.stepped(named, &mut room.pointer, &mut room.list);
-            return self.refer_to(
-                at,
-                word,
-                &seen,
-                targets,
-                &single,
-                &mut room.one,
-                &mut room.two,
-            );
+            return self.refer_to(at, word, &seen, targets, &single, first, second);
         }
-        self.refer_to(
-            at,
-            word,
-            known,
-            targets,
-            &single,
-            &mut room.one,
-            &mut room.two,
-        )
+        self.refer_to(at, word, known, targets, &single, first, second)
     }
 
     /// The outcomes of a memory reference to some targets.
@@ -160,12 +136,12 @@ impl<A: Allocator> Place<'_, A> {
         let indirect = refers_indirectly(word);
         let named = target(word, at);
         match Operation::of(word) {
-            Operation::And => return one(self.combine(at, seen, reached, single, way)),
-            Operation::Tad => return one(self.add(at, seen, reached, single, way)),
+            Operation::And => return two((self.combine(at, seen, reached, single, way), None)),
+            Operation::Tad => return two((self.add(at, seen, reached, single, way), None)),
             Operation::Isz => return two(self.count(at, seen, reached, single, way, other)),
-            Operation::Dca => return one(deposit(at, seen, reached, single, way)),
-            Operation::Jms => return one(call(seen, reached, way)),
-            Operation::Jmp => return one(self.jump(indirect, named, seen, reached, way)),
+            Operation::Dca => return two((deposit(at, seen, reached, single, way), None)),
+            Operation::Jms => return two((call(seen, reached, way), None)),
+            Operation::Jmp => return two((self.jump(indirect, named, seen, reached, way), None)),
         }
     }
 
@@ -225,9 +201,9 @@ pub fn outcomes<'a, A: Allocator>(
     let known = AbstractState::of(fact);
     match decode(word, place.declaration.profile()) {
         Instruction::Memory => return place.refer(at, word, &known, room),
-        Instruction::Operate1 => return one(operate(at, word, &known, &mut room.one)),
+        Instruction::Operate1 => return two((operate(at, word, &known, &mut room.one), None)),
         Instruction::Operate2 => return place.skip(at, word, &known, room),
-        Instruction::Operate3 => return one(exchange(at, word, &known, &mut room.one)),
+        Instruction::Operate3 => return two((exchange(at, word, &known, &mut room.one), None)),
         Instruction::Iot => return place.transfer(at, word, &known, room),
         Instruction::Unsupported => return nowhere(),
     }

@@ -160,10 +160,8 @@ impl<A: Allocator> Place<'_, A> {
     {
         let mut one = WordSet::all();
         let mut set = WordSet::empty();
-        let mut next = 0usize;
-        while let Some(cell) = cells.first_from(next) {
+        for cell in cells.iter() {
             set = set.union(self.words_in(known, cell, &mut one));
-            next = cell.index() + 1;
         }
         put_set(place, &set)
     }

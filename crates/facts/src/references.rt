@@ -1,7 +1,7 @@
 //! The outcomes of the words that refer to memory.
 
 ghost use Rattle.std.specs.Prelude.{ℕ, ◌≡◌, ◌≤◌, ◌++◌, ◌&&◌, true, false, length, Some, None};
-ghost use Rattle.wordset.specs.Words.{Words, SameWords, everything, only, sums, some_below, has_some, without};
+ghost use Rattle.wordset.specs.Words.{Words, SameWords, everything, only, sums, some_below};
 ghost use Rattle.wordset.specs.Lanes.{words};
 ghost use Rattle.processor.specs.Machine.{steps_pointer};
 ghost use Rattle.domain.specs.Facts as said;
@@ -11,16 +11,15 @@ ghost use Rattle.domain.specs.Same.{Agree};
 ghost use Rattle.facts.specs.Agreeing.{AgreeingSuccessors};
 ghost use Rattle.facts.specs.Knowing.{fact_of_state, IsUnchanged};
 ghost use Rattle.facts.specs.Places.{place_of};
+ghost use Rattle.facts.specs.Showing.{has_last_or_other};
 ghost use Rattle.facts.specs.Slots.{slot};
 
 use crate::equations::{Equations, has_cell};
-use crate::lent::{put_all, put_ands, put_counted, put_one, put_sums};
+use crate::lent::{has_some, put_counted, put_one, put_set};
 use crate::place::Place;
 use crate::scratch::SuccessorScratch;
 use crate::state::AbstractState;
-use crate::successor::{
-    Successor, address_after, address_skipped_to, calling, going, going_if, returning,
-};
+use crate::successor::{Successor, address_after, address_skipped_to, going, is_alive};
 use domain::Name;
 use processor::is_auto_index;
 use std::alloc::Allocator;
@@ -51,27 +50,20 @@ pub(crate) fn deposit<'a>(
         SameWords (words targets.now) p →
         AgreeingSuccessors (slot result) (dca_case place at f p (only p)) }
 {
-    let SuccessorScratch {
-        all,
-        held,
-        ac,
-        next,
-        first,
-        second,
-        third,
-        ..
-    } = way;
-    let held = known.left_in(&Name::Accumulator, held);
-    let zero = put_one(ac, Word::ZERO);
-    let next = address_after(at, next);
+    let held = known.left_in(&Name::Accumulator, &mut way.held);
+    let zero = put_one(&mut way.ac, Word::ZERO);
+    let next = address_after(at, &mut way.next);
     match single {
         Some(cell) => {
-            let after = known.deposited(*cell, held, zero, first, second, third);
-            going(targets, held, held, next, after)
+            let put = known.with_cell(*cell, held, &mut way.first);
+            let told = put.told(*cell, known.equations, &mut way.second);
+            let after = told.with_ac(zero, &mut way.third);
+            going(has_some(held), targets, held, next, after)
         }
         None => {
-            let after = known.stored(targets, held, first).with_ac(zero, second);
-            going(targets, held, put_all(all), next, after)
+            let put = known.stored(targets, held, &mut way.first);
+            let cleared = put.with_ac(zero, &mut way.second);
+            going(true, targets, held, next, cleared)
         }
     }
 }
@@ -93,40 +85,17 @@ pub(crate) fn count_one<'a>(
         Agree (fact_of_state known.now) f → SameWords (words targets.now) p →
         AgreeingSuccessors (slot result.0 ++ slot result.1) (isz_case place at f p (Some cell)) }
 {
-    let SuccessorScratch {
-        held,
-        read,
-        changed,
-        next,
-        first,
-        ..
-    } = way;
-    let held = known.left_in(&Name::Accumulator, held);
-    let old = known.left_in(&Name::Cell(cell), read);
-    let zero = put_one(changed, Word::ZERO);
-    let skips = going_if(
-        has_cell(old, Word::ZERO.complement()),
-        targets,
-        held,
-        zero,
-        address_skipped_to(at, next),
-        known.counted_to(cell, zero, first),
-    );
-    let SuccessorScratch {
-        changed,
-        next,
-        first,
-        ..
-    } = other;
-    let more = put_counted(changed, old);
-    let goes_on = going(
-        targets,
-        held,
-        more,
-        address_after(at, next),
-        known.counted_to(cell, more, first),
-    );
-    (skips, goes_on)
+    let held = known.left_in(&Name::Accumulator, &mut way.held);
+    let old = known.left_in(&Name::Cell(cell), &mut way.read);
+    let zero = put_one(&mut way.changed, Word::ZERO);
+    let wraps = has_cell(old, Word::ZERO.complement());
+    let after = known.counted_to(cell, zero, &mut way.first);
+    let next = address_skipped_to(at, &mut way.next);
+    let skips = going(wraps, targets, held, next, after);
+    let more = put_counted(&mut other.changed, old);
+    let after = known.counted_to(cell, more, &mut other.first);
+    let next = address_after(at, &mut other.next);
+    (skips, going(has_some(more), targets, held, next, after))
 }
 
 /// ISZ of the running routine's own entry counts the offsets up.
@@ -143,66 +112,32 @@ pub(crate) fn count_own<'a>(
         Agree (fact_of_state known.now) f → SameWords (words targets.now) p →
         AgreeingSuccessors (slot result) (isz_case place at f p (Some cell)) }
 {
-    let SuccessorScratch {
-        all,
-        held,
-        next,
-        ..
-    } = way;
-    going(
-        targets,
-        known.left_in(&Name::Accumulator, held),
-        put_all(all),
-        address_after(at, next),
-        known.returning_later(),
-    )
+    let held = known.left_in(&Name::Accumulator, &mut way.held);
+    let next = address_after(at, &mut way.next);
+    going(true, targets, held, next, known.returning_later())
 }
 
-/// Whether a cell may hold 7777.
-fn may_wrap(known: &AbstractState<'_>, cell: Word) -> bool
-    ensures { result ≡ narrowed (fact_of_state known.now) (Cell cell) 4095 }
+/// Whether a cell may hold 7777, or whether it may hold another word.
+fn may_hold(known: &AbstractState<'_>, cell: Word, last: bool) -> bool
+    ensures { result ≡ has_last_or_other last (narrowed (fact_of_state known.now) (Cell cell)) }
 {
-    known
-        .narrowed(&Name::Cell(cell))
-        .contains(Word::ZERO.complement())
-}
-
-/// Whether a cell may hold another word than 7777.
-fn may_stay(known: &AbstractState<'_>, cell: Word) -> bool
-    ensures { result ≡ has_some (without 4095 (narrowed (fact_of_state known.now) (Cell cell))) }
-{
-    let mut rest = known.narrowed(&Name::Cell(cell));
-    rest.remove(Word::ZERO.complement());
-    !rest.is_empty()
-}
-
-/// Whether some of the cells may hold 7777.
-fn may_some_wrap(known: &AbstractState<'_>, cells: &WordSet) -> bool
-    ensures { result ≡ some_below 4096 (λ y. words cells.now y &&
-        narrowed (fact_of_state known.now) (Cell y) 4095) }
-{
-    let mut next = 0usize;
-    while let Some(cell) = cells.first_from(next) {
-        if may_wrap(known, cell) {
-            return true;
-        }
-        next = cell.index() + 1;
+    let mut left = known.narrowed(&Name::Cell(cell));
+    if last {
+        return left.contains(Word::ZERO.complement());
     }
-    false
+    left.remove(Word::ZERO.complement());
+    has_some(&left)
 }
 
-/// Whether some of the cells may hold another word than 7777.
-fn may_some_stay(known: &AbstractState<'_>, cells: &WordSet) -> bool
-    ensures { result ≡ some_below 4096
-        (λ y. words cells.now y && has_some (without 4095
-        (narrowed (fact_of_state known.now) (Cell y)))) }
+/// Whether some of the cells may hold 7777, or whether some of them may hold another word.
+fn may_some_hold(known: &AbstractState<'_>, cells: &WordSet, last: bool) -> bool
+    ensures { result ≡ some_below 4096 (λ y. words cells.now y &&
+        has_last_or_other last (narrowed (fact_of_state known.now) (Cell y))) }
 {
-    let mut next = 0usize;
-    while let Some(cell) = cells.first_from(next) {
-        if may_stay(known, cell) {
+    for cell in cells.iter() {
+        if may_hold(known, cell, last) {
             return true;
         }
-        next = cell.index() + 1;
     }
     false
 }
@@ -222,35 +157,15 @@ pub(crate) fn count_several<'a>(
         SameWords (words targets.now) p →
         AgreeingSuccessors (slot result.0 ++ slot result.1) (isz_case place at f p None) }
 {
-    let SuccessorScratch {
-        all,
-        held,
-        next,
-        first,
-        ..
-    } = way;
-    let held = known.left_in(&Name::Accumulator, held);
-    let all = put_all(all);
-    let wraps = may_some_wrap(known, targets);
-    let stays = may_some_stay(known, targets);
-    let skips = going_if(
-        wraps,
-        targets,
-        held,
-        all,
-        address_skipped_to(at, next),
-        known.counted(targets, first),
-    );
-    let SuccessorScratch { next, first, .. } = other;
-    let goes_on = going_if(
-        stays,
-        targets,
-        held,
-        all,
-        address_after(at, next),
-        known.counted(targets, first),
-    );
-    (skips, goes_on)
+    let held = known.left_in(&Name::Accumulator, &mut way.held);
+    let wraps = may_some_hold(known, targets, true);
+    let after = known.counted(targets, &mut way.first);
+    let next = address_skipped_to(at, &mut way.next);
+    let skips = going(wraps, targets, held, next, after);
+    let stays = may_some_hold(known, targets, false);
+    let after = known.counted(targets, &mut other.first);
+    let next = address_after(at, &mut other.next);
+    (skips, going(stays, targets, held, next, after))
 }
 
 /// What is known after a sum: with one word added the accumulator's equations move by it, and
@@ -283,9 +198,12 @@ pub(crate) fn call<'a>(
         SameWords (words targets.now) p →
         AgreeingSuccessors (slot result) (given (alive p f everything f) (CallsTo p f)) }
 {
-    let SuccessorScratch { all, held, .. } = way;
-    let held = known.left_in(&Name::Accumulator, held);
-    calling(targets, held, put_all(all), known.same())
+    let held = known.left_in(&Name::Accumulator, &mut way.held);
+    let after = known.same();
+    if !is_alive(targets, held, &after) {
+        return None;
+    }
+    Some(Successor::Calls(targets, after))
 }
 
 impl<A: Allocator> Place<'_, A> {
@@ -329,25 +247,11 @@ impl<A: Allocator> Place<'_, A> {
             SameWords (words targets.now) p →
             AgreeingSuccessors (slot result) (anded (place_of self.now) at f p) }
     {
-        let SuccessorScratch {
-            all,
-            held,
-            read,
-            ac,
-            next,
-            first,
-            ..
-        } = way;
-        let held = known.left_in(&Name::Accumulator, held);
-        let read = self.words_at(known, targets, single, read);
-        let both = put_ands(ac, held, read);
-        going(
-            targets,
-            held,
-            put_all(all),
-            address_after(at, next),
-            known.with_ac(both, first),
-        )
+        let held = known.left_in(&Name::Accumulator, &mut way.held);
+        let read: &'a WordSet = self.words_at(known, targets, single, &mut way.read);
+        let both = put_set(&mut way.ac, &held.ands(read));
+        let after = known.with_ac(both, &mut way.first);
+        going(true, targets, held, address_after(at, &mut way.next), after)
     }
 
     /// What is known of the accumulator after TAD: of one variable to one word it is their sum.
@@ -392,27 +296,15 @@ impl<A: Allocator> Place<'_, A> {
             SameWords (words targets.now) p →
             AgreeingSuccessors (slot result) (tad (place_of self.now) at f p) }
     {
-        let SuccessorScratch {
-            all,
-            held,
-            read,
-            ac,
-            next,
-            first,
-            ..
-        } = way;
-        let held = known.left_in(&Name::Accumulator, held);
-        let read = self.words_at(known, targets, single, read);
-        let carries = put_sums(ac, held, read);
+        let held = known.left_in(&Name::Accumulator, &mut way.held);
+        let read: &'a WordSet = self.words_at(known, targets, single, &mut way.read);
+        let (sums, carries) = held.sums(read);
+        let ac = put_set(&mut way.ac, &sums);
         let links = known.link.toggled(carries);
-        let sum = self.after_tad(known, single, &held.only(), &read.only(), &*ac, first);
-        going(
-            targets,
-            held,
-            put_all(all),
-            address_after(at, next),
-            sum.with_link(links),
-        )
+        let (one, added) = (held.only(), read.only());
+        let sum = self.after_tad(known, single, &one, &added, ac, &mut way.first);
+        let next = address_after(at, &mut way.next);
+        going(true, targets, held, next, sum.with_link(links))
     }
 
     /// Whether a JMP returns: through the running routine's own entry.
@@ -436,13 +328,15 @@ impl<A: Allocator> Place<'_, A> {
             SameWords (words targets.now) p →
             AgreeingSuccessors (slot result) (jmp (place_of self.now) indirect named f p) }
     {
-        let SuccessorScratch { all, held, .. } = way;
-        let held = known.left_in(&Name::Accumulator, held);
-        let all = put_all(all);
-        if self.is_returning(indirect, named) {
-            return returning(targets, held, all, known.same());
+        let held = known.left_in(&Name::Accumulator, &mut way.held);
+        let after = known.same();
+        if !self.is_returning(indirect, named) {
+            return going(true, targets, held, targets, after);
         }
-        going(targets, held, all, targets, known.same())
+        if !is_alive(targets, held, &after) {
+            return None;
+        }
+        Some(Successor::Returns(after))
     }
 
     /// ISZ: of one variable, of the running routine's own entry, or of one of several variables.

@@ -1,13 +1,13 @@
 //! The outcomes of operate words, which go on at the next address whatever memory holds.
 
 ghost use Rattle.std.specs.Prelude.{◌≡◌, ◌≤◌, ◌++◌, Some, length};
-ghost use Rattle.wordset.specs.Words.{Words, SameWords, everything, one, plus};
+ghost use Rattle.wordset.specs.Words.{Words, SameWords, everything, one, or_any, plus};
 ghost use Rattle.wordset.specs.Lanes.{words};
 ghost use Rattle.instruct.specs.declared.Profile.TheVariants.{Pdp8E};
 ghost use Rattle.instruct.specs.declared.Instruction.TheVariants.{Operate1};
 ghost use Rattle.instruct.specs.Bits.{has_bit};
 ghost use Rattle.instruct.specs.Operates.{MqOperate, mq_operate_of};
-ghost use Rattle.instruct.specs.Instructions.{instruction_of, processor_action, Skips, Ors, Clears, Takes, Leaves};
+ghost use Rattle.instruct.specs.Instructions.{instruction_of, processor_action, Skips, Leaves};
 ghost use Rattle.domain.specs.Facts as said;
 ghost use Rattle.domain.specs.Facts.{Ac, narrowed};
 ghost use Rattle.domain.specs.Changes.{strongly_updated, with_mq, with_name};
@@ -18,7 +18,7 @@ ghost use Rattle.facts.specs.Knowing.{fact_of_state};
 ghost use Rattle.facts.specs.Slots.{slot};
 
 use crate::equations::Equations;
-use crate::lent::{put_all, put_any, put_images, put_one, put_set};
+use crate::lent::put_set;
 use crate::scratch::SuccessorScratch;
 use crate::state::AbstractState;
 use crate::successor::{Successor, address_after, address_skipped_to, going};
@@ -30,17 +30,16 @@ use wordset::WordSet;
 /// The outcome that goes on at the next address with what is known then.
 pub(crate) fn go_on<'a>(
     at: Word,
-    held: &WordSet,
+    held: &'a WordSet,
     after: AbstractState<'a>,
-    all: &mut WordSet,
     next: &'a mut WordSet,
 ) -> Option<Successor<'a>>
     ensures { (f h : said.Fact) → SameWords (words held.now) (narrowed f Ac) →
         Agree (fact_of_state after.entry) h →
         AgreeingSuccessors (slot result) (goes everything f everything (one (plus at 1)) h) }
 {
-    let all = put_all(all);
-    going(all, held, all, address_after(at, next), after)
+    let next = address_after(at, next);
+    going(true, next, held, next, after)
 }
 
 /// Whether a word of group 1 has CLA, CMA, a rotate or BSW: it leaves no equation of the
@@ -99,18 +98,11 @@ pub(crate) fn operate<'a>(
         AgreeingSuccessors (slot result) (goes everything f everything (one (plus at 1))
         (operated1 word f)) }
 {
-    let SuccessorScratch {
-        all,
-        held,
-        ac,
-        next,
-        first,
-        ..
-    } = way;
-    let held = known.left_in(&Name::Accumulator, held);
-    let links = put_images(ac, word, held, known.link);
-    let after = related(word, known, &*ac, first).with_link(links);
-    go_on(at, held, after, all, next)
+    let held = known.left_in(&Name::Accumulator, &mut way.held);
+    let (images, links) = held.map_operate(word, known.link);
+    let ac = put_set(&mut way.ac, &images);
+    let after = related(word, known, ac, &mut way.first).with_link(links);
+    go_on(at, held, after, &mut way.next)
 }
 
 /// A flag test: the flag may be set or not.
@@ -123,94 +115,37 @@ pub(crate) fn test_flag<'a>(
     ensures { (f : said.Fact) → Agree (fact_of_state known.now) f →
         AgreeingSuccessors (slot result.0 ++ slot result.1) (device_outcomes at f Skips) }
 {
-    let SuccessorScratch {
-        all,
-        held,
-        next,
-        ..
-    } = way;
-    let held = known.left_in(&Name::Accumulator, held);
-    let all = put_all(all);
-    let stays = going(all, held, all, address_after(at, next), known.same());
-    let skips = going(
-        all,
-        held,
-        all,
-        address_skipped_to(at, &mut other.next),
-        known.same(),
-    );
-    (stays, skips)
+    let held = known.left_in(&Name::Accumulator, &mut way.held);
+    let next = address_skipped_to(at, &mut other.next);
+    let skips = going(true, next, held, next, known.same());
+    (go_on(at, held, known.same(), &mut way.next), skips)
 }
 
-/// A device's byte, which may be any, is or'd into the accumulator.
-pub(crate) fn or_byte<'a>(
+/// The outcome after the accumulator took these words.
+fn assign<'a>(
     at: Word,
     known: &AbstractState<'a>,
+    set: &WordSet,
     way: &'a mut SuccessorScratch,
 ) -> Option<Successor<'a>>
     requires room { length known.now.equations.now ≤ 32 }
-    ensures { (f : said.Fact) → Agree (fact_of_state known.now) f →
-        AgreeingSuccessors (slot result) (device_outcomes at f Ors) }
+    ensures { (f : said.Fact) (s : Words) → Agree (fact_of_state known.now) f →
+        SameWords (words set.now) s →
+        AgreeingSuccessors (slot result) (goes everything f everything (one (plus at 1))
+        (strongly_updated Ac s f)) }
 {
-    let SuccessorScratch {
-        all,
-        held,
-        ac,
-        next,
-        first,
-        ..
-    } = way;
-    let held = known.left_in(&Name::Accumulator, held);
-    let bytes = put_any(ac, held, Word::from_byte(0o377));
-    let after = known.with_ac(bytes, first);
-    go_on(at, held, after, all, next)
+    let held = known.left_in(&Name::Accumulator, &mut way.held);
+    let after = known.with_ac(put_set(&mut way.ac, set), &mut way.first);
+    go_on(at, held, after, &mut way.next)
 }
 
-/// The accumulator is cleared.
-pub(crate) fn clear<'a>(
-    at: Word,
-    known: &AbstractState<'a>,
-    way: &'a mut SuccessorScratch,
-) -> Option<Successor<'a>>
-    requires room { length known.now.equations.now ≤ 32 }
+/// The accumulator's words, each with any bits of a byte.
+fn with_byte(known: &AbstractState<'_>) -> WordSet
     ensures { (f : said.Fact) → Agree (fact_of_state known.now) f →
-        AgreeingSuccessors (slot result) (device_outcomes at f Clears) }
+        SameWords (words result) (or_any 255 (narrowed f Ac)) }
 {
-    let SuccessorScratch {
-        all,
-        held,
-        ac,
-        next,
-        first,
-        ..
-    } = way;
-    let held = known.left_in(&Name::Accumulator, held);
-    let after = known.with_ac(put_one(ac, Word::ZERO), first);
-    go_on(at, held, after, all, next)
-}
-
-/// A device's byte, which may be any, is taken into the accumulator.
-pub(crate) fn take_byte<'a>(
-    at: Word,
-    known: &AbstractState<'a>,
-    way: &'a mut SuccessorScratch,
-) -> Option<Successor<'a>>
-    requires room { length known.now.equations.now ≤ 32 }
-    ensures { (f : said.Fact) → Agree (fact_of_state known.now) f →
-        AgreeingSuccessors (slot result) (device_outcomes at f Takes) }
-{
-    let SuccessorScratch {
-        all,
-        held,
-        ac,
-        next,
-        first,
-        ..
-    } = way;
-    let held = known.left_in(&Name::Accumulator, held);
-    *ac = WordSet::range(Word::ZERO, Word::from_byte(0o377));
-    let after = known.with_ac(&*ac, first);
-    go_on(at, held, after, all, next)
+    let held = known.narrowed(&Name::Accumulator);
+    held.or_any(Word::from_byte(0o377))
 }
 
 /// Nothing changes.
@@ -222,14 +157,8 @@ pub(crate) fn leave<'a>(
     ensures { (f : said.Fact) → Agree (fact_of_state known.now) f →
         AgreeingSuccessors (slot result) (device_outcomes at f Leaves) }
 {
-    let SuccessorScratch {
-        all,
-        held,
-        next,
-        ..
-    } = way;
-    let held = known.left_in(&Name::Accumulator, held);
-    go_on(at, held, known.same(), all, next)
+    let held = known.left_in(&Name::Accumulator, &mut way.held);
+    go_on(at, held, known.same(), &mut way.next)
 }
 
 /// The outcome after the accumulator and MQ took these words.
@@ -247,20 +176,11 @@ fn take<'a>(
         AgreeingSuccessors (slot result) (goes everything f everything (one (plus at 1))
         (with_mq t (strongly_updated Ac s f))) }
 {
-    let SuccessorScratch {
-        all,
-        held,
-        ac,
-        changed,
-        next,
-        first,
-        ..
-    } = way;
-    let held = known.left_in(&Name::Accumulator, held);
+    let held = known.left_in(&Name::Accumulator, &mut way.held);
     let after = known
-        .with_ac(put_set(ac, set), first)
-        .with_mq(put_set(changed, mq));
-    go_on(at, held, after, all, next)
+        .with_ac(put_set(&mut way.ac, set), &mut way.first)
+        .with_mq(put_set(&mut way.changed, mq));
+    go_on(at, held, after, &mut way.next)
 }
 
 /// A word of group 3 moves words between the accumulator and MQ.
@@ -312,9 +232,14 @@ pub(crate) fn transfer<'a>(
         | DeviceOperation::SkipOnPrinterFlag => test_flag(at, known, way, other),
         DeviceOperation::ReadReaderBuffer
         | DeviceOperation::ReadReaderBufferAndFetchFrame
-        | DeviceOperation::ReadKeyboardBuffer => (or_byte(at, known, way), None),
-        DeviceOperation::ClearKeyboardFlagAndAccumulator => (clear(at, known, way), None),
-        DeviceOperation::TakeKeyboardByte => (take_byte(at, known, way), None),
+        | DeviceOperation::ReadKeyboardBuffer => (assign(at, known, &with_byte(known), way), None),
+        DeviceOperation::ClearKeyboardFlagAndAccumulator => {
+            (assign(at, known, &WordSet::one(Word::ZERO), way), None)
+        }
+        DeviceOperation::TakeKeyboardByte => {
+            let set = WordSet::range(Word::ZERO, Word::from_byte(0o377));
+            (assign(at, known, &set, way), None)
+        }
         _ => (leave(at, known, way), None),
     }
 }

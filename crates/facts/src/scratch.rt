@@ -11,8 +11,6 @@ use wordset::WordSet;
 /// three times, one after another.
 #[derive(Drop)]
 pub(crate) struct SuccessorScratch {
-    /// All words.
-    pub(crate) all: WordSet,
     /// The accumulator's words before.
     pub(crate) held: WordSet,
     /// The words of the cells that are read.
@@ -32,7 +30,6 @@ impl SuccessorScratch {
     /// Room in which nothing stands.
     fn new() -> SuccessorScratch {
         SuccessorScratch {
-            all: WordSet::all(),
             held: WordSet::all(),
             read: WordSet::all(),
             ac: WordSet::all(),

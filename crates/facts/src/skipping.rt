@@ -14,11 +14,11 @@ ghost use Rattle.facts.specs.Knowing.{fact_of_state};
 ghost use Rattle.facts.specs.Slots.{slot};
 
 use crate::equations::Equations;
-use crate::lent::{put_all, put_one, put_set};
+use crate::lent::{has_some, put_one, put_set};
 use crate::place::union_if;
 use crate::scratch::SuccessorScratch;
 use crate::state::AbstractState;
-use crate::successor::{Successor, address_after, address_skipped_to, going_if};
+use crate::successor::{Successor, address_after, address_skipped_to, going};
 use domain::Name;
 use word12::{Link, Word};
 use wordset::{Links, WordSet};
@@ -180,25 +180,10 @@ pub(crate) fn branch<'a>(
     if !known.link.contains(link) {
         return None;
     }
-    let SuccessorScratch {
-        all,
-        held,
-        read,
-        ac,
-        next,
-        first,
-        ..
-    } = way;
-    let held = known.left_in(&Name::Accumulator, held);
-    let part = put_part(word, link, skip, held, read);
-    let all = put_all(all);
-    let found = !part.is_empty();
-    going_if(
-        found,
-        all,
-        held,
-        all,
-        next_address(at, skip, next),
-        after_test(word, known, part, ac, first).with_link(Links::one(link)),
-    )
+    let held = known.left_in(&Name::Accumulator, &mut way.held);
+    let part = put_part(word, link, skip, held, &mut way.read);
+    let after = after_test(word, known, part, &mut way.ac, &mut way.first);
+    let next = next_address(at, skip, &mut way.next);
+    let linked = after.with_link(Links::one(link));
+    going(has_some(part), next, held, next, linked)
 }

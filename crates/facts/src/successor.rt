@@ -1,17 +1,17 @@
 //! The outcomes of a word, and those of them that can come about.
 
 ghost use Rattle.std.specs.Prelude.{◌≡◌, ◌&&◌};
-ghost use Rattle.wordset.specs.Words.{Words, SameWords, has_link, all_words, everything, one, plus};
+ghost use Rattle.wordset.specs.Words.{Words, SameWords, has_some, has_link, everything, one, plus};
 ghost use Rattle.wordset.specs.Lanes.{words};
 ghost use Rattle.wordset.specs.Links.{links_of};
 ghost use Rattle.domain.specs.Facts.{Ac, Fact, narrowed};
-ghost use Rattle.facts.specs.Outcomes.{alive, given, goes, Goes, CallsTo, Returns};
+ghost use Rattle.facts.specs.Outcomes.{alive, given, Goes};
 ghost use Rattle.domain.specs.Same.{Agree};
 ghost use Rattle.facts.specs.Agreeing.{AgreeingSuccessors};
 ghost use Rattle.facts.specs.Knowing.{fact_of_state};
 ghost use Rattle.facts.specs.Slots.{slot};
 
-use crate::lent::put_one;
+use crate::lent::{has_some, put_one};
 use crate::state::AbstractState;
 use word12::Word;
 use wordset::{Links, WordSet};
@@ -36,107 +36,40 @@ pub struct Outcomes<'a> {
     pub all: [Option<Successor<'a>>; 4],
 }
 
-/// Whether the targets, the old accumulator, the new one, MQ, the link and the changed cell each
-/// have a word.
-fn is_alive(targets: &WordSet, held: &WordSet, changed: &WordSet, after: &AbstractState<'_>) -> bool
-    ensures { (f : Fact) → SameWords (words held.now) (narrowed f Ac) →
-        result ≡ alive (words targets.now) f (words changed.now) (fact_of_state after.now) }
+/// Whether the targets, the old accumulator, the new one, MQ and the link each have a word.
+#[tactic(auto, using(crate::proofs::OutcomeLemmas::not_empty))]
+pub(crate) fn is_alive(targets: &WordSet, held: &WordSet, after: &AbstractState<'_>) -> bool
+    ensures { result ≡ (has_some (words targets.now) && (has_some (words held.now) &&
+        (has_some ((fact_of_state after.now).set Ac) && (has_some (fact_of_state after.now).mq &&
+        has_link (fact_of_state after.now).link)))) }
 {
-    if targets.is_empty() {
-        return false;
-    }
-    if held.is_empty() {
-        return false;
-    }
-    if after.ac.is_empty() {
-        return false;
-    }
-    if after.mq.is_empty() {
-        return false;
-    }
-    if after.link.is_empty() {
-        return false;
-    }
-    !changed.is_empty()
-}
-
-/// The outcome that goes on at some addresses, where it can come about.
-pub(crate) fn going<'a>(
-    targets: &WordSet,
-    held: &WordSet,
-    changed: &WordSet,
-    next: &'a WordSet,
-    after: AbstractState<'a>,
-) -> Option<Successor<'a>>
-    ensures { (p changes nexts : Words) (f h : Fact) → SameWords (words targets.now) p →
-        SameWords (words held.now) (narrowed f Ac) →
-        SameWords (words changed.now) changes → SameWords (words next.now) nexts →
-        Agree (fact_of_state after.entry) h →
-        AgreeingSuccessors (slot result) (goes p f changes nexts h) }
-{
-    if !is_alive(targets, held, changed, &after) {
-        return None;
-    }
-    Some(Successor::Goes(next, after))
+    has_some(targets)
+        && has_some(held)
+        && has_some(after.ac)
+        && has_some(after.mq)
+        && !after.link.is_empty()
 }
 
 /// The outcome that goes on at some addresses, where it is chosen and can come about.
-pub(crate) fn going_if<'a>(
+pub(crate) fn going<'a>(
     chosen: bool,
     targets: &WordSet,
-    held: &WordSet,
-    changed: &WordSet,
+    held: &'a WordSet,
     next: &'a WordSet,
     after: AbstractState<'a>,
 ) -> Option<Successor<'a>>
-    ensures { (p changes nexts : Words) (f h : Fact) → SameWords (words targets.now) p →
-        SameWords (words held.now) (narrowed f Ac) →
-        SameWords (words changed.now) changes → SameWords (words next.now) nexts →
+    ensures { (p nexts : Words) (f h : Fact) → has_some (words targets.now) ≡ has_some p →
+        SameWords (words held.now) (narrowed f Ac) → SameWords (words next.now) nexts →
         Agree (fact_of_state after.entry) h →
-        AgreeingSuccessors (slot result) (given (chosen && alive p f changes h) (Goes nexts h)) }
+        AgreeingSuccessors (slot result) (given (chosen && alive p f everything h) (Goes nexts h)) }
 {
     if !chosen {
         return None;
     }
-    going(targets, held, changed, next, after)
-}
-
-/// The outcome that calls the targets, where it can come about.
-pub(crate) fn calling<'a>(
-    targets: &'a WordSet,
-    held: &WordSet,
-    all: &WordSet,
-    after: AbstractState<'a>,
-) -> Option<Successor<'a>>
-    requires { words all.now ≡ all_words }
-    ensures { (p : Words) (f h : Fact) → SameWords (words targets.now) p →
-        SameWords (words held.now) (narrowed f Ac) → Agree (fact_of_state after.entry) h →
-        AgreeingSuccessors (slot result) (given (alive p f everything h) (CallsTo p h)) }
-{
-    if is_alive(targets, held, all, &after) {
-        Some(Successor::Calls(targets, after))
-    } else {
-        None
+    if !is_alive(targets, held, &after) {
+        return None;
     }
-}
-
-/// The outcome that returns, where it can come about.
-pub(crate) fn returning<'a>(
-    targets: &WordSet,
-    held: &WordSet,
-    all: &WordSet,
-    after: AbstractState<'a>,
-) -> Option<Successor<'a>>
-    requires { words all.now ≡ all_words }
-    ensures { (p : Words) (f h : Fact) → SameWords (words targets.now) p →
-        SameWords (words held.now) (narrowed f Ac) → Agree (fact_of_state after.entry) h →
-        AgreeingSuccessors (slot result) (given (alive p f everything h) (Returns h)) }
-{
-    if is_alive(targets, held, all, &after) {
-        Some(Successor::Returns(after))
-    } else {
-        None
-    }
+    Some(Successor::Goes(next, after))
 }
 
 /// The address after another, in its place.

@@ -1,13 +1,11 @@
 use Rattle.std.proofs.Common.{◌∙◌}
-use Rattle.wordset.specs.Words.{one, everything, plus}
+use Rattle.wordset.specs.Words.{one, plus}
 use Rattle.domain.specs.Facts.{Ac}
-use Rattle.facts.proofs.PlaceLemmas.{all_same}
 use Rattle.facts.proofs.AgreeLemmas.{agree_trans, narrowed_agree}
 use Rattle.facts.proofs.ChangingLemmas.{later_agree}
-use Rattle.facts.proofs.OutcomeLemmas.{isz_own}
-use Rattle.facts.specs.Slots.{slot}
+use Rattle.facts.proofs.OutcomeLemmas.{has_same}
 use Rattle.facts.proofs.references.count_own.Goals as goal
 
 pub returns : goal.returns
-returns c = λ pl f p var h e. isz_own pl c.args.at f p c.args.cell (slot c.going.result) var
-    (c.going.ensures p everything (one (plus c.args.at 1)) f _ e (λ v lt. c.left_in.ensures v lt ∙ narrowed_agree h Ac v lt) (all_same c.put_all.ensures) c.address_after.ensures (agree_trans c.returning_later.ensures (later_agree h)))
+returns c = λ pl f p var h e. rw var
+    (c.going.ensures p (one (plus c.args.at 1)) f _ (has_same e) (λ v lt. c.left_in-held.ensures v lt ∙ narrowed_agree h Ac v lt) c.address_after-next.ensures (agree_trans c.returning_later.ensures (later_agree h)))

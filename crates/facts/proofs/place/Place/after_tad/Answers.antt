@@ -1,14 +1,11 @@
 use Rattle.std.proofs.Common.{◌∙◌, sym, List, [], ◌∷◌}
 use Rattle.domain.specs.Facts.{Ac, Cell, Equation}
-use Rattle.facts.specs.Knowing.{fact_of_state}
-use Rattle.facts.specs.Places.{place_of}
 use Rattle.facts.proofs.AgreeLemmas.{agree_trans}
 use Rattle.facts.proofs.ChangingLemmas.{assigned_agree, told_agree}
-use Rattle.facts.proofs.TadLemmas.{tad_related}
 use Rattle.facts.proofs.place.Place.after_tad.Goals as goal
 
 pub returns-then-is_variable : goal.returns-then-is_variable
 returns-then-is_variable g c = λ f v h e.
     let first : List Equation = record { left = Ac; right = Cell c.in-Some.cell; more = c.in-Some-ac.word } ∷ [] in
-    rw (c.in-Some.is, c.in-Some-ac.is) (tad_related (place_of c.args.self.now) f v c.in-Some.cell c.in-Some-ac.word c.args.added.now (fact_of_state c.summed.result) (sym c.is_variable.ensures ∙ c.if-is_variable.true)
-    (agree_trans c.summed.ensures (told_agree first (assigned_agree Ac h e))))
+    rw (c.in-Some.is, c.in-Some-ac.is, sym c.is_variable.ensures ∙ c.if-is_variable.true)
+    (agree_trans c.summed.ensures (told_agree first (assigned_agree Ac h e)))

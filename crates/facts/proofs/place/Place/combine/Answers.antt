@@ -1,18 +1,19 @@
-use Rattle.std.proofs.Common.{◌∙◌}
-use Rattle.wordset.specs.Words.{SameWords, one, everything, plus, ands}
+use Rattle.std.proofs.Common.{ap, ◌∙◌}
+use Rattle.wordset.specs.Words.{Words, SameWords, one, plus, ands}
 use Rattle.wordset.specs.Lanes.{words}
 use Rattle.domain.specs.Facts.{narrowed, Ac}
 use Rattle.facts.specs.Outcomes.{words_at}
 use Rattle.facts.specs.Places.{place_of}
-use Rattle.facts.proofs.PlaceLemmas.{all_same, at_agree, ands_same}
+use Rattle.facts.proofs.PlaceLemmas.{at_agree, ands_same}
 use Rattle.facts.proofs.AgreeLemmas.{agree_trans, narrowed_agree}
 use Rattle.facts.proofs.ChangingLemmas.{assigned_agree}
+use Rattle.facts.proofs.OutcomeLemmas.{has_same}
 use Rattle.facts.proofs.place.Place.combine.Goals as goal
 
 pub returns : goal.returns
 returns g c = λ f p h e.
     let ac : SameWords (words c.left_in-held.result.now) (narrowed f Ac) = λ v lt. c.left_in-held.ensures v lt ∙ narrowed_agree h Ac v lt in
     let read : SameWords (words c.words_at-read.result.now) (words_at (place_of c.args.self.now) f p) = λ v lt. c.words_at-read.ensures v lt ∙ at_agree (place_of c.args.self.now) h e v lt in
-    let new : SameWords (words c.put_ands-both.result.now) (ands (narrowed f Ac) (words_at (place_of c.args.self.now) f p)) = λ v lt. c.put_ands-both.ensures v lt ∙ ands_same ac read v lt in
-    c.going.ensures p everything (one (plus c.args.at 1)) f _ e ac (all_same c.put_all.ensures) c.address_after.ensures
-    (agree_trans c.with_ac.ensures.same (assigned_agree Ac h new))
+    let new : SameWords (words c.put_set-both.result.now) (ands (narrowed f Ac) (words_at (place_of c.args.self.now) f p)) = λ v lt. ap (λ (x : Words). x v) c.put_set-both.ensures ∙ c.ands.ensures v lt ∙ ands_same ac read v lt in
+    c.going.ensures p (one (plus c.args.at 1)) f _ (has_same e) ac c.address_after.ensures
+    (agree_trans c.with_ac-after.ensures.same (assigned_agree Ac h new))

@@ -7,14 +7,14 @@ use Rattle.facts.specs.Places.{place_of}
 use Rattle.facts.proofs.AgreeLemmas.{narrowed_agree}
 use Rattle.facts.proofs.ChangeLemmas.{shifts_same}
 use Rattle.facts.proofs.PlaceLemmas.{in_agree}
-use Rattle.facts.proofs.ReachLemmas.{reach_stepped, reach_pointer, moved_here}
+use Rattle.facts.proofs.ReachLemmas.{moved_here}
 use Rattle.facts.proofs.place.Place.reached.Goals as goal
 
 pub returns-then-steps_pointer : goal.returns-then-steps_pointer
-returns-then-steps_pointer g c = λ f h. reach_stepped (place_of c.args.self.now) c.args.indirect c.args.named f (sym c.steps_pointer.ensures ∙ c.if-steps_pointer.true)
+returns-then-steps_pointer g c = λ f h. rw (sym c.steps_pointer.ensures ∙ c.if-steps_pointer.true)
     (λ v lt. subst (λ k. SameWords (words c.shifted_in.result.now) (shifted (narrowed (fact_of_state c.args.known.now) (Cell c.args.named)) k)) c.increment.ensures c.shifted_in.ensures v lt
     ∙ shifts_same 1 (narrowed_agree h (Cell c.args.named)) v lt ∙ ap (λ (s : Words). s v) (sym (moved_here f c.args.named)))
 
 pub returns-then-indirect : goal.returns-then-indirect
-returns-then-indirect g c = λ f h. reach_pointer (place_of c.args.self.now) c.args.indirect c.args.named f (sym c.steps_pointer.ensures ∙ c.if-steps_pointer.false) c.if-indirect.true
+returns-then-indirect g c = λ f h. rw (sym c.steps_pointer.ensures ∙ c.if-steps_pointer.false, c.if-indirect.true)
     (λ v lt. c.words_in.ensures v lt ∙ in_agree (place_of c.args.self.now) c.args.named h v lt)

@@ -6,17 +6,16 @@ use Rattle.facts.specs.Places.{place_of}
 use Rattle.facts.proofs.AgreeLemmas.{agree_trans, agree_refl}
 use Rattle.facts.proofs.OneTarget.{direct_target}
 use Rattle.facts.proofs.ChangingLemmas.{moved_agree}
-use Rattle.facts.proofs.ReachLemmas.{step_yes, step_no}
 use Rattle.facts.proofs.place.Place.refer.Goals as goal
 
 pub returns-then-steps_pointer : goal.returns-then-steps_pointer
 returns-then-steps_pointer g c = λ f h. c.refer_to.ensures f
-    (rw (← c.refers_indirectly-indirect.ensures, ← c.target-named.ensures) (step_yes c.refers_indirectly-indirect.result c.target-named.result f (sym c.steps_pointer.ensures ∙ c.if-steps_pointer.true) (agree_trans c.stepped-seen.ensures.same (moved_agree (Cell c.target-named.result) 1 h))))
+    (rw (← c.refers_indirectly-indirect.ensures, ← c.target-named.ensures, sym c.steps_pointer.ensures ∙ c.if-steps_pointer.true) (agree_trans c.stepped-seen.ensures.same (moved_agree (Cell c.target-named.result) 1 h)))
     (rw (← c.refers_indirectly-indirect.ensures, ← c.target-named.ensures) (c.reached-targets.ensures f h))
 
 pub returns : goal.returns
 returns g c = λ f h. c.refer_to-2.ensures f
-    (rw (← c.refers_indirectly-indirect.ensures, ← c.target-named.ensures) (step_no c.refers_indirectly-indirect.result c.target-named.result f (sym c.steps_pointer.ensures ∙ c.if-steps_pointer.false) h))
+    (rw (← c.refers_indirectly-indirect.ensures, ← c.target-named.ensures, sym c.steps_pointer.ensures ∙ c.if-steps_pointer.false) h)
     (rw (← c.refers_indirectly-indirect.ensures, ← c.target-named.ensures) (c.reached-targets.ensures f h))
 
 pub single_target-single-requires : goal.single_target-single-requires

@@ -1,5 +1,6 @@
 pub mod TextLemmas
 pub mod SetLemmas
+pub mod ApartLemmas
 pub mod FieldsLemmas
 pub mod RunLemmas
 pub mod DigitLemmas
@@ -21,7 +22,6 @@ pub mod FoundLemmas
 pub mod ReaderLemmas
 mod NameLemmas
 pub mod SpelledLemmas
-pub mod ApartLemmas
 pub mod MakerLemmas
 pub mod AddedLemmas
 pub mod PutLemmas

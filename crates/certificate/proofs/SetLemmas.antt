@@ -1,10 +1,11 @@
 -- What is written of a set from a word on, and the runs that it has.
-use Rattle.std.proofs.Common.{◌≡◌, ◌⊎◌, ℕ, zero, suc, ◌+◌, ◌-◌, ◌<◌, ◌≤◌, ◌==◌, Bool, true, false, not, ◌&&◌, ◌||◌, List, [], ◌++◌, refl, ap, ◌∙◌, sym, inl, inr, arith, append_assoc, append-nil}
+use Rattle.std.proofs.Common.{◌≡◌, ◌⊎◌, ℕ, zero, suc, ◌+◌, ◌-◌, ◌<◌, ◌≤◌, ◌==◌, Bool, true, false, not, ◌&&◌, ◌||◌, List, [], ◌∷◌, ◌++◌, refl, ap, ◌∙◌, sym, inl, inr, arith, append_assoc, append-nil}
 use Rattle.std.specs.Prelude.{if◌then◌else◌, codes}
 use Rattle.std.proofs.lemmas.Bool.{false≢true, eq-eqb, ne_eqb, cases_lt}
 use Rattle.std.proofs.Math.Bool.{and-false, or-true}
 use Rattle.word12.specs.Words.{octal_text}
 use Rattle.wordset.specs.Words.{Words, some_below}
+use Rattle.wordset.proofs.Tests.{IsSome, some_from, some_none_of}
 use Rattle.certificate.specs.Spelling.{begins, ends, mark, marks}
 use Rattle.certificate.specs.Fields.{run_text}
 
@@ -18,7 +19,7 @@ abbrev pub rest : Words → ℕ → List ℕ
 rest s n = written (4096 - n) n s
 
 -- A comma, where words came before.
-abbrev pub comma : Words → ℕ → List ℕ
+abbrev comma : Words → ℕ → List ℕ
 comma s n = if some_below n s then codes "," else []
 
 -- The first run of a set's words from n on.
@@ -39,16 +40,16 @@ nothing_more : (b : Bool) (x : List ℕ) → (if b && false then x else []) ≡ 
 nothing_more true x = refl
 nothing_more false x = refl
 
-pub mark_first : (s : Words) (a : ℕ) → begins s a ≡ true → mark s a ≡ comma s a ++ octal_text a
+mark_first : (s : Words) (a : ℕ) → begins s a ≡ true → mark s a ≡ comma s a ++ octal_text a
 mark_first s a e = rw e (rw (nothing_more (ends s a) (codes "-" ++ octal_text a)) (append-nil (comma s a ++ octal_text a)))
 
-pub mark_last : (s : Words) (a : ℕ) → begins s a ≡ false → ends s a ≡ true → mark s a ≡ codes "-" ++ octal_text a
+mark_last : (s : Words) (a : ℕ) → begins s a ≡ false → ends s a ≡ true → mark s a ≡ codes "-" ++ octal_text a
 mark_last s a e f = rw (e, f) refl
 
-pub mark_none : (s : Words) (a : ℕ) → begins s a ≡ false → ends s a ≡ false → mark s a ≡ []
+mark_none : (s : Words) (a : ℕ) → begins s a ≡ false → ends s a ≡ false → mark s a ≡ []
 mark_none s a e f = rw (e, f) refl
 
-pub absent : (s : Words) (a : ℕ) → s a ≡ false → mark s a ≡ []
+absent : (s : Words) (a : ℕ) → s a ≡ false → mark s a ≡ []
 absent s a e = mark_none s a (rw e refl) (rw e refl)
 
 marks_split : (k n : ℕ) (s : Words) → marks (k + n) s ≡ marks n s ++ written k n s
@@ -179,11 +180,29 @@ to_first s n low high r =
     rw e at (passed (low - n) n s (omega arith) (λ v a b. r.before v a (omega arith)))
 
 -- What is written from a place before a run on.
-pub run_rest : (s : Words) (n low high : ℕ) → Run s n low high →
+run_rest : (s : Words) (n low high : ℕ) → Run s n low high →
     rest s n ≡ comma s low ++ run_text low high ++ rest s (high + 2)
 run_rest s n low high r =
     to_first s n low high r ∙ (run_here s n low high r ∙
     ap (λ (x : List ℕ). comma s low ++ run_text low high ++ x) (gap_rest s n low high r))
+
+-- So from a run on: the first one has no comma, and where words came before there is one.
+pub first_rest : (s : Words) (n low high : ℕ) → n ≡ 0 → Run s n low high → rest s n ≡ run_text low high ++ rest s (high + 2)
+first_rest s n low high e r =
+    let f : rest s n ≡ comma s low ++ run_text low high ++ rest s (high + 2) = run_rest s n low high r in
+    let g : comma s low ≡ [] = rw (some_none_of low s (λ v h. r.before v (omega arith) h)) refl in
+    rw g at f
+
+pub next_rest : (s : Words) (n low high : ℕ) → IsSome n s → Run s n low high → rest s n ≡ 44 ∷ (run_text low high ++ rest s (high + 2))
+next_rest s n low high w r =
+    let a : w.at < n = w.small in
+    let b : n ≤ low = r.reached in
+    let f : rest s n ≡ comma s low ++ run_text low high ++ rest s (high + 2) = run_rest s n low high r in
+    let g : comma s low ≡ 44 ∷ [] = rw (some_from low s w.at (omega arith) w.holds) refl in
+    rw g at f
+
+pub run_some : (s : Words) (n low high : ℕ) → Run s n low high → IsSome (high + 2) s
+run_some s n low high r = let q : low ≤ high = r.order in record { at = low; small = omega arith; holds = r.inside low (omega arith) q }
 
 -- A run may begin at n.
 abbrev pub StartsAt : Words → ℕ → Type 0

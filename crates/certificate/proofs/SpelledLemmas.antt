@@ -2,7 +2,7 @@
 use Rattle.std.proofs.Common.{◌≡◌, ◌⊎◌, ℕ, Option, drop, length-append, ◌+◌, ◌<◌, ◌≤◌, ◌==◌, Bool, true, false, List, [], ◌∷◌, ◌++◌, length, refl, ap, ◌∙◌, sym, inl, inr, arith, append_assoc, append-nil, get_or, length-take-le}
 use Rattle.std.specs.Prelude.{take, not, ◌&&◌, if◌then◌else◌, IsTrue}
 use Rattle.std.proofs.lemmas.Bool.{true≢false, eq-eqb, ne_eqb, cases_lt}
-use Rattle.std.proofs.lemmas.List.{take_all, take-append-le, take_more, take-append-drop}
+use Rattle.std.proofs.lemmas.List.{take_all, take-append-le, take_more, take-append-drop, drop_more, drop_all}
 use Rattle.std.proofs.Math.Seq.{take-add}
 use Rattle.std.specs.Io.KnownBytes.{Appends}
 use Rattle.std.proofs.KnownBytes.{Appends-trans}
@@ -11,13 +11,15 @@ use Rattle.streams.proofs.BytesLemmas.{front_after}
 use Rattle.certificate.specs.declared.Version.{Version}
 use Rattle.wordset.specs.Words.{Words, all_words, difference, IsFirstFrom, HasNoneFrom}
 use Rattle.wordset.proofs.Tests.{IsSome}
-use Rattle.certificate.specs.Spelling.{marks, digits, offsets_text, Line, line_text, ended, all_ended}
+use Rattle.certificate.specs.Spelling.{marks, set_text, digits, offsets_text, Line, line_text, ended, all_ended}
 use Rattle.certificate.specs.Fields.{run_text}
+use Rattle.certificate.specs.declared.packed.Run.{Run as Kept}
+use Rattle.certificate.specs.Packed.{set_of_runs, StandApart}
 use Rattle.certificate.specs.Spelled.{Adds, IsLastOf}
 use Rattle.certificate.proofs.TextLemmas.{both_ended}
 use Rattle.certificate.proofs.PackedLemmas.{still_in}
-use Rattle.certificate.proofs.SetLemmas.{rest, comma, Run, whole_rest, none_rest, run_rest, StartsAt, starts_after, a_run}
-use Rattle.certificate.proofs.RunLemmas.{no_comma, comma_rest}
+use Rattle.certificate.proofs.SetLemmas.{rest, Run, whole_rest, none_rest, first_rest, next_rest, run_some, StartsAt, starts_after, a_run}
+use Rattle.certificate.proofs.ApartLemmas.{RunsLeft, all_left, past_one, found, some_runs}
 use Rattle.certificate.proofs.DigitLemmas.{digits_more, digits_none, no_offsets, some_offsets, has_offset}
 
 take_twice : (xs ys : List ℕ) (n : ℕ) → take n (take n xs ++ ys) ≡ take n (xs ++ ys)
@@ -93,19 +95,12 @@ run_written old now mid new s n low high h a b run = record {
   adds = joined old mid new (h.text ++ (if n == 0 then [] else 44 ∷ [])) (run_text low high)
       (joined old now mid h.text (if n == 0 then [] else 44 ∷ []) h.adds a) b;
   starts = starts_after s n low high run;
-  some = inr (record { at = low; small = (let q : low ≤ high = run.order in omega arith); holds = run.inside low (omega arith) run.order });
+  some = inr (run_some s n low high run);
 }
   where
     next : (n ≡ 0) ⊎ IsSome n s → rest s n ≡ (if n == 0 then [] else 44 ∷ []) ++ (run_text low high ++ rest s (high + 2))
-    next (inl e) =
-        let f : rest s n ≡ comma s low ++ run_text low high ++ rest s (high + 2) = run_rest s n low high run in
-        let g : comma s low ≡ [] = no_comma s low (λ v k. run.before v (omega arith) k) in
-        let t : (n == 0) ≡ true = eq-eqb n 0 e in
-        rw t (rw g at f)
-    next (inr w) =
-        let f : rest s n ≡ 44 ∷ (run_text low high ++ rest s (high + 2)) = comma_rest s s n low high (λ v a b. refl) w run in
-        let t : (n == 0) ≡ false = ne_eqb n 0 (λ z. let p : w.at < n = w.small in omega arith) in
-        rw t f
+    next (inl e) = let t : (n == 0) ≡ true = eq-eqb n 0 e in rw t (first_rest s n low high e run)
+    next (inr w) = let t : (n == 0) ≡ false = ne_eqb n 0 (λ z. let p : w.at < n = w.small in omega arith) in rw t (next_rest s n low high w run)
 
 -- No run more.
 pub set_written : (old now : List ℕ) (s : Words) (n : ℕ) → SetSofar old now s n → HasNoneFrom n s → Adds old now (marks 4096 s)
@@ -113,6 +108,37 @@ set_written old now s n h none =
     let e : h.text ≡ marks 4096 s =
     sym (append-nil h.text) ∙ (ap (λ (x : List ℕ). h.text ++ x) (sym (none_rest s n none)) ∙ (h.is ∙ sym (whole_rest s))) in
     rw e at h.adds
+
+-- Runs as far as they're written.
+pub record RunsWritten (old now : List ℕ) (s : Words) (n : ℕ) (rs : List Kept) : Type 0 where
+  pub sofar : SetSofar old now s n
+  pub left : RunsLeft s n rs
+
+pub runs_begun : (old : List ℕ) (rs : List Kept) → StandApart 0 rs → RunsWritten old old (set_of_runs rs) 0 rs
+runs_begun old rs h = record { sofar = set_begun old (set_of_runs rs); left = all_left rs h }
+
+pub one_written : (old now mid new : List ℕ) (s : Words) (n i : ℕ) (rs : List Kept) (r : Kept) → i < length rs → r ≡ get_or rs i r →
+    RunsWritten old now s n (drop i rs) → Adds now mid (if n == 0 then [] else 44 ∷ []) → Adds mid new (run_text r.first r.last) →
+    RunsWritten old new s (r.last + 2) (drop (i + 1) rs)
+one_written old now mid new s n i rs r h is w a b =
+    let e : drop i rs ≡ r ∷ drop (i + 1) rs = drop_more rs i r h ∙ ap (λ (x : Kept). x ∷ drop (i + 1) rs) (sym is) in
+    let left : RunsLeft s n (r ∷ drop (i + 1) rs) = rw e at w.left in
+    record {
+      sofar = run_written old now mid new s n r.first r.last w.sofar a b (found s n r (drop (i + 1) rs) w.sofar.starts left);
+      left = past_one s n r (drop (i + 1) rs) left;
+    }
+
+none_left : (s : Words) (n : ℕ) (rs : List Kept) → rs ≡ [] → RunsLeft s n rs → HasNoneFrom n s
+none_left s n rs e h = λ v a b. rw e at (h.left v a b)
+
+pub runs_written : (old now : List ℕ) (s : Words) (n i : ℕ) (rs : List Kept) → length rs ≤ i → RunsWritten old now s n (drop i rs) → Adds old now (marks 4096 s)
+runs_written old now s n i rs h w = set_written old now s n w.sofar (none_left s n (drop i rs) (drop_all i rs h) w.left)
+
+-- The text of a set with a run.
+pub full_written : (old now : List ℕ) (rs : List Kept) → false ≡ (length rs == 0) → StandApart 0 rs → Adds old now (marks 4096 (set_of_runs rs)) →
+    Adds old now (set_text (set_of_runs rs))
+full_written old now [] some h a = absurd (true≢false (sym some))
+full_written old now (r ∷ rs) some h a = rw (some_runs 0 r rs h) a
 
 -- A text byte by byte.
 pub text_more : (old now new text : List ℕ) (i : ℕ) → i < length text → Adds old now (take i text) →

@@ -1,4 +1,4 @@
-use Rattle.certificate.proofs.ApartLemmas.{runs_begun, one_written, runs_written}
+use Rattle.certificate.proofs.SpelledLemmas.{runs_begun, one_written, runs_written}
 use Rattle.certificate.proofs.spelled.LineText.runs.Goals as goal
 
 pub loop-run-init : goal.loop-run-init

@@ -1,6 +1,6 @@
 use Rattle.std.proofs.Common.{drop}
 use Rattle.certificate.specs.Packed.{set_of_runs}
-use Rattle.certificate.proofs.ApartLemmas.{RunsWritten}
+use Rattle.certificate.proofs.SpelledLemmas.{RunsWritten}
 use Rattle.certificate.proofs.spelled.LineText.runs.Given as goal
 
 abbrev pub invariant-loop-run : goal.invariant-loop-run

@@ -11,7 +11,8 @@ use Rattle.certificate.specs.Spelling.{digits, set_text, offsets_text, mq_text, 
 use Rattle.certificate.specs.declared.packed.Run.{Run}
 use Rattle.certificate.specs.Fields.{run_text}
 use Rattle.certificate.specs.Packed.{StandApart}
-use Rattle.certificate.proofs.ApartLemmas.{more_text, by_words, empty_text}
+use Rattle.certificate.proofs.ApartLemmas.{more_text}
+use Rattle.certificate.proofs.SetLemmas.{by_words, empty_text}
 
 -- A run takes at most ten bytes for each three words.
 run_short : (r : Run) → r.first ≤ r.last → 3 * length (run_text r.first r.last) + 10 * r.first + 3 ≤ 10 * (r.last + 2)

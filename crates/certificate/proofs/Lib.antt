@@ -1,6 +1,6 @@
 pub mod TextLemmas
-pub mod SetLemmas
 pub mod ApartLemmas
+pub mod SetLemmas
 pub mod FieldsLemmas
 pub mod RunLemmas
 pub mod DigitLemmas

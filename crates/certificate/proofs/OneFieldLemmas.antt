@@ -10,8 +10,9 @@ use Rattle.certificate.specs.Reading.{place_of_name}
 use Rattle.certificate.specs.Fields.{run_text, NoDash, EndsField}
 use Rattle.certificate.specs.declared.packed.Run.{Run}
 use Rattle.certificate.specs.Packed.{set_of_runs, StandApart}
-use Rattle.certificate.proofs.ApartLemmas.{more_text, runs_text, by_words, empty_text}
-use Rattle.certificate.proofs.RunLemmas.{first_digit, no_dash, no_comma, run_is}
+use Rattle.certificate.proofs.ApartLemmas.{more_text, runs_text, run_is}
+use Rattle.certificate.proofs.SetLemmas.{by_words, empty_text}
+use Rattle.certificate.proofs.RunLemmas.{first_digit, no_dash, no_comma}
 use Rattle.certificate.proofs.DigitLemmas.{digit_at, digits_from, digits_none, digits_split, from_more, from_none, other_digit, by_digit, digit_first, all_from, no_offsets, some_offsets, by_offsets}
 
 pub word_one : (a b : ℕ) (x y : List ℕ) → a < 4096 → b < 4096 → octal_text a ++ x ≡ octal_text b ++ y → (a ≡ b) × (x ≡ y)

@@ -11,7 +11,8 @@ use Rattle.certificate.specs.declared.packed.Run.{Run}
 use Rattle.certificate.specs.Packed.{Begins, set_of_runs, added, StandApart}
 use Rattle.certificate.proofs.PackedLemmas.{no_run}
 use Rattle.certificate.proofs.DigitLemmas.{at_some}
-use Rattle.certificate.proofs.ApartLemmas.{more_text, runs_text, few_apart, text_of, some_runs, RunsOf, runs_of, Full, by_words, empty_text}
+use Rattle.certificate.proofs.ApartLemmas.{more_text, runs_text, few_apart, run_is}
+use Rattle.certificate.proofs.SetLemmas.{text_of, some_runs, RunsOf, runs_of, Full, by_words, empty_text}
 
 -- These are runs that stand apart, and their text came before the rest of a line.
 record Whole (old : Option (List ℕ)) (rs : List Run) (tail : List ℕ) : Type 0 where
@@ -84,9 +85,6 @@ no_dash (r ∷ rs) tail ends = λ q. absurd (omega arith)
 pub no_comma : (tail x : List ℕ) → EndsField tail → tail ≡ 44 ∷ x → ⊥
 no_comma [] x ends e = absurd (cc)
 no_comma (c ∷ cs) x ends e = let z : c ≡ 44 = cc in omega arith
-
-pub run_is : (a b : Run) → a.first ≡ b.first → a.last ≡ b.last → a ≡ b
-run_is a b e f = ap (λ (n : ℕ). record a { first = n }) e ∙ ap (λ (n : ℕ). record b { last = n }) f
 
 one_more : (old now mid : Option (List ℕ)) (before runs new : List Run) (n m : ℕ) (run : Run) → RunsRead old now before runs n →
     RunRead n now mid run.first run.last → m ≡ run.last → m < 4096 → new ≡ runs ++ run ∷ [] → OneMore old mid before new (m + 2)

@@ -1,8 +1,8 @@
 -- The text of a line while it's written.
-use Rattle.std.proofs.Common.{◌≡◌, ◌⊎◌, ℕ, Option, drop, length-append, ◌+◌, ◌<◌, ◌≤◌, ◌==◌, Bool, true, false, List, [], ◌∷◌, ◌++◌, length, refl, ap, ◌∙◌, sym, inl, inr, arith, append_assoc, append-nil, get_or, length-take-le}
-use Rattle.std.specs.Prelude.{take, not, ◌&&◌, if◌then◌else◌, IsTrue}
-use Rattle.std.proofs.lemmas.Bool.{true≢false, eq-eqb, ne_eqb, cases_lt}
-use Rattle.std.proofs.lemmas.List.{take_all, take-append-le, take_more, take-append-drop, drop_more, drop_all}
+use Rattle.std.proofs.Common.{◌≡◌, ℕ, Option, drop, length-append, ◌+◌, ◌<◌, ◌≤◌, ◌==◌, Bool, false, List, [], ◌∷◌, ◌++◌, length, refl, ap, ◌∙◌, sym, inl, inr, arith, append_assoc, append-nil, get_or, length-take-le}
+use Rattle.std.specs.Prelude.{take, if◌then◌else◌, IsTrue}
+use Rattle.std.proofs.lemmas.Bool.{true≢false, ne_eqb, cases_lt}
+use Rattle.std.proofs.lemmas.List.{take_all, take-append-le, take_more, take-append-drop}
 use Rattle.std.proofs.Math.Seq.{take-add}
 use Rattle.std.specs.Io.KnownBytes.{Appends}
 use Rattle.std.proofs.KnownBytes.{Appends-trans}
@@ -10,16 +10,14 @@ use Rattle.streams.specs.Bytes.{AppendsFront}
 use Rattle.streams.proofs.BytesLemmas.{front_after}
 use Rattle.certificate.specs.declared.Version.{Version}
 use Rattle.wordset.specs.Words.{Words, all_words, difference, IsFirstFrom, HasNoneFrom}
-use Rattle.wordset.proofs.Tests.{IsSome}
 use Rattle.certificate.specs.Spelling.{marks, set_text, digits, offsets_text, Line, line_text, ended, all_ended}
 use Rattle.certificate.specs.Fields.{run_text}
-use Rattle.certificate.specs.declared.packed.Run.{Run as Kept}
+use Rattle.certificate.specs.declared.packed.Run.{Run}
 use Rattle.certificate.specs.Packed.{set_of_runs, StandApart}
 use Rattle.certificate.specs.Spelled.{Adds, IsLastOf}
 use Rattle.certificate.proofs.TextLemmas.{both_ended}
-use Rattle.certificate.proofs.PackedLemmas.{still_in}
-use Rattle.certificate.proofs.SetLemmas.{rest, Run, whole_rest, none_rest, first_rest, next_rest, run_some, StartsAt, starts_after, a_run}
-use Rattle.certificate.proofs.ApartLemmas.{RunsLeft, all_left, past_one, found, some_runs}
+use Rattle.certificate.proofs.SetLemmas.{text_of, text_all, some_runs}
+use Rattle.certificate.proofs.ApartLemmas.{runs_text, comma, has_more, runs_more, taken, Closed, none_closed, found_run, closed_all, closed_apart}
 use Rattle.certificate.proofs.DigitLemmas.{digits_more, digits_none, no_offsets, some_offsets, has_offset}
 
 take_twice : (xs ys : List ℕ) (n : ℕ) → take n (take n xs ++ ys) ≡ take n (xs ++ ys)
@@ -53,89 +51,56 @@ whole xs ys text none h a b =
     let e : take 32769 ys ≡ take 32769 text = rw none at h.is in
     sym (take_all 32769 ys a) ∙ (e ∙ take_all 32769 text b)
 
--- A set as far as it's written: its runs before a word.
-pub record SetSofar (old now : List ℕ) (s : Words) (n : ℕ) : Type 0 where
-  pub text : List ℕ
-  pub is : text ++ rest s n ≡ rest s 0
-  pub adds : Adds old now text
-  pub starts : StartsAt s n
-  pub some : (n ≡ 0) ⊎ IsSome n s
+-- Runs as far as they're written, and whether a comma comes next.
+pub record RunsWritten (old now : List ℕ) (rs : List Run) (n : ℕ) : Type 0 where
+  pub adds : Adds old now (runs_text rs)
+  pub comma_is : (if n == 0 then [] else 44 ∷ []) ≡ comma rs
 
-pub set_begun : (old : List ℕ) (s : Words) → SetSofar old old s 0
-set_begun old s = record { text = []; is = refl; adds = none old; starts = λ h. refl; some = inl refl }
+pub runs_begun : (old : List ℕ) → RunsWritten old old [] 0
+runs_begun old = record { adds = none old; comma_is = refl }
 
--- The next run.
-pub found_run : (s others : Words) (n low high : ℕ) → StartsAt s n → IsFirstFrom n s low → IsLastOf others low high →
-    ((v : ℕ) → others v ≡ difference all_words s v) → Run s n low high
-found_run s others n low high starts f l are =
-    a_run s n low high starts f.reached l.order l.small f.before
-    (λ v a b. still_in s v (let q : high < 4096 = l.small in omega arith) (sym (are v) ∙ l.inside v a b)) (after l.stops)
-  where
-    gone : (v : ℕ) → difference all_words s v ≡ true → s v ≡ false
-    gone v e = go (s v) (all_words v) e
-      where
-        go : (b c : Bool) → (c && not b) ≡ true → b ≡ false
-        go false c q = refl
-        go true true q = absurd (true≢false (sym q))
-        go true false q = absurd (true≢false (sym q))
-
-    after : (high ≡ 4095) ⊎ (others (high + 1) ≡ true) → high < 4095 → s (high + 1) ≡ false
-    after (inl e) w = absurd (omega arith)
-    after (inr e) w = gone (high + 1) (sym (are (high + 1)) ∙ e)
-
--- A run more.
-pub run_written : (old now mid new : List ℕ) (s : Words) (n low high : ℕ) → SetSofar old now s n →
-    Adds now mid (if n == 0 then [] else 44 ∷ []) → Adds mid new (run_text low high) → Run s n low high → SetSofar old new s (high + 2)
-run_written old now mid new s n low high h a b run = record {
-  text = h.text ++ (if n == 0 then [] else 44 ∷ []) ++ run_text low high;
-  is =
-      append_assoc (h.text ++ (if n == 0 then [] else 44 ∷ [])) (run_text low high) (rest s (high + 2)) ∙
-      (append_assoc h.text (if n == 0 then [] else 44 ∷ []) (run_text low high ++ rest s (high + 2)) ∙
-      (ap (λ (x : List ℕ). h.text ++ x) (sym (next h.some)) ∙ h.is));
-  adds = joined old mid new (h.text ++ (if n == 0 then [] else 44 ∷ [])) (run_text low high)
-      (joined old now mid h.text (if n == 0 then [] else 44 ∷ []) h.adds a) b;
-  starts = starts_after s n low high run;
-  some = inr (run_some s n low high run);
-}
-  where
-    next : (n ≡ 0) ⊎ IsSome n s → rest s n ≡ (if n == 0 then [] else 44 ∷ []) ++ (run_text low high ++ rest s (high + 2))
-    next (inl e) = let t : (n == 0) ≡ true = eq-eqb n 0 e in rw t (first_rest s n low high e run)
-    next (inr w) = let t : (n == 0) ≡ false = ne_eqb n 0 (λ z. let p : w.at < n = w.small in omega arith) in rw t (next_rest s n low high w run)
-
--- No run more.
-pub set_written : (old now : List ℕ) (s : Words) (n : ℕ) → SetSofar old now s n → HasNoneFrom n s → Adds old now (marks 4096 s)
-set_written old now s n h none =
-    let e : h.text ≡ marks 4096 s =
-    sym (append-nil h.text) ∙ (ap (λ (x : List ℕ). h.text ++ x) (sym (none_rest s n none)) ∙ (h.is ∙ sym (whole_rest s))) in
-    rw e at h.adds
-
--- Runs as far as they're written.
-pub record RunsWritten (old now : List ℕ) (s : Words) (n : ℕ) (rs : List Kept) : Type 0 where
-  pub sofar : SetSofar old now s n
-  pub left : RunsLeft s n rs
-
-pub runs_begun : (old : List ℕ) (rs : List Kept) → StandApart 0 rs → RunsWritten old old (set_of_runs rs) 0 rs
-runs_begun old rs h = record { sofar = set_begun old (set_of_runs rs); left = all_left rs h }
-
-pub one_written : (old now mid new : List ℕ) (s : Words) (n i : ℕ) (rs : List Kept) (r : Kept) → i < length rs → r ≡ get_or rs i r →
-    RunsWritten old now s n (drop i rs) → Adds now mid (if n == 0 then [] else 44 ∷ []) → Adds mid new (run_text r.first r.last) →
-    RunsWritten old new s (r.last + 2) (drop (i + 1) rs)
-one_written old now mid new s n i rs r h is w a b =
-    let e : drop i rs ≡ r ∷ drop (i + 1) rs = drop_more rs i r h ∙ ap (λ (x : Kept). x ∷ drop (i + 1) rs) (sym is) in
-    let left : RunsLeft s n (r ∷ drop (i + 1) rs) = rw e at w.left in
+run_written : (old now mid new : List ℕ) (rs : List Run) (n : ℕ) (r : Run) → RunsWritten old now rs n →
+    Adds now mid (if n == 0 then [] else 44 ∷ []) → Adds mid new (run_text r.first r.last) → RunsWritten old new (rs ++ r ∷ []) (r.last + 2)
+run_written old now mid new rs n r h a b =
+    let c : Adds now mid (comma rs) = rw h.comma_is at a in
     record {
-      sofar = run_written old now mid new s n r.first r.last w.sofar a b (found s n r (drop (i + 1) rs) w.sofar.starts left);
-      left = past_one s n r (drop (i + 1) rs) left;
+      adds = rw (runs_more rs r) (joined old mid new (runs_text rs ++ comma rs) (run_text r.first r.last) (joined old now mid (runs_text rs) (comma rs) h.adds c) b);
+      comma_is = rw (ne_eqb (r.last + 2) 0 (λ z. omega arith), has_more rs r) refl;
     }
 
-none_left : (s : Words) (n : ℕ) (rs : List Kept) → rs ≡ [] → RunsLeft s n rs → HasNoneFrom n s
-none_left s n rs e h = λ v a b. rw e at (h.left v a b)
+pub one_written : (old now mid new : List ℕ) (rs : List Run) (n i : ℕ) (r : Run) → i < length rs → r ≡ get_or rs i r → RunsWritten old now (take i rs) n →
+    Adds now mid (if n == 0 then [] else 44 ∷ []) → Adds mid new (run_text r.first r.last) → RunsWritten old new (take (i + 1) rs) (r.last + 2)
+one_written old now mid new rs n i r h is w a b = rw (taken rs i r h is) (run_written old now mid new (take i rs) n r w a b)
 
-pub runs_written : (old now : List ℕ) (s : Words) (n i : ℕ) (rs : List Kept) → length rs ≤ i → RunsWritten old now s n (drop i rs) → Adds old now (marks 4096 s)
-runs_written old now s n i rs h w = set_written old now s n w.sofar (none_left s n (drop i rs) (drop_all i rs h) w.left)
+pub runs_written : (old now : List ℕ) (rs : List Run) (n i : ℕ) → StandApart 0 rs → length rs ≤ i → RunsWritten old now (take i rs) n → Adds old now (marks 4096 (set_of_runs rs))
+runs_written old now rs n i apart h w =
+    let e : runs_text (take i rs) ≡ marks 4096 (set_of_runs rs) = ap runs_text (take_all i rs h) ∙ sym (text_of rs apart) in
+    rw e at w.adds
+
+-- A set as far as it's written: its runs before a word.
+pub record SetSofar (old now : List ℕ) (s : Words) (n : ℕ) : Type 0 where
+  pub runs : List Run
+  pub closed : Closed s runs n n
+  pub written : RunsWritten old now runs n
+
+pub set_begun : (old : List ℕ) (s : Words) → SetSofar old old s 0
+set_begun old s = record { runs = []; closed = none_closed s; written = runs_begun old }
+
+pub set_more : (old now mid new : List ℕ) (s others : Words) (n : ℕ) (r : Run) → SetSofar old now s n → IsFirstFrom n s r.first → IsLastOf others r.first r.last →
+    others ≡ difference all_words s → Adds now mid (if n == 0 then [] else 44 ∷ []) → Adds mid new (run_text r.first r.last) → SetSofar old new s (r.last + 2)
+set_more old now mid new s others n r h f l are a b = record {
+  runs = h.runs ++ r ∷ [];
+  closed = found_run s others h.runs n r h.closed f l are;
+  written = run_written old now mid new h.runs n r h.written a b;
+}
+
+pub set_written : (old now : List ℕ) (s : Words) (n : ℕ) → SetSofar old now s n → HasNoneFrom n s → Adds old now (marks 4096 s)
+set_written old now s n h none =
+    let e : marks 4096 s ≡ runs_text h.runs = text_all s h.runs (closed_apart s h.runs n n h.closed) (closed_all s h.runs n n h.closed none) in
+    rw e h.written.adds
 
 -- The text of a set with a run.
-pub full_written : (old now : List ℕ) (rs : List Kept) → false ≡ (length rs == 0) → StandApart 0 rs → Adds old now (marks 4096 (set_of_runs rs)) →
+pub full_written : (old now : List ℕ) (rs : List Run) → false ≡ (length rs == 0) → StandApart 0 rs → Adds old now (marks 4096 (set_of_runs rs)) →
     Adds old now (set_text (set_of_runs rs))
 full_written old now [] some h a = absurd (true≢false (sym some))
 full_written old now (r ∷ rs) some h a = rw (some_runs 0 r rs h) a

@@ -162,7 +162,7 @@ fn push_runs<A: Allocator>(runs: &mut Vec<Run, A>, set: &WordSet) -> Result<(), 
     while let Some(first) = set.first_from(next) {
         let last = last_before(&others, first);
         runs.push(Run { first, last })?;
-        next = last.index() + 1;
+        next = last.index() + 2;
     }
     Ok(())
 }

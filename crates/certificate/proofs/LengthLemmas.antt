@@ -1,20 +1,75 @@
--- How many bytes a line of a certificate has at most.
-use Rattle.std.proofs.Common.{◌≡◌, ℕ, zero, suc, ◌+◌, ◌*◌, ◌<◌, ◌≤◌, ◌==◌, Bool, true, false, List, [], ◌∷◌, ◌++◌, length, inl, inr, arith, length-append}
+-- A line's text has no line feed and at most 32,768 bytes.
+use Rattle.std.proofs.Common.{◌≡◌, ℕ, zero, suc, ◌+◌, ◌*◌, ◌/◌, ◌%◌, ◌<◌, ◌≤◌, ◌==◌, Bool, true, false, not, ◌&&◌, List, [], ◌∷◌, ◌++◌, length, take, refl, ◌∙◌, sym, inl, inr, arith, length-append}
 use Rattle.std.specs.Prelude.{if◌then◌else◌, codes}
-use Rattle.std.proofs.lemmas.Bool.{eq-eqb, ne_eqb, cases_lt}
+use Rattle.std.proofs.lemmas.Bool.{false≢true, eq-eqb, ne_eqb, cases_lt}
 use Rattle.word12.specs.Words.{octal_text}
 use Rattle.wordset.specs.Words.{Words, some_below}
 use Rattle.domain.specs.Facts.{Name, Ac, Cell}
 use Rattle.certificate.specs.declared.Version.{Version}
 use Rattle.certificate.specs.declared.Version.TheVariants.{One, Two}
-use Rattle.certificate.specs.Spelling.{digits, set_text, offsets_text, mq_text, name_text, Registers, Line, RoutineIs, FactIs, ExitIs, CellIs, EquationIs, End, words_text, rank_text, line_text}
 use Rattle.certificate.specs.declared.packed.Run.{Run}
+use Rattle.certificate.specs.Spelling.{digits, set_text, offsets_text, mq_text, name_text, version_text, Registers, Line, RoutineIs, FactIs, ExitIs, CellIs, EquationIs, End, words_text, rank_text, line_text}
 use Rattle.certificate.specs.Fields.{run_text}
+use Rattle.certificate.specs.Faults.{NoFeed}
 use Rattle.certificate.specs.Packed.{StandApart}
 use Rattle.certificate.proofs.ApartLemmas.{more_text}
 use Rattle.certificate.proofs.SetLemmas.{by_words, empty_text}
 
--- A run takes at most ten bytes for each three words.
+-- Bytes with no line feed.
+feedless : List ℕ → Bool
+feedless [] = true
+feedless (c ∷ cs) = not (c == 10) && feedless cs
+
+no_feeds : (cs : List ℕ) → feedless cs ≡ true → NoFeed cs
+unfolding feedless
+no_feeds [] e = tt
+no_feeds (c ∷ cs) e = go (c == 10) refl e (no_feeds cs)
+  where
+    go : (b : Bool) → (c == 10) ≡ b → (not b && feedless cs) ≡ true → (feedless cs ≡ true → NoFeed cs) → NoFeed (c ∷ cs)
+    go true q f more = absurd (false≢true f)
+    go false q f more = (λ z. false≢true (sym q ∙ eq-eqb c 10 z), more f)
+
+pub no_feed_both : (xs ys : List ℕ) → NoFeed xs → NoFeed ys → NoFeed (xs ++ ys)
+no_feed_both [] ys f g = g
+no_feed_both (x ∷ xs) ys f g = (f.0, no_feed_both xs ys f.1 g)
+
+pub feed_taken : (k : ℕ) (xs : List ℕ) → NoFeed xs → NoFeed (take k xs)
+feed_taken zero [] h = tt
+feed_taken zero (x ∷ xs) h = tt
+feed_taken (suc k) [] h = tt
+feed_taken (suc k) (x ∷ xs) h = (h.0, feed_taken k xs h.1)
+
+-- A part of a line's text, of at most so many bytes.
+record Part (n : ℕ) (xs : List ℕ) : Type 0 where
+  feed : NoFeed xs
+  short : length xs ≤ n
+
+both : {n m : ℕ} {xs ys : List ℕ} → Part n xs → Part m ys → Part (n + m) (xs ++ ys)
+both {xs} {ys} p q = record {
+  feed = no_feed_both xs ys p.feed q.feed;
+  short = (let a = p.short in let b = q.short in omega (arith, a, b, length-append xs ys));
+}
+
+most : {n m : ℕ} {xs : List ℕ} → Part n xs → n ≤ m → Part m xs
+most p h = record { feed = p.feed; short = (let a = p.short in omega (arith, a, h)) }
+
+choice : {n : ℕ} {xs ys : List ℕ} (b : Bool) → Part n xs → Part n ys → Part n (if b then xs else ys)
+choice true p q = p
+choice false p q = q
+
+none : {n : ℕ} → Part n []
+none = record { feed = tt; short = omega arith }
+
+as_is : (xs : List ℕ) → feedless xs ≡ true → Part (length xs) xs
+as_is xs e = record { feed = no_feeds xs e; short = omega arith }
+
+digit : (n : ℕ) → Part 1 ((48 + n) ∷ [])
+digit n = record { feed = ((λ z. omega arith), tt); short = omega arith }
+
+word : (n : ℕ) → Part 4 (octal_text n)
+word n = record { feed = (λ z. omega arith, (λ z. omega arith, (λ z. omega arith, (λ z. omega arith, tt)))); short = omega arith }
+
+-- A run takes at most ten bytes for each three words, with its comma and the gap after it.
 run_short : (r : Run) → r.first ≤ r.last → 3 * length (run_text r.first r.last) + 10 * r.first + 3 ≤ 10 * (r.last + 2)
 run_short r order = elim (cases_lt r.first r.last) [
   | inl h ↦ (let e : (r.first == r.last) ≡ false = ne_eqb r.first r.last (λ z. omega arith) in rw e (omega arith))
@@ -30,92 +85,70 @@ more_short n (r ∷ rs) few h =
     let d : 3 * length (more_text rs) + 10 * (r.last + 2) ≤ 40970 = more_short (r.last + 2) rs (omega arith) h.3 in
     omega (arith, length-append (run_text r.first r.last) (more_text rs))
 
-set_short : (s : Words) → length (set_text s) ≤ 13656
-set_short s = elim (by_words s) [
+run_feed : (low high : ℕ) → NoFeed (run_text low high)
+unfolding feedless
+run_feed low high = (both (word low) (choice (low == high) none (both (as_is (codes "-") refl) (word high)))).feed
+
+more_feed : (rs : List Run) → NoFeed (more_text rs)
+more_feed [] = tt
+more_feed (r ∷ rs) = ((λ z. omega arith), no_feed_both (run_text r.first r.last) (more_text rs) (run_feed r.first r.last) (more_feed rs))
+
+-- The parts of a line.
+set : (s : Words) → Part 13656 (set_text s)
+set s = elim (by_words s) [
   | inl f ↦ (
       let a : 3 * length (more_text (f.runs.first ∷ f.runs.more)) + 10 * 0 ≤ 40970 = more_short 0 (f.runs.first ∷ f.runs.more) (omega arith) f.runs.apart in
-      rw f.text (omega (arith, a)))
-  | inr none ↦ rw (empty_text s none) (omega arith)
+      rw f.text (record { feed = (more_feed (f.runs.first ∷ f.runs.more)).1; short = omega (arith, a) }))
+  | inr empty ↦ rw (empty_text s empty) (record { feed = ((λ z. omega arith), tt); short = omega arith })
 ]
 
-digits_short : (n : ℕ) (s : Words) → length (digits n s) ≤ n
+digits_of : (n : ℕ) (s : Words) → Part n (digits n s)
 unfolding digits
-digits_short zero s = omega arith
-digits_short (suc n) s =
-    let a : length (digits n s) ≤ n = digits_short n s in
-    let b : length (if s n then (48 + n) ∷ [] else []) ≤ 1 = one (s n) in
-    omega (arith, length-append (digits n s) (if s n then (48 + n) ∷ [] else []))
-  where
-    one : (b : Bool) → length (if b then (48 + n) ∷ [] else []) ≤ 1
-    one true = omega arith
-    one false = omega arith
+digits_of zero s = none
+digits_of (suc n) s = most (both (digits_of n s) (choice (s n) (digit n) none)) (omega arith)
 
-offsets_short : (s : Words) → length (offsets_text s) ≤ 8
-offsets_short s = go (some_below 8 s)
-  where
-    all : length (digits 8 s) ≤ 8
-    all = digits_short 8 s
+offsets : (s : Words) → Part 8 (offsets_text s)
+unfolding feedless
+offsets s = choice (some_below 8 s) (digits_of 8 s) (most (as_is (codes "-") refl) (omega arith))
 
-    go : (b : Bool) → length (if b then digits 8 s else codes "-") ≤ 8
-    go true = all
-    go false = omega arith
+mq : (v : Version) (s : Words) → Part 13660 (mq_text v s)
+unfolding feedless
+mq One s = none
+mq Two s = both (as_is (codes " mq ") refl) (set s)
 
-mq_short : (v : Version) (s : Words) → length (mq_text v s) ≤ 13660
-mq_short One s = omega arith
-mq_short Two s = let a : length (set_text s) ≤ 13656 = set_short s in omega (arith, length-append (codes " mq ") (set_text s))
+registers : (v : Version) (r : Registers) → Part 27328 (words_text v r)
+unfolding feedless
+registers v r = both (both (both (both (as_is (codes " ac ") refl) (set r.ac)) (mq v r.mq)) (as_is (codes " link ") refl)) (digits_of 2 r.link)
 
-words_short : (v : Version) (r : Registers) → length (words_text v r) ≤ 27330
-words_short v r =
-    let a : length (set_text r.ac) ≤ 13656 = set_short r.ac in
-    let b : length (mq_text v r.mq) ≤ 13660 = mq_short v r.mq in
-    let c : length (digits 2 r.link) ≤ 2 = digits_short 2 r.link in
-    omega (
-      arith,
-      length-append (codes " ac ") (set_text r.ac),
-      length-append (codes " ac " ++ set_text r.ac) (mq_text v r.mq),
-      length-append (codes " ac " ++ set_text r.ac ++ mq_text v r.mq) (codes " link "),
-      length-append (codes " ac " ++ set_text r.ac ++ mq_text v r.mq ++ codes " link ") (digits 2 r.link),
-    )
+name : (n : Name) → Part 4 (name_text n)
+unfolding feedless
+name Ac = most (as_is (codes "AC") refl) (omega arith)
+name (Cell a) = word a
 
-name_short : (n : Name) → length (name_text n) ≤ 4
-name_short Ac = omega arith
-name_short (Cell a) = omega arith
+rank : (n : ℕ) → Part 2 (rank_text n)
+rank n = both (digit (n / 8)) (digit (n % 8))
 
--- Pieces of a line joined.
-five : (a b c d e : List ℕ) → length (a ++ b ++ c ++ d ++ e) ≡ length a + length b + length c + length d + length e
-five a b c d e = simp length-append (omega arith)
+line : (v : Version) (l : Line) → Part 32768 (line_text v l)
+unfolding feedless
+line v (RoutineIs r) =
+    most (both (both (both (both (both (both (both (as_is (codes "routine ") refl) (word r.entry)) (as_is (codes " rank ") refl)) (rank r.rank))
+    (as_is (codes " sites ") refl)) (set r.sites)) (as_is (codes " writes ") refl)) (set r.writes)) (omega arith)
+line v (FactIs a r o) =
+    most (both (both (both (both (as_is (codes "fact ") refl) (word a)) (registers v r)) (as_is (codes " offsets ") refl)) (offsets o)) (omega arith)
+line v (ExitIs e o r) = most (both (both (both (as_is (codes "exit ") refl) (word e)) (as_is (codes " ") refl)) (both (digit o) (registers v r))) (omega arith)
+line v (CellIs c) = most (both (both (both (as_is (codes "cell ") refl) (word c.address)) (as_is (codes " ") refl)) (set c.set)) (omega arith)
+line v (EquationIs e) =
+    most (both (both (both (both (both (as_is (codes "equal ") refl) (name e.left)) (as_is (codes " ") refl)) (name e.right)) (as_is (codes " ") refl)) (word e.more))
+    (omega arith)
+line v End = most (as_is (codes "end") refl) (omega arith)
 
-four : (a b c d : List ℕ) → length (a ++ b ++ c ++ d) ≡ length a + length b + length c + length d
-four a b c d = simp length-append (omega arith)
-
-eight : (a b c d e f g h : List ℕ) → length (a ++ b ++ c ++ d ++ e ++ f ++ g ++ h) ≡
-    length a + length b + length c + length d + length e + length f + length g + length h
-eight a b c d e f g h = simp length-append (omega arith)
-
-six : (a b c d e f : List ℕ) → length (a ++ b ++ c ++ d ++ e ++ f) ≡ length a + length b + length c + length d + length e + length f
-six a b c d e f = simp length-append (omega arith)
+pub line_feed : (v : Version) (l : Line) → NoFeed (line_text v l)
+line_feed v l = (line v l).feed
 
 pub line_short : (v : Version) (l : Line) → length (line_text v l) ≤ 32768
-line_short v (RoutineIs r) =
-    let a : length (set_text r.sites) ≤ 13656 = set_short r.sites in
-    let b : length (set_text r.writes) ≤ 13656 = set_short r.writes in
-    omega (
-      arith,
-      eight (codes "routine ") (octal_text r.entry) (codes " rank ") (rank_text r.rank) (codes " sites ") (set_text r.sites)
-          (codes " writes ") (set_text r.writes),
-    )
-line_short v (FactIs a r offsets) =
-    let b : length (words_text v r) ≤ 27330 = words_short v r in
-    let c : length (offsets_text offsets) ≤ 8 = offsets_short offsets in
-    omega (arith, five (codes "fact ") (octal_text a) (words_text v r) (codes " offsets ") (offsets_text offsets))
-line_short v (ExitIs e o r) =
-    let b : length (words_text v r) ≤ 27330 = words_short v r in
-    omega (arith, four (codes "exit ") (octal_text e) (codes " ") ((48 + o) ∷ words_text v r))
-line_short v (CellIs c) =
-    let a : length (set_text c.set) ≤ 13656 = set_short c.set in
-    omega (arith, four (codes "cell ") (octal_text c.address) (codes " ") (set_text c.set))
-line_short v (EquationIs e) =
-    let a : length (name_text e.left) ≤ 4 = name_short e.left in
-    let b : length (name_text e.right) ≤ 4 = name_short e.right in
-    omega (arith, six (codes "equal ") (name_text e.left) (codes " ") (name_text e.right) (codes " ") (octal_text e.more))
-line_short v End = omega arith
+line_short v l = (line v l).short
+
+pub version_feed : (v : Version) → NoFeed (version_text v)
+unfolding feedless
+version_feed One = no_feeds (codes "PDP8-CERTIFICATE 1") refl
+version_feed Two = no_feeds (codes "PDP8-CERTIFICATE 2") refl

@@ -3,7 +3,6 @@ use Rattle.std.proofs.Common.{◌≡◌, ℕ, suc, ◌+◌, ◌≤◌, true, fal
 use Rattle.std.specs.Prelude.{IfSome}
 use Rattle.std.proofs.lemmas.Bool.{true≢false}
 use Rattle.wordset.specs.Words.{Words, everything, between}
-use Rattle.wordset.specs.Lanes.{words}
 use Rattle.domain.specs.Facts.{Equation}
 use Rattle.domain.specs.Statements.{TrackedCell, Statement, fact_of}
 use Rattle.certificate.specs.declared.RoutineClaim.{RoutineClaim}
@@ -17,7 +16,7 @@ use Rattle.certificate.specs.Adding.{with_line, HasRoomFor, HasRoomUnder, IsFact
 use Rattle.std.specs.Prelude.{◌<◌, ◌-◌, ◌&&◌, take, slice_range}
 use Rattle.std.proofs.lemmas.List.{drop_more}
 use Rattle.wordset.proofs.SetLemmas.{equal_words, all_everything}
-use Rattle.certificate.proofs.PackedLemmas.{set_is, runs_past, above_between}
+use Rattle.certificate.proofs.PackedLemmas.{runs_past, above_between}
 
 -- The set of one run.
 pub one_run : (r : Run) → r.last < 4096 → set_of_runs (r ∷ []) ≡ between r.first r.last
@@ -33,12 +32,6 @@ row_there runs i n d one within is small =
     let there : slice_range runs i (i + n) ≡ d ∷ [] =
     rw one (ap (take (i + 1 - i)) (drop_more runs i d b) ∙ (let k : i + 1 - i ≡ 1 = omega arith in rw (k, ← is) refl)) in
     ap set_of_runs there ∙ one_run d small
-
--- The set of a single run.
-pub single : (lanes : List ℕ) (rs : List Run) (d e : Run) → length rs ≡ 1 → words lanes ≡ between (get_or rs 0 d).first (get_or rs 0 e).last → words lanes ≡ set_of_runs rs
-single lanes [] d e one is = absurd (omega arith)
-single lanes (x ∷ []) d e one is = set_is lanes (x ∷ []) (λ v h. ap (λ (f : Words). f v) is)
-single lanes (x ∷ y ∷ rs) d e one is = absurd (omega arith)
 
 -- A cell and an equation more.
 cell_added : (s : Statement) (t : TrackedCell) (ls : List Line) →

@@ -14,7 +14,8 @@ use Rattle.certificate.specs.Exact.{FaultLaw, IsAnswered}
 use Rattle.std.proofs.lemmas.List.{take-append-le}
 use Rattle.std.proofs.Math.Seq.{take-append-add}
 use Rattle.certificate.proofs.TextLemmas.{seam}
-use Rattle.certificate.proofs.OneLineLemmas.{line_one, feed_taken}
+use Rattle.certificate.proofs.OneLineLemmas.{line_one}
+use Rattle.certificate.proofs.LengthLemmas.{feed_taken}
 use Rattle.certificate.proofs.OneFaultLemmas.{alike_self, stand_same, no_fault, one_fault}
 use Rattle.certificate.proofs.DecideLemmas.{Decided, is_less, same_bytes, some_line}
 

@@ -1,27 +1,70 @@
--- Runs that stand apart: they are the maximal ones of their set.
-use Rattle.std.proofs.Common.{◌≡◌, ℕ, ◌+◌, ◌<◌, ◌≤◌, ◌==◌, true, false, ◌||◌, List, [], ◌∷◌, ◌++◌, take, refl, ap, ◌∙◌, sym, arith, append_assoc, append-nil, length, get_or, drop}
+-- Runs that stand apart: their text, their set, and how far a set is gone through by them.
+use Rattle.std.proofs.Common.{◌≡◌, ◌⊎◌, ℕ, ◌+◌, ◌*◌, ◌<◌, ◌≤◌, Bool, true, false, not, ◌&&◌, ◌||◌, List, [], ◌∷◌, ◌++◌, length, get_or, take, drop, refl, ap, ◌∙◌, sym, inl, inr, arith, append_assoc, append-nil, length-append}
 use Rattle.std.specs.Prelude.{if◌then◌else◌}
-use Rattle.std.proofs.lemmas.Bool.{true≢false}
-use Rattle.std.proofs.lemmas.List.{take_all, take_more, drop_more, drop_all}
+use Rattle.std.proofs.lemmas.Bool.{true≢false, cases_lt}
+use Rattle.std.proofs.lemmas.List.{take_all, take_more, drop_at}
 use Rattle.std.proofs.Math.Bool.{or-false, or_assoc}
-use Rattle.wordset.specs.Words.{Words, nothing, between, union, has_some, HasNoneFrom}
-use Rattle.wordset.proofs.Tests.{some_from}
+use Rattle.wordset.specs.Words.{Words, nothing, between, union, difference, all_words, IsFirstFrom, HasNoneFrom}
+use Rattle.wordset.specs.Lanes.{words}
 use Rattle.certificate.specs.declared.packed.Run.{Run}
-use Rattle.certificate.specs.Spelling.{marks, set_text}
 use Rattle.certificate.specs.Fields.{run_text}
-use Rattle.certificate.specs.Spelled.{Adds}
-use Rattle.certificate.specs.Packed.{joined, set_of_runs, StandApart}
-use Rattle.certificate.proofs.SetLemmas.{Run as SetRun, StartsAt, a_run}
-use Rattle.certificate.proofs.PackedLemmas.{or_with, in_between, below_between, above_between, runs_within}
-use Rattle.certificate.proofs.SpelledLemmas.{SetSofar, set_begun, run_written, set_written}
+use Rattle.certificate.specs.Spelled.{IsLastOf}
+use Rattle.certificate.specs.Packed.{joined, set_of_runs, added, StandApart}
+use Rattle.certificate.proofs.PackedLemmas.{joined_more, or_with, in_between, below_between, above_between, still_in, set_is}
+
+-- The text of runs: each one after the first has a comma before it.
+abbrev pub more_text : List Run → List ℕ
+more_text [] = []
+more_text (r ∷ rs) = 44 ∷ (run_text r.first r.last ++ more_text rs)
+
+abbrev pub runs_text : List Run → List ℕ
+runs_text [] = []
+runs_text (r ∷ rs) = run_text r.first r.last ++ more_text rs
+
+-- There are runs; and what is written after them before a further one.
+abbrev pub has : List Run → Bool
+has [] = false
+has (r ∷ rs) = true
+
+abbrev pub comma : List Run → List ℕ
+comma rs = if has rs then 44 ∷ [] else []
+
+pub has_more : (rs : List Run) (r : Run) → has (rs ++ r ∷ []) ≡ true
+has_more [] r = refl
+has_more (x ∷ rs) r = refl
+
+more_on : (rs : List Run) (r : Run) → more_text (rs ++ r ∷ []) ≡ more_text rs ++ 44 ∷ run_text r.first r.last
+more_on [] r = ap (λ (y : List ℕ). 44 ∷ y) (append-nil (run_text r.first r.last))
+more_on (x ∷ rs) r =
+    ap (λ (y : List ℕ). 44 ∷ y) (ap (λ (y : List ℕ). run_text x.first x.last ++ y) (more_on rs r) ∙
+    sym (append_assoc (run_text x.first x.last) (more_text rs) (44 ∷ run_text r.first r.last)))
+
+pub runs_more : (rs : List Run) (r : Run) → runs_text (rs ++ r ∷ []) ≡ runs_text rs ++ comma rs ++ run_text r.first r.last
+runs_more [] r = append-nil (run_text r.first r.last)
+runs_more (x ∷ rs) r =
+    ap (λ (y : List ℕ). run_text x.first x.last ++ y) (more_on rs r) ∙
+    (sym (append_assoc (run_text x.first x.last) (more_text rs) (44 ∷ run_text r.first r.last)) ∙
+    sym (append_assoc (run_text x.first x.last ++ more_text rs) (44 ∷ []) (run_text r.first r.last)))
+
+-- There are at most 2048 of them.
+pub few_apart : (n : ℕ) (rs : List Run) → n ≤ 4097 → StandApart n rs → 2 * length rs + n ≤ 4097
+few_apart n [] few h = omega arith
+few_apart n (r ∷ rs) few h =
+    let a : n ≤ r.first = h.0 in
+    let b : r.first ≤ r.last = h.1 in
+    let c : r.last < 4096 = h.2 in
+    let d : 2 * length rs + (r.last + 2) ≤ 4097 = few_apart (r.last + 2) rs (omega arith) h.3 in
+    omega arith
 
 -- More runs may stand after those up to an index.
+pub taken : (rs : List Run) (i : ℕ) (r : Run) → i < length rs → r ≡ get_or rs i r → take (i + 1) rs ≡ take i rs ++ r ∷ []
+taken rs i r h is = take_more rs i r h ∙ ap (λ (x : Run). take i rs ++ x ∷ []) (sym is)
+
 pub one_apart : (runs rest : List Run) (i n : ℕ) (r : Run) → i < length runs → r ≡ get_or runs i r →
     ((rest : List Run) → StandApart n rest → StandApart 0 (take i runs ++ rest)) → n ≤ r.first → r.first ≤ r.last → r.last < 4096 →
     StandApart (r.last + 2) rest → StandApart 0 (take (i + 1) runs ++ rest)
 one_apart runs rest i n r h is so reached order small more =
-    let e : take (i + 1) runs ≡ take i runs ++ r ∷ [] = take_more runs i r h ∙ ap (λ (x : Run). take i runs ++ x ∷ []) (sym is) in
-    rw (e, append_assoc (take i runs) (r ∷ []) rest) (so (r ∷ rest) (reached, order, small, more))
+    rw (taken runs i r h is, append_assoc (take i runs) (r ∷ []) rest) (so (r ∷ rest) (reached, order, small, more))
 
 pub all_apart : (runs : List Run) (i n : ℕ) → length runs ≤ i → ((rest : List Run) → StandApart n rest → StandApart 0 (take i runs ++ rest)) →
     StandApart 0 runs
@@ -39,6 +82,12 @@ joined_or t (r ∷ rs) v =
 first_or : (r : Run) (rs : List Run) (v : ℕ) → joined nothing (r ∷ rs) v ≡ (between r.first r.last v || joined nothing rs v)
 first_or r rs v = joined_or (union nothing (between r.first r.last)) rs v
 
+pub in_first : (r : Run) (rs : List Run) (v : ℕ) → r.first ≤ v → v ≤ r.last → joined nothing (r ∷ rs) v ≡ true
+in_first r rs v a b = first_or r rs v ∙ or_with _ _ true (joined nothing rs v) (in_between r.first r.last v a b) refl
+
+past_first : (r : Run) (rs : List Run) (v : ℕ) → r.last < v → joined nothing (r ∷ rs) v ≡ joined nothing rs v
+past_first r rs v a = first_or r rs v ∙ or_with _ _ false (joined nothing rs v) (above_between r.first r.last v a) refl
+
 -- No word stands before the first run.
 before_all : (n : ℕ) (rs : List Run) (v : ℕ) → StandApart n rs → v < n → joined nothing rs v ≡ false
 before_all n [] v h small = refl
@@ -47,77 +96,147 @@ before_all n (r ∷ rs) v h small =
     let b : r.first ≤ r.last = h.1 in
     first_or r rs v ∙ or_with _ _ false false (below_between r.first r.last v (omega arith)) (before_all (r.last + 2) rs v h.3 (omega arith))
 
--- The runs that are left, of which the words are those of the set from the one before n on.
-pub record RunsLeft (s : Words) (n : ℕ) (rs : List Run) : Type 0 where
-  pub apart : StandApart n rs
-  pub left : (v : ℕ) → n ≤ v + 1 → v < 4096 → s v ≡ joined nothing rs v
+pub run_is : (a b : Run) → a.first ≡ b.first → a.last ≡ b.last → a ≡ b
+run_is a b e f = ap (λ (n : ℕ). record a { first = n }) e ∙ ap (λ (n : ℕ). record b { last = n }) f
 
-pub all_left : (rs : List Run) → StandApart 0 rs → RunsLeft (set_of_runs rs) 0 rs
-all_left rs h = record { apart = h; left = λ v a b. sym (runs_within rs v b) }
+-- A set has one list of such runs.
+abbrev SameSet : List Run → List Run → Type 0
+SameSet rs ts = (v : ℕ) → v < 4096 → joined nothing rs v ≡ joined nothing ts v
 
-past_one : (s : Words) (n : ℕ) (r : Run) (rs : List Run) → RunsLeft s n (r ∷ rs) → RunsLeft s (r.last + 2) rs
-past_one s n r rs h = record {
-  apart = h.apart.3;
-  left = λ v a b.
-      (let p : n ≤ r.first = h.apart.0 in
-      let q : r.first ≤ r.last = h.apart.1 in
-      h.left v (omega arith) b ∙ (first_or r rs v ∙ or_with _ _ false (joined nothing rs v) (above_between r.first r.last v (omega arith)) refl));
+not_before : (n m : ℕ) (r t : Run) (rs ts : List Run) → StandApart n (r ∷ rs) → StandApart m (t ∷ ts) → SameSet (r ∷ rs) (t ∷ ts) → r.first < t.first → ⊥
+not_before n m r t rs ts a b e h =
+    let order : r.first ≤ r.last = a.1 in
+    let small : r.last < 4096 = a.2 in
+    true≢false (sym (in_first r rs r.first (omega arith) order) ∙
+    (e r.first (omega arith) ∙ before_all t.first (t ∷ ts) r.first (omega arith, b.1, b.2, b.3) h))
+
+not_shorter : (n m : ℕ) (r t : Run) (rs ts : List Run) → StandApart n (r ∷ rs) → StandApart m (t ∷ ts) → SameSet (r ∷ rs) (t ∷ ts) → r.first ≡ t.first → r.last < t.last → ⊥
+not_shorter n m r t rs ts a b e f h =
+    let order : r.first ≤ r.last = a.1 in
+    let small : t.last < 4096 = b.2 in
+    true≢false (sym (in_first t ts (r.last + 1) (omega arith) (omega arith)) ∙
+    (sym (e (r.last + 1) (omega arith)) ∙ (past_first r rs (r.last + 1) (omega arith) ∙ before_all (r.last + 2) rs (r.last + 1) a.3 (omega arith))))
+
+not_none : (n : ℕ) (r : Run) (rs : List Run) → StandApart n (r ∷ rs) → SameSet [] (r ∷ rs) → ⊥
+not_none n r rs a e =
+    let order : r.first ≤ r.last = a.1 in
+    let small : r.last < 4096 = a.2 in
+    true≢false (sym (in_first r rs r.first (omega arith) order) ∙ sym (e r.first (omega arith)))
+
+back : (rs ts : List Run) → SameSet rs ts → SameSet ts rs
+back rs ts e = λ v h. sym (e v h)
+
+equal : (a b : ℕ) → (a < b → ⊥) → (b < a → ⊥) → a ≡ b
+equal a b f g = elim (cases_lt a b) [
+  | inl h ↦ absurd (f h)
+  | inr h ↦ elim (cases_lt b a) [ inl k ↦ absurd (g k) | inr k ↦ omega arith ]
+]
+
+others_same : (n m : ℕ) (r t : Run) (rs ts : List Run) → StandApart n (r ∷ rs) → StandApart m (t ∷ ts) → SameSet (r ∷ rs) (t ∷ ts) → r.last ≡ t.last → SameSet rs ts
+others_same n m r t rs ts a b e f = λ v h. elim (cases_lt r.last v) [
+  | inl k ↦ sym (past_first r rs v k) ∙ (e v h ∙ past_first t ts v (omega arith))
+  | inr k ↦ before_all (r.last + 2) rs v a.3 (omega arith) ∙ sym (before_all (t.last + 2) ts v b.3 (omega arith))
+]
+
+pub one_list : (n m : ℕ) (rs ts : List Run) → StandApart n rs → StandApart m ts → SameSet rs ts → rs ≡ ts
+one_list n m [] [] a b e = refl
+one_list n m [] (t ∷ ts) a b e = absurd (not_none m t ts b e)
+one_list n m (r ∷ rs) [] a b e = absurd (not_none n r rs a (back (r ∷ rs) [] e))
+one_list n m (r ∷ rs) (t ∷ ts) a b e =
+    let k : SameSet (t ∷ ts) (r ∷ rs) = back (r ∷ rs) (t ∷ ts) e in
+    let p : r.first ≡ t.first = equal r.first t.first (not_before n m r t rs ts a b e) (not_before m n t r ts rs b a k) in
+    let q : r.last ≡ t.last = equal r.last t.last (not_shorter n m r t rs ts a b e p) (not_shorter m n t r ts rs b a k (sym p)) in
+    ap (λ (x : Run). x ∷ rs) (run_is r t p q) ∙ ap (λ (x : List Run). t ∷ x) (one_list (r.last + 2) (t.last + 2) rs ts a.3 b.3 (others_same n m r t rs ts a b e q))
+
+-- The words of a set below n are those of these runs, after which the next one may begin at another number.
+pub record Closed (s : Words) (rs : List Run) (n next : ℕ) : Type 0 where
+  pub apart : (ts : List Run) → StandApart next ts → StandApart 0 (rs ++ ts)
+  pub same : (v : ℕ) → v < n → v < 4096 → s v ≡ joined nothing rs v
+  pub above : (v : ℕ) → n ≤ v → joined nothing rs v ≡ false
+
+pub none_closed : (s : Words) → Closed s [] 0 0
+none_closed s = record { apart = λ ts h. h; same = λ v a b. absurd (omega arith); above = λ v a. refl }
+
+later : (n m : ℕ) (ts : List Run) → n ≤ m → StandApart m ts → StandApart n ts
+later n m [] a h = tt
+later n m (t ∷ ts) a h = ((let b : m ≤ t.first = h.0 in omega arith), h.1, h.2, h.3)
+
+-- Absent words are passed over.
+pub skip : (s : Words) (rs : List Run) (n next m : ℕ) → Closed s rs n next → n ≤ m → next ≤ m → ((v : ℕ) → n ≤ v → v < m → v < 4096 → s v ≡ false) →
+    Closed s rs m m
+skip s rs n next m h a b none = record {
+  apart = λ ts w. h.apart ts (later next m ts b w);
+  same = λ v c d. elim (cases_lt v n) [ inl e ↦ h.same v e d | inr e ↦ none v e c d ∙ sym (h.above v e) ];
+  above = λ v c. h.above v (omega arith);
 }
 
--- The first one that is left is the next run of the set.
-found : (s : Words) (n : ℕ) (r : Run) (rs : List Run) → StartsAt s n → RunsLeft s n (r ∷ rs) → SetRun s n r.first r.last
-found s n r rs starts h =
-    a_run s n r.first r.last starts reached order small
-    (λ v a b. h.left v (omega arith) (omega (arith, order, small)) ∙
-    (first_or r rs v ∙ or_with _ _ false false (below_between r.first r.last v b) (before_all (r.last + 2) rs v h.apart.3 (omega (arith, order)))))
-    (λ v a b. h.left v (omega (arith, reached)) (omega (arith, small)) ∙
-    (first_or r rs v ∙ or_with _ _ true (joined nothing rs v) (in_between r.first r.last v a b) refl))
-    (λ w. h.left (r.last + 1) (omega (arith, reached, order)) (omega arith) ∙
-    (first_or r rs (r.last + 1) ∙
-    or_with _ _ false false (above_between r.first r.last (r.last + 1) (omega arith)) (before_all (r.last + 2) rs (r.last + 1) h.apart.3 (omega arith))))
+-- A run more.
+pub close : (s : Words) (rs : List Run) (r : Run) → Closed s rs r.first r.first → r.first ≤ r.last → r.last < 4096 →
+    ((v : ℕ) → r.first ≤ v → v ≤ r.last → s v ≡ true) → Closed s (rs ++ r ∷ []) (r.last + 1) (r.last + 2)
+close s rs r h order small inside = record {
+  apart = λ ts w. rw (append_assoc rs (r ∷ []) ts) (h.apart (r ∷ ts) (omega arith, order, small, w));
+  same = λ v a b. elim (cases_lt v r.first) [
+    | inl c ↦ h.same v c b ∙ sym (at v ∙ (or_with _ _ (joined nothing rs v) false refl (below_between r.first r.last v c) ∙ or-false (joined nothing rs v)))
+    | inr c ↦ inside v c (omega arith) ∙ sym (at v ∙ or_with _ _ false true (h.above v c) (in_between r.first r.last v c (omega arith)))
+  ];
+  above = λ v a. at v ∙ or_with _ _ false false (h.above v (omega arith)) (above_between r.first r.last v (omega arith));
+}
   where
-    reached : n ≤ r.first
-    reached = h.apart.0
+    at : (v : ℕ) → joined nothing (rs ++ r ∷ []) v ≡ (joined nothing rs v || between r.first r.last v)
+    at v = ap (λ (k : Words). k v) (joined_more nothing rs r)
 
-    order : r.first ≤ r.last
-    order = h.apart.1
+-- The next run, by the words that aren't in the set.
+pub found_run : (s others : Words) (rs : List Run) (n : ℕ) (r : Run) → Closed s rs n n → IsFirstFrom n s r.first → IsLastOf others r.first r.last →
+    others ≡ difference all_words s → Closed s (rs ++ r ∷ []) (r.last + 2) (r.last + 2)
+found_run s others rs n r h f l are =
+    skip s (rs ++ r ∷ []) (r.last + 1) (r.last + 2) (r.last + 2)
+    (close s rs r (skip s rs n n r.first h f.reached f.reached (λ v a b c. f.before v a b)) l.order l.small
+    (λ v a b. still_in s v (let q : r.last < 4096 = l.small in omega arith) (sym (at v) ∙ l.inside v a b)))
+    (omega arith) (omega arith) (λ v a b c. let z : v ≡ r.last + 1 = omega arith in rw z (after l.stops (omega arith)))
+  where
+    at : (v : ℕ) → others v ≡ difference all_words s v
+    at v = ap (λ (k : Words). k v) are
 
-    small : r.last < 4096
-    small = h.apart.2
+    gone : (b c : Bool) → (c && not b) ≡ true → b ≡ false
+    gone false c q = refl
+    gone true true q = absurd (true≢false (sym q))
+    gone true false q = absurd (true≢false (sym q))
 
--- Runs as far as they're written.
-pub record RunsWritten (old now : List ℕ) (s : Words) (n : ℕ) (rs : List Run) : Type 0 where
-  pub sofar : SetSofar old now s n
-  pub left : RunsLeft s n rs
+    after : (r.last ≡ 4095) ⊎ (others (r.last + 1) ≡ true) → r.last < 4095 → s (r.last + 1) ≡ false
+    after (inl e) w = absurd (omega arith)
+    after (inr e) w = gone (s (r.last + 1)) (all_words (r.last + 1)) (sym (at (r.last + 1)) ∙ e)
 
-pub runs_begun : (old : List ℕ) (rs : List Run) → StandApart 0 rs → RunsWritten old old (set_of_runs rs) 0 rs
-runs_begun old rs h = record { sofar = set_begun old (set_of_runs rs); left = all_left rs h }
+pub closed_all : (s : Words) (rs : List Run) (n next : ℕ) → Closed s rs n next → HasNoneFrom n s → (v : ℕ) → v < 4096 → s v ≡ joined nothing rs v
+closed_all s rs n next h none v a = elim (cases_lt v n) [ inl b ↦ h.same v b a | inr b ↦ none v b a ∙ sym (h.above v b) ]
 
-pub one_written : (old now mid new : List ℕ) (s : Words) (n i : ℕ) (rs : List Run) (r : Run) → i < length rs → r ≡ get_or rs i r →
-    RunsWritten old now s n (drop i rs) → Adds now mid (if n == 0 then [] else 44 ∷ []) → Adds mid new (run_text r.first r.last) →
-    RunsWritten old new s (r.last + 2) (drop (i + 1) rs)
-one_written old now mid new s n i rs r h is w a b =
-    let e : drop i rs ≡ r ∷ drop (i + 1) rs = drop_more rs i r h ∙ ap (λ (x : Run). x ∷ drop (i + 1) rs) (sym is) in
-    let left : RunsLeft s n (r ∷ drop (i + 1) rs) = rw e at w.left in
-    record {
-      sofar = run_written old now mid new s n r.first r.last w.sofar a b (found s n r (drop (i + 1) rs) w.sofar.starts left);
-      left = past_one s n r (drop (i + 1) rs) left;
-    }
+pub closed_apart : (s : Words) (rs : List Run) (n next : ℕ) → Closed s rs n next → StandApart 0 rs
+closed_apart s rs n next h = rw (append-nil rs) at (h.apart [] tt)
 
-none_left : (s : Words) (n : ℕ) (rs : List Run) → rs ≡ [] → RunsLeft s n rs → HasNoneFrom n s
-none_left s n rs e h = λ v a b. rw e at (h.left v (omega arith) b)
+-- The runs of a set that were added so far: those of its words below n.
+pub record RunsSofar (old new : List Run) (set : Words) (n : ℕ) : Type 0 where
+  pub more : List Run
+  pub is : new ≡ old ++ more
+  pub closed : Closed set more n n
 
-pub runs_written : (old now : List ℕ) (s : Words) (n i : ℕ) (rs : List Run) → length rs ≤ i → RunsWritten old now s n (drop i rs) → Adds old now (marks 4096 s)
-runs_written old now s n i rs h w = set_written old now s n w.sofar (none_left s n (drop i rs) (drop_all i rs h) w.left)
+pub no_runs : (old : List Run) (set : Words) → RunsSofar old old set 0
+no_runs old set = record { more = []; is = sym (append-nil old); closed = none_closed set }
 
--- The text of a set with a run.
-pub some_runs : (old now : List ℕ) (rs : List Run) → false ≡ (length rs == 0) → StandApart 0 rs → Adds old now (marks 4096 (set_of_runs rs)) →
-    Adds old now (set_text (set_of_runs rs))
-some_runs old now [] some h a = absurd (true≢false (sym some))
-some_runs old now (r ∷ rs) some h a =
-    let order : r.first ≤ r.last = h.1 in
-    let small : r.last < 4096 = h.2 in
-    let here : set_of_runs (r ∷ rs) r.first ≡ true =
-    sym (runs_within (r ∷ rs) r.first (omega arith)) ∙ (first_or r rs r.first ∙ or_with _ _ true (joined nothing rs r.first) (in_between r.first r.last r.first (omega arith) order) refl) in
-    let full : has_some (set_of_runs (r ∷ rs)) ≡ true = some_from 4096 (set_of_runs (r ∷ rs)) r.first (omega arith) here in
-    rw full a
+pub run_added : (old now new : List Run) (set others : Words) (n : ℕ) (run : Run) → RunsSofar old now set n → IsFirstFrom n set run.first →
+    IsLastOf others run.first run.last → others ≡ difference all_words set → new ≡ now ++ run ∷ [] → RunsSofar old new set (run.last + 2)
+run_added old now new set others n run s f l are e = record {
+  more = s.more ++ run ∷ [];
+  is = e ∙ (ap (λ (x : List Run). x ++ run ∷ []) s.is ∙ append_assoc old s.more (run ∷ []));
+  closed = found_run set others s.more n run s.closed f l are;
+}
+
+pub few_runs : (old new : List Run) (set : Words) (n : ℕ) → RunsSofar old new set n → length new ≤ length old + 4096
+few_runs old new set n s =
+    let p : 2 * length s.more + 0 ≤ 4097 = few_apart 0 s.more (omega arith) (closed_apart set s.more n n s.closed) in
+    let e : length new ≡ length old + length s.more = ap length s.is ∙ length-append old s.more in omega arith
+
+-- All of them were added.
+pub all_runs : (old new : List Run) (lanes : List ℕ) (n : ℕ) → RunsSofar old new (words lanes) n → HasNoneFrom n (words lanes) →
+    added old new ≡ words lanes
+all_runs old new lanes n s none =
+    let e : drop (length old) new ≡ s.more = ap (drop (length old)) s.is ∙ drop_at old s.more (length old) refl in
+    ap set_of_runs e ∙ sym (set_is lanes s.more (closed_all (words lanes) s.more n n s.closed none))

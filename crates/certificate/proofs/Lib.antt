@@ -1,4 +1,5 @@
 pub mod TextLemmas
+pub mod ApartLemmas
 pub mod SetLemmas
 pub mod FieldsLemmas
 pub mod RunLemmas
@@ -21,7 +22,6 @@ pub mod FoundLemmas
 pub mod ReaderLemmas
 mod NameLemmas
 pub mod SpelledLemmas
-pub mod ApartLemmas
 pub mod MakerLemmas
 pub mod AddedLemmas
 pub mod PutLemmas

@@ -14,7 +14,8 @@ use Rattle.certificate.specs.Found.{newest_first}
 use Rattle.certificate.specs.Faults.{most_bytes, NoFeed, IsText, HasLine, HasFaultyLine, HasNoVersion, HasRest, IsCut, IsTooLong, HasFault}
 use Rattle.certificate.specs.Exact.{Alike}
 use Rattle.certificate.proofs.TextLemmas.{along, seam, front_newest}
-use Rattle.certificate.proofs.OneLineLemmas.{line_one, line_feed, version_feed, first_one}
+use Rattle.certificate.proofs.OneLineLemmas.{line_one, first_one}
+use Rattle.certificate.proofs.LengthLemmas.{line_feed, version_feed}
 use Rattle.certificate.proofs.OneTextLemmas.{no_line, version_one}
 use Rattle.certificate.proofs.GatherLemmas.{Follow, follows, oldest, newest_oldest}
 

@@ -1,15 +1,14 @@
--- A line's text tells what it says, and has no line feed.
-use Rattle.std.proofs.Common.{◌≡◌, ℕ, zero, suc, ◌+◌, ◌*◌, ◌<◌, ◌==◌, Bool, true, false, List, [], ◌∷◌, ◌++◌, refl, ap, ◌∙◌, sym, arith, append_assoc, append-nil}
-use Rattle.std.specs.Prelude.{if◌then◌else◌, ◌&&◌, not, codes, take}
-use Rattle.std.proofs.lemmas.Bool.{false≢true, eq-eqb}
+-- A line's text tells what it says.
+use Rattle.std.proofs.Common.{◌≡◌, ℕ, ◌+◌, ◌*◌, ◌<◌, List, [], ◌∷◌, ◌++◌, refl, ap, ◌∙◌, sym, arith, append_assoc, append-nil}
+use Rattle.std.specs.Prelude.{codes}
 use Rattle.std.proofs.lemmas.List.{append_cancel_left}
 use Rattle.word12.specs.Words.{octal_text}
-use Rattle.wordset.specs.Words.{Words, SameWords, some_below, has_some}
-use Rattle.domain.specs.Facts.{Name, Ac, Cell, Equation}
+use Rattle.wordset.specs.Words.{Words, SameWords}
+use Rattle.domain.specs.Facts.{Name, Equation}
 use Rattle.domain.specs.Statements.{TrackedCell}
 use Rattle.certificate.specs.declared.Version.{Version}
 use Rattle.certificate.specs.declared.Version.TheVariants.{One, Two}
-use Rattle.certificate.specs.Spelling.{RoutineLine, begins, ends, mark, marks, digits, set_text, offsets_text, mq_text, name_text, version_text, Registers, Line, RoutineIs, FactIs, ExitIs, CellIs, EquationIs, End, words_text, rank_text, routine_line, cell_line, equation_line, line_text}
+use Rattle.certificate.specs.Spelling.{RoutineLine, mq_text, name_text, Registers, Line, RoutineIs, FactIs, ExitIs, CellIs, EquationIs, End, words_text, routine_line, cell_line, equation_line, line_text}
 use Rattle.certificate.specs.Reading.{FitsVersion, place_of_name, IsRoutine, IsTracked, IsEquation}
 use Rattle.certificate.specs.Line.{IsRegisters, IsLine, SameRegisters, SameLine}
 use Rattle.certificate.specs.Fields.{EndsField}
@@ -103,121 +102,6 @@ line_one v (CellIs a) (CellIs b) f g e = cell_one a b f g e
 line_one v (EquationIs a) (EquationIs b) f g e = equation_one a b f g e
 line_one v End End f g e = tt
 line_one v l m f g e = let z : kind (line_text v l) ≡ kind (line_text v m) = ap kind e in absurd (omega arith)
-
--- No line feeds.
-feedless : List ℕ → Bool
-feedless [] = true
-feedless (c ∷ cs) = not (c == 10) && feedless cs
-
-no_feeds : (cs : List ℕ) → feedless cs ≡ true → NoFeed cs
-unfolding feedless
-no_feeds [] e = tt
-no_feeds (c ∷ cs) e = go (c == 10) refl e (no_feeds cs)
-  where
-    go : (b : Bool) → (c == 10) ≡ b → (not b && feedless cs) ≡ true → (feedless cs ≡ true → NoFeed cs) → NoFeed (c ∷ cs)
-    go true q f more = absurd (false≢true f)
-    go false q f more = (λ z. false≢true (sym q ∙ eq-eqb c 10 z), more f)
-
-pub no_feed_both : (xs ys : List ℕ) → NoFeed xs → NoFeed ys → NoFeed (xs ++ ys)
-no_feed_both [] ys f g = g
-no_feed_both (x ∷ xs) ys f g = (f.0, no_feed_both xs ys f.1 g)
-
-pub feed_taken : (k : ℕ) (xs : List ℕ) → NoFeed xs → NoFeed (take k xs)
-feed_taken zero [] h = tt
-feed_taken zero (x ∷ xs) h = tt
-feed_taken (suc k) [] h = tt
-feed_taken (suc k) (x ∷ xs) h = (h.0, feed_taken k xs h.1)
-
-word_feed : (n : ℕ) → NoFeed (octal_text n)
-word_feed n = (λ z. omega arith, (λ z. omega arith, (λ z. omega arith, (λ z. omega arith, tt))))
-
-if_feed : (b : Bool) (xs ys : List ℕ) → NoFeed xs → NoFeed ys → NoFeed (if b then xs else ys)
-if_feed true xs ys f g = f
-if_feed false xs ys f g = g
-
-mark_feed : (s : Words) (n : ℕ) → NoFeed (mark s n)
-unfolding feedless
-mark_feed s n = no_feed_both
-    (if begins s n then (if some_below n s then codes "," else []) ++ octal_text n else [])
-    (if ends s n && not (begins s n) then codes "-" ++ octal_text n else [])
-    (if_feed (begins s n) ((if some_below n s then codes "," else []) ++ octal_text n) []
-    (no_feed_both (if some_below n s then codes "," else []) (octal_text n)
-    (if_feed (some_below n s) (codes ",") [] (no_feeds (codes ",") refl) tt) (word_feed n)) tt)
-    (if_feed (ends s n && not (begins s n)) (codes "-" ++ octal_text n) []
-    (no_feed_both (codes "-") (octal_text n) (no_feeds (codes "-") refl) (word_feed n)) tt)
-
-marks_feed : (n : ℕ) (s : Words) → NoFeed (marks n s)
-unfolding marks
-marks_feed zero s = tt
-marks_feed (suc n) s = no_feed_both (marks n s) (mark s n) (marks_feed n s) (mark_feed s n)
-
-digits_feed : (n : ℕ) (s : Words) → NoFeed (digits n s)
-unfolding digits
-digits_feed zero s = tt
-digits_feed (suc n) s = no_feed_both (digits n s) (if s n then (48 + n) ∷ [] else []) (digits_feed n s) (if_feed (s n) ((48 + n) ∷ []) [] ((λ z. omega arith), tt) tt)
-
-set_feed : (s : Words) → NoFeed (set_text s)
-unfolding feedless
-set_feed s = if_feed (has_some s) (marks 4096 s) (codes "-") (marks_feed 4096 s) (no_feeds (codes "-") refl)
-
-offsets_feed : (s : Words) → NoFeed (offsets_text s)
-unfolding feedless
-offsets_feed s = if_feed (some_below 8 s) (digits 8 s) (codes "-") (digits_feed 8 s) (no_feeds (codes "-") refl)
-
-name_feed : (n : Name) → NoFeed (name_text n)
-unfolding feedless
-name_feed Ac = no_feeds (codes "AC") refl
-name_feed (Cell a) = word_feed a
-
-mq_feed : (v : Version) (s : Words) → NoFeed (mq_text v s)
-unfolding feedless
-mq_feed One s = tt
-mq_feed Two s = no_feed_both (codes " mq ") (set_text s) (no_feeds (codes " mq ") refl) (set_feed s)
-
--- Pieces of a line joined.
-four : (a b c d : List ℕ) → NoFeed a → NoFeed b → NoFeed c → NoFeed d → NoFeed (a ++ b ++ c ++ d)
-four a b c d f g h k = no_feed_both (a ++ b ++ c) d (no_feed_both (a ++ b) c (no_feed_both a b f g) h) k
-
-five : (a b c d e : List ℕ) → NoFeed a → NoFeed b → NoFeed c → NoFeed d → NoFeed e → NoFeed (a ++ b ++ c ++ d ++ e)
-five a b c d e f g h k m = no_feed_both (a ++ b ++ c ++ d) e (four a b c d f g h k) m
-
-words_feed : (v : Version) (r : Registers) → NoFeed (words_text v r)
-unfolding feedless
-words_feed v r =
-    five (codes " ac ") (set_text r.ac) (mq_text v r.mq) (codes " link ") (digits 2 r.link)
-    (no_feeds (codes " ac ") refl) (set_feed r.ac) (mq_feed v r.mq) (no_feeds (codes " link ") refl) (digits_feed 2 r.link)
-
-rank_feed : (n : ℕ) → NoFeed (rank_text n)
-rank_feed n = (λ z. omega arith, (λ z. omega arith, tt))
-
-pub line_feed : (v : Version) (l : Line) → NoFeed (line_text v l)
-unfolding feedless
-line_feed v (RoutineIs r) =
-    five (codes "routine " ++ octal_text r.entry ++ codes " rank " ++ rank_text r.rank) (codes " sites ") (set_text r.sites)
-    (codes " writes ") (set_text r.writes)
-    (four (codes "routine ") (octal_text r.entry) (codes " rank ") (rank_text r.rank)
-    (no_feeds (codes "routine ") refl) (word_feed r.entry) (no_feeds (codes " rank ") refl) (rank_feed r.rank))
-    (no_feeds (codes " sites ") refl) (set_feed r.sites) (no_feeds (codes " writes ") refl) (set_feed r.writes)
-line_feed v (FactIs a r offsets) =
-    five (codes "fact ") (octal_text a) (words_text v r) (codes " offsets ") (offsets_text offsets)
-    (no_feeds (codes "fact ") refl) (word_feed a) (words_feed v r) (no_feeds (codes " offsets ") refl) (offsets_feed offsets)
-line_feed v (ExitIs e o r) =
-    four (codes "exit ") (octal_text e) (codes " ") ((48 + o) ∷ words_text v r)
-    (no_feeds (codes "exit ") refl) (word_feed e) (no_feeds (codes " ") refl) ((λ z. omega arith), words_feed v r)
-line_feed v (CellIs c) =
-    four (codes "cell ") (octal_text c.address) (codes " ") (set_text c.set)
-    (no_feeds (codes "cell ") refl) (word_feed c.address) (no_feeds (codes " ") refl) (set_feed c.set)
-line_feed v (EquationIs e) =
-    four (codes "equal " ++ name_text e.left ++ codes " ") (name_text e.right) (codes " ") (octal_text e.more)
-    (no_feed_both (codes "equal " ++ name_text e.left) (codes " ")
-    (no_feed_both (codes "equal ") (name_text e.left) (no_feeds (codes "equal ") refl) (name_feed e.left)) (no_feeds (codes " ") refl))
-    (name_feed e.right) (no_feeds (codes " ") refl) (word_feed e.more)
-line_feed v End = no_feeds (codes "end") refl
-
-pub version_feed : (v : Version) → NoFeed (version_text v)
-unfolding feedless
-version_feed One = no_feeds (codes "PDP8-CERTIFICATE 1") refl
-version_feed Two = no_feeds (codes "PDP8-CERTIFICATE 2") refl
 
 -- The first line of bytes is one.
 pub first_one : (a b x y : List ℕ) → NoFeed a → NoFeed b → a ++ 10 ∷ x ≡ b ++ 10 ∷ y → (a ≡ b) × (x ≡ y)

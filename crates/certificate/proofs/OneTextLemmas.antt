@@ -9,7 +9,8 @@ use Rattle.certificate.specs.Gathered.{cells_under, equations_under, stated, gat
 use Rattle.certificate.specs.Exact.{Alike, SameCell, SameStatement, SameLines}
 use Rattle.certificate.proofs.TextLemmas.{seam}
 use Rattle.certificate.proofs.TextOrderLemmas.{text_law}
-use Rattle.certificate.proofs.OneLineLemmas.{line_one, line_feed, version_feed, first_one}
+use Rattle.certificate.proofs.OneLineLemmas.{line_one, first_one}
+use Rattle.certificate.proofs.LengthLemmas.{line_feed, version_feed}
 use Rattle.certificate.proofs.GatherLemmas.{gathered_lines}
 
 -- There is no line in no bytes.

@@ -1,13 +1,13 @@
 -- Lines packed, and the runs of their sets.
-use Rattle.std.proofs.Common.{◌≡◌, ℕ, zero, suc, ◌+◌, ◌-◌, ◌<◌, ◌≤◌, Bool, true, false, ◌&&◌, ◌||◌, List, [], ◌∷◌, ◌++◌, length, map, get_or, take, drop, refl, ap, ◌∙◌, sym, subst, inl, inr, arith, append_assoc, append-nil, length-append}
+use Rattle.std.proofs.Common.{◌≡◌, ℕ, zero, suc, ◌+◌, ◌-◌, ◌<◌, ◌≤◌, Bool, true, false, ◌&&◌, ◌||◌, List, [], ◌∷◌, ◌++◌, length, map, get_or, take, drop, refl, ap, ◌∙◌, sym, subst, inl, inr, arith, append_assoc, length-append}
 use Rattle.std.specs.Prelude.{not, nat_le, slice_range}
 use Rattle.std.specs.List.{AllByRecursion}
 use Rattle.std.proofs.lemmas.Bool.{true≢false, cases_lt}
-use Rattle.std.proofs.Math.Bool.{or-true, or-false}
+use Rattle.std.proofs.Math.Bool.{or-true}
 use Rattle.std.proofs.lemmas.Bool.Decides.{nat_tests}
 use Rattle.std.proofs.lemmas.List.{take_all, take_at, take_more, drop_at, drop-append-le, take-append-le, length-drop, length-map, map_more}
 use native.Mathlib.Numerals.{unary_clauses}
-use Rattle.wordset.specs.Words.{Words, SameWords, all_words, everything, difference, nothing, between, union, IsFirstFrom, HasNoneFrom}
+use Rattle.wordset.specs.Words.{Words, SameWords, all_words, everything, difference, nothing, between, union}
 use Rattle.wordset.specs.Lanes.{words}
 use Rattle.wordset.proofs.SetLemmas.{words_are, all_past, all_everything}
 use Rattle.domain.specs.Statements.{TrackedCell, cell_at}
@@ -20,7 +20,6 @@ use Rattle.certificate.specs.declared.packed.PackedLine.TheVariants as packed
 use Rattle.certificate.specs.declared.packed.KeptLine.{KeptLine}
 use Rattle.certificate.specs.Spelling.{Line, Registers as SaidRegisters, RoutineIs, FactIs, ExitIs, CellIs}
 use Rattle.certificate.specs.Reading.{Each}
-use Rattle.certificate.specs.Spelled.{IsLastOf}
 use Rattle.certificate.specs.Packed.{Begins, joined, set_of_runs, added, set_at, one_at, other_at, registers_at, said_at, kept_at, lines_in, AreWithin, LiesWithin, IsKept, AreLaid, IsPacked}
 
 -- A run more.
@@ -33,31 +32,6 @@ pub run_joined : (set after : Words) (rs : List Run) (i : ℕ) (r : Run) → i <
     after ≡ union set (between r.first r.last) → after ≡ joined nothing (take (i + 1) rs)
 run_joined set after rs i r h at so e =
     rw (take_more rs i r h, joined_more nothing (take i rs) (get_or rs i r), ← at, ← so) e
-
--- The runs of a set that were added so far: those of its words below n.
-pub record RunsSofar (old new : List Run) (set : Words) (n : ℕ) : Type 0 where
-  pub more : List Run
-  pub is : new ≡ old ++ more
-  pub few : n ≤ 4096
-  pub count : length more ≤ n
-  pub below : (v : ℕ) → v < n → joined nothing more v ≡ set v
-  pub above : (v : ℕ) → n ≤ v → joined nothing more v ≡ false
-
-pub no_runs : (old : List Run) (set : Words) → RunsSofar old old set 0
-no_runs old set = record {
-  more = [];
-  is = sym (append-nil old);
-  few = omega arith;
-  count = omega arith;
-  below = λ v h. absurd (omega arith);
-  above = λ v h. refl;
-}
-
-pub few_runs : (old new : List Run) (set : Words) (n : ℕ) → RunsSofar old new set n → length new ≤ length old + 4096
-few_runs old new set n s =
-    let p : length s.more ≤ n = s.count in
-    let q : n ≤ 4096 = s.few in
-    let e : length new ≡ length old + length s.more = ap length s.is ∙ length-append old s.more in omega arith
 
 pub in_between : (low high v : ℕ) → low ≤ v → v ≤ high → between low high v ≡ true
 in_between low high v a b = grind (arith, nat_tests)
@@ -99,31 +73,6 @@ still_in set v h e = go (set v) (all_words v) (grind (arith, nat_tests)) e
     go true c k q = refl
     go false c k q = absurd (let z : true ≡ false = rw k at q in true≢false z)
 
--- A run is added, from the first word of a set from n on to the last one before a word that isn't in it.
-pub run_added : (old now new : List Run) (set others : Words) (n : ℕ) (run : Run) → RunsSofar old now set n → IsFirstFrom n set run.first →
-    IsLastOf others run.first run.last → others ≡ difference all_words set → new ≡ now ++ run ∷ [] → RunsSofar old new set (run.last + 1)
-run_added old now new set others n run s f l are e = record {
-  more = s.more ++ run ∷ [];
-  is = e ∙ (ap (λ x. x ++ run ∷ []) s.is ∙ append_assoc old s.more (run ∷ []));
-  few = (let q : run.last < 4096 = l.small in omega arith);
-  count = (let p : length s.more ≤ n = s.count in let q : n ≤ run.first = f.reached in let o : run.first ≤ run.last = l.order in
-      omega (arith, length-append s.more (run ∷ [])));
-  below = λ v h. at v ∙ elim (cases_lt v n) [
-    | inl a ↦ (let q : n ≤ run.first = f.reached in
-        or_with _ _ (set v) false (s.below v a) (below_between run.first run.last v (omega arith)) ∙ or-false (set v))
-    | inr a ↦ elim (cases_lt v run.first) [
-      | inl b ↦ or_with _ _ false false (s.above v a) (below_between run.first run.last v b) ∙ sym (f.before v a b)
-      | inr b ↦ or_with _ _ false true (s.above v a) (in_between run.first run.last v b (omega arith)) ∙
-          sym (still_in set v (let q : run.last < 4096 = l.small in omega arith) (ap (λ (k : Words). k v) (sym are) ∙ l.inside v b (omega arith)))
-    ]
-  ];
-  above = λ v h. at v ∙ (let q : n ≤ run.first = f.reached in let o : run.first ≤ run.last = l.order in
-      or_with _ _ false false (s.above v (omega arith)) (above_between run.first run.last v (omega arith)));
-}
-  where
-    at : (v : ℕ) → joined nothing (s.more ++ run ∷ []) v ≡ (joined nothing s.more v || between run.first run.last v)
-    at v = ap (λ (k : Words). k v) (joined_more nothing s.more run)
-
 -- No set has a word past the last one that there is.
 pub runs_past : (rs : List Run) (v : ℕ) → 4096 ≤ v → set_of_runs rs v ≡ false
 unfolding set_of_runs
@@ -156,19 +105,6 @@ set_is lanes rs same = words_are lanes (set_of_runs rs) (runs_past rs) (λ v h. 
 -- The set of all runs, where it was that of those up to an index past them.
 pub all_joined : (lanes : List ℕ) (rs : List Run) (i : ℕ) → length rs ≤ i → words lanes ≡ joined nothing (take i rs) → words lanes ≡ set_of_runs rs
 all_joined lanes rs i h e = set_is lanes rs (λ v k. ap (λ (f : Words). f v) (rw (take_all i rs h) at e))
-
--- All of them were added.
-pub all_runs : (old new : List Run) (lanes : List ℕ) (n : ℕ) → RunsSofar old new (words lanes) n → HasNoneFrom n (words lanes) →
-    added old new ≡ words lanes
-all_runs old new lanes n s none =
-    let e : drop (length old) new ≡ s.more = ap (drop (length old)) s.is ∙ drop_at old s.more (length old) refl in
-    ap set_of_runs e ∙ sym (set_is lanes s.more same)
-  where
-    same : SameWords (words lanes) (joined nothing s.more)
-    same v h = elim (cases_lt v n) [
-      | inl a ↦ sym (s.below v a)
-      | inr a ↦ none v a h ∙ sym (s.above v a)
-    ]
 
 -- What is kept stays so where more runs are added.
 range_kept : {X : Type 0} (xs more : List X) (first count : ℕ) → first + count ≤ length xs →

@@ -13,8 +13,7 @@ use Rattle.certificate.specs.Order.{any, is_end, may_stand, AreInOrder, front, I
 use Rattle.certificate.specs.Progress.{Tracks, Declines}
 use Rattle.certificate.specs.Found.{newest_first, all_said, Keeps, IsWhole, unended}
 use Rattle.certificate.specs.Faults.{most_bytes, NoFeed, HasLine, HasFaultyLine, HasRest, IsCut, AsksForMemory}
-use Rattle.certificate.proofs.LengthLemmas.{line_short}
-use Rattle.certificate.proofs.OneLineLemmas.{no_feed_both}
+use Rattle.certificate.proofs.LengthLemmas.{line_short, no_feed_both}
 use Rattle.certificate.proofs.TextLemmas.{newest_both}
 use Rattle.certificate.proofs.GatherLemmas.{text_of_gathered}
 use Rattle.certificate.proofs.FormLemmas.{gathered_formed}

@@ -1,289 +1,262 @@
--- What is written of a set from a word on, and the runs that it has.
-use Rattle.std.proofs.Common.{◌≡◌, ◌⊎◌, ℕ, zero, suc, ◌+◌, ◌-◌, ◌<◌, ◌≤◌, ◌==◌, Bool, true, false, not, ◌&&◌, ◌||◌, List, [], ◌++◌, refl, ap, ◌∙◌, sym, inl, inr, arith, append_assoc, append-nil}
+-- What is written of a set is the text of its runs.
+use Rattle.std.proofs.Common.{◌≡◌, ◌⊎◌, ℕ, zero, suc, ◌+◌, ◌-◌, ◌<◌, ◌≤◌, ◌==◌, Bool, true, false, not, ◌&&◌, ◌||◌, List, [], ◌∷◌, ◌++◌, refl, ap, ◌∙◌, sym, subst, inl, inr, arith, append_assoc, append-nil}
 use Rattle.std.specs.Prelude.{if◌then◌else◌, codes}
-use Rattle.std.proofs.lemmas.Bool.{false≢true, eq-eqb, ne_eqb, cases_lt}
+use Rattle.std.proofs.lemmas.Bool.{true≢false, eq-eqb, ne_eqb, cases_lt}
 use Rattle.std.proofs.Math.Bool.{and-false, or-true}
 use Rattle.word12.specs.Words.{octal_text}
-use Rattle.wordset.specs.Words.{Words, some_below}
-use Rattle.certificate.specs.Spelling.{begins, ends, mark, marks}
+use Rattle.wordset.specs.Words.{Words, SameWords, nothing, some_below, has_some}
+use Rattle.wordset.proofs.Tests.{some_from, some_none_of, none_of_some}
+use Rattle.certificate.specs.declared.packed.Run.{Run}
+use Rattle.certificate.specs.Spelling.{begins, ends, mark, marks, set_text}
 use Rattle.certificate.specs.Fields.{run_text}
-
--- What is written at k words from n on.
-unfoldable pub written : ℕ → ℕ → Words → List ℕ
-written zero n s = []
-written (suc k) n s = mark s n ++ written k (n + 1) s
-
--- What is written from a word on.
-abbrev pub rest : Words → ℕ → List ℕ
-rest s n = written (4096 - n) n s
-
--- A comma, where words came before.
-abbrev pub comma : Words → ℕ → List ℕ
-comma s n = if some_below n s then codes "," else []
-
--- The first run of a set's words from n on.
-pub record Run (s : Words) (n low high : ℕ) : Type 0 where
-  pub reached : n ≤ low
-  pub order : low ≤ high
-  pub small : high < 4096
-  pub before : (v : ℕ) → n ≤ v → v < low → s v ≡ false
-  pub inside : (v : ℕ) → low ≤ v → v ≤ high → s v ≡ true
-  pub starts : (low == 0 || not (s (low - 1))) ≡ true
-  pub stops : (high == 4095 || not (s (high + 1))) ≡ true
-
--- No word from n on.
-abbrev pub None_from : Words → ℕ → Type 0
-None_from s n = (v : ℕ) → n ≤ v → v < 4096 → s v ≡ false
+use Rattle.certificate.specs.Packed.{joined, set_of_runs, StandApart}
+use Rattle.certificate.proofs.PackedLemmas.{runs_within}
+use Rattle.certificate.proofs.ApartLemmas.{runs_text, has, comma, has_more, runs_more, in_first, one_list, Closed, none_closed, skip, close, closed_all, closed_apart}
 
 nothing_more : (b : Bool) (x : List ℕ) → (if b && false then x else []) ≡ []
 nothing_more true x = refl
 nothing_more false x = refl
 
-pub mark_first : (s : Words) (a : ℕ) → begins s a ≡ true → mark s a ≡ comma s a ++ octal_text a
-mark_first s a e = rw e (rw (nothing_more (ends s a) (codes "-" ++ octal_text a)) (append-nil (comma s a ++ octal_text a)))
+mark_first : (s : Words) (a : ℕ) → begins s a ≡ true → mark s a ≡ (if some_below a s then codes "," else []) ++ octal_text a
+mark_first s a e = rw e (rw (nothing_more (ends s a) (codes "-" ++ octal_text a)) (append-nil ((if some_below a s then codes "," else []) ++ octal_text a)))
 
-pub mark_last : (s : Words) (a : ℕ) → begins s a ≡ false → ends s a ≡ true → mark s a ≡ codes "-" ++ octal_text a
+mark_last : (s : Words) (a : ℕ) → begins s a ≡ false → ends s a ≡ true → mark s a ≡ codes "-" ++ octal_text a
 mark_last s a e f = rw (e, f) refl
 
-pub mark_none : (s : Words) (a : ℕ) → begins s a ≡ false → ends s a ≡ false → mark s a ≡ []
+mark_none : (s : Words) (a : ℕ) → begins s a ≡ false → ends s a ≡ false → mark s a ≡ []
 mark_none s a e f = rw (e, f) refl
 
-pub absent : (s : Words) (a : ℕ) → s a ≡ false → mark s a ≡ []
+absent : (s : Words) (a : ℕ) → s a ≡ false → mark s a ≡ []
 absent s a e = mark_none s a (rw e refl) (rw e refl)
 
-marks_split : (k n : ℕ) (s : Words) → marks (k + n) s ≡ marks n s ++ written k n s
-unfolding marks written
-marks_split zero n s = let e : 0 + n ≡ n = omega arith in rw e (sym (append-nil (marks n s)))
-marks_split (suc k) n s =
-    let e : suc k + n ≡ k + suc n = omega arith in
-    let f : n + 1 ≡ suc n = omega arith in
-    ap (λ m. marks m s) e ∙ (marks_split k (suc n) s ∙ (append_assoc (marks n s) (mark s n) (written k (suc n) s) ∙
-    ap (λ m. marks n s ++ (mark s n ++ written k m s)) (sym f)))
-
-pub whole_rest : (s : Words) → marks 4096 s ≡ rest s 0
+marks_more : (n : ℕ) (s : Words) → marks (n + 1) s ≡ marks n s ++ mark s n
 unfolding marks
-whole_rest s = marks_split 4096 0 s
+marks_more n s = let e : n + 1 ≡ suc n = omega arith in ap (λ k. marks k s) e
 
--- One word more.
-rest_step : (s : Words) (n : ℕ) → n < 4096 → rest s n ≡ mark s n ++ rest s (n + 1)
-unfolding written
-rest_step s n h =
-    let e : 4096 - n ≡ suc (4096 - (n + 1)) = omega arith in ap (λ k. written k n s) e
+some_more : (n : ℕ) (s : Words) → some_below (n + 1) s ≡ (s n || some_below n s)
+unfolding some_below
+some_more n s = let e : n + 1 ≡ suc n = omega arith in rw e refl
 
-rest_end : (s : Words) (n : ℕ) → 4096 ≤ n → rest s n ≡ []
-unfolding written
-rest_end s n h = let e : 4096 - n ≡ 0 = omega arith in ap (λ k. written k n s) e
-
-rest_absent : (s : Words) (n : ℕ) → n < 4096 → s n ≡ false → rest s n ≡ rest s (n + 1)
-rest_absent s n h e = rest_step s n h ∙ ap (λ (x : List ℕ). x ++ rest s (n + 1)) (absent s n e)
-
--- Absent words are passed over.
-passed : (k n : ℕ) (s : Words) → k + n ≤ 4096 → ((v : ℕ) → n ≤ v → v < k + n → s v ≡ false) → rest s n ≡ rest s (k + n)
-passed zero n s h none = let e : n ≡ 0 + n = omega arith in ap (λ m. rest s m) e
-passed (suc k) n s h none =
-    let small : n < 4096 = omega arith in
-    let fits : k + (n + 1) ≤ 4096 = omega arith in
-    let e : k + (n + 1) ≡ suc k + n = omega arith in
-    rest_absent s n small (none n (omega arith) (omega arith)) ∙
-    (passed k (n + 1) s fits (λ v low high. none v (omega arith) (omega arith)) ∙ ap (λ m. rest s m) e)
-
-pub none_rest : (s : Words) (n : ℕ) → None_from s n → rest s n ≡ []
-none_rest s n none = elim (cases_lt n 4096) [
-  | inl h ↦ (let fits : (4096 - n) + n ≤ 4096 = omega arith in
-      passed (4096 - n) n s fits (λ v low high. none v low (omega arith)) ∙ rest_end s ((4096 - n) + n) (omega arith))
-  | inr h ↦ rest_end s n h
-]
-
--- A word after another doesn't begin a run, one before another doesn't end one.
-goes_on : (s : Words) (v : ℕ) → 0 < v → s (v - 1) ≡ true → begins s v ≡ false
-goes_on s v pos before = rw (ne_eqb v 0 (λ z. omega arith), before) (and-false (s v))
-
-not_yet : (s : Words) (v : ℕ) → v < 4095 → s (v + 1) ≡ true → ends s v ≡ false
-not_yet s v small after = rw (ne_eqb v 4095 (λ z. omega arith), after) (and-false (s v))
-
-begun : (s : Words) (v : ℕ) → s v ≡ true → (v == 0 || not (s (v - 1))) ≡ true → begins s v ≡ true
-begun s v here starts = rw here starts
-
-ended : (s : Words) (v : ℕ) → s v ≡ true → (v == 4095 || not (s (v + 1))) ≡ true → ends s v ≡ true
-ended s v here stops = rw here stops
-
--- Within a run, after its first word.
-to_last : (d v : ℕ) (s : Words) → 0 < v → v + d < 4096 → ((u : ℕ) → v ≤ u + 1 → u ≤ v + d → s u ≡ true) →
-    (v + d == 4095 || not (s (v + d + 1))) ≡ true → rest s v ≡ (codes "-" ++ octal_text (v + d)) ++ rest s (v + d + 1)
-to_last zero v s pos fits inside stops =
-    let e : v + 0 ≡ v = omega arith in
-    let here : s v ≡ true = inside v (omega arith) (omega arith) in
-    let before : s (v - 1) ≡ true = inside (v - 1) (omega arith) (omega arith) in
-    let last : (v == 4095 || not (s (v + 1))) ≡ true = rw e at stops in
-    rest_step s v (omega arith) ∙
-    (ap (λ (x : List ℕ). x ++ rest s (v + 1)) (mark_last s v (goes_on s v pos before) (ended s v here last)) ∙ rw e refl)
-to_last (suc d) v s pos fits inside stops =
-    let e : (v + 1) + d ≡ v + suc d = omega arith in
-    let before : s (v - 1) ≡ true = inside (v - 1) (omega arith) (omega arith) in
-    let after : s (v + 1) ≡ true = inside (v + 1) (omega arith) (omega arith) in
-    rest_step s v (omega arith) ∙
-    (ap (λ (x : List ℕ). x ++ rest s (v + 1)) (mark_none s v (goes_on s v pos before) (not_yet s v (omega arith) after)) ∙
-    (rw e at (to_last d (v + 1) s (omega arith) (omega arith) (λ u low high. inside u (omega arith) (omega arith)) (rw e stops))))
-
--- A run from its first word on.
-run_here : (s : Words) (n low high : ℕ) → Run s n low high →
-    rest s low ≡ comma s low ++ run_text low high ++ rest s (high + 1)
-run_here s n low high r = elim (cases_lt low high) [
-  | inl h ↦ (
-      let d : ℕ = high - (low + 1) in
-      let e : (low + 1) + (high - (low + 1)) ≡ high = omega arith in
-      let n2 : (low == high) ≡ false = ne_eqb low high (λ z. omega arith) in
-      let more : rest s (low + 1) ≡ (codes "-" ++ octal_text high) ++ rest s (high + 1) =
-      rw e at (to_last (high - (low + 1)) (low + 1) s (omega arith) (rw e r.small)
-      (λ u a b. r.inside u (omega arith) (omega arith)) (rw e r.stops)) in
-      first ∙ (ap (λ (x : List ℕ). (comma s low ++ octal_text low) ++ x) more ∙ rw n2 (simp append_assoc)))
-  | inr h ↦ (
-      let e : high ≡ low = (let o : low ≤ high = r.order in omega arith) in
-      rw e (rw (eqb_same low) first))
-]
-  where
-    here : s low ≡ true
-    here = r.inside low (omega arith) r.order
-
-    eqb_same : (k : ℕ) → (k == k) ≡ true
-    eqb_same k = eq-eqb k k refl
-
-    first : rest s low ≡ (comma s low ++ octal_text low) ++ rest s (low + 1)
-    first =
-        rest_step s low (let o : low ≤ high = r.order in let q : high < 4096 = r.small in omega arith) ∙
-        ap (λ (x : List ℕ). x ++ rest s (low + 1)) (mark_first s low (begun s low here r.starts))
-
--- After a run comes no word, if there is a further word at all.
-pub gap_after : (s : Words) (n low high : ℕ) → Run s n low high → high + 1 < 4096 → s (high + 1) ≡ false
-gap_after s n low high r h = go (s (high + 1)) refl
-  where
-    n2 : (high == 4095) ≡ false
-    n2 = ne_eqb high 4095 (λ z. omega arith)
-
-    go : (b : Bool) → s (high + 1) ≡ b → s (high + 1) ≡ false
-    go true e = absurd (false≢true (rw (n2, e) at r.stops))
-    go false e = e
-
-gap_rest : (s : Words) (n low high : ℕ) → Run s n low high → rest s (high + 1) ≡ rest s (high + 2)
-gap_rest s n low high r = elim (cases_lt (high + 1) 4096) [
-  | inl h ↦ (let e : high + 1 + 1 ≡ high + 2 = omega arith in rw e at (rest_absent s (high + 1) h (gap_after s n low high r h)))
-  | inr h ↦ rest_end s (high + 1) h ∙ sym (rest_end s (high + 2) (omega arith))
-]
-
-to_first : (s : Words) (n low high : ℕ) → Run s n low high → rest s n ≡ rest s low
-to_first s n low high r =
-    let reached : n ≤ low = r.reached in
-    let order : low ≤ high = r.order in
-    let small : high < 4096 = r.small in
-    let e : (low - n) + n ≡ low = omega arith in
-    rw e at (passed (low - n) n s (omega arith) (λ v a b. r.before v a (omega arith)))
-
--- What is written from a place before a run on.
-pub run_rest : (s : Words) (n low high : ℕ) → Run s n low high →
-    rest s n ≡ comma s low ++ run_text low high ++ rest s (high + 2)
-run_rest s n low high r =
-    to_first s n low high r ∙ (run_here s n low high r ∙
-    ap (λ (x : List ℕ). comma s low ++ run_text low high ++ x) (gap_rest s n low high r))
+-- The words below n are those of runs, and what is written of them is the text of these.
+record Marked (s : Words) (n next : ℕ) : Type 0 where
+  runs : List Run
+  closed : Closed s runs n next
+  some : some_below n s ≡ has runs
+  text : marks n s ≡ runs_text runs
 
 -- A run may begin at n.
-abbrev pub StartsAt : Words → ℕ → Type 0
-StartsAt s n = n < 4096 → (n == 0 || not (s (n - 1))) ≡ true
+record Gap (s : Words) (n : ℕ) : Type 0 where
+  marked : Marked s n n
+  starts : (n == 0 || not (s (n - 1))) ≡ true
 
-pub starts_after : (s : Words) (n low high : ℕ) → Run s n low high → StartsAt s (high + 2)
-starts_after s n low high r h =
-    let e : high + 2 - 1 ≡ high + 1 = omega arith in
-    let f : (high + 2 == 0) ≡ false = ne_eqb (high + 2) 0 (λ z. omega arith) in
-    rw (f, e, gap_after s n low high r (omega arith)) refl
+-- A run has ended right before n.
+record Ended (s : Words) (n : ℕ) : Type 0 where
+  next : ℕ
+  few : next ≤ n + 1
+  marked : Marked s n next
+  none : n < 4096 → s n ≡ false
 
--- A run by its words and those beside it.
-pub a_run : (s : Words) (n low high : ℕ) → StartsAt s n → n ≤ low → low ≤ high → high < 4096 → ((v : ℕ) → n ≤ v → v < low → s v ≡ false) →
-    ((v : ℕ) → low ≤ v → v ≤ high → s v ≡ true) → (high < 4095 → s (high + 1) ≡ false) → Run s n low high
-a_run s n low high starts reached order small before inside after = record {
-  reached = reached;
-  order = order;
-  small = small;
-  before = before;
-  inside = inside;
-  starts = elim (cases_lt n low) [
-    | inl w ↦ rw (before (low - 1) (omega arith) (omega arith), ne_eqb low 0 (λ z. omega arith)) refl
-    | inr w ↦ (let z : low ≡ n = omega arith in rw z (starts (omega arith)))
-  ];
-  stops = elim (cases_lt high 4095) [
-    | inl w ↦ rw (after w) (or-true (high == 4095))
-    | inr w ↦ rw (eq-eqb high 4095 (omega arith)) refl
-  ];
+-- A run goes on at n.
+record Open (s : Words) (n : ℕ) : Type 0 where
+  low : ℕ
+  before : Marked s low low
+  reached : low < n
+  small : n < 4096
+  inside : (v : ℕ) → low ≤ v → v ≤ n → s v ≡ true
+  text : marks n s ≡ runs_text before.runs ++ comma before.runs ++ octal_text low
+
+abbrev State : Words → ℕ → Type 0
+State s n = Gap s n ⊎ (Ended s n ⊎ Open s n)
+
+-- A word that isn't in the set.
+passed : (s : Words) (n next : ℕ) → Marked s n next → next ≤ n + 1 → s n ≡ false → Gap s (n + 1)
+passed s n next m h e = record {
+  marked = record {
+    runs = m.runs;
+    closed = skip s m.runs n next (n + 1) m.closed (omega arith) h (λ v a b c. let z : v ≡ n = omega arith in rw z e);
+    some = some_more n s ∙ rw e m.some;
+    text = marks_more n s ∙ (ap (λ (x : List ℕ). marks n s ++ x) (absent s n e) ∙ (append-nil (marks n s) ∙ m.text));
+  };
+  starts = (let k : n + 1 - 1 ≡ n = omega arith in let f : (n + 1 == 0) ≡ false = ne_eqb (n + 1) 0 (λ z. omega arith) in rw (f, k, e) refl);
 }
 
-record Last (s : Words) (low : ℕ) : Type 0 where
-  high : ℕ
-  order : low ≤ high
-  small : high < 4096
-  inside : (v : ℕ) → low ≤ v → v ≤ high → s v ≡ true
-  after : high < 4095 → s (high + 1) ≡ false
-
-last_from : (k low v : ℕ) (s : Words) → k + v ≡ 4095 → low ≤ v → ((u : ℕ) → low ≤ u → u ≤ v → s u ≡ true) → Last s low
-last_from zero low v s e h inside =
-    let q : v ≡ 4095 = omega arith in
-    record { high = v; order = h; small = omega arith; inside = inside; after = λ w. absurd (omega arith) }
-last_from (suc k) low v s e h inside = go (s (v + 1)) refl (λ q. last_from k low (v + 1) s (omega arith) (omega arith) q)
+-- The last word of a run.
+ended : (s : Words) (low n : ℕ) (m : Marked s low low) → low ≤ n → n < 4096 → ((v : ℕ) → low ≤ v → v ≤ n → s v ≡ true) →
+    marks (n + 1) s ≡ runs_text m.runs ++ comma m.runs ++ run_text low n → (n < 4095 → s (n + 1) ≡ false) → Ended s (n + 1)
+ended s low n m order small inside text none = record {
+  next = n + 2;
+  few = omega arith;
+  marked = record {
+    runs = m.runs ++ run ∷ [];
+    closed = close s m.runs run m.closed order small inside;
+    some = some_from (n + 1) s n (omega arith) (inside n order (omega arith)) ∙ sym (has_more m.runs run);
+    text = text ∙ sym (runs_more m.runs run);
+  };
+  none = λ h. none (omega arith);
+}
   where
-    go : (b : Bool) → s (v + 1) ≡ b → (((u : ℕ) → low ≤ u → u ≤ v + 1 → s u ≡ true) → Last s low) → Last s low
-    go true q more = more (λ u a b. elim (cases_lt u (v + 1)) [
-      | inl w ↦ inside u a (omega arith)
-      | inr w ↦ (let z : u ≡ v + 1 = omega arith in rw z q)
-    ])
-    go false q more = record { high = v; order = h; small = omega arith; inside = inside; after = λ w. q }
+    run : Run
+    run = record { first = low; last = n }
 
-record First (s : Words) (n : ℕ) : Type 0 where
-  low : ℕ
-  reached : n ≤ low
-  small : low < 4096
-  before : (v : ℕ) → n ≤ v → v < low → s v ≡ false
-  here : s low ≡ true
+-- A word is the last one of its run, or another comes after it.
+record IsLast (s : Words) (n : ℕ) : Type 0 where
+  ends : ends s n ≡ true
+  none : n < 4095 → s (n + 1) ≡ false
 
-first_from : (k n : ℕ) (s : Words) → k + n ≡ 4096 → None_from s n ⊎ First s n
-first_from zero n s e = inl (λ v a b. absurd (omega arith))
-first_from (suc k) n s e = go (s n) refl (first_from k (n + 1) s (omega arith))
-  where
-    go : (b : Bool) → s n ≡ b → None_from s (n + 1) ⊎ First s (n + 1) → None_from s n ⊎ First s n
-    go true q more = inr (record { low = n; reached = omega arith; small = omega arith; before = λ v a b. absurd (omega arith); here = q })
-    go false q (inl none) = inl (λ v a b. elim (cases_lt n v) [
-      | inl w ↦ none v (omega arith) b
-      | inr w ↦ (let z : v ≡ n = omega arith in rw z q)
-    ])
-    go false q (inr f) = inr (record {
-      low = f.low;
-      reached = (let w : n + 1 ≤ f.low = f.reached in omega arith);
-      small = f.small;
-      before = λ v a b. elim (cases_lt n v) [
-        | inl w ↦ f.before v (omega arith) b
-        | inr w ↦ (let z : v ≡ n = omega arith in rw z q)
-      ];
-      here = f.here;
-    })
+record GoesOn (s : Words) (n : ℕ) : Type 0 where
+  ends : ends s n ≡ false
+  small : n + 1 < 4096
+  next : s (n + 1) ≡ true
 
--- The next run.
-pub record Next (s : Words) (n : ℕ) : Type 0 where
-  pub low : ℕ
-  pub high : ℕ
-  pub run : Run s n low high
-
--- From a word on a set has no word, or a run.
-pub next_run : (s : Words) (n : ℕ) → StartsAt s n → None_from s n ⊎ Next s n
-next_run s n starts = elim (cases_lt n 4096) [
-  | inr h ↦ inl (λ v a b. absurd (omega arith))
-  | inl h ↦ elim (first_from (4096 - n) n s (omega arith)) [
-    | inl none ↦ inl none
-    | inr f ↦ inr (made f (last_from (4095 - f.low) f.low f.low s (let q : f.low < 4096 = f.small in omega arith) (omega arith) (only f)))
-  ]
+last_or : (s : Words) (n : ℕ) → s n ≡ true → n < 4096 → IsLast s n ⊎ GoesOn s n
+last_or s n here small = elim (cases_lt n 4095) [
+  | inl h ↦ go (s (n + 1)) refl h
+  | inr h ↦ inl (record { ends = rw (here, eq-eqb n 4095 (omega arith)) refl; none = λ w. absurd (omega arith) })
 ]
   where
-    only : (f : First s n) → (u : ℕ) → f.low ≤ u → u ≤ f.low → s u ≡ true
-    only f u a b = let z : u ≡ f.low = omega arith in rw z f.here
+    go : (b : Bool) → s (n + 1) ≡ b → n < 4095 → IsLast s n ⊎ GoesOn s n
+    go false e h = inl (record { ends = rw (here, e) (or-true (n == 4095)); none = λ w. e })
+    go true e h = inr (record { ends = rw (ne_eqb n 4095 (λ z. omega arith), e) (and-false (s n)); small = omega arith; next = e })
 
-    made : (f : First s n) → Last s f.low → Next s n
-    made f l = record {
-      low = f.low;
-      high = l.high;
-      run = a_run s n f.low l.high starts f.reached l.order l.small f.before l.inside l.after;
+-- The first word of a run.
+first_text : (s : Words) (n : ℕ) (m : Marked s n n) → begins s n ≡ true → marks (n + 1) s ≡ runs_text m.runs ++ comma m.runs ++ octal_text n
+first_text s n m b =
+    marks_more n s ∙ (ap (λ (x : List ℕ). x ++ mark s n) m.text ∙ (ap (λ (x : List ℕ). runs_text m.runs ++ x) (mark_first s n b ∙ ap (λ c. (if c then codes "," else []) ++ octal_text n) m.some) ∙
+    sym (append_assoc (runs_text m.runs) (comma m.runs) (octal_text n))))
+
+one_word : (n : ℕ) → octal_text n ≡ run_text n n
+one_word n = rw (eq-eqb n n refl) (sym (append-nil (octal_text n)))
+
+two_words : (low n : ℕ) → low < n → octal_text low ++ (codes "-" ++ octal_text n) ≡ run_text low n
+two_words low n h = rw (ne_eqb low n (λ z. omega arith)) refl
+
+step : (s : Words) (n : ℕ) → n < 4096 → State s n → State s (n + 1)
+step s n small (inl g) = go (s n) refl
+  where
+    go : (b : Bool) → s n ≡ b → State s (n + 1)
+    go false e = inl (passed s n n g.marked (omega arith) e)
+    go true e =
+        let text : marks (n + 1) s ≡ runs_text g.marked.runs ++ comma g.marked.runs ++ octal_text n = first_text s n g.marked (rw e g.starts) in
+        let here : (v : ℕ) → n ≤ v → v ≤ n → s v ≡ true = (λ v a b. let z : v ≡ n = omega arith in rw z e) in
+        elim (last_or s n e small) [
+          | inl l ↦ inr (inl (ended s n n g.marked (omega arith) small here
+              (text ∙ ap (λ (x : List ℕ). runs_text g.marked.runs ++ comma g.marked.runs ++ x) (one_word n)) l.none))
+          | inr l ↦ inr (inr (record {
+            low = n;
+            before = g.marked;
+            reached = omega arith;
+            small = l.small;
+            inside = λ v a b. elim (cases_lt n v) [
+              | inl w ↦ (let z : v ≡ n + 1 = omega arith in rw z l.next)
+              | inr w ↦ here v a w
+            ];
+            text = text;
+          }))
+        ]
+step s n small (inr (inl d)) = inl (passed s n d.next d.marked d.few (d.none small))
+step s n small (inr (inr o)) =
+    let reached : o.low < n = o.reached in
+    let here : s n ≡ true = o.inside n (omega arith) (omega arith) in
+    let earlier : s (n - 1) ≡ true = o.inside (n - 1) (omega arith) (omega arith) in
+    let inner : begins s n ≡ false = rw (ne_eqb n 0 (λ z. omega arith), earlier) (and-false (s n)) in
+    elim (last_or s n here small) [
+      | inl l ↦ inr (inl (ended s o.low n o.before (omega arith) small o.inside
+          (marks_more n s ∙ (ap (λ (x : List ℕ). x ++ mark s n) o.text ∙
+          (ap (λ (x : List ℕ). (runs_text o.before.runs ++ comma o.before.runs ++ octal_text o.low) ++ x) (mark_last s n inner l.ends) ∙
+          (append_assoc (runs_text o.before.runs ++ comma o.before.runs) (octal_text o.low) (codes "-" ++ octal_text n) ∙
+          ap (λ (x : List ℕ). runs_text o.before.runs ++ comma o.before.runs ++ x) (two_words o.low n reached))))) l.none))
+      | inr l ↦ inr (inr (record {
+        low = o.low;
+        before = o.before;
+        reached = omega arith;
+        small = l.small;
+        inside = λ v a b. elim (cases_lt n v) [
+          | inl w ↦ (let z : v ≡ n + 1 = omega arith in rw z l.next)
+          | inr w ↦ o.inside v a w
+        ];
+        text = marks_more n s ∙ (ap (λ (x : List ℕ). marks n s ++ x) (mark_none s n inner l.ends) ∙ (append-nil (marks n s) ∙ o.text));
+      }))
+    ]
+
+at_first : (s : Words) → Gap s 0
+unfolding marks some_below
+at_first s = record { marked = record { runs = []; closed = none_closed s; some = refl; text = refl }; starts = refl }
+
+up_to : (n : ℕ) (s : Words) → n ≤ 4096 → State s n
+up_to zero s h = inl (at_first s)
+up_to (suc n) s h = let e : n + 1 ≡ suc n = omega arith in subst (State s) e (step s n (omega arith) (up_to n s (omega arith)))
+
+-- Each set has runs, of which the text is what is written of it.
+record Scan (s : Words) : Type 0 where
+  runs : List Run
+  apart : StandApart 0 runs
+  same : (v : ℕ) → v < 4096 → s v ≡ joined nothing runs v
+  text : marks 4096 s ≡ runs_text runs
+
+scan : (s : Words) → Scan s
+scan s = whole (up_to 4096 s (omega arith))
+  where
+    done : (next : ℕ) → Marked s 4096 next → Scan s
+    done next m = record {
+      runs = m.runs;
+      apart = closed_apart s m.runs 4096 next m.closed;
+      same = closed_all s m.runs 4096 next m.closed (λ v a b. absurd (omega arith));
+      text = m.text;
     }
+
+    whole : State s 4096 → Scan s
+    whole (inl g) = done 4096 g.marked
+    whole (inr (inl d)) = done d.next d.marked
+    whole (inr (inr o)) = absurd (let small : 4096 < 4096 = o.small in omega arith)
+
+pub text_all : (s : Words) (rs : List Run) → StandApart 0 rs → ((v : ℕ) → v < 4096 → s v ≡ joined nothing rs v) → marks 4096 s ≡ runs_text rs
+text_all s rs h same =
+    let c : Scan s = scan s in
+    c.text ∙ ap runs_text (one_list 0 0 c.runs rs c.apart h (λ v a. sym (c.same v a) ∙ same v a))
+
+pub text_of : (rs : List Run) → StandApart 0 rs → marks 4096 (set_of_runs rs) ≡ runs_text rs
+text_of rs h = text_all (set_of_runs rs) rs h (λ v a. sym (runs_within rs v a))
+
+-- The set of some runs has a word.
+pub some_runs : (n : ℕ) (r : Run) (rs : List Run) → StandApart n (r ∷ rs) → has_some (set_of_runs (r ∷ rs)) ≡ true
+some_runs n r rs h =
+    let order : r.first ≤ r.last = h.1 in
+    let small : r.last < 4096 = h.2 in
+    some_from 4096 (set_of_runs (r ∷ rs)) r.first (omega arith)
+    (sym (runs_within (r ∷ rs) r.first (omega arith)) ∙ in_first r rs r.first (omega arith) order)
+
+-- The runs of a set with a word.
+pub record RunsOf (s : Words) : Type 0 where
+  pub first : Run
+  pub more : List Run
+  pub apart : StandApart 0 (first ∷ more)
+  pub same : SameWords (set_of_runs (first ∷ more)) s
+  pub text : marks 4096 s ≡ runs_text (first ∷ more)
+
+pub runs_of : (s : Words) → has_some s ≡ true → RunsOf s
+runs_of s full = go c.runs c.apart c.same c.text
+  where
+    c : Scan s
+    c = scan s
+
+    go : (rs : List Run) → StandApart 0 rs → ((v : ℕ) → v < 4096 → s v ≡ joined nothing rs v) → marks 4096 s ≡ runs_text rs → RunsOf s
+    go [] apart same text = absurd (true≢false (sym full ∙ some_none_of 4096 s (λ v a. same v a)))
+    go (r ∷ rs) apart same text = record { first = r; more = rs; apart = apart; same = λ v a. sym (same v a ∙ runs_within (r ∷ rs) v a); text = text }
+
+pub empty_text : (s : Words) → ((v : ℕ) → v < 4096 → s v ≡ false) → set_text s ≡ 45 ∷ []
+empty_text s none = rw (some_none_of 4096 s none) refl
+
+pub full_text : (s : Words) → has_some s ≡ true → set_text s ≡ marks 4096 s
+full_text s e = rw e refl
+
+-- A set is empty, or has runs of which the text is its own.
+pub record Full (s : Words) : Type 0 where
+  pub runs : RunsOf s
+  pub text : set_text s ≡ runs_text (runs.first ∷ runs.more)
+
+pub by_words : (s : Words) → Full s ⊎ ((v : ℕ) → v < 4096 → s v ≡ false)
+by_words s = go (has_some s) refl
+  where
+    go : (b : Bool) → has_some s ≡ b → Full s ⊎ ((v : ℕ) → v < 4096 → s v ≡ false)
+    go true e = inl (record { runs = runs_of s e; text = full_text s e ∙ (runs_of s e).text })
+    go false e = inr (none_of_some 4096 s e)

@@ -1,7 +1,7 @@
 -- The text of a line while it's written.
-use Rattle.std.proofs.Common.{◌≡◌, ◌⊎◌, ℕ, Option, drop, length-append, ◌+◌, ◌<◌, ◌≤◌, ◌==◌, Bool, true, false, List, [], ◌∷◌, ◌++◌, length, refl, ap, ◌∙◌, sym, inl, inr, arith, append_assoc, append-nil, get_or, length-take-le}
-use Rattle.std.specs.Prelude.{take, not, ◌&&◌, if◌then◌else◌, IsTrue}
-use Rattle.std.proofs.lemmas.Bool.{true≢false, eq-eqb, ne_eqb, cases_lt}
+use Rattle.std.proofs.Common.{◌≡◌, ℕ, Option, drop, length-append, ◌+◌, ◌<◌, ◌≤◌, ◌==◌, Bool, false, List, [], ◌∷◌, ◌++◌, length, refl, ap, ◌∙◌, sym, inl, inr, arith, append_assoc, append-nil, get_or, length-take-le}
+use Rattle.std.specs.Prelude.{take, if◌then◌else◌, IsTrue}
+use Rattle.std.proofs.lemmas.Bool.{true≢false, ne_eqb, cases_lt}
 use Rattle.std.proofs.lemmas.List.{take_all, take-append-le, take_more, take-append-drop}
 use Rattle.std.proofs.Math.Seq.{take-add}
 use Rattle.std.specs.Io.KnownBytes.{Appends}
@@ -10,14 +10,14 @@ use Rattle.streams.specs.Bytes.{AppendsFront}
 use Rattle.streams.proofs.BytesLemmas.{front_after}
 use Rattle.certificate.specs.declared.Version.{Version}
 use Rattle.wordset.specs.Words.{Words, all_words, difference, IsFirstFrom, HasNoneFrom}
-use Rattle.wordset.proofs.Tests.{IsSome}
-use Rattle.certificate.specs.Spelling.{marks, digits, offsets_text, Line, line_text, ended, all_ended}
+use Rattle.certificate.specs.Spelling.{marks, set_text, digits, offsets_text, Line, line_text, ended, all_ended}
 use Rattle.certificate.specs.Fields.{run_text}
+use Rattle.certificate.specs.declared.packed.Run.{Run}
+use Rattle.certificate.specs.Packed.{set_of_runs, StandApart}
 use Rattle.certificate.specs.Spelled.{Adds, IsLastOf}
 use Rattle.certificate.proofs.TextLemmas.{both_ended}
-use Rattle.certificate.proofs.PackedLemmas.{still_in}
-use Rattle.certificate.proofs.SetLemmas.{rest, comma, Run, whole_rest, none_rest, run_rest, StartsAt, starts_after, a_run}
-use Rattle.certificate.proofs.RunLemmas.{no_comma, comma_rest}
+use Rattle.certificate.proofs.SetLemmas.{text_of, text_all, some_runs}
+use Rattle.certificate.proofs.ApartLemmas.{runs_text, comma, has_more, runs_more, taken, Closed, none_closed, found_run, closed_all, closed_apart}
 use Rattle.certificate.proofs.DigitLemmas.{digits_more, digits_none, no_offsets, some_offsets, has_offset}
 
 take_twice : (xs ys : List ℕ) (n : ℕ) → take n (take n xs ++ ys) ≡ take n (xs ++ ys)
@@ -51,68 +51,59 @@ whole xs ys text none h a b =
     let e : take 32769 ys ≡ take 32769 text = rw none at h.is in
     sym (take_all 32769 ys a) ∙ (e ∙ take_all 32769 text b)
 
+-- Runs as far as they're written, and whether a comma comes next.
+pub record RunsWritten (old now : List ℕ) (rs : List Run) (n : ℕ) : Type 0 where
+  pub adds : Adds old now (runs_text rs)
+  pub comma_is : (if n == 0 then [] else 44 ∷ []) ≡ comma rs
+
+pub runs_begun : (old : List ℕ) → RunsWritten old old [] 0
+runs_begun old = record { adds = none old; comma_is = refl }
+
+run_written : (old now mid new : List ℕ) (rs : List Run) (n : ℕ) (r : Run) → RunsWritten old now rs n →
+    Adds now mid (if n == 0 then [] else 44 ∷ []) → Adds mid new (run_text r.first r.last) → RunsWritten old new (rs ++ r ∷ []) (r.last + 2)
+run_written old now mid new rs n r h a b =
+    let c : Adds now mid (comma rs) = rw h.comma_is at a in
+    record {
+      adds = rw (runs_more rs r) (joined old mid new (runs_text rs ++ comma rs) (run_text r.first r.last) (joined old now mid (runs_text rs) (comma rs) h.adds c) b);
+      comma_is = rw (ne_eqb (r.last + 2) 0 (λ z. omega arith), has_more rs r) refl;
+    }
+
+pub one_written : (old now mid new : List ℕ) (rs : List Run) (n i : ℕ) (r : Run) → i < length rs → r ≡ get_or rs i r → RunsWritten old now (take i rs) n →
+    Adds now mid (if n == 0 then [] else 44 ∷ []) → Adds mid new (run_text r.first r.last) → RunsWritten old new (take (i + 1) rs) (r.last + 2)
+one_written old now mid new rs n i r h is w a b = rw (taken rs i r h is) (run_written old now mid new (take i rs) n r w a b)
+
+pub runs_written : (old now : List ℕ) (rs : List Run) (n i : ℕ) → StandApart 0 rs → length rs ≤ i → RunsWritten old now (take i rs) n → Adds old now (marks 4096 (set_of_runs rs))
+runs_written old now rs n i apart h w =
+    let e : runs_text (take i rs) ≡ marks 4096 (set_of_runs rs) = ap runs_text (take_all i rs h) ∙ sym (text_of rs apart) in
+    rw e at w.adds
+
 -- A set as far as it's written: its runs before a word.
 pub record SetSofar (old now : List ℕ) (s : Words) (n : ℕ) : Type 0 where
-  pub text : List ℕ
-  pub is : text ++ rest s n ≡ rest s 0
-  pub adds : Adds old now text
-  pub starts : StartsAt s n
-  pub some : (n ≡ 0) ⊎ IsSome n s
+  pub runs : List Run
+  pub closed : Closed s runs n n
+  pub written : RunsWritten old now runs n
 
 pub set_begun : (old : List ℕ) (s : Words) → SetSofar old old s 0
-set_begun old s = record { text = []; is = refl; adds = none old; starts = λ h. refl; some = inl refl }
+set_begun old s = record { runs = []; closed = none_closed s; written = runs_begun old }
 
--- The next run.
-pub found_run : (s others : Words) (n low high : ℕ) → StartsAt s n → IsFirstFrom n s low → IsLastOf others low high →
-    ((v : ℕ) → others v ≡ difference all_words s v) → Run s n low high
-found_run s others n low high starts f l are =
-    a_run s n low high starts f.reached l.order l.small f.before
-    (λ v a b. still_in s v (let q : high < 4096 = l.small in omega arith) (sym (are v) ∙ l.inside v a b)) (after l.stops)
-  where
-    gone : (v : ℕ) → difference all_words s v ≡ true → s v ≡ false
-    gone v e = go (s v) (all_words v) e
-      where
-        go : (b c : Bool) → (c && not b) ≡ true → b ≡ false
-        go false c q = refl
-        go true true q = absurd (true≢false (sym q))
-        go true false q = absurd (true≢false (sym q))
-
-    after : (high ≡ 4095) ⊎ (others (high + 1) ≡ true) → high < 4095 → s (high + 1) ≡ false
-    after (inl e) w = absurd (omega arith)
-    after (inr e) w = gone (high + 1) (sym (are (high + 1)) ∙ e)
-
--- A run more.
-pub run_written : (old now mid new : List ℕ) (s : Words) (n low high : ℕ) → SetSofar old now s n →
-    Adds now mid (if n == 0 then [] else 44 ∷ []) → Adds mid new (run_text low high) → Run s n low high → SetSofar old new s (high + 2)
-run_written old now mid new s n low high h a b run = record {
-  text = h.text ++ (if n == 0 then [] else 44 ∷ []) ++ run_text low high;
-  is =
-      append_assoc (h.text ++ (if n == 0 then [] else 44 ∷ [])) (run_text low high) (rest s (high + 2)) ∙
-      (append_assoc h.text (if n == 0 then [] else 44 ∷ []) (run_text low high ++ rest s (high + 2)) ∙
-      (ap (λ (x : List ℕ). h.text ++ x) (sym (next h.some)) ∙ h.is));
-  adds = joined old mid new (h.text ++ (if n == 0 then [] else 44 ∷ [])) (run_text low high)
-      (joined old now mid h.text (if n == 0 then [] else 44 ∷ []) h.adds a) b;
-  starts = starts_after s n low high run;
-  some = inr (record { at = low; small = (let q : low ≤ high = run.order in omega arith); holds = run.inside low (omega arith) run.order });
+pub set_more : (old now mid new : List ℕ) (s others : Words) (n : ℕ) (r : Run) → SetSofar old now s n → IsFirstFrom n s r.first → IsLastOf others r.first r.last →
+    others ≡ difference all_words s → Adds now mid (if n == 0 then [] else 44 ∷ []) → Adds mid new (run_text r.first r.last) → SetSofar old new s (r.last + 2)
+set_more old now mid new s others n r h f l are a b = record {
+  runs = h.runs ++ r ∷ [];
+  closed = found_run s others h.runs n r h.closed f l are;
+  written = run_written old now mid new h.runs n r h.written a b;
 }
-  where
-    next : (n ≡ 0) ⊎ IsSome n s → rest s n ≡ (if n == 0 then [] else 44 ∷ []) ++ (run_text low high ++ rest s (high + 2))
-    next (inl e) =
-        let f : rest s n ≡ comma s low ++ run_text low high ++ rest s (high + 2) = run_rest s n low high run in
-        let g : comma s low ≡ [] = no_comma s low (λ v k. run.before v (omega arith) k) in
-        let t : (n == 0) ≡ true = eq-eqb n 0 e in
-        rw t (rw g at f)
-    next (inr w) =
-        let f : rest s n ≡ 44 ∷ (run_text low high ++ rest s (high + 2)) = comma_rest s s n low high (λ v a b. refl) w run in
-        let t : (n == 0) ≡ false = ne_eqb n 0 (λ z. let p : w.at < n = w.small in omega arith) in
-        rw t f
 
--- No run more.
 pub set_written : (old now : List ℕ) (s : Words) (n : ℕ) → SetSofar old now s n → HasNoneFrom n s → Adds old now (marks 4096 s)
 set_written old now s n h none =
-    let e : h.text ≡ marks 4096 s =
-    sym (append-nil h.text) ∙ (ap (λ (x : List ℕ). h.text ++ x) (sym (none_rest s n none)) ∙ (h.is ∙ sym (whole_rest s))) in
-    rw e at h.adds
+    let e : marks 4096 s ≡ runs_text h.runs = text_all s h.runs (closed_apart s h.runs n n h.closed) (closed_all s h.runs n n h.closed none) in
+    rw e h.written.adds
+
+-- The text of a set with a run.
+pub full_written : (old now : List ℕ) (rs : List Run) → false ≡ (length rs == 0) → StandApart 0 rs → Adds old now (marks 4096 (set_of_runs rs)) →
+    Adds old now (set_text (set_of_runs rs))
+full_written old now [] some h a = absurd (true≢false (sym some))
+full_written old now (r ∷ rs) some h a = rw (some_runs 0 r rs h) a
 
 -- A text byte by byte.
 pub text_more : (old now new text : List ℕ) (i : ℕ) → i < length text → Adds old now (take i text) →

@@ -162,7 +162,7 @@ fn push_runs<A: Allocator>(runs: &mut Vec<Run, A>, set: &WordSet) -> Result<(), 
     while let Some(first) = set.first_from(next) {
         let last = last_before(&others, first);
         runs.push(Run { first, last })?;
-        next = last.index() + 1;
+        next = last.index() + 2;
     }
     Ok(())
 }
@@ -260,13 +260,10 @@ pub fn stand_apart(runs: &[Run]) -> bool
     true
 }
 
-/// The set of which these are runs. Most sets have one.
+/// The set of which these are runs.
 pub fn set_of(runs: &[Run]) -> WordSet
     ensures { words result ≡ set_of_runs runs.now }
 {
-    if runs.len() == 1 {
-        return WordSet::range(runs[0].first, runs[0].last);
-    }
     let mut set = WordSet::empty();
     put_runs(runs, &mut set);
     set
@@ -289,23 +286,6 @@ fn set_in(runs: &[Run], first: usize, count: usize) -> WordSet
     ensures { words result ≡ set_at runs.now first count }
 {
     set_of(&runs[first..first + count])
-}
-
-/// Puts the first one of two sets into its place.
-fn put_first(runs: &[Run], sets: Counts, place: &mut WordSet)
-    requires { AreWithin (length runs.now) sets }
-    ensures { words place.new ≡ one_at runs.now sets }
-{
-    put_runs(&runs[0..usize::from(sets.one)], place);
-}
-
-/// Puts the other one into its place.
-fn put_other(runs: &[Run], sets: Counts, place: &mut WordSet)
-    requires { AreWithin (length runs.now) sets }
-    ensures { words place.new ≡ other_at runs.now sets }
-{
-    let one = usize::from(sets.one);
-    put_runs(&runs[one..one + usize::from(sets.other)], place);
 }
 
 /// The lent fact's accumulator may hold the words of so many runs from here on. Most sets have one run.
@@ -486,8 +466,10 @@ pub fn routine_of(runs: &[Run], packed: &PackedLine) -> Option<RoutineClaim>
                 sites: WordSet::empty(),
                 writes: WordSet::empty(),
             };
-            put_first(runs, routine.sets, &mut said.sites);
-            put_other(runs, routine.sets, &mut said.writes);
+            let one = usize::from(routine.sets.one);
+            let other = usize::from(routine.sets.other);
+            put_runs(&runs[0..one], &mut said.sites);
+            put_runs(&runs[one..one + other], &mut said.writes);
             Some(said)
         }
         _ => None,

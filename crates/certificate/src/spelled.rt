@@ -169,30 +169,13 @@ impl LineText {
     }
 
     /// Adds the set of so many runs from a place on.
-    fn set_in(&mut self, runs: &[Run], first: usize, count: usize)
+    fn set_in(&mut self, runs: &[Run], first: u16, count: u16)
         requires { first + count ≤ length runs.now }
         ensures { Adds self.old.bytes.items self.new.bytes.items
             (set_text (set_at runs.now first count)) }
     {
-        self.set(&runs[first..first + count]);
-    }
-
-    /// Adds the first one of two sets.
-    fn one(&mut self, runs: &[Run], sets: Counts)
-        requires { AreWithin (length runs.now) sets }
-        ensures { Adds self.old.bytes.items self.new.bytes.items
-            (set_text (one_at runs.now sets)) }
-    {
-        self.set_in(runs, 0, usize::from(sets.one));
-    }
-
-    /// Adds the other one.
-    fn other(&mut self, runs: &[Run], sets: Counts)
-        requires { AreWithin (length runs.now) sets }
-        ensures { Adds self.old.bytes.items self.new.bytes.items
-            (set_text (other_at runs.now sets)) }
-    {
-        self.set_in(runs, usize::from(sets.one), usize::from(sets.other));
+        let first = usize::from(first);
+        self.set(&runs[first..first + usize::from(count)]);
     }
 
     /// Adds an octal digit, where it's wanted.
@@ -255,7 +238,7 @@ impl LineText {
             Version::One => {}
             Version::Two => {
                 self.text(b" mq ");
-                self.other(runs, sets);
+                self.set_in(runs, sets.one, sets.other);
             }
         }
     }
@@ -267,7 +250,7 @@ impl LineText {
             (words_text version (registers_at runs.now registers.now)) }
     {
         self.text(b" ac ");
-        self.one(runs, registers.sets);
+        self.set_in(runs, 0, registers.sets.one);
         self.mq(version, runs, registers.sets);
         self.text(b" link ");
         self.links(registers.link);
@@ -294,9 +277,9 @@ impl LineText {
         self.text(b" rank ");
         self.rank(usize::from(routine.rank));
         self.text(b" sites ");
-        self.one(runs, routine.sets);
+        self.set_in(runs, 0, routine.sets.one);
         self.text(b" writes ");
-        self.other(runs, routine.sets);
+        self.set_in(runs, routine.sets.one, routine.sets.other);
     }
 
     /// Adds the line of a fact.
@@ -350,7 +333,7 @@ impl LineText {
         self.text(b"cell ");
         self.word(cell);
         self.text(b" ");
-        self.set_in(runs, 0, usize::from(count));
+        self.set_in(runs, 0, count);
     }
 
     /// Adds the line of an equation.

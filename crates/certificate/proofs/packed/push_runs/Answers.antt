@@ -1,7 +1,7 @@
 use Rattle.std.proofs.Common.{◌∙◌, ap}
 use Rattle.wordset.specs.Words.{Words, difference}
 use Rattle.wordset.specs.Lanes.{words}
-use Rattle.certificate.proofs.PackedLemmas.{no_runs, run_added, all_runs, few_runs}
+use Rattle.certificate.proofs.ApartLemmas.{no_runs, run_added, all_runs, few_runs}
 use Rattle.certificate.proofs.packed.push_runs.Goals as goal
 
 pub loop-first-init : goal.loop-first-init

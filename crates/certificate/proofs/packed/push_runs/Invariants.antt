@@ -1,6 +1,6 @@
 use Rattle.std.proofs.Common.{◌-◌}
 use Rattle.wordset.specs.Lanes.{words}
-use Rattle.certificate.proofs.PackedLemmas.{RunsSofar}
+use Rattle.certificate.proofs.ApartLemmas.{RunsSofar}
 use Rattle.certificate.proofs.packed.push_runs.Given as goal
 
 abbrev pub invariant-loop-first : goal.invariant-loop-first

@@ -1,10 +1,5 @@
-use Rattle.std.proofs.Common.{◌≡◌, ap, ◌∙◌, List, ℕ, [], Some, length, refl, arith}
+use Rattle.std.proofs.Common.{◌≡◌, ap, ◌∙◌, List, ℕ, [], Some, length, arith}
 use Rattle.std.proofs.lemmas.Bool.{false≢true}
-use Rattle.std.specs.Prelude.{codes, ◌++◌}
-use Rattle.word12.specs.Words.{octal_text}
-use Rattle.certificate.specs.Spelling.{set_text}
-use Rattle.certificate.specs.Packed.{added}
-use Rattle.certificate.specs.Fields.{left}
 use Rattle.certificate.proofs.LineLemmas.{cell_fields}
 use Rattle.certificate.proofs.line.read_cell.Goals as goal
 

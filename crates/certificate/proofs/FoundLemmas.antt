@@ -1,268 +1,191 @@
 -- Lines that are kept, and are found by their places.
-use Rattle.std.proofs.Common.{◌≡◌, ◌≢◌, ℕ, ◌+◌, ◌<◌, ◌≤◌, ◌==◌, Bool, true, false, List, [], ◌∷◌, ◌++◌, length, get_or, drop, Result, Ok, Err, nat_cmp, zero, suc, refl, ap, ◌∙◌, sym, subst, inl, inr, arith, append-nil}
-use Rattle.std.specs.Prelude.{◌*◌, ◌↔◌, if◌then◌else◌, map, MatchResult}
-use Rattle.std.proofs.lemmas.Bool.{eq-eqb, cases_lt}
-use Rattle.std.proofs.lemmas.Bool.Decides.{eqb_tells}
-use Rattle.std.proofs.lemmas.List.Sorted.{searched}
-use Rattle.std.specs.List.Sorted.{IsBinarySearchResult}
-use Rattle.std.proofs.lemmas.List.{get_or_default, map_push}
+use Rattle.std.proofs.Common.{◌≡◌, ℕ, ◌+◌, ◌-◌, ◌<◌, ◌≤◌, true, false, List, [], ◌∷◌, ◌++◌, length, get_or, take, drop, zero, suc, refl, ap, ◌∙◌, sym, inl, inr, arith}
+use Rattle.std.specs.Prelude.{◌*◌}
+use Rattle.std.specs.List.Sorted.{IsNonDecreasingBy}
+use Rattle.std.proofs.lemmas.Bool.{eq-eqb, ne_eqb, cases_Bool}
+use Rattle.std.proofs.lemmas.List.{drop_all, length-drop, length-map}
 use Rattle.certificate.specs.declared.Version.{Version}
-use Rattle.certificate.specs.declared.lines.KeptLines.{KeptLines}
-use Rattle.certificate.specs.Reading.{RiseFrom}
+use Rattle.certificate.specs.declared.packed.Run.{Run}
+use Rattle.certificate.specs.declared.packed.PackedLine.{PackedLine}
+use Rattle.certificate.specs.declared.packed.PackedLine.TheVariants as packed
+use Rattle.certificate.specs.declared.packed.KeptLine.{KeptLine}
 use Rattle.certificate.specs.Spelling.{Line, RoutineIs, FactIs, ExitIs, CellIs, EquationIs, End}
-use Rattle.certificate.specs.Order.{is_detail, is_end, heads, place, next_place}
-use Rattle.certificate.specs.Found.{newest_first, starts, from_place, all_said, IsIndexed, IsWhole, HasBetween, IsNextPlace, Keeps, unended}
+use Rattle.certificate.specs.Packed.{Packed, said_at, kept_at, lines_in, said_lines}
+use Rattle.certificate.specs.Order.{any, is_detail, is_end, heads, place, next_place, AreInOrder}
+use Rattle.certificate.specs.Found.{newest_first, from_place, past, AreRising, last_past, ArePast, IsSought, IsNextPlace, IsWhole, Keeps, unended}
 use Rattle.certificate.proofs.TextLemmas.{newest_both}
 use Rattle.certificate.proofs.GatherLemmas.{Follow, follows}
 
-picked : {X : Type 0} (b : Bool) (x : X) (xs ys zs : List X) → xs ≡ ys ++ zs → (if b then xs else x ∷ xs) ≡ (if b then ys else x ∷ ys) ++ zs
-picked true x xs ys zs e = e
-picked {X} false x xs ys zs e = ap (λ (l : List X). x ∷ l) e
-
-pub heads_more : (ls ms : List Line) → heads (ls ++ ms) ≡ heads ls ++ heads ms
-heads_more [] ms = refl
-heads_more (l ∷ ls) ms = picked (is_detail l) l (heads (ls ++ ms)) (heads ls) (heads ms) (heads_more ls ms)
-
-pub starts_both : (n m : ℕ) (ls ms : List Line) → m ≡ n + length ls → starts n (ls ++ ms) ≡ starts n ls ++ starts m ms
-starts_both n m [] ms e = let z : n ≡ m = omega arith in rw z refl
-starts_both n m (k ∷ ls) ms e =
-    picked (is_detail k) n (starts (n + 1) (ls ++ ms)) (starts (n + 1) ls) (starts m ms) (starts_both (n + 1) m ls ms (omega arith))
-
-starts_count : (n : ℕ) (ls : List Line) → length (starts n ls) ≡ length (map place (heads ls))
-starts_count n [] = refl
-starts_count n (l ∷ ls) = pick (is_detail l) (starts_count (n + 1) ls)
-  where
-    pick : (b : Bool) → length (starts (n + 1) ls) ≡ length (map place (heads ls)) →
-        length (if b then starts (n + 1) ls else n ∷ starts (n + 1) ls) ≡ length (map place (if b then heads ls else l ∷ heads ls))
-    pick true e = e
-    pick false e = omega arith
-
-lines_more : {A : Type 0} (k new : KeptLines A) (l : Line) (before : List Line) → all_said new ≡ all_said k ++ l ∷ [] →
-    Keeps k before → newest_first [] (all_said new) ≡ l ∷ before
-lines_more k new l before e h =
-    ap (λ (x : List Line). newest_first [] x) e ∙
-    (newest_both [] (all_said k) (l ∷ []) ∙ ap (λ (x : List Line). l ∷ x) h.lines)
-
 -- The end is known without being kept.
-pub end_kept : {A : Type 0} (k : KeptLines A) (l : Line) (before : List Line) → is_end l ≡ true → Keeps k before → Keeps k (unended (l ∷ before))
-end_kept k End before e h = h
-end_kept k l before e h = absurd (cc)
+pub end_known : (l : Line) (before : List Line) → is_end l ≡ true → unended (l ∷ before) ≡ before
+end_known End before e = refl
+end_known l before e = absurd (cc)
 
 pub not_end : (l : Line) (before : List Line) → is_end l ≡ false → unended (l ∷ before) ≡ l ∷ before
 not_end End before e = absurd (cc)
 not_end l before e = refl
 
--- A detail was kept.
-pub detail_kept : {A : Type 0} (k new : KeptLines A) (l : Line) (before : List Line) → is_detail l ≡ true →
-    all_said new ≡ all_said k ++ l ∷ [] → new.places.items ≡ k.places.items → new.starts.items ≡ k.starts.items →
-    Keeps k before → Keeps new (l ∷ before)
-detail_kept k new l before d e p s h = record {
-  lines = lines_more k new l before e h;
-  indexed = record {
-    places = p ∙ (h.indexed.places ∙ rw (e, heads_more (all_said k) (l ∷ []), d, append-nil) refl);
-    starts = s ∙ (h.indexed.starts ∙ rw (e, starts_both 0 (length (all_said k)) (all_said k) (l ∷ []) (omega arith), d, append-nil) refl);
-  };
-}
-
 -- Another line was kept.
-pub head_kept : {A : Type 0} (k new : KeptLines A) (l : Line) (before : List Line) → is_detail l ≡ false →
-    all_said new ≡ all_said k ++ l ∷ [] → new.places.items ≡ k.places.items ++ place l ∷ [] →
-    new.starts.items ≡ k.starts.items ++ length (all_said k) ∷ [] → Keeps k before → Keeps new (l ∷ before)
-head_kept k new l before d e p s h = record {
-  lines = lines_more k new l before e h;
-  indexed = record {
-    places = p ∙ rw (h.indexed.places, e, heads_more (all_said k) (l ∷ []), d) (sym (map_push place (heads (all_said k)) l));
-    starts = s ∙ rw (h.indexed.starts, e, starts_both 0 (length (all_said k)) (all_said k) (l ∷ []) (omega arith), d) refl;
-  };
-}
+pub line_kept : (k new : Packed) (l : Line) (before : List Line) → is_end l ≡ false → said_lines new ≡ said_lines k ++ l ∷ [] → Keeps k before →
+    Keeps new (unended (l ∷ before))
+line_kept k new l before e so h =
+    rw (not_end l before e)
+    (ap (λ (x : List Line). newest_first [] x) so ∙ (newest_both [] (said_lines k) (l ∷ []) ∙ ap (λ (x : List Line). l ∷ x) h))
 
--- Places that rise.
-rise_from : (xs : List ℕ) (low j : ℕ) → RiseFrom low xs → j < length xs → low ≤ get_or xs j 0
-rise_from [] low j h g = absurd (omega arith)
-rise_from (x ∷ xs) low zero h g = h.0
-rise_from (x ∷ xs) low (suc j) h g =
-    let a : low ≤ x = h.0 in let b : x + 1 ≤ get_or xs j 0 = rise_from xs (x + 1) j h.1 (omega arith) in omega arith
+-- Lines in order have rising places.
+rising : (v : Version) (before ls : List Line) (n : ℕ) → Follow v before ls → n ≤ next_place (heads before) → AreRising n ls
+rising v before [] n f h = tt
+rising v before (CellIs c ∷ ls) n f h = (omega arith, rising v (CellIs c ∷ before) ls n f.2 h)
+rising v before (EquationIs q ∷ ls) n f h = (omega arith, rising v (EquationIs q ∷ before) ls n f.2 h)
+rising v before (RoutineIs r ∷ ls) n f h = (
+  let o : next_place (heads before) ≤ r.entry = f.1.order in omega arith,
+  rising v (RoutineIs r ∷ before) ls (r.entry + 1) f.2 (omega arith),
+)
+rising v before (FactIs a r m ∷ ls) n f h = (
+  let o : next_place (heads before) ≤ 4096 + a = f.1.order in omega arith,
+  rising v (FactIs a r m ∷ before) ls (4096 + a + 1) f.2 (omega arith),
+)
+rising v before (ExitIs x o r ∷ ls) n f h = (
+  let o : next_place (heads before) ≤ 8192 + (8 * x + o) = f.1.order in omega arith,
+  rising v (ExitIs x o r ∷ before) ls (8192 + (8 * x + o) + 1) f.2 (omega arith),
+)
+rising v before (End ∷ ls) n f h = (
+  let o : next_place (heads before) ≤ 40960 = f.1.order in omega arith,
+  rising v (End ∷ before) ls (40960 + 1) f.2 (omega arith),
+)
 
-rise_all : (xs : List ℕ) (low i j : ℕ) → RiseFrom low xs → i ≤ j → j < length xs → get_or xs i 0 ≤ get_or xs j 0
-rise_all [] low i j h g b = absurd (omega arith)
-rise_all (x ∷ xs) low zero zero h g b = omega arith
-rise_all (x ∷ xs) low zero (suc j) h g b = let c : x + 1 ≤ get_or xs j 0 = rise_from xs (x + 1) j h.1 (omega arith) in omega arith
-rise_all (x ∷ xs) low (suc i) zero h g b = absurd (omega arith)
-rise_all (x ∷ xs) low (suc i) (suc j) h g b = rise_all xs (x + 1) i j h.1 (omega arith) (omega arith)
+pub whole : (v : Version) (k : Packed) → AreInOrder v (newest_first [] (said_lines k)) → any is_end (newest_first [] (said_lines k)) ≡ false → IsWhole v k
+whole v k order no_end = record { order = order; no_end = no_end; rising = rising v [] (said_lines k) 0 (follows v [] (said_lines k) order) (omega arith) }
 
-pub rising : (xs : List ℕ) → RiseFrom 0 xs → (i j : ℕ) → i ≤ j → j < length xs → get_or xs i 0 ≤ get_or xs j 0
-rising xs h i j = rise_all xs 0 i j h
+-- The place after a line isn't a matter of its sets.
+past_same : (n : ℕ) (runs more : List Run) (l : PackedLine) → past n (said_at runs l) ≡ past n (said_at more l)
+past_same n runs more (packed.Routine r) = refl
+past_same n runs more (packed.Fact a r o) = refl
+past_same n runs more (packed.Exit e o r) = refl
+past_same n runs more (packed.Cell a c) = refl
+past_same n runs more (packed.Equation q) = refl
+past_same n runs more packed.End = refl
 
--- Counted on from n, at s stand lines.
-record StandsAt (n : ℕ) (ls : List Line) (s : ℕ) (wanted : List Line) : Type 0 where
-  pub count : ℕ
-  pub is : s ≡ n + count
-  pub within : count ≤ length ls
-  pub rest : drop count ls ≡ wanted
+-- What is kept of the places, with a line more, and of lines at the front.
+pub past_added : (ks : List KeptLine) (n : ℕ) (k : KeptLine) → ArePast n ks → k.past ≡ past (last_past n ks) (said_at [] k.line) → ArePast n (ks ++ k ∷ [])
+past_added [] n k h e = (e, tt)
+past_added (x ∷ ks) n k h e = (h.0, past_added ks x.past k h.1 e)
 
--- The place at i is p, and there the wanted lines stand.
-abbrev Stands : ℕ → List Line → ℕ → List ℕ → List ℕ → List Line → Type 0
-Stands n ls p places at wanted =
-    (i low : ℕ) → RiseFrom low places → i < length places → get_or places i 0 ≡ p → StandsAt n ls (get_or at i 0) wanted
+pub past_front : (ks : List KeptLine) (n i : ℕ) → ArePast n ks → ArePast n (take i ks)
+past_front [] n zero h = tt
+past_front [] n (suc i) h = tt
+past_front (k ∷ ks) n zero h = tt
+past_front (k ∷ ks) n (suc i) h = (h.0, past_front ks k.past i h.1)
 
-stands : (ls : List Line) (n p : ℕ) → Stands n ls p (map place (heads ls)) (starts n ls) (from_place p ls)
-stands [] n p i low h b e = absurd (omega arith)
-stands (l ∷ ls) n p i low h b e = go (stands ls (n + 1) p) (is_detail l) i low h b e
+pub last_is : (ks : List KeptLine) (n i : ℕ) (d : KeptLine) → length ks ≡ suc i → last_past n ks ≡ (get_or ks i d).past
+last_is [] n i d e = absurd (omega arith)
+last_is (k ∷ []) n zero d e = refl
+last_is (k ∷ []) n (suc i) d e = absurd (omega arith)
+last_is (k ∷ x ∷ ks) n zero d e = absurd (omega arith)
+last_is (k ∷ x ∷ ks) n (suc i) d e = last_is (x ∷ ks) k.past i d (omega arith)
+
+-- The place that is kept with a line, and those after it.
+one_past : (runs : List Run) (k : KeptLine) (n : ℕ) → k.past ≡ past n (said_at [] k.line) → k.past ≡ past n (kept_at runs k)
+one_past runs k n e = e ∙ past_same n [] (drop k.first runs) k.line
+
+on : (runs : List Run) (k : KeptLine) (ls : List Line) (n : ℕ) → k.past ≡ past n (said_at [] k.line) → AreRising n (kept_at runs k ∷ ls) →
+    (n ≤ k.past) × AreRising k.past ls
+on runs k ls n e h = rw (one_past runs k n e) h
+
+at_least : (runs : List Run) (ks : List KeptLine) (n j : ℕ) (d : KeptLine) → ArePast n ks → AreRising n (lines_in runs ks) → j < length ks →
+    n ≤ (get_or ks j d).past
+at_least runs [] n j d a h b = absurd (omega arith)
+at_least runs (k ∷ ks) n zero d a h b = (on runs k (lines_in runs ks) n a.0 h).0
+at_least runs (k ∷ ks) n (suc j) d a h b =
+    let o = on runs k (lines_in runs ks) n a.0 h in
+    let x : n ≤ k.past = o.0 in let y : k.past ≤ (get_or ks j d).past = at_least runs ks k.past j d a.1 o.1 (omega arith) in omega arith
+
+pub rises : (runs : List Run) (ks : List KeptLine) (n : ℕ) → ArePast n ks → AreRising n (lines_in runs ks) → IsNonDecreasingBy (λ (k : KeptLine). k.past) ks
+rises runs [] n a h i j d le b = absurd (omega arith)
+rises runs (k ∷ ks) n a h zero zero d le b = omega arith
+rises runs (k ∷ ks) n a h zero (suc j) d le b = at_least runs ks k.past j d a.1 (on runs k (lines_in runs ks) n a.0 h).1 (omega arith)
+rises runs (k ∷ ks) n a h (suc i) zero d le b = absurd (omega arith)
+rises runs (k ∷ ks) n a h (suc i) (suc j) d le b =
+    rises runs ks k.past a.1 (on runs k (lines_in runs ks) n a.0 h).1 i j d (omega arith) (omega arith)
+
+-- A line that is passed over, and one that is found.
+passed : (l : Line) (ls : List Line) (n q : ℕ) → past n l ≤ q → from_place q (l ∷ ls) ≡ from_place q ls
+passed l ls n q h = elim (cases_Bool (is_detail l)) [
+  | inl d ↦ rw d refl
+  | inr d ↦ let z : place l + 1 ≤ q = rw d at h in rw (d, ne_eqb (place l) q (λ e. omega arith)) refl
+]
+
+none_before : (ls : List Line) (n q : ℕ) → AreRising n ls → q + 1 < n → from_place q ls ≡ []
+none_before [] n q h s = refl
+none_before (l ∷ ls) n q h s = elim (cases_Bool (is_detail l)) [
+  | inl d ↦ rw d (none_before ls n q (rw d at h.1) s)
+  | inr d ↦ let z : n ≤ place l + 1 = rw d at h.0 in
+      rw (d, ne_eqb (place l) q (λ e. omega arith)) (none_before ls (place l + 1) q (rw d at h.1) (omega arith))
+]
+
+-- The first line that is at a place or after it.
+pub search_told : (runs : List Run) (ks : List KeptLine) (n p i : ℕ) → ArePast n ks → AreRising n (lines_in runs ks) → n ≤ p → i ≤ length ks →
+    ((j : ℕ) (d : KeptLine) → j < i → (get_or ks j d).past ≤ p) → ((d : KeptLine) → i < length ks → p < (get_or ks i d).past) →
+    IsSought (record { list = ks; runs = runs }) p i
+search_told runs [] n p i a h low few under over = record { within = few; before = λ q d l b. refl; there = λ d b. absurd (omega arith) }
+search_told runs (k ∷ ks) n p zero a h low few under over = elim (cases_Bool (is_detail (kept_at runs k))) [
+  | inl d ↦ absurd (let x : k.past ≡ n = rw d at e in let y : p < k.past = over k (omega arith) in omega arith)
+  | inr d ↦
+      let x : k.past ≡ place (kept_at runs k) + 1 = rw d at e in
+      record {
+        within = few;
+        before = λ q g l b.
+            let y : q + 1 < k.past = b (omega arith) in
+            rw (d, ne_eqb (place (kept_at runs k)) q (λ z. omega arith)) (none_before (lines_in runs ks) k.past q (on runs k (lines_in runs ks) n a.0 h).1 y);
+        there = λ g b. (over g b, rw (d, eq-eqb (place (kept_at runs k)) (k.past - 1) (omega arith)) refl);
+      }
+]
   where
-    later : (s : ℕ) (rest : List Line) → StandsAt (n + 1) ls s rest → StandsAt n (l ∷ ls) s rest
-    later s rest g = record {
-      count = suc g.count;
-      is = (let z = g.is in omega arith);
-      within = (let z = g.within in omega arith);
-      rest = g.rest;
+    e : k.past ≡ past n (kept_at runs k)
+    e = one_past runs k n a.0
+search_told runs (k ∷ ks) n p (suc i) a h low few under over =
+    let here : k.past ≤ p = under 0 k (omega arith) in
+    let e : k.past ≡ past n (kept_at runs k) = one_past runs k n a.0 in
+    let skip : (q : ℕ) → p ≤ q → from_place q (lines_in runs (k ∷ ks)) ≡ from_place q (lines_in runs ks) =
+    λ q b. passed (kept_at runs k) (lines_in runs ks) n q (omega arith) in
+    let rest : IsSought (record { list = ks; runs = runs }) p i =
+    search_told runs ks k.past p i a.1 (on runs k (lines_in runs ks) n a.0 h).1 here (omega arith) (λ j d b. under (suc j) d (omega arith)) (λ d b. over d (omega arith)) in
+    record {
+      within = few;
+      before = λ q d l b. skip q l ∙ rest.before q d l (λ c. b (omega arith));
+      there = λ d b. let t = rest.there d (omega arith) in (t.0, skip ((get_or ks i d).past - 1) (omega (arith, t.0)) ∙ t.1);
     }
 
-    go : Stands (n + 1) ls p (map place (heads ls)) (starts (n + 1) ls) (from_place p ls) → (d : Bool) →
-        Stands n (l ∷ ls) p (map place (if d then heads ls else l ∷ heads ls)) (if d then starts (n + 1) ls else n ∷ starts (n + 1) ls)
-        (if d then from_place p ls else (if place l == p then l ∷ ls else from_place p ls))
-    go s true i low h b e = later _ _ (s i low h b e)
-    go s false zero low h b e = rw (eq-eqb (place l) p e) (record { count = 0; is = omega arith; within = omega arith; rest = refl })
-    go s false (suc j) low h b e =
-        let g : place l + 1 ≤ get_or (map place (heads ls)) j 0 = rise_from (map place (heads ls)) (place l + 1) j h.1 (omega arith) in
-        elim (eqb_tells (place l) p) [
-          | inl t ↦ absurd (let z : place l ≡ p = t.1 in omega arith)
-          | inr t ↦ rw t.0 (later _ _ (s j (place l + 1) h.1 (omega arith) e))
-        ]
+-- What the search tells of the place itself, and of the next one.
+module _ (k : Packed) (p i : ℕ) (s : IsSought k p i) where
+  none : KeptLine
+  none = record { first = 0; past = 0; line = packed.End }
 
--- What stands at a place that was found.
-pub record IsFound {A : Type 0} (k : KeptLines A) (p s : ℕ) : Type 0 where
-  pub within : s ≤ length (all_said k)
-  pub rest : drop s (all_said k) ≡ from_place p (all_said k)
+  left : length (said_lines k) ≡ length k.list
+  left = length-map k.list (kept_at k.runs)
 
-pub found : {A : Type 0} (k : KeptLines A) (i p : ℕ) → IsIndexed k → RiseFrom 0 k.places.items → i < length k.places.items →
-    get_or k.places.items i 0 ≡ p → IsFound k p (get_or k.starts.items i 0)
-found k i p h rise b e =
-    let g : StandsAt 0 (all_said k) (get_or (starts 0 (all_said k)) i 0) (from_place p (all_said k)) =
-    stands (all_said k) 0 p i 0 (rw h.places at rise) (rw h.places at b) (rw h.places at e) in
-    let c : get_or k.starts.items i 0 ≡ g.count = rw h.starts (let z = g.is in omega arith) in
-    rw c (record {
-      within = g.within;
-      rest = g.rest;
-    })
+  pub found_at : (d : KeptLine) → i < length k.list → d ≡ get_or k.list i d → d.past ≡ p + 1 → drop i (said_lines k) ≡ from_place p (said_lines k)
+  found_at d b at e =
+      let same : (get_or k.list i d).past - 1 ≡ p = let z : d.past ≡ (get_or k.list i d).past = ap (λ (x : KeptLine). x.past) at in omega arith in
+      sym (rw same at (s.there d b).1)
 
-nowhere : (ls : List Line) (p : ℕ) → ((i : ℕ) → i < length (map place (heads ls)) → get_or (map place (heads ls)) i 0 ≢ p) → from_place p ls ≡ []
-nowhere [] p none = refl
-nowhere (l ∷ ls) p none = go (nowhere ls p) (is_detail l) none
-  where
-    go : (((i : ℕ) → i < length (map place (heads ls)) → get_or (map place (heads ls)) i 0 ≢ p) → from_place p ls ≡ []) → (d : Bool) →
-        ((i : ℕ) → i < length (map place (if d then heads ls else l ∷ heads ls)) →
-        get_or (map place (if d then heads ls else l ∷ heads ls)) i 0 ≢ p) →
-        (if d then from_place p ls else (if place l == p then l ∷ ls else from_place p ls)) ≡ []
-    go s true none = s none
-    go s false none = elim (eqb_tells (place l) p) [
-      | inl t ↦ absurd (none 0 (omega arith) t.1)
-      | inr t ↦ rw t.0 (s (λ i b. none (suc i) (omega arith)))
-    ]
+  pub found_none : length k.list ≤ i → drop i (said_lines k) ≡ from_place p (said_lines k)
+  found_none b = drop_all i (said_lines k) (omega (arith, left)) ∙ sym (s.before p none (omega arith) (λ c. absurd (omega arith)))
 
-pub in_range : {A : Type 0} (k : KeptLines A) (i : ℕ) → IsIndexed k → i < length k.places.items → i < length k.starts.items
-in_range k i h b =
-    let s : length k.starts.items ≡ length (starts 0 (all_said k)) = ap length h.starts in
-    let p : length k.places.items ≡ length (map place (heads (all_said k))) = ap length h.places in
-    let c : length (starts 0 (all_said k)) ≡ length (map place (heads (all_said k))) = starts_count 0 (all_said k) in omega arith
+  pub next_at : (d : KeptLine) → i < length k.list → d ≡ get_or k.list i d → IsNextPlace (said_lines k) p (d.past - 1)
+  next_at d b at =
+      let z : d.past ≡ (get_or k.list i d).past = ap (λ (x : KeptLine). x.past) at in
+      let t = s.there d b in
+      record {
+        reached = omega (arith, t.0);
+        there = λ l gone. absurd (let n : length (drop i (said_lines k)) ≡ 0 = ap (λ (x : List Line). length x) (sym t.1 ∙ rw z at gone) in
+            omega (arith, left, length-drop i (said_lines k)));
+        before = λ q low high. s.before q d low (λ c. omega (arith, t.0));
+      }
 
-pub not_found : {A : Type 0} (k : KeptLines A) (p : ℕ) → IsIndexed k →
-    ((i : ℕ) → i < length k.places.items → get_or k.places.items i 0 ≢ p) → from_place p (all_said k) ≡ []
-not_found k p h none = nowhere (all_said k) p (λ i b e. none i (rw h.places b) (rw h.places e))
-
--- The places of lines in order rise.
-places_rise : (v : Version) (before ls : List Line) (low : ℕ) → Follow v before ls → low ≤ next_place (heads before) →
-    RiseFrom low (map place (heads ls))
-places_rise v before [] low f h = tt
-places_rise v before (CellIs c ∷ ls) low f h = places_rise v (CellIs c ∷ before) ls low f.2 h
-places_rise v before (EquationIs q ∷ ls) low f h = places_rise v (EquationIs q ∷ before) ls low f.2 h
-places_rise v before (RoutineIs r ∷ ls) low f h = (
-  let o : next_place (heads before) ≤ r.entry = f.1.order in omega arith,
-  places_rise v (RoutineIs r ∷ before) ls (r.entry + 1) f.2 (omega arith),
-)
-places_rise v before (FactIs a r m ∷ ls) low f h = (
-  let o : next_place (heads before) ≤ 4096 + a = f.1.order in omega arith,
-  places_rise v (FactIs a r m ∷ before) ls (4096 + a + 1) f.2 (omega arith),
-)
-places_rise v before (ExitIs x o r ∷ ls) low f h = (
-  let o : next_place (heads before) ≤ 8192 + (8 * x + o) = f.1.order in omega arith,
-  places_rise v (ExitIs x o r ∷ before) ls (8192 + (8 * x + o) + 1) f.2 (omega arith),
-)
-places_rise v before (End ∷ ls) low f h = (
-  let o : next_place (heads before) ≤ 40960 = f.1.order in omega arith,
-  places_rise v (End ∷ before) ls (40960 + 1) f.2 (omega arith),
-)
-
-pub places_of_order : {A : Type 0} (v : Version) (k : KeptLines A) → IsWhole v k → RiseFrom 0 k.places.items
-places_of_order v k w = rw w.indexed.places (places_rise v [] (all_said k) 0 (follows v [] (all_said k) w.order) (omega arith))
-
--- What a search among the places answers.
-abbrev Hit : List ℕ → ℕ → ℕ → Type 0
-Hit places p i = (i < length places) × (get_or places i 0 ≡ p)
-
-abbrev Missed : List ℕ → ℕ → ℕ → Type 0
-Missed places p i =
-    (i ≤ length places) × ((k : ℕ) → k < i → get_or places k 0 < p) × ((k : ℕ) → i ≤ k → k < length places → p < get_or places k 0)
-
-told : (xs places : List ℕ) (p : ℕ) (r : Result ℕ ℕ) → xs ≡ places → IsBinarySearchResult (λ y. nat_cmp y p) xs r → RiseFrom 0 places →
-    MatchResult r (Hit places p) (Missed places p)
-told xs places p r same found_by rise =
-    subst (λ (ys : List ℕ). MatchResult r (Hit ys p) (Missed ys p)) same (searched xs p r found_by (rising xs (rw same rise)))
-
-hit : (xs places : List ℕ) (p i : ℕ) (r : Result ℕ ℕ) → xs ≡ places → r ≡ Ok i → IsBinarySearchResult (λ y. nat_cmp y p) xs r →
-    RiseFrom 0 places → Hit places p i
-hit xs places p i r same is found_by rise = rw is at (told xs places p r same found_by rise)
-
-missed : (xs places : List ℕ) (p i : ℕ) (r : Result ℕ ℕ) → xs ≡ places → r ≡ Err i → IsBinarySearchResult (λ y. nat_cmp y p) xs r →
-    RiseFrom 0 places → Missed places p i
-missed xs places p i r same is found_by rise = rw is at (told xs places p r same found_by rise)
-
-pub sought : {A : Type 0} (k : KeptLines A) (xs : List ℕ) (p i d : ℕ) (r : Result ℕ ℕ) → xs ≡ k.places.items → r ≡ Ok i →
-    IsBinarySearchResult (λ y. nat_cmp y p) xs r → IsIndexed k → RiseFrom 0 k.places.items →
-    (i < length k.starts.items) × IsFound k p (get_or k.starts.items i d)
-sought k xs p i d r same is found_by h rise =
-    let n : Hit k.places.items p i = hit xs k.places.items p i r same is found_by rise in
-    let c : i < length k.starts.items = in_range k i h n.0 in
-    (c, rw (get_or_default k.starts.items i d 0 c) (found k i p h rise n.0 n.1))
-
-pub sought_none : {A : Type 0} (k : KeptLines A) (xs : List ℕ) (p i : ℕ) (r : Result ℕ ℕ) → xs ≡ k.places.items → r ≡ Err i →
-    IsBinarySearchResult (λ y. nat_cmp y p) xs r → IsIndexed k → RiseFrom 0 k.places.items → from_place p (all_said k) ≡ []
-sought_none k xs p i r same is found_by h rise =
-    let n : Missed k.places.items p i = missed xs k.places.items p i r same is found_by rise in
-    not_found k p h (λ j b e. elim (cases_lt j i) [
-      | inl a ↦ (let z : get_or k.places.items j 0 < p = n.1 j a in omega arith)
-      | inr a ↦ (let z : p < get_or k.places.items j 0 = n.2 j a b in omega arith)
-    ])
-
--- From a place on that wasn't found the next one is that of the line at which it would stand.
-pub next_missed : (xs places : List ℕ) (from i : ℕ) (r : Result ℕ ℕ) → xs ≡ places → r ≡ Err i →
-    IsBinarySearchResult (λ y. nat_cmp y from) xs r → RiseFrom 0 places → from ≤ 40960 →
-    (i < length places → IsNextPlace places from (get_or places i 0)) × (length places ≤ i → IsNextPlace places from 40960)
-next_missed xs places from i r same is found_by rise small =
-    let n : Missed places from i = missed xs places from i r same is found_by rise in
-    let late : (k : ℕ) → from ≤ get_or places k 0 → k < length places → i ≤ k = λ k h b. elim (cases_lt k i) [
-      | inl a ↦ absurd (let z : get_or places k 0 < from = n.1 k a in omega arith)
-      | inr a ↦ a
-    ] in (
-      λ b. record {
-        reached = (let z : from < get_or places i 0 = n.2 i (omega arith) b in omega arith);
-        there = λ l. record { at = i; there = b; reached = omega arith; before = omega arith };
-        before = λ h. (let z : get_or places i 0 ≤ get_or places h.at 0 = rising places rise i h.at (late h.at h.reached h.there) h.there in
-            let y = h.before in omega arith);
-      },
-      λ b. record {
-        reached = small;
-        there = λ l. absurd (omega arith);
-        before = λ h. (let z = late h.at h.reached h.there in let y = h.there in omega arith);
-      },
-    )
-
--- A place is between two numbers where the next one from the first on is before the other.
-pub next_tells : (places : List ℕ) (from next end : ℕ) → end ≤ 40960 → IsNextPlace places from next → (next < end) ↔ HasBetween places from end
-next_tells places from next end few n = (
-  λ less. let h : HasBetween places next (next + 1) = n.there (omega arith) in
-      record { at = h.at; there = h.there; reached = (let z = h.reached in let y = n.reached in omega arith); before = (let z = h.before in omega arith) },
-  λ h. elim (cases_lt next end) [
-    | inl a ↦ a
-    | inr b ↦ absurd (n.before (record { at = h.at; there = h.there; reached = h.reached; before = (let z = h.before in omega arith) }))
-  ],
-)
+  pub next_none : length k.list ≤ i → p ≤ 40960 → IsNextPlace (said_lines k) p 40960
+  next_none b few = record {
+    reached = few;
+    there = λ l. absurd (omega arith);
+    before = λ q low high. s.before q none low (λ c. absurd (omega arith));
+  }

@@ -3,26 +3,23 @@ use Rattle.std.proofs.Common.{◌≡◌, ℕ, ◌+◌, ◌*◌, ◌<◌, ◌≤�
 use Rattle.std.specs.Prelude.{map, flat_map, Result, Ok, Err, OnOk}
 use Rattle.std.proofs.lemmas.List.{map_push, append_cancel_right}
 use Rattle.std.proofs.lemmas.List.Concat.{flat_map-append}
-use Rattle.domain.specs.Facts.{Equation}
-use Rattle.domain.specs.Statements.{TrackedCell}
 use Rattle.wordset.specs.Words.{Words}
 use Rattle.wordset.proofs.Tests.{some_from}
 use Rattle.certificate.specs.declared.Version.{Version}
 use Rattle.certificate.specs.declared.Version.TheVariants.{One, Two}
-use Rattle.certificate.specs.declared.lines.KeptLines.{KeptLines}
 use Rattle.certificate.specs.Spelling.{RoutineLine, FactLine, ExitLine, Lines, version_text, text, Line, RoutineIs, FactIs, ExitIs, CellIs, EquationIs, End, line_text, lines_of_fact, lines_of_exit, ended, all_ended}
 use Rattle.certificate.specs.Reading.{RiseFrom, Each, FitsVersion, IsRoutine, IsFactLine, IsExit, AreLines}
 use Rattle.certificate.specs.Line.{IsLine}
-use Rattle.certificate.specs.Order.{any, is_end, is_detail, heads, place, next_place, IsNext, AreInOrder}
+use Rattle.certificate.specs.Order.{any, is_end, heads, next_place, IsNext, AreInOrder}
 use Rattle.certificate.specs.Gathered.{routines_of, facts_of, exits_of, gathered}
-use Rattle.certificate.specs.Found.{newest_first, starts, all_said, IsIndexed, IsWhole, HasMore}
-use Rattle.certificate.specs.Packed.{Begins}
+use Rattle.certificate.specs.Found.{newest_first, IsWhole}
+use Rattle.certificate.specs.Packed.{Packed, said_lines, Begins}
 use Rattle.certificate.specs.Made.{with_routine, with_fact, with_exit, MayAddRoutine, MayAddFact, MayAddExit}
 use Rattle.certificate.proofs.TextLemmas.{newest_both, both_ended, each_append}
 use Rattle.certificate.proofs.TextOrderLemmas.{body_order}
 use Rattle.certificate.proofs.GatherLemmas.{lines_set_out, body_of, gathered_body}
 use Rattle.certificate.proofs.FormLemmas.{gathered_formed}
-use Rattle.certificate.proofs.FoundLemmas.{heads_more, starts_both}
+use Rattle.certificate.proofs.FoundLemmas.{whole}
 
 -- Lines and the end after them.
 places_small : (v : Version) (before : List Line) → AreInOrder v before → any is_end before ≡ false → next_place (heads before) ≤ 40960
@@ -66,17 +63,6 @@ text_of_open v ls h e =
     ap (λ (x : List Line). ended (version_text v) ++ all_ended v (x ++ End ∷ [])) (sym (kept_body v ls h e)) ∙
     (ap (λ (x : List ℕ). ended (version_text v) ++ x) (both_ended v ls (End ∷ [])) ∙
     sym (append_assoc (ended (version_text v)) (all_ended v ls) (ended (line_text v End))))
-
--- Cells and equations are no heads.
-no_heads : (cs : List TrackedCell) (es : List Equation) → heads (map CellIs cs ++ map EquationIs es) ≡ []
-no_heads [] [] = refl
-no_heads [] (e ∷ es) = no_heads [] es
-no_heads (c ∷ cs) es = no_heads cs es
-
-no_starts : (n : ℕ) (cs : List TrackedCell) (es : List Equation) → starts n (map CellIs cs ++ map EquationIs es) ≡ []
-no_starts n [] [] = refl
-no_starts n [] (e ∷ es) = no_starts (n + 1) [] es
-no_starts n (c ∷ cs) es = no_starts (n + 1) cs es
 
 -- Things that rise, and one more.
 rise_push : {A : Type 0} (f : A → ℕ) (xs : List A) (x : A) (low : ℕ) → RiseFrom low (map f xs) → Each (λ y. f y < f x) xs → low ≤ f x →
@@ -146,67 +132,52 @@ body_exit rs fs xs x =
     (append_assoc (map RoutineIs rs ++ flat_map lines_of_fact fs) (flat_map lines_of_exit xs) (lines_of_exit x))
 
 -- What a line more makes of a certificate.
-pub record Added {A : Type 0} (v : Version) (new : KeptLines A) (c : Lines) : Type 0 where
+pub record Added (v : Version) (new : Packed) (c : Lines) : Type 0 where
   pub whole : IsWhole v new
-  pub is : gathered v (all_said new) ≡ c
+  pub is : gathered v (said_lines new) ≡ c
 
 -- Lines that are those of a certificate.
-added : {A : Type 0} (c : Lines) (new : KeptLines A) → AreLines c → all_said new ≡ body_of c → IsIndexed new → Added c.version new c
-added c new h e i =
+added : (c : Lines) (new : Packed) → AreLines c → said_lines new ≡ body_of c → Added c.version new c
+added c new h e =
     let o = body_order c h in
     record {
-      whole = record { order = rw e o.0; no_end = rw e o.1; indexed = i };
+      whole = whole c.version new (rw e o.0) (rw e o.1);
       is = ap (gathered c.version) e ∙ gathered_body c;
     }
 
-pub routine_added : {A : Type 0} (v : Version) (k new : KeptLines A) (r : RoutineLine) → IsWhole v k → r.entry < 4096 →
-    MayAddRoutine (gathered v (all_said k)) r → all_said new ≡ all_said k ++ RoutineIs r ∷ [] → IsIndexed new →
-    Added v new (with_routine (gathered v (all_said k)) r)
+pub routine_added : (v : Version) (k new : Packed) (r : RoutineLine) → IsWhole v k → r.entry < 4096 →
+    MayAddRoutine (gathered v (said_lines k)) r → said_lines new ≡ said_lines k ++ RoutineIs r ∷ [] →
+    Added v new (with_routine (gathered v (said_lines k)) r)
 routine_added v k new r w small m e =
-    added (with_routine (gathered v (all_said k)) r) new
-    (form_routine (gathered v (all_said k)) r small (gathered_formed v (all_said k) w.order) m)
-    (e ∙ (ap (λ (x : List Line). x ++ RoutineIs r ∷ []) (kept_body v (all_said k) w.order w.no_end) ∙
-    body_routine v (routines_of (all_said k)) (facts_of (all_said k)) (exits_of (all_said k)) r m.facts m.exits))
+    added (with_routine (gathered v (said_lines k)) r) new
+    (form_routine (gathered v (said_lines k)) r small (gathered_formed v (said_lines k) w.order) m)
+    (e ∙ (ap (λ (x : List Line). x ++ RoutineIs r ∷ []) (kept_body v (said_lines k) w.order w.no_end) ∙
+    body_routine v (routines_of (said_lines k)) (facts_of (said_lines k)) (exits_of (said_lines k)) r m.facts m.exits))
 
-pub fact_added : {A : Type 0} (v : Version) (k new : KeptLines A) (f : FactLine) → IsWhole v k → f.address < 4096 →
-    MayAddFact (gathered v (all_said k)) f → all_said new ≡ all_said k ++ lines_of_fact f → IsIndexed new →
-    Added v new (with_fact (gathered v (all_said k)) f)
+pub fact_added : (v : Version) (k new : Packed) (f : FactLine) → IsWhole v k → f.address < 4096 →
+    MayAddFact (gathered v (said_lines k)) f → said_lines new ≡ said_lines k ++ lines_of_fact f →
+    Added v new (with_fact (gathered v (said_lines k)) f)
 fact_added v k new f w small m e =
-    added (with_fact (gathered v (all_said k)) f) new
-    (form_fact (gathered v (all_said k)) f small (gathered_formed v (all_said k) w.order) m)
-    (e ∙ (ap (λ (x : List Line). x ++ lines_of_fact f) (kept_body v (all_said k) w.order w.no_end) ∙
-    body_fact (routines_of (all_said k)) (facts_of (all_said k)) (exits_of (all_said k)) f m.exits))
+    added (with_fact (gathered v (said_lines k)) f) new
+    (form_fact (gathered v (said_lines k)) f small (gathered_formed v (said_lines k) w.order) m)
+    (e ∙ (ap (λ (x : List Line). x ++ lines_of_fact f) (kept_body v (said_lines k) w.order w.no_end) ∙
+    body_fact (routines_of (said_lines k)) (facts_of (said_lines k)) (exits_of (said_lines k)) f m.exits))
 
-pub exit_added : {A : Type 0} (v : Version) (k new : KeptLines A) (x : ExitLine) → IsWhole v k → x.entry < 4096 →
-    MayAddExit (gathered v (all_said k)) x → all_said new ≡ all_said k ++ lines_of_exit x → IsIndexed new →
-    Added v new (with_exit (gathered v (all_said k)) x)
+pub exit_added : (v : Version) (k new : Packed) (x : ExitLine) → IsWhole v k → x.entry < 4096 →
+    MayAddExit (gathered v (said_lines k)) x → said_lines new ≡ said_lines k ++ lines_of_exit x →
+    Added v new (with_exit (gathered v (said_lines k)) x)
 exit_added v k new x w small m e =
-    added (with_exit (gathered v (all_said k)) x) new
-    (form_exit (gathered v (all_said k)) x small (gathered_formed v (all_said k) w.order) m)
-    (e ∙ (ap (λ (y : List Line). y ++ lines_of_exit x) (kept_body v (all_said k) w.order w.no_end) ∙
-    body_exit (routines_of (all_said k)) (facts_of (all_said k)) (exits_of (all_said k)) x))
+    added (with_exit (gathered v (said_lines k)) x) new
+    (form_exit (gathered v (said_lines k)) x small (gathered_formed v (said_lines k) w.order) m)
+    (e ∙ (ap (λ (y : List Line). y ++ lines_of_exit x) (kept_body v (said_lines k) w.order w.no_end) ∙
+    body_exit (routines_of (said_lines k)) (facts_of (said_lines k)) (exits_of (said_lines k)) x))
 
 -- Nothing was added.
-pub none_added : {A : Type 0} (v : Version) (k new : KeptLines A) → IsWhole v k → all_said new ≡ all_said k → IsIndexed new →
-    Added v new (gathered v (all_said k))
-none_added v k new w e i = record {
-  whole = record { order = rw e w.order; no_end = rw e w.no_end; indexed = i };
+pub none_added : (v : Version) (k new : Packed) → IsWhole v k → said_lines new ≡ said_lines k →
+    Added v new (gathered v (said_lines k))
+none_added v k new w e = record {
+  whole = whole v new (rw e w.order) (rw e w.no_end);
   is = ap (λ (x : List Line). gathered v x) e;
-}
-
--- The lists of places and of where they stand, with a line more and its details.
-pub index_more : {A : Type 0} (k new : KeptLines A) (head : Line) (cs : List TrackedCell) (es : List Equation) → is_detail head ≡ false →
-    IsIndexed k → HasMore k new head cs es → IsIndexed new
-index_more k new head cs es d h m = record {
-  places = m.places ∙ rw (h.places, m.lines, heads_more (all_said k) (head ∷ (map CellIs cs ++ map EquationIs es)), d, no_heads cs es)
-      (sym (map_push place (heads (all_said k)) head));
-  starts = m.starts ∙ rw (
-    h.starts,
-    m.lines,
-    starts_both 0 (length (all_said k)) (all_said k) (head ∷ (map CellIs cs ++ map EquationIs es)) (omega arith),
-    d,
-    no_starts (length (all_said k) + 1) cs es,
-  ) refl;
 }
 
 -- What follows where a call succeeded.
@@ -232,5 +203,5 @@ order_two : (v : Version) (ls : List Line) → AreInOrder v ls → AreInOrder Tw
 order_two v [] h = tt
 order_two v (l ∷ ls) h = (line_two v l h.0, record { stands = h.1.stands; order = h.1.order; room = h.1.room }, order_two v ls h.2)
 
-pub whole_two : {A : Type 0} (v : Version) (k : KeptLines A) → IsWhole v k → IsWhole Two k
-whole_two v k w = record { order = order_two v (newest_first [] (all_said k)) w.order; no_end = w.no_end; indexed = w.indexed }
+pub whole_two : (v : Version) (k : Packed) → IsWhole v k → IsWhole Two k
+whole_two v k w = whole Two k (order_two v (newest_first [] (said_lines k)) w.order) w.no_end

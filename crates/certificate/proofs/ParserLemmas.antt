@@ -7,17 +7,17 @@ use Rattle.certificate.specs.declared.Version.{Version}
 use Rattle.certificate.specs.declared.CertificateFault.{CertificateFault}
 use Rattle.certificate.specs.declared.CertificateFault.TheVariants as faults
 use Rattle.certificate.specs.declared.progress.Progress.{Progress}
-use Rattle.certificate.specs.declared.lines.KeptLines.{KeptLines}
 use Rattle.certificate.specs.Spelling.{version_text, text as spelled, Line, End, line_text}
 use Rattle.certificate.specs.Order.{any, is_end, may_stand, AreInOrder, front, IsBad, IsMisplaced, IsOneTooMany, Continues}
 use Rattle.certificate.specs.Progress.{Tracks, Declines}
-use Rattle.certificate.specs.Found.{newest_first, all_said, Keeps, IsWhole, unended}
+use Rattle.certificate.specs.Packed.{Packed, said_lines}
+use Rattle.certificate.specs.Found.{newest_first, Keeps, IsWhole, unended}
 use Rattle.certificate.specs.Faults.{most_bytes, NoFeed, HasLine, HasFaultyLine, HasRest, IsCut, AsksForMemory}
 use Rattle.certificate.proofs.LengthLemmas.{line_short, no_feed_both}
 use Rattle.certificate.proofs.TextLemmas.{newest_both}
 use Rattle.certificate.proofs.GatherLemmas.{text_of_gathered}
 use Rattle.certificate.proofs.FormLemmas.{gathered_formed}
-use Rattle.certificate.proofs.FoundLemmas.{not_end}
+use Rattle.certificate.proofs.FoundLemmas.{not_end, whole}
 use Rattle.certificate.proofs.MakerLemmas.{gathered_end}
 use Rattle.certificate.specs.Parser.{Reached, HasRead, WasRead, Parts, Seen, Refuses, IsParsed}
 use Rattle.certificate.specs.declared.parser.Parser.{Parser}
@@ -31,7 +31,7 @@ long_bad v before bytes h l spells stands =
 abbrev pub Kept : List ℕ → List ℕ → List ℕ → List ℕ → Option Progress → Bool → Progress → Type 0
 Kept text line new_text new_line new long p = (new_text ≡ text ++ line ++ 10 ∷ []) × (new_line ≡ []) × (new ≡ Some p) × (long ≡ false)
 
-kept_parts : {A : Type 0} (new_kept : KeptLines A) (text line new_text new_line bytes : List ℕ) (new : Option Progress) (long : Bool) (p : Progress) →
+kept_parts : (new_kept : Packed) (text line new_text new_line bytes : List ℕ) (new : Option Progress) (long : Bool) (p : Progress) →
     bytes ≡ text ++ line → Kept text line new_text new_line new long p → Reached p new_text new_kept →
     Parts new_text new_kept new new_line long (bytes ++ 10 ∷ [])
 kept_parts new_kept text line new_text new_line bytes new long p e k h = record {
@@ -48,14 +48,14 @@ pub was_read : {A : Type 0} (p : Parser A) (bytes : List ℕ) → Seen p bytes �
 was_read p bytes s = record { text = s.text; read = s.parts.read }
 
 -- The line so far, where it isn't too long.
-line_split : {A : Type 0} (kept : KeptLines A) (text line bytes : List ℕ) (progress : Option Progress) → (h : Parts text kept progress line false bytes) → bytes ≡ text ++ line
+line_split : (kept : Packed) (text line bytes : List ℕ) (progress : Option Progress) → (h : Parts text kept progress line false bytes) → bytes ≡ text ++ line
 line_split kept text line bytes progress h = rw (h.same refl) h.split
 
-line_feed : {A : Type 0} (kept : KeptLines A) (text line bytes : List ℕ) (progress : Option Progress) → (h : Parts text kept progress line false bytes) → NoFeed line
+line_feed : (kept : Packed) (text line bytes : List ℕ) (progress : Option Progress) → (h : Parts text kept progress line false bytes) → NoFeed line
 line_feed kept text line bytes progress h = rw (h.same refl) h.feed
 
 -- The first line.
-pub first_kept : {A : Type 0} (kept new_kept : KeptLines A) (text line new_text new_line bytes : List ℕ) (new : Option Progress) (long : Bool) (p : Progress) (v : Version) →
+pub first_kept : (kept new_kept : Packed) (text line new_text new_line bytes : List ℕ) (new : Option Progress) (long : Bool) (p : Progress) (v : Version) →
     Parts text kept None line false bytes → line ≡ version_text v → p.version ≡ v → Tracks p [] → Kept text line new_text new_line new long p →
     new_kept ≡ kept → Parts new_text new_kept new new_line long (bytes ++ 10 ∷ [])
 first_kept kept new_kept text line new_text new_line bytes new long p v h e w t k same =
@@ -100,7 +100,7 @@ ended_last v (End ∷ ls) h e = record { is = refl; order = h.2; no_end = not_en
 ended_last v (l ∷ ls) h e = absurd (true≢false (sym e ∙ not_ended (any is_end ls) _ h.1.stands))
 
 -- A further line.
-pub next_kept : {A : Type 0} (kept mid new_kept : KeptLines A) (text line new_text new_line bytes : List ℕ) (old new : Option Progress) (long : Bool)
+pub next_kept : (kept mid new_kept : Packed) (text line new_text new_line bytes : List ℕ) (old new : Option Progress) (long : Bool)
     (p q : Progress) (l : Line) → old ≡ Some p → Parts text kept old line false bytes → q.version ≡ p.version →
     ((before : List Line) → Tracks p before → Continues p.version before line l × Tracks q (l ∷ before)) → Kept text line new_text new_line new long q →
     ((before : List Line) → Keeps kept before → Keeps mid (unended (l ∷ before))) → new_kept ≡ mid →
@@ -122,7 +122,7 @@ next_kept kept mid new_kept text line new_text new_line bytes old new long p q l
               (k.0 ∙ rw (g.is, e) (append_assoc (front p.version g.before) (line_text p.version l) (10 ∷ [])));
         }
 
-faulty : {A : Type 0} (kept : KeptLines A) (p : Progress) (text line bytes rest : List ℕ) (n : ℕ) (IsFaulty : Version → List Line → List ℕ → Type 0) → (g : Reached p text kept) →
+faulty : (kept : Packed) (p : Progress) (text line bytes rest : List ℕ) (n : ℕ) (IsFaulty : Version → List Line → List ℕ → Type 0) → (g : Reached p text kept) →
     bytes ≡ text ++ line → NoFeed line → length bytes < most_bytes → n ≡ length g.before + 2 → IsFaulty p.version g.before line →
     HasFaultyLine (bytes ++ 10 ∷ [] ++ rest) n IsFaulty
 faulty kept p text line bytes rest n IsFaulty g e feed small number bad = record {
@@ -135,7 +135,7 @@ faulty kept p text line bytes rest n IsFaulty g e feed small number bad = record
   faulty = bad;
 }
 
-pub next_refused : {A : Type 0} (kept : KeptLines A) (text line bytes : List ℕ) (old : Option Progress) (p q : Progress) (f : CertificateFault) → old ≡ Some p →
+pub next_refused : (kept : Packed) (text line bytes : List ℕ) (old : Option Progress) (p q : Progress) (f : CertificateFault) → old ≡ Some p →
     Parts text kept old line false bytes → length bytes < most_bytes →
     ((before : List Line) → Tracks p before → Declines p.version before line f) → Refuses (bytes ++ 10 ∷ []) f
 next_refused kept text line bytes old p q f is h small t = go f t
@@ -158,7 +158,7 @@ next_refused kept text line bytes old p q f is h small t = go f t
     go faults.ReadFault t = absurd (t g.before g.tracks)
 
 -- Memory is asked for where a line comes next that isn't the end.
-pub next_asks : {A : Type 0} (kept : KeptLines A) (text line bytes : List ℕ) (old : Option Progress) (p : Progress) (l : Line) → old ≡ Some p →
+pub next_asks : (kept : Packed) (text line bytes : List ℕ) (old : Option Progress) (p : Progress) (l : Line) → old ≡ Some p →
     Parts text kept old line false bytes → length bytes < most_bytes →
     ((before : List Line) → Tracks p before → Continues p.version before line l) → is_end l ≡ false → AsksForMemory (bytes ++ 10 ∷ [])
 next_asks kept text line bytes old p l is h small t grows = record {
@@ -176,7 +176,7 @@ next_asks kept text line bytes old p l is h small t grows = record {
     g = let z : HasRead (Some p) text kept = rw is at h.read in z
 
 -- A line that is too long.
-pub long_refused : {A : Type 0} (kept : KeptLines A) (text line bytes : List ℕ) (old : Option Progress) (p : Progress) (long : Bool) (n : ℕ) → old ≡ Some p → long ≡ true →
+pub long_refused : (kept : Packed) (text line bytes : List ℕ) (old : Option Progress) (p : Progress) (long : Bool) (n : ℕ) → old ≡ Some p → long ≡ true →
     Parts text kept old line long bytes → length bytes < most_bytes → n ≡ p.number → Refuses (bytes ++ 10 ∷ []) (faults.BadLine n)
 long_refused kept text line bytes old p long n is e h small number =
     inr (λ rest. inl (faulty kept p text h.tail bytes rest n IsBad g h.split h.feed small (number ∙ g.tracks.number) (long_bad p.version g.before h.tail (h.long e))))
@@ -185,7 +185,7 @@ long_refused kept text line bytes old p long n is e h small number =
     g = let z : HasRead (Some p) text kept = rw is at h.read in z
 
 -- The lines that were read, and the bytes after them.
-abbrev pub rest_of : {A : Type 0} (kept : KeptLines A) (text line bytes : List ℕ) (long : Bool) (p : Progress) →
+abbrev pub rest_of : (kept : Packed) (text line bytes : List ℕ) (long : Bool) (p : Progress) →
     Parts text kept (Some p) line long bytes → HasRest bytes
 rest_of kept text line bytes long p h = record {
   version = p.version;
@@ -197,7 +197,7 @@ rest_of kept text line bytes long p h = record {
 }
 
 -- Bytes more of which none is a line feed.
-pub added : {A : Type 0} (kept : KeptLines A) (text line new_line bytes piece : List ℕ) (progress : Option Progress) (long : Bool) → Parts text kept progress line long bytes →
+pub added : (kept : Packed) (text line new_line bytes piece : List ℕ) (progress : Option Progress) (long : Bool) → Parts text kept progress line long bytes →
     NoFeed piece → new_line ≡ line ++ piece → Parts text kept progress new_line long (bytes ++ piece)
 added kept text line new_line bytes piece progress long h n e = record {
   tail = h.tail ++ piece;
@@ -209,7 +209,7 @@ added kept text line new_line bytes piece progress long h n e = record {
 }
 
 -- More than are kept.
-pub passed : {A : Type 0} (kept : KeptLines A) (text line new_line bytes piece : List ℕ) (progress : Option Progress) (long : Bool) → Parts text kept progress line long bytes →
+pub passed : (kept : Packed) (text line new_line bytes piece : List ℕ) (progress : Option Progress) (long : Bool) → Parts text kept progress line long bytes →
     NoFeed piece → (length line + length piece ≤ 32768 → ⊥) → Parts text kept progress new_line true (bytes ++ piece)
 passed kept text line new_line bytes piece progress long h n fits = record {
   tail = h.tail ++ piece;
@@ -231,7 +231,7 @@ passed kept text line new_line bytes piece progress long h n fits = record {
     longer false q = let z : length line ≡ length h.tail = ap length (h.same q) in omega (arith, length-append h.tail piece)
 
 -- A byte past the most.
-pub one_too_many : {A : Type 0} (kept : KeptLines A) (text line bytes : List ℕ) (progress : Option Progress) (long : Bool) (b count : ℕ) → Parts text kept progress line long bytes →
+pub one_too_many : (kept : Packed) (text line bytes : List ℕ) (progress : Option Progress) (long : Bool) (b count : ℕ) → Parts text kept progress line long bytes →
     count ≡ most_bytes → count ≡ length bytes → Refuses (bytes ++ b ∷ []) faults.TooMany
 one_too_many kept text line bytes progress long b count h most e =
     let n : length bytes ≡ most_bytes = sym e ∙ most in
@@ -252,7 +252,7 @@ pub is_full : (n most : ℕ) → true ≡ (n == most) → most ≤ n
 is_full n most e = let z : n ≡ most = eqb-true n most (sym e) in omega arith
 
 -- The bytes end without the end, or with something after it.
-pub cut : {A : Type 0} (kept : KeptLines A) (text line bytes : List ℕ) (long : Bool) (o : Option Progress) (p : Progress) (n : ℕ) → o ≡ Some p → Parts text kept o line long bytes →
+pub cut : (kept : Packed) (text line bytes : List ℕ) (long : Bool) (o : Option Progress) (p : Progress) (n : ℕ) → o ≡ Some p → Parts text kept o line long bytes →
     length bytes ≤ most_bytes → n ≡ p.number →
     ((before : List Line) → Tracks p before → any is_end before ≡ true → long ≡ false → line ≡ [] → ⊥) → IsCut bytes n
 cut kept text line bytes long o p n is h few number lacks = record {
@@ -273,26 +273,22 @@ pub not_empty : (line : List ℕ) → false ≡ (length line == 0) → line ≡ 
 not_empty line e f = true≢false (sym (eq-eqb (length line) 0 (ap length f)) ∙ sym e)
 
 -- The certificate that is kept.
-pub whole_kept : {A : Type 0} (kept : KeptLines A) (text : List ℕ) (o : Option Progress) (p : Progress) (v : Version) → v ≡ p.version → o ≡ Some p →
+pub whole_kept : (kept : Packed) (text : List ℕ) (o : Option Progress) (p : Progress) (v : Version) → v ≡ p.version → o ≡ Some p →
     HasRead o text kept → ((before : List Line) → Tracks p before → any is_end before ≡ true) → IsWhole v kept
 whole_kept kept text o p v same is h ended =
     let g : Reached p text kept = let z : HasRead (Some p) text kept = rw is at h in z in
     let e : Ended p.version g.before = ended_last p.version g.before g.order (ended g.before g.tracks) in
-    record {
-      order = rw (same, g.keeps.lines) e.order;
-      no_end = rw g.keeps.lines e.no_end;
-      indexed = g.keeps.indexed;
-    }
+    whole v kept (rw (same, g.keeps) e.order) (rw g.keeps e.no_end)
 
-pub whole_parsed : {A : Type 0} (kept : KeptLines A) (text line bytes : List ℕ) (o : Option Progress) (p : Progress) (long : Bool) (v : Version) →
+pub whole_parsed : (kept : Packed) (text line bytes : List ℕ) (o : Option Progress) (p : Progress) (long : Bool) (v : Version) →
     v ≡ p.version → o ≡ Some p → ((before : List Line) → Tracks p before → any is_end before ≡ true) →
     IsWhole v kept → Parts text kept o line long bytes → long ≡ false → line ≡ [] → length bytes ≤ most_bytes →
-    IsParsed bytes (record { version = v; lines = kept.lines })
+    IsParsed bytes (record { version = v; lines = kept })
 whole_parsed kept text line bytes o p long v same is ended w h short none few =
     record {
       found = all ∙ (sym (ap (front v) lines) ∙
-          (sym (text_of_gathered v (all_said kept ++ End ∷ []) (rw lines order) (rw lines has_end)) ∙ ap spelled (gathered_end v (all_said kept) w.order w.no_end)));
-      lines = gathered_formed v (all_said kept) w.order;
+          (sym (text_of_gathered v (said_lines kept ++ End ∷ []) (rw lines order) (rw lines has_end)) ∙ ap spelled (gathered_end v (said_lines kept) w.order w.no_end)));
+      lines = gathered_formed v (said_lines kept) w.order;
       is_text = record { lines = g.before; order = order; ended = has_end; text = all; few = few };
     }
   where
@@ -308,10 +304,10 @@ whole_parsed kept text line bytes o p long v same is ended w h short none few =
     all : bytes ≡ front v g.before
     all = h.split ∙ (ap (λ (x : List ℕ). text ++ x) (sym (h.same short) ∙ none) ∙ (append-nil text ∙ (g.is ∙ ap (λ (x : Version). front x g.before) (sym same))))
 
-    lines : newest_first [] (all_said kept ++ End ∷ []) ≡ g.before
+    lines : newest_first [] (said_lines kept ++ End ∷ []) ≡ g.before
     lines =
         let e : Ended p.version g.before = ended_last p.version g.before g.order has_end in
-        newest_both [] (all_said kept) (End ∷ []) ∙ (ap (λ (x : List Line). End ∷ x) g.keeps.lines ∙ sym e.is)
+        newest_both [] (said_lines kept) (End ∷ []) ∙ (ap (λ (x : List Line). End ∷ x) g.keeps ∙ sym e.is)
 
 pub is_empty : (line : List ℕ) → true ≡ (length line == 0) → line ≡ []
 is_empty [] e = refl

@@ -3,12 +3,12 @@ use Rattle.std.proofs.Common.{◌≡◌, ℕ, ◌+◌, ◌*◌, ◌<◌, ◌≤�
 use Rattle.std.specs.Prelude.{if◌then◌else◌, Option, Some, None, IfSome}
 use Rattle.std.proofs.lemmas.Bool.Decides.{eqb_tells}
 use Rattle.certificate.specs.declared.Version.{Version}
-use Rattle.certificate.specs.declared.lines.KeptLines.{KeptLines}
+use Rattle.certificate.specs.Packed.{Packed, said_lines}
 use Rattle.certificate.specs.Spelling.{ExitLine, Line, RoutineIs, FactIs, ExitIs, CellIs, EquationIs, End}
 use Rattle.certificate.specs.Reading.{Each, IsFactLine, IsExit, has_routine, has_fact_in, fact_in, has_exit_in, exit_in, statement_in, exit_statement_in}
 use Rattle.certificate.specs.Line.{IsLine}
 use Rattle.certificate.specs.Gathered.{routines_of, facts_of, exits_of}
-use Rattle.certificate.specs.Found.{from_place, all_said, IsWhole, FitUnderFirst, begins_routine, begins_fact, begins_exit, first_fact, first_exit, fact_statement, exit_statement, SaysFirst}
+use Rattle.certificate.specs.Found.{from_place, IsWhole, FitUnderFirst, begins_routine, begins_fact, begins_exit, first_fact, first_exit, fact_statement, exit_statement, SaysFirst}
 use Rattle.certificate.proofs.GatherLemmas.{follows, each_formed}
 use Rattle.certificate.proofs.FormLemmas.{gathered_formed}
 
@@ -132,42 +132,42 @@ told (Some x) P Q to h = to x h
 told None P Q to h = tt
 
 -- The lines that are kept of a certificate.
-pub formed : {A : Type 0} (v : Version) (k : KeptLines A) → IsWhole v k → Each (IsLine v) (all_said k)
-formed v k w = each_formed v [] (all_said k) (follows v [] (all_said k) w.order)
+pub formed : (v : Version) (k : Packed) → IsWhole v k → Each (IsLine v) (said_lines k)
+formed v k w = each_formed v [] (said_lines k) (follows v [] (said_lines k) w.order)
 
-pub routine_claims : {A : Type 0} (v : Version) (k : KeptLines A) (e : ℕ) (ls : List Line) → IsWhole v k → e < 4096 →
-    ls ≡ from_place e (all_said k) →
-    (begins_routine ls ≡ has_routine (routines_of (all_said k)) e) × SaysFirst (routines_of (all_said k)) e ls
+pub routine_claims : (v : Version) (k : Packed) (e : ℕ) (ls : List Line) → IsWhole v k → e < 4096 →
+    ls ≡ from_place e (said_lines k) →
+    (begins_routine ls ≡ has_routine (routines_of (said_lines k)) e) × SaysFirst (routines_of (said_lines k)) e ls
 routine_claims v k e ls w b at =
-    let f = routines_found v (all_said k) e (formed v k w) b in rw at (sym f.0, f.1)
+    let f = routines_found v (said_lines k) e (formed v k w) b in rw at (sym f.0, f.1)
 
-pub fact_claims : {A : Type 0} (v : Version) (k : KeptLines A) (a : ℕ) (ls : List Line) → IsWhole v k → a < 4096 →
-    ls ≡ from_place (4096 + a) (all_said k) →
-    (begins_fact ls ≡ has_fact_in (facts_of (all_said k)) a) × (first_fact ls ≡ fact_in (facts_of (all_said k)) a) ×
-    (statement_in (facts_of (all_said k)) a ≡ fact_statement ls)
+pub fact_claims : (v : Version) (k : Packed) (a : ℕ) (ls : List Line) → IsWhole v k → a < 4096 →
+    ls ≡ from_place (4096 + a) (said_lines k) →
+    (begins_fact ls ≡ has_fact_in (facts_of (said_lines k)) a) × (first_fact ls ≡ fact_in (facts_of (said_lines k)) a) ×
+    (statement_in (facts_of (said_lines k)) a ≡ fact_statement ls)
 fact_claims v k a ls w b at =
-    let f = facts_found v (all_said k) a (formed v k w) b in rw at (sym f.0, sym f.1, f.2)
+    let f = facts_found v (said_lines k) a (formed v k w) b in rw at (sym f.0, sym f.1, f.2)
 
-pub exit_claims : {A : Type 0} (v : Version) (k : KeptLines A) (e o p : ℕ) (ls : List Line) → IsWhole v k → e < 4096 → o < 8 →
-    p ≡ 8192 + (8 * e + o) → ls ≡ from_place p (all_said k) →
-    (begins_exit ls ≡ has_exit_in (exits_of (all_said k)) e o) × (first_exit ls ≡ exit_in (exits_of (all_said k)) e o) ×
-    (exit_statement_in (exits_of (all_said k)) e o ≡ exit_statement ls)
+pub exit_claims : (v : Version) (k : Packed) (e o p : ℕ) (ls : List Line) → IsWhole v k → e < 4096 → o < 8 →
+    p ≡ 8192 + (8 * e + o) → ls ≡ from_place p (said_lines k) →
+    (begins_exit ls ≡ has_exit_in (exits_of (said_lines k)) e o) × (first_exit ls ≡ exit_in (exits_of (said_lines k)) e o) ×
+    (exit_statement_in (exits_of (said_lines k)) e o ≡ exit_statement ls)
 exit_claims v k e o p ls w b g same at =
-    let f = exits_found v (all_said k) e o (formed v k w) b g in rw (at, same) (sym f.0, sym f.1, f.2)
+    let f = exits_found v (said_lines k) e o (formed v k w) b g in rw (at, same) (sym f.0, sym f.1, f.2)
 
-pub no_claim : {A : Type 0} (v : Version) (k : KeptLines A) (e o : ℕ) → IsWhole v k → 8 ≤ o →
-    has_exit_in (exits_of (all_said k)) e o ≡ false
-no_claim v k e o w g = no_exit v (exits_of (all_said k)) e o (gathered_formed v (all_said k) w.order).exits g
+pub no_claim : (v : Version) (k : Packed) (e o : ℕ) → IsWhole v k → 8 ≤ o →
+    has_exit_in (exits_of (said_lines k)) e o ≡ false
+no_claim v k e o w g = no_exit v (exits_of (said_lines k)) e o (gathered_formed v (said_lines k) w.order).exits g
 
-pub fits : {A : Type 0} (v : Version) (k : KeptLines A) (p : ℕ) (ls : List Line) → IsWhole v k →
-    ls ≡ from_place p (all_said k) → FitUnderFirst ls
+pub fits : (v : Version) (k : Packed) (p : ℕ) (ls : List Line) → IsWhole v k →
+    ls ≡ from_place p (said_lines k) → FitUnderFirst ls
 fits v k p ls w at =
-    let f = gathered_formed v (all_said k) w.order in rw at (fits_first v (all_said k) p f.facts f.exits)
+    let f = gathered_formed v (said_lines k) w.order in rw at (fits_first v (said_lines k) p f.facts f.exits)
 
-pub routine_named : {A : Type 0} (v : Version) (k : KeptLines A) (e : ℕ) → IsWhole v k → e < 4096 →
-    has_routine (routines_of (all_said k)) e ≡ begins_routine (from_place e (all_said k))
-routine_named v k e w b = (routines_found v (all_said k) e (formed v k w) b).0
+pub routine_named : (v : Version) (k : Packed) (e : ℕ) → IsWhole v k → e < 4096 →
+    has_routine (routines_of (said_lines k)) e ≡ begins_routine (from_place e (said_lines k))
+routine_named v k e w b = (routines_found v (said_lines k) e (formed v k w) b).0
 
-pub exit_named : {A : Type 0} (v : Version) (k : KeptLines A) (e o : ℕ) → IsWhole v k → e < 4096 → o < 8 →
-    has_exit_in (exits_of (all_said k)) e o ≡ begins_exit (from_place (8192 + (8 * e + o)) (all_said k))
-exit_named v k e o w b g = (exits_found v (all_said k) e o (formed v k w) b g).0
+pub exit_named : (v : Version) (k : Packed) (e o : ℕ) → IsWhole v k → e < 4096 → o < 8 →
+    has_exit_in (exits_of (said_lines k)) e o ≡ begins_exit (from_place (8192 + (8 * e + o)) (said_lines k))
+exit_named v k e o w b g = (exits_found v (said_lines k) e o (formed v k w) b g).0

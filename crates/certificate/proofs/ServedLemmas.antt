@@ -12,7 +12,7 @@ use Rattle.certificate.specs.declared.CertificateFault.{CertificateFault}
 use Rattle.certificate.specs.declared.CertificateFault.TheVariants as faults
 use Rattle.certificate.specs.declared.progress.Progress.{Progress}
 use Rattle.certificate.specs.declared.parser.Parser.{Parser}
-use Rattle.certificate.specs.declared.lines.KeptLines.{KeptLines}
+use Rattle.certificate.specs.Packed.{Packed}
 use Rattle.certificate.specs.Order.{any, is_end}
 use Rattle.certificate.specs.Faults.{most_bytes, NoFeed, IsText, HasRest, HasFault, AsksForMemory}
 use Rattle.certificate.specs.Kept.{Kept, meaning}
@@ -64,7 +64,7 @@ refused_on xs ys zs fault e (inr settled) = inr (λ rest.
     subst (λ (x : List ℕ). HasFault x fault) (sym (append_assoc xs ys rest) ∙ ap (λ (x : List ℕ). x ++ rest) e) (settled (ys ++ rest)))
 
 -- What may follow the bytes that the parser took.
-module _ {A : Type 0} (kept : KeptLines A) (text line bytes : List ℕ) (long : Bool) where
+module _ (kept : Packed) (text line bytes : List ℕ) (long : Bool) where
   -- Bytes with no line feed go on with the line.
   pub goes_on : (o : Option Progress) → Parts text kept o line long bytes → (more : List ℕ) → NoFeed more → NoFeed (bytes ++ more) ⊎ HasRest (bytes ++ more)
   goes_on None h more feed =
@@ -349,7 +349,7 @@ with_feed before bytes n h e = append_assoc before (take n bytes) (10 ∷ []) �
     ap (λ (x : List ℕ). before ++ x) (ap (λ (b : ℕ). take n bytes ++ b ∷ []) (sym e) ∙ sym (take_more bytes n 0 h))
 
 -- More bytes come than are read, and none of them is a line feed.
-pub too_many : {A : Type 0} (kept : KeptLines A) (text line bytes piece : List ℕ) (progress : Option Progress) (long : Bool) (k : ℕ) → Parts text kept progress line long bytes →
+pub too_many : (kept : Packed) (text line bytes piece : List ℕ) (progress : Option Progress) (long : Bool) (k : ℕ) → Parts text kept progress line long bytes →
     NoFeed piece → length bytes + k ≡ most_bytes → k < length piece → Refuses (bytes ++ piece) faults.TooMany
 too_many kept text line bytes piece progress long k h feed most more = inr (λ rest. inr (
   (let a : length (bytes ++ piece ++ rest) ≡ length (bytes ++ piece) + length rest = length-append (bytes ++ piece) rest in

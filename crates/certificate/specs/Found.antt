@@ -1,16 +1,18 @@
 -- How a line is found by its place, and what stands there; it serves private contracts.
-use Rattle.std.specs.Prelude.{◌≡◌, ℕ, ◌+◌, ◌≤◌, ◌<◌, ◌==◌, get_or, Bool, true, false, if◌then◌else◌, List, [], ◌∷◌, ◌++◌, length, map, Option, Some, None}
-use Rattle.domain.specs.Facts.{Fact, Equation}
+use Rattle.std.specs.Prelude.{◌≡◌, ℕ, ◌+◌, ◌-◌, ◌≤◌, ◌<◌, ◌==◌, get_or, Bool, true, false, if◌then◌else◌, List, [], ◌∷◌, ◌++◌, length, drop, Option, Some, None}
+use Rattle.std.specs.List.{AllByRecursion}
+use Rattle.domain.specs.Facts.{Fact}
 use Rattle.wordset.specs.Words.{everything}
-use Rattle.domain.specs.Statements.{TrackedCell, Statement, fact_of, unknown}
+use Rattle.domain.specs.Statements.{Statement, fact_of, unknown}
 use Rattle.wordset.specs.Lanes.{words}
 use Rattle.certificate.specs.declared.Version.{Version}
 use Rattle.certificate.specs.declared.RoutineClaim.{RoutineClaim}
-use Rattle.certificate.specs.declared.lines.KeptLines.{KeptLines}
-use Rattle.certificate.specs.Spelling.{RoutineLine, Line, RoutineIs, FactIs, ExitIs, CellIs, EquationIs, End}
+use Rattle.certificate.specs.declared.packed.Run.{Run}
+use Rattle.certificate.specs.declared.packed.KeptLine.{KeptLine}
+use Rattle.certificate.specs.Spelling.{RoutineLine, Line, RoutineIs, FactIs, ExitIs, End}
 use Rattle.certificate.specs.Reading.{rank_in, sites_in, writes_in}
-use Rattle.certificate.specs.Order.{is_detail, place, heads, any, is_end, details_of_last, AreInOrder}
-use Rattle.certificate.specs.Packed.{Begins, said_lines}
+use Rattle.certificate.specs.Order.{is_detail, place, any, is_end, details_of_last, AreInOrder}
+use Rattle.certificate.specs.Packed.{Packed, said_at, said_lines, IsKept}
 use Rattle.certificate.specs.Gathered.{cells_under, equations_under, stated}
 
 -- Lines of which the newest is the first, without the end.
@@ -24,60 +26,57 @@ abbrev pub newest_first : List Line → List Line → List Line
 newest_first before [] = before
 newest_first before (l ∷ ls) = newest_first (l ∷ before) ls
 
--- Where the lines stand that aren't details, counted on from a number.
-abbrev pub starts : ℕ → List Line → List ℕ
-starts n [] = []
-starts n (l ∷ ls) = if is_detail l then starts (n + 1) ls else n ∷ starts (n + 1) ls
-
 -- The lines from the first one on that has the place and isn't a detail.
 abbrev pub from_place : ℕ → List Line → List Line
 from_place p [] = []
 from_place p (l ∷ ls) = if is_detail l then from_place p ls else (if place l == p then l ∷ ls else from_place p ls)
 
--- One of these places is a number from one on and before another.
-pub record HasBetween (places : List ℕ) (first end : ℕ) : Type 0 where
-  pub at : ℕ
-  pub there : at < length places
-  pub reached : first ≤ get_or places at 0
-  pub before : get_or places at 0 < end
+-- The least place after a line where this was the least one before it; a detail leaves it as it is.
+abbrev pub past : ℕ → Line → ℕ
+past n l = if is_detail l then n else place l + 1
 
--- The number is the least of these places from another one on, or past all places of lines where there is none.
-pub record IsNextPlace (places : List ℕ) (from next : ℕ) : Type 0 where
+-- The lines that aren't details have rising places, from a number on.
+abbrev pub AreRising : ℕ → List Line → Type 0
+AreRising n [] = Unit {0}
+AreRising n (l ∷ ls) = (n ≤ past n l) × AreRising (past n l) ls
+
+-- The place that is kept with the last line, or this one where there is none.
+abbrev pub last_past : ℕ → List KeptLine → ℕ
+last_past n [] = n
+last_past n (k ∷ ks) = last_past k.past ks
+
+-- With each line the least place after it is kept, where this is the one before all.
+abbrev pub ArePast : ℕ → List KeptLine → Type 0
+ArePast n [] = Unit {0}
+ArePast n (k ∷ ks) = (k.past ≡ past n (said_at [] k.line)) × ArePast k.past ks
+
+-- What is kept with each line is so: the runs of its sets lie among all, and the place is that after it.
+pub record AreKept (runs : List Run) (ks : List KeptLine) : Type 0 where
+  pub within : AllByRecursion (IsKept (length runs)) ks
+  pub past : ArePast 0 ks
+
+-- So many lines come before the first one that is at a place or after it.
+pub record IsSought (k : Packed) (p i : ℕ) : Type 0 where
+  pub within : i ≤ length k.list
+  pub before : (q : ℕ) (d : KeptLine) → p ≤ q → (i < length k.list → q + 1 < (get_or k.list i d).past) → from_place q (said_lines k) ≡ []
+  pub there : (d : KeptLine) → i < length k.list →
+      (p < (get_or k.list i d).past) × (from_place ((get_or k.list i d).past - 1) (said_lines k) ≡ drop i (said_lines k))
+
+-- A number is the least place of these lines from another one on, or past all places where there is none.
+pub record IsNextPlace (ls : List Line) (from next : ℕ) : Type 0 where
   pub reached : from ≤ next
-  pub there : next < 40960 → HasBetween places next (next + 1)
-  pub before : HasBetween places from next → ⊥
-
--- The lines that are kept.
-abbrev pub all_said : {A : Type 0} → KeptLines A → List Line
-all_said k = said_lines k.lines
-
--- The lists of places and of where they stand are those of the lines.
-pub record IsIndexed {A : Type 0} (k : KeptLines A) : Type 0 where
-  pub places : k.places.items ≡ map place (heads (all_said k))
-  pub starts : k.starts.items ≡ starts 0 (all_said k)
+  pub there : next < 40960 → from_place next ls ≡ [] → ⊥
+  pub before : (p : ℕ) → from ≤ p → p < next → from_place p ls ≡ []
 
 -- These lines are kept, of which the newest is the first.
-pub record Keeps {A : Type 0} (k : KeptLines A) (before : List Line) : Type 0 where
-  pub lines : newest_first [] (all_said k) ≡ before
-  pub indexed : IsIndexed k
-
--- What is kept begins with what was.
-pub record Extends {A : Type 0} (old new : KeptLines A) : Type 0 where
-  pub lines : Begins (all_said old) (all_said new)
-  pub places : Begins old.places.items new.places.items
-  pub starts : Begins old.starts.items new.starts.items
-
--- A line that isn't a detail is kept too, with its cells and equations.
-pub record HasMore {A : Type 0} (old new : KeptLines A) (head : Line) (cells : List TrackedCell) (equations : List Equation) : Type 0 where
-  pub lines : all_said new ≡ all_said old ++ (head ∷ (map CellIs cells ++ map EquationIs equations))
-  pub places : new.places.items ≡ old.places.items ++ place head ∷ []
-  pub starts : new.starts.items ≡ old.starts.items ++ length (all_said old) ∷ []
+abbrev pub Keeps : Packed → List Line → Type 0
+Keeps k before = newest_first [] (said_lines k) ≡ before
 
 -- The lines that are kept are in order, and the end isn't among them.
-pub record IsWhole {A : Type 0} (v : Version) (k : KeptLines A) : Type 0 where
-  pub order : AreInOrder v (newest_first [] (all_said k))
-  pub no_end : any is_end (newest_first [] (all_said k)) ≡ false
-  pub indexed : IsIndexed k
+pub record IsWhole (v : Version) (k : Packed) : Type 0 where
+  pub order : AreInOrder v (newest_first [] (said_lines k))
+  pub no_end : any is_end (newest_first [] (said_lines k)) ≡ false
+  pub rising : AreRising 0 (said_lines k)
 
 -- There is room in a fact for the cells and equations at the front.
 abbrev pub FitUnder : List Line → Type 0

@@ -4,17 +4,17 @@ use Rattle.certificate.specs.declared.CertificateFault.{CertificateFault}
 use Rattle.certificate.specs.declared.CertificateFault.TheVariants.{NoMemory}
 use Rattle.certificate.specs.declared.progress.Progress.{Progress}
 use Rattle.certificate.specs.declared.parser.Parser.{Parser}
-use Rattle.certificate.specs.declared.lines.KeptLines.{KeptLines}
 use Rattle.certificate.specs.Spelling.{text, Line}
 use Rattle.certificate.specs.Reading.{AreLines}
 use Rattle.certificate.specs.Order.{AreInOrder, front}
 use Rattle.certificate.specs.Progress.{Tracks}
 use Rattle.certificate.specs.Faults.{NoFeed, HasFault, AsksForMemory, IsText, most_bytes}
+use Rattle.certificate.specs.Packed.{Packed}
 use Rattle.certificate.specs.Found.{Keeps, unended}
 use Rattle.certificate.specs.Kept.{Kept, meaning}
 
 -- Lines in order of which the text is this and what is kept is that.
-pub record Reached {A : Type 0} (p : Progress) (text : List ℕ) (kept : KeptLines A) : Type 0 where
+pub record Reached (p : Progress) (text : List ℕ) (kept : Packed) : Type 0 where
   pub before : List Line
   pub order : AreInOrder p.version before
   pub tracks : Tracks p before
@@ -22,12 +22,12 @@ pub record Reached {A : Type 0} (p : Progress) (text : List ℕ) (kept : KeptLin
   pub keeps : Keeps kept (unended before)
 
 -- The whole lines that were read.
-abbrev pub HasRead : {A : Type 0} → Option Progress → List ℕ → KeptLines A → Type 0
+abbrev pub HasRead : Option Progress → List ℕ → Packed → Type 0
 HasRead None text kept = (text ≡ []) × Keeps kept []
 HasRead (Some p) text kept = Reached p text kept
 
 -- The bytes are whole lines that were read, of this text, and a line so far, whose bytes are kept unless there are too many.
-pub record Parts {A : Type 0} (text : List ℕ) (kept : KeptLines A) (progress : Option Progress) (line : List ℕ) (is_long : Bool) (bytes : List ℕ) : Type 0 where
+pub record Parts (text : List ℕ) (kept : Packed) (progress : Option Progress) (line : List ℕ) (is_long : Bool) (bytes : List ℕ) : Type 0 where
   pub tail : List ℕ
   pub split : bytes ≡ text ++ tail
   pub read : HasRead progress text kept
@@ -41,7 +41,7 @@ pub record Seen {A : Type 0} (p : Parser A) (bytes : List ℕ) : Type 0 where
   pub text : List ℕ
   pub parts : Parts text p.kept p.progress p.line.items p.is_long bytes
 
-pub record WasRead {A : Type 0} (progress : Option Progress) (kept : KeptLines A) : Type 0 where
+pub record WasRead (progress : Option Progress) (kept : Packed) : Type 0 where
   pub text : List ℕ
   pub read : HasRead progress text kept
 

@@ -20,7 +20,8 @@ ghost use Rattle.certificate.specs.Sample.{SampleLaw};
 ghost use Rattle.certificate.specs.Line.{TextLaw};
 ghost use Rattle.certificate.specs.Exact.{SpellingLaw, MeaningLaw, ReadingLaw, ReadBackLaw, FaultLaw};
 
-use crate::lines::{KeptLines, first_exit, first_fact, first_routine};
+use crate::lines::{first_exit, first_fact, first_routine};
+use crate::packed::PackedLines;
 use crate::parser::Parser;
 use crate::progress::{FIRST_EXIT, FIRST_FACT};
 use crate::spelled::{put_text, put_with_details};
@@ -71,7 +72,7 @@ pub struct RoutineClaim {
 #[derive(Drop)]
 pub struct Certificate<A: Allocator> {
     version: Version,
-    kept: KeptLines<A>,
+    kept: PackedLines<A>,
 }
 
 impl<A: Allocator> Model for Certificate<A> {
@@ -80,7 +81,7 @@ impl<A: Allocator> Model for Certificate<A> {
 
     ghost Value = { Kept };
 
-    ghost view = { λ c. record { version = c.version; lines = c.kept.lines } };
+    ghost view = { λ c. record { version = c.version; lines = c.kept } };
 
     // The lines are in order.
     ghost invariant = { λ c. IsWhole c.version c.kept };
@@ -147,7 +148,7 @@ impl<A: Allocator> Certificate<A> {
             (text (meaning self.now))) }
         ensures marks { W.mark sink.new ≡ is_err result }
     {
-        match put_text(sink, self.version, self.kept.lines()) {
+        match put_text(sink, self.version, &self.kept) {
             Ok(()) => Ok(()),
             Err(_) => Err(WriteFault),
         }
@@ -168,7 +169,7 @@ impl<A: Allocator> Certificate<A> {
         ensures marks { W.mark sink.new ≡ is_err result }
     {
         let start = self.kept.from(FIRST_FACT + at.index());
-        match put_with_details(sink, self.version, self.kept.lines(), start) {
+        match put_with_details(sink, self.version, &self.kept, start) {
             Ok(()) => Ok(()),
             Err(_) => Err(WriteFault),
         }
@@ -181,7 +182,7 @@ impl<A: Allocator> Certificate<A> {
         ensures sites { IfSome result (λ r. words r.sites ≡ (claims self.now).sites entry) }
         ensures writes { IfSome result (λ r. words r.writes ≡ (claims self.now).writes entry) }
     {
-        first_routine(self.kept.lines(), self.kept.from(entry.index()))
+        first_routine(&self.kept, self.kept.from(entry.index()))
     }
 
     /// Whether a routine of this entry is listed, or it is said what holds when it returns by some
@@ -191,7 +192,7 @@ impl<A: Allocator> Certificate<A> {
     {
         let routine = entry.index();
         let exits = FIRST_EXIT + 8 * routine;
-        self.kept.has_between(routine, routine + 1) || self.kept.has_between(exits, exits + 8)
+        self.kept.next_place(routine) == routine || self.kept.next_place(exits) < exits + 8
     }
 
     /// The least address from a number on at which something is claimed: that of a fact, or the entry
@@ -245,7 +246,7 @@ impl<A: Allocator> Certificate<A> {
         ensures kept { result ≡ false → fact.new ≡ fact.old }
     {
         let start = self.kept.from(FIRST_FACT + at.index());
-        first_fact(self.kept.lines(), start, fact)
+        first_fact(&self.kept, start, fact)
     }
 
     /// What holds when the routine of an entry returns by an offset, if that is said; it has all
@@ -284,7 +285,7 @@ impl<A: Allocator> Certificate<A> {
             return false;
         }
         let start = kept.from(FIRST_EXIT + 8 * entry.index() + offset);
-        first_exit(kept.lines(), start, exit)
+        first_exit(kept, start, exit)
     }
 }
 

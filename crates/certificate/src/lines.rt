@@ -1,54 +1,23 @@
 //! The lines of a certificate as they are kept, and what is found in them.
 
-ghost use Rattle.std.specs.Prelude.{ℕ, ◌≡◌, ◌+◌, ◌<◌, ◌≤◌, ◌^◌, List, [], ◌∷◌, ◌++◌, length, map, drop, OnOk, OnErr, Some, IfSome, is_some, true, false};
-ghost use Rattle.std.specs.Prelude.{is_ok, if◌then◌else◌, ◌↔◌, IsTrue};
+ghost use Rattle.std.specs.Prelude.{ℕ, ◌≡◌, ◌+◌, ◌<◌, List, [], ◌∷◌, ◌++◌, length, map, drop, OnOk, OnErr, Some, IfSome, is_some, true, false};
+ghost use Rattle.std.specs.Prelude.{is_ok, if◌then◌else◌};
 ghost use Rattle.domain.specs.Meaning.{statement_of, offsets_of, tracked_cells, equation_of, meaning as fact_meaning};
 ghost use Rattle.domain.specs.Changes.{with_offsets};
 ghost use Rattle.wordset.specs.Words.{everything};
 ghost use Rattle.certificate.specs.Spelling.{RoutineLine as SaidRoutine, Line as SaidLine, CellIs, EquationIs};
-ghost use Rattle.certificate.specs.Reading.{RiseFrom};
-ghost use Rattle.certificate.specs.Order.{is_detail, is_end, place};
+ghost use Rattle.certificate.specs.Order.{is_end};
 ghost use Rattle.certificate.specs.Adding.{HasRoomUnder};
 ghost use Rattle.certificate.specs.Claimed.{claimed_line};
 ghost use Rattle.certificate.specs.Packed.{Begins, said_at, said_lines, LiesWithin};
-ghost use Rattle.certificate.specs.Found.{from_place, all_said, Keeps, unended, Extends, HasMore, IsIndexed, HasBetween, IsNextPlace, FitUnderFirst, with_details, IsRoutineOf, begins_routine, begins_fact, begins_exit, first_fact, first_exit, fact_statement, exit_statement, SaysFirst};
+ghost use Rattle.certificate.specs.Found.{Keeps, unended, FitUnderFirst, with_details, IsRoutineOf, begins_routine, begins_fact, begins_exit, first_fact, first_exit, fact_statement, exit_statement, SaysFirst};
 
 use crate::RoutineClaim;
 use crate::packed::{Claim, PackedLine, PackedLines, Run, add, begin_exit, begin_fact, routine_of};
-use crate::progress::{LAST_PLACE, place_of};
 use domain::{Equation, Fact, TrackedCells};
 use std::alloc::{AllocError, Allocator};
 
-/// Lines in their order. Those that aren't details of another one have rising places, so that they
-/// are found by them.
-#[derive(Drop)]
-pub struct KeptLines<A: Allocator> {
-    lines: PackedLines<A>,
-    places: Vec<u32, A>,
-    starts: Vec<usize, A>,
-}
-
-impl<A: Allocator + Copy> KeptLines<A> {
-    /// No line.
-    pub fn new(alloc: A) -> KeptLines<A>
-        ensures { Keeps result [] }
-    {
-        KeptLines {
-            lines: PackedLines::new(alloc),
-            places: Vec::new(alloc),
-            starts: Vec::new(alloc),
-        }
-    }
-}
-
-impl<A: Allocator> KeptLines<A> {
-    /// The lines.
-    pub fn lines(&self) -> &PackedLines<A>
-        ensures { said_lines result.now ≡ all_said self.now }
-    {
-        &self.lines
-    }
-
+impl<A: Allocator> PackedLines<A> {
     /// Keeps a line more, whose runs these are; the end is known without it.
     pub fn keep(&mut self, line: &PackedLine, runs: &[Run]) -> Result<(), AllocError>
         requires { LiesWithin (length runs.now) line.now }
@@ -59,102 +28,27 @@ impl<A: Allocator> KeptLines<A> {
         if line.is_end() {
             return Ok(());
         }
-        if line.is_detail() {
-            return self.lines.push(line, runs);
-        }
-        self.places.push(place_of(line) as u32)?;
-        self.starts.push(self.lines.len())?;
-        self.lines.push(line, runs)
+        self.push(line, runs)
     }
 
-    /// Keeps the line at a place with its cells and equations: all of them, or none.
+    /// Keeps the line of a claim with its cells and equations: all of them, or none.
     pub fn keep_all(
         &mut self,
-        at: usize,
         head: &Claim<'_>,
         cells: &TrackedCells,
         equations: &[Equation],
     ) -> Result<(), AllocError>
-        requires head { is_detail (claimed_line head.now) ≡ false }
-        requires at { at ≡ place (claimed_line head.now) }
-        requires small { at < 2 ^ 32 }
-        requires indexed { IsIndexed self.old }
-        ensures indexed { IsIndexed self.new }
-        ensures lines { all_said self.new ≡ (if is_ok result
-            then all_said self.old ++ (claimed_line head.now ∷
+        ensures { said_lines self.new ≡ (if is_ok result
+            then said_lines self.old ++ (claimed_line head.now ∷
             (map CellIs (tracked_cells cells.now) ++ map EquationIs (map equation_of equations.now)))
-            else all_said self.old) }
+            else said_lines self.old) }
     {
-        let lines = self.lines.len();
-        let places = self.places.len();
-        let starts = self.starts.len();
-        match self.push_lines(at, head, cells, equations) {
+        let count = self.len();
+        match push_all(self, head, cells, equations) {
             Ok(()) => Ok(()),
             Err(refused) => {
-                self.lines.truncate(lines);
-                self.places.truncate(places);
-                self.starts.truncate(starts);
+                self.truncate(count);
                 Err(refused)
-            }
-        }
-    }
-
-    /// The same, but where it's refused some of it may be kept.
-    fn push_lines(
-        &mut self,
-        at: usize,
-        head: &Claim<'_>,
-        cells: &TrackedCells,
-        equations: &[Equation],
-    ) -> Result<(), AllocError>
-        requires at { at ≡ place (claimed_line head.now) }
-        requires small { at < 2 ^ 32 }
-        ensures front { Extends self.old self.new }
-        ensures whole { OnOk result
-            (HasMore self.old self.new (claimed_line head.now) (tracked_cells cells.now)
-            (map equation_of equations.now)) }
-    {
-        self.places.push(at as u32)?;
-        self.starts.push(self.lines.len())?;
-        push_all(&mut self.lines, head, cells, equations)
-    }
-
-    /// Where the lines from the one of a place on begin, or past all where no line has it.
-    pub fn from(&self, place: usize) -> usize
-        requires indexed { IsIndexed self.now }
-        requires order { RiseFrom 0 self.now.places.items }
-        requires small { place < 2 ^ 32 }
-        ensures { drop result (all_said self.now) ≡ from_place place (all_said self.now) }
-    {
-        match self.places.binary_search(&(place as u32)) {
-            Ok(at) => self.starts[at],
-            Err(_) => self.lines.len(),
-        }
-    }
-
-    /// Whether a line has a place from one number on and before another.
-    pub fn has_between(&self, first: usize, end: usize) -> bool
-        requires order { RiseFrom 0 self.now.places.items }
-        requires small { (first ≤ 40960) × (end ≤ 40960) }
-        ensures { IsTrue result ↔ HasBetween self.now.places.items first end }
-    {
-        self.next_place(first) < end
-    }
-
-    /// The least place of a line from a number on, or that of the end, which isn't kept.
-    pub fn next_place(&self, from: usize) -> usize
-        requires order { RiseFrom 0 self.now.places.items }
-        requires small { from ≤ 40960 }
-        ensures { IsNextPlace self.now.places.items from result }
-    {
-        match self.places.binary_search(&(from as u32)) {
-            Ok(_) => from,
-            Err(at) => {
-                if at < self.places.len() {
-                    self.places[at] as usize
-                } else {
-                    LAST_PLACE
-                }
             }
         }
     }

@@ -4,9 +4,7 @@ ghost use Rattle.std.specs.Prelude.{◌≡◌, ◌<◌, OnOk, OnErr};
 ghost use Rattle.certificate.specs.Kept.{meaning, claims};
 ghost use Rattle.certificate.specs.Made.{no_lines, routine_at, fact_at, exit_at, with_routine, with_fact, with_exit, MayAddRoutine, MayAddFact, MayAddExit, migrated};
 
-use crate::lines::KeptLines;
-use crate::packed::Claim;
-use crate::progress::{FIRST_EXIT, FIRST_FACT};
+use crate::packed::{Claim, PackedLines};
 use crate::{Certificate, RoutineClaim, Version};
 use domain::{Fact, TrackedCells};
 use std::alloc::Allocator;
@@ -25,7 +23,7 @@ impl<A: Allocator + Copy> Certificate<A> {
     {
         Certificate {
             version,
-            kept: KeptLines::new(alloc),
+            kept: PackedLines::new(alloc),
         }
     }
 }
@@ -46,7 +44,7 @@ impl<A: Allocator> Certificate<A> {
         let index = entry.index();
         prove!(index < 4096);
         let line = Claim::Routine(entry, routine.rank as u8, routine);
-        match self.kept.keep_all(index, &line, &TrackedCells::new(), &[]) {
+        match self.kept.keep_all(&line, &TrackedCells::new(), &[]) {
             Ok(()) => Ok(()),
             Err(_) => Err(NoMemory),
         }
@@ -66,12 +64,8 @@ impl<A: Allocator> Certificate<A> {
     {
         let index = at.index();
         prove!(index < 4096);
-        let place = FIRST_FACT + index;
         let line = Claim::Fact(at, fact);
-        match self
-            .kept
-            .keep_all(place, &line, fact.cells(), fact.equations())
-        {
+        match self.kept.keep_all(&line, fact.cells(), fact.equations()) {
             Ok(()) => Ok(()),
             Err(_) => Err(NoMemory),
         }
@@ -92,12 +86,8 @@ impl<A: Allocator> Certificate<A> {
     {
         let index = entry.index();
         prove!(index < 4096);
-        let place = FIRST_EXIT + 8 * index + offset;
         let line = Claim::Exit(entry, offset as u8, fact);
-        match self
-            .kept
-            .keep_all(place, &line, fact.cells(), fact.equations())
-        {
+        match self.kept.keep_all(&line, fact.cells(), fact.equations()) {
             Ok(()) => Ok(()),
             Err(_) => Err(NoMemory),
         }

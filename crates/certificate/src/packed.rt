@@ -7,13 +7,14 @@ ghost use Rattle.certificate.specs.declared.packed.Run.{Run};
 ghost use Rattle.certificate.specs.Spelling.{registers_of};
 ghost use Rattle.certificate.specs.Order.{is_detail, is_end};
 ghost use Rattle.certificate.specs.Gathered.{stated};
-ghost use Rattle.certificate.specs.Found.{begins_routine, begins_fact, begins_exit};
+ghost use Rattle.certificate.specs.Found.{past, last_past, AreRising, IsSought, IsNextPlace, from_place, begins_routine, begins_fact, begins_exit};
 ghost use Rattle.certificate.specs.Adding.{with_line, HasRoomFor, IsFactLine, IsExitLine, IsRoutineLine};
 ghost use Rattle.certificate.specs.Claimed.{claimed_line};
 ghost use Rattle.certificate.specs.Spelled.{IsLastOf};
 ghost use Rattle.certificate.specs.Packed.{Begins, set_of_runs, added, set_at, one_at, other_at, registers_at, said_at, said_lines, StandApart, AreWithin, LiesWithin, AreLaid, IsPacked};
 
 use crate::RoutineClaim;
+use crate::progress::{LAST_PLACE, place_of};
 use arrayvec::ArrayVec;
 use domain::{CountedOffsets, Equation, Fact, TrackedCell};
 use std::alloc::{AllocError, Allocator};
@@ -96,10 +97,12 @@ const MOST_RUNS: usize = 4096;
 /// The runs of a line's sets.
 pub type Runs = ArrayVec<Run, MOST_RUNS>;
 
-/// A line, and which one of all runs is the first of its own.
+/// A line, which one of all runs is the first of its own, and the least place after it; a detail has
+/// that of the line that it says more of. So lines are found by their places.
 #[derive(Clone, Copy)]
 pub struct KeptLine {
-    first: usize,
+    first: u32,
+    past: u16,
     line: PackedLine,
 }
 
@@ -127,16 +130,15 @@ pub struct PackedLines<A: Allocator> {
 }
 
 impl<A: Allocator> Model for PackedLines<A> {
-    ghost use Rattle.std.specs.Prelude.{List, length};
-    ghost use Rattle.std.specs.List.{AllByRecursion};
-    ghost use Rattle.certificate.specs.Packed.{Packed, IsKept};
+    ghost use Rattle.certificate.specs.Packed.{Packed};
+    ghost use Rattle.certificate.specs.Found.{AreKept};
 
     ghost Value = { Packed };
 
     ghost view = { λ p. record { list = p.list.items; runs = p.runs.items } };
 
-    // The runs of each set lie among those of all.
-    ghost invariant = { λ p. AllByRecursion (IsKept (length p.runs.items)) p.list.items };
+    // The runs of each set lie among those of all, and each line has the place after it.
+    ghost invariant = { λ p. AreKept p.runs.items p.list.items };
 }
 
 /// The last word of the run that begins at a word, by the words that aren't in the set.
@@ -476,6 +478,29 @@ pub fn routine_of(runs: &[Run], packed: &PackedLine) -> Option<RoutineClaim>
     }
 }
 
+/// Where the runs of a line begin that is added. No more than 2^32 are kept.
+fn first_of(runs: &[Run]) -> Result<u32, AllocError>
+    ensures { IfOk result (λ first. first ≡ length runs.now) }
+{
+    if runs.len() > u32::MAX as usize {
+        return Err(AllocError);
+    }
+    Ok(runs.len() as u32)
+}
+
+/// The least place after a line that is added to these.
+fn past(list: &[KeptLine], line: &PackedLine) -> u16
+    ensures { result ≡ past (last_past 0 list.now) (said_at [] line.now) }
+{
+    if !line.is_detail() {
+        return place_of(line) as u16 + 1;
+    }
+    if list.is_empty() {
+        return 0;
+    }
+    list[list.len() - 1].past
+}
+
 impl<A: Allocator + Copy> PackedLines<A> {
     /// No line.
     pub fn new(alloc: A) -> PackedLines<A>
@@ -504,7 +529,7 @@ impl<A: Allocator> PackedLines<A> {
         ensures within { LiesWithin (length result.0.now) result.1.now }
     {
         let kept = &self.list[at];
-        (&self.runs[kept.first..], &kept.line)
+        (&self.runs[kept.first as usize..], &kept.line)
     }
 
     /// Adds a line that was read, or leaves what is said as it is.
@@ -514,9 +539,14 @@ impl<A: Allocator> PackedLines<A> {
             (said_lines self.new ≡ said_lines self.old ++ said_at runs.now line.now ∷ []) }
         ensures same { OnErr result (said_lines self.new ≡ said_lines self.old) }
     {
-        let first = self.runs.len();
+        let first = first_of(&self.runs)?;
+        let past = past(&self.list, line);
         self.runs.extend_from_slice(runs)?;
-        self.list.push(KeptLine { first, line: *line })?;
+        self.list.push(KeptLine {
+            first,
+            past,
+            line: *line,
+        })?;
         Ok(())
     }
 
@@ -526,9 +556,10 @@ impl<A: Allocator> PackedLines<A> {
             (said_lines self.new ≡ said_lines self.old ++ claimed_line claim.now ∷ []) }
         ensures same { OnErr result (said_lines self.new ≡ said_lines self.old) }
     {
-        let first = self.runs.len();
+        let first = first_of(&self.runs)?;
         let line = pack(&mut self.runs, claim)?;
-        self.list.push(KeptLine { first, line })?;
+        let past = past(&self.list, &line);
+        self.list.push(KeptLine { first, past, line })?;
         Ok(())
     }
 
@@ -537,5 +568,42 @@ impl<A: Allocator> PackedLines<A> {
         ensures { said_lines self.new ≡ take count (said_lines self.old) }
     {
         self.list.truncate(count);
+    }
+
+    /// Where the first line stands that is at a place or after it, or past all.
+    fn seek(&self, place: usize) -> usize
+        requires order { AreRising 0 (said_lines self.now) }
+        requires small { place ≤ 40960 }
+        ensures { IsSought self.now place result }
+    {
+        let place = place as u16;
+        self.list.partition_point(|kept| kept.past <= place)
+    }
+
+    /// Where the lines from the one of a place on begin, or past all where no line has it.
+    pub fn from(&self, place: usize) -> usize
+        requires order { AreRising 0 (said_lines self.now) }
+        requires small { place ≤ 40960 }
+        ensures { drop result (said_lines self.now) ≡ from_place place (said_lines self.now) }
+    {
+        let at = self.seek(place);
+        if at < self.list.len() && usize::from(self.list[at].past) != place + 1 {
+            return self.list.len();
+        }
+        at
+    }
+
+    /// The least place of a line from a number on, or that of the end, which isn't kept.
+    pub fn next_place(&self, from: usize) -> usize
+        requires order { AreRising 0 (said_lines self.now) }
+        requires small { from ≤ 40960 }
+        ensures { IsNextPlace (said_lines self.now) from result }
+    {
+        let at = self.seek(from);
+        if at < self.list.len() {
+            usize::from(self.list[at].past) - 1
+        } else {
+            LAST_PLACE
+        }
     }
 }

@@ -7,8 +7,7 @@ ghost use Rattle.certificate.specs.Spelling.{version_text};
 ghost use Rattle.certificate.specs.Faults.{most_bytes, NoFeed, HasFault};
 ghost use Rattle.certificate.specs.Parser.{WasRead, Seen, IsSmall, Refuses, IsParsed};
 
-use crate::lines::KeptLines;
-use crate::packed::Runs;
+use crate::packed::{PackedLines, Runs};
 use crate::progress::Progress;
 use crate::{Certificate, CertificateFault, Version};
 use arrayvec::ArrayVec;
@@ -25,7 +24,7 @@ const MOST_OF_A_LINE: usize = 32_768;
 /// the runs of a line's sets.
 #[derive(Drop)]
 pub struct Parser<A: Allocator> {
-    kept: KeptLines<A>,
+    kept: PackedLines<A>,
     progress: Option<Progress>,
     line: ArrayVec<u8, MOST_OF_A_LINE>,
     is_long: bool,
@@ -71,7 +70,7 @@ impl<A: Allocator + Copy> Parser<A> {
         ensures count { result.count ≡ 0 }
     {
         Parser {
-            kept: KeptLines::new(alloc),
+            kept: PackedLines::new(alloc),
             progress: None,
             line: ArrayVec::new(),
             is_long: false,

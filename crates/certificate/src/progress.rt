@@ -53,6 +53,7 @@ fn place_of_equation(equation: &Equation) -> usize
 pub fn place_of(line: &PackedLine) -> usize
     ensures same { (runs : List Run) → result ≡ place (said_at runs line.now) }
     ensures small { result < 2 ^ 26 }
+    ensures head { is_detail (said_at [] line.now) ≡ false → result < 65535 }
 {
     match line {
         PackedLine::Routine(routine) => routine.entry.index(),

@@ -1,15 +1,11 @@
 use Rattle.std.proofs.Common.{drop, ◌∙◌, ◌+◌, ◌*◌, sym, arith}
 use Rattle.certificate.specs.Packed.{said_lines}
-use Rattle.certificate.proofs.FoundLemmas.{places_of_order}
 use Rattle.certificate.proofs.ReaderLemmas.{exit_claims, no_claim, fits}
 use Rattle.certificate.proofs.Certificate.exit_into.Goals as goal
 
-pub from-start-requires-clause-order : goal.from-start-requires-clause-order
-from-start-requires-clause-order g c = places_of_order c.self.inside.version c.self.inside.kept c.self.invariant
-
 pub first_exit-requires : goal.first_exit-requires
 first_exit-requires g c = record {
-  fit = fits c.self.inside.version c.self.inside.kept (8192 + 8 * c.index.result + c.args.offset) (drop c.from-start.result (said_lines c.lines.result.now)) c.self.invariant (rw c.lines.ensures c.from-start.ensures);
+  fit = fits c.self.inside.version c.self.inside.kept (8192 + 8 * c.index.result + c.args.offset) (drop c.from-start.result (said_lines c.self.inside.kept)) c.self.invariant c.from-start.ensures;
 }
 
 pub returns-then-offset-ge8-clause-there : goal.returns-then-offset-ge8-clause-there
@@ -19,7 +15,7 @@ returns-then-offset-ge8-clause-there g c =
 pub returns : goal.returns
 returns g c =
     let f = exit_claims c.self.inside.version c.self.inside.kept c.index.result c.args.offset (8192 + 8 * c.index.result + c.args.offset)
-    (drop c.from-start.result (said_lines c.lines.result.now)) c.self.invariant c.index.ensures.small c.if-offset-ge8.false (omega arith) (rw c.lines.ensures c.from-start.ensures) in
+    (drop c.from-start.result (said_lines c.self.inside.kept)) c.self.invariant c.index.ensures.small c.if-offset-ge8.false (omega arith) c.from-start.ensures in
     record {
       there = rw (← c.self.view_is, ← c.index.ensures.same) (c.first_exit.ensures.there ∙ f.0);
       fact = rw (← c.self.view_is, ← c.index.ensures.same) (λ here. c.first_exit.ensures.fact here ∙ f.1);

@@ -1,16 +1,6 @@
 use Rattle.std.proofs.Common.{◌≡◌, ◌<◌, ◌≤◌, ◌+◌, ◌-◌, ◌*◌, ◌/◌, arith}
-use Rattle.certificate.proofs.FoundLemmas.{places_of_order}
 use Rattle.certificate.proofs.NameLemmas.{fact_is_claimed, least_of, next_is_claimed, none_is_claimed}
 use Rattle.certificate.proofs.Certificate.next_claimed.Goals as goal
-
-pub next_place-routine-requires-clause-order : goal.next_place-routine-requires-clause-order
-next_place-routine-requires-clause-order g c = places_of_order c.self.inside.version c.self.inside.kept c.self.invariant
-
-pub next_place-fact-requires-clause-order : goal.next_place-fact-requires-clause-order
-next_place-fact-requires-clause-order g c = places_of_order c.self.inside.version c.self.inside.kept c.self.invariant
-
-pub next_place-requires-clause-order : goal.next_place-requires-clause-order
-next_place-requires-clause-order g c = places_of_order c.self.inside.version c.self.inside.kept c.self.invariant
 
 pub returns-then-least-lt4096 : goal.returns-then-least-lt4096
 returns-then-least-lt4096 g c =

@@ -2,19 +2,15 @@ use Rattle.std.proofs.Common.{drop, ◌≡◌, ◌∙◌}
 use Rattle.wordset.specs.Lanes.{words}
 use Rattle.certificate.specs.Reading.{rank_in, sites_in, writes_in}
 use Rattle.certificate.specs.Gathered.{routines_of}
-use Rattle.certificate.specs.Found.{all_said, IsRoutineOf}
+use Rattle.certificate.specs.Found.{IsRoutineOf}
 use Rattle.certificate.specs.Packed.{said_lines}
-use Rattle.certificate.proofs.FoundLemmas.{places_of_order}
 use Rattle.certificate.proofs.ReaderLemmas.{told, routine_claims}
 use Rattle.certificate.proofs.Certificate.routine.Goals as goal
 
-pub from-requires-clause-order : goal.from-requires-clause-order
-from-requires-clause-order g c = places_of_order c.self.inside.version c.self.inside.kept c.self.invariant
-
 pub returns : goal.returns
 returns g c =
-    let f = routine_claims c.self.inside.version c.self.inside.kept c.index.result (drop c.from.result (said_lines c.lines.result.now)) c.self.invariant c.index.ensures.small (rw c.lines.ensures c.from.ensures) in
-    let rs = routines_of (all_said c.self.inside.kept) in
+    let f = routine_claims c.self.inside.version c.self.inside.kept c.index.result (drop c.from.result (said_lines c.self.inside.kept)) c.self.invariant c.index.ensures.small c.from.ensures in
+    let rs = routines_of (said_lines c.self.inside.kept) in
     let says = c.first_routine.ensures.says rs c.index.result f.1 in
     record {
       listed = rw (← c.self.view_is, ← c.index.ensures.same) (c.first_routine.ensures.there ∙ f.0);

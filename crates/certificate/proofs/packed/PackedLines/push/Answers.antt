@@ -1,26 +1,32 @@
-use Rattle.std.proofs.Common.{◌∙◌, List, ap, arith}
+use Rattle.std.proofs.Common.{◌∙◌, List, ap, length}
 use Rattle.certificate.specs.declared.packed.KeptLine.{KeptLine}
 use Rattle.certificate.specs.Packed.{said_at, lines_in}
 use Rattle.certificate.proofs.PutLemmas.{any_err}
 use Rattle.certificate.proofs.PackedLemmas.{runs_added, line_added, all_within, packed_after}
+use Rattle.certificate.proofs.FoundLemmas.{past_added}
 use Rattle.certificate.proofs.packed.PackedLines.push.Goals as goal
 
 pub returns-in_err-push-clause-same : goal.returns-in_err-push-clause-same
 returns-in_err-push-clause-same g c =
     rw (← c.self.view_is) (any_err _ _ (ap (λ (ls : List KeptLine). lines_in c.extend_from_slice.new.self.items ls) c.in_err-push.ensures.items ∙
-    runs_added c.self.inside.runs.items c.extend_from_slice.new.self.items c.self.inside.list.items c.self.invariant (c.args.runs.now, c.in_ok-extend_from_slice.ensures.items)))
+    runs_added c.self.inside.runs.items c.extend_from_slice.new.self.items c.self.inside.list.items c.self.invariant.within (c.args.runs.now, c.in_ok-extend_from_slice.ensures.items)))
 
 pub invariant_of-self-2 : goal.invariant_of-self-2
-invariant_of-self-2 g c =
-    all_within c.self.inside.runs.items c.extend_from_slice.new.self.items c.self.inside.list.items c.push.new.self.items
-    (record { first = c.len-first.result; line = c.args.line.now }) (said_at c.args.runs.now c.args.line.now)
-    c.self.invariant (c.args.runs.now, c.in_ok-extend_from_slice.ensures.items) (omega (arith, c.len-first.ensures, c.self.inside.runs.ok.0))
-    (packed_after c.self.inside.runs.items c.extend_from_slice.new.self.items c.args.runs.now c.args.line.now c.in_ok-extend_from_slice.ensures.items c.requires) c.in_ok-push.ensures.items
+invariant_of-self-2 g c = record {
+  within =
+      all_within c.self.inside.runs.items c.extend_from_slice.new.self.items c.self.inside.list.items c.push.new.self.items
+      (record { first = c.in_ok-first.first; past = c.past-past.result; line = c.args.line.now }) (said_at c.args.runs.now c.args.line.now)
+      c.self.invariant.within (c.args.runs.now, c.in_ok-extend_from_slice.ensures.items) (c.in_ok-first.ensures ∙ ap length c.deref.ensures.value)
+      (packed_after c.self.inside.runs.items c.extend_from_slice.new.self.items c.args.runs.now c.args.line.now c.in_ok-extend_from_slice.ensures.items c.requires) c.in_ok-push.ensures.items;
+  past = rw c.in_ok-push.ensures.items
+      (past_added c.self.inside.list.items 0 (record { first = c.in_ok-first.first; past = c.past-past.result; line = c.args.line.now })
+      c.self.invariant.past (rw c.deref-2.ensures.value at c.past-past.ensures));
+}
 
 pub returns-clause-added : goal.returns-clause-added
 returns-clause-added g c =
     rw (← c.self.view_is)
     (line_added c.self.inside.runs.items c.extend_from_slice.new.self.items c.self.inside.list.items c.push.new.self.items
-    (record { first = c.len-first.result; line = c.args.line.now }) (said_at c.args.runs.now c.args.line.now)
-    c.self.invariant (c.args.runs.now, c.in_ok-extend_from_slice.ensures.items) (omega (arith, c.len-first.ensures, c.self.inside.runs.ok.0))
+    (record { first = c.in_ok-first.first; past = c.past-past.result; line = c.args.line.now }) (said_at c.args.runs.now c.args.line.now)
+    c.self.invariant.within (c.args.runs.now, c.in_ok-extend_from_slice.ensures.items) (c.in_ok-first.ensures ∙ ap length c.deref.ensures.value)
     (packed_after c.self.inside.runs.items c.extend_from_slice.new.self.items c.args.runs.now c.args.line.now c.in_ok-extend_from_slice.ensures.items c.requires) c.in_ok-push.ensures.items)

@@ -1,5 +1,13 @@
+use Rattle.std.proofs.ByRecursion.{All-take}
 use Rattle.certificate.proofs.PackedLemmas.{front_kept}
+use Rattle.certificate.proofs.FoundLemmas.{past_front}
 use Rattle.certificate.proofs.packed.PackedLines.truncate.Goals as goal
 
 pub returns : goal.returns
 returns g c = rw (← c.self.view_is, c.truncate.ensures.items) (front_kept c.self.inside.runs.items c.self.inside.list.items c.args.count)
+
+pub invariant_of-self : goal.invariant_of-self
+invariant_of-self g c = rw c.truncate.ensures.items (record {
+  within = All-take _ c.args.count c.self.inside.list.items c.self.invariant.within;
+  past = past_front c.self.inside.list.items 0 c.args.count c.self.invariant.past;
+})

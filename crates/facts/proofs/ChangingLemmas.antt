@@ -185,9 +185,6 @@ mq_agree h e = record { sets = h.sets; mq = e; link = h.link; equations = h.equa
 pub name_agree : {f g : Fact} {s t : Words} (n : Name) → Agree f g → SameWords s t → Agree (with_name n s f) (with_name n t g)
 name_agree {f} {g} {s} {t} n h e = record { sets = with_set_same f.set g.set s t n h.sets e; mq = h.mq; link = h.link; equations = h.equations; offsets = h.offsets }
 
-pub same_agrees : (k : AbstractState) → Agree (fact_of_state k) (fact_of_state k)
-same_agrees k = record { sets = λ n v lt. refl; mq = λ v lt. refl; link = λ l lt. refl; equations = refl; offsets = λ o lt. refl }
-
 pub holding_agrees : (k : AbstractState) (set : Bor (List ℕ)) → Agree (fact_of_state (record k { ac = set })) (with_name Ac (words set.now) (fact_of_state k))
 holding_agrees k set = record { sets = ac_sets k set (words set.now) (λ v lt. refl); mq = λ v lt. refl; link = λ l lt. refl; equations = refl; offsets = λ o lt. refl }
 

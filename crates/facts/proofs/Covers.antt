@@ -8,7 +8,7 @@ use Rattle.instruct.specs.Bits.{has_bit, named_cell}
 use Rattle.instruct.specs.Operates.{is_halt, MqOperate, mq_operate_of}
 use Rattle.instruct.specs.Instructions.{Meaning, And, Tad, Isz, Dca, Jms, Jmp, Group1, Group2, Group3, Device, Undefined, DeviceAction, Skips, Ors, Clears, Takes, Leaves, device_action, device_meaning, is_group1, mq_meaning, group3_meaning, operate_meaning, meaning_of}
 use Rattle.wordset.specs.Words.{plus}
-use Rattle.processor.specs.Cells.{Cells, updated}
+use Rattle.processor.specs.Cells.{Cells}
 use Rattle.processor.specs.Machine.{State, Answer, Answers, seen, place, steps_pointer, next_pc, Does, instruction}
 use Rattle.declaration.specs.Declaration.{IsDeclared}
 use Rattle.policy.specs.Calls.{Calls}

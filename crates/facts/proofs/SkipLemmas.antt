@@ -4,12 +4,8 @@ use Rattle.std.specs.Prelude.{if◌then◌else◌, nat_le}
 use Rattle.std.proofs.lemmas.Bool.Decides.{nat_tests}
 use Rattle.instruct.specs.Bits.{has_bit}
 use Rattle.instruct.specs.Operates.{any_test_holds, skips_of}
-use Rattle.wordset.specs.Words.{Words, SameWords, one, between, nothing, all_words, meet, difference, or_any}
+use Rattle.wordset.specs.Words.{Words, SameWords, one, between, nothing, all_words, meet, difference}
 use Rattle.std.proofs.lemmas.Bool.{lt-ltb}
-use Rattle.domain.specs.Facts.{Ac, Fact}
-use Rattle.domain.specs.Changes.{strongly_updated, with_name}
-use Rattle.facts.specs.Outcomes.{related2}
-use Rattle.domain.specs.Same.{Agree}
 
 last_word : (v : ℕ) → v < 4096 → nat_le v 4095 ≡ true
 last_word v lt = grind (arith, nat_tests)

@@ -257,7 +257,7 @@ pub fn post<'a, A: Allocator>(
     at: Word,
     word: Word,
     place: &Place<'_, A>,
-    room: &'a mut Scratch,
+    scratch: &'a mut Scratch,
 ) -> Result<Outcomes<'a>, Condition>
     ensures outcomes { IfOk result (λ given.
         AgreeingSuccessors (slots given.all) (outcomes_at (place_of place.now) (meaning fact.now) at
@@ -269,6 +269,6 @@ pub fn post<'a, A: Allocator>(
 {
     match place.first_broken(fact, at, word) {
         Some(condition) => Err(condition),
-        None => Ok(outcomes(fact, at, word, place, room)),
+        None => Ok(outcomes(fact, at, word, place, scratch)),
     }
 }

@@ -10,9 +10,7 @@ ghost use Rattle.domain.specs.Facts as said;
 ghost use Rattle.domain.specs.Facts.{is_routine};
 ghost use Rattle.facts.specs.Outcomes.{meaning_at, targets};
 ghost use Rattle.facts.specs.Conditions.{may_read, may_write, reads_operand, stores, counts, CountsItsReturn, MayWrite};
-ghost use Rattle.domain.specs.Same.{Agree};
 ghost use Rattle.domain.specs.Meaning.{meaning};
-ghost use Rattle.facts.specs.Knowing.{fact_of_state, IsUnchanged};
 ghost use Rattle.facts.specs.Places.{place_of, writes_of};
 
 use crate::place::{Place, union_if};

@@ -19,9 +19,6 @@ reference_call : (o : Operation) (i : Bool) (c : ℕ) → calls o ≡ is_call (r
 reference_call operation.And i c = refl
 reference_call _ i c = refl
 
-pub no_call : (m : Meaning) → (kind_of m ≡ Memory → ⊥) → false ≡ is_call m
-no_call m h = unless_memory (λ m. false ≡ is_call m) (λ w. refl) (λ w. refl) (λ o. refl) (λ d. refl) refl m h
-
 pub call_if : (r : Bool) (pl : Place) (at w : ℕ) → kind_of (meaning_at pl at w) ≡ Memory → r ≡ calls (operation_of w) → r ≡ is_call (meaning_at pl at w)
 call_if r pl at w k er =
     er ∙ reference_call (operation_of w) (is_indirect w) (named_cell w at) ∙ ap is_call (refers_to pl at w (named_cell w at) (is_indirect w) k refl refl)

@@ -180,13 +180,10 @@ impl<A: Allocator> Place<'_, A> {
             AgreeingSuccessors (slots result.all) (outcomes_at (place_of self.now) f at word) }
     {
         match DeviceOperation::of(word, self.declaration.profile()) {
-            Some(operation) => two(transfer(
-                at,
-                operation,
-                state,
-                &mut scratch.one,
-                &mut scratch.two,
-            )),
+            Some(operation) => {
+                let other = &mut scratch.two;
+                two(transfer(at, operation, state, &mut scratch.one, other))
+            }
             None => nowhere(),
         }
     }

@@ -251,13 +251,8 @@ impl<A: Allocator> Place<'_, A> {
         let read: &'a WordSet = self.words_at(state, targets, single, &mut scratch.read);
         let both = put_set(&mut scratch.ac, &held.ands(read));
         let after = state.with_ac(both, &mut scratch.first);
-        going(
-            true,
-            targets,
-            held,
-            address_after(at, &mut scratch.next),
-            after,
-        )
+        let next = address_after(at, &mut scratch.next);
+        going(true, targets, held, next, after)
     }
 
     /// What is known of the accumulator after TAD: of one variable to one word it is their sum.

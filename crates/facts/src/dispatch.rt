@@ -39,12 +39,12 @@ fn nowhere<'a>() -> Outcomes<'a>
 }
 
 /// Two outcomes, so far as they are there.
-fn two<'a>(outcomes: (Option<Successor<'a>>, Option<Successor<'a>>)) -> Outcomes<'a>
+fn two<'a>(successors: (Option<Successor<'a>>, Option<Successor<'a>>)) -> Outcomes<'a>
     ensures { (given : List told.Successor) → AgreeingSuccessors
-        (slot outcomes.entry.0 ++ slot outcomes.entry.1) given →
+        (slot successors.entry.0 ++ slot successors.entry.1) given →
         AgreeingSuccessors (slots result.all) given }
 {
-    let (first, second) = outcomes;
+    let (first, second) = successors;
     Outcomes {
         all: [first, second, None, None],
     }

@@ -83,20 +83,9 @@ fn takes_passing(word: Word, skip: bool) -> bool
     if is_reversed(word) { !skip } else { skip }
 }
 
-/// The words of a set that skip, or those that don't.
-fn part(word: Word, link: Link, skip: bool, ac: &WordSet) -> WordSet
-    ensures { (v : ℕ) → v < 4096 → words result v ≡
-        (words ac.now v && (if skips_of word v link then skip else not skip)) }
-{
-    let passing = passing(word, link);
-    if takes_passing(word, skip) {
-        return ac.meet(&passing);
-    }
-    ac.minus(&passing)
-}
-
 /// The words that skip, or those that don't, in a place for them.
 #[inline(never)]
+#[tactic(auto, using(crate::proofs::SkipLemmas::part_passing, crate::proofs::SkipLemmas::part_failing))]
 fn put_part<'b>(
     word: Word,
     link: Link,
@@ -107,18 +96,11 @@ fn put_part<'b>(
     ensures { (v : ℕ) → v < 4096 → words result.now v ≡
         (words held.now v && (if skips_of word v link then skip else not skip)) }
 {
-    put_set(place, &part(word, link, skip, held))
-}
-
-/// The words that CLA leaves.
-fn kept(word: Word, part: WordSet) -> WordSet
-    ensures { SameWords (words result) (if has_bit 7 word then one 0 else words part) }
-{
-    if clears(word) {
-        WordSet::one(Word::ZERO)
-    } else {
-        part
+    let passing = passing(word, link);
+    if takes_passing(word, skip) {
+        return put_set(place, &held.meet(&passing));
     }
+    put_set(place, &held.minus(&passing))
 }
 
 /// What CLA leaves of some words, with any bits of the switches, in a place for them.
@@ -127,8 +109,11 @@ fn put_switched<'b>(word: Word, part: &WordSet, place: &'b mut WordSet) -> &'b W
     ensures { SameWords (words result.now)
         (or_any 4095 (if has_bit 7 word then one 0 else words part.now)) }
 {
-    let left = kept(word, *part);
-    put_set(place, &left.or_any(Word::from_index(0o7777)))
+    let any = Word::from_index(0o7777);
+    if clears(word) {
+        return put_set(place, &WordSet::one(Word::ZERO).or_any(any));
+    }
+    put_set(place, &part.or_any(any))
 }
 
 /// What is known after the test: CLA, then OSR, by which any bits may come in.

@@ -75,13 +75,7 @@ set_twice n s t f m v = go (same m n)
 pub raised_to_agrees : (k : AbstractState) (j : ℕ) (set : Bor (List ℕ)) (es : Bor (List CodeEquation)) → map equation_of es.now ≡ moved_equations Ac j (map equation_of k.equations.now) →
     Agree (fact_of_state (record k { ac = set; equations = es })) (with_name Ac (words set.now) (moved Ac j (fact_of_state k)))
 unfolding moved
-raised_to_agrees k j set es e = record {
-  sets = λ n v lt. ac_sets k set (words set.now) (λ w l. refl) n v lt ∙ set_twice Ac (words set.now) (shifted (narrowed (fact_of_state k) Ac) j) (sets_of_state k) n v;
-  mq = λ v lt. refl;
-  link = λ l lt. refl;
-  equations = e;
-  offsets = λ o lt. refl;
-}
+raised_to_agrees k j set es e = record { sets = λ n v lt. ac_sets k set (words set.now) (λ w l. refl) n v lt ∙ set_twice Ac (words set.now) (shifted (narrowed (fact_of_state k) Ac) j) (sets_of_state k) n v; mq = λ v lt. refl; link = λ l lt. refl; equations = e; offsets = λ o lt. refl }
 
 pub moved_pointer : (k : AbstractState) (c d : ℕ) (set : Bor (List ℕ)) (es : Bor (List CodeEquation)) → d ≡ c → IsUnchanged k.pointer → IsUnchanged k.target → SameWords (words set.now) (shifted (narrowed (fact_of_state k) (Cell c)) 1) →
     map equation_of es.now ≡ moved_equations (Cell c) 1 (map equation_of k.equations.now) →
@@ -92,13 +86,7 @@ moved_pointer k c d set es is p u s e = rw is (record { sets = pointer_sets k c 
 pub counted_cell : (k : AbstractState) (c d : ℕ) (set : Bor (List ℕ)) (es : Bor (List CodeEquation)) → d ≡ c → IsUnchanged k.target → map equation_of es.now ≡ moved_equations (Cell c) 1 (map equation_of k.equations.now) →
     Agree (fact_of_state (record k { target = Strong d set; equations = es })) (with_name (Cell c) (words set.now) (moved (Cell c) 1 (fact_of_state k)))
 unfolding moved
-counted_cell k c d set es is u e = rw is (record {
-  sets = λ n v lt. target_sets k c set (words set.now) u (λ w l. refl) n v lt ∙ set_twice (Cell c) (words set.now) (shifted (narrowed (fact_of_state k) (Cell c)) 1) (sets_of_state k) n v;
-  mq = λ v lt. refl;
-  link = λ l lt. refl;
-  equations = e;
-  offsets = λ o lt. refl;
-})
+counted_cell k c d set es is u e = rw is (record { sets = λ n v lt. target_sets k c set (words set.now) u (λ w l. refl) n v lt ∙ set_twice (Cell c) (words set.now) (shifted (narrowed (fact_of_state k) (Cell c)) 1) (sets_of_state k) n v; mq = λ v lt. refl; link = λ l lt. refl; equations = e; offsets = λ o lt. refl })
 
 pub smeared_counted : (k : AbstractState) (cells : Bor (List ℕ)) (es : Bor (List CodeEquation)) → IsUnchanged k.target → map equation_of es.now ≡ free_of (cells_of (words cells.now)) (map equation_of k.equations.now) →
     Agree (fact_of_state (record k { target = WeakIncrement cells; equations = es })) (weakly_updated (words cells.now) (λ y. shifted (sets_of_state k (Cell y)) 1) (fact_of_state k))

@@ -24,10 +24,7 @@ cleared_pair : (w : ℕ) (s : ℕ × ℕ) → IsPair s → IsPair (cleared w s)
 cleared_pair w s h = record { word = if_below (has_bit 7 w) _ _ _ (lit< tt) h.word; bit = if_below (has_bit 6 w) _ _ _ (lit< tt) h.bit }
 
 complemented_pair : (w : ℕ) (s : ℕ × ℕ) → IsPair s → IsPair (complemented w s)
-complemented_pair w s h = record {
-  word = if_below (has_bit 5 w) (4095 - s.0) s.0 4096 (omega arith) h.word;
-  bit = if_below (has_bit 4 w) (1 - s.1) s.1 2 (omega arith) h.bit;
-}
+complemented_pair w s h = record { word = if_below (has_bit 5 w) (4095 - s.0) s.0 4096 (omega arith) h.word; bit = if_below (has_bit 4 w) (1 - s.1) s.1 2 (omega arith) h.bit }
 
 counted_pair : (w : ℕ) (s : ℕ × ℕ) → IsPair s → IsPair (counted w s)
 counted_pair w s h = go (has_bit 0 w)

@@ -165,8 +165,7 @@ smeared_agree {f} {g} {p} {q} {s} {t} h e n = record { sets = sets; mq = h.mq; l
         go : (b c : Bool) → b ≡ c → (let x : Words = if b then union (f.set (Cell a)) (s a) else f.set (Cell a) in let y : Words = if c then union (g.set (Cell a)) (t a) else g.set (Cell a) in x v ≡ y v)
         go true true z = rw (h.sets (Cell a) v lt, n a v lt) refl
         go false false z = h.sets (Cell a) v lt
-        go true false z = absurd (cc)
-        go false true z = absurd (cc)
+        go _ _ z = absurd (cc)
 
 pub link_agree : {f g : Fact} {l m : Words} → Agree f g → SameLinks l m → Agree (with_link l f) (with_link m g)
 link_agree h e = record { sets = h.sets; mq = h.mq; link = e; equations = h.equations; offsets = h.offsets }

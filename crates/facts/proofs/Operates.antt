@@ -85,13 +85,9 @@ ac_kept w a l = go (has_bit 7 w) (has_bit 5 w) (has_bit 3 w) (has_bit 2 w) (has_
         let d : ℕ × ℕ = (if r then (if u then right (right c) else right c)
         else (if t then (if u then left (left c) else left c) else (if u then (exchanged c.0, c.1) else c))) in
         d.0) ≡ (if v then plus a 1 else a)
-    go true q r t u v k x e = absurd (true≢false e)
-    go false true r t u v k x e = absurd (true≢false e)
-    go false false true t u v k x e = absurd (true≢false e)
-    go false false false true u v k x e = absurd (true≢false e)
-    go false false false false true v k x e = absurd (true≢false e)
     go false false false false false true k x e = refl
     go false false false false false false k x e = refl
+    go _ _ _ _ _ v k x e = absurd (true≢false e)
 
 pub operate2_word : (w a v : ℕ) → a < 4096 → v < 4096 → operate2_of w a v < 4096
 operate2_word w a v h g =

@@ -60,8 +60,7 @@ alive_changed p f s h e = rw (e, has_everything) (go (has_some p) (has_some (nar
 pub given_agree : (a b : Bool) (o : Successor) (p : Successor) → a ≡ b → AgreeingSuccessor o p → AgreeingSuccessors (given a o) (given b p)
 given_agree true true o p e h = (h, tt)
 given_agree false false o p e h = tt
-given_agree true false o p e h = absurd (cc)
-given_agree false true o p e h = absurd (cc)
+given_agree _ _ o p e h = absurd (cc)
 
 pub given_some : {a b : Bool} (o p : Successor) → a ≡ true → a ≡ b → AgreeingSuccessor o p → AgreeingSuccessors (o ∷ []) (given b p)
 given_some {a} {b} o p t e h = let y : b ≡ true = sym e ∙ t in rw y (h, tt)

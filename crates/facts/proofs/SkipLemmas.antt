@@ -42,14 +42,11 @@ part_passing w l v skip t a p r te is e h =
     ap (λ (x : Words). x v) e ∙ ap (λ b. a v && b) (h ∙ go (has_bit 3 w) (any_test_holds w v l) skip (sym te ∙ is))
   where
     go : (r p s : Bool) → (if r then not s else s) ≡ true → p ≡ (if (if r then not p else p) then s else not s)
-    go true true true q = absurd (cc)
-    go true false true q = absurd (cc)
     go true true false q = refl
     go true false false q = refl
     go false true true q = refl
     go false false true q = refl
-    go false true false q = absurd (cc)
-    go false false false q = absurd (cc)
+    go _ _ _ q = absurd (cc)
 
 pub part_failing : (w l v : ℕ) (skip t : Bool) (a p r : Words) → t ≡ (if has_bit 3 w then not skip else skip) → t ≡ false → r ≡ difference a p → p v ≡ any_test_holds w v l →
     r v ≡ (a v && (if skips_of w v l then skip else not skip))
@@ -59,12 +56,9 @@ part_failing w l v skip t a p r te is e h =
     go : (r p s : Bool) → (if r then not s else s) ≡ false → not p ≡ (if (if r then not p else p) then s else not s)
     go true true true q = refl
     go true false true q = refl
-    go true true false q = absurd (cc)
-    go true false false q = absurd (cc)
-    go false true true q = absurd (cc)
-    go false false true q = absurd (cc)
     go false true false q = refl
     go false false false q = refl
+    go _ _ _ q = absurd (cc)
 
 pub kept_same : {s t : Words} (w : ℕ) → SameWords s t → SameWords (if has_bit 7 w then one 0 else s) (if has_bit 7 w then one 0 else t)
 kept_same {s} {t} w h v lt = go (has_bit 7 w)

@@ -1,7 +1,7 @@
 -- What a step from a state of a fact does is among what the fact says that it may.
 use Rattle.std.proofs.Common.{◌≡◌, ℕ, ◌<◌, ◌==◌, Bool, true, false, ◌&&◌, ◌||◌, ◌⊎◌, refl, ap, ◌∙◌, subst}
 use Rattle.std.proofs.lemmas.Bool.{eqb-true}
-use Rattle.instruct.specs.Instructions.{Meaning, And, Tad, Isz, Dca, Jms, Jmp, Group1, Group2, Group3, Device, Undefined}
+use Rattle.instruct.specs.Instructions.{Meaning, And, Tad, Isz, Dca, Jms}
 use Rattle.processor.specs.Cells.{Cells}
 use Rattle.processor.specs.Machine.{State, place, instruction, steps_pointer}
 use Rattle.policy.specs.Calls.{Calls}

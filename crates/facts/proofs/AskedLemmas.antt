@@ -1,5 +1,5 @@
 -- What is asked of a word: the cells that it reads and writes.
-use Rattle.std.proofs.Common.{◌≡◌, ℕ, ◌<◌, ◌==◌, Bool, true, false, ◌&&◌, ◌||◌, ◌⊎◌, Option, Some, None, refl, sym, ap, ◌∙◌, subst, inl, inr, arith}
+use Rattle.std.proofs.Common.{◌≡◌, ℕ, ◌<◌, ◌==◌, Bool, true, false, ◌&&◌, ◌||◌, ◌⊎◌, Option, Some, None, refl, sym, ap, ◌∙◌, subst, inl, inr}
 use Rattle.std.proofs.lemmas.Bool.{eqb-true, eq-eqb, false≢true}
 use Rattle.std.specs.Prelude.{IsTrue, ◌↔◌}
 use Rattle.instruct.specs.declared.Instruction.TheVariants.{Memory, Operate2}
@@ -7,7 +7,7 @@ use Rattle.instruct.specs.declared.Operation.{Operation}
 use Rattle.instruct.specs.declared.Operation.TheVariants as operation
 use Rattle.instruct.specs.Operates.{is_halt, MqOperate}
 use Rattle.instruct.specs.Bits.{is_indirect, named_cell}
-use Rattle.instruct.specs.Instructions.{Meaning, And, Tad, Isz, Dca, Jms, Jmp, Group1, Group2, Group3, Device, DeviceAction, Undefined, kind_of, operation_of, reference}
+use Rattle.instruct.specs.Instructions.{Meaning, And, Tad, Isz, Group1, Group2, Group3, Device, DeviceAction, Undefined, kind_of, operation_of, reference}
 use Rattle.instruct.proofs.KindLemmas.{reference_meaning, group2_meaning}
 use Rattle.wordset.specs.Words.{Words, SameWords, IsWithin, nothing, only}
 use Rattle.processor.specs.Machine.{steps_pointer}

@@ -6,10 +6,10 @@ use Rattle.instruct.specs.declared.Instruction.TheVariants.{Memory}
 use Rattle.instruct.specs.declared.Operation.{Operation}
 use Rattle.instruct.specs.declared.Operation.TheVariants as operation
 use Rattle.instruct.specs.Bits.{is_indirect, named_cell}
-use Rattle.instruct.specs.Instructions.{Meaning, And, Tad, Isz, Dca, Jms, Jmp, Group1, Group2, Group3, Device, Undefined, kind_of, operation_of, reference}
-use Rattle.wordset.specs.Words.{Words, SameWords}
+use Rattle.instruct.specs.Instructions.{Meaning, And, Jms, kind_of, operation_of, reference}
+use Rattle.wordset.specs.Words.{Words}
 use Rattle.declaration.specs.Declaration.{Declaration, IsListed}
-use Rattle.domain.specs.Facts.{Cell, Fact, Place, narrowed, possible, tape_word}
+use Rattle.domain.specs.Facts.{Fact, Place}
 use Rattle.facts.specs.Outcomes.{meaning_at}
 use Rattle.facts.specs.Conditions.{calls, jumps, called, is_call, calls_through_index, returned_through, ReadsAreListed}
 use Rattle.facts.proofs.AskedLemmas.{refers_to, unless_memory}
@@ -18,9 +18,6 @@ use Rattle.facts.proofs.AskedLemmas.{refers_to, unless_memory}
 reference_call : (o : Operation) (i : Bool) (c : ℕ) → calls o ≡ is_call (reference o i c)
 reference_call operation.And i c = refl
 reference_call _ i c = refl
-
-pub no_call : (m : Meaning) → (kind_of m ≡ Memory → ⊥) → false ≡ is_call m
-no_call m h = unless_memory (λ m. false ≡ is_call m) (λ w. refl) (λ w. refl) (λ o. refl) (λ d. refl) refl m h
 
 pub call_if : (r : Bool) (pl : Place) (at w : ℕ) → kind_of (meaning_at pl at w) ≡ Memory → r ≡ calls (operation_of w) → r ≡ is_call (meaning_at pl at w)
 call_if r pl at w k er =
@@ -58,15 +55,6 @@ pub returns_if : (x : Option ℕ) (pl : Place) (at w n : ℕ) (i r : Bool) → k
     x ≡ (if r then (if i && pl.declaration.entry n then Some n else None) else None) → x ≡ returned_through pl.declaration (meaning_at pl at w)
 returns_if x pl at w n i r k er ei en e =
     e ∙ rw er (returned_by pl.declaration (operation_of w) i n) ∙ ap (returned_through pl.declaration) (refers_to pl at w n i k ei en)
-
--- the words that are possible
-pub possible_variable : (pl : Place) (f : Fact) (a : ℕ) (s : Words) → pl.declaration.variable a ≡ true → SameWords s (narrowed f (Cell a)) → SameWords s (possible pl f a)
-unfolding possible
-possible_variable pl f a s e h v lt = rw e (h v lt)
-
-pub possible_tape : (pl : Place) (f : Fact) (a : ℕ) (s : Words) → pl.declaration.variable a ≡ false → SameWords s (tape_word (pl.image a)) → SameWords s (possible pl f a)
-unfolding possible
-possible_tape pl f a s e h v lt = rw e (h v lt)
 
 -- without a list of reads
 unlisted : (reads : Option Words) (a : ℕ) → is_some reads ≡ false → IsListed reads a

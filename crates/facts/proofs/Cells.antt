@@ -8,7 +8,7 @@ use Rattle.declaration.specs.Declaration.{Declaration, IsDeclared}
 use Rattle.policy.specs.Calls.{Call, Calls}
 use Rattle.domain.specs.Facts.{Name, Ac, Cell, same, Equation, Fact, Values, AllTrue, Holds, narrowed, values, KeepsRest, Place, OwnWord, StandsIn, Means, own_words, is_routine, tape_word, words_in, possible}
 use Rattle.facts.specs.Law.{IsState, TopIsEntry}
-use Rattle.facts.proofs.Numbers.{plus_lt, some_from}
+use Rattle.facts.proofs.Numbers.{if_below, plus_lt, some_from}
 use Rattle.facts.proofs.Laws.{WordsAre, OnlyAt, narrowed_at}
 
 pub updated_same : (m : Cells) (a v : ℕ) → updated m a v a ≡ v
@@ -42,11 +42,7 @@ values_words d start ac m h sw ws = record { each = each }
   where
     each : (n : Name) → values d start ac m n < 4096
     each Ac = h
-    each (Cell a) = go (d.variable a)
-      where
-        go : (b : Bool) → (if b then m a else start a) < 4096
-        go true = ws a
-        go false = sw a
+    each (Cell a) = if_below (d.variable a) _ _ _ (ws a) (sw a)
 
 -- a variable stands for its word
 pub value_of : (d : Declaration) (start : Cells) (ac : ℕ) (m : Cells) (a : ℕ) → d.variable a ≡ true → values d start ac m (Cell a) ≡ m a

@@ -64,14 +64,18 @@ pub assigned_cell : (k : AbstractState) (c d : ℕ) (set : Bor (List ℕ)) (es :
 unfolding strongly_updated
 assigned_cell k c d set es is u e = rw is (record { sets = target_sets k c set (words set.now) u (λ v lt. refl); mq = λ v lt. refl; link = λ l lt. refl; equations = e; offsets = λ o lt. refl })
 
+-- the later of two sets for one name stays
+pub set_twice : (n : Name) (s t : Words) (f : Name → Words) (m : Name) (v : ℕ) → with_set n s f m v ≡ with_set n s (with_set n t f) m v
+set_twice n s t f m v = go (same m n)
+  where
+    go : (b : Bool) → (let x : Words = if b then s else f m in let y : Words = if b then t else f m in let z : Words = if b then s else y in x v ≡ z v)
+    go true = refl
+    go false = refl
+
 pub raised_to_agrees : (k : AbstractState) (j : ℕ) (set : Bor (List ℕ)) (es : Bor (List CodeEquation)) → map equation_of es.now ≡ moved_equations Ac j (map equation_of k.equations.now) →
     Agree (fact_of_state (record k { ac = set; equations = es })) (with_name Ac (words set.now) (moved Ac j (fact_of_state k)))
 unfolding moved
-raised_to_agrees k j set es e = record { sets = sets; mq = λ v lt. refl; link = λ l lt. refl; equations = e; offsets = λ o lt. refl }
-  where
-    sets : (n : Name) → SameWords (sets_of_state (record k { ac = set; equations = es }) n) (with_set Ac (words set.now) (with_set Ac (shifted (narrowed (fact_of_state k) Ac) j) (sets_of_state k)) n)
-    sets Ac v lt = refl
-    sets (Cell a) v lt = refl
+raised_to_agrees k j set es e = record { sets = λ n v lt. ac_sets k set (words set.now) (λ w l. refl) n v lt ∙ set_twice Ac (words set.now) (shifted (narrowed (fact_of_state k) Ac) j) (sets_of_state k) n v; mq = λ v lt. refl; link = λ l lt. refl; equations = e; offsets = λ o lt. refl }
 
 pub moved_pointer : (k : AbstractState) (c d : ℕ) (set : Bor (List ℕ)) (es : Bor (List CodeEquation)) → d ≡ c → IsUnchanged k.pointer → IsUnchanged k.target → SameWords (words set.now) (shifted (narrowed (fact_of_state k) (Cell c)) 1) →
     map equation_of es.now ≡ moved_equations (Cell c) 1 (map equation_of k.equations.now) →
@@ -82,19 +86,7 @@ moved_pointer k c d set es is p u s e = rw is (record { sets = pointer_sets k c 
 pub counted_cell : (k : AbstractState) (c d : ℕ) (set : Bor (List ℕ)) (es : Bor (List CodeEquation)) → d ≡ c → IsUnchanged k.target → map equation_of es.now ≡ moved_equations (Cell c) 1 (map equation_of k.equations.now) →
     Agree (fact_of_state (record k { target = Strong d set; equations = es })) (with_name (Cell c) (words set.now) (moved (Cell c) 1 (fact_of_state k)))
 unfolding moved
-counted_cell k c d set es is u e = rw is (record { sets = sets; mq = λ v lt. refl; link = λ l lt. refl; equations = e; offsets = λ o lt. refl })
-  where
-    sets : (n : Name) → SameWords (sets_of_state (record k { target = Strong c set; equations = es }) n) (with_set (Cell c) (words set.now) (with_set (Cell c) (shifted (narrowed (fact_of_state k) (Cell c)) 1) (sets_of_state k)) n)
-    sets Ac v lt = refl
-    sets (Cell a) v lt = go (a == c)
-      where
-        old : Words
-        old = changed k.pointer a (source_words k.base a)
-
-        go : (b : Bool) → (let x : Words = if b then words set.now else old in
-            let y : Words = if b then words set.now else (if b then shifted (narrowed (fact_of_state k) (Cell c)) 1 else changed k.target a old) in x v ≡ y v)
-        go true = refl
-        go false = rw u refl
+counted_cell k c d set es is u e = rw is (record { sets = λ n v lt. target_sets k c set (words set.now) u (λ w l. refl) n v lt ∙ set_twice (Cell c) (words set.now) (shifted (narrowed (fact_of_state k) (Cell c)) 1) (sets_of_state k) n v; mq = λ v lt. refl; link = λ l lt. refl; equations = e; offsets = λ o lt. refl })
 
 pub smeared_counted : (k : AbstractState) (cells : Bor (List ℕ)) (es : Bor (List CodeEquation)) → IsUnchanged k.target → map equation_of es.now ≡ free_of (cells_of (words cells.now)) (map equation_of k.equations.now) →
     Agree (fact_of_state (record k { target = WeakIncrement cells; equations = es })) (weakly_updated (words cells.now) (λ y. shifted (sets_of_state k (Cell y)) 1) (fact_of_state k))
@@ -173,8 +165,7 @@ smeared_agree {f} {g} {p} {q} {s} {t} h e n = record { sets = sets; mq = h.mq; l
         go : (b c : Bool) → b ≡ c → (let x : Words = if b then union (f.set (Cell a)) (s a) else f.set (Cell a) in let y : Words = if c then union (g.set (Cell a)) (t a) else g.set (Cell a) in x v ≡ y v)
         go true true z = rw (h.sets (Cell a) v lt, n a v lt) refl
         go false false z = h.sets (Cell a) v lt
-        go true false z = absurd (cc)
-        go false true z = absurd (cc)
+        go _ _ z = absurd (cc)
 
 pub link_agree : {f g : Fact} {l m : Words} → Agree f g → SameLinks l m → Agree (with_link l f) (with_link m g)
 link_agree h e = record { sets = h.sets; mq = h.mq; link = e; equations = h.equations; offsets = h.offsets }
@@ -184,9 +175,6 @@ mq_agree h e = record { sets = h.sets; mq = e; link = h.link; equations = h.equa
 
 pub name_agree : {f g : Fact} {s t : Words} (n : Name) → Agree f g → SameWords s t → Agree (with_name n s f) (with_name n t g)
 name_agree {f} {g} {s} {t} n h e = record { sets = with_set_same f.set g.set s t n h.sets e; mq = h.mq; link = h.link; equations = h.equations; offsets = h.offsets }
-
-pub same_agrees : (k : AbstractState) → Agree (fact_of_state k) (fact_of_state k)
-same_agrees k = record { sets = λ n v lt. refl; mq = λ v lt. refl; link = λ l lt. refl; equations = refl; offsets = λ o lt. refl }
 
 pub holding_agrees : (k : AbstractState) (set : Bor (List ℕ)) → Agree (fact_of_state (record k { ac = set })) (with_name Ac (words set.now) (fact_of_state k))
 holding_agrees k set = record { sets = ac_sets k set (words set.now) (λ v lt. refl); mq = λ v lt. refl; link = λ l lt. refl; equations = refl; offsets = λ o lt. refl }

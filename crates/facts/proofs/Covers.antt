@@ -8,7 +8,7 @@ use Rattle.instruct.specs.Bits.{has_bit, named_cell}
 use Rattle.instruct.specs.Operates.{is_halt, MqOperate, mq_operate_of}
 use Rattle.instruct.specs.Instructions.{Meaning, And, Tad, Isz, Dca, Jms, Jmp, Group1, Group2, Group3, Device, Undefined, DeviceAction, Skips, Ors, Clears, Takes, Leaves, device_action, device_meaning, is_group1, mq_meaning, group3_meaning, operate_meaning, meaning_of}
 use Rattle.wordset.specs.Words.{plus}
-use Rattle.processor.specs.Cells.{Cells, updated}
+use Rattle.processor.specs.Cells.{Cells}
 use Rattle.processor.specs.Machine.{State, Answer, Answers, seen, place, steps_pointer, next_pc, Does, instruction}
 use Rattle.declaration.specs.Declaration.{IsDeclared}
 use Rattle.policy.specs.Calls.{Calls}
@@ -18,7 +18,7 @@ use Rattle.domain.specs.Changes.{moved}
 use Rattle.facts.specs.Outcomes.{stepped, targets, outcomes_of, all_operated2, ac_after, link_after}
 use Rattle.facts.specs.Conditions.{may_write, WritesAreDeclared, EntriesAreKept}
 use Rattle.facts.specs.Law.{IsState, TopIsEntry, IsOrdinary, LandsIn, SomeOutcome, StepLaw}
-use Rattle.facts.proofs.Numbers.{plus_lt, or_left, or_right}
+use Rattle.facts.proofs.Numbers.{if_below, plus_lt, or_left, or_right}
 use Rattle.facts.proofs.Operates.{and_word, or_word, ac_after_word, link_after_bit, operate2_word, mq_words}
 use Rattle.facts.proofs.Cells.{words_updated, seen_words, seen_place}
 use Rattle.facts.proofs.Steps.{after_pointer, pointer_state, pointer_means, target_true, tad_step, MayCount, isz_step, dca_step, jmp_step, and_step, operate1_step, operate2_step, operate3_step, skip_step, or_step, clear_step, take_step, leave_step}
@@ -34,11 +34,7 @@ NamesWord (Jmp i c) = c < 4096
 NamesWord _ = Unit {0}
 
 named_word : (w at : ℕ) → at < 4096 → named_cell w at < 4096
-named_word w at h = go (has_bit 7 w)
-  where
-    go : (b : Bool) → (if b then at / 128 * 128 + w % 128 else w % 128) < 4096
-    go true = omega arith
-    go false = omega arith
+named_word w at h = if_below (has_bit 7 w) (at / 128 * 128 + w % 128) (w % 128) 4096 (omega arith) (omega arith)
 
 if_names : (b : Bool) (i j : Meaning) → NamesWord i → NamesWord j → NamesWord (if b then i else j)
 if_names true i j x y = x

@@ -1,29 +1,21 @@
 -- What a word's kind says of its outcomes.
-use Rattle.std.proofs.Common.{◌≡◌, ℕ, ◌==◌, ◌/◌, Bool, true, false, not, ◌||◌, Option, Some, None, List, [], refl, sym, ap, ◌∙◌, subst}
+use Rattle.std.proofs.Common.{◌≡◌, ℕ, ◌==◌, ◌/◌, Bool, true, false, not, ◌||◌, Option, Some, None, List, refl, sym, ap, ◌∙◌, subst}
 use Rattle.std.specs.Prelude.{if◌then◌else◌}
 use Rattle.std.specs.Option.{option_map}
 use Rattle.instruct.specs.declared.Profile.{Profile}
 use Rattle.instruct.specs.declared.Profile.TheVariants.{Pdp8I, Pdp8E}
 use Rattle.instruct.specs.declared.Instruction.{Instruction}
-use Rattle.instruct.specs.declared.Instruction.TheVariants.{Memory, Operate1, Operate2, Operate3, Iot, Unsupported}
-use Rattle.instruct.specs.declared.Operation.{Operation}
+use Rattle.instruct.specs.declared.Instruction.TheVariants.{Operate1, Operate3, Iot, Unsupported}
 use Rattle.instruct.specs.declared.devices.DeviceOperation.{DeviceOperation}
-use Rattle.instruct.specs.Bits.{has_bit, is_indirect, named_cell}
+use Rattle.instruct.specs.Bits.{has_bit}
 use Rattle.instruct.specs.Operates.{MqOperate, mq_operate_of}
 use Rattle.instruct.specs.Devices.{device_operation}
-use Rattle.instruct.specs.Instructions.{Meaning, Group1, Group2, Undefined, DeviceAction, kind_of, meaning_of, instruction_of, operation_of, reference, reference_at, processor_action, device_action, device_meaning, mq_meaning, group3_meaning, operate_meaning, is_group1}
+use Rattle.instruct.specs.Instructions.{Meaning, Group1, Undefined, DeviceAction, kind_of, meaning_of, instruction_of, processor_action, device_action, device_meaning, mq_meaning, group3_meaning, operate_meaning, is_group1}
 use Rattle.instruct.proofs.KindLemmas.{group3_meaning_of, device_meaning_of}
 use Rattle.wordset.specs.Words.{everything, one, plus}
 use Rattle.domain.specs.Facts.{Fact, Place}
-use Rattle.facts.specs.Outcomes.{Successor, goes, operated1, operated3, device_outcomes, outcomes_of, outcomes_at}
+use Rattle.facts.specs.Outcomes.{Successor, goes, operated3, device_outcomes, outcomes_of, outcomes_at}
 use Rattle.facts.specs.Agreeing.{AgreeingSuccessors}
-
-pub refers : (os : List Successor) (pl : Place) (f : Fact) (at w n : ℕ) (i : Bool) (o p : Operation) → i ≡ is_indirect w → n ≡ named_cell w at → p ≡ operation_of w → p ≡ o →
-    AgreeingSuccessors os (outcomes_of pl f at (reference o i n)) → AgreeingSuccessors os (outcomes_of pl f at (reference_at (operation_of w) w at))
-refers os pl f at w n i o p ei en ep is h =
-    let same : reference o i n ≡ reference (operation_of w) (is_indirect w) (named_cell w at) =
-    ap (λ x. reference x i n) (sym is ∙ ep) ∙ ap (λ x. reference (operation_of w) x n) ei ∙ ap (λ x. reference (operation_of w) (is_indirect w) x) en in
-    subst (λ m. AgreeingSuccessors os (outcomes_of pl f at m)) same h
 
 pub by_meaning : (os : List Successor) (pl : Place) (f : Fact) (at w : ℕ) {m : Meaning} → meaning_of pl.declaration.profile at w ≡ m → AgreeingSuccessors os (outcomes_of pl f at m) → AgreeingSuccessors os (outcomes_at pl f at w)
 by_meaning os pl f at w e h = subst (λ m. AgreeingSuccessors os (outcomes_of pl f at m)) (sym e) h

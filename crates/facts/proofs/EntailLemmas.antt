@@ -69,14 +69,8 @@ shows_some f e x y z t l r et ez = (
     some_is : {p q : ℕ} → Some p ≡ Some q → p ≡ q
     some_is e = cc
 
-none_is : {p : ℕ} → None ≡ Some p → ⊥
+pub none_is : {p : ℕ} → None ≡ Some p → ⊥
 none_is e = cc
-
-pub shows_left : (f : Fact) (e : Equation) → None ≡ only (narrowed f e.left) → IsTrue false ↔ Shows f e
-shows_left f e n = not_true (λ w. none_is (n ∙ w.2))
-
-pub shows_right : (f : Fact) (e : Equation) → None ≡ only (narrowed f e.right) → IsTrue false ↔ Shows f e
-shows_right f e n = not_true (λ w. none_is (n ∙ w.3))
 
 pub drop_item : {A : Type 0} (xs : List A) (i : ℕ) (x : A) → i < length xs → x ≡ get_or xs i x → drop i xs ≡ x ∷ drop (i + 1) xs
 drop_item xs i x lt e = drop_more xs i x lt ∙ ap (λ y. y ∷ drop (i + 1) xs) (sym e)
@@ -116,9 +110,6 @@ entails_iff k f b registers offsets each know = (λ t. (record { sets = sets; mq
     sets : (n : Name) → IsWithin (narrowed k n) ((meaning f).set n)
     sets Ac = registers.ac
     sets (Cell a) = each_tracked k (statement_of f).cells each a
-
-pub registers_of : {a b : Fact} → Entails a b → EntailsRegisters a b
-registers_of e = record { ac = e.sets Ac; mq = e.mq; link = e.link }
 
 -- sets that aren't narrowed
 pub narrowed_inside : (f : Fact) (n : Name) (s : Words) → IsWithin (f.set n) s → IsWithin (narrowed f n) s

@@ -15,6 +15,10 @@ minus_lt a k = omega arith
 pub minus_other : (a b : ℕ) → b < 4096 → a < 4096 → minus (plus a b) a ≡ b
 minus_other a b h g = omega arith
 
+pub if_below : (b : Bool) (x y n : ℕ) → x < n → y < n → (if b then x else y) < n
+if_below true x y n h g = h
+if_below false x y n h g = g
+
 pub moved_number : (b1 b2 : Bool) (xl xr yl yr k more : ℕ) → xl < 4096 → xr < 4096 →
     yl ≡ (if b1 then plus xl k else xl) → yr ≡ (if b2 then plus xr k else xr) → xl ≡ plus xr more →
     yl ≡ plus yr (plus (if b1 then plus more k else more) (if b2 then minus 0 k else 0))

@@ -1,5 +1,5 @@
 -- What the operate words make of words: words again, and when the accumulator keeps its word.
-use Rattle.std.proofs.Common.{◌≡◌, ℕ, ◌+◌, ◌-◌, ◌%◌, ◌<◌, ◌==◌, Bool, true, false, ◌&&◌, ◌||◌, refl, ◌∙◌, arith}
+use Rattle.std.proofs.Common.{◌≡◌, ℕ, ◌+◌, ◌-◌, ◌%◌, ◌<◌, ◌==◌, Bool, true, false, ◌&&◌, ◌||◌, refl, ◌∙◌, arith, lit<}
 use Rattle.std.specs.Prelude.{if◌then◌else◌, bit_and, bit_or}
 use Rattle.std.proofs.lemmas.Bool.{and_from, eq-eqb, true≢false}
 use Rattle.std.proofs.lemmas.Nat.{and_le_l, or_lt, and_mask}
@@ -7,7 +7,7 @@ use Rattle.instruct.specs.Bits.{has_bit}
 use Rattle.instruct.specs.Operates.{cleared, complemented, counted, left, right, exchanged, rotated, operate1_of, operate2_of, MqOperate, Mql, Mqa, Swp, Cam, ClaMqa, ClaSwp, mq_operate}
 use Rattle.wordset.specs.Words.{plus, Words, some_below, ands, ors, or_any}
 use Rattle.facts.specs.Outcomes.{ac_after, link_after, changes_ac}
-use Rattle.facts.proofs.Numbers.{some_from}
+use Rattle.facts.proofs.Numbers.{if_below, some_from}
 
 pub and_word : (a b : ℕ) → a < 4096 → bit_and a b < 4096
 and_word a b h = omega (arith, and_le_l a b)
@@ -21,36 +21,16 @@ pub record IsPair (s : ℕ × ℕ) : Type 0 where
   pub bit : s.1 < 2
 
 cleared_pair : (w : ℕ) (s : ℕ × ℕ) → IsPair s → IsPair (cleared w s)
-cleared_pair w s h = record { word = word (has_bit 7 w); bit = bit (has_bit 6 w) }
-  where
-    word : (p : Bool) → (if p then 0 else s.0) < 4096
-    word true = omega arith
-    word false = h.word
-
-    bit : (p : Bool) → (if p then 0 else s.1) < 2
-    bit true = omega arith
-    bit false = h.bit
+cleared_pair w s h = record { word = if_below (has_bit 7 w) _ _ _ (lit< tt) h.word; bit = if_below (has_bit 6 w) _ _ _ (lit< tt) h.bit }
 
 complemented_pair : (w : ℕ) (s : ℕ × ℕ) → IsPair s → IsPair (complemented w s)
-complemented_pair w s h = record { word = word (has_bit 5 w); bit = bit (has_bit 4 w) }
-  where
-    word : (p : Bool) → (if p then 4095 - s.0 else s.0) < 4096
-    word true = omega arith
-    word false = h.word
-
-    bit : (p : Bool) → (if p then 1 - s.1 else s.1) < 2
-    bit true = omega arith
-    bit false = h.bit
+complemented_pair w s h = record { word = if_below (has_bit 5 w) (4095 - s.0) s.0 4096 (omega arith) h.word; bit = if_below (has_bit 4 w) (1 - s.1) s.1 2 (omega arith) h.bit }
 
 counted_pair : (w : ℕ) (s : ℕ × ℕ) → IsPair s → IsPair (counted w s)
 counted_pair w s h = go (has_bit 0 w)
   where
-    turn : (b : Bool) → (if b then 1 - s.1 else s.1) < 2
-    turn true = omega arith
-    turn false = h.bit
-
     go : (p : Bool) → IsPair (if p then ((s.0 + 1) % 4096, (if s.0 == 4095 then 1 - s.1 else s.1)) else s)
-    go true = record { word = omega arith; bit = turn (s.0 == 4095) }
+    go true = record { word = omega arith; bit = if_below (s.0 == 4095) (1 - s.1) s.1 2 (omega arith) h.bit }
     go false = h
 
 left_pair : (s : ℕ × ℕ) → IsPair s → IsPair (left s)
@@ -105,24 +85,14 @@ ac_kept w a l = go (has_bit 7 w) (has_bit 5 w) (has_bit 3 w) (has_bit 2 w) (has_
         let d : ℕ × ℕ = (if r then (if u then right (right c) else right c)
         else (if t then (if u then left (left c) else left c) else (if u then (exchanged c.0, c.1) else c))) in
         d.0) ≡ (if v then plus a 1 else a)
-    go true q r t u v k x e = absurd (true≢false e)
-    go false true r t u v k x e = absurd (true≢false e)
-    go false false true t u v k x e = absurd (true≢false e)
-    go false false false true u v k x e = absurd (true≢false e)
-    go false false false false true v k x e = absurd (true≢false e)
     go false false false false false true k x e = refl
     go false false false false false false k x e = refl
+    go _ _ _ _ _ v k x e = absurd (true≢false e)
 
 pub operate2_word : (w a v : ℕ) → a < 4096 → v < 4096 → operate2_of w a v < 4096
-operate2_word w a v h g = go (has_bit 2 w) (has_bit 7 w)
-  where
-    clear : (q : Bool) → (if q then 0 else a) < 4096
-    clear true = omega arith
-    clear false = h
-
-    go : (p q : Bool) → (let kept : ℕ = if q then 0 else a in if p then bit_or kept v else kept) < 4096
-    go true q = or_word _ v (clear q) g
-    go false q = clear q
+operate2_word w a v h g =
+    let clear : (if has_bit 7 w then 0 else a) < 4096 = if_below (has_bit 7 w) 0 a 4096 (lit< tt) h in
+    if_below (has_bit 2 w) _ _ _ (or_word _ v clear g) clear
 
 -- the accumulator and MQ after a word of group 3
 pub mq_words : (o : MqOperate) (a m : ℕ) → a < 4096 → m < 4096 → ((mq_operate o (a, m)).0 < 4096) × ((mq_operate o (a, m)).1 < 4096)

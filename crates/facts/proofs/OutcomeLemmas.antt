@@ -1,10 +1,8 @@
 -- Outcomes that agree.
-use Rattle.std.proofs.Common.{◌≡◌, ℕ, ◌+◌, ◌-◌, ◌<◌, ◌%◌, ◌==◌, Bool, true, false, not, ◌&&◌, Some, List, [], ◌∷◌, ◌++◌, refl, sym, ap, ◌∙◌, subst, arith, lit<}
-use Rattle.std.specs.Prelude.{if◌then◌else◌}
-use Rattle.wordset.specs.Words.{plus, minus, Words, SameWords, one, everything, has_some, has_link, without, shifted}
-use Rattle.domain.specs.Facts.{Ac, Cell, Fact, Place, narrowed}
-use Rattle.facts.specs.Outcomes.{Successor, Goes, CallsTo, Returns, alive, given, goes, isz_case}
-use Rattle.domain.specs.Changes.{moved, with_name, with_offsets}
+use Rattle.std.proofs.Common.{◌≡◌, ℕ, ◌+◌, ◌-◌, ◌<◌, ◌%◌, ◌==◌, Bool, true, false, not, ◌&&◌, List, [], ◌∷◌, ◌++◌, refl, sym, ap, ◌∙◌, subst, arith, lit<}
+use Rattle.wordset.specs.Words.{plus, minus, Words, SameWords, one, everything, has_some, has_link, shifted}
+use Rattle.domain.specs.Facts.{Ac, Fact, narrowed}
+use Rattle.facts.specs.Outcomes.{Successor, alive, given}
 use Rattle.domain.specs.Same.{Agree}
 use Rattle.facts.specs.Agreeing.{AgreeingSuccessor, AgreeingSuccessors}
 use Rattle.std.proofs.lemmas.Bool.{eq-eqb}
@@ -62,17 +60,10 @@ alive_changed p f s h e = rw (e, has_everything) (go (has_some p) (has_some (nar
 pub given_agree : (a b : Bool) (o : Successor) (p : Successor) → a ≡ b → AgreeingSuccessor o p → AgreeingSuccessors (given a o) (given b p)
 given_agree true true o p e h = (h, tt)
 given_agree false false o p e h = tt
-given_agree true false o p e h = absurd (cc)
-given_agree false true o p e h = absurd (cc)
+given_agree _ _ o p e h = absurd (cc)
 
-pub goes_some : {a b : Bool} (m n : Words) (f g : Fact) → a ≡ true → a ≡ b → SameWords m n → Agree f g → AgreeingSuccessors (Goes m f ∷ []) (given b (Goes n g))
-goes_some {a} {b} m n f g t e w h = let y : b ≡ true = sym e ∙ t in rw y ((w, h), tt)
-
-pub calls_some : {a b : Bool} (m n : Words) (f g : Fact) → a ≡ true → a ≡ b → SameWords m n → Agree f g → AgreeingSuccessors (CallsTo m f ∷ []) (given b (CallsTo n g))
-calls_some {a} {b} m n f g t e w h = let y : b ≡ true = sym e ∙ t in rw y ((w, h), tt)
-
-pub returns_some : {a b : Bool} (f g : Fact) → a ≡ true → a ≡ b → Agree f g → AgreeingSuccessors (Returns f ∷ []) (given b (Returns g))
-returns_some {a} {b} f g t e h = let y : b ≡ true = sym e ∙ t in rw y (h, tt)
+pub given_some : {a b : Bool} (o p : Successor) → a ≡ true → a ≡ b → AgreeingSuccessor o p → AgreeingSuccessors (o ∷ []) (given b p)
+given_some {a} {b} o p t e h = let y : b ≡ true = sym e ∙ t in rw y (h, tt)
 
 pub given_none : {a b : Bool} (p : Successor) → a ≡ false → a ≡ b → AgreeingSuccessors [] (given b p)
 given_none {a} {b} p t e = let y : b ≡ false = sym e ∙ t in rw y tt

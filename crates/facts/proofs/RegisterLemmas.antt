@@ -1,27 +1,19 @@
 -- What operate words make of a fact.
-use Rattle.std.proofs.Common.{◌≡◌, ℕ, Bool, true, false, ◌&&◌, Some, List, refl, sym, ap, subst, ◌∙◌, arith}
-use Rattle.std.specs.Prelude.{if◌then◌else◌, nat_le, nat_lt}
+use Rattle.std.proofs.Common.{◌≡◌, ℕ, true, ◌&&◌, Some, List, refl, sym, ap, subst, ◌∙◌, arith}
+use Rattle.std.specs.Prelude.{nat_le, nat_lt}
 use Rattle.std.proofs.lemmas.Bool.Decides.{nat_tests}
-use Rattle.instruct.specs.Bits.{has_bit}
 use Rattle.instruct.specs.Operates.{MqOperate, mq_operate_of}
 use Rattle.wordset.specs.Words.{Words, SameWords, everything, between, one, plus}
-use Rattle.domain.specs.Facts.{Name, Ac, Fact, same}
-use Rattle.domain.specs.Changes.{moved, strongly_updated, with_name, with_mq}
+use Rattle.domain.specs.Facts.{Ac, Fact, same}
+use Rattle.domain.specs.Changes.{strongly_updated, with_name, with_mq}
 use Rattle.facts.specs.Outcomes.{Successor, goes, changes_ac, related1, operated3}
 use Rattle.domain.specs.Same.{Agree}
 use Rattle.facts.specs.Agreeing.{AgreeingSuccessors}
+use Rattle.facts.proofs.ChangingLemmas.{set_twice}
 
 pub related_none : {k : Fact} (w : ℕ) (f : Fact) (s : Words) → changes_ac w ≡ true → Agree k (strongly_updated Ac s f) → Agree k (with_name Ac s (related1 w f))
 unfolding strongly_updated
-related_none {k} w f s e h = go (changes_ac w) e
-  where
-    twice : (b : Bool) (n : Name) (v : ℕ) → (let x : Words = if b then s else f.set n in let y : Words = if b then everything else f.set n in let z : Words = if b then s else y in x v ≡ z v)
-    twice true n v = refl
-    twice false n v = refl
-
-    go : (b : Bool) → b ≡ true → (let r : Fact = if b then strongly_updated Ac everything f else (if has_bit 0 w then moved Ac 1 f else f) in Agree k (with_name Ac s r))
-    go true q = record { sets = λ n v lt. h.sets n v lt ∙ twice (same n Ac) n v; mq = h.mq; link = h.link; equations = h.equations; offsets = h.offsets }
-    go false q = absurd (cc)
+related_none w f s e h = rw e (record { sets = λ n v lt. h.sets n v lt ∙ set_twice Ac s everything f.set n v; mq = h.mq; link = h.link; equations = h.equations; offsets = h.offsets })
 
 pub bytes_same : {s : Words} (low high : ℕ) → s ≡ between low high → low ≡ 0 → high ≡ 255 → SameWords s (λ v. nat_lt v 256)
 bytes_same {s} low high e l h v lt = ap (λ (x : Words). x v) e ∙ ap (λ n. nat_le n v && nat_le v high) l ∙ ap (λ n. nat_le 0 v && nat_le v n) h ∙ below v

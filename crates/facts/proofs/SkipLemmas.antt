@@ -4,12 +4,8 @@ use Rattle.std.specs.Prelude.{if◌then◌else◌, nat_le}
 use Rattle.std.proofs.lemmas.Bool.Decides.{nat_tests}
 use Rattle.instruct.specs.Bits.{has_bit}
 use Rattle.instruct.specs.Operates.{any_test_holds, skips_of}
-use Rattle.wordset.specs.Words.{Words, SameWords, one, between, nothing, all_words, meet, difference, or_any}
+use Rattle.wordset.specs.Words.{Words, SameWords, one, between, nothing, all_words, meet, difference}
 use Rattle.std.proofs.lemmas.Bool.{lt-ltb}
-use Rattle.domain.specs.Facts.{Ac, Fact}
-use Rattle.domain.specs.Changes.{strongly_updated, with_name}
-use Rattle.facts.specs.Outcomes.{related2}
-use Rattle.domain.specs.Same.{Agree}
 
 last_word : (v : ℕ) → v < 4096 → nat_le v 4095 ≡ true
 last_word v lt = grind (arith, nat_tests)
@@ -46,14 +42,11 @@ part_passing w l v skip t a p r te is e h =
     ap (λ (x : Words). x v) e ∙ ap (λ b. a v && b) (h ∙ go (has_bit 3 w) (any_test_holds w v l) skip (sym te ∙ is))
   where
     go : (r p s : Bool) → (if r then not s else s) ≡ true → p ≡ (if (if r then not p else p) then s else not s)
-    go true true true q = absurd (cc)
-    go true false true q = absurd (cc)
     go true true false q = refl
     go true false false q = refl
     go false true true q = refl
     go false false true q = refl
-    go false true false q = absurd (cc)
-    go false false false q = absurd (cc)
+    go _ _ _ q = absurd (cc)
 
 pub part_failing : (w l v : ℕ) (skip t : Bool) (a p r : Words) → t ≡ (if has_bit 3 w then not skip else skip) → t ≡ false → r ≡ difference a p → p v ≡ any_test_holds w v l →
     r v ≡ (a v && (if skips_of w v l then skip else not skip))
@@ -63,12 +56,9 @@ part_failing w l v skip t a p r te is e h =
     go : (r p s : Bool) → (if r then not s else s) ≡ false → not p ≡ (if (if r then not p else p) then s else not s)
     go true true true q = refl
     go true false true q = refl
-    go true true false q = absurd (cc)
-    go true false false q = absurd (cc)
-    go false true true q = absurd (cc)
-    go false false true q = absurd (cc)
     go false true false q = refl
     go false false false q = refl
+    go _ _ _ q = absurd (cc)
 
 pub kept_same : {s t : Words} (w : ℕ) → SameWords s t → SameWords (if has_bit 7 w then one 0 else s) (if has_bit 7 w then one 0 else t)
 kept_same {s} {t} w h v lt = go (has_bit 7 w)

@@ -54,14 +54,11 @@ start_here image t ts lt h =
     let p : has_each (image t.address) (λ v. if t.address == t.address then t.set v else true) ≡ true = each_left (image t.address) (λ v. if t.address == t.address then t.set v else true) (tracked t.address ts) (h t.address lt) in
     rw e at p
 
-pub start_rest : (image : Image) (t : TrackedCell) (ts : List TrackedCell) → MayStart image (t ∷ ts) → MayStart image ts
-start_rest image t ts h a lt = each_right (image a) (λ v. if t.address == a then t.set v else true) (tracked a ts) (h a lt)
-
 pub start_step : (image : Image) (cells : List TrackedCell) (i : ℕ) → i < length cells → has_each (image (cell_at cells i).address) (cell_at cells i).set ≡ true →
     (MayStart image (drop i cells) ↔ MayStart image cells) → (MayStart image (drop (i + 1) cells) ↔ MayStart image cells)
 start_step image cells i lt w h = (
   λ r. h.0 (subst (MayStart image) (sym (cell_dropped cells i lt)) (start_more image (cell_at cells i) (drop (i + 1) cells) w r)),
-  λ a. start_rest image (cell_at cells i) (drop (i + 1) cells) (subst (MayStart image) (cell_dropped cells i lt) (h.1 a)),
+  λ a b m. each_right (image b) (λ v. if (cell_at cells i).address == b then (cell_at cells i).set v else true) (tracked b (drop (i + 1) cells)) (subst (MayStart image) (cell_dropped cells i lt) (h.1 a) b m),
 )
 
 pub start_fails : (image : Image) (cells : List TrackedCell) (i : ℕ) → i < length cells → (cell_at cells i).address < 4096 →
@@ -69,9 +66,6 @@ pub start_fails : (image : Image) (cells : List TrackedCell) (i : ℕ) → i < l
     (MayStart image (drop i cells) ↔ MayStart image cells) → IsTrue false ↔ MayStart image cells
 start_fails image cells i lt small w h =
     not_true (λ a. true≢false (sym (start_here image (cell_at cells i) (drop (i + 1) cells) small (subst (MayStart image) (cell_dropped cells i lt) (h.1 a))) ∙ w))
-
-pub start_none : (image : Image) → MayStart image []
-start_none image a lt = each_everything (image a)
 
 pub cells_tracked : (cells : List TrackedCell) → AreCells cells → (a v : ℕ) → 4096 ≤ a → tracked a cells v ≡ true
 cells_tracked [] h a v lt = refl
@@ -145,4 +139,4 @@ pub start_end : (image : Image) (cells : List TrackedCell) (i : ℕ) → length 
     (MayStart image (drop i cells) ↔ MayStart image cells) → IsTrue true ↔ MayStart image cells
 start_end image cells i h inv =
     let e : drop i cells ≡ [] = drop_of_length-le cells h in
-    (λ q. inv.0 (subst (MayStart image) (sym e) (start_none image)), λ a. refl)
+    (λ q. inv.0 (subst (MayStart image) (sym e) (λ a lt. each_everything (image a))), λ a. refl)

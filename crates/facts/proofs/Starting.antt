@@ -8,7 +8,7 @@ use Rattle.processor.specs.Machine.{State}
 use Rattle.processor.specs.Runs.{Image, IsStart}
 use Rattle.domain.specs.Facts.{Name, Ac, Cell, same, Equation, Fact, Values, IsTrueOf, AllTrue, values, Place}
 use Rattle.facts.specs.Starts.{HoldsOfStarts, each_below, has_each, is_always_between, is_always_of, is_always, are_always, holds_before, AreTapeWords, TracksWords, StartLaw}
-use Rattle.facts.proofs.Numbers.{some_not}
+use Rattle.facts.proofs.Numbers.{if_below, some_not}
 use Rattle.facts.proofs.Laws.{same_true}
 
 none_below : (n : ℕ) (test : ℕ → Bool) → ((k : ℕ) → k < n → test k ≡ true) → some_below n (λ v. not (test v)) ≡ false
@@ -117,11 +117,7 @@ module _ (pl : Place) (tape : AreTapeWords pl.image) (begin : pl.declaration.sta
   but a v b = if b == a then v else 0
 
   but_words : (a v : ℕ) → v < 4096 → (b : ℕ) → but a v b < 4096
-  but_words a v lt b = go (b == a)
-    where
-      go : (t : Bool) → (if t then v else 0) < 4096
-      go true = lt
-      go false = omega arith
+  but_words a v lt b = if_below (b == a) _ _ _ lt (lit< tt)
 
   no_number : (y more : ℕ) → 0 ≡ plus y more → 1 ≡ plus y more → ⊥
   no_number y more e f = omega arith

@@ -477,7 +477,7 @@ module _ (pl : Place) (dd : IsDeclared pl.declaration) (start : Cells) (sw : (a 
       SomeOutcome (Lands (record s { pc = y }) ks) (jmp pl i c f p)
   jmp_step f s ks i c p y ss h lt e r = rw r (goes_to p everything p f f s _ ks y 0 ss h lt e (lit< tt) refl ss.ac ss.link ss.mq e (same_step f s ks y h))
 
-  -- AC alone is strongly_updated
+  -- the accumulator takes a word of the set, and nothing else changes
   ac_means : (f : Fact) (s : State) (ks : Calls) (set : Words) (ac pc : ℕ) → IsState s → Means pl start f s ks → set ac ≡ true →
       Means pl start (strongly_updated Ac set f) (record s { ac = ac; link = s.link; pc = pc }) ks
   unfolding strongly_updated

@@ -15,6 +15,7 @@ ghost use Rattle.facts.specs.Places.{place_of, writes_of};
 ghost use Rattle.facts.specs.Slots.{slots};
 
 use crate::Condition;
+use crate::conditions::{reads, writes};
 use crate::dispatch::outcomes;
 use crate::entailment::{narrowed, word_of};
 use crate::place::Place;
@@ -114,7 +115,7 @@ impl<A: Allocator> Place<'_, A> {
         if !self.is_writing(at, word) {
             return true;
         }
-        let written = self.cells_written(fact, at, word);
+        let written = writes(fact, at, word, self);
         self.are_declared(&written)
     }
 
@@ -127,7 +128,7 @@ impl<A: Allocator> Place<'_, A> {
         if !self.is_writing(at, word) {
             return true;
         }
-        let written = self.cells_written(fact, at, word);
+        let written = writes(fact, at, word, self);
         self.declaration.is_declared();
         if written.is_subset(self.declaration.variables()) {
             return true;
@@ -151,7 +152,7 @@ impl<A: Allocator> Place<'_, A> {
         if !self.is_writing(at, word) {
             return true;
         }
-        let written = self.cells_written(fact, at, word);
+        let written = writes(fact, at, word, self);
         self.may_write(&written)
     }
 
@@ -164,7 +165,7 @@ impl<A: Allocator> Place<'_, A> {
         if !self.declaration.reads_listed() {
             return true;
         }
-        let read = self.cells_read(fact, at, word);
+        let read = reads(fact, at, word, self);
         self.are_listed(&read)
     }
 
@@ -257,7 +258,7 @@ pub fn post<'a, A: Allocator>(
     at: Word,
     word: Word,
     place: &Place<'_, A>,
-    room: &'a mut Scratch,
+    scratch: &'a mut Scratch,
 ) -> Result<Outcomes<'a>, Condition>
     ensures outcomes { IfOk result (λ given.
         AgreeingSuccessors (slots given.all) (outcomes_at (place_of place.now) (meaning fact.now) at
@@ -269,6 +270,6 @@ pub fn post<'a, A: Allocator>(
 {
     match place.first_broken(fact, at, word) {
         Some(condition) => Err(condition),
-        None => Ok(outcomes(fact, at, word, place, room)),
+        None => Ok(outcomes(fact, at, word, place, scratch)),
     }
 }

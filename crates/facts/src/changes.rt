@@ -1,7 +1,7 @@
 //! What happens to what is known: a word that counts up or takes a new value, one of several cells
 //! that changes.
 
-ghost use Rattle.std.specs.Prelude.{ℕ, ◌≡◌, ◌≤◌, ◌+◌, ◌-◌, ◌==◌, ◌∷◌, [], if◌then◌else◌, false, map, length};
+ghost use Rattle.std.specs.Prelude.{◌≡◌, ◌≤◌, ◌+◌, ◌-◌, ◌==◌, ◌∷◌, [], if◌then◌else◌, false, map, length};
 ghost use Rattle.wordset.specs.Words.{one, shifted};
 ghost use Rattle.wordset.specs.Lanes.{words};
 ghost use Rattle.wordset.specs.Links.{links_of};
@@ -144,7 +144,7 @@ impl<'a> AbstractState<'a> {
     }
 
     /// What is known, unchanged.
-    #[tactic(auto, using(crate::proofs::ChangingLemmas::same_agrees))]
+    #[tactic(auto, using(crate::proofs::AgreeLemmas::agree_refl))]
     pub(crate) fn same(&self) -> AbstractState<'a>
         ensures same { Agree (fact_of_state result) (fact_of_state self.now) }
         ensures target { result.target ≡ self.now.target }

@@ -10,9 +10,7 @@ ghost use Rattle.domain.specs.Facts as said;
 ghost use Rattle.domain.specs.Facts.{is_routine};
 ghost use Rattle.facts.specs.Outcomes.{meaning_at, targets};
 ghost use Rattle.facts.specs.Conditions.{may_read, may_write, reads_operand, stores, counts, CountsItsReturn, MayWrite};
-ghost use Rattle.domain.specs.Same.{Agree};
 ghost use Rattle.domain.specs.Meaning.{meaning};
-ghost use Rattle.facts.specs.Knowing.{fact_of_state, IsUnchanged};
 ghost use Rattle.facts.specs.Places.{place_of, writes_of};
 
 use crate::place::{Place, union_if};
@@ -83,20 +81,6 @@ impl<A: Allocator> Place<'_, A> {
         *self.reached(indirect, named, &AbstractState::of(fact), &mut place)
     }
 
-    /// The cells that a word at the address of a fact may read.
-    pub(crate) fn cells_read(&self, fact: &Fact, at: Word, word: Word) -> WordSet
-        ensures { SameWords (words result) (may_read (place_of self.now) (meaning fact.now)
-            (meaning_at (place_of self.now) at word)) }
-    {
-        if !self.is_reference(word) {
-            return WordSet::empty();
-        }
-        let indirect = refers_indirectly(word);
-        let named = target(word, at);
-        let targets = self.targets_at(fact, indirect, named);
-        union_if(reads_operand(word), &pointer_if(indirect, named), &targets)
-    }
-
     /// Whether a word is of those that write, a JMS apart: where it isn't it writes nothing.
     pub(crate) fn is_writing(&self, at: Word, word: Word) -> bool
         ensures { result ≡ false → (f : said.Fact) (a : ℕ) →
@@ -106,24 +90,6 @@ impl<A: Allocator> Place<'_, A> {
             return false;
         }
         stores(word) || steps_pointer(refers_indirectly(word), target(word, at))
-    }
-
-    /// The cells that a word at the address of a fact may write, a stepped pointer among them; save
-    /// the one that a JMS itself writes.
-    pub(crate) fn cells_written(&self, fact: &Fact, at: Word, word: Word) -> WordSet
-        ensures { SameWords (words result) (may_write (place_of self.now) (meaning fact.now)
-            (meaning_at (place_of self.now) at word)) }
-    {
-        if !self.is_reference(word) {
-            return WordSet::empty();
-        }
-        let indirect = refers_indirectly(word);
-        let named = target(word, at);
-        let pointer = pointer_if(steps_pointer(indirect, named), named);
-        if !stores(word) {
-            return pointer;
-        }
-        pointer.union(&self.targets_at(fact, indirect, named))
     }
 
     /// Whether a word counts the running routine's return word up: an ISZ of its own entry alone, which
@@ -222,7 +188,13 @@ pub fn reads<A: Allocator>(fact: &Fact, at: Word, word: Word, place: &Place<'_, 
         (may_read (place_of place.now) (meaning fact.now)
         (meaning_at (place_of place.now) at word)) }
 {
-    place.cells_read(fact, at, word)
+    if !place.is_reference(word) {
+        return WordSet::empty();
+    }
+    let indirect = refers_indirectly(word);
+    let named = target(word, at);
+    let targets = place.targets_at(fact, indirect, named);
+    union_if(reads_operand(word), &pointer_if(indirect, named), &targets)
 }
 
 /// The cells that a word at the address of a fact may write, wherever the fact holds: the targets of
@@ -232,5 +204,14 @@ pub fn writes<A: Allocator>(fact: &Fact, at: Word, word: Word, place: &Place<'_,
         (may_write (place_of place.now) (meaning fact.now)
         (meaning_at (place_of place.now) at word)) }
 {
-    place.cells_written(fact, at, word)
+    if !place.is_reference(word) {
+        return WordSet::empty();
+    }
+    let indirect = refers_indirectly(word);
+    let named = target(word, at);
+    let pointer = pointer_if(steps_pointer(indirect, named), named);
+    if !stores(word) {
+        return pointer;
+    }
+    pointer.union(&place.targets_at(fact, indirect, named))
 }

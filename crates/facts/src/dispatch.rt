@@ -39,12 +39,12 @@ fn nowhere<'a>() -> Outcomes<'a>
 }
 
 /// Two outcomes, so far as they are there.
-fn two<'a>(outcomes: (Option<Successor<'a>>, Option<Successor<'a>>)) -> Outcomes<'a>
+fn two<'a>(successors: (Option<Successor<'a>>, Option<Successor<'a>>)) -> Outcomes<'a>
     ensures { (given : List told.Successor) → AgreeingSuccessors
-        (slot outcomes.entry.0 ++ slot outcomes.entry.1) given →
+        (slot successors.entry.0 ++ slot successors.entry.1) given →
         AgreeingSuccessors (slots result.all) given }
 {
-    let (first, second) = outcomes;
+    let (first, second) = successors;
     Outcomes {
         all: [first, second, None, None],
     }
@@ -55,17 +55,17 @@ fn two<'a>(outcomes: (Option<Successor<'a>>, Option<Successor<'a>>)) -> Outcomes
 fn branches<'a>(
     at: Word,
     word: Word,
-    known: &AbstractState<'a>,
-    room: &'a mut Scratch,
+    state: &AbstractState<'a>,
+    scratch: &'a mut Scratch,
 ) -> Outcomes<'a>
-    requires room { length known.now.equations.now ≤ 32 }
-    ensures { (f : said.Fact) → Agree (fact_of_state known.now) f →
+    requires room { length state.now.equations.now ≤ 32 }
+    ensures { (f : said.Fact) → Agree (fact_of_state state.now) f →
         AgreeingSuccessors (slots result.all) (all_operated2 at word f) }
 {
-    let first = branch(at, word, known, Link::CLEAR, true, &mut room.one);
-    let second = branch(at, word, known, Link::CLEAR, false, &mut room.two);
-    let third = branch(at, word, known, Link::SET, true, &mut room.three);
-    let fourth = branch(at, word, known, Link::SET, false, &mut room.four);
+    let first = branch(at, word, state, Link::CLEAR, true, &mut scratch.one);
+    let second = branch(at, word, state, Link::CLEAR, false, &mut scratch.two);
+    let third = branch(at, word, state, Link::SET, true, &mut scratch.three);
+    let fourth = branch(at, word, state, Link::SET, false, &mut scratch.four);
     Outcomes {
         all: [first, second, third, fourth],
     }
@@ -89,27 +89,27 @@ impl<A: Allocator> Place<'_, A> {
         &self,
         at: Word,
         word: Word,
-        known: &AbstractState<'a>,
-        room: &'a mut Scratch,
+        state: &AbstractState<'a>,
+        scratch: &'a mut Scratch,
     ) -> Outcomes<'a>
-        requires pointer { IsUnchanged known.now.pointer }
-        requires target { IsUnchanged known.now.target }
-        requires room { length known.now.equations.now ≤ 32 }
-        ensures { (f : said.Fact) → Agree (fact_of_state known.now) f →
+        requires pointer { IsUnchanged state.now.pointer }
+        requires target { IsUnchanged state.now.target }
+        requires room { length state.now.equations.now ≤ 32 }
+        ensures { (f : said.Fact) → Agree (fact_of_state state.now) f →
             AgreeingSuccessors (slots result.all) (outcomes_of (place_of self.now) f at
             (reference_at (operation_of word) word at)) }
     {
         let indirect = refers_indirectly(word);
         let named = target(word, at);
-        let targets = self.reached(indirect, named, known, &mut room.targets);
+        let targets = self.reached(indirect, named, state, &mut scratch.targets);
         let single = single_target(indirect, named, targets);
-        let first = &mut room.one;
-        let second = &mut room.two;
+        let first = &mut scratch.one;
+        let second = &mut scratch.two;
         if steps_pointer(indirect, named) {
-            let seen = known.stepped(named, &mut room.pointer, &mut room.list);
+            let seen = state.stepped(named, &mut scratch.pointer, &mut scratch.list);
             return self.refer_to(at, word, &seen, targets, &single, first, second);
         }
-        self.refer_to(at, word, known, targets, &single, first, second)
+        self.refer_to(at, word, state, targets, &single, first, second)
     }
 
     /// The outcomes of a memory reference to some targets.
@@ -120,7 +120,7 @@ impl<A: Allocator> Place<'_, A> {
         seen: &AbstractState<'a>,
         reached: &'a WordSet,
         single: &Option<Word>,
-        way: &'a mut SuccessorScratch,
+        scratch: &'a mut SuccessorScratch,
         other: &'a mut SuccessorScratch,
     ) -> Outcomes<'a>
         requires single { single.now ≡ only (words reached.now) }
@@ -136,12 +136,15 @@ impl<A: Allocator> Place<'_, A> {
         let indirect = refers_indirectly(word);
         let named = target(word, at);
         match Operation::of(word) {
-            Operation::And => return two((self.combine(at, seen, reached, single, way), None)),
-            Operation::Tad => return two((self.add(at, seen, reached, single, way), None)),
-            Operation::Isz => return two(self.count(at, seen, reached, single, way, other)),
-            Operation::Dca => return two((deposit(at, seen, reached, single, way), None)),
-            Operation::Jms => return two((call(seen, reached, way), None)),
-            Operation::Jmp => return two((self.jump(indirect, named, seen, reached, way), None)),
+            Operation::And => return two((self.combine(at, seen, reached, single, scratch), None)),
+            Operation::Tad => return two((self.add(at, seen, reached, single, scratch), None)),
+            Operation::Isz => return two(self.count(at, seen, reached, single, scratch, other)),
+            Operation::Dca => return two((deposit(at, seen, reached, single, scratch), None)),
+            Operation::Jms => return two((call(seen, reached, scratch), None)),
+            Operation::Jmp => return two((
+                self.jump(indirect, named, seen, reached, scratch),
+                None,
+            )),
         }
     }
 
@@ -150,17 +153,17 @@ impl<A: Allocator> Place<'_, A> {
         &self,
         at: Word,
         word: Word,
-        known: &AbstractState<'a>,
-        room: &'a mut Scratch,
+        state: &AbstractState<'a>,
+        scratch: &'a mut Scratch,
     ) -> Outcomes<'a>
-        requires room { length known.now.equations.now ≤ 32 }
-        ensures { (f : said.Fact) → Agree (fact_of_state known.now) f →
+        requires room { length state.now.equations.now ≤ 32 }
+        ensures { (f : said.Fact) → Agree (fact_of_state state.now) f →
             AgreeingSuccessors (slots result.all) (outcomes_of (place_of self.now) f at (Group2 word)) }
     {
         if halts(word) && self.declaration.is_stop(at) {
             return nowhere();
         }
-        branches(at, word, known, room)
+        branches(at, word, state, scratch)
     }
 
     /// The outcomes of a device word.
@@ -168,16 +171,19 @@ impl<A: Allocator> Place<'_, A> {
         &self,
         at: Word,
         word: Word,
-        known: &AbstractState<'a>,
-        room: &'a mut Scratch,
+        state: &AbstractState<'a>,
+        scratch: &'a mut Scratch,
     ) -> Outcomes<'a>
         requires kind { kind_of (meaning_of (place_of self.now).declaration.profile at word) ≡ Iot }
-        requires room { length known.now.equations.now ≤ 32 }
-        ensures { (f : said.Fact) → Agree (fact_of_state known.now) f →
+        requires room { length state.now.equations.now ≤ 32 }
+        ensures { (f : said.Fact) → Agree (fact_of_state state.now) f →
             AgreeingSuccessors (slots result.all) (outcomes_at (place_of self.now) f at word) }
     {
         match DeviceOperation::of(word, self.declaration.profile()) {
-            Some(operation) => two(transfer(at, operation, known, &mut room.one, &mut room.two)),
+            Some(operation) => {
+                let other = &mut scratch.two;
+                two(transfer(at, operation, state, &mut scratch.one, other))
+            }
             None => nowhere(),
         }
     }
@@ -193,18 +199,18 @@ pub fn outcomes<'a, A: Allocator>(
     at: Word,
     word: Word,
     place: &Place<'_, A>,
-    room: &'a mut Scratch,
+    scratch: &'a mut Scratch,
 ) -> Outcomes<'a>
     ensures { AgreeingSuccessors (slots result.all)
         (outcomes_at (place_of place.now) (meaning fact.now) at word) }
 {
-    let known = AbstractState::of(fact);
+    let state = AbstractState::of(fact);
     match decode(word, place.declaration.profile()) {
-        Instruction::Memory => return place.refer(at, word, &known, room),
-        Instruction::Operate1 => return two((operate(at, word, &known, &mut room.one), None)),
-        Instruction::Operate2 => return place.skip(at, word, &known, room),
-        Instruction::Operate3 => return two((exchange(at, word, &known, &mut room.one), None)),
-        Instruction::Iot => return place.transfer(at, word, &known, room),
+        Instruction::Memory => return place.refer(at, word, &state, scratch),
+        Instruction::Operate1 => return two((operate(at, word, &state, &mut scratch.one), None)),
+        Instruction::Operate2 => return place.skip(at, word, &state, scratch),
+        Instruction::Operate3 => return two((exchange(at, word, &state, &mut scratch.one), None)),
+        Instruction::Iot => return place.transfer(at, word, &state, scratch),
         Instruction::Unsupported => return nowhere(),
     }
 }

@@ -92,12 +92,12 @@ impl<A: Allocator> Place<'_, A> {
 
     /// The words that the running routine's entry may hold, in a place for them: a site, one more, and
     /// an offset.
-    fn own_words<'b>(&self, known: &AbstractState<'_>, place: &'b mut WordSet) -> &'b WordSet
+    fn own_words<'b>(&self, state: &AbstractState<'_>, place: &'b mut WordSet) -> &'b WordSet
         ensures { SameWords (words result.now) (own_words (place_of self.now).sites
-            (fact_of_state known.now)) }
+            (fact_of_state state.now)) }
     {
         let sites = self.sites();
-        let offsets = known.offsets();
+        let offsets = state.offsets();
         *place = WordSet::empty();
         for o in 0..8usize {
             add_shifted_if(offsets.contains(o), &sites, Word::from_index(o + 1), place);
@@ -109,18 +109,18 @@ impl<A: Allocator> Place<'_, A> {
     /// routine's own return words, any word in another entry, else the tape's word.
     pub(crate) fn words_in<'b>(
         &self,
-        known: &AbstractState<'_>,
+        state: &AbstractState<'_>,
         cell: Word,
         place: &'b mut WordSet,
     ) -> &'b WordSet
-        ensures { SameWords (words result.now) (words_in (place_of self.now) (fact_of_state known.now)
+        ensures { SameWords (words result.now) (words_in (place_of self.now) (fact_of_state state.now)
             cell) }
     {
         if self.declaration.is_variable(cell) {
-            return known.left_in(&Name::Cell(cell), place);
+            return state.left_in(&Name::Cell(cell), place);
         }
         if self.is_own(cell) {
-            return self.own_words(known, place);
+            return self.own_words(state, place);
         }
         if self.declaration.is_entry(cell) {
             return put_all(place);
@@ -132,18 +132,18 @@ impl<A: Allocator> Place<'_, A> {
     /// place for them.
     pub(crate) fn words_at<'b>(
         &self,
-        known: &AbstractState<'_>,
+        state: &AbstractState<'_>,
         cells: &WordSet,
         single: &Option<Word>,
         place: &'b mut WordSet,
     ) -> &'b WordSet
         requires { single.now ≡ only (words cells.now) }
         ensures { SameWords (words result.now)
-            (words_at (place_of self.now) (fact_of_state known.now) (words cells.now)) }
+            (words_at (place_of self.now) (fact_of_state state.now) (words cells.now)) }
     {
         match single {
-            Some(cell) => self.words_in(known, *cell, place),
-            None => self.words_at_each(known, cells, place),
+            Some(cell) => self.words_in(state, *cell, place),
+            None => self.words_at_each(state, cells, place),
         }
     }
 
@@ -151,17 +151,17 @@ impl<A: Allocator> Place<'_, A> {
     #[inline(never)]
     fn words_at_each<'b>(
         &self,
-        known: &AbstractState<'_>,
+        state: &AbstractState<'_>,
         cells: &WordSet,
         place: &'b mut WordSet,
     ) -> &'b WordSet
         ensures { SameWords (words result.now)
-            (words_at (place_of self.now) (fact_of_state known.now) (words cells.now)) }
+            (words_at (place_of self.now) (fact_of_state state.now) (words cells.now)) }
     {
         let mut one = WordSet::all();
         let mut set = WordSet::empty();
         for cell in cells.iter() {
-            set = set.union(self.words_in(known, cell, &mut one));
+            set = set.union(self.words_in(state, cell, &mut one));
         }
         put_set(place, &set)
     }

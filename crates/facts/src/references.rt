@@ -1,6 +1,6 @@
 //! The outcomes of the words that refer to memory.
 
-ghost use Rattle.std.specs.Prelude.{ℕ, ◌≡◌, ◌≤◌, ◌++◌, ◌&&◌, true, false, length, Some, None};
+ghost use Rattle.std.specs.Prelude.{◌≡◌, ◌≤◌, ◌++◌, ◌&&◌, true, false, length, Some, None};
 ghost use Rattle.wordset.specs.Words.{Words, SameWords, everything, only, sums, some_below};
 ghost use Rattle.wordset.specs.Lanes.{words};
 ghost use Rattle.processor.specs.Machine.{steps_pointer};
@@ -38,31 +38,31 @@ pub(crate) fn steps_pointer(indirect: bool, named: Word) -> bool
 #[inline(never)]
 pub(crate) fn deposit<'a>(
     at: Word,
-    known: &AbstractState<'a>,
+    state: &AbstractState<'a>,
     targets: &'a WordSet,
     single: &Option<Word>,
-    way: &'a mut SuccessorScratch,
+    scratch: &'a mut SuccessorScratch,
 ) -> Option<Successor<'a>>
     requires single { single.now ≡ only (words targets.now) }
-    requires target { IsUnchanged known.now.target }
-    requires room { length known.now.equations.now ≤ 32 }
-    ensures { (place : said.Place) (f : said.Fact) (p : Words) → Agree (fact_of_state known.now) f →
+    requires target { IsUnchanged state.now.target }
+    requires room { length state.now.equations.now ≤ 32 }
+    ensures { (place : said.Place) (f : said.Fact) (p : Words) → Agree (fact_of_state state.now) f →
         SameWords (words targets.now) p →
         AgreeingSuccessors (slot result) (dca_case place at f p (only p)) }
 {
-    let held = known.left_in(&Name::Accumulator, &mut way.held);
-    let zero = put_one(&mut way.ac, Word::ZERO);
-    let next = address_after(at, &mut way.next);
+    let held = state.left_in(&Name::Accumulator, &mut scratch.held);
+    let zero = put_one(&mut scratch.ac, Word::ZERO);
+    let next = address_after(at, &mut scratch.next);
     match single {
         Some(cell) => {
-            let put = known.with_cell(*cell, held, &mut way.first);
-            let told = put.told(*cell, known.equations, &mut way.second);
-            let after = told.with_ac(zero, &mut way.third);
+            let put = state.with_cell(*cell, held, &mut scratch.first);
+            let told = put.told(*cell, state.equations, &mut scratch.second);
+            let after = told.with_ac(zero, &mut scratch.third);
             going(has_some(held), targets, held, next, after)
         }
         None => {
-            let put = known.stored(targets, held, &mut way.first);
-            let cleared = put.with_ac(zero, &mut way.second);
+            let put = state.stored(targets, held, &mut scratch.first);
+            let cleared = put.with_ac(zero, &mut scratch.second);
             going(true, targets, held, next, cleared)
         }
     }
@@ -72,28 +72,28 @@ pub(crate) fn deposit<'a>(
 #[inline(never)]
 pub(crate) fn count_one<'a>(
     at: Word,
-    known: &AbstractState<'a>,
+    state: &AbstractState<'a>,
     targets: &WordSet,
     cell: Word,
-    way: &'a mut SuccessorScratch,
+    scratch: &'a mut SuccessorScratch,
     other: &'a mut SuccessorScratch,
 ) -> (Option<Successor<'a>>, Option<Successor<'a>>)
-    requires target { IsUnchanged known.now.target }
-    requires room { length known.now.equations.now ≤ 32 }
+    requires target { IsUnchanged state.now.target }
+    requires room { length state.now.equations.now ≤ 32 }
     ensures { (place : said.Place) (f : said.Fact) (p : Words) → place.declaration.variable cell ≡
         true →
-        Agree (fact_of_state known.now) f → SameWords (words targets.now) p →
+        Agree (fact_of_state state.now) f → SameWords (words targets.now) p →
         AgreeingSuccessors (slot result.0 ++ slot result.1) (isz_case place at f p (Some cell)) }
 {
-    let held = known.left_in(&Name::Accumulator, &mut way.held);
-    let old = known.left_in(&Name::Cell(cell), &mut way.read);
-    let zero = put_one(&mut way.changed, Word::ZERO);
+    let held = state.left_in(&Name::Accumulator, &mut scratch.held);
+    let old = state.left_in(&Name::Cell(cell), &mut scratch.read);
+    let zero = put_one(&mut scratch.changed, Word::ZERO);
     let wraps = has_cell(old, Word::ZERO.complement());
-    let after = known.counted_to(cell, zero, &mut way.first);
-    let next = address_skipped_to(at, &mut way.next);
+    let after = state.counted_to(cell, zero, &mut scratch.first);
+    let next = address_skipped_to(at, &mut scratch.next);
     let skips = going(wraps, targets, held, next, after);
     let more = put_counted(&mut other.changed, old);
-    let after = known.counted_to(cell, more, &mut other.first);
+    let after = state.counted_to(cell, more, &mut other.first);
     let next = address_after(at, &mut other.next);
     (skips, going(has_some(more), targets, held, next, after))
 }
@@ -102,26 +102,26 @@ pub(crate) fn count_one<'a>(
 #[inline(never)]
 pub(crate) fn count_own<'a>(
     at: Word,
-    known: &AbstractState<'a>,
+    state: &AbstractState<'a>,
     targets: &WordSet,
     cell: Word,
-    way: &'a mut SuccessorScratch,
+    scratch: &'a mut SuccessorScratch,
 ) -> Option<Successor<'a>>
     ensures { (place : said.Place) (f : said.Fact) (p : Words) → place.declaration.variable cell ≡
         false →
-        Agree (fact_of_state known.now) f → SameWords (words targets.now) p →
+        Agree (fact_of_state state.now) f → SameWords (words targets.now) p →
         AgreeingSuccessors (slot result) (isz_case place at f p (Some cell)) }
 {
-    let held = known.left_in(&Name::Accumulator, &mut way.held);
-    let next = address_after(at, &mut way.next);
-    going(true, targets, held, next, known.returning_later())
+    let held = state.left_in(&Name::Accumulator, &mut scratch.held);
+    let next = address_after(at, &mut scratch.next);
+    going(true, targets, held, next, state.returning_later())
 }
 
 /// Whether a cell may hold 7777, or whether it may hold another word.
-fn may_hold(known: &AbstractState<'_>, cell: Word, last: bool) -> bool
-    ensures { result ≡ has_last_or_other last (narrowed (fact_of_state known.now) (Cell cell)) }
+fn may_hold(state: &AbstractState<'_>, cell: Word, last: bool) -> bool
+    ensures { result ≡ has_last_or_other last (narrowed (fact_of_state state.now) (Cell cell)) }
 {
-    let mut left = known.narrowed(&Name::Cell(cell));
+    let mut left = state.narrowed(&Name::Cell(cell));
     if last {
         return left.contains(Word::ZERO.complement());
     }
@@ -130,12 +130,12 @@ fn may_hold(known: &AbstractState<'_>, cell: Word, last: bool) -> bool
 }
 
 /// Whether some of the cells may hold 7777, or whether some of them may hold another word.
-fn may_some_hold(known: &AbstractState<'_>, cells: &WordSet, last: bool) -> bool
+fn may_some_hold(state: &AbstractState<'_>, cells: &WordSet, last: bool) -> bool
     ensures { result ≡ some_below 4096 (λ y. words cells.now y &&
-        has_last_or_other last (narrowed (fact_of_state known.now) (Cell y))) }
+        has_last_or_other last (narrowed (fact_of_state state.now) (Cell y))) }
 {
     for cell in cells.iter() {
-        if may_hold(known, cell, last) {
+        if may_hold(state, cell, last) {
             return true;
         }
     }
@@ -146,24 +146,24 @@ fn may_some_hold(known: &AbstractState<'_>, cells: &WordSet, last: bool) -> bool
 #[inline(never)]
 pub(crate) fn count_several<'a>(
     at: Word,
-    known: &AbstractState<'a>,
+    state: &AbstractState<'a>,
     targets: &'a WordSet,
-    way: &'a mut SuccessorScratch,
+    scratch: &'a mut SuccessorScratch,
     other: &'a mut SuccessorScratch,
 ) -> (Option<Successor<'a>>, Option<Successor<'a>>)
-    requires target { IsUnchanged known.now.target }
-    requires room { length known.now.equations.now ≤ 32 }
-    ensures { (place : said.Place) (f : said.Fact) (p : Words) → Agree (fact_of_state known.now) f →
+    requires target { IsUnchanged state.now.target }
+    requires room { length state.now.equations.now ≤ 32 }
+    ensures { (place : said.Place) (f : said.Fact) (p : Words) → Agree (fact_of_state state.now) f →
         SameWords (words targets.now) p →
         AgreeingSuccessors (slot result.0 ++ slot result.1) (isz_case place at f p None) }
 {
-    let held = known.left_in(&Name::Accumulator, &mut way.held);
-    let wraps = may_some_hold(known, targets, true);
-    let after = known.counted(targets, &mut way.first);
-    let next = address_skipped_to(at, &mut way.next);
+    let held = state.left_in(&Name::Accumulator, &mut scratch.held);
+    let wraps = may_some_hold(state, targets, true);
+    let after = state.counted(targets, &mut scratch.first);
+    let next = address_skipped_to(at, &mut scratch.next);
     let skips = going(wraps, targets, held, next, after);
-    let stays = may_some_hold(known, targets, false);
-    let after = known.counted(targets, &mut other.first);
+    let stays = may_some_hold(state, targets, false);
+    let after = state.counted(targets, &mut other.first);
     let next = address_after(at, &mut other.next);
     (skips, going(stays, targets, held, next, after))
 }
@@ -171,35 +171,35 @@ pub(crate) fn count_several<'a>(
 /// What is known after a sum: with one word added the accumulator's equations move by it, and
 /// otherwise they are dropped.
 fn after_sum<'a>(
-    known: &AbstractState<'a>,
+    state: &AbstractState<'a>,
     added: &Option<Word>,
     set: &'a WordSet,
     list: &'a mut Equations,
 ) -> AbstractState<'a>
-    requires room { length known.now.equations.now ≤ 32 }
-    ensures { (f : said.Fact) (v : Words) → Agree (fact_of_state known.now) f →
+    requires room { length state.now.equations.now ≤ 32 }
+    ensures { (f : said.Fact) (v : Words) → Agree (fact_of_state state.now) f →
         SameWords (words set.now) (sums (narrowed f Ac) v) →
         Agree (fact_of_state result) (tad_word f v added.now) }
 {
     match added {
-        Some(word) => return known.raised_to(*word, set, list),
-        None => return known.with_ac(set, list),
+        Some(word) => return state.raised_to(*word, set, list),
+        None => return state.with_ac(set, list),
     }
 }
 
 /// JMS calls each target.
 #[inline(never)]
 pub(crate) fn call<'a>(
-    known: &AbstractState<'a>,
+    state: &AbstractState<'a>,
     targets: &'a WordSet,
-    way: &'a mut SuccessorScratch,
+    scratch: &'a mut SuccessorScratch,
 ) -> Option<Successor<'a>>
-    ensures { (f : said.Fact) (p : Words) → Agree (fact_of_state known.now) f →
+    ensures { (f : said.Fact) (p : Words) → Agree (fact_of_state state.now) f →
         SameWords (words targets.now) p →
         AgreeingSuccessors (slot result) (given (alive p f everything f) (CallsTo p f)) }
 {
-    let held = known.left_in(&Name::Accumulator, &mut way.held);
-    let after = known.same();
+    let held = state.left_in(&Name::Accumulator, &mut scratch.held);
+    let after = state.same();
     if !is_alive(targets, held, &after) {
         return None;
     }
@@ -214,19 +214,19 @@ impl<A: Allocator> Place<'_, A> {
         &self,
         indirect: bool,
         named: Word,
-        known: &AbstractState<'_>,
+        state: &AbstractState<'_>,
         place: &'b mut WordSet,
     ) -> &'b WordSet
-        requires pointer { IsUnchanged known.now.pointer }
-        requires target { IsUnchanged known.now.target }
-        ensures { (f : said.Fact) → Agree (fact_of_state known.now) f →
+        requires pointer { IsUnchanged state.now.pointer }
+        requires target { IsUnchanged state.now.target }
+        ensures { (f : said.Fact) → Agree (fact_of_state state.now) f →
             SameWords (words result.now) (targets (place_of self.now) indirect named f) }
     {
         if steps_pointer(indirect, named) {
-            return known.shifted_in(&Name::Cell(named), Word::ZERO.increment(), place);
+            return state.shifted_in(&Name::Cell(named), Word::ZERO.increment(), place);
         }
         if indirect {
-            return self.words_in(known, named, place);
+            return self.words_in(state, named, place);
         }
         put_one(place, named)
     }
@@ -236,48 +236,49 @@ impl<A: Allocator> Place<'_, A> {
     pub(crate) fn combine<'a>(
         &self,
         at: Word,
-        known: &AbstractState<'a>,
+        state: &AbstractState<'a>,
         targets: &WordSet,
         single: &Option<Word>,
-        way: &'a mut SuccessorScratch,
+        scratch: &'a mut SuccessorScratch,
     ) -> Option<Successor<'a>>
         requires single { single.now ≡ only (words targets.now) }
-        requires room { length known.now.equations.now ≤ 32 }
-        ensures { (f : said.Fact) (p : Words) → Agree (fact_of_state known.now) f →
+        requires room { length state.now.equations.now ≤ 32 }
+        ensures { (f : said.Fact) (p : Words) → Agree (fact_of_state state.now) f →
             SameWords (words targets.now) p →
             AgreeingSuccessors (slot result) (anded (place_of self.now) at f p) }
     {
-        let held = known.left_in(&Name::Accumulator, &mut way.held);
-        let read: &'a WordSet = self.words_at(known, targets, single, &mut way.read);
-        let both = put_set(&mut way.ac, &held.ands(read));
-        let after = known.with_ac(both, &mut way.first);
-        going(true, targets, held, address_after(at, &mut way.next), after)
+        let held = state.left_in(&Name::Accumulator, &mut scratch.held);
+        let read: &'a WordSet = self.words_at(state, targets, single, &mut scratch.read);
+        let both = put_set(&mut scratch.ac, &held.ands(read));
+        let after = state.with_ac(both, &mut scratch.first);
+        let next = address_after(at, &mut scratch.next);
+        going(true, targets, held, next, after)
     }
 
     /// What is known of the accumulator after TAD: of one variable to one word it is their sum.
     #[inline(never)]
     fn after_tad<'a>(
         &self,
-        known: &AbstractState<'a>,
+        state: &AbstractState<'a>,
         target: &Option<Word>,
         ac: &Option<Word>,
         added: &Option<Word>,
         set: &'a WordSet,
         list: &'a mut Equations,
     ) -> AbstractState<'a>
-        requires room { length known.now.equations.now ≤ 32 }
-        ensures { (f : said.Fact) (v : Words) → Agree (fact_of_state known.now) f →
+        requires room { length state.now.equations.now ≤ 32 }
+        ensures { (f : said.Fact) (v : Words) → Agree (fact_of_state state.now) f →
             SameWords (words set.now) (sums (narrowed f Ac) v) →
             Agree (fact_of_state result) (tad_case (place_of self.now) f v target.now ac.now added.now) }
     {
         if let Some(cell) = target {
             if let Some(word) = ac {
                 if self.declaration.is_variable(*cell) {
-                    return known.summed(*cell, *word, set, list);
+                    return state.summed(*cell, *word, set, list);
                 }
             }
         }
-        after_sum(known, added, set, list)
+        after_sum(state, added, set, list)
     }
 
     /// TAD: all sums, and the link complemented by the carries that occur.
@@ -285,25 +286,25 @@ impl<A: Allocator> Place<'_, A> {
     pub(crate) fn add<'a>(
         &self,
         at: Word,
-        known: &AbstractState<'a>,
+        state: &AbstractState<'a>,
         targets: &WordSet,
         single: &Option<Word>,
-        way: &'a mut SuccessorScratch,
+        scratch: &'a mut SuccessorScratch,
     ) -> Option<Successor<'a>>
         requires single { single.now ≡ only (words targets.now) }
-        requires room { length known.now.equations.now ≤ 32 }
-        ensures { (f : said.Fact) (p : Words) → Agree (fact_of_state known.now) f →
+        requires room { length state.now.equations.now ≤ 32 }
+        ensures { (f : said.Fact) (p : Words) → Agree (fact_of_state state.now) f →
             SameWords (words targets.now) p →
             AgreeingSuccessors (slot result) (tad (place_of self.now) at f p) }
     {
-        let held = known.left_in(&Name::Accumulator, &mut way.held);
-        let read: &'a WordSet = self.words_at(known, targets, single, &mut way.read);
+        let held = state.left_in(&Name::Accumulator, &mut scratch.held);
+        let read: &'a WordSet = self.words_at(state, targets, single, &mut scratch.read);
         let (sums, carries) = held.sums(read);
-        let ac = put_set(&mut way.ac, &sums);
-        let links = known.link.toggled(carries);
+        let ac = put_set(&mut scratch.ac, &sums);
+        let links = state.link.toggled(carries);
         let (one, added) = (held.only(), read.only());
-        let sum = self.after_tad(known, single, &one, &added, ac, &mut way.first);
-        let next = address_after(at, &mut way.next);
+        let sum = self.after_tad(state, single, &one, &added, ac, &mut scratch.first);
+        let next = address_after(at, &mut scratch.next);
         going(true, targets, held, next, sum.with_link(links))
     }
 
@@ -320,16 +321,16 @@ impl<A: Allocator> Place<'_, A> {
         &self,
         indirect: bool,
         named: Word,
-        known: &AbstractState<'a>,
+        state: &AbstractState<'a>,
         targets: &'a WordSet,
-        way: &'a mut SuccessorScratch,
+        scratch: &'a mut SuccessorScratch,
     ) -> Option<Successor<'a>>
-        ensures { (f : said.Fact) (p : Words) → Agree (fact_of_state known.now) f →
+        ensures { (f : said.Fact) (p : Words) → Agree (fact_of_state state.now) f →
             SameWords (words targets.now) p →
             AgreeingSuccessors (slot result) (jmp (place_of self.now) indirect named f p) }
     {
-        let held = known.left_in(&Name::Accumulator, &mut way.held);
-        let after = known.same();
+        let held = state.left_in(&Name::Accumulator, &mut scratch.held);
+        let after = state.same();
         if !self.is_returning(indirect, named) {
             return going(true, targets, held, targets, after);
         }
@@ -343,27 +344,27 @@ impl<A: Allocator> Place<'_, A> {
     pub(crate) fn count<'a>(
         &self,
         at: Word,
-        known: &AbstractState<'a>,
+        state: &AbstractState<'a>,
         targets: &'a WordSet,
         single: &Option<Word>,
-        way: &'a mut SuccessorScratch,
+        scratch: &'a mut SuccessorScratch,
         other: &'a mut SuccessorScratch,
     ) -> (Option<Successor<'a>>, Option<Successor<'a>>)
         requires single { single.now ≡ only (words targets.now) }
-        requires target { IsUnchanged known.now.target }
-        requires room { length known.now.equations.now ≤ 32 }
-        ensures { (f : said.Fact) (p : Words) → Agree (fact_of_state known.now) f →
+        requires target { IsUnchanged state.now.target }
+        requires room { length state.now.equations.now ≤ 32 }
+        ensures { (f : said.Fact) (p : Words) → Agree (fact_of_state state.now) f →
             SameWords (words targets.now) p →
             AgreeingSuccessors (slot result.0 ++ slot result.1)
             (isz_case (place_of self.now) at f p (only p)) }
     {
         match single {
-            None => count_several(at, known, targets, way, other),
+            None => count_several(at, state, targets, scratch, other),
             Some(cell) => {
                 if self.declaration.is_variable(*cell) {
-                    return count_one(at, known, targets, *cell, way, other);
+                    return count_one(at, state, targets, *cell, scratch, other);
                 }
-                (count_own(at, known, targets, *cell, way), None)
+                (count_own(at, state, targets, *cell, scratch), None)
             }
         }
     }

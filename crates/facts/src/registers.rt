@@ -66,22 +66,22 @@ fn increments(word: Word) -> bool
 /// alone its equations move by one.
 fn related<'a>(
     word: Word,
-    known: &AbstractState<'a>,
+    state: &AbstractState<'a>,
     set: &'a WordSet,
     list: &'a mut Equations,
 ) -> AbstractState<'a>
-    requires room { length known.now.equations.now ≤ 32 }
-    ensures { (f : said.Fact) (s : Words) → Agree (fact_of_state known.now) f →
+    requires room { length state.now.equations.now ≤ 32 }
+    ensures { (f : said.Fact) (s : Words) → Agree (fact_of_state state.now) f →
         SameWords (words set.now) s →
         Agree (fact_of_state result) (with_name Ac s (related1 word f)) }
 {
     if changes_accumulator(word) {
-        return known.with_ac(set, list);
+        return state.with_ac(set, list);
     }
     if increments(word) {
-        return known.raised_to(Word::ZERO.increment(), set, list);
+        return state.raised_to(Word::ZERO.increment(), set, list);
     }
-    known.same().holding(set)
+    state.same().holding(set)
 }
 
 /// A word of group 1: the images of the words and links.
@@ -89,98 +89,98 @@ fn related<'a>(
 pub(crate) fn operate<'a>(
     at: Word,
     word: Word,
-    known: &AbstractState<'a>,
-    way: &'a mut SuccessorScratch,
+    state: &AbstractState<'a>,
+    scratch: &'a mut SuccessorScratch,
 ) -> Option<Successor<'a>>
     requires word { instruction_of Pdp8E word ≡ Operate1 }
-    requires room { length known.now.equations.now ≤ 32 }
-    ensures { (f : said.Fact) → Agree (fact_of_state known.now) f →
+    requires room { length state.now.equations.now ≤ 32 }
+    ensures { (f : said.Fact) → Agree (fact_of_state state.now) f →
         AgreeingSuccessors (slot result) (goes everything f everything (one (plus at 1))
         (operated1 word f)) }
 {
-    let held = known.left_in(&Name::Accumulator, &mut way.held);
-    let (images, links) = held.map_operate(word, known.link);
-    let ac = put_set(&mut way.ac, &images);
-    let after = related(word, known, ac, &mut way.first).with_link(links);
-    go_on(at, held, after, &mut way.next)
+    let held = state.left_in(&Name::Accumulator, &mut scratch.held);
+    let (images, links) = held.map_operate(word, state.link);
+    let ac = put_set(&mut scratch.ac, &images);
+    let after = related(word, state, ac, &mut scratch.first).with_link(links);
+    go_on(at, held, after, &mut scratch.next)
 }
 
 /// A flag test: the flag may be set or not.
 pub(crate) fn test_flag<'a>(
     at: Word,
-    known: &AbstractState<'a>,
-    way: &'a mut SuccessorScratch,
+    state: &AbstractState<'a>,
+    scratch: &'a mut SuccessorScratch,
     other: &'a mut SuccessorScratch,
 ) -> (Option<Successor<'a>>, Option<Successor<'a>>)
-    ensures { (f : said.Fact) → Agree (fact_of_state known.now) f →
+    ensures { (f : said.Fact) → Agree (fact_of_state state.now) f →
         AgreeingSuccessors (slot result.0 ++ slot result.1) (device_outcomes at f Skips) }
 {
-    let held = known.left_in(&Name::Accumulator, &mut way.held);
+    let held = state.left_in(&Name::Accumulator, &mut scratch.held);
     let next = address_skipped_to(at, &mut other.next);
-    let skips = going(true, next, held, next, known.same());
-    (go_on(at, held, known.same(), &mut way.next), skips)
+    let skips = going(true, next, held, next, state.same());
+    (go_on(at, held, state.same(), &mut scratch.next), skips)
 }
 
 /// The outcome after the accumulator took these words.
 fn assign<'a>(
     at: Word,
-    known: &AbstractState<'a>,
+    state: &AbstractState<'a>,
     set: &WordSet,
-    way: &'a mut SuccessorScratch,
+    scratch: &'a mut SuccessorScratch,
 ) -> Option<Successor<'a>>
-    requires room { length known.now.equations.now ≤ 32 }
-    ensures { (f : said.Fact) (s : Words) → Agree (fact_of_state known.now) f →
+    requires room { length state.now.equations.now ≤ 32 }
+    ensures { (f : said.Fact) (s : Words) → Agree (fact_of_state state.now) f →
         SameWords (words set.now) s →
         AgreeingSuccessors (slot result) (goes everything f everything (one (plus at 1))
         (strongly_updated Ac s f)) }
 {
-    let held = known.left_in(&Name::Accumulator, &mut way.held);
-    let after = known.with_ac(put_set(&mut way.ac, set), &mut way.first);
-    go_on(at, held, after, &mut way.next)
+    let held = state.left_in(&Name::Accumulator, &mut scratch.held);
+    let after = state.with_ac(put_set(&mut scratch.ac, set), &mut scratch.first);
+    go_on(at, held, after, &mut scratch.next)
 }
 
 /// The accumulator's words, each with any bits of a byte.
-fn with_byte(known: &AbstractState<'_>) -> WordSet
-    ensures { (f : said.Fact) → Agree (fact_of_state known.now) f →
+fn with_byte(state: &AbstractState<'_>) -> WordSet
+    ensures { (f : said.Fact) → Agree (fact_of_state state.now) f →
         SameWords (words result) (or_any 255 (narrowed f Ac)) }
 {
-    let held = known.narrowed(&Name::Accumulator);
+    let held = state.narrowed(&Name::Accumulator);
     held.or_any(Word::from_byte(0o377))
 }
 
 /// Nothing changes.
 pub(crate) fn leave<'a>(
     at: Word,
-    known: &AbstractState<'a>,
-    way: &'a mut SuccessorScratch,
+    state: &AbstractState<'a>,
+    scratch: &'a mut SuccessorScratch,
 ) -> Option<Successor<'a>>
-    ensures { (f : said.Fact) → Agree (fact_of_state known.now) f →
+    ensures { (f : said.Fact) → Agree (fact_of_state state.now) f →
         AgreeingSuccessors (slot result) (device_outcomes at f Leaves) }
 {
-    let held = known.left_in(&Name::Accumulator, &mut way.held);
-    go_on(at, held, known.same(), &mut way.next)
+    let held = state.left_in(&Name::Accumulator, &mut scratch.held);
+    go_on(at, held, state.same(), &mut scratch.next)
 }
 
 /// The outcome after the accumulator and MQ took these words.
 #[inline(never)]
 fn take<'a>(
     at: Word,
-    known: &AbstractState<'a>,
+    state: &AbstractState<'a>,
     set: &WordSet,
     mq: &WordSet,
-    way: &'a mut SuccessorScratch,
+    scratch: &'a mut SuccessorScratch,
 ) -> Option<Successor<'a>>
-    requires room { length known.now.equations.now ≤ 32 }
-    ensures { (f : said.Fact) (s t : Words) → Agree (fact_of_state known.now) f →
+    requires room { length state.now.equations.now ≤ 32 }
+    ensures { (f : said.Fact) (s t : Words) → Agree (fact_of_state state.now) f →
         SameWords (words set.now) s → SameWords (words mq.now) t →
         AgreeingSuccessors (slot result) (goes everything f everything (one (plus at 1))
         (with_mq t (strongly_updated Ac s f))) }
 {
-    let held = known.left_in(&Name::Accumulator, &mut way.held);
-    let after = known
-        .with_ac(put_set(&mut way.ac, set), &mut way.first)
-        .with_mq(put_set(&mut way.changed, mq));
-    go_on(at, held, after, &mut way.next)
+    let held = state.left_in(&Name::Accumulator, &mut scratch.held);
+    let after = state
+        .with_ac(put_set(&mut scratch.ac, set), &mut scratch.first)
+        .with_mq(put_set(&mut scratch.changed, mq));
+    go_on(at, held, after, &mut scratch.next)
 }
 
 /// A word of group 3 moves words between the accumulator and MQ.
@@ -188,25 +188,25 @@ fn take<'a>(
 pub(crate) fn exchange<'a>(
     at: Word,
     word: Word,
-    known: &AbstractState<'a>,
-    way: &'a mut SuccessorScratch,
+    state: &AbstractState<'a>,
+    scratch: &'a mut SuccessorScratch,
 ) -> Option<Successor<'a>>
-    requires room { length known.now.equations.now ≤ 32 }
+    requires room { length state.now.equations.now ≤ 32 }
     ensures { (o : MqOperate) (f : said.Fact) → mq_operate_of word ≡ Some o →
-        Agree (fact_of_state known.now) f →
+        Agree (fact_of_state state.now) f →
         AgreeingSuccessors (slot result) (goes everything f everything (one (plus at 1))
         (operated3 o f)) }
 {
-    let ac = known.narrowed(&Name::Accumulator);
-    let mq = *known.mq;
+    let ac = state.narrowed(&Name::Accumulator);
+    let mq = *state.mq;
     let zero = WordSet::one(Word::ZERO);
     match word.value() {
-        0o7421 => take(at, known, &zero, &ac, way),
-        0o7501 => take(at, known, &ac.ors(&mq), &mq, way),
-        0o7521 => take(at, known, &mq, &ac, way),
-        0o7621 => take(at, known, &zero, &zero, way),
-        0o7701 => take(at, known, &mq, &mq, way),
-        0o7721 => take(at, known, &mq, &zero, way),
+        0o7421 => take(at, state, &zero, &ac, scratch),
+        0o7501 => take(at, state, &ac.ors(&mq), &mq, scratch),
+        0o7521 => take(at, state, &mq, &ac, scratch),
+        0o7621 => take(at, state, &zero, &zero, scratch),
+        0o7701 => take(at, state, &mq, &mq, scratch),
+        0o7721 => take(at, state, &mq, &zero, scratch),
         _ => None,
     }
 }
@@ -216,12 +216,12 @@ pub(crate) fn exchange<'a>(
 pub(crate) fn transfer<'a>(
     at: Word,
     operation: DeviceOperation,
-    known: &AbstractState<'a>,
-    way: &'a mut SuccessorScratch,
+    state: &AbstractState<'a>,
+    scratch: &'a mut SuccessorScratch,
     other: &'a mut SuccessorScratch,
 ) -> (Option<Successor<'a>>, Option<Successor<'a>>)
-    requires room { length known.now.equations.now ≤ 32 }
-    ensures { (f : said.Fact) → Agree (fact_of_state known.now) f →
+    requires room { length state.now.equations.now ≤ 32 }
+    ensures { (f : said.Fact) → Agree (fact_of_state state.now) f →
         AgreeingSuccessors (slot result.0 ++ slot result.1)
         (device_outcomes at f (processor_action operation)) }
 {
@@ -229,17 +229,20 @@ pub(crate) fn transfer<'a>(
         DeviceOperation::SkipOnReaderFlag
         | DeviceOperation::SkipOnPunchFlag
         | DeviceOperation::SkipOnKeyboardFlag
-        | DeviceOperation::SkipOnPrinterFlag => test_flag(at, known, way, other),
+        | DeviceOperation::SkipOnPrinterFlag => test_flag(at, state, scratch, other),
         DeviceOperation::ReadReaderBuffer
         | DeviceOperation::ReadReaderBufferAndFetchFrame
-        | DeviceOperation::ReadKeyboardBuffer => (assign(at, known, &with_byte(known), way), None),
+        | DeviceOperation::ReadKeyboardBuffer => (
+            assign(at, state, &with_byte(state), scratch),
+            None,
+        ),
         DeviceOperation::ClearKeyboardFlagAndAccumulator => {
-            (assign(at, known, &WordSet::one(Word::ZERO), way), None)
+            (assign(at, state, &WordSet::one(Word::ZERO), scratch), None)
         }
         DeviceOperation::TakeKeyboardByte => {
             let set = WordSet::range(Word::ZERO, Word::from_byte(0o377));
-            (assign(at, known, &set, way), None)
+            (assign(at, state, &set, scratch), None)
         }
-        _ => (leave(at, known, way), None),
+        _ => (leave(at, state, scratch), None),
     }
 }

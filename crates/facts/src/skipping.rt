@@ -1,6 +1,6 @@
 //! The outcomes of the words of group 2, which skip by the accumulator and the link.
 
-ghost use Rattle.std.specs.Prelude.{ℕ, ◌≡◌, ◌<◌, ◌≤◌, length, ◌==◌, ◌&&◌, not, true, if◌then◌else◌};
+ghost use Rattle.std.specs.Prelude.{ℕ, ◌≡◌, ◌<◌, ◌≤◌, length, ◌==◌, ◌&&◌, not, if◌then◌else◌};
 ghost use Rattle.wordset.specs.Words.{Words, SameWords, one, or_any};
 ghost use Rattle.wordset.specs.Lanes.{words};
 ghost use Rattle.instruct.specs.Bits.{has_bit};
@@ -83,20 +83,9 @@ fn takes_passing(word: Word, skip: bool) -> bool
     if is_reversed(word) { !skip } else { skip }
 }
 
-/// The words of a set that skip, or those that don't.
-fn part(word: Word, link: Link, skip: bool, ac: &WordSet) -> WordSet
-    ensures { (v : ℕ) → v < 4096 → words result v ≡
-        (words ac.now v && (if skips_of word v link then skip else not skip)) }
-{
-    let passing = passing(word, link);
-    if takes_passing(word, skip) {
-        return ac.meet(&passing);
-    }
-    ac.minus(&passing)
-}
-
 /// The words that skip, or those that don't, in a place for them.
 #[inline(never)]
+#[tactic(auto, using(crate::proofs::SkipLemmas::part_passing, crate::proofs::SkipLemmas::part_failing))]
 fn put_part<'b>(
     word: Word,
     link: Link,
@@ -107,18 +96,11 @@ fn put_part<'b>(
     ensures { (v : ℕ) → v < 4096 → words result.now v ≡
         (words held.now v && (if skips_of word v link then skip else not skip)) }
 {
-    put_set(place, &part(word, link, skip, held))
-}
-
-/// The words that CLA leaves.
-fn kept(word: Word, part: WordSet) -> WordSet
-    ensures { SameWords (words result) (if has_bit 7 word then one 0 else words part) }
-{
-    if clears(word) {
-        WordSet::one(Word::ZERO)
-    } else {
-        part
+    let passing = passing(word, link);
+    if takes_passing(word, skip) {
+        return put_set(place, &held.meet(&passing));
     }
+    put_set(place, &held.minus(&passing))
 }
 
 /// What CLA leaves of some words, with any bits of the switches, in a place for them.
@@ -127,30 +109,33 @@ fn put_switched<'b>(word: Word, part: &WordSet, place: &'b mut WordSet) -> &'b W
     ensures { SameWords (words result.now)
         (or_any 4095 (if has_bit 7 word then one 0 else words part.now)) }
 {
-    let left = kept(word, *part);
-    put_set(place, &left.or_any(Word::from_index(0o7777)))
+    let any = Word::from_index(0o7777);
+    if clears(word) {
+        return put_set(place, &WordSet::one(Word::ZERO).or_any(any));
+    }
+    put_set(place, &part.or_any(any))
 }
 
 /// What is known after the test: CLA, then OSR, by which any bits may come in.
 fn after_test<'a>(
     word: Word,
-    known: &AbstractState<'a>,
+    state: &AbstractState<'a>,
     part: &'a WordSet,
     place: &'a mut WordSet,
     list: &'a mut Equations,
 ) -> AbstractState<'a>
-    requires room { length known.now.equations.now ≤ 32 }
-    ensures { (f : said.Fact) (p : Words) → Agree (fact_of_state known.now) f →
+    requires room { length state.now.equations.now ≤ 32 }
+    ensures { (f : said.Fact) (p : Words) → Agree (fact_of_state state.now) f →
         SameWords (words part.now) p →
         Agree (fact_of_state result) (related2 word p f) }
 {
     if reads_switches(word) {
-        return known.with_ac(put_switched(word, part, place), list);
+        return state.with_ac(put_switched(word, part, place), list);
     }
     if clears(word) {
-        return known.with_ac(put_one(place, Word::ZERO), list);
+        return state.with_ac(put_one(place, Word::ZERO), list);
     }
-    known.same().holding(part)
+    state.same().holding(part)
 }
 
 /// The next address, or the one after it.
@@ -167,23 +152,23 @@ fn next_address(at: Word, skip: bool, place: &mut WordSet) -> &WordSet
 pub(crate) fn branch<'a>(
     at: Word,
     word: Word,
-    known: &AbstractState<'a>,
+    state: &AbstractState<'a>,
     link: Link,
     skip: bool,
-    way: &'a mut SuccessorScratch,
+    scratch: &'a mut SuccessorScratch,
 ) -> Option<Successor<'a>>
     requires link { link < 2 }
-    requires room { length known.now.equations.now ≤ 32 }
-    ensures { (f : said.Fact) → Agree (fact_of_state known.now) f →
+    requires room { length state.now.equations.now ≤ 32 }
+    ensures { (f : said.Fact) → Agree (fact_of_state state.now) f →
         AgreeingSuccessors (slot result) (operated2 at word f link skip) }
 {
-    if !known.link.contains(link) {
+    if !state.link.contains(link) {
         return None;
     }
-    let held = known.left_in(&Name::Accumulator, &mut way.held);
-    let part = put_part(word, link, skip, held, &mut way.read);
-    let after = after_test(word, known, part, &mut way.ac, &mut way.first);
-    let next = next_address(at, skip, &mut way.next);
+    let held = state.left_in(&Name::Accumulator, &mut scratch.held);
+    let part = put_part(word, link, skip, held, &mut scratch.read);
+    let after = after_test(word, state, part, &mut scratch.ac, &mut scratch.first);
+    let next = next_address(at, skip, &mut scratch.next);
     let linked = after.with_link(Links::one(link));
     going(has_some(part), next, held, next, linked)
 }

@@ -4,12 +4,12 @@
 //! most two cells changed, or one of several unknown ones did. What is new stands in room that the
 //! asker lends.
 
-ghost use Rattle.std.specs.Prelude.{ℕ, false, ◌≡◌, ◌<◌, ◌≤◌, ◌↔◌, ◌+◌, ◌||◌, length, map, IsTrue};
-ghost use Rattle.wordset.specs.Words.{Words, SameWords, IsWithin, one, plus, shifted, union};
+ghost use Rattle.std.specs.Prelude.{false, ◌≡◌, ◌<◌, ◌≤◌, ◌↔◌, ◌||◌, length, map, IsTrue};
+ghost use Rattle.wordset.specs.Words.{Words, SameWords, IsWithin, one, shifted, union};
 ghost use Rattle.wordset.specs.Lanes.{words};
 ghost use Rattle.wordset.specs.Links.{links_of};
 ghost use Rattle.domain.specs.Facts.{Ac, Cell, same, narrowed, Among, Knows, KnowsAll, Entails, EntailsOffsets, joined};
-ghost use Rattle.domain.specs.Changes.{moved, strongly_updated, weakly_updated, with_equations, with_name, with_mq, with_link, with_offsets};
+ghost use Rattle.domain.specs.Changes.{with_offsets};
 ghost use Rattle.domain.specs.Statements.{cell_at};
 ghost use Rattle.domain.specs.Same.{Agree};
 ghost use Rattle.domain.specs.Meaning.{name_of, equation_of, tracked_cells, offsets_of, meaning, cell_words};
@@ -461,12 +461,12 @@ impl<'a> AbstractState<'a> {
         call: &'a Fact,
         exit: &'a Fact,
         written: &'a WordSet,
-        room: &'a mut Scratch,
+        scratch: &'a mut Scratch,
     ) -> AbstractState<'a>
         ensures { Agree (fact_of_state result) (joined (meaning call.now) (meaning exit.now)
             (words written.now)) }
     {
-        AbstractState::returned(call, exit, written, &mut room.list)
+        AbstractState::returned(call, exit, written, &mut scratch.list)
     }
 
     /// What is known after a call, with room for the equations.

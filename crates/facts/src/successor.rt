@@ -3,7 +3,6 @@
 ghost use Rattle.std.specs.Prelude.{◌≡◌, ◌&&◌};
 ghost use Rattle.wordset.specs.Words.{Words, SameWords, has_some, has_link, everything, one, plus};
 ghost use Rattle.wordset.specs.Lanes.{words};
-ghost use Rattle.wordset.specs.Links.{links_of};
 ghost use Rattle.domain.specs.Facts.{Ac, Fact, narrowed};
 ghost use Rattle.facts.specs.Outcomes.{alive, given, Goes};
 ghost use Rattle.domain.specs.Same.{Agree};
@@ -81,6 +80,7 @@ pub(crate) fn address_after(at: Word, place: &mut WordSet) -> &WordSet
 }
 
 /// The address that a skip goes to, in its place.
+#[tactic(auto, using(crate::proofs::OutcomeLemmas::one_at, crate::proofs::OutcomeLemmas::plus_two))]
 pub(crate) fn address_skipped_to(at: Word, place: &mut WordSet) -> &WordSet
     ensures { SameWords (words result.now) (one (plus at 2)) }
 {

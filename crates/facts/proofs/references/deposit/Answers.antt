@@ -16,7 +16,7 @@ returns-in-Some c = λ pl f p h e.
     let same : only p ≡ only (words c.args.targets.now) = sym (only_same _ _ e) in
     let ac : SameWords (words c.left_in-held.result.now) (narrowed f Ac) = λ v lt. c.left_in-held.ensures v lt ∙ narrowed_agree h Ac v lt in
     let some : only (words c.args.targets.now) ≡ Some c.in-Some.cell = sym c.requires.single ∙ c.in-Some.is in
-    let after = deposited_agree (fact_of_state c.args.known.now) (fact_of_state c.with_cell-put.result) (fact_of_state c.told-told.result) (fact_of_state c.with_ac-after.result) (words c.left_in-held.result.now) c.in-Some.cell (copied c.in-Some.cell (map equation_of c.args.known.now.equations.now)) (words c.put_one-zero.result.now)
+    let after = deposited_agree (fact_of_state c.args.state.now) (fact_of_state c.with_cell-put.result) (fact_of_state c.told-told.result) (fact_of_state c.with_ac-after.result) (words c.left_in-held.result.now) c.in-Some.cell (copied c.in-Some.cell (map equation_of c.args.state.now.equations.now)) (words c.put_one-zero.result.now)
     c.with_cell-put.ensures.same c.told-told.ensures.same c.put_one-zero.ensures c.with_ac-after.ensures.same in
     let made : Fact = strongly_updated Ac (one 0) (with_equations (copied c.in-Some.cell f.equations) (strongly_updated (Cell c.in-Some.cell) (narrowed f Ac) f)) in
     rw (same, some) (chosen_agrees _ _ (alive_changed p f (narrowed f Ac) made (c.has_some.ensures ∙ has_same ac))

@@ -8,7 +8,7 @@ use Rattle.facts.proofs.EachLemmas.{some_has, none_has}
 use Rattle.facts.proofs.references.may_some_hold.Goals as goal
 
 pub returns-then-may_hold : goal.returns-then-may_hold
-returns-then-may_hold c = some_has (words c.args.cells.now) (λ y. has_last_or_other c.args.last (narrowed (fact_of_state c.args.known.now) (Cell y))) c.in-Some.ensures.steps.0.small (given_word c.loop-cell.invariant c.in-Some.ensures.steps) (sym c.may_hold.ensures ∙ c.if-may_hold.true)
+returns-then-may_hold c = some_has (words c.args.cells.now) (λ y. has_last_or_other c.args.last (narrowed (fact_of_state c.args.state.now) (Cell y))) c.in-Some.ensures.steps.0.small (given_word c.loop-cell.invariant c.in-Some.ensures.steps) (sym c.may_hold.ensures ∙ c.if-may_hold.true)
 
 pub loop-cell-init : goal.loop-cell-init
 loop-cell-init c = none_yet c.iter-cell-items.ensures c.into_iter-cell-iterator.ensures.into_iter_gives
@@ -17,4 +17,4 @@ pub loop-cell-preserved : goal.loop-cell-preserved
 loop-cell-preserved c = one_more c.loop-cell.invariant c.in-Some.ensures.steps (sym c.may_hold.ensures ∙ c.if-may_hold.false)
 
 pub returns : goal.returns
-returns c = none_has (words c.args.cells.now) (λ y. has_last_or_other c.args.last (narrowed (fact_of_state c.args.known.now) (Cell y))) (all_pass c.loop-cell.invariant c.in-None.ensures.steps)
+returns c = none_has (words c.args.cells.now) (λ y. has_last_or_other c.args.last (narrowed (fact_of_state c.args.state.now) (Cell y))) (all_pass c.loop-cell.invariant c.in-None.ensures.steps)

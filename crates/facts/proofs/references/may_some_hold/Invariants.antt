@@ -7,4 +7,4 @@ use Rattle.facts.specs.Showing.{has_last_or_other}
 use Rattle.facts.proofs.references.may_some_hold.Given as goal
 
 abbrev pub invariant-loop-cell : goal.invariant-loop-cell
-invariant-loop-cell l = Passed (λ y. has_last_or_other l.last (narrowed (fact_of_state l.known) (Cell y)) ≡ false) (words l.cells) l.cell-iterator
+invariant-loop-cell l = Passed (λ y. has_last_or_other l.last (narrowed (fact_of_state l.state) (Cell y)) ≡ false) (words l.cells) l.cell-iterator

@@ -17,7 +17,7 @@ returns-in-3857 c = λ o f is h.
 pub returns-in-3905 : goal.returns-in-3905
 returns-in-3905 c = λ o f is h.
     let ac : SameWords (words c.narrowed-ac.result) (narrowed f Ac) = λ v lt. c.narrowed-ac.ensures v lt ∙ narrowed_agree h Ac v lt in
-    let mq : SameWords (words c.args.known.now.mq.now) f.mq = h.mq in
+    let mq : SameWords (words c.args.state.now.mq.now) f.mq = h.mq in
     let set : SameWords (words c.ors.result) (ors (narrowed f Ac) f.mq) = λ v lt. c.ors.ensures v lt ∙ ors_same ac mq v lt in
     exchange_is _ c.args.at c.args.word 3905 Mqa o f (sym c.value.ensures.same ∙ c.in-3905.is) refl is
     (kept_mq _ c.args.at f (ors (narrowed f Ac) f.mq) (c.take-in-3905.ensures f (ors (narrowed f Ac) f.mq) f.mq h set mq))

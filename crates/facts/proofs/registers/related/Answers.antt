@@ -15,7 +15,7 @@ returns-then-changes_accumulator c = λ f s h e. related_none c.args.word f s (s
 
 pub returns-then-increments : goal.returns-then-increments
 returns-then-increments c = λ f s h e. rw (sym c.changes_accumulator.ensures ∙ c.if-changes_accumulator.false, sym c.increments.ensures ∙ c.if-increments.true)
-    (agree_trans (subst (λ k. Agree (fact_of_state c.raised_to.result) (with_name Ac (words c.args.set.now) (moved Ac k (fact_of_state c.args.known.now)))) c.increment.ensures c.raised_to.ensures) (name_agree Ac (moved_agree Ac 1 h) e))
+    (agree_trans (subst (λ k. Agree (fact_of_state c.raised_to.result) (with_name Ac (words c.args.set.now) (moved Ac k (fact_of_state c.args.state.now)))) c.increment.ensures c.raised_to.ensures) (name_agree Ac (moved_agree Ac 1 h) e))
 
 pub returns : goal.returns
 returns c = λ f s h e. rw (sym c.changes_accumulator.ensures ∙ c.if-changes_accumulator.false, sym c.increments.ensures ∙ c.if-increments.false)

@@ -17,17 +17,17 @@ pub returns-then-is_subset : goal.returns-then-is_subset
 returns-then-is_subset g c =
     let pl = place_of c.args.self.now in
     let P = λ (a : ℕ). pl.declaration.entry a ≡ true → CountsItsReturn pl (meaning c.args.fact.now) (meaning_at pl c.args.at c.args.word) a in
-    over _ _ P c.cells_written-written.ensures
+    over _ _ P c.writes-written.ensures
     (λ t a lt w e. absurd (true≢false (sym (c.is_subset.ensures.0 c.if-is_subset.true a lt w) ∙ (ap (λ (x : Words). x a) c.variables.ensures ∙ c.is_declared.ensures.entry_not_variable a e))), λ q. refl)
 
 pub returns-then-not-keeps_entry : goal.returns-then-not-keeps_entry
 returns-then-not-keeps_entry g c =
     let pl = place_of c.args.self.now in
     let P = λ (a : ℕ). pl.declaration.entry a ≡ true → CountsItsReturn pl (meaning c.args.fact.now) (meaning_at pl c.args.at c.args.word) a in
-    over _ _ P c.cells_written-written.ensures (one_fails P (words c.cells_written-written.result) _ c.in-Some.ensures c.if-not-keeps_entry.true c.keeps_entry.ensures.1)
+    over _ _ P c.writes-written.ensures (one_fails P (words c.writes-written.result) _ c.in-Some.ensures c.if-not-keeps_entry.true c.keeps_entry.ensures.1)
 
 pub returns : goal.returns
 returns g c =
     let pl = place_of c.args.self.now in
     let P = λ (a : ℕ). pl.declaration.entry a ≡ true → CountsItsReturn pl (meaning c.args.fact.now) (meaning_at pl c.args.at c.args.word) a in
-    over _ _ P c.cells_written-written.ensures (λ t. all_pass P (words c.cells_written-written.result) c.in_default.ensures c.loop-cell.invariant, λ q. refl)
+    over _ _ P c.writes-written.ensures (λ t. all_pass P (words c.writes-written.result) c.in_default.ensures c.loop-cell.invariant, λ q. refl)

@@ -3,7 +3,7 @@ use Rattle.domain.specs.Facts.{Ac}
 use Rattle.facts.specs.Outcomes.{Returns}
 use Rattle.facts.specs.Knowing.{fact_of_state}
 use Rattle.facts.proofs.AgreeLemmas.{agree_trans, narrowed_agree}
-use Rattle.facts.proofs.OutcomeLemmas.{alive_same, given_none, has_same, returns_some}
+use Rattle.facts.proofs.OutcomeLemmas.{alive_same, given_none, has_same, given_some}
 use Rattle.facts.proofs.place.Place.jump.Goals as goal
 
 pub returns-then-not-is_returning : goal.returns-then-not-is_returning
@@ -18,4 +18,4 @@ pub returns : goal.returns
 returns g c = λ f p h e.
     let after = agree_trans c.same-after.ensures.same h in
     rw (sym c.is_returning.ensures ∙ c.if-not-is_returning.false)
-    (returns_some (fact_of_state c.same-after.result) f c.if-not-is_alive.false (c.is_alive.ensures ∙ alive_same p _ f (has_same e) (λ v lt. c.left_in-held.ensures v lt ∙ narrowed_agree h Ac v lt) after) after)
+    (given_some (Returns (fact_of_state c.same-after.result)) (Returns f) c.if-not-is_alive.false (c.is_alive.ensures ∙ alive_same p _ f (has_same e) (λ v lt. c.left_in-held.ensures v lt ∙ narrowed_agree h Ac v lt) after) after)

@@ -15,4 +15,4 @@ loop-o-preserved g c = λ v h. some_step c.loop-o.o _ (words c.loop-o.place v) (
     (c.add_shifted_if.ensures v h ∙ ap (λ b. words c.loop-o.place v || b) (and_both c.contains.ensures (ap (λ k. shifted (words c.sites-sites.result) k v) c.from_index.ensures)))
 
 pub returns : goal.returns
-returns g c = λ v h. own_end _ (fact_of_state c.args.known.now) (words c.sites-sites.result) (offsets_of c.offsets-offsets.result) (words c.loop-o.place) c.loop-o.o v (omega arith) c.sites-sites.ensures c.offsets-offsets.ensures (c.loop-o.invariant v h)
+returns g c = λ v h. own_end _ (fact_of_state c.args.state.now) (words c.sites-sites.result) (offsets_of c.offsets-offsets.result) (words c.loop-o.place) c.loop-o.o v (omega arith) c.sites-sites.ensures c.offsets-offsets.ensures (c.loop-o.invariant v h)

@@ -12,7 +12,7 @@ use Rattle.facts.proofs.place.Place.reached.Goals as goal
 
 pub returns-then-steps_pointer : goal.returns-then-steps_pointer
 returns-then-steps_pointer g c = λ f h. rw (sym c.steps_pointer.ensures ∙ c.if-steps_pointer.true)
-    (λ v lt. subst (λ k. SameWords (words c.shifted_in.result.now) (shifted (narrowed (fact_of_state c.args.known.now) (Cell c.args.named)) k)) c.increment.ensures c.shifted_in.ensures v lt
+    (λ v lt. subst (λ k. SameWords (words c.shifted_in.result.now) (shifted (narrowed (fact_of_state c.args.state.now) (Cell c.args.named)) k)) c.increment.ensures c.shifted_in.ensures v lt
     ∙ shifts_same 1 (narrowed_agree h (Cell c.args.named)) v lt ∙ ap (λ (s : Words). s v) (sym (moved_here f c.args.named)))
 
 pub returns-then-indirect : goal.returns-then-indirect

@@ -11,4 +11,4 @@ pub returns-then-not-reads_listed : goal.returns-then-not-reads_listed
 returns-then-not-reads_listed g c = reads_anyhow (place_of c.args.self.now) (meaning c.args.fact.now) (meaning_at (place_of c.args.self.now) c.args.at c.args.word) _ c.reads_listed.ensures c.if-not-reads_listed.true
 
 pub returns : goal.returns
-returns g c = over _ _ (λ a. IsListed (place_of c.args.self.now).declaration.reads a ⊎ ((place_of c.args.self.now).routine ≡ Some a)) c.cells_read-read.ensures c.are_listed.ensures
+returns g c = over _ _ (λ a. IsListed (place_of c.args.self.now).declaration.reads a ⊎ ((place_of c.args.self.now).routine ≡ Some a)) c.reads-read.ensures c.are_listed.ensures

@@ -20,4 +20,4 @@ returns g c = λ f h. c.refer_to-2.ensures f
 
 pub single_target-single-requires : goal.single_target-single-requires
 single_target-single-requires g c = λ direct.
-    direct_target (place_of c.args.self.now) (fact_of_state c.args.known.now) c.refers_indirectly-indirect.result c.target-named.result (words c.reached-targets.result.now) direct (c.reached-targets.ensures (fact_of_state c.args.known.now) (agree_refl _))
+    direct_target (place_of c.args.self.now) (fact_of_state c.args.state.now) c.refers_indirectly-indirect.result c.target-named.result (words c.reached-targets.result.now) direct (c.reached-targets.ensures (fact_of_state c.args.state.now) (agree_refl _))

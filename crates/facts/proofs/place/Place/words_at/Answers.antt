@@ -7,5 +7,5 @@ use Rattle.facts.proofs.place.Place.words_at.Goals as goal
 
 pub returns-in-Some : goal.returns-in-Some
 returns-in-Some g c =
-    words_of_only (place_of c.args.self.now) (fact_of_state c.args.known.now) (words c.args.cells.now) c.in-Some.cell (words c.words_in.result.now)
+    words_of_only (place_of c.args.self.now) (fact_of_state c.args.state.now) (words c.args.cells.now) c.in-Some.cell (words c.words_in.result.now)
     (sym c.requires ∙ c.in-Some.is) c.words_in.ensures

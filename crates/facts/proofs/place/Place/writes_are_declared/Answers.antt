@@ -8,4 +8,4 @@ pub returns-then-not-is_writing : goal.returns-then-not-is_writing
 returns-then-not-is_writing g c = over_none _ _ (c.is_writing.ensures c.if-not-is_writing.true (meaning c.args.fact.now))
 
 pub returns : goal.returns
-returns g c = over _ _ (λ a. ((place_of c.args.self.now).declaration.variable a ≡ true) ⊎ ((place_of c.args.self.now).declaration.entry a ≡ true)) c.cells_written-written.ensures c.are_declared.ensures
+returns g c = over _ _ (λ a. ((place_of c.args.self.now).declaration.variable a ≡ true) ⊎ ((place_of c.args.self.now).declaration.entry a ≡ true)) c.writes-written.ensures c.are_declared.ensures

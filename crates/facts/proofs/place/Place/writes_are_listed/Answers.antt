@@ -8,4 +8,4 @@ pub returns-then-not-is_writing : goal.returns-then-not-is_writing
 returns-then-not-is_writing g c = over_none _ _ (c.is_writing.ensures c.if-not-is_writing.true (meaning c.args.fact.now))
 
 pub returns : goal.returns
-returns g c = over _ _ (λ a. MayWrite (writes_of c.args.self.now.routine) (place_of c.args.self.now).routine a) c.cells_written-written.ensures c.may_write.ensures
+returns g c = over _ _ (λ a. MayWrite (writes_of c.args.self.now.routine) (place_of c.args.self.now).routine a) c.writes-written.ensures c.may_write.ensures

@@ -1,15 +1,15 @@
 use Rattle.std.proofs.Common.{◌∙◌, ap, sym, subst}
 use Rattle.std.specs.Prelude.{IsTrue, ◌↔◌}
 use Rattle.wordset.specs.Words.{Words}
-use Rattle.domain.specs.Facts.{Cell, KnowsAll}
+use Rattle.domain.specs.Facts.{Ac, Cell, KnowsAll}
 use Rattle.facts.specs.Showing.{EachWithin}
 use Rattle.facts.specs.Knowing.{fact_of_state}
-use Rattle.facts.proofs.EntailLemmas.{entails_iff, registers_of, not_true, not_both, tracked_each}
+use Rattle.facts.proofs.EntailLemmas.{entails_iff, not_true, not_both, tracked_each}
 use Rattle.facts.proofs.state.AbstractState.entails.Goals as goal
 
 pub returns-then-not-entails_registers : goal.returns-then-not-entails_registers
 returns-then-not-entails_registers c =
-    not_true (λ en. not_both _ c.if-not-entails_registers.true c.entails_registers.ensures.1 (registers_of en.0))
+    not_true (λ en. not_both _ c.if-not-entails_registers.true c.entails_registers.ensures.1 (record { ac = en.0.sets Ac; mq = en.0.mq; link = en.0.link }))
 
 pub returns-then-not-is_subset : goal.returns-then-not-is_subset
 returns-then-not-is_subset c = not_true (λ en. not_both _ c.if-not-is_subset.true c.is_subset.ensures.1

@@ -7,14 +7,14 @@ use Rattle.facts.specs.Conditions.{may_write}
 use Rattle.domain.specs.Meaning.{meaning}
 use Rattle.facts.specs.Places.{place_of}
 use Rattle.facts.proofs.AskedLemmas.{no_reference, no_words, or_false, refers_to, writes_none, writes_reference}
-use Rattle.facts.proofs.place.Place.cells_written.Goals as goal
+use Rattle.facts.proofs.conditions.writes.Goals as goal
 
 pub returns-then-not-is_reference : goal.returns-then-not-is_reference
-returns-then-not-is_reference g c = no_words _ _ c.empty.ensures (writes_none (place_of c.args.self.now) (meaning c.args.fact.now) _ (no_reference c.if-not-is_reference.true (c.is_reference.ensures c.args.at)))
+returns-then-not-is_reference g c = no_words _ _ c.empty.ensures (writes_none (place_of c.args.place.now) (meaning c.args.fact.now) _ (no_reference c.if-not-is_reference.true (c.is_reference.ensures c.args.at)))
 
 pub returns-then-not-stores : goal.returns-then-not-stores
 returns-then-not-stores g c =
-    let pl = place_of c.args.self.now in
+    let pl = place_of c.args.place.now in
     subst (λ m. SameWords (words c.pointer_if-pointer.result) (may_write pl (meaning c.args.fact.now) m))
     (refers_to pl c.args.at c.args.word _ _ ((c.is_reference.ensures c.args.at).0 c.if-not-is_reference.false) c.refers_indirectly-indirect.ensures c.target-named.ensures)
     (writes_reference _ _ (targets pl c.refers_indirectly-indirect.result c.target-named.result (meaning c.args.fact.now)) pl (meaning c.args.fact.now) (operation_of c.args.word) _ _ _ _ c.stores.ensures c.steps_pointer.ensures
@@ -22,7 +22,7 @@ returns-then-not-stores g c =
 
 pub returns : goal.returns
 returns g c =
-    let pl = place_of c.args.self.now in
+    let pl = place_of c.args.place.now in
     subst (λ m. SameWords (words c.union.result) (may_write pl (meaning c.args.fact.now) m))
     (refers_to pl c.args.at c.args.word _ _ ((c.is_reference.ensures c.args.at).0 c.if-not-is_reference.false) c.refers_indirectly-indirect.ensures c.target-named.ensures)
     (writes_reference _ _ _ pl (meaning c.args.fact.now) (operation_of c.args.word) _ _ _ _ c.stores.ensures c.steps_pointer.ensures

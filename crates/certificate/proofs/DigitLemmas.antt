@@ -30,6 +30,11 @@ pub digits_none : (s : Words) → digits 0 s ≡ []
 unfolding digits
 digits_none s = refl
 
+pub all_from : (c : ℕ) (s : Words) → digits c s ≡ digits_from c 0 s
+all_from c s =
+    let z : c + 0 ≡ c = omega arith in
+    ap (λ m. digits m s) (sym z) ∙ (digits_split c 0 s ∙ ap (λ (x : List ℕ). x ++ digits_from c 0 s) (digits_none s))
+
 pub digits_more : (n : ℕ) (s : Words) → digits (n + 1) s ≡ digits n s ++ digit_at s n
 unfolding digits
 digits_more n s = let e : n + 1 ≡ suc n = omega arith in rw e refl
@@ -79,10 +84,7 @@ no_digits c old t none = record { none = λ v a b. none v b; read = reads old; o
         ((v : ℕ) → v < 0 → t v ≡ s v) × (old ≡ Some (digits_from (c - 0) 0 s ++ tail))
     only s tail ends e =
         let z : c - 0 ≡ c = omega arith in
-        let y : c + 0 ≡ c = omega arith in
-        let f : digits c s ≡ digits_from (c - 0) 0 s =
-        ap (λ m. digits m s) (sym y) ∙ (digits_split c 0 s ∙ (ap (λ (x : List ℕ). x ++ digits_from c 0 s) (digits_none s) ∙
-        ap (λ k. digits_from k 0 s) (sym z))) in
+        let f : digits c s ≡ digits_from (c - 0) 0 s = all_from c s ∙ ap (λ k. digits_from k 0 s) (sym z) in
         (λ v h. absurd (omega arith), e ∙ ap (λ (x : List ℕ). Some (x ++ tail)) f)
 
 -- What is left at the digit n.
@@ -213,9 +215,6 @@ digit_first (suc k) n s tail r ends e = go (s n) refl (digit_first k (n + 1) s t
         let z : 48 + n ≡ 45 = cc in omega arith)
     go false q more = more (rw q at e)
 
-pub all_from : (s : Words) → digits 8 s ≡ digits_from 8 0 s
-all_from s = digits_split 8 0 s ∙ ap (λ (x : List ℕ). x ++ digits_from 8 0 s) (digits_none s)
-
 -- What a call that reads offsets says.
 pub record OffsetsRead (old now : Option (List ℕ)) (t : Words) : Type 0 where
   pub read : IfSome now (λ r. old ≡ Some (offsets_text t ++ r))
@@ -231,7 +230,7 @@ dash_read old (Some r) t none took begins = record { read = rw (no_offsets t non
         ((o : ℕ) → o < 8 → t o ≡ s o) × (Some r ≡ Some tail)
     only s tail ends e = elim (by_offsets s) [
       | inl some ↦ absurd (digit_first 8 0 s tail r ends (
-          let f : offsets_text s ≡ digits_from 8 0 s = some_offsets s some ∙ all_from s in
+          let f : offsets_text s ≡ digits_from 8 0 s = some_offsets s some ∙ all_from 8 s in
           let g : old ≡ Some (digits_from 8 0 s ++ tail) = e ∙ ap (λ (x : List ℕ). Some (x ++ tail)) f in cc))
       | inr empty ↦ (λ o h. none o h ∙ sym (empty o h), (begins tail (e ∙ ap (λ (x : List ℕ). Some (x ++ tail)) (no_offsets s empty))).1)
     ]

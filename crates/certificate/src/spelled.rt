@@ -136,17 +136,6 @@ impl LineText {
         }
     }
 
-    /// Adds a set, `-` where it's empty.
-    fn any_set(&mut self, set: &WordSet)
-        ensures { Adds self.old.bytes.items self.new.bytes.items (set_text (words set.now)) }
-    {
-        if set.is_empty() {
-            self.push(b'-');
-        } else {
-            self.words(set);
-        }
-    }
-
     /// Adds the set of which these are runs. They are its maximal ones, unless two of them touch.
     fn set(&mut self, runs: &[Run])
         ensures { Adds self.old.bytes.items self.new.bytes.items
@@ -154,8 +143,13 @@ impl LineText {
     {
         if !runs.is_empty() && stand_apart(runs) {
             self.runs(runs);
+            return;
+        }
+        let set = set_of(runs);
+        if set.is_empty() {
+            self.push(b'-');
         } else {
-            self.any_set(&set_of(runs));
+            self.words(&set);
         }
     }
 

@@ -235,11 +235,6 @@ from_none old mid new n m none a b p q =
     subst (λ (rs : List Run). AreLaid rs (record { one = n; other = m }) (added old mid) (added mid new)) (ap (λ (rs : List Run). drop (length rs) new) none)
     (two_laid old mid new n m (added old mid) (added mid new) a b p q refl refl)
 
--- The runs of one set that were added.
-pub one_laid : (old new : List Run) (n : ℕ) (set : Words) → length old + n ≡ length new → added old new ≡ set → set_at (drop (length old) new) 0 n ≡ set
-one_laid old new n set p is =
-    ap set_of_runs (front_of (drop (length old) new) n ∙ take_all n (drop (length old) new) (omega (arith, length-drop (length old) new))) ∙ is
-
 -- The line at a place.
 pub record LineThere (runs : List Run) (ls : List KeptLine) (i : ℕ) (k : KeptLine) : Type 0 where
   pub kept : IsKept (length runs) k

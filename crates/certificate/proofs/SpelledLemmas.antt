@@ -17,7 +17,7 @@ use Rattle.certificate.specs.Packed.{set_of_runs, StandApart}
 use Rattle.certificate.specs.Spelled.{Adds, IsLastOf}
 use Rattle.certificate.proofs.TextLemmas.{both_ended}
 use Rattle.certificate.proofs.SetLemmas.{text_of, text_all, some_runs}
-use Rattle.certificate.proofs.ApartLemmas.{runs_text, comma, has_more, runs_more, taken, Closed, none_closed, found_run, closed_all, closed_apart}
+use Rattle.certificate.proofs.ApartLemmas.{runs_text, comma, has_more, runs_more, taken, Closed, found_run, closed_all, closed_apart}
 use Rattle.certificate.proofs.DigitLemmas.{digits_more, digits_none, no_offsets, some_offsets, has_offset}
 
 take_twice : (xs ys : List ℕ) (n : ℕ) → take n (take n xs ++ ys) ≡ take n (xs ++ ys)
@@ -82,9 +82,6 @@ pub record SetSofar (old now : List ℕ) (s : Words) (n : ℕ) : Type 0 where
   pub runs : List Run
   pub closed : Closed s runs n n
   pub written : RunsWritten old now runs n
-
-pub set_begun : (old : List ℕ) (s : Words) → SetSofar old old s 0
-set_begun old s = record { runs = []; closed = none_closed s; written = runs_begun old }
 
 pub set_more : (old now mid new : List ℕ) (s others : Words) (n : ℕ) (r : Run) → SetSofar old now s n → IsFirstFrom n s r.first → IsLastOf others r.first r.last →
     others ≡ difference all_words s → Adds now mid (if n == 0 then [] else 44 ∷ []) → Adds mid new (run_text r.first r.last) → SetSofar old new s (r.last + 2)

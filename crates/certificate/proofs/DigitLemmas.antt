@@ -1,9 +1,9 @@
 -- Digits in rising order, read one after another.
-use Rattle.std.proofs.Common.{◌≡◌, ◌≢◌, ◌⊎◌, ℕ, zero, suc, ◌+◌, ◌-◌, ◌<◌, ◌≤◌, ◌==◌, Bool, true, false, not, ◌||◌, List, [], ◌∷◌, ◌++◌, Option, Some, None, refl, ap, ◌∙◌, sym, subst, inl, inr, arith, append_assoc, append-nil}
+use Rattle.std.proofs.Common.{◌≡◌, ◌≢◌, ◌⊎◌, ℕ, zero, suc, ◌+◌, ◌-◌, ◌<◌, ◌≤◌, ◌==◌, Bool, true, false, not, ◌&&◌, ◌||◌, List, [], ◌∷◌, ◌++◌, Option, Some, None, refl, ap, ◌∙◌, sym, subst, inl, inr, arith, append_assoc, append-nil}
 use Rattle.std.specs.Prelude.{if◌then◌else◌, IfSome, IsTrue}
 use Rattle.std.specs.Option.{IsSomeAnd}
 use Rattle.std.proofs.lemmas.Bool.{true≢false, false≢true, eq-eqb, ne_eqb, cases_lt}
-use Rattle.std.proofs.Math.Bool.{or-true, or-false}
+use Rattle.std.proofs.Math.Bool.{and-true, and-false, or-false}
 use Rattle.wordset.specs.Words.{Words, some_below}
 use Rattle.wordset.proofs.Tests.{some_none_of, none_of_some}
 use Rattle.certificate.specs.Spelling.{digits, offsets_text}
@@ -29,6 +29,11 @@ digits_split (suc k) n s =
 pub digits_none : (s : Words) → digits 0 s ≡ []
 unfolding digits
 digits_none s = refl
+
+pub all_from : (c : ℕ) (s : Words) → digits c s ≡ digits_from c 0 s
+all_from c s =
+    let z : c + 0 ≡ c = omega arith in
+    ap (λ m. digits m s) (sym z) ∙ (digits_split c 0 s ∙ ap (λ (x : List ℕ). x ++ digits_from c 0 s) (digits_none s))
 
 pub digits_more : (n : ℕ) (s : Words) → digits (n + 1) s ≡ digits n s ++ digit_at s n
 unfolding digits
@@ -79,24 +84,12 @@ no_digits c old t none = record { none = λ v a b. none v b; read = reads old; o
         ((v : ℕ) → v < 0 → t v ≡ s v) × (old ≡ Some (digits_from (c - 0) 0 s ++ tail))
     only s tail ends e =
         let z : c - 0 ≡ c = omega arith in
-        let y : c + 0 ≡ c = omega arith in
-        let f : digits c s ≡ digits_from (c - 0) 0 s =
-        ap (λ m. digits m s) (sym y) ∙ (digits_split c 0 s ∙ (ap (λ (x : List ℕ). x ++ digits_from c 0 s) (digits_none s) ∙
-        ap (λ k. digits_from k 0 s) (sym z))) in
+        let f : digits c s ≡ digits_from (c - 0) 0 s = all_from c s ∙ ap (λ k. digits_from k 0 s) (sym z) in
         (λ v h. absurd (omega arith), e ∙ ap (λ (x : List ℕ). Some (x ++ tail)) f)
 
--- What is left at the digit n, where it's in the set and where it isn't.
-with_digit : (c n : ℕ) (s : Words) → n < c → s n ≡ true → digits_from (c - n) n s ≡ (48 + n) ∷ digits_from (c - (n + 1)) (n + 1) s
-with_digit c n s h e =
-    let z : c - n ≡ suc (c - (n + 1)) = omega arith in
-    let f : digit_at s n ≡ (48 + n) ∷ [] = rw e refl in
-    ap (λ k. digits_from k n s) z ∙ (from_more (c - (n + 1)) n s ∙ ap (λ (x : List ℕ). x ++ digits_from (c - (n + 1)) (n + 1) s) f)
-
-without_digit : (c n : ℕ) (s : Words) → n < c → s n ≡ false → digits_from (c - n) n s ≡ digits_from (c - (n + 1)) (n + 1) s
-without_digit c n s h e =
-    let z : c - n ≡ suc (c - (n + 1)) = omega arith in
-    let f : digit_at s n ≡ [] = rw e refl in
-    ap (λ k. digits_from k n s) z ∙ (from_more (c - (n + 1)) n s ∙ ap (λ (x : List ℕ). x ++ digits_from (c - (n + 1)) (n + 1) s) f)
+-- What is left at the digit n.
+left_at : (c n : ℕ) (s : Words) → n < c → digits_from (c - n) n s ≡ digit_at s n ++ digits_from (c - (n + 1)) (n + 1) s
+left_at c n s h = let z : c - n ≡ suc (c - (n + 1)) = omega arith in ap (λ k. digits_from k n s) z ∙ from_more (c - (n + 1)) n s
 
 pub by_digit : (s : Words) (n : ℕ) → (s n ≡ true) ⊎ (s n ≡ false)
 by_digit s n = go (s n)
@@ -109,79 +102,60 @@ pub at_some : {X : Type 0} (P : X → Type 0) (o : Option X) (x : X) → IfSome 
 at_some P None x h e = absurd (cc)
 at_some P (Some y) x h e = let z : y ≡ x = cc in subst P z h
 
--- The digit n is next, or isn't.
-pub digit_there : (c n : ℕ) (old now next : Option (List ℕ)) (t u : Words) → n < c → c ≤ 8 → DigitsRead c n old now t →
-    IsSomeAnd next (λ r. now ≡ Some ((48 + n) ∷ r)) → ((r : List ℕ) → now ≡ Some ((48 + n) ∷ r) → (true ≡ true) × (next ≡ Some r)) →
-    ((v : ℕ) → v < 8 → u v ≡ (t v || v == n)) → DigitsRead c (n + 1) old next u
-digit_there c n old now None t u small few h took begins more = absurd took
-digit_there c n old now (Some r) t u small few h took begins more = record { none = none; read = reads; only = only }
+-- The digit n is taken if it's next.
+pub digit_tried : (c n : ℕ) (old now next : Option (List ℕ)) (t u : Words) (b : Bool) → n < c → c ≤ 8 → DigitsRead c n old now t →
+    (b ≡ true → IsSomeAnd next (λ r. now ≡ Some ((48 + n) ∷ r))) → (b ≡ false → next ≡ now) →
+    ((r : List ℕ) → now ≡ Some ((48 + n) ∷ r) → (b ≡ true) × (next ≡ Some r)) →
+    ((v : ℕ) → v < 8 → u v ≡ (t v || b && v == n)) → DigitsRead c (n + 1) old next u
+digit_tried c n old now next t u b small few h took kept begins more = record { none = none; read = reads b next here took kept; only = only }
   where
     other : (v : ℕ) → v < 8 → v ≢ n → u v ≡ t v
-    other v a b = more v a ∙ rw (ne_eqb v n b) (or-false (t v))
+    other v a d = more v a ∙ rw (ne_eqb v n d, and-false b) (or-false (t v))
 
-    here : u n ≡ true
-    here = more n (omega arith) ∙ rw (eq-eqb n n refl) (or-true (t n))
+    here : u n ≡ b
+    here = more n (omega arith) ∙ rw (h.none n (omega arith) (omega arith), eq-eqb n n refl) (and-true b)
 
     none : (v : ℕ) → n + 1 ≤ v → v < 8 → u v ≡ false
-    none v a b = other v b (λ z. omega arith) ∙ h.none v (omega arith) b
+    none v a d = other v d (λ z. omega arith) ∙ h.none v (omega arith) d
 
-    reads : old ≡ Some (digits (n + 1) u ++ r)
-    reads =
-        let f : digits n u ≡ digits n t = digits_same n u t (λ v a. other v (omega arith) (λ z. omega arith)) in
-        let d : digit_at u n ≡ (48 + n) ∷ [] = rw here refl in
-        let g : digits (n + 1) u ≡ digits n t ++ (48 + n) ∷ [] = digits_more n u ∙ rw (f, d) refl in
-        let k : old ≡ Some (digits n t ++ (48 + n) ∷ r) = at_some (λ r. old ≡ Some (digits n t ++ r)) now _ h.read took in
-        k ∙ ap (λ (x : List ℕ). Some x) (sym (append_assoc (digits n t) ((48 + n) ∷ []) r) ∙ ap (λ (x : List ℕ). x ++ r) (sym g))
+    grown : (d : Bool) → u n ≡ d → digits (n + 1) u ≡ digits n t ++ (if d then (48 + n) ∷ [] else [])
+    grown d e = digits_more n u ∙ rw (digits_same n u t (λ v a. other v (omega arith) (λ z. omega arith)), e) refl
 
-    only : (s : Words) (tail : List ℕ) → EndsField tail → old ≡ Some (digits c s ++ tail) →
-        ((v : ℕ) → v < n + 1 → u v ≡ s v) × (Some r ≡ Some (digits_from (c - (n + 1)) (n + 1) s ++ tail))
-    only s tail ends e = go (h.only s tail ends e)
-      where
-        go : ((v : ℕ) → v < n → t v ≡ s v) × (now ≡ Some (digits_from (c - n) n s ++ tail)) →
-            ((v : ℕ) → v < n + 1 → u v ≡ s v) × (Some r ≡ Some (digits_from (c - (n + 1)) (n + 1) s ++ tail))
-        go p = elim (by_digit s n) [
-          | inl has ↦ (
-            (λ v a. elim (cases_lt v n) [
-              | inl b ↦ other v (omega arith) (λ z. omega arith) ∙ p.0 v b
-              | inr b ↦ (let z : v ≡ n = omega arith in rw z (here ∙ sym has))
-            ]),
-            (begins (digits_from (c - (n + 1)) (n + 1) s ++ tail) (p.1 ∙ ap (λ (x : List ℕ). Some (x ++ tail)) (with_digit c n s small has))).1,
-          )
-          | inr lacks ↦ absurd (other_digit (c - (n + 1)) (n + 1) n s tail r ends (omega arith) (
-              let f : now ≡ Some (digits_from (c - (n + 1)) (n + 1) s ++ tail) =
-              p.1 ∙ ap (λ (x : List ℕ). Some (x ++ tail)) (without_digit c n s small lacks) in cc))
-        ]
-
-pub digit_missing : (c n : ℕ) (old now next : Option (List ℕ)) (t : Words) → n < c → c ≤ 8 → DigitsRead c n old now t →
-    next ≡ now → ((r : List ℕ) → now ≡ Some ((48 + n) ∷ r) → (false ≡ true) × (next ≡ Some r)) → DigitsRead c (n + 1) old next t
-digit_missing c n old now next t small few h same begins = rw same (record { none = none; read = reads now h.read; only = only })
-  where
-    none : (v : ℕ) → n + 1 ≤ v → v < 8 → t v ≡ false
-    none v a b = h.none v (omega arith) b
-
-    g : digits (n + 1) t ≡ digits n t
-    g = let lacks : t n ≡ false = h.none n (omega arith) (omega arith) in digits_more n t ∙ rw lacks (append-nil (digits n t))
-
-    reads : (o : Option (List ℕ)) → IfSome o (λ r. old ≡ Some (digits n t ++ r)) → IfSome o (λ r. old ≡ Some (digits (n + 1) t ++ r))
-    reads None a = tt
-    reads (Some r) a = a ∙ ap (λ (x : List ℕ). Some (x ++ r)) (sym g)
+    reads : (d : Bool) (o : Option (List ℕ)) → u n ≡ d → (d ≡ true → IsSomeAnd o (λ r. now ≡ Some ((48 + n) ∷ r))) → (d ≡ false → o ≡ now) →
+        IfSome o (λ r. old ≡ Some (digits (n + 1) u ++ r))
+    reads true None e took kept = tt
+    reads true (Some r) e took kept =
+        at_some (λ r. old ≡ Some (digits n t ++ r)) now _ h.read (took refl) ∙
+        ap (λ (x : List ℕ). Some x) (sym (append_assoc (digits n t) ((48 + n) ∷ []) r) ∙ ap (λ (x : List ℕ). x ++ r) (sym (grown true e)))
+    reads false o e took kept = rw (kept refl, grown false e, append-nil (digits n t)) h.read
 
     only : (s : Words) (tail : List ℕ) → EndsField tail → old ≡ Some (digits c s ++ tail) →
-        ((v : ℕ) → v < n + 1 → t v ≡ s v) × (now ≡ Some (digits_from (c - (n + 1)) (n + 1) s ++ tail))
-    only s tail ends e = go (h.only s tail ends e)
+        ((v : ℕ) → v < n + 1 → u v ≡ s v) × (next ≡ Some (digits_from (c - (n + 1)) (n + 1) s ++ tail))
+    only s tail ends e = go (by_digit s n) b refl
       where
-        go : ((v : ℕ) → v < n → t v ≡ s v) × (now ≡ Some (digits_from (c - n) n s ++ tail)) →
-            ((v : ℕ) → v < n + 1 → t v ≡ s v) × (now ≡ Some (digits_from (c - (n + 1)) (n + 1) s ++ tail))
-        go p = elim (by_digit s n) [
-          | inl has ↦ absurd (false≢true (begins _ (p.1 ∙ ap (λ (x : List ℕ). Some (x ++ tail)) (with_digit c n s small has))).0)
-          | inr lacks ↦ (
-            (λ v a. elim (cases_lt v n) [
-              | inl b ↦ p.0 v b
-              | inr b ↦ (let z : v ≡ n = omega arith in rw z (h.none n (omega arith) (omega arith) ∙ sym lacks))
-            ]),
-            p.1 ∙ ap (λ (x : List ℕ). Some (x ++ tail)) (without_digit c n s small lacks),
-          )
+        left : List ℕ
+        left = digits_from (c - (n + 1)) (n + 1) s
+
+        p : ((v : ℕ) → v < n → t v ≡ s v) × (now ≡ Some (digits_from (c - n) n s ++ tail))
+        p = h.only s tail ends e
+
+        at : (d : Bool) → s n ≡ d → now ≡ Some ((if d then (48 + n) ∷ [] else []) ++ left ++ tail)
+        at d q = p.1 ∙ ap (λ (x : List ℕ). Some (x ++ tail)) (left_at c n s small ∙ ap (λ (x : Bool). (if x then (48 + n) ∷ [] else []) ++ left) q)
+
+        up : u n ≡ s n → (v : ℕ) → v < n + 1 → u v ≡ s v
+        up same v a = elim (cases_lt v n) [
+          | inl d ↦ other v (omega arith) (λ z. omega arith) ∙ p.0 v d
+          | inr d ↦ (let z : v ≡ n = omega arith in rw z same)
         ]
+
+        taken : (o : Option (List ℕ)) → IsSomeAnd o (λ r. now ≡ Some ((48 + n) ∷ r)) → now ≡ Some (left ++ tail) → ⊥
+        taken None w q = w
+        taken (Some r) w q = other_digit (c - (n + 1)) (n + 1) n s tail r ends (omega arith) (cc)
+
+        go : (s n ≡ true) ⊎ (s n ≡ false) → (d : Bool) → b ≡ d → ((v : ℕ) → v < n + 1 → u v ≡ s v) × (next ≡ Some (left ++ tail))
+        go (inl has) d q = let w : (b ≡ true) × (next ≡ Some (left ++ tail)) = begins (left ++ tail) (at true has) in (up (here ∙ (w.0 ∙ sym has)), w.1)
+        go (inr lacks) true q = absurd (taken next (took q) (at false lacks))
+        go (inr lacks) false q = (up (here ∙ (q ∙ sym lacks)), kept q ∙ at false lacks)
 
 pub all_digits : (c n : ℕ) (old now : Option (List ℕ)) (t : Words) → c ≤ n → n ≤ c → DigitsRead c n old now t →
     (s : Words) (tail : List ℕ) → EndsField tail → old ≡ Some (digits c s ++ tail) →
@@ -241,9 +215,6 @@ digit_first (suc k) n s tail r ends e = go (s n) refl (digit_first k (n + 1) s t
         let z : 48 + n ≡ 45 = cc in omega arith)
     go false q more = more (rw q at e)
 
-pub all_from : (s : Words) → digits 8 s ≡ digits_from 8 0 s
-all_from s = digits_split 8 0 s ∙ ap (λ (x : List ℕ). x ++ digits_from 8 0 s) (digits_none s)
-
 -- What a call that reads offsets says.
 pub record OffsetsRead (old now : Option (List ℕ)) (t : Words) : Type 0 where
   pub read : IfSome now (λ r. old ≡ Some (offsets_text t ++ r))
@@ -259,7 +230,7 @@ dash_read old (Some r) t none took begins = record { read = rw (no_offsets t non
         ((o : ℕ) → o < 8 → t o ≡ s o) × (Some r ≡ Some tail)
     only s tail ends e = elim (by_offsets s) [
       | inl some ↦ absurd (digit_first 8 0 s tail r ends (
-          let f : offsets_text s ≡ digits_from 8 0 s = some_offsets s some ∙ all_from s in
+          let f : offsets_text s ≡ digits_from 8 0 s = some_offsets s some ∙ all_from 8 s in
           let g : old ≡ Some (digits_from 8 0 s ++ tail) = e ∙ ap (λ (x : List ℕ). Some (x ++ tail)) f in cc))
       | inr empty ↦ (λ o h. none o h ∙ sym (empty o h), (begins tail (e ∙ ap (λ (x : List ℕ). Some (x ++ tail)) (no_offsets s empty))).1)
     ]

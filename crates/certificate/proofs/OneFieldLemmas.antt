@@ -13,7 +13,7 @@ use Rattle.certificate.specs.Packed.{set_of_runs, StandApart}
 use Rattle.certificate.proofs.ApartLemmas.{more_text, runs_text, run_is}
 use Rattle.certificate.proofs.SetLemmas.{by_words, empty_text}
 use Rattle.certificate.proofs.RunLemmas.{first_digit, no_dash, no_comma}
-use Rattle.certificate.proofs.DigitLemmas.{digit_at, digits_from, digits_none, digits_split, from_more, from_none, other_digit, by_digit, digit_first, all_from, no_offsets, some_offsets, by_offsets}
+use Rattle.certificate.proofs.DigitLemmas.{digit_at, digits_from, from_more, from_none, other_digit, by_digit, digit_first, all_from, no_offsets, some_offsets, by_offsets}
 
 pub word_one : (a b : ℕ) (x y : List ℕ) → a < 4096 → b < 4096 → octal_text a ++ x ≡ octal_text b ++ y → (a ≡ b) × (x ≡ y)
 word_one a b x y f g e =
@@ -136,15 +136,10 @@ digits_from_one (suc k) n s t x y dx dy e = elim (by_digit s n) [
       p.1,
     )
 
-all_from_of : (c : ℕ) (s : Words) → digits c s ≡ digits_from c 0 s
-all_from_of c s =
-    let z : c + 0 ≡ c = omega arith in
-    ap (λ m. digits m s) (sym z) ∙ (digits_split c 0 s ∙ ap (λ (x : List ℕ). x ++ digits_from c 0 s) (digits_none s))
-
 pub digits_one : (c : ℕ) (s t : Words) (x y : List ℕ) → EndsField x → EndsField y → digits c s ++ x ≡ digits c t ++ y →
     ((v : ℕ) → v < c → s v ≡ t v) × (x ≡ y)
 digits_one c s t x y dx dy e =
-    let p = digits_from_one c 0 s t x y dx dy (rw (all_from_of c s, all_from_of c t) at e) in
+    let p = digits_from_one c 0 s t x y dx dy (rw (all_from c s, all_from c t) at e) in
     (λ v a. p.0 v (omega arith) (omega arith), p.1)
 
 pub offsets_one : (s t : Words) (x y : List ℕ) → EndsField x → EndsField y → offsets_text s ++ x ≡ offsets_text t ++ y →
@@ -152,10 +147,10 @@ pub offsets_one : (s t : Words) (x y : List ℕ) → EndsField x → EndsField y
 offsets_one s t x y dx dy e = elim (by_offsets s) [
   | inl f ↦ elim (by_offsets t) [
     | inl g ↦ digits_one 8 s t x y dx dy (rw (some_offsets s f, some_offsets t g) at e)
-    | inr g ↦ absurd (digit_first 8 0 s x y dx (rw (some_offsets s f, all_from s, no_offsets t g) at e))
+    | inr g ↦ absurd (digit_first 8 0 s x y dx (rw (some_offsets s f, all_from 8 s, no_offsets t g) at e))
   ]
   | inr f ↦ elim (by_offsets t) [
-    | inl g ↦ absurd (digit_first 8 0 t y x dy (sym (rw (no_offsets s f, some_offsets t g, all_from t) at e)))
+    | inl g ↦ absurd (digit_first 8 0 t y x dy (sym (rw (no_offsets s f, some_offsets t g, all_from 8 t) at e)))
     | inr g ↦ (λ v p. f v p ∙ sym (g v p), (let z : 45 ∷ x ≡ 45 ∷ y = rw (no_offsets s f, no_offsets t g) at e in cc))
   ]
 ]

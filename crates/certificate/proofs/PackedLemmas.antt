@@ -1,12 +1,12 @@
 -- Lines packed, and the runs of their sets.
-use Rattle.std.proofs.Common.{◌≡◌, ℕ, zero, suc, ◌+◌, ◌-◌, ◌<◌, ◌≤◌, Bool, true, false, ◌&&◌, ◌||◌, List, [], ◌∷◌, ◌++◌, length, map, get_or, take, drop, refl, ap, ◌∙◌, sym, subst, inl, inr, arith, append_assoc, length-append}
+use Rattle.std.proofs.Common.{◌≡◌, ℕ, ◌+◌, ◌-◌, ◌<◌, ◌≤◌, Bool, true, false, ◌&&◌, ◌||◌, List, [], ◌∷◌, ◌++◌, length, map, get_or, take, drop, refl, ap, ◌∙◌, sym, subst, inl, inr, arith, append_assoc, length-append}
 use Rattle.std.specs.Prelude.{not, nat_le, slice_range}
 use Rattle.std.specs.List.{AllByRecursion}
 use Rattle.std.proofs.lemmas.Bool.{true≢false, cases_lt}
 use Rattle.std.proofs.Math.Bool.{or-true}
 use Rattle.std.proofs.lemmas.Bool.Decides.{nat_tests}
-use Rattle.std.proofs.lemmas.List.{take_all, take_at, take_more, drop_at, drop-append-le, take-append-le, length-drop, length-map, map_more}
-use native.Mathlib.Numerals.{unary_clauses}
+use Rattle.std.proofs.lemmas.List.{take_all, take_at, take_more, drop_at, drop-append-le, take-append-le, length-drop, length-map, drop-map, drop_more, map_push, map_more}
+use Rattle.std.proofs.lemmas.List.Elements.{All-from_recursion}
 use Rattle.wordset.specs.Words.{Words, SameWords, all_words, everything, difference, nothing, between, union}
 use Rattle.wordset.specs.Lanes.{words}
 use Rattle.wordset.proofs.SetLemmas.{words_are, all_past, all_everything}
@@ -176,11 +176,7 @@ pub line_added : (runs new : List Run) (ls after : List KeptLine) (k : KeptLine)
     Begins runs new → k.first ≡ length runs → IsPacked (drop (length runs) new) k.line line → after ≡ ls ++ k ∷ [] → lines_in new after ≡ lines_in runs ls ++ line ∷ []
 line_added runs new ls after k line h b f p e =
     let here : kept_at new k ≡ line = rw f p.is in
-    rw e (on ls ∙ (ap (λ (x : List Line). x ++ kept_at new k ∷ []) (runs_added runs new ls h b) ∙ ap (λ (x : Line). lines_in runs ls ++ x ∷ []) here))
-  where
-    on : (xs : List KeptLine) → lines_in new (xs ++ k ∷ []) ≡ lines_in new xs ++ kept_at new k ∷ []
-    on [] = refl
-    on (x ∷ xs) = ap (λ (y : List Line). kept_at new x ∷ y) (on xs)
+    rw e (map_push (kept_at new) ls k ∙ (ap (λ (x : List Line). x ++ kept_at new k ∷ []) (runs_added runs new ls h b) ∙ ap (λ (x : Line). lines_in runs ls ++ x ∷ []) here))
 
 pub all_within : (runs new : List Run) (ls after : List KeptLine) (k : KeptLine) (line : Line) → AllByRecursion (IsKept (length runs)) ls →
     Begins runs new → k.first ≡ length runs → IsPacked (drop (length runs) new) k.line line → after ≡ ls ++ k ∷ [] → AllByRecursion (IsKept (length new)) after
@@ -239,23 +235,7 @@ from_none old mid new n m none a b p q =
     subst (λ (rs : List Run). AreLaid rs (record { one = n; other = m }) (added old mid) (added mid new)) (ap (λ (rs : List Run). drop (length rs) new) none)
     (two_laid old mid new n m (added old mid) (added mid new) a b p q refl refl)
 
--- The runs of one set that were added.
-pub one_laid : (old new : List Run) (n : ℕ) (set : Words) → length old + n ≡ length new → added old new ≡ set → set_at (drop (length old) new) 0 n ≡ set
-one_laid old new n set p is =
-    ap set_of_runs (front_of (drop (length old) new) n ∙ take_all n (drop (length old) new) (omega (arith, length-drop (length old) new))) ∙ is
-
 -- The line at a place.
-said_there : (runs : List Run) (ls : List KeptLine) (i : ℕ) (d : KeptLine) → i < length ls →
-    drop i (lines_in runs ls) ≡ kept_at runs (get_or ls i d) ∷ drop (i + 1) (lines_in runs ls)
-said_there runs [] i d b = absurd (omega arith)
-said_there runs (l ∷ ls) zero d b = refl
-said_there runs (l ∷ ls) (suc i) d b = simp unary_clauses (simp unary_clauses at (said_there runs ls i d (omega arith)))
-
-kept_there : (n : ℕ) (ls : List KeptLine) (i : ℕ) (d : KeptLine) → i < length ls → AllByRecursion (IsKept n) ls → IsKept n (get_or ls i d)
-kept_there n [] i d b h = absurd (omega arith)
-kept_there n (l ∷ ls) zero d b h = h.0
-kept_there n (l ∷ ls) (suc i) d b h = kept_there n ls i d (omega arith) h.1
-
 pub record LineThere (runs : List Run) (ls : List KeptLine) (i : ℕ) (k : KeptLine) : Type 0 where
   pub kept : IsKept (length runs) k
   pub there : drop i (lines_in runs ls) ≡ kept_at runs k ∷ drop (i + 1) (lines_in runs ls)
@@ -265,19 +245,13 @@ pub line_there : (runs : List Run) (ls : List KeptLine) (i : ℕ) (k : KeptLine)
     AllByRecursion (IsKept (length runs)) ls → LineThere runs ls i k
 line_there runs ls i k at h all =
     let b : i < length ls = omega (arith, length-map ls (kept_at runs)) in
-    let it : IsKept (length runs) k = rw at (kept_there (length runs) ls i k b all) in
+    let it : IsKept (length runs) k = rw at (All-from_recursion (IsKept (length runs)) ls all i k b) in
     record {
       kept = it;
-      there = said_there runs ls i k b ∙ ap (λ (x : Line). x ∷ drop (i + 1) (lines_in runs ls)) (ap (kept_at runs) (sym at));
+      there = drop-map (kept_at runs) i ls ∙ (ap (map (kept_at runs)) (drop_more ls i k b ∙ ap (λ (x : KeptLine). x ∷ drop (i + 1) ls) (sym at)) ∙
+          ap (λ (x : List Line). kept_at runs k ∷ x) (sym (drop-map (kept_at runs) (i + 1) ls)));
       within = rw (length-drop k.first runs) it.within;
     }
-
--- Lines in front of others.
-pub front_kept : (runs : List Run) (ls : List KeptLine) (n : ℕ) → lines_in runs (take n ls) ≡ take n (lines_in runs ls)
-front_kept runs [] zero = refl
-front_kept runs [] (suc n) = refl
-front_kept runs (l ∷ ls) zero = refl
-front_kept runs (l ∷ ls) (suc n) = ap (λ (x : List Line). kept_at runs l ∷ x) (front_kept runs ls n)
 
 -- The line of a cell more.
 pub cell_more : (old now new : List Line) (cells : List TrackedCell) (i : ℕ) (t : TrackedCell) → i < length cells → now ≡ old ++ map CellIs (take i cells) →

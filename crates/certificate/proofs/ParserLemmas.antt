@@ -12,7 +12,7 @@ use Rattle.certificate.specs.Order.{any, is_end, may_stand, AreInOrder, front, I
 use Rattle.certificate.specs.Progress.{Tracks, Declines}
 use Rattle.certificate.specs.Packed.{Packed, said_lines}
 use Rattle.certificate.specs.Found.{newest_first, Keeps, IsWhole, unended}
-use Rattle.certificate.specs.Faults.{most_bytes, NoFeed, HasLine, HasFaultyLine, HasRest, IsCut, AsksForMemory}
+use Rattle.certificate.specs.Faults.{most_bytes, NoFeed, HasLine, HasFaultyLine, HasRest, IsCut}
 use Rattle.certificate.proofs.LengthLemmas.{line_short, no_feed_both}
 use Rattle.certificate.proofs.TextLemmas.{newest_both}
 use Rattle.certificate.proofs.GatherLemmas.{text_of_gathered}
@@ -156,24 +156,6 @@ next_refused kept text line bytes old p q f is h small t = go f t
     go faults.Version t = absurd (t g.before g.tracks)
     go faults.NoMemory t = absurd (t g.before g.tracks)
     go faults.ReadFault t = absurd (t g.before g.tracks)
-
--- Memory is asked for where a line comes next that isn't the end.
-pub next_asks : (kept : Packed) (text line bytes : List ℕ) (old : Option Progress) (p : Progress) (l : Line) → old ≡ Some p →
-    Parts text kept old line false bytes → length bytes < most_bytes →
-    ((before : List Line) → Tracks p before → Continues p.version before line l) → is_end l ≡ false → AsksForMemory (bytes ++ 10 ∷ [])
-next_asks kept text line bytes old p l is h small t grows = record {
-  version = p.version;
-  before = g.before;
-  order = g.order;
-  line = line;
-  place =
-      subst (λ (x : List ℕ). HasLine x (front p.version g.before) line) (append-nil (bytes ++ 10 ∷ []))
-      (has_line text line bytes (front p.version g.before) [] (line_split kept text line bytes old h) g.is (line_feed kept text line bytes old h) small);
-  more = record { line = l; continues = t g.before g.tracks; grows = grows };
-}
-  where
-    g : Reached p text kept
-    g = let z : HasRead (Some p) text kept = rw is at h.read in z
 
 -- A line that is too long.
 pub long_refused : (kept : Packed) (text line bytes : List ℕ) (old : Option Progress) (p : Progress) (long : Bool) (n : ℕ) → old ≡ Some p → long ≡ true →

@@ -1,55 +1,26 @@
 -- Certificates that say the same have one text.
-use Rattle.std.proofs.Common.{◌≡◌, ℕ, zero, suc, ◌+◌, ◌-◌, ◌<◌, ◌≤◌, ◌==◌, Bool, true, List, [], ◌∷◌, ◌++◌, refl, ap, ◌∙◌, inl, inr, arith}
-use Rattle.std.specs.Prelude.{not, ◌&&◌, if◌then◌else◌, codes, map, flat_map}
-use Rattle.std.proofs.lemmas.Bool.{eq-eqb, cases_lt}
+use Rattle.std.proofs.Common.{◌≡◌, ℕ, ◌+◌, ◌<◌, Bool, List, [], ◌∷◌, ◌++◌, refl, ap, ◌∙◌}
+use Rattle.std.specs.Prelude.{if◌then◌else◌, codes, map, flat_map}
 use Rattle.word12.specs.Words.{octal_text}
 use Rattle.wordset.specs.Words.{Words, SameWords, some_below, has_some}
 use Rattle.domain.specs.Statements.{Statement}
 use Rattle.certificate.specs.declared.Version.{Version}
 use Rattle.certificate.specs.declared.Version.TheVariants.{One, Two}
-use Rattle.certificate.specs.Spelling.{Lines, begins, ends, mark, marks, set_text, digits, offsets_text, mq_text, version_text, text, Registers, Line, RoutineIs, FactIs, ExitIs, CellIs, EquationIs, End, rank_text, words_text, equation_line, line_text, registers_of, details, lines_of_fact, lines_of_exit, lines_of, ended, all_ended}
+use Rattle.certificate.specs.Spelling.{Lines, marks, set_text, digits, offsets_text, mq_text, version_text, text, Registers, Line, RoutineIs, FactIs, ExitIs, CellIs, EquationIs, End, rank_text, words_text, equation_line, line_text, registers_of, details, lines_of_fact, lines_of_exit, lines_of, ended, all_ended}
 use Rattle.certificate.specs.Line.{SameRegisters, SameLine}
 use Rattle.certificate.specs.Exact.{Alike, SameRoutineLine, SameCell, SameStatement, SameFactLine, SameExitLine, SameLines, SpellingLaw}
 use Rattle.certificate.proofs.DigitLemmas.{digits_same, some_same}
+use Rattle.certificate.proofs.SetLemmas.{marks_same}
 use Rattle.certificate.proofs.TextLemmas.{joined, along}
 use Rattle.certificate.proofs.OneLineLemmas.{line_one}
 use Rattle.certificate.proofs.OneTextLemmas.{text_one}
 use Rattle.certificate.proofs.OneFaultLemmas.{alike_self}
 
-begins_same : (s t : Words) (a : ℕ) → a < 4096 → SameWords s t → begins s a ≡ begins t a
-begins_same s t a h e =
-    let p : s a ≡ t a = e a h in
-    let q : s (a - 1) ≡ t (a - 1) = e (a - 1) (omega arith) in rw (p, q) refl
-
-ends_same : (s t : Words) (a : ℕ) → a < 4096 → SameWords s t → ends s a ≡ ends t a
-ends_same s t a h e = elim (cases_lt a 4095) [
-  | inl b ↦ (let p : s a ≡ t a = e a h in
-      let q : s (a + 1) ≡ t (a + 1) = e (a + 1) (omega arith) in rw (p, q) refl)
-  | inr b ↦ (let p : s a ≡ t a = e a h in
-      let q : (a == 4095) ≡ true = eq-eqb a 4095 (omega arith) in rw (p, q) refl)
-]
-
-mark_same : (s t : Words) (a : ℕ) → a < 4096 → SameWords s t → mark s a ≡ mark t a
-mark_same s t a h e = same (begins s a) (begins t a) (ends s a) (ends t a) (some_below a s) (some_below a t)
-    (begins_same s t a h e) (ends_same s t a h e) (some_same a s t (λ v b. e v (omega arith)))
-  where
-    same : (b c m n j k : Bool) → b ≡ c → m ≡ n → j ≡ k →
-        (if b then (if j then codes "," else []) ++ octal_text a else []) ++ (if m && not b then codes "-" ++ octal_text a else []) ≡
-        (if c then (if k then codes "," else []) ++ octal_text a else []) ++ (if n && not c then codes "-" ++ octal_text a else [])
-    same b c m n j k p q r = rw (p, q, r) refl
-
-marks_same : (n : ℕ) (s t : Words) → n ≤ 4096 → SameWords s t → marks n s ≡ marks n t
-unfolding marks
-marks_same zero s t h e = refl
-marks_same (suc n) s t h e =
-    let p : marks n s ≡ marks n t = marks_same n s t (omega arith) e in
-    let q : mark s n ≡ mark t n = mark_same s t n (omega arith) e in joined p q
-
 chosen : (b c : Bool) (x y z : List ℕ) → b ≡ c → x ≡ y → (if b then x else z) ≡ (if c then y else z)
 chosen b c x y z p q = rw (p, q) refl
 
 set_same : (s t : Words) → SameWords s t → set_text s ≡ set_text t
-set_same s t e = chosen (has_some s) (has_some t) (marks 4096 s) (marks 4096 t) (codes "-") (some_same 4096 s t e) (marks_same 4096 s t (omega arith) e)
+set_same s t e = chosen (has_some s) (has_some t) (marks 4096 s) (marks 4096 t) (codes "-") (some_same 4096 s t e) (marks_same s t e)
 
 offsets_same : (s t : Words) → ((o : ℕ) → o < 8 → s o ≡ t o) → offsets_text s ≡ offsets_text t
 offsets_same s t e = chosen (some_below 8 s) (some_below 8 t) (digits 8 s) (digits 8 t) (codes "-") (some_same 8 s t e) (digits_same 8 s t e)
@@ -59,40 +30,24 @@ mq_same One s t e = refl
 mq_same Two s t e = ap (λ (x : List ℕ). codes " mq " ++ x) (set_same s t e)
 
 -- Lines that say the same have one spelling.
+as_is : (x : List ℕ) → x ≡ x
+as_is x = refl
+
 words_same : (v : Version) (r s : Registers) → SameRegisters r s → words_text v r ≡ words_text v s
 words_same v r s e =
-    go (set_text r.ac) (set_text s.ac) (mq_text v r.mq) (mq_text v s.mq) (digits 2 r.link) (digits 2 s.link)
-    (set_same r.ac s.ac e.ac) (mq_same v r.mq s.mq e.mq) (digits_same 2 r.link s.link e.link)
-  where
-    go : (a b c d f g : List ℕ) → a ≡ b → c ≡ d → f ≡ g → codes " ac " ++ a ++ c ++ codes " link " ++ f ≡ codes " ac " ++ b ++ d ++ codes " link " ++ g
-    go a b c d f g p q r = rw (p, q, r) refl
+    joined (joined (joined (joined (as_is (codes " ac ")) (set_same r.ac s.ac e.ac)) (mq_same v r.mq s.mq e.mq)) (as_is (codes " link ")))
+    (digits_same 2 r.link s.link e.link)
 
 pub same_line_text : (v : Version) (l m : Line) → SameLine l m → line_text v l ≡ line_text v m
 same_line_text v (RoutineIs r) (RoutineIs s) e =
-    go (octal_text r.entry) (octal_text s.entry) (rank_text r.rank) (rank_text s.rank)
-    (set_text r.sites) (set_text s.sites) (set_text r.writes) (set_text s.writes)
-    (ap octal_text e.0) (ap rank_text e.1) (set_same r.sites s.sites e.2) (set_same r.writes s.writes e.3)
-  where
-    go : (a b c d f g h k : List ℕ) → a ≡ b → c ≡ d → f ≡ g → h ≡ k →
-        codes "routine " ++ a ++ codes " rank " ++ c ++ codes " sites " ++ f ++ codes " writes " ++ h ≡
-        codes "routine " ++ b ++ codes " rank " ++ d ++ codes " sites " ++ g ++ codes " writes " ++ k
-    go a b c d f g h k p q r s = rw (p, q, r, s) refl
+    joined (joined (joined (joined (joined (joined (joined (as_is (codes "routine ")) (ap octal_text e.0)) (as_is (codes " rank "))) (ap rank_text e.1))
+    (as_is (codes " sites "))) (set_same r.sites s.sites e.2)) (as_is (codes " writes "))) (set_same r.writes s.writes e.3)
 same_line_text v (FactIs a r m) (FactIs b s n) e =
-    go (octal_text a) (octal_text b) (words_text v r) (words_text v s) (offsets_text m) (offsets_text n)
-    (ap octal_text e.0) (words_same v r s e.1) (offsets_same m n e.2)
-  where
-    go : (a b c d f g : List ℕ) → a ≡ b → c ≡ d → f ≡ g → codes "fact " ++ a ++ c ++ codes " offsets " ++ f ≡ codes "fact " ++ b ++ d ++ codes " offsets " ++ g
-    go a b c d f g p q r = rw (p, q, r) refl
+    joined (joined (joined (joined (as_is (codes "fact ")) (ap octal_text e.0)) (words_same v r s e.1)) (as_is (codes " offsets "))) (offsets_same m n e.2)
 same_line_text v (ExitIs a o r) (ExitIs b q s) e =
-    go (octal_text a) (octal_text b) o q (words_text v r) (words_text v s) (ap octal_text e.0) e.1 (words_same v r s e.2)
-  where
-    go : (a b : List ℕ) (m n : ℕ) (c d : List ℕ) → a ≡ b → m ≡ n → c ≡ d → codes "exit " ++ a ++ codes " " ++ (48 + m) ∷ c ≡ codes "exit " ++ b ++ codes " " ++ (48 + n) ∷ d
-    go a b m n c d p q r = rw (p, q, r) refl
+    joined (joined (joined (as_is (codes "exit ")) (ap octal_text e.0)) (as_is (codes " "))) (joined (ap (λ k. (48 + k) ∷ []) e.1) (words_same v r s e.2))
 same_line_text v (CellIs a) (CellIs b) e =
-    go (octal_text a.address) (octal_text b.address) (set_text a.set) (set_text b.set) (ap octal_text e.0) (set_same a.set b.set e.1)
-  where
-    go : (a b c d : List ℕ) → a ≡ b → c ≡ d → codes "cell " ++ a ++ codes " " ++ c ≡ codes "cell " ++ b ++ codes " " ++ d
-    go a b c d p q = rw (p, q) refl
+    joined (joined (joined (as_is (codes "cell ")) (ap octal_text e.0)) (as_is (codes " "))) (set_same a.set b.set e.1)
 same_line_text v (EquationIs a) (EquationIs b) e = ap equation_line e
 same_line_text v End End e = refl
 same_line_text v l m e = absurd e

@@ -214,6 +214,10 @@ text_all s rs h same =
     let c : Scan s = scan s in
     c.text ∙ ap runs_text (one_list 0 0 c.runs rs c.apart h (λ v a. sym (c.same v a) ∙ same v a))
 
+-- Sets with the same words are written alike.
+pub marks_same : (s t : Words) → SameWords s t → marks 4096 s ≡ marks 4096 t
+marks_same s t e = let c : Scan s = scan s in c.text ∙ sym (text_all t c.runs c.apart (λ v a. sym (e v a) ∙ c.same v a))
+
 pub text_of : (rs : List Run) → StandApart 0 rs → marks 4096 (set_of_runs rs) ≡ runs_text rs
 text_of rs h = text_all (set_of_runs rs) rs h (λ v a. sym (runs_within rs v a))
 

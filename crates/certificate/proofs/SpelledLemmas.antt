@@ -2,8 +2,8 @@
 use Rattle.std.proofs.Common.{◌≡◌, ℕ, Option, drop, length-append, ◌+◌, ◌<◌, ◌≤◌, ◌==◌, Bool, false, List, [], ◌∷◌, ◌++◌, length, refl, ap, ◌∙◌, sym, inl, inr, arith, append_assoc, append-nil, get_or, length-take-le}
 use Rattle.std.specs.Prelude.{take, if◌then◌else◌, IsTrue}
 use Rattle.std.proofs.lemmas.Bool.{true≢false, ne_eqb, cases_lt}
-use Rattle.std.proofs.lemmas.List.{take_all, take-append-le, take_more, take-append-drop}
-use Rattle.std.proofs.Math.Seq.{take-add}
+use Rattle.std.proofs.lemmas.List.{take_all, length-take, take-append-le, take-append-drop}
+use Rattle.std.proofs.Math.Seq.{take-add, take-append-add}
 use Rattle.std.specs.Io.KnownBytes.{Appends}
 use Rattle.std.proofs.KnownBytes.{Appends-trans}
 use Rattle.streams.specs.Bytes.{AppendsFront}
@@ -17,7 +17,7 @@ use Rattle.certificate.specs.Packed.{set_of_runs, StandApart}
 use Rattle.certificate.specs.Spelled.{Adds, IsLastOf}
 use Rattle.certificate.proofs.TextLemmas.{both_ended}
 use Rattle.certificate.proofs.SetLemmas.{text_of, text_all, some_runs}
-use Rattle.certificate.proofs.ApartLemmas.{runs_text, comma, has_more, runs_more, taken, Closed, none_closed, found_run, closed_all, closed_apart}
+use Rattle.certificate.proofs.ApartLemmas.{runs_text, comma, has_more, runs_more, taken, Closed, found_run, closed_all, closed_apart}
 use Rattle.certificate.proofs.DigitLemmas.{digits_more, digits_none, no_offsets, some_offsets, has_offset}
 
 take_twice : (xs ys : List ℕ) (n : ℕ) → take n (take n xs ++ ys) ≡ take n (xs ++ ys)
@@ -83,9 +83,6 @@ pub record SetSofar (old now : List ℕ) (s : Words) (n : ℕ) : Type 0 where
   pub closed : Closed s runs n n
   pub written : RunsWritten old now runs n
 
-pub set_begun : (old : List ℕ) (s : Words) → SetSofar old old s 0
-set_begun old s = record { runs = []; closed = none_closed s; written = runs_begun old }
-
 pub set_more : (old now mid new : List ℕ) (s others : Words) (n : ℕ) (r : Run) → SetSofar old now s n → IsFirstFrom n s r.first → IsLastOf others r.first r.last →
     others ≡ difference all_words s → Adds now mid (if n == 0 then [] else 44 ∷ []) → Adds mid new (run_text r.first r.last) → SetSofar old new s (r.last + 2)
 set_more old now mid new s others n r h f l are a b = record {
@@ -105,15 +102,16 @@ pub full_written : (old now : List ℕ) (rs : List Run) → false ≡ (length rs
 full_written old now [] some h a = absurd (true≢false (sym some))
 full_written old now (r ∷ rs) some h a = rw (some_runs 0 r rs h) a
 
--- A text byte by byte.
-pub text_more : (old now new text : List ℕ) (i : ℕ) → i < length text → Adds old now (take i text) →
-    Adds now new (get_or text i 0 ∷ []) → Adds old new (take (i + 1) text)
-text_more old now new text i h a b =
-    let e : take (i + 1) text ≡ take i text ++ get_or text i 0 ∷ [] = take_more text i 0 h in
-    rw e (joined old now new (take i text) (get_or text i 0 ∷ []) a b)
-
-pub text_done : (old now text : List ℕ) (i : ℕ) → length text ≤ i → i ≤ length text → Adds old now (take i text) → Adds old now text
-text_done old now text i a b h = rw (take_all i text a) at h
+-- As much of a text as there is room for.
+pub fronted : (old new text : List ℕ) (room n : ℕ) → room + length old ≡ 32769 → n ≤ room → (n < room → length text ≤ n) → new ≡ old ++ take n text →
+    Adds old new text
+fronted old new text room n all few whole e = record {
+  is = ap (λ (x : List ℕ). take 32769 x) e ∙ elim (cases_lt n room) [
+    | inl h ↦ ap (λ (x : List ℕ). take 32769 (old ++ x)) (take_all n text (whole h))
+    | inr h ↦ (let z : 32769 ≡ length old + n = omega arith in
+        rw (z, take-append-add old (take n text) n, take-append-add old text n, take_all n (take n text) (omega (arith, length-take n text))) refl)
+  ];
+}
 
 -- Digits one by one.
 pub digits_begun : (old : List ℕ) (s : Words) → Adds old old (digits 0 s)

@@ -392,9 +392,7 @@ fn track_several(runs: &[Run], cell: Word, count: usize, fact: &mut Fact)
     } }
     ensures offsets { offsets_of fact.new.offsets ≡ offsets_of fact.old.offsets }
 {
-    let mut set = WordSet::empty();
-    put_runs(&runs[0..count], &mut set);
-    fact.track(cell, set);
+    fact.track(cell, set_in(runs, 0, count));
 }
 
 /// Whether a line is a cell or an equation, which the lent fact then says too.

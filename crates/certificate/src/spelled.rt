@@ -49,6 +49,18 @@ impl LineText {
         }
     }
 
+    /// Adds as much of a text as there is room for.
+    #[inline(always)]
+    fn text(&mut self, text: &[u8])
+        ensures { Adds self.old.bytes.items self.new.bytes.items text.now }
+    {
+        let count = text.len().min(self.bytes.remaining_capacity());
+        match self.bytes.try_extend_from_slice(&text[..count]) {
+            Ok(()) => {}
+            Err(_) => {}
+        }
+    }
+
     /// Adds a byte.
     fn push(&mut self, byte: u8)
         ensures adds { Adds self.old.bytes.items self.new.bytes.items (byte ∷ []) }
@@ -56,27 +68,6 @@ impl LineText {
     {
         if !self.bytes.is_full() {
             self.bytes.push(byte);
-        }
-    }
-
-    /// Adds some text as it stands here.
-    #[inline(always)]
-    fn text(&mut self, text: &[u8])
-        ensures { Adds self.old.bytes.items self.new.bytes.items text.now }
-    {
-        match self.bytes.try_extend_from_slice(text) {
-            Ok(()) => {}
-            Err(_) => self.front(text),
-        }
-    }
-
-    /// Adds as much of a text as there is room for.
-    #[inline(never)]
-    fn front(&mut self, text: &[u8])
-        ensures { Adds self.old.bytes.items self.new.bytes.items text.now }
-    {
-        for byte in text {
-            self.push(*byte);
         }
     }
 
@@ -145,17 +136,6 @@ impl LineText {
         }
     }
 
-    /// Adds a set, `-` where it's empty.
-    fn any_set(&mut self, set: &WordSet)
-        ensures { Adds self.old.bytes.items self.new.bytes.items (set_text (words set.now)) }
-    {
-        if set.is_empty() {
-            self.push(b'-');
-        } else {
-            self.words(set);
-        }
-    }
-
     /// Adds the set of which these are runs. They are its maximal ones, unless two of them touch.
     fn set(&mut self, runs: &[Run])
         ensures { Adds self.old.bytes.items self.new.bytes.items
@@ -163,8 +143,13 @@ impl LineText {
     {
         if !runs.is_empty() && stand_apart(runs) {
             self.runs(runs);
+            return;
+        }
+        let set = set_of(runs);
+        if set.is_empty() {
+            self.push(b'-');
         } else {
-            self.any_set(&set_of(runs));
+            self.words(&set);
         }
     }
 

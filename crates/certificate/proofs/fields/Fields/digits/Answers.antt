@@ -1,7 +1,8 @@
-use Rattle.std.proofs.Common.{refl}
+use Rattle.std.proofs.Common.{true, false, sym}
+use Rattle.std.proofs.Math.Bool.{or-false}
 use Rattle.domain.specs.Meaning.{offsets_of}
 use Rattle.certificate.specs.Fields.{left}
-use Rattle.certificate.proofs.DigitLemmas.{no_digits, digit_there, digit_missing, all_digits}
+use Rattle.certificate.proofs.DigitLemmas.{no_digits, digit_tried, all_digits}
 use Rattle.certificate.proofs.fields.Fields.digits.Goals as goal
 use Rattle.certificate.proofs.fields.Fields.digits.Goals.{then-takes, else-takes}
 
@@ -10,12 +11,10 @@ loop-digit-init c = no_digits c.args.count (left c.args.self.now) (offsets_of c.
 
 pub loop-digit-preserved : goal.loop-digit-preserved
 loop-digit-preserved c = elim c.if-takes.branch [
-  | then-takes w ↦ rw w.found-is (digit_there c.args.count c.loop-digit.digit (left c.args.self.now) (left c.loop-digit.self) (left c.takes.new.self)
-      (offsets_of c.loop-digit.found) (offsets_of w.insert.new.self) c.loop-digit-test.true c.requires c.loop-digit.invariant
-      (w.if-takes.ensures.taken refl) w.if-takes.ensures.only w.insert.ensures)
-  | else-takes w ↦ rw w.found-is (digit_missing c.args.count c.loop-digit.digit (left c.args.self.now) (left c.loop-digit.self) (left c.takes.new.self)
-      (offsets_of c.loop-digit.found) c.loop-digit-test.true c.requires c.loop-digit.invariant
-      (w.if-takes.ensures.kept refl) w.if-takes.ensures.only)
+  | then-takes w ↦ rw w.found-is (digit_tried _ _ _ _ _ _ _ true c.loop-digit-test.true c.requires c.loop-digit.invariant
+      w.if-takes.ensures.taken w.if-takes.ensures.kept w.if-takes.ensures.only w.insert.ensures)
+  | else-takes w ↦ rw w.found-is (digit_tried _ _ _ _ _ _ _ false c.loop-digit-test.true c.requires c.loop-digit.invariant
+      w.if-takes.ensures.taken w.if-takes.ensures.kept w.if-takes.ensures.only (λ v h. sym (or-false _)))
 ]
 
 pub returns-clause-only : goal.returns-clause-only

@@ -6,33 +6,18 @@ use Rattle.certificate.proofs.fields.Fields.runs.Goals as goal
 pub loop-self-init : goal.loop-self-init
 loop-self-init c = none_read (left c.args.self.now) c.args.runs.now.items
 
-pub returns-in_default-clause-front : goal.returns-in_default-clause-front
-returns-in_default-clause-front c =
-    rw c.in_default.ensures.err ((no_room (left c.args.self.now) (left c.loop-self.self) (left c.run-first.new.self) (left c.fail.new.self) c.args.runs.now.items c.loop-self.runs.items c.loop-self.next
-    (record { first = c.run-first.result.0; last = c.run-first.result.1 }) c.loop-self.invariant (record { read = c.run-first.ensures.read; order = c.run-first.ensures.order; only = c.run-first.ensures.only }) c.in_default.ensures.full c.fail.ensures).front)
+pub returns-in_default : goal.returns-in_default
+returns-in_default c =
+    let a = no_room (left c.args.self.now) (left c.loop-self.self) (left c.run-first.new.self) (left c.fail.new.self) c.args.runs.now.items c.loop-self.runs.items c.loop-self.next
+    (record { first = c.run-first.result.0; last = c.run-first.result.1 }) c.loop-self.invariant (record { read = c.run-first.ensures.read; order = c.run-first.ensures.order; only = c.run-first.ensures.only }) c.in_default.ensures.full c.fail.ensures in
+    rw c.in_default.ensures.err (record { front = a.front; read = a.read; only = a.only })
 
-pub returns-in_default-clause-only : goal.returns-in_default-clause-only
-returns-in_default-clause-only c =
-    rw c.in_default.ensures.err ((no_room (left c.args.self.now) (left c.loop-self.self) (left c.run-first.new.self) (left c.fail.new.self) c.args.runs.now.items c.loop-self.runs.items c.loop-self.next
-    (record { first = c.run-first.result.0; last = c.run-first.result.1 }) c.loop-self.invariant (record { read = c.run-first.ensures.read; order = c.run-first.ensures.order; only = c.run-first.ensures.only }) c.in_default.ensures.full c.fail.ensures).only)
-
-pub returns-then-not-takes-clause-front : goal.returns-then-not-takes-clause-front
-returns-then-not-takes-clause-front c =
-    (ending (left c.args.self.now) (left c.loop-self.self) (left c.run-first.new.self) (left c.takes.new.self) c.args.runs.now.items c.loop-self.runs.items c.try_push.new.self.items
+pub returns-then-not-takes : goal.returns-then-not-takes
+returns-then-not-takes c =
+    let a = ending (left c.args.self.now) (left c.loop-self.self) (left c.run-first.new.self) (left c.takes.new.self) c.args.runs.now.items c.loop-self.runs.items c.try_push.new.self.items
     c.loop-self.next c.index-next.result (record { first = c.run-first.result.0; last = c.run-first.result.1 }) c.loop-self.invariant (record { read = c.run-first.ensures.read; order = c.run-first.ensures.order; only = c.run-first.ensures.only }) c.index-next.ensures.same c.index-next.ensures.small c.in-Ok.ensures.ok
-    (c.if-not-takes.ensures.kept refl) c.if-not-takes.ensures.only).front
-
-pub returns-then-not-takes-clause-read : goal.returns-then-not-takes-clause-read
-returns-then-not-takes-clause-read c =
-    (ending (left c.args.self.now) (left c.loop-self.self) (left c.run-first.new.self) (left c.takes.new.self) c.args.runs.now.items c.loop-self.runs.items c.try_push.new.self.items
-    c.loop-self.next c.index-next.result (record { first = c.run-first.result.0; last = c.run-first.result.1 }) c.loop-self.invariant (record { read = c.run-first.ensures.read; order = c.run-first.ensures.order; only = c.run-first.ensures.only }) c.index-next.ensures.same c.index-next.ensures.small c.in-Ok.ensures.ok
-    (c.if-not-takes.ensures.kept refl) c.if-not-takes.ensures.only).read
-
-pub returns-then-not-takes-clause-only : goal.returns-then-not-takes-clause-only
-returns-then-not-takes-clause-only c =
-    (ending (left c.args.self.now) (left c.loop-self.self) (left c.run-first.new.self) (left c.takes.new.self) c.args.runs.now.items c.loop-self.runs.items c.try_push.new.self.items
-    c.loop-self.next c.index-next.result (record { first = c.run-first.result.0; last = c.run-first.result.1 }) c.loop-self.invariant (record { read = c.run-first.ensures.read; order = c.run-first.ensures.order; only = c.run-first.ensures.only }) c.index-next.ensures.same c.index-next.ensures.small c.in-Ok.ensures.ok
-    (c.if-not-takes.ensures.kept refl) c.if-not-takes.ensures.only).only
+    (c.if-not-takes.ensures.kept refl) c.if-not-takes.ensures.only in
+    record { front = a.front; read = a.read; only = a.only }
 
 pub loop-self-smaller : goal.loop-self-smaller
 loop-self-smaller c =

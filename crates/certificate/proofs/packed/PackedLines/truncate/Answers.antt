@@ -1,10 +1,12 @@
+use Rattle.std.proofs.Common.{sym}
 use Rattle.std.proofs.ByRecursion.{All-take}
-use Rattle.certificate.proofs.PackedLemmas.{front_kept}
+use Rattle.std.proofs.lemmas.List.{take-map}
+use Rattle.certificate.specs.Packed.{kept_at}
 use Rattle.certificate.proofs.FoundLemmas.{past_front}
 use Rattle.certificate.proofs.packed.PackedLines.truncate.Goals as goal
 
 pub returns : goal.returns
-returns g c = rw (← c.self.view_is, c.truncate.ensures.items) (front_kept c.self.inside.runs.items c.self.inside.list.items c.args.count)
+returns g c = rw (← c.self.view_is, c.truncate.ensures.items) (sym (take-map (kept_at c.self.inside.runs.items) c.args.count c.self.inside.list.items))
 
 pub invariant_of-self : goal.invariant_of-self
 invariant_of-self g c = rw c.truncate.ensures.items (record {

@@ -23,7 +23,6 @@ mod NameLemmas
 pub mod SpelledLemmas
 pub mod ApartLemmas
 pub mod MakerLemmas
-pub mod AddedLemmas
 pub mod PutLemmas
 pub mod FactTextLemmas
 pub mod ReadLemmas

@@ -35,24 +35,12 @@ line_kept k new l before e so h =
 -- Lines in order have rising places.
 rising : (v : Version) (before ls : List Line) (n : ℕ) → Follow v before ls → n ≤ next_place (heads before) → AreRising n ls
 rising v before [] n f h = tt
-rising v before (CellIs c ∷ ls) n f h = (omega arith, rising v (CellIs c ∷ before) ls n f.2 h)
-rising v before (EquationIs q ∷ ls) n f h = (omega arith, rising v (EquationIs q ∷ before) ls n f.2 h)
-rising v before (RoutineIs r ∷ ls) n f h = (
-  let o : next_place (heads before) ≤ r.entry = f.1.order in omega arith,
-  rising v (RoutineIs r ∷ before) ls (r.entry + 1) f.2 (omega arith),
-)
-rising v before (FactIs a r m ∷ ls) n f h = (
-  let o : next_place (heads before) ≤ 4096 + a = f.1.order in omega arith,
-  rising v (FactIs a r m ∷ before) ls (4096 + a + 1) f.2 (omega arith),
-)
-rising v before (ExitIs x o r ∷ ls) n f h = (
-  let o : next_place (heads before) ≤ 8192 + (8 * x + o) = f.1.order in omega arith,
-  rising v (ExitIs x o r ∷ before) ls (8192 + (8 * x + o) + 1) f.2 (omega arith),
-)
-rising v before (End ∷ ls) n f h = (
-  let o : next_place (heads before) ≤ 40960 = f.1.order in omega arith,
-  rising v (End ∷ before) ls (40960 + 1) f.2 (omega arith),
-)
+rising v before (l ∷ ls) n f h = elim (cases_Bool (is_detail l)) [
+  | inl d ↦ rw d (omega arith, rising v (l ∷ before) ls n f.2 (rw d h))
+  | inr d ↦
+      let o : next_place (heads before) ≤ place l = rw d at f.1.order in
+      rw d (omega arith, rising v (l ∷ before) ls (place l + 1) f.2 (rw d (omega arith)))
+]
 
 pub whole : (v : Version) (k : Packed) → AreInOrder v (newest_first [] (said_lines k)) → any is_end (newest_first [] (said_lines k)) ≡ false → IsWhole v k
 whole v k order no_end = record { order = order; no_end = no_end; rising = rising v [] (said_lines k) 0 (follows v [] (said_lines k) order) (omega arith) }

@@ -13,7 +13,7 @@ use Rattle.certificate.specs.Line.{IsLine}
 use Rattle.certificate.specs.Order.{is_detail, place}
 use Rattle.certificate.specs.Gathered.{routines_of, facts_of, exits_of}
 use Rattle.certificate.specs.Found.{from_place, IsWhole, IsNextPlace, begins_routine, begins_fact, begins_exit}
-use Rattle.certificate.proofs.ReaderLemmas.{formed, routine_named, exit_named, fact_claims}
+use Rattle.certificate.proofs.ReaderLemmas.{formed, routine_claims, fact_claims, exit_claims}
 
 -- where a line has the place of a routine, that of a fact or that of an exit, it is one
 abbrev IsAt : Version → ℕ → List Line → Type 0
@@ -49,11 +49,11 @@ kind_at v p (l ∷ ls) h = absurd (true≢false h.1)
 listed_at : (v : Version) (k : Packed) (e : ℕ) → IsWhole v k → e < 4096 → (from_place e (said_lines k) ≡ [] → ⊥) →
     has_routine (routines_of (said_lines k)) e ≡ true
 listed_at v k e w small some =
-    routine_named v k e w small ∙ (kind_at v e _ (line_at v (said_lines k) e (formed v k w) some)).0 small
+    sym (routine_claims v k e _ w small refl).0 ∙ (kind_at v e _ (line_at v (said_lines k) e (formed v k w) some)).0 small
 
 not_listed : (v : Version) (k : Packed) (e : ℕ) → IsWhole v k → e < 4096 → from_place e (said_lines k) ≡ [] →
     has_routine (routines_of (said_lines k)) e ≡ false
-not_listed v k e w small none = routine_named v k e w small ∙ ap begins_routine none
+not_listed v k e w small none = sym (routine_claims v k e _ w small refl).0 ∙ ap begins_routine none
 
 -- and one at the place of an exit likewise
 exit_at : (v : Version) (k : Packed) (e x : ℕ) → IsWhole v k → e < 4096 → 8192 + 8 * e ≤ x → x < 8192 + 8 * e + 8 →
@@ -62,12 +62,12 @@ exit_at v k e x w small low high some =
     let o : ℕ = x - (8192 + 8 * e) in
     let same : x ≡ 8192 + (8 * e + o) = omega arith in
     let there : begins_exit (from_place x (said_lines k)) ≡ true = (kind_at v x _ (line_at v (said_lines k) x (formed v k w) some)).2 (omega arith) (omega arith) in
-    some_from 8 (has_exit_in (exits_of (said_lines k)) e) o (omega arith) (exit_named v k e o w small (omega arith) ∙ rw same at there)
+    some_from 8 (has_exit_in (exits_of (said_lines k)) e) o (omega arith) (sym (exit_claims v k e o x _ w small (omega arith) same refl).0 ∙ there)
 
 no_exits : (v : Version) (k : Packed) (e : ℕ) → IsWhole v k → e < 4096 →
     ((p : ℕ) → 8192 + 8 * e ≤ p → p < 8192 + 8 * e + 8 → from_place p (said_lines k) ≡ []) → some_below 8 (has_exit_in (exits_of (said_lines k)) e) ≡ false
 no_exits v k e w small none = some_none_of 8 (has_exit_in (exits_of (said_lines k)) e)
-    (λ o few. exit_named v k e o w small few ∙ ap begins_exit (none (8192 + (8 * e + o)) (omega arith) (omega (arith, few))))
+    (λ o few. sym (exit_claims v k e o (8192 + (8 * e + o)) _ w small few refl refl).0 ∙ ap begins_exit (none (8192 + (8 * e + o)) (omega arith) (omega (arith, few))))
 
 -- whether a routine is named is told by the next place from that of its entry on, and by that from its first exit's on
 abbrev Names : Packed → ℕ → Bool

@@ -160,11 +160,3 @@ pub fits : (v : Version) (k : Packed) (p : ℕ) (ls : List Line) → IsWhole v k
     ls ≡ from_place p (said_lines k) → FitUnderFirst ls
 fits v k p ls w at =
     let f = gathered_formed v (said_lines k) w.order in rw at (fits_first v (said_lines k) p f.facts f.exits)
-
-pub routine_named : (v : Version) (k : Packed) (e : ℕ) → IsWhole v k → e < 4096 →
-    has_routine (routines_of (said_lines k)) e ≡ begins_routine (from_place e (said_lines k))
-routine_named v k e w b = (routines_found v (said_lines k) e (formed v k w) b).0
-
-pub exit_named : (v : Version) (k : Packed) (e o : ℕ) → IsWhole v k → e < 4096 → o < 8 →
-    has_exit_in (exits_of (said_lines k)) e o ≡ begins_exit (from_place (8192 + (8 * e + o)) (said_lines k))
-exit_named v k e o w b g = (exits_found v (said_lines k) e o (formed v k w) b g).0

@@ -1,6 +1,5 @@
 -- Lines that are kept, and are found by their places.
 use Rattle.std.proofs.Common.{◌≡◌, ℕ, ◌+◌, ◌-◌, ◌<◌, ◌≤◌, true, false, List, [], ◌∷◌, ◌++◌, length, get_or, take, drop, zero, suc, refl, ap, ◌∙◌, sym, inl, inr, arith}
-use Rattle.std.specs.Prelude.{◌*◌}
 use Rattle.std.specs.List.Sorted.{IsNonDecreasingBy}
 use Rattle.std.proofs.lemmas.Bool.{eq-eqb, ne_eqb, cases_Bool}
 use Rattle.std.proofs.lemmas.List.{drop_all, length-drop, length-map}
@@ -9,7 +8,7 @@ use Rattle.certificate.specs.declared.packed.Run.{Run}
 use Rattle.certificate.specs.declared.packed.PackedLine.{PackedLine}
 use Rattle.certificate.specs.declared.packed.PackedLine.TheVariants as packed
 use Rattle.certificate.specs.declared.packed.KeptLine.{KeptLine}
-use Rattle.certificate.specs.Spelling.{Line, RoutineIs, FactIs, ExitIs, CellIs, EquationIs, End}
+use Rattle.certificate.specs.Spelling.{Line, End}
 use Rattle.certificate.specs.Packed.{Packed, said_at, kept_at, lines_in, said_lines}
 use Rattle.certificate.specs.Order.{any, is_detail, is_end, heads, place, next_place, AreInOrder}
 use Rattle.certificate.specs.Found.{newest_first, from_place, past, AreRising, last_past, ArePast, IsSought, IsNextPlace, IsWhole, Keeps, unended}

@@ -31,7 +31,7 @@ line_kept k new l before e so h =
     rw (not_end l before e)
     (ap (λ (x : List Line). newest_first [] x) so ∙ (newest_both [] (said_lines k) (l ∷ []) ∙ ap (λ (x : List Line). l ∷ x) h))
 
--- Lines in order have rising places.
+-- The places of lines in order don't fall.
 rising : (v : Version) (before ls : List Line) (n : ℕ) → Follow v before ls → n ≤ next_place (heads before) → AreRising n ls
 rising v before [] n f h = tt
 rising v before (l ∷ ls) n f h = elim (cases_Bool (is_detail l)) [

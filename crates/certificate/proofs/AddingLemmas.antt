@@ -2,16 +2,16 @@
 use Rattle.std.proofs.Common.{◌≡◌, ℕ, suc, ◌+◌, ◌≤◌, true, false, List, [], ◌∷◌, ◌++◌, length, get_or, drop, Option, Some, None, refl, ap, ◌∙◌, sym, arith, append_assoc, append-nil, length-append}
 use Rattle.std.specs.Prelude.{IfSome}
 use Rattle.std.proofs.lemmas.Bool.{true≢false}
-use Rattle.wordset.specs.Words.{Words, everything, between}
+use Rattle.wordset.specs.Words.{Words, between}
 use Rattle.domain.specs.Facts.{Equation}
-use Rattle.domain.specs.Statements.{TrackedCell, Statement, fact_of}
+use Rattle.domain.specs.Statements.{TrackedCell, Statement}
 use Rattle.certificate.specs.declared.RoutineClaim.{RoutineClaim}
 use Rattle.certificate.specs.Spelling.{RoutineLine, Line, RoutineIs, FactIs, ExitIs, CellIs, EquationIs}
 use Rattle.certificate.specs.declared.packed.Run.{Run}
 use Rattle.certificate.specs.Order.{is_detail}
 use Rattle.certificate.specs.Gathered.{cells_under, equations_under}
 use Rattle.certificate.specs.Packed.{set_of_runs}
-use Rattle.certificate.specs.Found.{with_details, begins_fact, begins_exit, begins_routine, first_fact, first_exit, fact_statement, exit_statement, FitUnderFirst, SaysFirst, IsRoutineOf}
+use Rattle.certificate.specs.Found.{with_details, begins_fact, begins_exit, begins_routine, FitUnder, SaysFirst, IsRoutineOf}
 use Rattle.certificate.specs.Adding.{with_line, HasRoomFor, HasRoomUnder, IsFactLine, IsExitLine, IsRoutineLine, SaysFactAt, SaysExitAt}
 use Rattle.std.specs.Prelude.{◌<◌, ◌-◌, ◌&&◌, take, slice_range}
 use Rattle.std.proofs.lemmas.List.{drop_more}
@@ -99,44 +99,28 @@ pub routine_first : (l : Line) (ls : List Line) → begins_routine (l ∷ []) �
 routine_first (RoutineIs r) ls = refl
 routine_first l ls = refl
 
+-- There is room after the line itself.
+room_after : (ls : List Line) → FitUnder ls → (0 + length (cells_under ls) ≤ 64) × (0 + length (equations_under ls) ≤ 32)
+room_after ls q = (omega (arith, q.0), omega (arith, q.1))
+
 -- A fact's line at a place.
-record FactSaid (l : Line) (ls : List Line) (s : Statement) (offsets : Words) : Type 0 where
-  fact : first_fact (l ∷ ls) ≡ fact_of (with_details s ls) offsets
-  statement : fact_statement (l ∷ ls) ≡ Some (with_details s ls)
-  room : FitUnderFirst (l ∷ ls) → HasRoomUnder s ls
-
-fact_said : (l : Line) (ls : List Line) (s : Statement) (offsets : Words) → IsFactLine l s offsets → FactSaid l ls s offsets
-fact_said (FactIs a r m) ls s offsets h = record {
-  fact = rw (h.0, h.1) refl;
-  statement = rw h.0 refl;
-  room = λ q. rw h.0 (let x : length (cells_under ls) ≤ 64 = q.0 in let y : length (equations_under ls) ≤ 32 = q.1 in ((omega arith), (omega arith)));
-}
-fact_said l ls s offsets h = absurd h
-
 pub fact_there : (lines : List Line) (i : ℕ) (l : Line) (s : Statement) (offsets : Words) → drop i lines ≡ l ∷ drop (i + 1) lines → IsFactLine l s offsets →
     SaysFactAt i lines s offsets
-fact_there lines i l s offsets e h =
-    let f : FactSaid l (drop (i + 1) lines) s offsets = fact_said l (drop (i + 1) lines) s offsets h in
-    record { fact = ap first_fact e ∙ f.fact; statement = ap fact_statement e ∙ f.statement; room = λ q. f.room (rw e at q) }
+fact_there lines i (FactIs a r m) s offsets e h = record {
+  fact = rw (e, h.0, h.1) refl;
+  statement = rw (e, h.0) refl;
+  room = λ q. rw h.0 (room_after (drop (i + 1) lines) (rw e at q));
+}
+fact_there lines i l s offsets e h = absurd h
 
 -- An exit's line at a place.
-record ExitSaid (l : Line) (ls : List Line) (s : Statement) : Type 0 where
-  fact : first_exit (l ∷ ls) ≡ fact_of (with_details s ls) everything
-  statement : exit_statement (l ∷ ls) ≡ Some (with_details s ls)
-  room : FitUnderFirst (l ∷ ls) → HasRoomUnder s ls
-
-exit_said : (l : Line) (ls : List Line) (s : Statement) → IsExitLine l s → ExitSaid l ls s
-exit_said (ExitIs x o r) ls s h = record {
-  fact = rw h refl;
-  statement = rw h refl;
-  room = λ q. rw h (let x : length (cells_under ls) ≤ 64 = q.0 in let y : length (equations_under ls) ≤ 32 = q.1 in ((omega arith), (omega arith)));
-}
-exit_said l ls s h = absurd h
-
 pub exit_there : (lines : List Line) (i : ℕ) (l : Line) (s : Statement) → drop i lines ≡ l ∷ drop (i + 1) lines → IsExitLine l s → SaysExitAt i lines s
-exit_there lines i l s e h =
-    let f : ExitSaid l (drop (i + 1) lines) s = exit_said l (drop (i + 1) lines) s h in
-    record { fact = ap first_exit e ∙ f.fact; statement = ap exit_statement e ∙ f.statement; room = λ q. f.room (rw e at q) }
+exit_there lines i (ExitIs x o r) s e h = record {
+  fact = rw (e, h) refl;
+  statement = rw (e, h) refl;
+  room = λ q. rw h (room_after (drop (i + 1) lines) (rw e at q));
+}
+exit_there lines i l s e h = absurd h
 
 -- A routine's line at a place.
 is_routine : (l : Line) (ls : List Line) (given : RoutineClaim) (rs : List RoutineLine) (e : ℕ) → IsRoutineLine l given → SaysFirst rs e (l ∷ ls) → IsRoutineOf rs e given

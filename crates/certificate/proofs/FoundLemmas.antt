@@ -1,6 +1,5 @@
 -- Lines that are kept, and are found by their places.
 use Rattle.std.proofs.Common.{◌≡◌, ℕ, ◌+◌, ◌-◌, ◌<◌, ◌≤◌, true, false, List, [], ◌∷◌, ◌++◌, length, get_or, take, drop, zero, suc, refl, ap, ◌∙◌, sym, inl, inr, arith}
-use Rattle.std.specs.Prelude.{◌*◌}
 use Rattle.std.specs.List.Sorted.{IsNonDecreasingBy}
 use Rattle.std.proofs.lemmas.Bool.{eq-eqb, ne_eqb, cases_Bool}
 use Rattle.std.proofs.lemmas.List.{drop_all, length-drop, length-map}
@@ -9,7 +8,7 @@ use Rattle.certificate.specs.declared.packed.Run.{Run}
 use Rattle.certificate.specs.declared.packed.PackedLine.{PackedLine}
 use Rattle.certificate.specs.declared.packed.PackedLine.TheVariants as packed
 use Rattle.certificate.specs.declared.packed.KeptLine.{KeptLine}
-use Rattle.certificate.specs.Spelling.{Line, RoutineIs, FactIs, ExitIs, CellIs, EquationIs, End}
+use Rattle.certificate.specs.Spelling.{Line, End}
 use Rattle.certificate.specs.Packed.{Packed, said_at, kept_at, lines_in, said_lines}
 use Rattle.certificate.specs.Order.{any, is_detail, is_end, heads, place, next_place, AreInOrder}
 use Rattle.certificate.specs.Found.{newest_first, from_place, past, AreRising, last_past, ArePast, IsSought, IsNextPlace, IsWhole, Keeps, unended}
@@ -32,27 +31,15 @@ line_kept k new l before e so h =
     rw (not_end l before e)
     (ap (λ (x : List Line). newest_first [] x) so ∙ (newest_both [] (said_lines k) (l ∷ []) ∙ ap (λ (x : List Line). l ∷ x) h))
 
--- Lines in order have rising places.
+-- The places of lines in order don't fall.
 rising : (v : Version) (before ls : List Line) (n : ℕ) → Follow v before ls → n ≤ next_place (heads before) → AreRising n ls
 rising v before [] n f h = tt
-rising v before (CellIs c ∷ ls) n f h = (omega arith, rising v (CellIs c ∷ before) ls n f.2 h)
-rising v before (EquationIs q ∷ ls) n f h = (omega arith, rising v (EquationIs q ∷ before) ls n f.2 h)
-rising v before (RoutineIs r ∷ ls) n f h = (
-  let o : next_place (heads before) ≤ r.entry = f.1.order in omega arith,
-  rising v (RoutineIs r ∷ before) ls (r.entry + 1) f.2 (omega arith),
-)
-rising v before (FactIs a r m ∷ ls) n f h = (
-  let o : next_place (heads before) ≤ 4096 + a = f.1.order in omega arith,
-  rising v (FactIs a r m ∷ before) ls (4096 + a + 1) f.2 (omega arith),
-)
-rising v before (ExitIs x o r ∷ ls) n f h = (
-  let o : next_place (heads before) ≤ 8192 + (8 * x + o) = f.1.order in omega arith,
-  rising v (ExitIs x o r ∷ before) ls (8192 + (8 * x + o) + 1) f.2 (omega arith),
-)
-rising v before (End ∷ ls) n f h = (
-  let o : next_place (heads before) ≤ 40960 = f.1.order in omega arith,
-  rising v (End ∷ before) ls (40960 + 1) f.2 (omega arith),
-)
+rising v before (l ∷ ls) n f h = elim (cases_Bool (is_detail l)) [
+  | inl d ↦ rw d (omega arith, rising v (l ∷ before) ls n f.2 (rw d h))
+  | inr d ↦
+      let o : next_place (heads before) ≤ place l = rw d at f.1.order in
+      rw d (omega arith, rising v (l ∷ before) ls (place l + 1) f.2 (rw d (omega arith)))
+]
 
 pub whole : (v : Version) (k : Packed) → AreInOrder v (newest_first [] (said_lines k)) → any is_end (newest_first [] (said_lines k)) ≡ false → IsWhole v k
 whole v k order no_end = record { order = order; no_end = no_end; rising = rising v [] (said_lines k) 0 (follows v [] (said_lines k) order) (omega arith) }

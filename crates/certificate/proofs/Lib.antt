@@ -23,7 +23,6 @@ pub mod ReaderLemmas
 mod NameLemmas
 pub mod SpelledLemmas
 pub mod MakerLemmas
-pub mod AddedLemmas
 pub mod PutLemmas
 pub mod FactTextLemmas
 pub mod ReadLemmas

@@ -1,6 +1,6 @@
 -- Lines added to those of a certificate.
-use Rattle.std.proofs.Common.{◌≡◌, ℕ, ◌+◌, ◌*◌, ◌<◌, ◌≤◌, true, false, List, [], ◌∷◌, ◌++◌, length, refl, ap, ◌∙◌, sym, arith, append_assoc, append-nil, length-append}
-use Rattle.std.specs.Prelude.{map, flat_map, Result, Ok, Err, OnOk}
+use Rattle.std.proofs.Common.{◌≡◌, ℕ, ◌+◌, ◌*◌, ◌<◌, ◌≤◌, Bool, true, false, List, [], ◌∷◌, ◌++◌, length, refl, ap, ◌∙◌, sym, arith, append_assoc, append-nil, length-append}
+use Rattle.std.specs.Prelude.{if◌then◌else◌, map, flat_map, Result, Ok, Err, OnOk}
 use Rattle.std.proofs.lemmas.List.{map_push, append_cancel_right}
 use Rattle.std.proofs.lemmas.List.Concat.{flat_map-append}
 use Rattle.wordset.specs.Words.{Words}
@@ -136,49 +136,41 @@ pub record Added (v : Version) (new : Packed) (c : Lines) : Type 0 where
   pub whole : IsWhole v new
   pub is : gathered v (said_lines new) ≡ c
 
--- Lines that are those of a certificate.
-added : (c : Lines) (new : Packed) → AreLines c → said_lines new ≡ body_of c → Added c.version new c
-added c new h e =
+-- Lines were added, so that all are those of a certificate, or none was.
+added : (c : Lines) (k new : Packed) (more : List Line) (b : Bool) → IsWhole c.version k → AreLines c → said_lines k ++ more ≡ body_of c →
+    said_lines new ≡ (if b then said_lines k ++ more else said_lines k) → Added c.version new (if b then c else gathered c.version (said_lines k))
+added c k new more true w h same e =
     let o = body_order c h in
-    record {
-      whole = whole c.version new (rw e o.0) (rw e o.1);
-      is = ap (gathered c.version) e ∙ gathered_body c;
-    }
+    let all : said_lines new ≡ body_of c = e ∙ same in
+    record { whole = whole c.version new (rw all o.0) (rw all o.1); is = ap (gathered c.version) all ∙ gathered_body c }
+added c k new more false w h same e = record { whole = whole c.version new (rw e w.order) (rw e w.no_end); is = ap (gathered c.version) e }
 
-pub routine_added : (v : Version) (k new : Packed) (r : RoutineLine) → IsWhole v k → r.entry < 4096 →
-    MayAddRoutine (gathered v (said_lines k)) r → said_lines new ≡ said_lines k ++ RoutineIs r ∷ [] →
-    Added v new (with_routine (gathered v (said_lines k)) r)
-routine_added v k new r w small m e =
-    added (with_routine (gathered v (said_lines k)) r) new
+pub routine_added : (v : Version) (k new : Packed) (r : RoutineLine) (b : Bool) → IsWhole v k → r.entry < 4096 →
+    MayAddRoutine (gathered v (said_lines k)) r → said_lines new ≡ (if b then said_lines k ++ RoutineIs r ∷ [] else said_lines k) →
+    Added v new (if b then with_routine (gathered v (said_lines k)) r else gathered v (said_lines k))
+routine_added v k new r b w small m =
+    added (with_routine (gathered v (said_lines k)) r) k new (RoutineIs r ∷ []) b w
     (form_routine (gathered v (said_lines k)) r small (gathered_formed v (said_lines k) w.order) m)
-    (e ∙ (ap (λ (x : List Line). x ++ RoutineIs r ∷ []) (kept_body v (said_lines k) w.order w.no_end) ∙
-    body_routine v (routines_of (said_lines k)) (facts_of (said_lines k)) (exits_of (said_lines k)) r m.facts m.exits))
+    (ap (λ (x : List Line). x ++ RoutineIs r ∷ []) (kept_body v (said_lines k) w.order w.no_end) ∙
+    body_routine v (routines_of (said_lines k)) (facts_of (said_lines k)) (exits_of (said_lines k)) r m.facts m.exits)
 
-pub fact_added : (v : Version) (k new : Packed) (f : FactLine) → IsWhole v k → f.address < 4096 →
-    MayAddFact (gathered v (said_lines k)) f → said_lines new ≡ said_lines k ++ lines_of_fact f →
-    Added v new (with_fact (gathered v (said_lines k)) f)
-fact_added v k new f w small m e =
-    added (with_fact (gathered v (said_lines k)) f) new
+pub fact_added : (v : Version) (k new : Packed) (f : FactLine) (b : Bool) → IsWhole v k → f.address < 4096 →
+    MayAddFact (gathered v (said_lines k)) f → said_lines new ≡ (if b then said_lines k ++ lines_of_fact f else said_lines k) →
+    Added v new (if b then with_fact (gathered v (said_lines k)) f else gathered v (said_lines k))
+fact_added v k new f b w small m =
+    added (with_fact (gathered v (said_lines k)) f) k new (lines_of_fact f) b w
     (form_fact (gathered v (said_lines k)) f small (gathered_formed v (said_lines k) w.order) m)
-    (e ∙ (ap (λ (x : List Line). x ++ lines_of_fact f) (kept_body v (said_lines k) w.order w.no_end) ∙
-    body_fact (routines_of (said_lines k)) (facts_of (said_lines k)) (exits_of (said_lines k)) f m.exits))
+    (ap (λ (x : List Line). x ++ lines_of_fact f) (kept_body v (said_lines k) w.order w.no_end) ∙
+    body_fact (routines_of (said_lines k)) (facts_of (said_lines k)) (exits_of (said_lines k)) f m.exits)
 
-pub exit_added : (v : Version) (k new : Packed) (x : ExitLine) → IsWhole v k → x.entry < 4096 →
-    MayAddExit (gathered v (said_lines k)) x → said_lines new ≡ said_lines k ++ lines_of_exit x →
-    Added v new (with_exit (gathered v (said_lines k)) x)
-exit_added v k new x w small m e =
-    added (with_exit (gathered v (said_lines k)) x) new
+pub exit_added : (v : Version) (k new : Packed) (x : ExitLine) (b : Bool) → IsWhole v k → x.entry < 4096 →
+    MayAddExit (gathered v (said_lines k)) x → said_lines new ≡ (if b then said_lines k ++ lines_of_exit x else said_lines k) →
+    Added v new (if b then with_exit (gathered v (said_lines k)) x else gathered v (said_lines k))
+exit_added v k new x b w small m =
+    added (with_exit (gathered v (said_lines k)) x) k new (lines_of_exit x) b w
     (form_exit (gathered v (said_lines k)) x small (gathered_formed v (said_lines k) w.order) m)
-    (e ∙ (ap (λ (y : List Line). y ++ lines_of_exit x) (kept_body v (said_lines k) w.order w.no_end) ∙
-    body_exit (routines_of (said_lines k)) (facts_of (said_lines k)) (exits_of (said_lines k)) x))
-
--- Nothing was added.
-pub none_added : (v : Version) (k new : Packed) → IsWhole v k → said_lines new ≡ said_lines k →
-    Added v new (gathered v (said_lines k))
-none_added v k new w e = record {
-  whole = whole v new (rw e w.order) (rw e w.no_end);
-  is = ap (λ (x : List Line). gathered v x) e;
-}
+    (ap (λ (y : List Line). y ++ lines_of_exit x) (kept_body v (said_lines k) w.order w.no_end) ∙
+    body_exit (routines_of (said_lines k)) (facts_of (said_lines k)) (exits_of (said_lines k)) x)
 
 -- What follows where a call succeeded.
 pub on_ok : {X E : Type 0} (r : Result X E) (P Q : Type 0) → (P → Q) → OnOk r P → OnOk r Q

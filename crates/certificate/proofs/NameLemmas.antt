@@ -13,7 +13,7 @@ use Rattle.certificate.specs.Line.{IsLine}
 use Rattle.certificate.specs.Order.{is_detail, place}
 use Rattle.certificate.specs.Gathered.{routines_of, facts_of, exits_of}
 use Rattle.certificate.specs.Found.{from_place, IsWhole, IsNextPlace, begins_routine, begins_fact, begins_exit}
-use Rattle.certificate.proofs.ReaderLemmas.{formed, routine_named, exit_named, fact_claims}
+use Rattle.certificate.proofs.ReaderLemmas.{formed, routine_claims, fact_claims, exit_claims}
 
 -- where a line has the place of a routine, that of a fact or that of an exit, it is one
 abbrev IsAt : Version → ℕ → List Line → Type 0
@@ -49,11 +49,11 @@ kind_at v p (l ∷ ls) h = absurd (true≢false h.1)
 listed_at : (v : Version) (k : Packed) (e : ℕ) → IsWhole v k → e < 4096 → (from_place e (said_lines k) ≡ [] → ⊥) →
     has_routine (routines_of (said_lines k)) e ≡ true
 listed_at v k e w small some =
-    routine_named v k e w small ∙ (kind_at v e _ (line_at v (said_lines k) e (formed v k w) some)).0 small
+    sym (routine_claims v k e _ w small refl).0 ∙ (kind_at v e _ (line_at v (said_lines k) e (formed v k w) some)).0 small
 
 not_listed : (v : Version) (k : Packed) (e : ℕ) → IsWhole v k → e < 4096 → from_place e (said_lines k) ≡ [] →
     has_routine (routines_of (said_lines k)) e ≡ false
-not_listed v k e w small none = routine_named v k e w small ∙ ap begins_routine none
+not_listed v k e w small none = sym (routine_claims v k e _ w small refl).0 ∙ ap begins_routine none
 
 -- and one at the place of an exit likewise
 exit_at : (v : Version) (k : Packed) (e x : ℕ) → IsWhole v k → e < 4096 → 8192 + 8 * e ≤ x → x < 8192 + 8 * e + 8 →
@@ -62,12 +62,12 @@ exit_at v k e x w small low high some =
     let o : ℕ = x - (8192 + 8 * e) in
     let same : x ≡ 8192 + (8 * e + o) = omega arith in
     let there : begins_exit (from_place x (said_lines k)) ≡ true = (kind_at v x _ (line_at v (said_lines k) x (formed v k w) some)).2 (omega arith) (omega arith) in
-    some_from 8 (has_exit_in (exits_of (said_lines k)) e) o (omega arith) (exit_named v k e o w small (omega arith) ∙ rw same at there)
+    some_from 8 (has_exit_in (exits_of (said_lines k)) e) o (omega arith) (sym (exit_claims v k e o x _ w small (omega arith) same refl).0 ∙ there)
 
 no_exits : (v : Version) (k : Packed) (e : ℕ) → IsWhole v k → e < 4096 →
     ((p : ℕ) → 8192 + 8 * e ≤ p → p < 8192 + 8 * e + 8 → from_place p (said_lines k) ≡ []) → some_below 8 (has_exit_in (exits_of (said_lines k)) e) ≡ false
 no_exits v k e w small none = some_none_of 8 (has_exit_in (exits_of (said_lines k)) e)
-    (λ o few. exit_named v k e o w small few ∙ ap begins_exit (none (8192 + (8 * e + o)) (omega arith) (omega (arith, few))))
+    (λ o few. sym (exit_claims v k e o (8192 + (8 * e + o)) _ w small few refl refl).0 ∙ ap begins_exit (none (8192 + (8 * e + o)) (omega arith) (omega (arith, few))))
 
 -- whether a routine is named is told by the next place from that of its entry on, and by that from its first exit's on
 abbrev Names : Packed → ℕ → Bool
@@ -75,8 +75,7 @@ Names k e = has_routine (routines_of (said_lines k)) e || some_below 8 (has_exit
 
 pub named_first : (v : Version) (k : Packed) (e r : ℕ) → IsWhole v k → e < 4096 → IsNextPlace (said_lines k) e r → r ≡ e → Names k e ≡ true
 named_first v k e r w small next same =
-    or_left (has_routine (routines_of (said_lines k)) e) (some_below 8 (has_exit_in (exits_of (said_lines k)) e))
-    (listed_at v k e w small (rw same at (next.there (omega arith))))
+    or_left _ _ (listed_at v k e w small (rw same at (next.there (omega arith))))
 
 pub named_later : (v : Version) (k : Packed) (e r x : ℕ) → IsWhole v k → e < 4096 → IsNextPlace (said_lines k) e r → (r ≡ e → ⊥) →
     IsNextPlace (said_lines k) (8192 + 8 * e) x → ltb x (8192 + 8 * e + 8) ≡ Names k e
@@ -98,18 +97,6 @@ fact_at v k a w small some =
     sym (fact_claims v k a (from_place (4096 + a) (said_lines k)) w small refl).0 ∙
     (kind_at v (4096 + a) _ (line_at v (said_lines k) (4096 + a) (formed v k w) some)).1 (omega arith) (omega arith)
 
--- what a search for the next line of each kind tells of an address before all three
-unclaimed : (v : Version) (k : Packed) (from a r f x : ℕ) → IsWhole v k → from ≤ a → a < 4096 →
-    IsNextPlace (said_lines k) from r → IsNextPlace (said_lines k) (4096 + from) f → IsNextPlace (said_lines k) (8192 + 8 * from) x →
-    a < r → 4096 + a < f → 8192 + 8 * a + 8 ≤ x → Claimed k a ≡ false
-unclaimed v k from a r f x w late small routine fact exit under_r under_f under_x =
-    let no_routine : has_routine (routines_of (said_lines k)) a ≡ false = not_listed v k a w small (routine.before a late under_r) in
-    let no_fact : has_fact_in (facts_of (said_lines k)) a ≡ false =
-    sym (fact_claims v k a (from_place (4096 + a) (said_lines k)) w small refl).0 ∙ ap begins_fact (fact.before (4096 + a) (omega arith) under_f) in
-    let no_exit : some_below 8 (has_exit_in (exits_of (said_lines k)) a) ≡ false =
-    no_exits v k a w small (λ p low high. exit.before p (omega arith) (omega arith)) in
-    rw (no_routine, no_fact, no_exit) refl
-
 -- the least of three numbers
 pub record IsLeast (r f x least : ℕ) : Type 0 where
   pub under_r : least ≤ r
@@ -128,61 +115,59 @@ least_of r f x m least e h = record {
   ];
 }
 
-claimed_there : (v : Version) (k : Packed) (from r f x g y least : ℕ) → IsWhole v k →
-    IsNextPlace (said_lines k) from r → IsNextPlace (said_lines k) (4096 + from) f → IsNextPlace (said_lines k) (8192 + 8 * from) x →
-    f ≡ 4096 + g → 8192 + 8 * y ≤ x → x < 8192 + 8 * y + 8 → IsLeast r g y least → least < 4096 → Claimed k least ≡ true
-claimed_there v k from r f x g y least w routine fact exit same low high l small =
-    let R : Bool = has_routine (routines_of (said_lines k)) least in
-    let F : Bool = has_fact_in (facts_of (said_lines k)) least in
-    let E : Bool = some_below 8 (has_exit_in (exits_of (said_lines k)) least) in
-    elim l.one [
-      | inl e ↦ or_left R (F || E) (listed_at v k least w small (rw (← e) at (routine.there (omega arith))))
-      | inr o ↦ or_right R (F || E) (elim o [
-        | inl e ↦ or_left F E (fact_at v k least w small (let z : f ≡ 4096 + least = omega arith in rw z at (fact.there (omega arith))))
-        | inr e ↦ or_right F E (exit_at v k least x w small (omega arith) (omega arith) (exit.there (omega arith)))
-      ])
-    ]
-
 -- an address that has a fact is the next one from itself on
 pub fact_is_claimed : (v : Version) (k : Packed) (from f : ℕ) → IsWhole v k → from < 4096 →
     IsNextPlace (said_lines k) (4096 + from) f → f ≡ 4096 + from → IsFirstFrom from (Claimed k) from
-fact_is_claimed v k from f w small fact same =
-    let R : Bool = has_routine (routines_of (said_lines k)) from in
-    let F : Bool = has_fact_in (facts_of (said_lines k)) from in
-    let E : Bool = some_below 8 (has_exit_in (exits_of (said_lines k)) from) in
-    record {
-      small = small;
-      reached = omega arith;
-      within = or_right R (F || E) (or_left F E (fact_at v k from w small (rw same at (fact.there (omega arith)))));
-      before = λ u late under. absurd (omega arith);
-    }
+fact_is_claimed v k from f w small fact same = record {
+  small = small;
+  reached = omega arith;
+  within = or_right _ _ (or_left _ _ (fact_at v k from w small (rw same at (fact.there (omega arith)))));
+  before = λ u late under. absurd (omega arith);
+}
 
--- the least of the three is the next address at which something is claimed
-pub next_is_claimed : (v : Version) (k : Packed) (from r f x g y least : ℕ) → IsWhole v k →
-    IsNextPlace (said_lines k) from r → IsNextPlace (said_lines k) (4096 + from) f → IsNextPlace (said_lines k) (8192 + 8 * from) x →
-    f ≡ 4096 + g → 8192 + 8 * y ≤ x → x < 8192 + 8 * y + 8 → IsLeast r g y least → least < 4096 →
-    IsFirstFrom from (Claimed k) least
-next_is_claimed v k from r f x g y least w routine fact exit same low high l small =
-    let a : from ≤ r = routine.reached in
-    let b : 4096 + from ≤ f = fact.reached in
-    let c : 8192 + 8 * from ≤ x = exit.reached in
-    let d : least ≤ r = l.under_r in
-    let e : least ≤ g = l.under_f in
-    let i : least ≤ y = l.under_x in
-    record {
-      small = small;
-      reached = elim l.one [ inl z ↦ omega arith | inr o ↦ elim o [ inl z ↦ omega arith | inr z ↦ omega arith ] ];
-      within = claimed_there v k from r f x g y least w routine fact exit same low high l small;
-      before = λ u late under. unclaimed v k from u r f x w late (omega arith) routine fact exit (omega arith) (omega arith) (omega arith);
-    }
+-- the next line of each kind, the addresses of their facts and exits, and the least of the three
+module _ (v : Version) (k : Packed) (from r f x g y least : ℕ) (w : IsWhole v k) (routine : IsNextPlace (said_lines k) from r)
+    (fact : IsNextPlace (said_lines k) (4096 + from) f) (exit : IsNextPlace (said_lines k) (8192 + 8 * from) x) (same : f ≡ 4096 + g)
+    (low : 8192 + 8 * y ≤ x) (l : IsLeast r g y least) where
+  unclaimed : (a : ℕ) → from ≤ a → a < least → a < 4096 → Claimed k a ≡ false
+  unclaimed a late under small =
+      let d : least ≤ r = l.under_r in
+      let e : least ≤ g = l.under_f in
+      let i : least ≤ y = l.under_x in
+      let no_fact : has_fact_in (facts_of (said_lines k)) a ≡ false =
+      sym (fact_claims v k a _ w small refl).0 ∙ ap begins_fact (fact.before (4096 + a) (omega arith) (omega arith)) in
+      rw (
+        not_listed v k a w small (routine.before a late (omega arith)),
+        no_fact,
+        no_exits v k a w small (λ p below above. exit.before p (omega arith) (omega arith)),
+      ) refl
 
--- where it is past all addresses nothing is claimed
-pub none_is_claimed : (v : Version) (k : Packed) (from r f x g y least : ℕ) → IsWhole v k →
-    IsNextPlace (said_lines k) from r → IsNextPlace (said_lines k) (4096 + from) f → IsNextPlace (said_lines k) (8192 + 8 * from) x →
-    f ≡ 4096 + g → 8192 + 8 * y ≤ x → IsLeast r g y least → 4096 ≤ least →
-    HasNoneFrom from (Claimed k)
-none_is_claimed v k from r f x g y least w routine fact exit same low l large u late under =
-    let d : least ≤ r = l.under_r in
-    let e : least ≤ g = l.under_f in
-    let i : least ≤ y = l.under_x in
-    unclaimed v k from u r f x w late under routine fact exit (omega arith) (omega arith) (omega arith)
+  claimed_there : x < 8192 + 8 * y + 8 → least < 4096 → Claimed k least ≡ true
+  claimed_there high small =
+      let R : Bool = has_routine (routines_of (said_lines k)) least in
+      let F : Bool = has_fact_in (facts_of (said_lines k)) least in
+      let E : Bool = some_below 8 (has_exit_in (exits_of (said_lines k)) least) in
+      elim l.one [
+        | inl e ↦ or_left R (F || E) (listed_at v k least w small (rw (← e) at (routine.there (omega arith))))
+        | inr o ↦ or_right R (F || E) (elim o [
+          | inl e ↦ or_left F E (fact_at v k least w small (let z : f ≡ 4096 + least = omega arith in rw z at (fact.there (omega arith))))
+          | inr e ↦ or_right F E (exit_at v k least x w small (omega arith) (omega arith) (exit.there (omega arith)))
+        ])
+      ]
+
+  -- it is the next address at which something is claimed
+  pub next_is_claimed : x < 8192 + 8 * y + 8 → least < 4096 → IsFirstFrom from (Claimed k) least
+  next_is_claimed high small =
+      let a : from ≤ r = routine.reached in
+      let b : 4096 + from ≤ f = fact.reached in
+      let c : 8192 + 8 * from ≤ x = exit.reached in
+      record {
+        small = small;
+        reached = elim l.one [ inl z ↦ omega arith | inr o ↦ elim o [ inl z ↦ omega arith | inr z ↦ omega arith ] ];
+        within = claimed_there high small;
+        before = λ u late under. unclaimed u late under (omega arith);
+      }
+
+  -- where it is past all addresses nothing is claimed
+  pub none_is_claimed : 4096 ≤ least → HasNoneFrom from (Claimed k)
+  none_is_claimed large u late under = unclaimed u late (omega arith) under

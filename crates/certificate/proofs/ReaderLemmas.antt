@@ -1,6 +1,7 @@
 -- What the lines at a place say is what the certificate claims.
 use Rattle.std.proofs.Common.{◌≡◌, ℕ, ◌+◌, ◌*◌, ◌<◌, ◌≤◌, ◌==◌, Bool, true, false, List, [], ◌∷◌, refl, sym, inl, inr, arith}
 use Rattle.std.specs.Prelude.{if◌then◌else◌, Option, Some, None, IfSome}
+use Rattle.std.proofs.lemmas.Bool.{ne_eqb}
 use Rattle.std.proofs.lemmas.Bool.Decides.{eqb_tells}
 use Rattle.certificate.specs.declared.Version.{Version}
 use Rattle.certificate.specs.Packed.{Packed, said_lines}
@@ -18,10 +19,6 @@ tests_alike a b c d to from = elim (eqb_tells a b) [
   | inl t ↦ elim (eqb_tells c d) [ inl u ↦ rw (t.0, u.0) refl | inr u ↦ absurd (u.1 (to t.1)) ]
   | inr t ↦ elim (eqb_tells c d) [ inl u ↦ absurd (t.1 (from u.1)) | inr u ↦ rw (t.0, u.0) refl ]
 ]
-
--- Numbers that differ.
-pub untrue : (a b : ℕ) → (a ≡ b → ⊥) → (a == b) ≡ false
-untrue a b n = elim (eqb_tells a b) [ inl t ↦ absurd (n t.1) | inr t ↦ t.0 ]
 
 routines_found : (v : Version) (ls : List Line) (e : ℕ) → Each (IsLine v) ls → e < 4096 →
     (has_routine (routines_of ls) e ≡ begins_routine (from_place e ls)) × SaysFirst (routines_of ls) e (from_place e ls)
@@ -41,34 +38,34 @@ routines_found v (RoutineIs r ∷ ls) e h b = elim (eqb_tells r.entry e) [
         later (RoutineIs q ∷ rest) s = record { rank = rw f s.rank; sites = rw f s.sites; writes = rw f s.writes }
         later [] s = tt
         later (l ∷ rest) s = tt
-routines_found v (FactIs a r m ∷ ls) e h b = rw (untrue (4096 + a) e (λ q. omega arith)) (routines_found v ls e h.1 b)
-routines_found v (ExitIs x o r ∷ ls) e h b = rw (untrue (8192 + (8 * x + o)) e (λ q. omega arith)) (routines_found v ls e h.1 b)
+routines_found v (FactIs a r m ∷ ls) e h b = rw (ne_eqb (4096 + a) e (λ q. omega arith)) (routines_found v ls e h.1 b)
+routines_found v (ExitIs x o r ∷ ls) e h b = rw (ne_eqb (8192 + (8 * x + o)) e (λ q. omega arith)) (routines_found v ls e h.1 b)
 routines_found v (CellIs c ∷ ls) e h b = routines_found v ls e h.1 b
 routines_found v (EquationIs q ∷ ls) e h b = routines_found v ls e h.1 b
-routines_found v (End ∷ ls) e h b = rw (untrue 40960 e (λ q. omega arith)) (routines_found v ls e h.1 b)
+routines_found v (End ∷ ls) e h b = rw (ne_eqb 40960 e (λ q. omega arith)) (routines_found v ls e h.1 b)
 
 facts_found : (v : Version) (ls : List Line) (a : ℕ) → Each (IsLine v) ls → a < 4096 →
     (has_fact_in (facts_of ls) a ≡ begins_fact (from_place (4096 + a) ls)) × (fact_in (facts_of ls) a ≡ first_fact (from_place (4096 + a) ls)) ×
     (statement_in (facts_of ls) a ≡ fact_statement (from_place (4096 + a) ls))
 facts_found v [] a h b = (refl, refl, refl)
 facts_found v (RoutineIs r ∷ ls) a h b =
-    rw (untrue r.entry (4096 + a) (λ q. let z : r.entry < 4096 = h.0.entry in omega arith)) (facts_found v ls a h.1 b)
+    rw (ne_eqb r.entry (4096 + a) (λ q. let z : r.entry < 4096 = h.0.entry in omega arith)) (facts_found v ls a h.1 b)
 facts_found v (FactIs x r m ∷ ls) a h b =
     rw (tests_alike (4096 + x) (4096 + a) x a (λ q. omega arith) (λ q. omega arith)) (elim (eqb_tells x a) [
       | inl t ↦ rw t.0 (refl, refl, refl)
       | inr t ↦ rw t.0 (facts_found v ls a h.1 b)
     ])
-facts_found v (ExitIs x o r ∷ ls) a h b = rw (untrue (8192 + (8 * x + o)) (4096 + a) (λ q. omega arith)) (facts_found v ls a h.1 b)
+facts_found v (ExitIs x o r ∷ ls) a h b = rw (ne_eqb (8192 + (8 * x + o)) (4096 + a) (λ q. omega arith)) (facts_found v ls a h.1 b)
 facts_found v (CellIs c ∷ ls) a h b = facts_found v ls a h.1 b
 facts_found v (EquationIs q ∷ ls) a h b = facts_found v ls a h.1 b
-facts_found v (End ∷ ls) a h b = rw (untrue 40960 (4096 + a) (λ q. omega arith)) (facts_found v ls a h.1 b)
+facts_found v (End ∷ ls) a h b = rw (ne_eqb 40960 (4096 + a) (λ q. omega arith)) (facts_found v ls a h.1 b)
 
 -- The test of an exit is that of its place.
 exit_test : (x o e p : ℕ) → o < 8 → p < 8 → (8192 + (8 * x + o) == 8192 + (8 * e + p)) ≡ (if x == e then o == p else false)
 exit_test x o e p h g = elim (eqb_tells x e) [
   | inl t ↦ rw t.0 (tests_alike (8192 + (8 * x + o)) (8192 + (8 * e + p)) o p
       (λ q. let z : x ≡ e = t.1 in omega arith) (λ q. let z : x ≡ e = t.1 in omega arith))
-  | inr t ↦ rw t.0 (untrue (8192 + (8 * x + o)) (8192 + (8 * e + p)) (λ q. t.1 (omega arith)))
+  | inr t ↦ rw t.0 (ne_eqb (8192 + (8 * x + o)) (8192 + (8 * e + p)) (λ q. t.1 (omega arith)))
 ]
 
 exits_found : (v : Version) (ls : List Line) (e p : ℕ) → Each (IsLine v) ls → e < 4096 → p < 8 →
@@ -77,9 +74,9 @@ exits_found : (v : Version) (ls : List Line) (e p : ℕ) → Each (IsLine v) ls 
     (exit_statement_in (exits_of ls) e p ≡ exit_statement (from_place (8192 + (8 * e + p)) ls))
 exits_found v [] e p h b g = (refl, refl, refl)
 exits_found v (RoutineIs r ∷ ls) e p h b g =
-    rw (untrue r.entry (8192 + (8 * e + p)) (λ q. let z : r.entry < 4096 = h.0.entry in omega arith)) (exits_found v ls e p h.1 b g)
+    rw (ne_eqb r.entry (8192 + (8 * e + p)) (λ q. let z : r.entry < 4096 = h.0.entry in omega arith)) (exits_found v ls e p h.1 b g)
 exits_found v (FactIs x r m ∷ ls) e p h b g =
-    rw (untrue (4096 + x) (8192 + (8 * e + p)) (λ q. let z : x < 4096 = h.0.0 in omega arith)) (exits_found v ls e p h.1 b g)
+    rw (ne_eqb (4096 + x) (8192 + (8 * e + p)) (λ q. let z : x < 4096 = h.0.0 in omega arith)) (exits_found v ls e p h.1 b g)
 exits_found v (ExitIs x o r ∷ ls) e p h b g =
     rw (exit_test x o e p h.0.1 g) (go (if x == e then o == p else false) (exits_found v ls e p h.1 b g))
   where
@@ -96,13 +93,13 @@ exits_found v (ExitIs x o r ∷ ls) e p h b g =
     go false i = i
 exits_found v (CellIs c ∷ ls) e p h b g = exits_found v ls e p h.1 b g
 exits_found v (EquationIs q ∷ ls) e p h b g = exits_found v ls e p h.1 b g
-exits_found v (End ∷ ls) e p h b g = rw (untrue 40960 (8192 + (8 * e + p)) (λ q. omega arith)) (exits_found v ls e p h.1 b g)
+exits_found v (End ∷ ls) e p h b g = rw (ne_eqb 40960 (8192 + (8 * e + p)) (λ q. omega arith)) (exits_found v ls e p h.1 b g)
 
 -- No exit is by an offset past 7.
 no_exit : (v : Version) (xs : List ExitLine) (e p : ℕ) → Each (IsExit v) xs → 8 ≤ p → has_exit_in xs e p ≡ false
 no_exit v [] e p h g = refl
 no_exit v (x ∷ xs) e p h g =
-    rw (untrue x.offset p (λ q. let z : x.offset < 8 = h.0.offset in omega arith)) (go (x.entry == e) (no_exit v xs e p h.1 g))
+    rw (ne_eqb x.offset p (λ q. let z : x.offset < 8 = h.0.offset in omega arith)) (go (x.entry == e) (no_exit v xs e p h.1 g))
   where
     go : (d : Bool) → has_exit_in xs e p ≡ false → (if (if d then false else false) then true else has_exit_in xs e p) ≡ false
     go true i = i
@@ -163,11 +160,3 @@ pub fits : (v : Version) (k : Packed) (p : ℕ) (ls : List Line) → IsWhole v k
     ls ≡ from_place p (said_lines k) → FitUnderFirst ls
 fits v k p ls w at =
     let f = gathered_formed v (said_lines k) w.order in rw at (fits_first v (said_lines k) p f.facts f.exits)
-
-pub routine_named : (v : Version) (k : Packed) (e : ℕ) → IsWhole v k → e < 4096 →
-    has_routine (routines_of (said_lines k)) e ≡ begins_routine (from_place e (said_lines k))
-routine_named v k e w b = (routines_found v (said_lines k) e (formed v k w) b).0
-
-pub exit_named : (v : Version) (k : Packed) (e o : ℕ) → IsWhole v k → e < 4096 → o < 8 →
-    has_exit_in (exits_of (said_lines k)) e o ≡ begins_exit (from_place (8192 + (8 * e + o)) (said_lines k))
-exit_named v k e o w b g = (exits_found v (said_lines k) e o (formed v k w) b g).0

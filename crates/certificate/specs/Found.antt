@@ -35,7 +35,7 @@ from_place p (l ∷ ls) = if is_detail l then from_place p ls else (if place l =
 abbrev pub past : ℕ → Line → ℕ
 past n l = if is_detail l then n else place l + 1
 
--- The lines that aren't details have rising places, from a number on.
+-- The places of the lines that aren't details don't fall, where this is the least place after those before.
 abbrev pub AreRising : ℕ → List Line → Type 0
 AreRising n [] = Unit {0}
 AreRising n (l ∷ ls) = (n ≤ past n l) × AreRising (past n l) ls
@@ -72,7 +72,7 @@ pub record IsNextPlace (ls : List Line) (from next : ℕ) : Type 0 where
 abbrev pub Keeps : Packed → List Line → Type 0
 Keeps k before = newest_first [] (said_lines k) ≡ before
 
--- The lines that are kept are in order, and the end isn't among them.
+-- The lines that are kept are in order, so their places don't fall, and the end isn't among them.
 pub record IsWhole (v : Version) (k : Packed) : Type 0 where
   pub order : AreInOrder v (newest_first [] (said_lines k))
   pub no_end : any is_end (newest_first [] (said_lines k)) ≡ false

@@ -11,8 +11,9 @@ returns-then-least-lt4096 g c =
     let same : c.from_index-then-least-lt4096.result ≡ c.min-least.result = (let z = c.if-least-lt4096.true in omega (arith, c.from_index-then-least-lt4096.ensures)) in
     rw (← c.self.view_is, same)
     (next_is_claimed c.self.inside.version c.self.inside.kept c.args.from c.next_place-routine.result f x (f - 4096) ((x - 8192) / 8) c.min-least.result c.self.invariant
-    c.next_place-routine.ensures c.next_place-fact.ensures c.next_place.ensures (omega arith) (omega arith) (omega arith)
-    (least_of c.next_place-routine.result (f - 4096) ((x - 8192) / 8) c.min.result c.min-least.result c.min.ensures c.min-least.ensures) c.if-least-lt4096.true)
+    c.next_place-routine.ensures c.next_place-fact.ensures c.next_place.ensures (omega arith) (omega arith)
+    (least_of c.next_place-routine.result (f - 4096) ((x - 8192) / 8) c.min.result c.min-least.result c.min.ensures c.min-least.ensures) (omega arith)
+    c.if-least-lt4096.true)
 
 pub returns-else-least-lt4096 : goal.returns-else-least-lt4096
 returns-else-least-lt4096 g c =

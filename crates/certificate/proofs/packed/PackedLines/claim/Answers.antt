@@ -1,4 +1,4 @@
-use Rattle.std.proofs.Common.{◌∙◌, List, ap, length}
+use Rattle.std.proofs.Common.{◌∙◌, List, ap, arith}
 use Rattle.certificate.specs.declared.packed.KeptLine.{KeptLine}
 use Rattle.certificate.specs.Packed.{lines_in}
 use Rattle.certificate.proofs.PutLemmas.{any_err}
@@ -21,10 +21,10 @@ invariant_of-self-2 g c = record {
   within =
       all_within c.self.inside.runs.items c.pack.new.runs.items c.self.inside.list.items c.push.new.self.items
       (record { first = c.in_ok-first.first; past = c.past-past.result; line = c.in_ok-line.line }) (claimed_line c.args.claim.now)
-      c.self.invariant.within c.pack.ensures.front (c.in_ok-first.ensures ∙ ap length c.deref.ensures.value) c.in_ok-line.ensures.packed c.in_ok-push.ensures.items;
+      c.self.invariant.within c.pack.ensures.front (omega (arith, c.in_ok-first.ensures, c.len.ensures)) c.in_ok-line.ensures.packed c.in_ok-push.ensures.items;
   past = rw c.in_ok-push.ensures.items
       (past_added c.self.inside.list.items 0 (record { first = c.in_ok-first.first; past = c.past-past.result; line = c.in_ok-line.line })
-      c.self.invariant.past (rw c.deref-2.ensures.value at c.past-past.ensures));
+      c.self.invariant.past (rw c.deref.ensures.value at c.past-past.ensures));
 }
 
 pub returns-clause-added : goal.returns-clause-added
@@ -32,4 +32,4 @@ returns-clause-added g c =
     rw (← c.self.view_is)
     (line_added c.self.inside.runs.items c.pack.new.runs.items c.self.inside.list.items c.push.new.self.items
     (record { first = c.in_ok-first.first; past = c.past-past.result; line = c.in_ok-line.line }) (claimed_line c.args.claim.now)
-    c.self.invariant.within c.pack.ensures.front (c.in_ok-first.ensures ∙ ap length c.deref.ensures.value) c.in_ok-line.ensures.packed c.in_ok-push.ensures.items)
+    c.self.invariant.within c.pack.ensures.front (omega (arith, c.in_ok-first.ensures, c.len.ensures)) c.in_ok-line.ensures.packed c.in_ok-push.ensures.items)

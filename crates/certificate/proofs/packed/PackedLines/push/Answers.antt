@@ -1,4 +1,4 @@
-use Rattle.std.proofs.Common.{◌∙◌, List, ap, length}
+use Rattle.std.proofs.Common.{◌∙◌, List, ap, arith}
 use Rattle.certificate.specs.declared.packed.KeptLine.{KeptLine}
 use Rattle.certificate.specs.Packed.{said_at, lines_in}
 use Rattle.certificate.proofs.PutLemmas.{any_err}
@@ -16,11 +16,11 @@ invariant_of-self-2 g c = record {
   within =
       all_within c.self.inside.runs.items c.extend_from_slice.new.self.items c.self.inside.list.items c.push.new.self.items
       (record { first = c.in_ok-first.first; past = c.past-past.result; line = c.args.line.now }) (said_at c.args.runs.now c.args.line.now)
-      c.self.invariant.within (c.args.runs.now, c.in_ok-extend_from_slice.ensures.items) (c.in_ok-first.ensures ∙ ap length c.deref.ensures.value)
+      c.self.invariant.within (c.args.runs.now, c.in_ok-extend_from_slice.ensures.items) (omega (arith, c.in_ok-first.ensures, c.len.ensures))
       (packed_after c.self.inside.runs.items c.extend_from_slice.new.self.items c.args.runs.now c.args.line.now c.in_ok-extend_from_slice.ensures.items c.requires) c.in_ok-push.ensures.items;
   past = rw c.in_ok-push.ensures.items
       (past_added c.self.inside.list.items 0 (record { first = c.in_ok-first.first; past = c.past-past.result; line = c.args.line.now })
-      c.self.invariant.past (rw c.deref-2.ensures.value at c.past-past.ensures));
+      c.self.invariant.past (rw c.deref.ensures.value at c.past-past.ensures));
 }
 
 pub returns-clause-added : goal.returns-clause-added
@@ -28,5 +28,5 @@ returns-clause-added g c =
     rw (← c.self.view_is)
     (line_added c.self.inside.runs.items c.extend_from_slice.new.self.items c.self.inside.list.items c.push.new.self.items
     (record { first = c.in_ok-first.first; past = c.past-past.result; line = c.args.line.now }) (said_at c.args.runs.now c.args.line.now)
-    c.self.invariant.within (c.args.runs.now, c.in_ok-extend_from_slice.ensures.items) (c.in_ok-first.ensures ∙ ap length c.deref.ensures.value)
+    c.self.invariant.within (c.args.runs.now, c.in_ok-extend_from_slice.ensures.items) (omega (arith, c.in_ok-first.ensures, c.len.ensures))
     (packed_after c.self.inside.runs.items c.extend_from_slice.new.self.items c.args.runs.now c.args.line.now c.in_ok-extend_from_slice.ensures.items c.requires) c.in_ok-push.ensures.items)

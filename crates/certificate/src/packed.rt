@@ -97,56 +97,11 @@ const MOST_RUNS: usize = 4096;
 /// The runs of a line's sets.
 pub type Runs = ArrayVec<Run, MOST_RUNS>;
 
-/// Which one of all runs, in six bytes: no memory holds 2^48 of them.
-#[derive(Clone, Copy)]
-pub struct Index {
-    low: u16,
-    middle: u16,
-    high: u16,
-}
-
-impl Model for Index {
-    ghost use Rattle.std.specs.Prelude.{ℕ, ◌+◌, ◌*◌, ◌/◌, ◌%◌, ◌<◌};
-
-    ghost Value = { ℕ };
-
-    ghost view = { λ i. i.low + 65536 * i.middle + 4294967296 * i.high };
-
-    ghost invariant = { λ i. (i.low < 65536) × (i.middle < 65536) };
-
-    ghost inverse = { λ n. record { low = n % 65536; middle = n / 65536 % 65536; high = n / 4294967296 } };
-}
-
-impl Index {
-    /// This one.
-    fn new(index: usize) -> Result<Index, AllocError>
-        ensures { IfOk result (λ i. i ≡ index) }
-    {
-        if index >= 1 << 48 {
-            return Err(AllocError);
-        }
-        Ok(Index {
-            low: (index % 65536) as u16,
-            middle: (index / 65536 % 65536) as u16,
-            high: (index / 4_294_967_296) as u16,
-        })
-    }
-
-    /// It as a number.
-    fn get(self) -> usize
-        ensures { result ≡ self }
-    {
-        usize::from(self.low)
-            + 65536 * usize::from(self.middle)
-            + 4_294_967_296 * usize::from(self.high)
-    }
-}
-
 /// A line, which one of all runs is the first of its own, and the least place after it; a detail has
 /// that of the line that it says more of. So lines are found by their places.
 #[derive(Clone, Copy)]
 pub struct KeptLine {
-    first: Index,
+    first: usize,
     past: u16,
     line: PackedLine,
 }
@@ -562,7 +517,7 @@ impl<A: Allocator> PackedLines<A> {
         ensures within { LiesWithin (length result.0.now) result.1.now }
     {
         let kept = &self.list[at];
-        (&self.runs[kept.first.get()..], &kept.line)
+        (&self.runs[kept.first..], &kept.line)
     }
 
     /// Adds a line that was read, or leaves what is said as it is.
@@ -572,7 +527,7 @@ impl<A: Allocator> PackedLines<A> {
             (said_lines self.new ≡ said_lines self.old ++ said_at runs.now line.now ∷ []) }
         ensures same { OnErr result (said_lines self.new ≡ said_lines self.old) }
     {
-        let first = Index::new(self.runs.len())?;
+        let first = self.runs.len();
         let past = past(&self.list, line);
         self.runs.extend_from_slice(runs)?;
         self.list.push(KeptLine {
@@ -589,7 +544,7 @@ impl<A: Allocator> PackedLines<A> {
             (said_lines self.new ≡ said_lines self.old ++ claimed_line claim.now ∷ []) }
         ensures same { OnErr result (said_lines self.new ≡ said_lines self.old) }
     {
-        let first = Index::new(self.runs.len())?;
+        let first = self.runs.len();
         let line = pack(&mut self.runs, claim)?;
         let past = past(&self.list, &line);
         self.list.push(KeptLine { first, past, line })?;

@@ -20,10 +20,10 @@ pub invariant_of-self-2 : goal.invariant_of-self-2
 invariant_of-self-2 g c = record {
   within =
       all_within c.self.inside.runs.items c.pack.new.runs.items c.self.inside.list.items c.push.new.self.items
-      (record { first = c.in_ok-first.first; past = c.past-past.result; line = c.in_ok-line.line }) (claimed_line c.args.claim.now)
-      c.self.invariant.within c.pack.ensures.front (omega (arith, c.in_ok-first.ensures, c.len.ensures)) c.in_ok-line.ensures.packed c.in_ok-push.ensures.items;
+      (record { first = c.len-first.result; past = c.past-past.result; line = c.in_ok-line.line }) (claimed_line c.args.claim.now)
+      c.self.invariant.within c.pack.ensures.front (omega (arith, c.len-first.ensures, c.self.inside.runs.ok.0)) c.in_ok-line.ensures.packed c.in_ok-push.ensures.items;
   past = rw c.in_ok-push.ensures.items
-      (past_added c.self.inside.list.items 0 (record { first = c.in_ok-first.first; past = c.past-past.result; line = c.in_ok-line.line })
+      (past_added c.self.inside.list.items 0 (record { first = c.len-first.result; past = c.past-past.result; line = c.in_ok-line.line })
       c.self.invariant.past (rw c.deref.ensures.value at c.past-past.ensures));
 }
 
@@ -31,5 +31,5 @@ pub returns-clause-added : goal.returns-clause-added
 returns-clause-added g c =
     rw (← c.self.view_is)
     (line_added c.self.inside.runs.items c.pack.new.runs.items c.self.inside.list.items c.push.new.self.items
-    (record { first = c.in_ok-first.first; past = c.past-past.result; line = c.in_ok-line.line }) (claimed_line c.args.claim.now)
-    c.self.invariant.within c.pack.ensures.front (omega (arith, c.in_ok-first.ensures, c.len.ensures)) c.in_ok-line.ensures.packed c.in_ok-push.ensures.items)
+    (record { first = c.len-first.result; past = c.past-past.result; line = c.in_ok-line.line }) (claimed_line c.args.claim.now)
+    c.self.invariant.within c.pack.ensures.front (omega (arith, c.len-first.ensures, c.self.inside.runs.ok.0)) c.in_ok-line.ensures.packed c.in_ok-push.ensures.items)

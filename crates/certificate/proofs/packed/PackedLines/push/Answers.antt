@@ -15,11 +15,11 @@ pub invariant_of-self-2 : goal.invariant_of-self-2
 invariant_of-self-2 g c = record {
   within =
       all_within c.self.inside.runs.items c.extend_from_slice.new.self.items c.self.inside.list.items c.push.new.self.items
-      (record { first = c.in_ok-first.first; past = c.past-past.result; line = c.args.line.now }) (said_at c.args.runs.now c.args.line.now)
-      c.self.invariant.within (c.args.runs.now, c.in_ok-extend_from_slice.ensures.items) (omega (arith, c.in_ok-first.ensures, c.len.ensures))
+      (record { first = c.len-first.result; past = c.past-past.result; line = c.args.line.now }) (said_at c.args.runs.now c.args.line.now)
+      c.self.invariant.within (c.args.runs.now, c.in_ok-extend_from_slice.ensures.items) (omega (arith, c.len-first.ensures, c.self.inside.runs.ok.0))
       (packed_after c.self.inside.runs.items c.extend_from_slice.new.self.items c.args.runs.now c.args.line.now c.in_ok-extend_from_slice.ensures.items c.requires) c.in_ok-push.ensures.items;
   past = rw c.in_ok-push.ensures.items
-      (past_added c.self.inside.list.items 0 (record { first = c.in_ok-first.first; past = c.past-past.result; line = c.args.line.now })
+      (past_added c.self.inside.list.items 0 (record { first = c.len-first.result; past = c.past-past.result; line = c.args.line.now })
       c.self.invariant.past (rw c.deref.ensures.value at c.past-past.ensures));
 }
 
@@ -27,6 +27,6 @@ pub returns-clause-added : goal.returns-clause-added
 returns-clause-added g c =
     rw (← c.self.view_is)
     (line_added c.self.inside.runs.items c.extend_from_slice.new.self.items c.self.inside.list.items c.push.new.self.items
-    (record { first = c.in_ok-first.first; past = c.past-past.result; line = c.args.line.now }) (said_at c.args.runs.now c.args.line.now)
-    c.self.invariant.within (c.args.runs.now, c.in_ok-extend_from_slice.ensures.items) (omega (arith, c.in_ok-first.ensures, c.len.ensures))
+    (record { first = c.len-first.result; past = c.past-past.result; line = c.args.line.now }) (said_at c.args.runs.now c.args.line.now)
+    c.self.invariant.within (c.args.runs.now, c.in_ok-extend_from_slice.ensures.items) (omega (arith, c.len-first.ensures, c.self.inside.runs.ok.0))
     (packed_after c.self.inside.runs.items c.extend_from_slice.new.self.items c.args.runs.now c.args.line.now c.in_ok-extend_from_slice.ensures.items c.requires) c.in_ok-push.ensures.items)

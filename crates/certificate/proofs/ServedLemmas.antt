@@ -271,10 +271,6 @@ module _ (old new : Option (List ℕ)) where
       let h = serves_parsed c s in
       Consumes-whole old new s.given (λ bytes. P bytes c) s.taken h.1 (to s.given c h.0)
 
-  pub serves_lines : (r : Answer) → Serves old new r → (P : Kept → Type 0) → ((bytes : List ℕ) (c : Kept) → IsParsed bytes c → P c) → IfOk r P
-  serves_lines (Err fault) s P to = tt
-  serves_lines (Ok c) s P to = to s.given c (serves_parsed c s).0
-
   pub serves_refused : (r : Answer) → Serves old new r → IfErr r (IsFaultOf old)
   serves_refused (Ok c) s = tt
   serves_refused (Err fault) s = go s.answer

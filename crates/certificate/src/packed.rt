@@ -11,7 +11,7 @@ ghost use Rattle.certificate.specs.Found.{past, last_past, AreRising, IsSought, 
 ghost use Rattle.certificate.specs.Adding.{with_line, HasRoomFor, IsFactLine, IsExitLine, IsRoutineLine};
 ghost use Rattle.certificate.specs.Claimed.{claimed_line};
 ghost use Rattle.certificate.specs.Spelled.{IsLastOf};
-ghost use Rattle.certificate.specs.Packed.{Begins, set_of_runs, added, set_at, one_at, other_at, registers_at, said_at, said_lines, StandApart, AreWithin, LiesWithin, AreLaid, IsPacked};
+ghost use Rattle.certificate.specs.Packed.{Begins, set_of_runs, added, set_at, registers_at, said_at, said_lines, StandApart, AreWithin, LiesWithin, AreLaid, IsPacked};
 
 use crate::RoutineClaim;
 use crate::progress::{LAST_PLACE, place_of};

@@ -5,7 +5,6 @@ ghost use Rattle.std.specs.Prelude.{OnOk, OnErr, is_err, false, ◌++◌, drop};
 ghost use Rattle.std.specs.Io.KnownBytes.{Appends};
 ghost use Rattle.streams.specs.Bytes.{AppendsFront};
 ghost use Rattle.word12.specs.Words.{octal_text};
-ghost use Rattle.wordset.specs.Words.{some_below};
 ghost use Rattle.wordset.specs.Lanes.{words};
 ghost use Rattle.wordset.specs.Links.{links_of};
 ghost use Rattle.domain.specs.Meaning.{name_of, equation_of, offsets_of};
@@ -14,7 +13,7 @@ ghost use Rattle.certificate.specs.Line.{IsLine};
 ghost use Rattle.certificate.specs.Reading.{Each};
 ghost use Rattle.certificate.specs.Fields.{run_text};
 ghost use Rattle.certificate.specs.Spelled.{Adds};
-ghost use Rattle.certificate.specs.Packed.{set_of_runs, set_at, one_at, other_at, routine_at, registers_at, said_at, said_lines, AreWithin, LiesWithin, StandApart};
+ghost use Rattle.certificate.specs.Packed.{set_of_runs, set_at, other_at, routine_at, registers_at, said_at, said_lines, AreWithin, LiesWithin, StandApart};
 ghost use Rattle.certificate.specs.Order.{details_of_last};
 ghost use Rattle.certificate.specs.Found.{first_with_details};
 

@@ -7,7 +7,7 @@ set -euo pipefail
 cd "$(dirname "$0")/.."
 work=$(mktemp -d)
 trap 'rm -r "$work"' EXIT
-used='word12 instruct wordset processor streams bin_tape peripherals declaration policy facts testing'
+used='word12 instruct wordset processor streams bin_tape peripherals declaration policy domain facts testing'
 mkdir -p "$work/crates/facts_cases/src" "$work/cases"
 for crate in $used; do
     mkdir -p "$work/crates/$crate"

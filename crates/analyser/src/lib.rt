@@ -21,7 +21,7 @@ use crate::length::is_short;
 use bin_tape::Image;
 use certificate::{Certificate, Version};
 use declaration::Declaration;
-use fixpoint::{Halt, MANY_RUNS, ONE_RUN, Program, Search};
+use fixpoint::{AnalysedProgram, Halt, MANY_RUNS, ONE_RUN, Search};
 use instruct::Profile;
 use judge::judge;
 use std::alloc::Allocator;
@@ -72,7 +72,7 @@ fn accepted<A: Allocator, D: Allocator>(
 /// Searches, and gives the certificate of what was found.
 fn found_by<A: Allocator + Copy, D: Allocator>(
     search: &mut Search<A>,
-    program: &Program<'_, D>,
+    program: &AnalysedProgram<'_, D>,
     version: Version,
     turns: &mut Turns,
 ) -> Result<Certificate<A>, GuessFault>
@@ -96,7 +96,7 @@ fn found_by<A: Allocator + Copy, D: Allocator>(
 /// one more search fills all sets, and what it finds takes the place of that certificate.
 fn found_within<A: Allocator + Copy, D: Allocator>(
     search: &mut Search<A>,
-    program: &Program<'_, D>,
+    program: &AnalysedProgram<'_, D>,
     version: Version,
     turns: &mut Turns,
 ) -> Result<Certificate<A>, GuessFault>
@@ -113,7 +113,7 @@ fn found_within<A: Allocator + Copy, D: Allocator>(
     if is_short(&certificate) {
         return Ok(certificate);
     }
-    let filled = Program::of(program.image, program.declaration, ONE_RUN);
+    let filled = AnalysedProgram::of(program.image, program.declaration, ONE_RUN);
     match found_by(search, &filled, version, turns) {
         Ok(shorter) => Ok(shorter),
         Err(GuessFault::NoMemory) => Err(GuessFault::NoMemory),
@@ -124,7 +124,7 @@ fn found_within<A: Allocator + Copy, D: Allocator>(
 /// The draft of a search that found nothing, if it is stuck and there is one; else its fault.
 fn drafted_by<A: Allocator + Copy, D: Allocator>(
     search: &mut Search<A>,
-    program: &Program<'_, D>,
+    program: &AnalysedProgram<'_, D>,
     version: Version,
     fault: &GuessFault,
 ) -> Result<Attempt<A>, GuessFault>
@@ -172,7 +172,7 @@ pub fn guess_within<A: Allocator + Copy, D: Allocator>(
     ensures spent { IfErr result (IsSpentUp turns.new) }
 {
     turns.are_within();
-    let program = Program::of(image, declaration, MANY_RUNS);
+    let program = AnalysedProgram::of(image, declaration, MANY_RUNS);
     let mut search = Search::new(alloc);
     let version = version_of(declaration.profile());
     found_within(&mut search, &program, version, turns)
@@ -249,7 +249,7 @@ pub fn guess_or_draft_within<A: Allocator + Copy, D: Allocator>(
     ensures spent { IfErr result (IsSpentUp turns.new) }
 {
     turns.are_within();
-    let program = Program::of(image, declaration, MANY_RUNS);
+    let program = AnalysedProgram::of(image, declaration, MANY_RUNS);
     let mut search = Search::new(alloc);
     let version = version_of(declaration.profile());
     match found_within(&mut search, &program, version, turns) {

@@ -11,7 +11,7 @@ use bin_tape::Image;
 use certificate::Certificate;
 use command_parts::text::push_place;
 use declaration::Declaration;
-use facts::{Fact, Name, narrowed};
+use facts::{Fact, Location, narrowed};
 use instruct::{name, refers_indirectly, target};
 use std::alloc::{AllocError, Allocator};
 use word12::Word;
@@ -111,7 +111,7 @@ pub fn push_bound<A: Allocator + Copy, D: Allocator, C: Allocator>(
     }
     push_place(text, b"the pointer ", pointer)?;
     text.extend_from_slice(b" may hold ")?;
-    push_set(text, &narrowed(&fact, &Name::Cell(pointer)))?;
+    push_set(text, &narrowed(&fact, &Location::Cell(pointer)))?;
     text.extend_from_slice(b" there\n")?;
     let Some((from, loss)) = lost_before(alloc, image, declaration, draft, pointer, at)? else {
         return Ok(());

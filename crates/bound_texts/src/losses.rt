@@ -1,7 +1,7 @@
 //! How less is known of a pointer behind an instruction than before it.
 
 use declaration::Declaration;
-use facts::{Fact, Name, narrowed};
+use facts::{Fact, Location, narrowed};
 use instruct::{Operation, halts, refers_indirectly, target};
 use std::alloc::Allocator;
 use word12::Word;
@@ -102,7 +102,7 @@ pub(crate) fn may_go_on<D: Allocator>(
 /// Whether it is known how far the accumulator is from a cell.
 fn ties_accumulator(fact: &Fact, cell: Word) -> bool {
     for equation in fact.equations() {
-        if equation.left == Name::Accumulator && equation.right == cell {
+        if equation.left == Location::Accumulator && equation.right == cell {
             return true;
         }
     }
@@ -113,9 +113,9 @@ fn ties_accumulator(fact: &Fact, cell: Word) -> bool {
 fn words_behind(before: &Fact, at: Word, word: Word, pointer: Word) -> WordSet {
     let stores = matches!(operation(word), Some(Operation::Dca)) && !refers_indirectly(word);
     if stores && target(word, at) == pointer {
-        return narrowed(before, &Name::Accumulator);
+        return narrowed(before, &Location::Accumulator);
     }
-    narrowed(before, &Name::Cell(pointer))
+    narrowed(before, &Location::Cell(pointer))
 }
 
 /// Why less is known of a pointer at the place where a run goes on from an instruction, if it is so.
@@ -137,7 +137,7 @@ pub(crate) fn loss_at(
         }
     }
     let fewer = words_behind(before, at, word, pointer);
-    if fewer.count() >= narrowed(behind, &Name::Cell(pointer)).count() {
+    if fewer.count() >= narrowed(behind, &Location::Cell(pointer)).count() {
         return None;
     }
     match operation(word) {

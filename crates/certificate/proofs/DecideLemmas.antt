@@ -4,7 +4,7 @@ use Rattle.std.specs.Prelude.{if◌then◌else◌}
 use Rattle.std.proofs.lemmas.Bool.{cases_lt, true≢false, false≢true}
 use Rattle.std.proofs.lemmas.Bool.Decides.{eqb_tells}
 use Rattle.wordset.specs.Words.{Words, SameWords, nothing, everything, some_below, has_some}
-use Rattle.domain.specs.Facts.{Name, Ac, Cell, Equation}
+use Rattle.domain.specs.Facts.{Location, Ac, Cell, Equation}
 use Rattle.certificate.specs.declared.Version.{Version}
 use Rattle.certificate.specs.declared.Version.TheVariants.{One, Two}
 use Rattle.certificate.specs.Reading.{FitsVersion, IsEquation, place_of_name}
@@ -109,15 +109,15 @@ among_sets (suc n) P kept each =
         by s false is p = outside (s, kept s (put s n false) (put_back n false s is) p)
 
 -- Of names, if a cell that has it is a word, one has it, or none.
-among_names : (P : Name → Type 0) → ((m : Name) → Decided (P m)) → ((a : ℕ) → P (Cell a) → a < 4096) → Decided ((m : Name) × P m)
+among_names : (P : Location → Type 0) → ((m : Location) → Decided (P m)) → ((a : ℕ) → P (Cell a) → a < 4096) → Decided ((m : Location) × P m)
 among_names P each small = go (each Ac) (among_numbers 4096 (λ a. P (Cell a)) (λ a. each (Cell a)))
   where
-    go : Decided (P Ac) → Decided ((a : ℕ) × (a < 4096) × P (Cell a)) → Decided ((m : Name) × P m)
+    go : Decided (P Ac) → Decided ((a : ℕ) × (a < 4096) × P (Cell a)) → Decided ((m : Location) × P m)
     go (inl p) rest = inl (Ac, p)
     go (inr none) (inl h) = inl (Cell h.0, h.2)
     go (inr none) (inr others) = inr (λ h. by h.0 h.1)
       where
-        by : (m : Name) → P m → ⊥
+        by : (m : Location) → P m → ⊥
         by Ac p = none p
         by (Cell a) p = others (a, small a p, p)
 
@@ -212,7 +212,7 @@ sets n = record {
   find = λ P kept each few. among_sets n P kept each;
 }
 
-abbrev names : Finds Name
+abbrev names : Finds Location
 names = record {
   same = λ a b. a ≡ b;
   few = λ m. place_of_name m < 4097;
@@ -252,7 +252,7 @@ module _ (v : Version) (bytes : List ℕ) where
   abbrev a_cell : ℕ × Words → Line
   a_cell p = CellIs (record { address = p.0; set = p.1 })
 
-  abbrev an_equation : Name × (Name × ℕ) → Line
+  abbrev an_equation : Location × (Location × ℕ) → Line
   an_equation p = EquationIs (record { left = p.0; right = p.1.0; more = p.1.1 })
 
   pub some_line : Decided ((l : Line) × Spells v l bytes)
@@ -272,7 +272,7 @@ module _ (v : Version) (bytes : List ℕ) where
       go : Decided ((p : ℕ × (ℕ × (Words × Words))) × Spells v (a_routine p) bytes) →
           Decided ((p : ℕ × (Words × (Words × (Words × Words)))) × Spells v (a_fact p) bytes) →
           Decided ((p : ℕ × (ℕ × (Words × (Words × Words)))) × Spells v (an_exit p) bytes) →
-          Decided ((p : ℕ × Words) × Spells v (a_cell p) bytes) → Decided ((p : Name × (Name × ℕ)) × Spells v (an_equation p) bytes) →
+          Decided ((p : ℕ × Words) × Spells v (a_cell p) bytes) → Decided ((p : Location × (Location × ℕ)) × Spells v (an_equation p) bytes) →
           Decided (Spells v End bytes) → Decided ((l : Line) × Spells v l bytes)
       go (inl h) f x c e n = inl (a_routine h.0, h.1)
       go (inr r) (inl h) x c e n = inl (a_fact h.0, h.1)

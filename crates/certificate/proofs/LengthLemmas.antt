@@ -4,7 +4,7 @@ use Rattle.std.specs.Prelude.{if◌then◌else◌, codes}
 use Rattle.std.proofs.lemmas.Bool.{false≢true, eq-eqb, ne_eqb, cases_lt}
 use Rattle.word12.specs.Words.{octal_text}
 use Rattle.wordset.specs.Words.{Words, some_below}
-use Rattle.domain.specs.Facts.{Name, Ac, Cell}
+use Rattle.domain.specs.Facts.{Location, Ac, Cell}
 use Rattle.certificate.specs.declared.Version.{Version}
 use Rattle.certificate.specs.declared.Version.TheVariants.{One, Two}
 use Rattle.certificate.specs.declared.packed.Run.{Run}
@@ -120,7 +120,7 @@ registers : (v : Version) (r : Registers) → Part 27328 (words_text v r)
 unfolding feedless
 registers v r = both (both (both (both (as_is (codes " ac ") refl) (set r.ac)) (mq v r.mq)) (as_is (codes " link ") refl)) (digits_of 2 r.link)
 
-name : (n : Name) → Part 4 (name_text n)
+name : (n : Location) → Part 4 (name_text n)
 unfolding feedless
 name Ac = most (as_is (codes "AC") refl) (omega arith)
 name (Cell a) = word a

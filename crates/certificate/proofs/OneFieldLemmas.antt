@@ -4,7 +4,7 @@ use Rattle.std.specs.Prelude.{codes}
 use Rattle.std.proofs.lemmas.Bool.{eq-eqb, ne_eqb, cases_lt}
 use Rattle.word12.specs.Words.{octal_text}
 use Rattle.wordset.specs.Words.{Words, SameWords}
-use Rattle.domain.specs.Facts.{Name, Ac, Cell}
+use Rattle.domain.specs.Facts.{Location, Ac, Cell}
 use Rattle.certificate.specs.Spelling.{digits, set_text, offsets_text, name_text, rank_text}
 use Rattle.certificate.specs.Reading.{place_of_name}
 use Rattle.certificate.specs.Fields.{run_text, NoDash, EndsField}
@@ -29,7 +29,7 @@ rank_one a b x y f g e =
     let q : 48 + a % 8 ≡ 48 + b % 8 = cc in
     (omega arith, cc)
 
-pub name_one : (a b : Name) (x y : List ℕ) → place_of_name a < 4097 → place_of_name b < 4097 → name_text a ++ x ≡ name_text b ++ y →
+pub name_one : (a b : Location) (x y : List ℕ) → place_of_name a < 4097 → place_of_name b < 4097 → name_text a ++ x ≡ name_text b ++ y →
     (a ≡ b) × (x ≡ y)
 name_one Ac Ac x y f g e = (refl, cc)
 name_one Ac (Cell b) x y f g e = absurd (let p : 65 ≡ 48 + b / 512 = cc in omega arith)

@@ -4,7 +4,7 @@ use Rattle.std.specs.Prelude.{codes}
 use Rattle.std.proofs.lemmas.List.{append_cancel_left}
 use Rattle.word12.specs.Words.{octal_text}
 use Rattle.wordset.specs.Words.{Words, SameWords}
-use Rattle.domain.specs.Facts.{Name, Equation}
+use Rattle.domain.specs.Facts.{Location, Equation}
 use Rattle.domain.specs.Statements.{TrackedCell}
 use Rattle.certificate.specs.declared.Version.{Version}
 use Rattle.certificate.specs.declared.Version.TheVariants.{One, Two}
@@ -71,7 +71,7 @@ equation_fields : (e : Equation) → equation_line e ≡
     codes "equal " ++ (name_text e.left ++ (codes " " ++ (name_text e.right ++ (codes " " ++ (octal_text e.more ++ [])))))
 equation_fields e = simp (append_assoc, append-nil)
 
-made : Name → Name → ℕ → Equation
+made : Location → Location → ℕ → Equation
 made l r n = record { left = l; right = r; more = n }
 
 equation_one : (a b : Equation) → IsEquation a → IsEquation b → equation_line a ≡ equation_line b → a ≡ b

@@ -3,7 +3,7 @@ use Rattle.std.proofs.Common.{◌≡◌, ℕ, ◌<◌, ◌==◌, Bool, true, fal
 use Rattle.std.specs.Prelude.{◌&&◌, if◌then◌else◌}
 use Rattle.std.proofs.lemmas.Bool.{true≢false, false≢true}
 use Rattle.wordset.specs.Words.{Words, SameWords}
-use Rattle.domain.specs.Facts.{Name, Ac, Cell}
+use Rattle.domain.specs.Facts.{Location, Ac, Cell}
 use Rattle.domain.specs.Statements.{TrackedCell, Statement, tracked, sets_of, fact_of, unknown}
 use Rattle.domain.specs.Same.{Agree}
 use Rattle.certificate.specs.Spelling.{RoutineLine, ExitLine, Lines}
@@ -39,7 +39,7 @@ tracked_same a v s =
     both : {b c m n : Bool} → b ≡ c → m ≡ n → (b && m) ≡ (c && n)
     both p q = cc
 
-sets_same : (s t : Statement) → SameStatement s t → (n : Name) → SameWords (sets_of s n) (sets_of t n)
+sets_same : (s t : Statement) → SameStatement s t → (n : Location) → SameWords (sets_of s n) (sets_of t n)
 sets_same s t h Ac = h.ac
 sets_same s t h (Cell a) = λ v p. tracked_same a v p s.cells t.cells h.cells
 

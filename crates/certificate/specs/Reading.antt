@@ -1,7 +1,7 @@
 -- Which lines make a certificate, and which certificate they make.
 use Rattle.std.specs.Prelude.{◌≡◌, ℕ, ◌+◌, ◌*◌, ◌<◌, ◌≤◌, ◌==◌, Bool, true, false, if◌then◌else◌, List, [], ◌∷◌, length, map, Option, Some, None}
 use Rattle.wordset.specs.Words.{Words, SameWords, nothing, everything, some_below, has_some}
-use Rattle.domain.specs.Facts.{Name, Ac, Cell, Equation, Fact}
+use Rattle.domain.specs.Facts.{Location, Ac, Cell, Equation, Fact}
 use Rattle.domain.specs.Statements.{TrackedCell, Statement, fact_of, unknown}
 use Rattle.certificate.specs.declared.Version.{Version}
 use Rattle.certificate.specs.declared.Version.TheVariants.{One, Two}
@@ -14,7 +14,7 @@ RiseFrom low [] = Unit {0}
 RiseFrom low (n ∷ ns) = (low ≤ n) × RiseFrom (n + 1) ns
 
 -- The accumulator comes before all cells, and a cell before those of greater address.
-abbrev pub place_of_name : Name → ℕ
+abbrev pub place_of_name : Location → ℕ
 place_of_name Ac = 0
 place_of_name (Cell a) = a + 1
 

@@ -3,7 +3,7 @@ use Rattle.std.specs.Prelude.{ℕ, ◌+◌, ◌-◌, ◌/◌, ◌%◌, ◌==◌,
 use Rattle.std.proofs.Common.{zero, suc}
 use Rattle.word12.specs.Words.{octal_text}
 use Rattle.wordset.specs.Words.{Words, some_below, has_some}
-use Rattle.domain.specs.Facts.{Name, Ac, Cell, Equation}
+use Rattle.domain.specs.Facts.{Location, Ac, Cell, Equation}
 use Rattle.domain.specs.Statements.{TrackedCell, Statement}
 use Rattle.certificate.specs.declared.Version.{Version}
 use Rattle.certificate.specs.declared.Version.TheVariants.{One, Two}
@@ -68,7 +68,7 @@ abbrev pub offsets_text : Words → List ℕ
 offsets_text offsets = if some_below 8 offsets then digits 8 offsets else codes "-"
 
 -- A name: AC or a cell.
-abbrev pub name_text : Name → List ℕ
+abbrev pub name_text : Location → List ℕ
 name_text Ac = codes "AC"
 name_text (Cell a) = octal_text a
 

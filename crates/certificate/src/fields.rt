@@ -5,15 +5,15 @@ ghost use Rattle.word12.specs.Words.{octal_text};
 ghost use Rattle.std.specs.Option.{IsSomeAnd};
 ghost use Rattle.wordset.specs.Words.{Words, SameWords, SameLinks, some_below, has_some, everything};
 ghost use Rattle.wordset.specs.Links.{links_of};
-ghost use Rattle.domain.specs.Facts.{Name as Named};
-ghost use Rattle.domain.specs.Meaning.{name_of, offsets_of};
+ghost use Rattle.domain.specs.Facts.{Location as Named};
+ghost use Rattle.domain.specs.Meaning.{location_of, offsets_of};
 ghost use Rattle.certificate.specs.Spelling.{marks, set_text, digits, offsets_text, name_text, rank_text};
 ghost use Rattle.certificate.specs.Reading.{place_of_name};
 ghost use Rattle.certificate.specs.Packed.{Begins, added};
 ghost use Rattle.certificate.specs.Fields.{left, WasFirst, run_text, NoDash, EndsField};
 
 use crate::packed::{Run, Runs};
-use domain::{CountedOffsets, Name};
+use domain::{CountedOffsets, Location};
 use word12::{Link, Word};
 use wordset::Links;
 
@@ -284,17 +284,17 @@ impl<'a> Fields<'a> {
     }
 
     /// `AC` or a cell's address.
-    pub fn name(&mut self) -> Name
-        ensures read { WasFirst self.old self.new (name_text (name_of result)) }
+    pub fn name(&mut self) -> Location
+        ensures read { WasFirst self.old self.new (name_text (location_of result)) }
         ensures only { (n : Named) (rest : List ℕ) → place_of_name n < 4097 → left self.old ≡
             Some (name_text n ++ rest) →
-            (name_of result ≡ n) × (left self.new ≡ Some rest) }
+            (location_of result ≡ n) × (left self.new ≡ Some rest) }
     {
         if self.takes(b'A') {
             self.skip(b"C");
-            return Name::Accumulator;
+            return Location::Accumulator;
         }
-        Name::Cell(self.word())
+        Location::Cell(self.word())
     }
 }
 

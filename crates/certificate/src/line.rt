@@ -5,7 +5,7 @@ ghost use Rattle.std.specs.Option.{IsSomeAnd};
 ghost use Rattle.wordset.specs.Words.{Words, SameWords};
 ghost use Rattle.domain.specs.Facts.{Equation as Equal};
 ghost use Rattle.domain.specs.Statements.{TrackedCell as Tracked};
-ghost use Rattle.domain.specs.Meaning.{name_of, equation_of};
+ghost use Rattle.domain.specs.Meaning.{location_of, equation_of};
 ghost use Rattle.certificate.specs.declared.Version.{Version as Spelled};
 ghost use Rattle.certificate.specs.declared.packed.Run.{Run};
 ghost use Rattle.certificate.specs.Spelling.{RoutineLine as SaidRoutine, mq_text, Line as SaidLine, Registers as SaidRegisters, RoutineIs, FactIs, ExitIs, CellIs, EquationIs, End, routine_line, cell_line, equation_line, line_text, words_text};
@@ -18,7 +18,7 @@ ghost use Rattle.certificate.specs.Packed.{Begins, added, registers_at, said_at,
 use crate::Version;
 use crate::fields::Fields;
 use crate::packed::{Counts, PackedLine, PackedRegisters, PackedRoutine, Runs};
-use domain::{Equation, Name};
+use domain::{Equation, Location};
 use word12::Word;
 
 /// Adds the run or runs of what MQ may hold: in version 1 any word, and nothing stands for that.
@@ -161,12 +161,12 @@ fn read_cell(version: Version, line: &[u8], runs: &mut Runs) -> Option<PackedLin
 
 /// Whether a name comes before a cell: the accumulator before all cells, a cell before those of
 /// greater address.
-fn is_before(name: &Name, cell: Word) -> bool
-    ensures { IsTrue result ↔ (place_of_name (name_of name.now) < cell + 1) }
+fn is_before(name: &Location, cell: Word) -> bool
+    ensures { IsTrue result ↔ (place_of_name (location_of name.now) < cell + 1) }
 {
     match name {
-        Name::Accumulator => true,
-        Name::Cell(address) => *address < cell,
+        Location::Accumulator => true,
+        Location::Cell(address) => *address < cell,
     }
 }
 

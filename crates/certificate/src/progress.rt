@@ -12,7 +12,7 @@ ghost use Rattle.certificate.specs.Packed.{said_at, LiesWithin};
 use crate::line::read_line;
 use crate::packed::{PackedLine, Runs};
 use crate::{CertificateFault, Version};
-use domain::{Equation, Name};
+use domain::{Equation, Location};
 
 /// The place of a fact at 0000; those of routines are their entries.
 pub const FIRST_FACT: usize = 4096;
@@ -43,8 +43,8 @@ fn place_of_equation(equation: &Equation) -> usize
     ensures small { result < 2 ^ 25 }
 {
     let left = match equation.left {
-        Name::Accumulator => 0,
-        Name::Cell(cell) => cell.index() + 1,
+        Location::Accumulator => 0,
+        Location::Cell(cell) => cell.index() + 1,
     };
     4097 * left + equation.right.index() + 1
 }

@@ -7,7 +7,7 @@ ghost use Rattle.streams.specs.Bytes.{AppendsFront};
 ghost use Rattle.word12.specs.Words.{octal_text};
 ghost use Rattle.wordset.specs.Lanes.{words};
 ghost use Rattle.wordset.specs.Links.{links_of};
-ghost use Rattle.domain.specs.Meaning.{name_of, equation_of, offsets_of};
+ghost use Rattle.domain.specs.Meaning.{location_of, equation_of, offsets_of};
 ghost use Rattle.certificate.specs.Spelling.{marks, set_text, digits, offsets_text, name_text, mq_text, version_text, End, rank_text, words_text, routine_line, cell_line, equation_line, line_text, ended, all_ended, FactIs, ExitIs};
 ghost use Rattle.certificate.specs.Line.{IsLine};
 ghost use Rattle.certificate.specs.Reading.{Each};
@@ -23,7 +23,7 @@ use crate::packed::{
     stand_apart,
 };
 use arrayvec::ArrayVec;
-use domain::{CountedOffsets, Equation, Name};
+use domain::{CountedOffsets, Equation, Location};
 use std::alloc::Allocator;
 use streams::{ByteSink, Failed, put};
 use word12::Word;
@@ -203,12 +203,12 @@ impl LineText {
     }
 
     /// Adds a name: `AC` or a cell's address.
-    fn name(&mut self, name: &Name)
-        ensures { Adds self.old.bytes.items self.new.bytes.items (name_text (name_of name.now)) }
+    fn name(&mut self, name: &Location)
+        ensures { Adds self.old.bytes.items self.new.bytes.items (name_text (location_of name.now)) }
     {
         match name {
-            Name::Accumulator => self.text(b"AC"),
-            Name::Cell(cell) => self.word(*cell),
+            Location::Accumulator => self.text(b"AC"),
+            Location::Cell(cell) => self.word(*cell),
         }
     }
 

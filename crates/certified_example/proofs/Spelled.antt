@@ -5,7 +5,7 @@ use Rattle.std.proofs.Math.Bool.{and-true}
 use Rattle.std.proofs.lemmas.Bool.{cases_eq, eq-eqb, ne_eqb}
 use Rattle.std.proofs.Math.Path.{fun_ext}
 use Rattle.wordset.specs.Words.{Words, nothing, everything, one, some_below}
-use Rattle.domain.specs.Facts.{Name, Ac, Cell, Fact}
+use Rattle.domain.specs.Facts.{Location, Ac, Cell, Fact}
 use Rattle.domain.specs.Statements.{TrackedCell, tracked, sets_of, fact_of}
 use Rattle.certificate.specs.Certificate.{Certificate}
 use Rattle.certificate.specs.declared.Version.TheVariants.{One}
@@ -170,20 +170,20 @@ has_fact_same = by_address (λ a. has_fact_in lines.facts a ≡ certificate.has_
     ) refl)
 
 -- facts with the same sets
-with_sets : (s t : Name → Words) (offsets : Words) → ((n : Name) → s n ≡ t n) → knowing s offsets ≡ knowing t offsets
-with_sets s t offsets h = ap (λ (u : Name → Words). knowing u offsets) (fun_ext h)
+with_sets : (s t : Location → Words) (offsets : Words) → ((n : Location) → s n ≡ t n) → knowing s offsets ≡ knowing t offsets
+with_sets s t offsets h = ap (λ (u : Location → Words). knowing u offsets) (fun_ext h)
 
 any_fact : (offsets : Words) → fact_of (knowing_of everything []) offsets ≡ knowing any offsets
 any_fact offsets = with_sets (sets_of (knowing_of everything [])) any offsets at
   where
-    at : (n : Name) → sets_of (knowing_of everything []) n ≡ any n
+    at : (n : Location) → sets_of (knowing_of everything []) n ≡ any n
     at Ac = refl
     at (Cell b) = refl
 
 clear_fact : fact_of (knowing_of (one 0) []) nothing ≡ knowing clear nothing
 clear_fact = with_sets (sets_of (knowing_of (one 0) [])) clear nothing at
   where
-    at : (n : Name) → sets_of (knowing_of (one 0) []) n ≡ clear n
+    at : (n : Location) → sets_of (knowing_of (one 0) []) n ≡ clear n
     at Ac = refl
     at (Cell b) = refl
 
@@ -194,7 +194,7 @@ changed_fact = with_sets (sets_of (knowing_of everything (record { address = 0o2
     picked true v = and-true (one 0 v)
     picked false v = refl
 
-    at : (n : Name) → sets_of (knowing_of everything (record { address = 0o202; set = one 0 } ∷ [])) n ≡ changed n
+    at : (n : Location) → sets_of (knowing_of everything (record { address = 0o202; set = one 0 } ∷ [])) n ≡ changed n
     at Ac = refl
     at (Cell b) = fun_ext (λ v. rw (swapped 0o202 b) (picked (b == 0o202) v))
 

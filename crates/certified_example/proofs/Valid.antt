@@ -6,7 +6,7 @@ use Rattle.instruct.specs.declared.Profile.TheVariants.{Pdp8I}
 use Rattle.instruct.specs.Instructions.{meaning_of}
 use Rattle.wordset.specs.Words.{Words, plus, nothing, everything, one, some_below, how_many}
 use Rattle.declaration.specs.Declaration.{Routine, IsDeclared}
-use Rattle.domain.specs.Facts.{Name, Ac, Cell, Fact, narrowed, possible, Entails, joined}
+use Rattle.domain.specs.Facts.{Location, Ac, Cell, Fact, narrowed, possible, Entails, joined}
 use Rattle.domain.specs.Changes.{moved, strongly_updated, copied, with_equations, with_offsets}
 use Rattle.facts.specs.Outcomes.{Successor, Goes, given, dca_case, part2, operated2}
 use Rattle.facts.specs.Starts.{HoldsOfStarts}
@@ -142,7 +142,7 @@ first_fine = record {
     after : Fact
     after = strongly_updated Ac (one 0) (with_equations (copied 0o202 []) (strongly_updated (Cell 0o202) (narrowed (fact 0o200) Ac) (fact 0o200)))
 
-    sets : (n : Name) (v : ℕ) → v < 4096 → narrowed after n v ≡ true → clear n v ≡ true
+    sets : (n : Location) (v : ℕ) → v < 4096 → narrowed after n v ≡ true → clear n v ≡ true
     sets Ac v lt g = (and_parts (v == 0) true g).0
     sets (Cell a) v lt g = refl
 
@@ -183,7 +183,7 @@ second_fine = record {
     cell true v g = (and_parts (v == 0) true (and_parts ((v == 0) && true) true g).0).0
     cell false v g = refl
 
-    sets : (n : Name) (v : ℕ) → v < 4096 → narrowed after n v ≡ true → changed n v ≡ true
+    sets : (n : Location) (v : ℕ) → v < 4096 → narrowed after n v ≡ true → changed n v ≡ true
     sets Ac v lt g = refl
     sets (Cell a) v lt g = cell (a == 0o202) v g
 

@@ -4,7 +4,7 @@ use Rattle.instruct.specs.declared.Profile.TheVariants.{Pdp8I}
 use Rattle.wordset.specs.Words.{Words, nothing, everything, one}
 use Rattle.processor.specs.Runs.{Image}
 use Rattle.declaration.specs.Declaration.{Routine, Declaration}
-use Rattle.domain.specs.Facts.{Name, Ac, Cell, Fact}
+use Rattle.domain.specs.Facts.{Location, Ac, Cell, Fact}
 use Rattle.certificate.specs.Certificate.{Certificate}
 use Rattle.judge.specs.Conditions.{Case}
 
@@ -52,20 +52,20 @@ declaration = record {
 }
 
 -- A fact that allows everything, save for one name.
-abbrev pub knowing : (Name → Words) → Words → Fact
+abbrev pub knowing : (Location → Words) → Words → Fact
 knowing sets offsets = record { set = sets; mq = everything; link = everything; equations = []; offsets = offsets }
 
 -- Nothing is known of the accumulator, nor of any cell: each may hold any word.
-abbrev pub any : Name → Words
+abbrev pub any : Location → Words
 any n = everything
 
 -- The accumulator is 0, and nothing is known of any cell.
-abbrev pub clear : Name → Words
+abbrev pub clear : Location → Words
 clear Ac = one 0
 clear (Cell a) = everything
 
 -- The cell 0202 is 0000, and nothing is known of the accumulator, nor of any other cell.
-abbrev pub changed : Name → Words
+abbrev pub changed : Location → Words
 changed Ac = everything
 changed (Cell a) = if a == 0o202 then one 0 else everything
 

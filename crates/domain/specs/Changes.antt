@@ -1,10 +1,10 @@
 -- What may happen to a fact: a word that moves by a count, one that takes a new value, one of several cells that changes.
 use Rattle.std.specs.Prelude.{ℕ, ◌==◌, Bool, false, ◌||◌, if◌then◌else◌, List, [], ◌∷◌, ◌++◌, nat_lt}
 use Rattle.wordset.specs.Words.{plus, minus, Words, union, shifted}
-use Rattle.domain.specs.Facts.{Name, Ac, Cell, same, Equation, Fact, narrowed, has_cell}
+use Rattle.domain.specs.Facts.{Location, Ac, Cell, same, Equation, Fact, narrowed, has_cell}
 
 -- An equation after n's word went up by k.
-abbrev pub moved_equation : Name → ℕ → Equation → Equation
+abbrev pub moved_equation : Location → ℕ → Equation → Equation
 moved_equation n k e = record {
   left = e.left;
   right = e.right;
@@ -12,41 +12,41 @@ moved_equation n k e = record {
 }
 
 -- All equations after n's word went up by k.
-abbrev pub moved_equations : Name → ℕ → List Equation → List Equation
+abbrev pub moved_equations : Location → ℕ → List Equation → List Equation
 moved_equations n k [] = []
 moved_equations n k (e ∷ es) = moved_equation n k e ∷ moved_equations n k es
 
 -- The sets with another one for n.
-abbrev pub with_set : Name → Words → (Name → Words) → Name → Words
+abbrev pub with_set : Location → Words → (Location → Words) → Location → Words
 with_set n set sets m = if same m n then set else sets m
 
 -- The fact after n's word went up by k: its set is the narrowed one, shifted, and its equations move.
-unfoldable pub moved : Name → ℕ → Fact → Fact
+unfoldable pub moved : Location → ℕ → Fact → Fact
 moved n k f = record f {
   set = with_set n (shifted (narrowed f n) k) f.set;
   equations = moved_equations n k f.equations;
 }
 
 -- The equations that speak of none of these names.
-abbrev pub free_of : (Name → Bool) → List Equation → List Equation
+abbrev pub free_of : (Location → Bool) → List Equation → List Equation
 free_of names [] = []
 free_of names (e ∷ es) = if names e.left || names e.right then free_of names es else e ∷ free_of names es
 
 -- The fact after n took some word of the set.
-unfoldable pub strongly_updated : Name → Words → Fact → Fact
+unfoldable pub strongly_updated : Location → Words → Fact → Fact
 strongly_updated n set f = record f {
   set = with_set n set f.set;
   equations = free_of (λ m. same m n) f.equations;
 }
 
 -- The names of the cells of a set.
-abbrev pub cells_of : Words → Name → Bool
+abbrev pub cells_of : Words → Location → Bool
 cells_of cells Ac = false
 cells_of cells (Cell a) = has_cell cells a
 
 -- The sets after one cell a of the set, unknown which, took some word of new a: each of them may still hold its old
 -- word.
-abbrev pub weakly_updated_sets : Words → (ℕ → Words) → (Name → Words) → Name → Words
+abbrev pub weakly_updated_sets : Words → (ℕ → Words) → (Location → Words) → Location → Words
 weakly_updated_sets cells new sets Ac = sets Ac
 weakly_updated_sets cells new sets (Cell a) =
     if has_cell cells a then union (sets (Cell a)) (new a) else sets (Cell a)
@@ -65,7 +65,7 @@ oriented y z k =
     else record { left = Cell z; right = Cell y; more = minus 0 k }
 
 -- What one equation says of the accumulator, said of y, before the rest.
-abbrev pub copy_of : ℕ → Name → Name → ℕ → List Equation → List Equation
+abbrev pub copy_of : ℕ → Location → Location → ℕ → List Equation → List Equation
 copy_of y Ac (Cell z) k rest = if z == y then rest else oriented y z k ∷ rest
 copy_of y Ac Ac k rest = rest
 copy_of y (Cell x) right k rest = rest
@@ -92,5 +92,5 @@ abbrev pub with_offsets : Words → Fact → Fact
 with_offsets offsets f = record f { offsets = offsets }
 
 -- The fact with another set of a name; its equations stay.
-abbrev pub with_name : Name → Words → Fact → Fact
+abbrev pub with_name : Location → Words → Fact → Fact
 with_name n set f = record f { set = with_set n set f.set }

@@ -8,12 +8,12 @@ use Rattle.declaration.specs.Declaration.{Routine, Declaration}
 use Rattle.policy.specs.Calls.{Calls}
 
 -- What a fact's sets and equations speak of: the accumulator or a cell.
-pub data Name : Type 0 where
-  Ac : Name
-  Cell : ℕ → Name
+pub data Location : Type 0 where
+  Ac : Location
+  Cell : ℕ → Location
 
 -- The two names are one.
-abbrev pub same : Name → Name → Bool
+abbrev pub same : Location → Location → Bool
 same Ac Ac = true
 same Ac (Cell b) = false
 same (Cell a) Ac = false
@@ -21,14 +21,14 @@ same (Cell a) (Cell b) = a == b
 
 -- The equation left = right + more, modulo 4096.
 pub record Equation : Type 0 where
-  pub left : Name
-  pub right : Name
+  pub left : Location
+  pub right : Location
   pub more : ℕ
 
 -- A fact: for each name the words that it may hold, which are all words for a cell that isn't tracked; those of MQ and of
 -- the link; equations; and how far the running routine's return word may have been counted up.
 pub record Fact : Type 0 where
-  pub set : Name → Words
+  pub set : Location → Words
   pub mq : Words
   pub link : Words
   pub equations : List Equation
@@ -36,7 +36,7 @@ pub record Fact : Type 0 where
 
 -- What the names stand for.
 abbrev pub Values : Type 0
-Values = Name → ℕ
+Values = Location → ℕ
 
 -- An equation is true of values.
 abbrev pub IsTrueOf : Values → Equation → Type 0
@@ -49,7 +49,7 @@ AllTrue v (e ∷ es) = IsTrueOf v e × AllTrue v es
 
 -- A fact's sets and equations hold of values.
 pub record Holds (f : Fact) (v : Values) : Type 0 where
-  pub sets : (n : Name) → f.set n (v n) ≡ true
+  pub sets : (n : Location) → f.set n (v n) ≡ true
   pub equations : AllTrue v f.equations
 
 -- In a fact a variable stands for its word, and any other cell for the word that it held at the start.
@@ -91,14 +91,14 @@ pub record Means (pl : Place) (start : Cells) (f : Fact) (s : State) (ks : Calls
   pub own : OwnWord f s.memory ks
 
 -- The words of n that the equations allow, given the sets of the names at their other sides.
-abbrev pub met_by : Fact → Name → List Equation → Words
+abbrev pub met_by : Fact → Location → List Equation → Words
 met_by f n [] v = true
 met_by f n (e ∷ es) v =
     (if same e.left n then f.set e.right (minus v e.more) else true) &&
     ((if same e.right n then f.set e.left (plus v e.more) else true) && met_by f n es v)
 
 -- The narrowed set of n: its set met with its partners' sets, shifted along the equations, one step only.
-unfoldable pub narrowed : Fact → Name → Words
+unfoldable pub narrowed : Fact → Location → Words
 narrowed f n v = f.set n v && met_by f n f.equations v
 
 -- The words that the running routine's entry may hold: a site, one more, and an offset.
@@ -146,7 +146,7 @@ KnowsAll f (e ∷ es) = Knows f e × KnowsAll f es
 
 -- The fact a entails b: what a leaves possible b allows. Offsets apart, which an exit fact doesn't speak of.
 pub record Entails (a b : Fact) : Type 0 where
-  pub sets : (n : Name) → IsWithin (narrowed a n) (b.set n)
+  pub sets : (n : Location) → IsWithin (narrowed a n) (b.set n)
   pub mq : IsWithin a.mq b.mq
   pub link : IsLinkWithin a.link b.link
   pub equations : KnowsAll a b.equations
@@ -160,7 +160,7 @@ abbrev pub has_cell : Words → Words
 has_cell cells a = nat_lt a 4096 && cells a
 
 -- A cell that isn't written is outside the written set; the accumulator never is.
-abbrev pub is_outside : Words → Name → Bool
+abbrev pub is_outside : Words → Location → Bool
 is_outside written Ac = false
 is_outside written (Cell a) = not (has_cell written a)
 

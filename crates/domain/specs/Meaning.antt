@@ -7,20 +7,20 @@ use Rattle.domain.specs.Facts.{Ac, Cell, met_by, has_cell}
 use Rattle.domain.specs.Facts as spec
 use Rattle.domain.specs.Statements.{Statement, tracked, fact_of}
 pub use Rattle.domain.specs.Tracking.{tracked_of, tracked_cells}
-use Rattle.domain.specs.declared.names.Name.{Name}
-use Rattle.domain.specs.declared.names.Name.TheVariants as name
-use Rattle.domain.specs.declared.names.Equation.{Equation}
+use Rattle.domain.specs.declared.location.Location.{Location}
+use Rattle.domain.specs.declared.location.Location.TheVariants as name
+use Rattle.domain.specs.declared.location.Equation.{Equation}
 use Rattle.domain.specs.declared.offsets.CountedOffsets.{CountedOffsets}
 use Rattle.domain.specs.declared.fact.Fact.{Fact}
 
 -- The name that is meant.
-abbrev pub name_of : Name → spec.Name
-name_of name.Accumulator = Ac
-name_of (name.Cell a) = Cell a
+abbrev pub location_of : Location → spec.Location
+location_of name.Accumulator = Ac
+location_of (name.Cell a) = Cell a
 
 -- The equation that is meant.
 abbrev pub equation_of : Equation → spec.Equation
-equation_of e = record { left = name_of e.left; right = Cell e.right; more = e.more }
+equation_of e = record { left = location_of e.left; right = Cell e.right; more = e.more }
 
 -- The offsets that are meant, each of them below 8.
 abbrev pub offsets_of : CountedOffsets → Words

@@ -1,7 +1,7 @@
 -- Facts that agree: what code knows of a fact is its words below 4096, and its equations in some order.
 use Rattle.std.specs.Prelude.{◌≡◌, ℕ, ◌<◌, List, [], ◌∷◌}
 use Rattle.wordset.specs.Words.{SameWords, SameLinks}
-use Rattle.domain.specs.Facts.{Name, Equation, Fact, Among, Entails, EntailsOffsets}
+use Rattle.domain.specs.Facts.{Location, Equation, Fact, Among, Entails, EntailsOffsets}
 
 -- The two lists have the same equations, in whatever order and however often.
 pub record SameEquations (es gs : List Equation) : Type 0 where
@@ -10,7 +10,7 @@ pub record SameEquations (es gs : List Equation) : Type 0 where
 
 -- The two facts have the same words below 4096, links, equations and offsets.
 pub record SameFact (a b : Fact) : Type 0 where
-  pub sets : (n : Name) → SameWords (a.set n) (b.set n)
+  pub sets : (n : Location) → SameWords (a.set n) (b.set n)
   pub mq : SameWords a.mq b.mq
   pub link : SameLinks a.link b.link
   pub equations : SameEquations a.equations b.equations
@@ -30,7 +30,7 @@ SameLaw = (a b c : Fact) → SameFact a b → EntailAlike a b c
 -- The two facts have the same words below 4096, links and offsets, and one list of equations: what code says of a fact
 -- that it makes.
 pub record Agree (a b : Fact) : Type 0 where
-  pub sets : (n : Name) → SameWords (a.set n) (b.set n)
+  pub sets : (n : Location) → SameWords (a.set n) (b.set n)
   pub mq : SameWords a.mq b.mq
   pub link : SameLinks a.link b.link
   pub equations : a.equations ≡ b.equations

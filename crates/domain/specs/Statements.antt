@@ -1,7 +1,7 @@
 -- What is said of a fact in so many words: sets for some cells, and equations. Every other cell may hold any word.
 use Rattle.std.specs.Prelude.{ℕ, ◌==◌, true, ◌&&◌, if◌then◌else◌, List, [], ◌∷◌, get_or}
 use Rattle.wordset.specs.Words.{Words, nothing, everything}
-use Rattle.domain.specs.Facts.{Name, Ac, Cell, Equation, Fact}
+use Rattle.domain.specs.Facts.{Location, Ac, Cell, Equation, Fact}
 
 -- A tracked cell and its words.
 pub record TrackedCell : Type 0 where
@@ -26,7 +26,7 @@ abbrev pub cell_at : List TrackedCell → ℕ → TrackedCell
 cell_at cells at = get_or cells at (record { address = 0; set = nothing })
 
 -- The words of each name.
-abbrev pub sets_of : Statement → Name → Words
+abbrev pub sets_of : Statement → Location → Words
 sets_of s Ac = s.ac
 sets_of s (Cell a) = tracked a s.cells
 

@@ -8,9 +8,9 @@ ghost use Rattle.domain.specs.Facts.{narrowed};
 ghost use Rattle.domain.specs.Changes.{with_offsets};
 ghost use Rattle.domain.specs.Statements.{unknown};
 ghost use Rattle.domain.specs.Same.{SameFact};
-ghost use Rattle.domain.specs.Meaning.{name_of, equation_of, tracked_cells, offsets_of, statement_of, cell_words, meaning};
+ghost use Rattle.domain.specs.Meaning.{location_of, equation_of, tracked_cells, offsets_of, statement_of, cell_words, meaning};
 
-use crate::names::{Equation, Name};
+use crate::location::{Equation, Location};
 use crate::offsets::CountedOffsets;
 use crate::tracking::{TrackedCells, put_row};
 use arrayvec::ArrayVec;
@@ -118,11 +118,11 @@ impl Fact {
     }
 
     /// The words that a name may hold: all words for a cell that isn't tracked.
-    pub fn set(&self, name: &Name) -> WordSet
-        ensures { SameWords (words result) ((meaning self.now).set (name_of name.now)) }
+    pub fn set(&self, name: &Location) -> WordSet
+        ensures { SameWords (words result) ((meaning self.now).set (location_of name.now)) }
     {
         let mut set = self.ac;
-        if let Name::Cell(cell) = name {
+        if let Location::Cell(cell) = name {
             self.put_set_of(*cell, &mut set);
         }
         set

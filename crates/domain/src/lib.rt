@@ -3,11 +3,11 @@
 #![tactic(auto)]
 
 mod fact;
-mod names;
+mod location;
 mod offsets;
 mod tracking;
 
 pub use fact::Fact;
-pub use names::{Equation, Name, is_same_equation, is_same_name, negated, turned};
+pub use location::{Equation, Location, is_same_equation, is_same_location, negated, turned};
 pub use offsets::CountedOffsets;
 pub use tracking::{TrackedCell, TrackedCells};

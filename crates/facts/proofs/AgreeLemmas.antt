@@ -2,7 +2,7 @@
 use Rattle.std.proofs.Common.{Bool, refl, sym, ◌∙◌, subst}
 use Rattle.std.specs.Prelude.{IsTrue, ◌↔◌}
 use Rattle.wordset.specs.Words.{SameWords}
-use Rattle.domain.specs.Facts.{Name, Fact, Among, narrowed, Entails, EntailsOffsets}
+use Rattle.domain.specs.Facts.{Location, Fact, Among, narrowed, Entails, EntailsOffsets}
 use Rattle.domain.specs.Same.{SameFact, Agree}
 use Rattle.facts.proofs.Alike.{narrowed_same, same_law}
 
@@ -36,7 +36,7 @@ same_fact a = record {
   offsets = a.offsets;
 }
 
-pub narrowed_agree : {f g : Fact} → Agree f g → (n : Name) → SameWords (narrowed f n) (narrowed g n)
+pub narrowed_agree : {f g : Fact} → Agree f g → (n : Location) → SameWords (narrowed f n) (narrowed g n)
 narrowed_agree a n = narrowed_same (same_fact a) n
 
 pub entails_agree : {k f g : Fact} (t : Bool) → Agree k f → (IsTrue t ↔ (Entails k g × EntailsOffsets k g)) → IsTrue t ↔ (Entails f g × EntailsOffsets f g)

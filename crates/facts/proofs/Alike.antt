@@ -3,7 +3,7 @@ use Rattle.std.proofs.Common.{◌≡◌, ℕ, zero, suc, ◌<◌, ◌==◌, Bool
 use Rattle.std.specs.Prelude.{if◌then◌else◌}
 use Rattle.std.proofs.lemmas.Bool.{and_parts, and_from}
 use Rattle.wordset.specs.Words.{plus, minus, Words, SameWords, some_below, first_below, only_of, only, without}
-use Rattle.domain.specs.Facts.{Name, same, Equation, Fact, met_by, narrowed, Among, Knows, KnowsAll}
+use Rattle.domain.specs.Facts.{Location, same, Equation, Fact, met_by, narrowed, Among, Knows, KnowsAll}
 use Rattle.wordset.proofs.Tests.{both_ways}
 use Rattle.domain.specs.Same.{SameFact, SameLaw}
 use Rattle.facts.proofs.Numbers.{plus_lt, minus_lt}
@@ -34,16 +34,16 @@ only_same a b h = ap (only_of a) (first_same 4096 a b h) ∙ go (first_below 409
     go (Some k) = ap (λ t. if t then None else Some k) (some_same 4096 (without k a) (without k b) (λ v lt. ap (λ x. if v == k then false else x) (h v lt)))
 
 -- what one equation leaves of a set, from its left and from its right
-abbrev pub left_met : Fact → Name → Equation → ℕ → Bool
+abbrev pub left_met : Fact → Location → Equation → ℕ → Bool
 left_met f n e v = if same e.left n then f.set e.right (minus v e.more) else true
 
-abbrev pub right_met : Fact → Name → Equation → ℕ → Bool
+abbrev pub right_met : Fact → Location → Equation → ℕ → Bool
 right_met f n e v = if same e.right n then f.set e.left (plus v e.more) else true
 
-abbrev pub is_met : Fact → Name → Equation → ℕ → Bool
+abbrev pub is_met : Fact → Location → Equation → ℕ → Bool
 is_met f n e v = left_met f n e v && right_met f n e v
 
-met_each : (f : Fact) (n : Name) (v : ℕ) (es : List Equation) → met_by f n es v ≡ true → (e : Equation) → Among e es → is_met f n e v ≡ true
+met_each : (f : Fact) (n : Location) (v : ℕ) (es : List Equation) → met_by f n es v ≡ true → (e : Equation) → Among e es → is_met f n e v ≡ true
 met_each f n v [] h e m = absurd m
 met_each f n v (g ∷ gs) h e m =
     let a = and_parts (left_met f n g v) (right_met f n g v && met_by f n gs v) h in
@@ -53,26 +53,26 @@ met_each f n v (g ∷ gs) h e m =
       | inr q ↦ met_each f n v gs b.1 e q
     ]
 
-met_all : (f : Fact) (n : Name) (v : ℕ) (es : List Equation) → ((e : Equation) → Among e es → is_met f n e v ≡ true) → met_by f n es v ≡ true
+met_all : (f : Fact) (n : Location) (v : ℕ) (es : List Equation) → ((e : Equation) → Among e es → is_met f n e v ≡ true) → met_by f n es v ≡ true
 met_all f n v [] h = refl
 met_all f n v (g ∷ gs) h =
     let a = and_parts (left_met f n g v) (right_met f n g v) (h g (inl refl)) in
     and_from _ _ a.0 (and_from _ _ a.1 (met_all f n v gs (λ e m. h e (inr m))))
 
-is_met_same : (a b : Fact) (n : Name) (e : Equation) (v : ℕ) → ((m : Name) → SameWords (a.set m) (b.set m)) → is_met a n e v ≡ is_met b n e v
+is_met_same : (a b : Fact) (n : Location) (e : Equation) (v : ℕ) → ((m : Location) → SameWords (a.set m) (b.set m)) → is_met a n e v ≡ is_met b n e v
 is_met_same a b n e v h =
     let l : a.set e.right (minus v e.more) ≡ b.set e.right (minus v e.more) = h e.right (minus v e.more) (minus_lt v e.more) in
     let r : a.set e.left (plus v e.more) ≡ b.set e.left (plus v e.more) = h e.left (plus v e.more) (plus_lt v e.more) in
     rw (l, r) refl
 
-narrowed_to : (a b : Fact) (n : Name) (v : ℕ) → v < 4096 → ((m : Name) → SameWords (a.set m) (b.set m)) → ((e : Equation) → Among e b.equations → Among e a.equations) → narrowed a n v ≡ true → narrowed b n v ≡ true
+narrowed_to : (a b : Fact) (n : Location) (v : ℕ) → v < 4096 → ((m : Location) → SameWords (a.set m) (b.set m)) → ((e : Equation) → Among e b.equations → Among e a.equations) → narrowed a n v ≡ true → narrowed b n v ≡ true
 unfolding narrowed
 narrowed_to a b n v lt sets from h =
     let p = and_parts (a.set n v) (met_by a n a.equations v) h in
     and_from _ _ (sym (sets n v lt) ∙ p.0)
     (met_all b n v b.equations (λ e m. sym (is_met_same a b n e v sets) ∙ met_each a n v a.equations p.1 e (from e m)))
 
-pub narrowed_same : {a b : Fact} → SameFact a b → (n : Name) → SameWords (narrowed a n) (narrowed b n)
+pub narrowed_same : {a b : Fact} → SameFact a b → (n : Location) → SameWords (narrowed a n) (narrowed b n)
 narrowed_same {a} {b} h n v lt =
     both_ways (narrowed a n v) (narrowed b n v)
     (narrowed_to a b n v lt h.sets h.equations.from)

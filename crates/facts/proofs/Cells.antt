@@ -6,7 +6,7 @@ use Rattle.processor.specs.Cells.{Cells, updated}
 use Rattle.processor.specs.Machine.{State, seen, place, steps_pointer}
 use Rattle.declaration.specs.Declaration.{Declaration, IsDeclared}
 use Rattle.policy.specs.Calls.{Call, Calls}
-use Rattle.domain.specs.Facts.{Name, Ac, Cell, same, Equation, Fact, Values, AllTrue, Holds, narrowed, values, KeepsRest, Place, OwnWord, StandsIn, Means, own_words, is_routine, tape_word, words_in, possible}
+use Rattle.domain.specs.Facts.{Location, Ac, Cell, same, Equation, Fact, Values, AllTrue, Holds, narrowed, values, KeepsRest, Place, OwnWord, StandsIn, Means, own_words, is_routine, tape_word, words_in, possible}
 use Rattle.facts.specs.Law.{IsState, TopIsEntry}
 use Rattle.facts.proofs.Numbers.{if_below, plus_lt, some_from}
 use Rattle.facts.proofs.Laws.{WordsAre, OnlyAt, narrowed_at}
@@ -40,7 +40,7 @@ seen_place true c m ws h = seen_words true c m ws c
 pub values_words : (d : Declaration) (start : Cells) (ac : ℕ) (m : Cells) → ac < 4096 → ((a : ℕ) → start a < 4096) → ((a : ℕ) → m a < 4096) → WordsAre (values d start ac m)
 values_words d start ac m h sw ws = record { each = each }
   where
-    each : (n : Name) → values d start ac m n < 4096
+    each : (n : Location) → values d start ac m n < 4096
     each Ac = h
     each (Cell a) = if_below (d.variable a) _ _ _ (ws a) (sw a)
 
@@ -51,26 +51,26 @@ value_of d start ac m a e = rw e
 pub updated_values : (d : Declaration) (start : Cells) (ac : ℕ) (m : Cells) (y v : ℕ) → OnlyAt (Cell y) (values d start ac m) (values d start ac (updated m y v))
 updated_values d start ac m y v = record { others = others }
   where
-    others : (n : Name) → same n (Cell y) ≡ false → values d start ac (updated m y v) n ≡ values d start ac m n
+    others : (n : Location) → same n (Cell y) ≡ false → values d start ac (updated m y v) n ≡ values d start ac m n
     others Ac q = refl
     others (Cell a) q = let e : updated m y v a ≡ m a = updated_other m y v a (eqb-false a y q) in rw e
 
 pub ac_values : (d : Declaration) (start : Cells) (ac ac' : ℕ) (m : Cells) → OnlyAt Ac (values d start ac m) (values d start ac' m)
 ac_values d start ac ac' m = record { others = others }
   where
-    others : (n : Name) → same n Ac ≡ false → values d start ac' m n ≡ values d start ac m n
+    others : (n : Location) → same n Ac ≡ false → values d start ac' m n ≡ values d start ac m n
     others Ac q = absurd (true≢false q)
     others (Cell a) q = refl
 
 -- what isn't a variable may be written unseen
-pub hidden_values : (d : Declaration) (start : Cells) (ac : ℕ) (m : Cells) (y v : ℕ) → d.variable y ≡ false → (n : Name) → values d start ac (updated m y v) n ≡ values d start ac m n
+pub hidden_values : (d : Declaration) (start : Cells) (ac : ℕ) (m : Cells) (y v : ℕ) → d.variable y ≡ false → (n : Location) → values d start ac (updated m y v) n ≡ values d start ac m n
 hidden_values d start ac m y v e Ac = refl
 hidden_values d start ac m y v e (Cell a) = elim (cases_eq a y) [
   | inl q ↦ (let f : d.variable a ≡ false = rw q e in rw f)
   | inr n ↦ (let p : updated m y v a ≡ m a = updated_other m y v a n in rw p)
 ]
 
-pub holds_at : {f : Fact} {v w : Values} → ((n : Name) → w n ≡ v n) → Holds f v → Holds f w
+pub holds_at : {f : Fact} {v w : Values} → ((n : Location) → w n ≡ v n) → Holds f v → Holds f w
 holds_at {f} {v} {w} e h = record { sets = λ n. rw (e n) (h.sets n); equations = go f.equations h.equations }
   where
     go : (es : List Equation) → AllTrue v es → AllTrue w es

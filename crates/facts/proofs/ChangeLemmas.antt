@@ -5,13 +5,13 @@ use Rattle.std.proofs.lemmas.List.{map-append}
 use Rattle.wordset.specs.Words.{minus, Words, SameWords, shifted, union}
 use Rattle.wordset.specs.Lanes.{words}
 use Rattle.wordset.specs.Links.{links_of}
-use Rattle.domain.specs.Facts.{Name, Ac, Cell, Equation, joined, outside, has_cell, is_outside}
+use Rattle.domain.specs.Facts.{Location, Ac, Cell, Equation, joined, outside, has_cell, is_outside}
 use Rattle.domain.specs.Same.{Agree}
 use Rattle.facts.proofs.Numbers.{minus_lt}
 use Rattle.domain.specs.declared.fact.Fact.{Fact as CodeFact}
 use Rattle.facts.specs.declared.state.AbstractState.{AbstractState}
 use Rattle.facts.specs.declared.state.Update.{Update}
-use Rattle.domain.specs.declared.names.Equation.{Equation as CodeEquation}
+use Rattle.domain.specs.declared.location.Equation.{Equation as CodeEquation}
 use Rattle.facts.specs.declared.state.Update.TheVariants.{Unchanged, Strong, WeakIncrement, WeakStore}
 use Rattle.domain.specs.Meaning.{equation_of, cell_words, meaning, offsets_of}
 use Rattle.facts.specs.Knowing.{fact_of_state, sets_of_state, changed, IsUnchanged, source_words}
@@ -40,7 +40,7 @@ joined_agree call exit written k b p t ac mq link offsets es = record {
   offsets = λ o lt. ap (λ (s : Words). s o) offsets;
 }
   where
-    sets : (n : Name) → (let chosen : Words = if is_outside written n then (meaning call).set n else (meaning exit).set n in SameWords (sets_of_state k n) chosen)
+    sets : (n : Location) → (let chosen : Words = if is_outside written n then (meaning call).set n else (meaning exit).set n in SameWords (sets_of_state k n) chosen)
     sets Ac v lt = ap (λ (s : Words). s v) ac
     sets (Cell a) v lt = rw (t, p, b a) (go (has_cell written a))
       where
@@ -63,7 +63,7 @@ fact_agrees f k b p t ac mq link offsets es = record {
   offsets = λ o lt. ap (λ (s : Words). s o) offsets;
 }
   where
-    sets : (n : Name) → SameWords (sets_of_state k n) ((meaning f).set n)
+    sets : (n : Location) → SameWords (sets_of_state k n) ((meaning f).set n)
     sets Ac v lt = ap (λ (s : Words). s v) ac
     sets (Cell a) v lt = rw (t, p, b a) refl
 

@@ -8,24 +8,24 @@ use Rattle.std.specs.Borrow.{Bor}
 use Rattle.wordset.specs.Words.{minus, Words, SameWords, SameLinks, one, shifted, union}
 use Rattle.wordset.specs.Lanes.{words}
 use Rattle.wordset.specs.Links.{links_of}
-use Rattle.domain.specs.Facts.{Name, Ac, Cell, same, Fact, Equation, narrowed, has_cell}
+use Rattle.domain.specs.Facts.{Location, Ac, Cell, same, Fact, Equation, narrowed, has_cell}
 use Rattle.domain.specs.Changes.{moved_equations, free_of, cells_of, with_set, copied, moved, strongly_updated, weakly_updated, weakly_updated_sets, with_name, with_equations, with_mq, with_link, with_offsets}
 use Rattle.domain.specs.Same.{Agree}
 use Rattle.facts.proofs.Numbers.{minus_lt}
 use Rattle.facts.proofs.AgreeLemmas.{agree_trans, narrowed_agree}
 use Rattle.domain.specs.declared.offsets.CountedOffsets.{CountedOffsets}
 use Rattle.facts.specs.declared.state.AbstractState.{AbstractState}
-use Rattle.domain.specs.declared.names.Equation.{Equation as CodeEquation}
+use Rattle.domain.specs.declared.location.Equation.{Equation as CodeEquation}
 use Rattle.facts.specs.declared.state.Update.TheVariants.{Unchanged, Strong, WeakIncrement, WeakStore}
 use Rattle.domain.specs.Meaning.{equation_of, offsets_of}
 use Rattle.facts.specs.Knowing.{fact_of_state, sets_of_state, changed, IsUnchanged, source_words}
 
-pub ac_sets : (k : AbstractState) (set : Bor (List ℕ)) (new : Words) → SameWords (words set.now) new → (n : Name) → SameWords (sets_of_state (record k { ac = set }) n) (with_set Ac new (sets_of_state k) n)
+pub ac_sets : (k : AbstractState) (set : Bor (List ℕ)) (new : Words) → SameWords (words set.now) new → (n : Location) → SameWords (sets_of_state (record k { ac = set }) n) (with_set Ac new (sets_of_state k) n)
 ac_sets k set new s Ac v lt = s v lt
 ac_sets k set new s (Cell a) v lt = refl
 
 -- a new word for a cell, where its slot is free
-pub target_sets : (k : AbstractState) (c : ℕ) (set : Bor (List ℕ)) (new : Words) → IsUnchanged k.target → SameWords (words set.now) new → (n : Name) →
+pub target_sets : (k : AbstractState) (c : ℕ) (set : Bor (List ℕ)) (new : Words) → IsUnchanged k.target → SameWords (words set.now) new → (n : Location) →
     SameWords (sets_of_state (record k { target = Strong c set }) n) (with_set (Cell c) new (sets_of_state k) n)
 target_sets k c set new u s Ac v lt = refl
 target_sets k c set new u s (Cell a) v lt = go (a == c)
@@ -37,7 +37,7 @@ target_sets k c set new u s (Cell a) v lt = go (a == c)
     go true = s v lt
     go false = rw u refl
 
-pub pointer_sets : (k : AbstractState) (c : ℕ) (set : Bor (List ℕ)) (new : Words) → IsUnchanged k.pointer → IsUnchanged k.target → SameWords (words set.now) new → (n : Name) →
+pub pointer_sets : (k : AbstractState) (c : ℕ) (set : Bor (List ℕ)) (new : Words) → IsUnchanged k.pointer → IsUnchanged k.target → SameWords (words set.now) new → (n : Location) →
     SameWords (sets_of_state (record k { pointer = Strong c set; target = Unchanged }) n) (with_set (Cell c) new (sets_of_state k) n)
 pointer_sets k c set new p u s Ac v lt = refl
 pointer_sets k c set new p u s (Cell a) v lt = go (a == c)
@@ -65,7 +65,7 @@ unfolding strongly_updated
 assigned_cell k c d set es is u e = rw is (record { sets = target_sets k c set (words set.now) u (λ v lt. refl); mq = λ v lt. refl; link = λ l lt. refl; equations = e; offsets = λ o lt. refl })
 
 -- the later of two sets for one name stays
-pub set_twice : (n : Name) (s t : Words) (f : Name → Words) (m : Name) (v : ℕ) → with_set n s f m v ≡ with_set n s (with_set n t f) m v
+pub set_twice : (n : Location) (s t : Words) (f : Location → Words) (m : Location) (v : ℕ) → with_set n s f m v ≡ with_set n s (with_set n t f) m v
 set_twice n s t f m v = go (same m n)
   where
     go : (b : Bool) → (let x : Words = if b then s else f m in let y : Words = if b then t else f m in let z : Words = if b then s else y in x v ≡ z v)
@@ -93,7 +93,7 @@ pub smeared_counted : (k : AbstractState) (cells : Bor (List ℕ)) (es : Bor (Li
 unfolding weakly_updated
 smeared_counted k cells es u e = record { sets = sets; mq = λ v lt. refl; link = λ l lt. refl; equations = e; offsets = λ o lt. refl }
   where
-    sets : (n : Name) → SameWords (sets_of_state (record k { target = WeakIncrement cells; equations = es }) n) (weakly_updated_sets (words cells.now) (λ y. shifted (sets_of_state k (Cell y)) 1) (sets_of_state k) n)
+    sets : (n : Location) → SameWords (sets_of_state (record k { target = WeakIncrement cells; equations = es }) n) (weakly_updated_sets (words cells.now) (λ y. shifted (sets_of_state k (Cell y)) 1) (sets_of_state k) n)
     sets Ac v lt = refl
     sets (Cell a) v lt = rw u refl
 
@@ -102,19 +102,19 @@ pub smeared_stored : (k : AbstractState) (cells set : Bor (List ℕ)) (es : Bor 
 unfolding weakly_updated
 smeared_stored k cells set es u e = record { sets = sets; mq = λ v lt. refl; link = λ l lt. refl; equations = e; offsets = λ o lt. refl }
   where
-    sets : (n : Name) → SameWords (sets_of_state (record k { target = WeakStore cells set; equations = es }) n) (weakly_updated_sets (words cells.now) (λ y. words set.now) (sets_of_state k) n)
+    sets : (n : Location) → SameWords (sets_of_state (record k { target = WeakStore cells set; equations = es }) n) (weakly_updated_sets (words cells.now) (λ y. words set.now) (sets_of_state k) n)
     sets Ac v lt = refl
     sets (Cell a) v lt = rw u refl
 
 -- agreement is kept by what happens to facts
-pub with_set_same : (f g : Name → Words) (s t : Words) (n : Name) → ((m : Name) → SameWords (f m) (g m)) → SameWords s t → (m : Name) → SameWords (with_set n s f m) (with_set n t g m)
+pub with_set_same : (f g : Location → Words) (s t : Words) (n : Location) → ((m : Location) → SameWords (f m) (g m)) → SameWords s t → (m : Location) → SameWords (with_set n s f m) (with_set n t g m)
 with_set_same f g s t n h e m v lt = go (same m n)
   where
     go : (b : Bool) → (let x : Words = if b then s else f m in let y : Words = if b then t else g m in x v ≡ y v)
     go true = e v lt
     go false = h m v lt
 
-pub assigned_agree : {f g : Fact} {s t : Words} (n : Name) → Agree f g → SameWords s t → Agree (strongly_updated n s f) (strongly_updated n t g)
+pub assigned_agree : {f g : Fact} {s t : Words} (n : Location) → Agree f g → SameWords s t → Agree (strongly_updated n s f) (strongly_updated n t g)
 unfolding strongly_updated
 assigned_agree {f} {g} {s} {t} n h e = record {
   sets = with_set_same f.set g.set s t n h.sets e;
@@ -127,7 +127,7 @@ assigned_agree {f} {g} {s} {t} n h e = record {
 pub told_agree : {f g : Fact} (es : List Equation) → Agree f g → Agree (with_equations es f) (with_equations es g)
 told_agree es h = record { sets = h.sets; mq = h.mq; link = h.link; equations = ap (λ x. es ++ x) h.equations; offsets = h.offsets }
 
-pub moved_agree : {f g : Fact} (n : Name) (k : ℕ) → Agree f g → Agree (moved n k f) (moved n k g)
+pub moved_agree : {f g : Fact} (n : Location) (k : ℕ) → Agree f g → Agree (moved n k f) (moved n k g)
 unfolding moved
 moved_agree {f} {g} n k h = record {
   sets = with_set_same f.set g.set (shifted (narrowed f n) k) (shifted (narrowed g n) k) n h.sets (λ v lt. narrowed_agree h n (minus v k) (minus_lt v k));
@@ -151,14 +151,14 @@ smeared_agree {f} {g} {p} {q} {s} {t} h e n = record { sets = sets; mq = h.mq; l
     names : cells_of p ≡ cells_of q
     names = fun_ext (λ m. name m)
       where
-        name : (m : Name) → cells_of p m ≡ cells_of q m
+        name : (m : Location) → cells_of p m ≡ cells_of q m
         name Ac = refl
         name (Cell a) = has a
 
     frees : free_of (cells_of p) f.equations ≡ free_of (cells_of q) g.equations
     frees = ap (λ x. free_of x f.equations) names ∙ ap (free_of (cells_of q)) h.equations
 
-    sets : (m : Name) → SameWords (weakly_updated_sets p s f.set m) (weakly_updated_sets q t g.set m)
+    sets : (m : Location) → SameWords (weakly_updated_sets p s f.set m) (weakly_updated_sets q t g.set m)
     sets Ac v lt = h.sets Ac v lt
     sets (Cell a) v lt = go (has_cell p a) (has_cell q a) (has a)
       where
@@ -173,14 +173,14 @@ link_agree h e = record { sets = h.sets; mq = h.mq; link = e; equations = h.equa
 pub mq_agree : {f g : Fact} {l m : Words} → Agree f g → SameWords l m → Agree (with_mq l f) (with_mq m g)
 mq_agree h e = record { sets = h.sets; mq = e; link = h.link; equations = h.equations; offsets = h.offsets }
 
-pub name_agree : {f g : Fact} {s t : Words} (n : Name) → Agree f g → SameWords s t → Agree (with_name n s f) (with_name n t g)
+pub name_agree : {f g : Fact} {s t : Words} (n : Location) → Agree f g → SameWords s t → Agree (with_name n s f) (with_name n t g)
 name_agree {f} {g} {s} {t} n h e = record { sets = with_set_same f.set g.set s t n h.sets e; mq = h.mq; link = h.link; equations = h.equations; offsets = h.offsets }
 
 pub holding_agrees : (k : AbstractState) (set : Bor (List ℕ)) → Agree (fact_of_state (record k { ac = set })) (with_name Ac (words set.now) (fact_of_state k))
 holding_agrees k set = record { sets = ac_sets k set (words set.now) (λ v lt. refl); mq = λ v lt. refl; link = λ l lt. refl; equations = refl; offsets = λ o lt. refl }
 
 -- the sets of names aren't touched by what else is known
-same_sets : (k : AbstractState) (mq : Bor (List ℕ)) (link : CodeLinks) (es : Bor (List CodeEquation)) (o : CountedOffsets) (n : Name) → SameWords (sets_of_state (record k { mq = mq; link = link; equations = es; offsets = o }) n) (sets_of_state k n)
+same_sets : (k : AbstractState) (mq : Bor (List ℕ)) (link : CodeLinks) (es : Bor (List CodeEquation)) (o : CountedOffsets) (n : Location) → SameWords (sets_of_state (record k { mq = mq; link = link; equations = es; offsets = o }) n) (sets_of_state k n)
 same_sets k mq link es o Ac v lt = refl
 same_sets k mq link es o (Cell a) v lt = refl
 

@@ -4,9 +4,9 @@ use Rattle.std.proofs.lemmas.Bool.{and_from, and_parts, eqb-true, eq-eqb, true�
 use Rattle.std.proofs.lemmas.List.{drop_more}
 use Rattle.std.proofs.Math.ListN.{drop_of_length-le}
 use Rattle.wordset.specs.Words.{plus, minus, Words, SameWords, IsWithin, only}
-use Rattle.domain.specs.Facts.{Name, Ac, Cell, same, Equation, Fact, narrowed, met_by, Knows, KnowsAll, Entails, EntailsOffsets}
+use Rattle.domain.specs.Facts.{Location, Ac, Cell, same, Equation, Fact, narrowed, met_by, Knows, KnowsAll, Entails, EntailsOffsets}
 use Rattle.domain.specs.declared.fact.Fact.{Fact as CodeFact}
-use Rattle.domain.specs.declared.names.Equation.{Equation as CodeEquation}
+use Rattle.domain.specs.declared.location.Equation.{Equation as CodeEquation}
 use Rattle.domain.specs.Statements.{TrackedCell, tracked, cell_at}
 use Rattle.facts.specs.Showing.{Shows, EachWithin, EntailsRegisters}
 use Rattle.domain.specs.Meaning.{equation_of, statement_of, meaning}
@@ -31,7 +31,7 @@ pub not_both : {A : Type 0} (b : Bool) → b ≡ false → (A → IsTrue b) → 
 not_both b e h a = true≢false (sym (h a) ∙ e)
 
 -- one equation after another
-pub meet_one : (f : Fact) (n : Name) (e : Equation) (es : List Equation) (old new : Words) → Meets f n e old new → (v : ℕ) → v < 4096 →
+pub meet_one : (f : Fact) (n : Location) (e : Equation) (es : List Equation) (old new : Words) → Meets f n e old new → (v : ℕ) → v < 4096 →
     (new v && met_by f n es v) ≡ (old v && met_by f n (e ∷ es) v)
 meet_one f n e es old new m v lt = rw (m v lt) (go (old v) _ _ _)
   where
@@ -87,12 +87,12 @@ pub knows_fails : (f : Fact) (es : List CodeEquation) (i : ℕ) (g : CodeEquatio
 knows_fails f es i g lt e not h =
     not_true (λ a. (let p : KnowsAll f (map equation_of (g ∷ drop (i + 1) es)) = subst (λ xs. KnowsAll f (map equation_of xs)) (drop_item es i g lt e) (h.1 a) in not p.0))
 
-pub narrowed_step : (f : Fact) (n : Name) (es : List CodeEquation) (i : ℕ) (g : CodeEquation) (old new : Words) → i < length es → g ≡ get_or es i g → Meets f n (equation_of g) old new →
+pub narrowed_step : (f : Fact) (n : Location) (es : List CodeEquation) (i : ℕ) (g : CodeEquation) (old new : Words) → i < length es → g ≡ get_or es i g → Meets f n (equation_of g) old new →
     (v : ℕ) → v < 4096 → (new v && met_by f n (map equation_of (drop (i + 1) es)) v) ≡ (old v && met_by f n (map equation_of (drop i es)) v)
 narrowed_step f n es i g old new h e m v lt =
     meet_one f n (equation_of g) (map equation_of (drop (i + 1) es)) old new m v lt ∙ ap (λ xs. old v && met_by f n (map equation_of xs) v) (sym (drop_item es i g h e))
 
-pub narrowed_end : (f : Fact) (n : Name) (es : List CodeEquation) (i : ℕ) (set old : Words) → length es ≤ i →
+pub narrowed_end : (f : Fact) (n : Location) (es : List CodeEquation) (i : ℕ) (set old : Words) → length es ≤ i →
     ((v : ℕ) → v < 4096 → (set v && met_by f n (map equation_of (drop i es)) v) ≡ old v) → (v : ℕ) → v < 4096 → set v ≡ old v
 narrowed_end f n es i set old h inv v lt =
     let e : drop i es ≡ [] = drop_of_length-le es h in
@@ -107,16 +107,16 @@ pub entails_iff : (k : Fact) (f : CodeFact) (b : Bool) → EntailsRegisters k (m
     (IsTrue b ↔ KnowsAll k (meaning f).equations) → IsTrue b ↔ (Entails k (meaning f) × EntailsOffsets k (meaning f))
 entails_iff k f b registers offsets each know = (λ t. (record { sets = sets; mq = registers.mq; link = registers.link; equations = know.0 t }, offsets), λ e. know.1 e.0.equations)
   where
-    sets : (n : Name) → IsWithin (narrowed k n) ((meaning f).set n)
+    sets : (n : Location) → IsWithin (narrowed k n) ((meaning f).set n)
     sets Ac = registers.ac
     sets (Cell a) = each_tracked k (statement_of f).cells each a
 
 -- sets that aren't narrowed
-pub narrowed_inside : (f : Fact) (n : Name) (s : Words) → IsWithin (f.set n) s → IsWithin (narrowed f n) s
+pub narrowed_inside : (f : Fact) (n : Location) (s : Words) → IsWithin (f.set n) s → IsWithin (narrowed f n) s
 unfolding narrowed
 narrowed_inside f n s w v lt h = w v lt (and_parts _ _ h).0
 
-pub unspoken : (f : Fact) (n : Name) (e : Equation) (old : Words) → (same e.left n || same e.right n) ≡ false → Meets f n e old old
+pub unspoken : (f : Fact) (n : Location) (e : Equation) (old : Words) → (same e.left n || same e.right n) ≡ false → Meets f n e old old
 unspoken f n e old h v lt = go (same e.left n) (same e.right n) h (old v) _ _
   where
     go : (p q : Bool) → (p || q) ≡ false → (o x y : Bool) → o ≡ (o && ((if p then x else true) && ((if q then y else true) && true)))

@@ -2,11 +2,11 @@ use Rattle.std.proofs.Common.{◌≡◌, ℕ, ◌<◌, ◌==◌, Bool, true, fal
 use Rattle.std.specs.Prelude.{if◌then◌else◌, nat_lt}
 use Rattle.std.proofs.lemmas.Bool.{and_from, cases_Bool, eqb-true, ne_eqb, true≢false, false≢true}
 use Rattle.wordset.specs.Words.{plus, minus, Words, union, shifted}
-use Rattle.domain.specs.Facts.{Name, Ac, Cell, same, Equation, Fact, Values, IsTrueOf, AllTrue, Holds, met_by, narrowed, Among, Knows, KnowsAll, Entails, has_cell, is_outside, outside, joined}
+use Rattle.domain.specs.Facts.{Location, Ac, Cell, same, Equation, Fact, Values, IsTrueOf, AllTrue, Holds, met_by, narrowed, Among, Knows, KnowsAll, Entails, has_cell, is_outside, outside, joined}
 use Rattle.domain.specs.Changes.{moved_equations, with_set, moved, free_of, strongly_updated, cells_of, weakly_updated_sets, weakly_updated, oriented, copy_of, copied, with_equations}
 use Rattle.facts.proofs.Numbers.{minus_plus, moved_number, or_left, or_right, only_tells}
 
-pub same_true : (m n : Name) → same m n ≡ true → m ≡ n
+pub same_true : (m n : Location) → same m n ≡ true → m ≡ n
 same_true Ac Ac e = refl
 same_true Ac (Cell b) e = absurd (false≢true e)
 same_true (Cell a) Ac e = absurd (false≢true e)
@@ -17,17 +17,17 @@ same_cell a b h = ne_eqb a b h
 
 -- every name stands for a word
 pub record WordsAre (v : Values) : Type 0 where
-  pub each : (n : Name) → v n < 4096
+  pub each : (n : Location) → v n < 4096
 
 -- the values changed at n at most
-pub record OnlyAt (n : Name) (v w : Values) : Type 0 where
-  pub others : (m : Name) → same m n ≡ false → w m ≡ v m
+pub record OnlyAt (n : Location) (v w : Values) : Type 0 where
+  pub others : (m : Location) → same m n ≡ false → w m ≡ v m
 
 if_met : (b t : Bool) → (b ≡ true → t ≡ true) → (if b then t else true) ≡ true
 if_met true t h = h refl
 if_met false t h = refl
 
-met_true : (f : Fact) (v : Values) (n : Name) → WordsAre v → Holds f v → (es : List Equation) → AllTrue v es → met_by f n es (v n) ≡ true
+met_true : (f : Fact) (v : Values) (n : Location) → WordsAre v → Holds f v → (es : List Equation) → AllTrue v es → met_by f n es (v n) ≡ true
 met_true f v n ws h [] t = refl
 met_true f v n ws h (e ∷ es) t =
     and_from _ _
@@ -43,12 +43,12 @@ met_true f v n ws h (e ∷ es) t =
     rw x (h.sets e.left)))
     (met_true f v n ws h es t.1))
 
-pub narrowed_at : {f : Fact} {v : Values} → WordsAre v → Holds f v → (n : Name) → narrowed f n (v n) ≡ true
+pub narrowed_at : {f : Fact} {v : Values} → WordsAre v → Holds f v → (n : Location) → narrowed f n (v n) ≡ true
 unfolding narrowed
 narrowed_at {f} {v} ws h n = and_from _ _ (h.sets n) (met_true f v n ws h f.equations h.equations)
 
 -- a name is the one that changed, or keeps its word
-either : {n : Name} {v w : Values} (k : ℕ) → OnlyAt n v w → w n ≡ plus (v n) k → (m : Name) →
+either : {n : Location} {v w : Values} (k : ℕ) → OnlyAt n v w → w n ≡ plus (v n) k → (m : Location) →
     w m ≡ (if same m n then plus (v m) k else v m)
 either {n} {v} {w} k o e m = go (same m n) refl
   where
@@ -56,15 +56,15 @@ either {n} {v} {w} k o e m = go (same m n) refl
     go true q = let l : m ≡ n = same_true m n q in rw l e
     go false q = o.others m q
 
-set_at : (n : Name) (set : Words) (sets : Name → Words) (w : Values) → set (w n) ≡ true →
-    ((m : Name) → same m n ≡ false → sets m (w m) ≡ true) → (m : Name) → with_set n set sets m (w m) ≡ true
+set_at : (n : Location) (set : Words) (sets : Location → Words) (w : Values) → set (w n) ≡ true →
+    ((m : Location) → same m n ≡ false → sets m (w m) ≡ true) → (m : Location) → with_set n set sets m (w m) ≡ true
 set_at n set sets w here there m = go (same m n) refl
   where
     go : (b : Bool) → same m n ≡ b → (let chosen : Words = if b then set else sets m in chosen (w m) ≡ true)
     go true q = let l : m ≡ n = same_true m n q in rw l here
     go false q = there m q
 
-moved_all : {n : Name} {v w : Values} (k : ℕ) → WordsAre v → OnlyAt n v w → w n ≡ plus (v n) k → (es : List Equation) → AllTrue v es → AllTrue w (moved_equations n k es)
+moved_all : {n : Location} {v w : Values} (k : ℕ) → WordsAre v → OnlyAt n v w → w n ≡ plus (v n) k → (es : List Equation) → AllTrue v es → AllTrue w (moved_equations n k es)
 moved_all k ws o e [] t = tt
 moved_all {n} {v} {w} k ws o e (g ∷ es) t = (
   moved_number (same g.left n) (same g.right n) (v g.left) (v g.right) (w g.left) (w g.right) k g.more
@@ -72,7 +72,7 @@ moved_all {n} {v} {w} k ws o e (g ∷ es) t = (
   moved_all k ws o e es t.1,
 )
 
-pub moved_holds : {n : Name} {f : Fact} {v w : Values} (k : ℕ) → WordsAre v → Holds f v → OnlyAt n v w → w n ≡ plus (v n) k → Holds (moved n k f) w
+pub moved_holds : {n : Location} {f : Fact} {v w : Values} (k : ℕ) → WordsAre v → Holds f v → OnlyAt n v w → w n ≡ plus (v n) k → Holds (moved n k f) w
 unfolding moved
 moved_holds {n} {f} {v} {w} k ws h o e = record {
   sets = set_at n (shifted (narrowed f n) k) f.set w
@@ -81,7 +81,7 @@ moved_holds {n} {f} {v} {w} k ws h o e = record {
   equations = moved_all k ws o e f.equations h.equations;
 }
 
-free_all : {v w : Values} (names : Name → Bool) → ((m : Name) → names m ≡ false → w m ≡ v m) → (es : List Equation) → AllTrue v es → AllTrue w (free_of names es)
+free_all : {v w : Values} (names : Location → Bool) → ((m : Location) → names m ≡ false → w m ≡ v m) → (es : List Equation) → AllTrue v es → AllTrue w (free_of names es)
 free_all names o [] t = tt
 free_all {v} {w} names o (e ∷ es) t = go (free_all names o es t.1) (names e.left) (names e.right) refl refl
   where
@@ -90,7 +90,7 @@ free_all {v} {w} names o (e ∷ es) t = go (free_all names o es t.1) (names e.le
     go rest false true p q = rest
     go rest false false p q = (o e.left p ∙ (t.0 ∙ ap (λ x. plus x e.more) (sym (o e.right q))), rest)
 
-pub assigned_holds : {n : Name} {f : Fact} {v w : Values} (set : Words) → Holds f v → OnlyAt n v w → set (w n) ≡ true → Holds (strongly_updated n set f) w
+pub assigned_holds : {n : Location} {f : Fact} {v w : Values} (set : Words) → Holds f v → OnlyAt n v w → set (w n) ≡ true → Holds (strongly_updated n set f) w
 unfolding strongly_updated
 assigned_holds {n} {f} {v} {w} set h o e = record {
   sets = set_at n set f.set w e (λ m q. rw (o.others m q) (h.sets m));
@@ -106,11 +106,11 @@ smeared_holds {f} {v} {w} cells new h ac out within = record {
   equations = free_all (cells_of cells) kept f.equations h.equations;
 }
   where
-    kept : (m : Name) → cells_of cells m ≡ false → w m ≡ v m
+    kept : (m : Location) → cells_of cells m ≡ false → w m ≡ v m
     kept Ac q = ac
     kept (Cell a) q = out a q
 
-    sets : (m : Name) → weakly_updated_sets cells new f.set m (w m) ≡ true
+    sets : (m : Location) → weakly_updated_sets cells new f.set m (w m) ≡ true
     sets Ac = rw ac (h.sets Ac)
     sets (Cell a) = go (nat_lt a 4096 && cells a) refl
       where
@@ -132,7 +132,7 @@ copy_all : {v w : Values} (y : ℕ) → WordsAre v → w (Cell y) ≡ v Ac → O
 copy_all y ws e o [] t = tt
 copy_all {v} {w} y ws e o (g ∷ es) t = go (copy_all y ws e o es t.1) g.left g.right g.more t.0
   where
-    go : AllTrue w (copied y es) → (l r : Name) (k : ℕ) → v l ≡ plus (v r) k → AllTrue w (copy_of y l r k (copied y es))
+    go : AllTrue w (copied y es) → (l r : Location) (k : ℕ) → v l ≡ plus (v r) k → AllTrue w (copy_of y l r k (copied y es))
     go rest (Cell x) r k q = rest
     go rest Ac Ac k q = rest
     go rest Ac (Cell z) k q = at (z == y) refl
@@ -201,7 +201,7 @@ outside_holds {f} {v} written h = record {
 }
 
 -- it still does after cells of the set changed
-kept_outside : (v w : Values) (written : Words) → ((a : ℕ) → has_cell written a ≡ false → w (Cell a) ≡ v (Cell a)) → (n : Name) → is_outside written n ≡ true → w n ≡ v n
+kept_outside : (v w : Values) (written : Words) → ((a : ℕ) → has_cell written a ≡ false → w (Cell a) ≡ v (Cell a)) → (n : Location) → is_outside written n ≡ true → w n ≡ v n
 kept_outside v w written o Ac q = absurd (false≢true q)
 kept_outside v w written o (Cell a) q = o a (elim (cases_Bool (has_cell written a)) [ inl t ↦ absurd (true≢false (sym q ∙ ap not t)) | inr t ↦ t ])
 
@@ -228,7 +228,7 @@ joined_holds {call} {exit} {v} written c x = record {
   equations = all_append v (outside written call.equations) exit.equations c.equations x.equations;
 }
   where
-    sets : (n : Name) → (let chosen : Words = if is_outside written n then call.set n else exit.set n in chosen (v n) ≡ true)
+    sets : (n : Location) → (let chosen : Words = if is_outside written n then call.set n else exit.set n in chosen (v n) ≡ true)
     sets Ac = x.sets Ac
     sets (Cell a) = go (has_cell written a) refl
       where

@@ -6,7 +6,7 @@ use Rattle.wordset.specs.Words.{plus, Words, some_below}
 use Rattle.processor.specs.Cells.{Cells}
 use Rattle.processor.specs.Machine.{State}
 use Rattle.processor.specs.Runs.{Image, IsStart}
-use Rattle.domain.specs.Facts.{Name, Ac, Cell, same, Equation, Fact, Values, IsTrueOf, AllTrue, values, Place}
+use Rattle.domain.specs.Facts.{Location, Ac, Cell, same, Equation, Fact, Values, IsTrueOf, AllTrue, values, Place}
 use Rattle.facts.specs.Starts.{HoldsOfStarts, each_below, has_each, is_always_between, is_always_of, is_always, are_always, holds_before, AreTapeWords, TracksWords, StartLaw}
 use Rattle.facts.proofs.Numbers.{if_below, some_not}
 use Rattle.facts.proofs.Laws.{same_true}
@@ -69,7 +69,7 @@ module _ (pl : Place) (tape : AreTapeWords pl.image) (begin : pl.declaration.sta
       go true = refl
       go false = refl
 
-  begun_word : (s : State) → IsStart pl.image pl.declaration.start s → (n : Name) → begun s n < 4096
+  begun_word : (s : State) → IsStart pl.image pl.declaration.start s → (n : Location) → begun s n < 4096
   begun_word s st Ac = st.ac
   begun_word s st (Cell a) = rw (begun_cell s a) (st.words a)
 
@@ -83,7 +83,7 @@ module _ (pl : Place) (tape : AreTapeWords pl.image) (begin : pl.declaration.sta
   between_true (Some u) None x y more e l r = absurd (false≢true e)
   between_true None p x y more e l r = absurd (false≢true e)
 
-  of_true : (s : State) → IsStart pl.image pl.declaration.start s → (l r : Name) (more : ℕ) → is_always_of pl.image l r more ≡ true → begun s l ≡ plus (begun s r) more
+  of_true : (s : State) → IsStart pl.image pl.declaration.start s → (l r : Location) (more : ℕ) → is_always_of pl.image l r more ≡ true → begun s l ≡ plus (begun s r) more
   of_true s st (Cell a) (Cell b) more e =
       rw (begun_cell s a, begun_cell s b) (between_true (pl.image a) (pl.image b) (s.memory a) (s.memory b) more e (λ w q. st.loaded a w q) (λ w q. st.loaded b w q))
   of_true s st Ac r more e = absurd (false≢true e)
@@ -159,7 +159,7 @@ module _ (pl : Place) (tape : AreTapeWords pl.image) (begin : pl.declaration.sta
   ac_start : (ac : ℕ) → ac < 4096 → IsStart pl.image pl.declaration.start (state_with ac 0 0 (λ a. 0))
   ac_start ac lt = start_of ac lt (λ a. 0) (λ a. lit< tt)
 
-  of_always : (l r : Name) (more : ℕ) → same l r ≡ false → OfAll (λ v. v l ≡ plus (v r) more) → is_always_of pl.image l r more ≡ true
+  of_always : (l r : Location) (more : ℕ) → same l r ≡ false → OfAll (λ v. v l ≡ plus (v r) more) → is_always_of pl.image l r more ≡ true
   of_always (Cell a) (Cell b) more n h = cells_always a b more (λ e. true≢false (sym (eq-eqb a b e) ∙ n)) h
   of_always Ac Ac more n h = absurd (true≢false n)
   of_always Ac (Cell b) more n h = absurd (no_number (begun (state_with 0 0 0 (λ a. 0)) (Cell b)) more
@@ -206,7 +206,7 @@ module _ (pl : Place) (tape : AreTapeWords pl.image) (begin : pl.declaration.sta
         | inr t ↦ tracks x (s.memory x) (ltb-false x 4096 t)
       ]
 
-      sets : each_below 4096 (f.set Ac) ≡ true → each_below 4096 (λ x. has_each (pl.image x) (f.set (Cell x))) ≡ true → (n : Name) → f.set n (begun s n) ≡ true
+      sets : each_below 4096 (f.set Ac) ≡ true → each_below 4096 (λ x. has_each (pl.image x) (f.set (Cell x))) ≡ true → (n : Location) → f.set n (begun s n) ≡ true
       sets p q Ac = each_at 4096 (f.set Ac) s.ac st.ac p
       sets p q (Cell x) = rw (begun_cell s x) (cell_set q x)
 

@@ -10,7 +10,7 @@ use Rattle.processor.specs.Cells.{Cells, updated}
 use Rattle.processor.specs.Machine.{State, seen, place, steps_pointer, next_pc}
 use Rattle.declaration.specs.Declaration.{IsDeclared}
 use Rattle.policy.specs.Calls.{Calls}
-use Rattle.domain.specs.Facts.{Name, Ac, Cell, same, Fact, Values, Holds, narrowed, values, Place, OwnWord, StandsIn, Means, is_routine, words_in}
+use Rattle.domain.specs.Facts.{Location, Ac, Cell, same, Fact, Values, Holds, narrowed, values, Place, OwnWord, StandsIn, Means, is_routine, words_in}
 use Rattle.domain.specs.Changes.{with_set, moved, strongly_updated, weakly_updated, with_equations, with_mq, with_link, with_offsets, with_name}
 use Rattle.facts.specs.Outcomes.{stepped, targets, words_at, Successor, Goes, given, alive, goes, tad_word, tad_case, tad_fact, tad, isz_case, dca_case, jmp, anded, ac_after, link_after, changes_ac, related1, operated1, part2, related2, operated2, all_operated2, operated3, device_outcomes}
 use Rattle.facts.specs.Law.{IsState, TopIsEntry, LandsIn, SomeOutcome}
@@ -178,7 +178,7 @@ module _ (pl : Place) (dd : IsDeclared pl.declaration) (start : Cells) (sw : (a 
           let m : Holds (moved Ac w f) now = moved_holds w (names_words f s ks ss h) h.holds moves (ap (λ x. plus s.ac x) (sym (q w refl))) in
           record { sets = sets m.sets; equations = m.equations }
         where
-          sets : ((n : Name) → (moved Ac w f).set n (now n) ≡ true) → (n : Name) → (with_name Ac (sums (narrowed f Ac) v) (moved Ac w f)).set n (now n) ≡ true
+          sets : ((n : Location) → (moved Ac w f).set n (now n) ≡ true) → (n : Location) → (with_name Ac (sums (narrowed f Ac) v) (moved Ac w f)).set n (now n) ≡ true
           sets m Ac = sum
           sets m (Cell a) = m (Cell a)
 
@@ -271,7 +271,7 @@ module _ (pl : Place) (dd : IsDeclared pl.declaration) (start : Cells) (sw : (a 
       here : now (Cell y) ≡ plus (s.memory y) 1
       here = value_of pl.declaration start s.ac (updated s.memory y (plus (s.memory y) 1)) y var ∙ updated_same s.memory y (plus (s.memory y) 1)
 
-      sets : (n : Name) → with_set (Cell y) set (moved (Cell y) 1 f).set n (now n) ≡ true
+      sets : (n : Location) → with_set (Cell y) set (moved (Cell y) 1 f).set n (now n) ≡ true
       sets n = go (same n (Cell y)) refl
         where
           go : (b : Bool) → same n (Cell y) ≡ b → (let chosen : Words = if b then set else (moved (Cell y) 1 f).set n in chosen (now n) ≡ true)
@@ -489,7 +489,7 @@ module _ (pl : Place) (dd : IsDeclared pl.declaration) (start : Cells) (sw : (a 
       Means pl start (with_link links (with_name Ac set f)) (record s { ac = s.ac; link = link; pc = pc }) ks
   set_means f s ks set links link pc h e l = means_like f (with_link links (with_name Ac set f)) s ks s.ac link s.mq pc h (record { sets = sets; equations = h.holds.equations }) h.mq l refl
     where
-      sets : (n : Name) → with_set Ac set f.set n (values pl.declaration start s.ac s.memory n) ≡ true
+      sets : (n : Location) → with_set Ac set f.set n (values pl.declaration start s.ac s.memory n) ≡ true
       sets Ac = e
       sets (Cell a) = h.holds.sets (Cell a)
 

@@ -27,7 +27,7 @@ source_words (Joined call exit written) a =
     if has_cell (words written.now) a then cell_words exit.now a else cell_words call.now a
 
 -- The words of a name: what the two changes make of where they come from.
-abbrev pub sets_of_state : AbstractState → spec.Name → Words
+abbrev pub sets_of_state : AbstractState → spec.Location → Words
 sets_of_state k Ac = words k.ac.now
 sets_of_state k (Cell a) = changed k.target a (changed k.pointer a (source_words k.base a))
 
@@ -42,7 +42,7 @@ fact_of_state k = record {
 }
 
 -- The words that an equation leaves of a set to a name.
-abbrev pub Meets : spec.Fact → spec.Name → spec.Equation → Words → Words → Type 0
+abbrev pub Meets : spec.Fact → spec.Location → spec.Equation → Words → Words → Type 0
 Meets f n e old new = (v : ℕ) → v < 4096 → new v ≡ (old v && met_by f n (e ∷ []) v)
 
 -- Nothing is changed.

@@ -3,7 +3,7 @@ use Rattle.std.specs.Prelude.{◌≡◌, ℕ, ◌%◌, ◌<◌, ◌≤◌, ◌==
 use Rattle.wordset.specs.Words.{plus, Words, some_below}
 use Rattle.processor.specs.Machine.{State}
 use Rattle.processor.specs.Runs.{Image, IsStart}
-use Rattle.domain.specs.Facts.{Name, Ac, Cell, same, Equation, Fact, Place, Means}
+use Rattle.domain.specs.Facts.{Location, Ac, Cell, same, Equation, Fact, Place, Means}
 
 -- The fact holds of every start of the machine, with no call open.
 abbrev pub HoldsOfStarts : Place → Fact → Type 0
@@ -26,7 +26,7 @@ is_always_between (Some x) None more = false
 is_always_between None y more = false
 
 -- The equation between two different names is true whatever the start.
-abbrev pub is_always_of : Image → Name → Name → ℕ → Bool
+abbrev pub is_always_of : Image → Location → Location → ℕ → Bool
 is_always_of image (Cell a) (Cell b) more = is_always_between (image a) (image b) more
 is_always_of image Ac right more = false
 is_always_of image (Cell a) Ac more = false

@@ -22,7 +22,7 @@ use crate::place::Place;
 use crate::references::steps_pointer;
 use crate::scratch::Scratch;
 use crate::successor::Outcomes;
-use domain::{Fact, Name};
+use domain::{Fact, Location};
 use instruct::{Instruction, Operation, decode, halts, refers_indirectly, target};
 use std::alloc::Allocator;
 use word12::Word;
@@ -49,7 +49,7 @@ impl<A: Allocator> Place<'_, A> {
         ensures { SameWords (words result) (possible (place_of self.now) (meaning fact.now) at) }
     {
         if self.declaration.is_variable(at) {
-            return narrowed(fact, &Name::Cell(at));
+            return narrowed(fact, &Location::Cell(at));
         }
         match word_of(self.image, at) {
             None => WordSet::all(),

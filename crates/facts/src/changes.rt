@@ -13,7 +13,7 @@ ghost use Rattle.facts.specs.Knowing.{fact_of_state, IsUnchanged};
 
 use crate::equations::{Equations, add_all, add_free, copy_to, free, free_of_cells, raise};
 use crate::state::{AbstractState, Update};
-use domain::{CountedOffsets, Equation, Name};
+use domain::{CountedOffsets, Equation, Location};
 use word12::Word;
 use wordset::{Links, WordSet};
 
@@ -34,8 +34,8 @@ impl<'a> AbstractState<'a> {
         ensures len { length result.equations.now ≤ length self.now.equations.now }
     {
         let one = Word::ZERO.increment();
-        let set = self.shifted_in(&Name::Cell(cell), one, place);
-        raise(&Name::Cell(cell), one, self.equations, list);
+        let set = self.shifted_in(&Location::Cell(cell), one, place);
+        raise(&Location::Cell(cell), one, self.equations, list);
         AbstractState {
             pointer: Update::Strong(cell.index(), set),
             target: Update::Unchanged,
@@ -53,7 +53,7 @@ impl<'a> AbstractState<'a> {
         ensures target { result.target ≡ self.now.target }
         ensures len { length result.equations.now ≤ length self.now.equations.now }
     {
-        free(&Name::Accumulator, self.equations, list);
+        free(&Location::Accumulator, self.equations, list);
         AbstractState {
             ac: set,
             equations: list.as_slice(),
@@ -75,7 +75,7 @@ impl<'a> AbstractState<'a> {
             (strongly_updated (Cell cell) (words set.now) (fact_of_state self.now)) }
         ensures len { length result.equations.now ≤ length self.now.equations.now }
     {
-        free(&Name::Cell(cell), self.equations, list);
+        free(&Location::Cell(cell), self.equations, list);
         AbstractState {
             target: Update::Strong(cell.index(), set),
             equations: list.as_slice(),
@@ -135,7 +135,7 @@ impl<'a> AbstractState<'a> {
         ensures len { length result.equations.now ≤ length self.now.equations.now }
     {
         let one = Word::ZERO.increment();
-        raise(&Name::Cell(cell), one, self.equations, list);
+        raise(&Location::Cell(cell), one, self.equations, list);
         AbstractState {
             target: Update::Strong(cell.index(), set),
             equations: list.as_slice(),
@@ -214,7 +214,7 @@ impl<'a> AbstractState<'a> {
         ensures { Agree (fact_of_state result) (with_name Ac (words set.now)
             (moved Ac k (fact_of_state self.now))) }
     {
-        raise(&Name::Accumulator, k, self.equations, list);
+        raise(&Location::Accumulator, k, self.equations, list);
         AbstractState {
             ac: set,
             equations: list.as_slice(),
@@ -240,11 +240,11 @@ impl<'a> AbstractState<'a> {
     {
         list.clear();
         list.push(Equation {
-            left: Name::Accumulator,
+            left: Location::Accumulator,
             right: cell,
             more,
         });
-        add_free(&Name::Accumulator, self.equations, list);
+        add_free(&Location::Accumulator, self.equations, list);
         AbstractState {
             ac: set,
             equations: list.as_slice(),

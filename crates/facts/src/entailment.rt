@@ -7,7 +7,7 @@ ghost use Rattle.bin_tape.specs.Image.{HoldsWords};
 ghost use Rattle.peripherals.specs.Loading.{image_of};
 ghost use Rattle.domain.specs.Facts.{narrowed, joined, Entails, EntailsOffsets};
 ghost use Rattle.facts.specs.Starts.{HoldsOfStarts, each_below, has_each, is_always, are_always, holds_before};
-ghost use Rattle.domain.specs.Meaning.{name_of, equation_of, tracked_cells, meaning};
+ghost use Rattle.domain.specs.Meaning.{location_of, equation_of, tracked_cells, meaning};
 ghost use Rattle.facts.specs.Places.{main_of};
 ghost use Rattle.facts.specs.Showing.{MayStart, AreCells, allows_all};
 
@@ -16,7 +16,7 @@ use crate::state::AbstractState;
 use arrayvec::ArrayVec;
 use bin_tape::Image;
 use declaration::Declaration;
-use domain::{Equation, Fact, Name, TrackedCells};
+use domain::{Equation, Fact, Location, TrackedCells};
 use std::alloc::Allocator;
 use word12::Word;
 use wordset::WordSet;
@@ -24,8 +24,8 @@ use wordset::WordSet;
 /// The words that the equations of a fact leave to a name: its set met with its partners' sets,
 /// shifted along the equations, one step only.
 #[tactic(auto, using(crate::proofs::AgreeLemmas::narrowed_agree))]
-pub fn narrowed(fact: &Fact, name: &Name) -> WordSet
-    ensures { SameWords (words result) (narrowed (meaning fact.now) (name_of name.now)) }
+pub fn narrowed(fact: &Fact, name: &Location) -> WordSet
+    ensures { SameWords (words result) (narrowed (meaning fact.now) (location_of name.now)) }
 {
     AbstractState::of(fact).narrowed(name)
 }
@@ -176,8 +176,8 @@ pub fn is_always(equation: &Equation, image: &Image) -> bool
     ensures { result ≡ is_always (image_of image.now) (equation_of equation.now) }
 {
     match &equation.left {
-        Name::Accumulator => false,
-        Name::Cell(left) => {
+        Location::Accumulator => false,
+        Location::Cell(left) => {
             if *left == equation.right {
                 return equation.more.index() == 0;
             }

@@ -5,10 +5,10 @@ ghost use Rattle.arrayvec.specs.ArrayVec.{array_vec_len};
 ghost use Rattle.wordset.specs.Lanes.{words};
 ghost use Rattle.domain.specs.Facts.{same, has_cell, is_outside, outside};
 ghost use Rattle.domain.specs.Changes.{moved_equations, free_of, cells_of, copied};
-ghost use Rattle.domain.specs.Meaning.{name_of, equation_of};
+ghost use Rattle.domain.specs.Meaning.{location_of, equation_of};
 
 use arrayvec::ArrayVec;
-use domain::{Equation, Name, is_same_name, negated, turned};
+use domain::{Equation, Location, is_same_location, negated, turned};
 use word12::Word;
 use wordset::WordSet;
 
@@ -24,40 +24,40 @@ pub(crate) fn has_cell(cells: &WordSet, cell: Word) -> bool
 }
 
 /// Whether a name is one of some cells.
-fn is_among(cells: &WordSet, name: &Name) -> bool
-    ensures { result ≡ cells_of (words cells.now) (name_of name.now) }
+fn is_among(cells: &WordSet, name: &Location) -> bool
+    ensures { result ≡ cells_of (words cells.now) (location_of name.now) }
 {
     match name {
-        Name::Accumulator => false,
-        Name::Cell(cell) => has_cell(cells, *cell),
+        Location::Accumulator => false,
+        Location::Cell(cell) => has_cell(cells, *cell),
     }
 }
 
 /// Whether a name is a cell outside a set.
-fn is_beside(written: &WordSet, name: &Name) -> bool
-    ensures { result ≡ is_outside (words written.now) (name_of name.now) }
+fn is_beside(written: &WordSet, name: &Location) -> bool
+    ensures { result ≡ is_outside (words written.now) (location_of name.now) }
 {
     match name {
-        Name::Accumulator => false,
-        Name::Cell(cell) => !has_cell(written, *cell),
+        Location::Accumulator => false,
+        Location::Cell(cell) => !has_cell(written, *cell),
     }
 }
 
 /// Lists the equations after the word of a name went up by k.
-pub(crate) fn raise(name: &Name, k: Word, equations: &[Equation], list: &mut Equations)
+pub(crate) fn raise(name: &Location, k: Word, equations: &[Equation], list: &mut Equations)
     requires { length equations.now ≤ 64 }
     ensures list { map equation_of list.new.items ≡
-        moved_equations (name_of name.now) k (map equation_of equations.now) }
+        moved_equations (location_of name.now) k (map equation_of equations.now) }
     ensures len { array_vec_len list.new ≤ length equations.now }
 {
     list.clear();
     for e in equations {
-        let up = if is_same_name(&e.left, name) {
+        let up = if is_same_location(&e.left, name) {
             e.more.add(k)
         } else {
             e.more
         };
-        let down = if is_same_name(&Name::Cell(e.right), name) {
+        let down = if is_same_location(&Location::Cell(e.right), name) {
             negated(k)
         } else {
             Word::ZERO
@@ -71,10 +71,10 @@ pub(crate) fn raise(name: &Name, k: Word, equations: &[Equation], list: &mut Equ
 }
 
 /// Lists the equations that don't speak of a name.
-pub(crate) fn free(name: &Name, equations: &[Equation], list: &mut Equations)
+pub(crate) fn free(name: &Location, equations: &[Equation], list: &mut Equations)
     requires { length equations.now ≤ 64 }
     ensures list { map equation_of list.new.items ≡
-        free_of (λ m. same m (name_of name.now)) (map equation_of equations.now) }
+        free_of (λ m. same m (location_of name.now)) (map equation_of equations.now) }
     ensures len { array_vec_len list.new ≤ length equations.now }
 {
     list.clear();
@@ -82,14 +82,14 @@ pub(crate) fn free(name: &Name, equations: &[Equation], list: &mut Equations)
 }
 
 /// Lists the equations that don't speak of a name after those of a list.
-pub(crate) fn add_free(name: &Name, equations: &[Equation], list: &mut Equations)
+pub(crate) fn add_free(name: &Location, equations: &[Equation], list: &mut Equations)
     requires { array_vec_len list.old + length equations.now ≤ 64 }
     ensures list { map equation_of list.new.items ≡ map equation_of list.old.items ++
-        free_of (λ m. same m (name_of name.now)) (map equation_of equations.now) }
+        free_of (λ m. same m (location_of name.now)) (map equation_of equations.now) }
     ensures len { array_vec_len list.new ≤ array_vec_len list.old + length equations.now }
 {
     for e in equations {
-        if !is_same_name(&e.left, name) && !is_same_name(&Name::Cell(e.right), name) {
+        if !is_same_location(&e.left, name) && !is_same_location(&Location::Cell(e.right), name) {
             list.push(*e);
         }
     }
@@ -104,7 +104,7 @@ pub(crate) fn free_of_cells(cells: &WordSet, equations: &[Equation], list: &mut 
 {
     list.clear();
     for e in equations {
-        if !is_among(cells, &e.left) && !is_among(cells, &Name::Cell(e.right)) {
+        if !is_among(cells, &e.left) && !is_among(cells, &Location::Cell(e.right)) {
             list.push(*e);
         }
     }
@@ -119,7 +119,7 @@ pub(crate) fn keep_outside(written: &WordSet, equations: &[Equation], list: &mut
 {
     list.clear();
     for e in equations {
-        if is_beside(written, &e.left) && is_beside(written, &Name::Cell(e.right)) {
+        if is_beside(written, &e.left) && is_beside(written, &Location::Cell(e.right)) {
             list.push(*e);
         }
     }
@@ -133,7 +133,7 @@ pub(crate) fn copy_to(y: Word, equations: &[Equation], list: &mut Equations)
 {
     list.clear();
     for e in equations {
-        if let Name::Accumulator = e.left {
+        if let Location::Accumulator = e.left {
             if e.right != y {
                 list.push(turned(y, e.right, e.more));
             }

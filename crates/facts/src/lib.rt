@@ -24,7 +24,7 @@ mod successor;
 pub use asked::post;
 pub use conditions::{reads, writes};
 pub use dispatch::outcomes;
-pub use domain::{CountedOffsets, Equation, Fact, Name, TrackedCell, TrackedCells};
+pub use domain::{CountedOffsets, Equation, Fact, Location, TrackedCell, TrackedCells};
 pub use entailment::{entails, entails_return, holds_before, is_always, narrowed};
 pub use place::{Context, Place};
 pub use scratch::Scratch;

@@ -13,7 +13,7 @@ use crate::lent::{put_all, put_one, put_set};
 use crate::state::AbstractState;
 use bin_tape::Image;
 use declaration::Declaration;
-use domain::Name;
+use domain::Location;
 use std::alloc::Allocator;
 use word12::Word;
 use wordset::WordSet;
@@ -117,7 +117,7 @@ impl<A: Allocator> Place<'_, A> {
             cell) }
     {
         if self.declaration.is_variable(cell) {
-            return state.left_in(&Name::Cell(cell), place);
+            return state.left_in(&Location::Cell(cell), place);
         }
         if self.is_own(cell) {
             return self.own_words(state, place);

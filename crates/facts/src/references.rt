@@ -20,7 +20,7 @@ use crate::place::Place;
 use crate::scratch::SuccessorScratch;
 use crate::state::AbstractState;
 use crate::successor::{Successor, address_after, address_skipped_to, going, is_alive};
-use domain::Name;
+use domain::Location;
 use processor::is_auto_index;
 use std::alloc::Allocator;
 use word12::Word;
@@ -50,7 +50,7 @@ pub(crate) fn deposit<'a>(
         SameWords (words targets.now) p →
         AgreeingSuccessors (slot result) (dca_case place at f p (only p)) }
 {
-    let held = state.left_in(&Name::Accumulator, &mut scratch.held);
+    let held = state.left_in(&Location::Accumulator, &mut scratch.held);
     let zero = put_one(&mut scratch.ac, Word::ZERO);
     let next = address_after(at, &mut scratch.next);
     match single {
@@ -85,8 +85,8 @@ pub(crate) fn count_one<'a>(
         Agree (fact_of_state state.now) f → SameWords (words targets.now) p →
         AgreeingSuccessors (slot result.0 ++ slot result.1) (isz_case place at f p (Some cell)) }
 {
-    let held = state.left_in(&Name::Accumulator, &mut scratch.held);
-    let old = state.left_in(&Name::Cell(cell), &mut scratch.read);
+    let held = state.left_in(&Location::Accumulator, &mut scratch.held);
+    let old = state.left_in(&Location::Cell(cell), &mut scratch.read);
     let zero = put_one(&mut scratch.changed, Word::ZERO);
     let wraps = has_cell(old, Word::ZERO.complement());
     let after = state.counted_to(cell, zero, &mut scratch.first);
@@ -112,7 +112,7 @@ pub(crate) fn count_own<'a>(
         Agree (fact_of_state state.now) f → SameWords (words targets.now) p →
         AgreeingSuccessors (slot result) (isz_case place at f p (Some cell)) }
 {
-    let held = state.left_in(&Name::Accumulator, &mut scratch.held);
+    let held = state.left_in(&Location::Accumulator, &mut scratch.held);
     let next = address_after(at, &mut scratch.next);
     going(true, targets, held, next, state.returning_later())
 }
@@ -121,7 +121,7 @@ pub(crate) fn count_own<'a>(
 fn may_hold(state: &AbstractState<'_>, cell: Word, last: bool) -> bool
     ensures { result ≡ has_last_or_other last (narrowed (fact_of_state state.now) (Cell cell)) }
 {
-    let mut left = state.narrowed(&Name::Cell(cell));
+    let mut left = state.narrowed(&Location::Cell(cell));
     if last {
         return left.contains(Word::ZERO.complement());
     }
@@ -157,7 +157,7 @@ pub(crate) fn count_several<'a>(
         SameWords (words targets.now) p →
         AgreeingSuccessors (slot result.0 ++ slot result.1) (isz_case place at f p None) }
 {
-    let held = state.left_in(&Name::Accumulator, &mut scratch.held);
+    let held = state.left_in(&Location::Accumulator, &mut scratch.held);
     let wraps = may_some_hold(state, targets, true);
     let after = state.counted(targets, &mut scratch.first);
     let next = address_skipped_to(at, &mut scratch.next);
@@ -198,7 +198,7 @@ pub(crate) fn call<'a>(
         SameWords (words targets.now) p →
         AgreeingSuccessors (slot result) (given (alive p f everything f) (CallsTo p f)) }
 {
-    let held = state.left_in(&Name::Accumulator, &mut scratch.held);
+    let held = state.left_in(&Location::Accumulator, &mut scratch.held);
     let after = state.same();
     if !is_alive(targets, held, &after) {
         return None;
@@ -223,7 +223,7 @@ impl<A: Allocator> Place<'_, A> {
             SameWords (words result.now) (targets (place_of self.now) indirect named f) }
     {
         if steps_pointer(indirect, named) {
-            return state.shifted_in(&Name::Cell(named), Word::ZERO.increment(), place);
+            return state.shifted_in(&Location::Cell(named), Word::ZERO.increment(), place);
         }
         if indirect {
             return self.words_in(state, named, place);
@@ -247,7 +247,7 @@ impl<A: Allocator> Place<'_, A> {
             SameWords (words targets.now) p →
             AgreeingSuccessors (slot result) (anded (place_of self.now) at f p) }
     {
-        let held = state.left_in(&Name::Accumulator, &mut scratch.held);
+        let held = state.left_in(&Location::Accumulator, &mut scratch.held);
         let read: &'a WordSet = self.words_at(state, targets, single, &mut scratch.read);
         let both = put_set(&mut scratch.ac, &held.ands(read));
         let after = state.with_ac(both, &mut scratch.first);
@@ -297,7 +297,7 @@ impl<A: Allocator> Place<'_, A> {
             SameWords (words targets.now) p →
             AgreeingSuccessors (slot result) (tad (place_of self.now) at f p) }
     {
-        let held = state.left_in(&Name::Accumulator, &mut scratch.held);
+        let held = state.left_in(&Location::Accumulator, &mut scratch.held);
         let read: &'a WordSet = self.words_at(state, targets, single, &mut scratch.read);
         let (sums, carries) = held.sums(read);
         let ac = put_set(&mut scratch.ac, &sums);
@@ -329,7 +329,7 @@ impl<A: Allocator> Place<'_, A> {
             SameWords (words targets.now) p →
             AgreeingSuccessors (slot result) (jmp (place_of self.now) indirect named f p) }
     {
-        let held = state.left_in(&Name::Accumulator, &mut scratch.held);
+        let held = state.left_in(&Location::Accumulator, &mut scratch.held);
         let after = state.same();
         if !self.is_returning(indirect, named) {
             return going(true, targets, held, targets, after);

@@ -22,7 +22,7 @@ use crate::lent::put_set;
 use crate::scratch::SuccessorScratch;
 use crate::state::AbstractState;
 use crate::successor::{Successor, address_after, address_skipped_to, going};
-use domain::Name;
+use domain::Location;
 use instruct::DeviceOperation;
 use word12::Word;
 use wordset::WordSet;
@@ -98,7 +98,7 @@ pub(crate) fn operate<'a>(
         AgreeingSuccessors (slot result) (goes everything f everything (one (plus at 1))
         (operated1 word f)) }
 {
-    let held = state.left_in(&Name::Accumulator, &mut scratch.held);
+    let held = state.left_in(&Location::Accumulator, &mut scratch.held);
     let (images, links) = held.map_operate(word, state.link);
     let ac = put_set(&mut scratch.ac, &images);
     let after = related(word, state, ac, &mut scratch.first).with_link(links);
@@ -115,7 +115,7 @@ pub(crate) fn test_flag<'a>(
     ensures { (f : said.Fact) → Agree (fact_of_state state.now) f →
         AgreeingSuccessors (slot result.0 ++ slot result.1) (device_outcomes at f Skips) }
 {
-    let held = state.left_in(&Name::Accumulator, &mut scratch.held);
+    let held = state.left_in(&Location::Accumulator, &mut scratch.held);
     let next = address_skipped_to(at, &mut other.next);
     let skips = going(true, next, held, next, state.same());
     (go_on(at, held, state.same(), &mut scratch.next), skips)
@@ -134,7 +134,7 @@ fn assign<'a>(
         AgreeingSuccessors (slot result) (goes everything f everything (one (plus at 1))
         (strongly_updated Ac s f)) }
 {
-    let held = state.left_in(&Name::Accumulator, &mut scratch.held);
+    let held = state.left_in(&Location::Accumulator, &mut scratch.held);
     let after = state.with_ac(put_set(&mut scratch.ac, set), &mut scratch.first);
     go_on(at, held, after, &mut scratch.next)
 }
@@ -144,7 +144,7 @@ fn with_byte(state: &AbstractState<'_>) -> WordSet
     ensures { (f : said.Fact) → Agree (fact_of_state state.now) f →
         SameWords (words result) (or_any 255 (narrowed f Ac)) }
 {
-    let held = state.narrowed(&Name::Accumulator);
+    let held = state.narrowed(&Location::Accumulator);
     held.or_any(Word::from_byte(0o377))
 }
 
@@ -157,7 +157,7 @@ pub(crate) fn leave<'a>(
     ensures { (f : said.Fact) → Agree (fact_of_state state.now) f →
         AgreeingSuccessors (slot result) (device_outcomes at f Leaves) }
 {
-    let held = state.left_in(&Name::Accumulator, &mut scratch.held);
+    let held = state.left_in(&Location::Accumulator, &mut scratch.held);
     go_on(at, held, state.same(), &mut scratch.next)
 }
 
@@ -176,7 +176,7 @@ fn take<'a>(
         AgreeingSuccessors (slot result) (goes everything f everything (one (plus at 1))
         (with_mq t (strongly_updated Ac s f))) }
 {
-    let held = state.left_in(&Name::Accumulator, &mut scratch.held);
+    let held = state.left_in(&Location::Accumulator, &mut scratch.held);
     let after = state
         .with_ac(put_set(&mut scratch.ac, set), &mut scratch.first)
         .with_mq(put_set(&mut scratch.changed, mq));
@@ -197,7 +197,7 @@ pub(crate) fn exchange<'a>(
         AgreeingSuccessors (slot result) (goes everything f everything (one (plus at 1))
         (operated3 o f)) }
 {
-    let ac = state.narrowed(&Name::Accumulator);
+    let ac = state.narrowed(&Location::Accumulator);
     let mq = *state.mq;
     let zero = WordSet::one(Word::ZERO);
     match word.value() {

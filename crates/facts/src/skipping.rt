@@ -19,7 +19,7 @@ use crate::place::union_if;
 use crate::scratch::SuccessorScratch;
 use crate::state::AbstractState;
 use crate::successor::{Successor, address_after, address_skipped_to, going};
-use domain::Name;
+use domain::Location;
 use word12::{Link, Word};
 use wordset::{Links, WordSet};
 
@@ -165,7 +165,7 @@ pub(crate) fn branch<'a>(
     if !state.link.contains(link) {
         return None;
     }
-    let held = state.left_in(&Name::Accumulator, &mut scratch.held);
+    let held = state.left_in(&Location::Accumulator, &mut scratch.held);
     let part = put_part(word, link, skip, held, &mut scratch.read);
     let after = after_test(word, state, part, &mut scratch.ac, &mut scratch.first);
     let next = next_address(at, skip, &mut scratch.next);

@@ -12,14 +12,15 @@ ghost use Rattle.domain.specs.Facts.{Ac, Cell, same, narrowed, Among, Knows, Kno
 ghost use Rattle.domain.specs.Changes.{with_offsets};
 ghost use Rattle.domain.specs.Statements.{cell_at};
 ghost use Rattle.domain.specs.Same.{Agree};
-ghost use Rattle.domain.specs.Meaning.{name_of, equation_of, tracked_cells, offsets_of, meaning, cell_words};
+ghost use Rattle.domain.specs.Meaning.{location_of, equation_of, tracked_cells, offsets_of, meaning, cell_words};
 ghost use Rattle.facts.specs.Knowing.{source_words, changed, fact_of_state, Meets, IsUnchanged};
 ghost use Rattle.facts.specs.Showing.{Shows, EachWithin, EntailsRegisters};
 
 use crate::equations::{Equations, add_all, has_cell, keep_outside};
 use crate::scratch::Scratch;
 use domain::{
-    CountedOffsets, Equation, Fact, Name, TrackedCells, is_same_equation, is_same_name, negated,
+    CountedOffsets, Equation, Fact, Location, TrackedCells, is_same_equation, is_same_location,
+    negated,
 };
 use word12::Word;
 use wordset::{Links, WordSet};
@@ -151,11 +152,12 @@ fn is_change_within(change: &Update<'_>, cells: &TrackedCells, at: usize, before
 }
 
 /// Whether an equation speaks of a name.
-fn speaks_of(equation: &Equation, name: &Name) -> bool
-    ensures { result ≡ (same (equation_of equation.now).left (name_of name.now) ||
-        same (equation_of equation.now).right (name_of name.now)) }
+fn speaks_of(equation: &Equation, name: &Location) -> bool
+    ensures { result ≡ (same (equation_of equation.now).left (location_of name.now) ||
+        same (equation_of equation.now).right (location_of name.now)) }
 {
-    is_same_name(&equation.left, name) || is_same_name(&Name::Cell(equation.right), name)
+    is_same_location(&equation.left, name)
+        || is_same_location(&Location::Cell(equation.right), name)
 }
 
 impl AbstractState<'_> {
@@ -195,8 +197,8 @@ impl AbstractState<'_> {
     }
 
     /// The words that a name may hold.
-    pub fn set(&self, name: &Name) -> WordSet
-        ensures { SameWords (words result) ((fact_of_state self.now).set (name_of name.now)) }
+    pub fn set(&self, name: &Location) -> WordSet
+        ensures { SameWords (words result) ((fact_of_state self.now).set (location_of name.now)) }
     {
         let mut set = WordSet::all();
         self.put_set(name, &mut set);
@@ -204,12 +206,12 @@ impl AbstractState<'_> {
     }
 
     /// Puts the words that a name may hold into their place.
-    fn put_set(&self, name: &Name, place: &mut WordSet)
-        ensures { SameWords (words place.new) ((fact_of_state self.now).set (name_of name.now)) }
+    fn put_set(&self, name: &Location, place: &mut WordSet)
+        ensures { SameWords (words place.new) ((fact_of_state self.now).set (location_of name.now)) }
     {
         match name {
-            Name::Accumulator => *place = *self.ac,
-            Name::Cell(cell) => {
+            Location::Accumulator => *place = *self.ac,
+            Location::Cell(cell) => {
                 put_source(&self.base, *cell, place);
                 apply(&self.pointer, *cell, place);
                 apply(&self.target, *cell, place);
@@ -218,10 +220,10 @@ impl AbstractState<'_> {
     }
 
     /// The words that a name may hold, lent: a cell's are in the place for them.
-    fn set_in<'b>(&'b self, name: &Name, place: &'b mut WordSet) -> &'b WordSet
-        ensures { SameWords (words result.now) ((fact_of_state self.now).set (name_of name.now)) }
+    fn set_in<'b>(&'b self, name: &Location, place: &'b mut WordSet) -> &'b WordSet
+        ensures { SameWords (words result.now) ((fact_of_state self.now).set (location_of name.now)) }
     {
-        if let Name::Accumulator = name {
+        if let Location::Accumulator = name {
             return self.ac;
         }
         self.put_set(name, place);
@@ -229,17 +231,22 @@ impl AbstractState<'_> {
     }
 
     /// The words that the equations leave to a name, in a place for them.
-    pub(crate) fn left_in<'b>(&self, name: &Name, place: &'b mut WordSet) -> &'b WordSet
-        ensures { SameWords (words result.now) (narrowed (fact_of_state self.now) (name_of name.now)) }
+    pub(crate) fn left_in<'b>(&self, name: &Location, place: &'b mut WordSet) -> &'b WordSet
+        ensures { SameWords (words result.now) (narrowed (fact_of_state self.now) (location_of name.now)) }
     {
         self.narrow_into(name, place);
         place
     }
 
     /// The words that are k more than those that the equations leave to a name, in a place for them.
-    pub(crate) fn shifted_in<'b>(&self, name: &Name, k: Word, place: &'b mut WordSet) -> &'b WordSet
+    pub(crate) fn shifted_in<'b>(
+        &self,
+        name: &Location,
+        k: Word,
+        place: &'b mut WordSet,
+    ) -> &'b WordSet
         ensures { SameWords (words result.now)
-            (shifted (narrowed (fact_of_state self.now) (name_of name.now)) k) }
+            (shifted (narrowed (fact_of_state self.now) (location_of name.now)) k) }
     {
         self.narrow_into(name, place);
         *place = place.shift(k);
@@ -248,16 +255,16 @@ impl AbstractState<'_> {
 
     /// Leaves in a set the words that an equation leaves to a name.
     #[tactic(auto, using(crate::proofs::EntailLemmas::back_twice))]
-    fn keep_met(&self, name: &Name, equation: &Equation, set: &mut WordSet)
-        ensures { Meets (fact_of_state self.now) (name_of name.now) (equation_of equation.now)
+    fn keep_met(&self, name: &Location, equation: &Equation, set: &mut WordSet)
+        ensures { Meets (fact_of_state self.now) (location_of name.now) (equation_of equation.now)
             (words set.old) (words set.new) }
     {
         let mut place = WordSet::all();
-        if is_same_name(&equation.left, name) {
-            let partner = (&*self).set_in(&Name::Cell(equation.right), &mut place);
+        if is_same_location(&equation.left, name) {
+            let partner = (&*self).set_in(&Location::Cell(equation.right), &mut place);
             set.keep_shifted(partner, equation.more);
         }
-        if is_same_name(&Name::Cell(equation.right), name) {
+        if is_same_location(&Location::Cell(equation.right), name) {
             let partner = (&*self).set_in(&equation.left, &mut place);
             set.keep_shifted(partner, negated(equation.more));
         }
@@ -265,8 +272,8 @@ impl AbstractState<'_> {
 
     /// The words that the equations leave to a name: its set met with its partners' sets, shifted
     /// along the equations, one step only.
-    pub fn narrowed(&self, name: &Name) -> WordSet
-        ensures { SameWords (words result) (narrowed (fact_of_state self.now) (name_of name.now)) }
+    pub fn narrowed(&self, name: &Location) -> WordSet
+        ensures { SameWords (words result) (narrowed (fact_of_state self.now) (location_of name.now)) }
     {
         let mut set = WordSet::all();
         self.narrow_into(name, &mut set);
@@ -274,8 +281,8 @@ impl AbstractState<'_> {
     }
 
     /// Makes of a set the words that the equations leave to a name.
-    fn narrow_into(&self, name: &Name, set: &mut WordSet)
-        ensures { SameWords (words set.new) (narrowed (fact_of_state self.now) (name_of name.now)) }
+    fn narrow_into(&self, name: &Location, set: &mut WordSet)
+        ensures { SameWords (words set.new) (narrowed (fact_of_state self.now) (location_of name.now)) }
     {
         self.put_set(name, set);
         for e in self.equations {
@@ -303,7 +310,7 @@ impl AbstractState<'_> {
         ensures { IsTrue result ↔ Shows (fact_of_state self.now) (equation_of equation.now) }
     {
         let left = self.narrowed(&equation.left);
-        let right = self.narrowed(&Name::Cell(equation.right));
+        let right = self.narrowed(&Location::Cell(equation.right));
         match left.only() {
             None => false,
             Some(x) => match right.only() {
@@ -372,7 +379,7 @@ impl AbstractState<'_> {
             IsWithin (narrowed (fact_of_state self.now) (Cell (cell_at (tracked_cells cells.now) at).address))
             (cell_at (tracked_cells cells.now) at).set }
     {
-        cells.has_all(at, &self.narrowed(&Name::Cell(cells.address(at))))
+        cells.has_all(at, &self.narrowed(&Location::Cell(cells.address(at))))
     }
 
     /// Whether each of these cells has its narrowed set within what is tracked.
@@ -419,7 +426,7 @@ impl AbstractState<'_> {
         if self.ac.is_subset(ac) {
             return true;
         }
-        self.narrowed(&Name::Accumulator).is_subset(ac)
+        self.narrowed(&Location::Accumulator).is_subset(ac)
     }
 }
 

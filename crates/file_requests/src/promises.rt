@@ -14,7 +14,7 @@ use program_files::faults::{bound_lines, omissions, stuck_address, with_omission
 use program_files::files::{open_input, open_output};
 use program_files::saving::{save_answer, save_proposed};
 use program_files::tellers::{report_to, tell_to};
-use report_commands::reporting::{Form, report};
+use report_commands::reporting::{ReportForm, report};
 use search_commands::guessing::guess;
 use search_commands::stuck::guess_or_explain;
 use search_commands::verifying::{Answer, Lack, answer_status, verify, verify_proposed};
@@ -89,7 +89,11 @@ pub fn report_from<R: Files + Input + Print>(
     let mut text = open_input(rt, asked.declaration)?;
     let mut claims = open_input(rt, asked.certificate)?;
     let mut page = open_output(rt, asked.out)?;
-    let form = if asked.text { Form::Text } else { Form::Page };
+    let form = if asked.text {
+        ReportForm::Text
+    } else {
+        ReportForm::Page
+    };
     report(
         alloc,
         &mut frames,

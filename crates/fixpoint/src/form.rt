@@ -7,7 +7,7 @@ ghost use Rattle.fixpoint.specs.Claimed.{cell_of, said_of};
 
 use crate::invariant::{CellInvariant, Invariant, MOST_CELLS, MOST_EQUATIONS, place_of};
 use certificate::Version;
-use facts::{Equation, Name};
+use facts::{Equation, Location};
 use std::alloc::Allocator;
 
 /// Whether each tracked cell has a word.
@@ -44,8 +44,8 @@ fn is_oriented(equation: &Equation) -> bool
 {
     let _more = equation.more.index();
     let left = match equation.left {
-        Name::Accumulator => 0,
-        Name::Cell(cell) => cell.index() + 1,
+        Location::Accumulator => 0,
+        Location::Cell(cell) => cell.index() + 1,
     };
     left < equation.right.index() + 1
 }

@@ -7,7 +7,7 @@ ghost use Rattle.fixpoint.specs.Claimed.{cell_of, said_of, has_room};
 
 use crate::halt::Halt;
 use crate::widening::Limits;
-use facts::{AbstractState, CountedOffsets, Equation, Fact, Name, TrackedCell};
+use facts::{AbstractState, CountedOffsets, Equation, Fact, Location, TrackedCell};
 use std::alloc::Allocator;
 use word12::Word;
 use wordset::{Links, WordSet};
@@ -41,7 +41,7 @@ pub(crate) struct Invariant<A: Allocator> {
 
 /// The words that are left to a name by one step along its equations, or all of its words where the
 /// equations contradict; filled where they are ragged.
-pub(crate) fn left_to(known: &AbstractState<'_>, name: &Name, limits: &Limits) -> WordSet {
+pub(crate) fn left_to(known: &AbstractState<'_>, name: &Location, limits: &Limits) -> WordSet {
     let narrowed = known.narrowed(name);
     if narrowed.is_empty() {
         limits.smoothed(&known.set(name))
@@ -51,10 +51,10 @@ pub(crate) fn left_to(known: &AbstractState<'_>, name: &Name, limits: &Limits) -
 }
 
 /// Whether a name is the accumulator or a cell of a set.
-fn is_among(cells: &WordSet, name: &Name) -> bool {
+fn is_among(cells: &WordSet, name: &Location) -> bool {
     match name {
-        Name::Accumulator => true,
-        Name::Cell(cell) => cells.contains(*cell),
+        Location::Accumulator => true,
+        Location::Cell(cell) => cells.contains(*cell),
     }
 }
 
@@ -74,8 +74,8 @@ pub(crate) fn place_of(equation: &Equation) -> usize
     ensures small { result < 2 ^ 25 }
 {
     let left = match equation.left {
-        Name::Accumulator => 0,
-        Name::Cell(cell) => cell.index() + 1,
+        Location::Accumulator => 0,
+        Location::Cell(cell) => cell.index() + 1,
     };
     4097 * left + equation.right.index() + 1
 }
@@ -104,7 +104,7 @@ impl<A: Allocator + Copy> Invariant<A> {
     ) -> Invariant<A> {
         Invariant {
             at,
-            ac: left_to(known, &Name::Accumulator, limits),
+            ac: left_to(known, &Location::Accumulator, limits),
             mq: limits.smoothed(&known.mq()),
             link: known.link(),
             offsets: known.offsets(),
@@ -136,7 +136,7 @@ impl<A: Allocator + Copy> Invariant<A> {
         limits: &Limits,
     ) -> Result<(), Halt> {
         for cell in tracked.iter() {
-            self.track(cell, left_to(known, &Name::Cell(cell), limits), 0)?;
+            self.track(cell, left_to(known, &Location::Cell(cell), limits), 0)?;
         }
         Ok(())
     }
@@ -232,18 +232,18 @@ impl<A: Allocator> Invariant<A> {
     }
 
     /// The words that a name may hold.
-    pub(crate) fn set(&self, name: &Name) -> WordSet {
+    pub(crate) fn set(&self, name: &Location) -> WordSet {
         match name {
-            Name::Accumulator => self.ac,
-            Name::Cell(cell) => self.set_of_cell(*cell),
+            Location::Accumulator => self.ac,
+            Location::Cell(cell) => self.set_of_cell(*cell),
         }
     }
 
     /// The one word that a name may hold, if there is only one.
-    pub(crate) fn only(&self, name: &Name) -> Option<Word> {
+    pub(crate) fn only(&self, name: &Location) -> Option<Word> {
         match name {
-            Name::Accumulator => self.ac.only(),
-            Name::Cell(cell) => self.only_of_cell(*cell),
+            Location::Accumulator => self.ac.only(),
+            Location::Cell(cell) => self.only_of_cell(*cell),
         }
     }
 
@@ -259,7 +259,7 @@ impl<A: Allocator> Invariant<A> {
 
     /// Whether both sides of an equation have one word, so that it needn't be said.
     pub(crate) fn has_one_word_each(&self, equation: &Equation) -> bool {
-        self.only(&equation.left).is_some() && self.only(&Name::Cell(equation.right)).is_some()
+        self.only(&equation.left).is_some() && self.only(&Location::Cell(equation.right)).is_some()
     }
 
     /// The words that a cell may hold.

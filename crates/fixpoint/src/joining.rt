@@ -3,7 +3,7 @@
 use crate::halt::Halt;
 use crate::invariant::{CellInvariant, Invariant, left_to};
 use crate::widening::{Limits, Pace, widened};
-use facts::{AbstractState, CountedOffsets, Equation, Name};
+use facts::{AbstractState, CountedOffsets, Equation, Location};
 use std::alloc::Allocator;
 use word12::Word;
 use wordset::WordSet;
@@ -11,7 +11,7 @@ use wordset::WordSet;
 /// A name with one word before and another after.
 #[derive(Clone, Copy)]
 struct Moved {
-    name: Name,
+    name: Location,
     before: Word,
     after: Word,
 }
@@ -22,16 +22,16 @@ fn difference(a: Word, b: Word) -> Word {
 }
 
 /// Whether a name stands before a cell in equations.
-fn is_before(name: &Name, cell: Word) -> bool {
+fn is_before(name: &Location, cell: Word) -> bool {
     match name {
-        Name::Accumulator => true,
-        Name::Cell(other) => *other < cell,
+        Location::Accumulator => true,
+        Location::Cell(other) => *other < cell,
     }
 }
 
 /// The equation that two moved names keep, if they differ by the same before and after.
 fn kept_between(left: &Moved, right: &Moved) -> Option<Equation> {
-    let Name::Cell(cell) = right.name else {
+    let Location::Cell(cell) = right.name else {
         return None;
     };
     if !is_before(&left.name, cell) {
@@ -79,14 +79,14 @@ struct Growth {
 
 /// Whether the equations leave a cell no word outside a set; a set that isn't narrowed is tried first.
 fn is_within(known: &AbstractState<'_>, cell: Word, set: &WordSet) -> bool {
-    let name = Name::Cell(cell);
+    let name = Location::Cell(cell);
     known.set(&name).is_subset(set) || known.narrowed(&name).is_subset(set)
 }
 
 /// Adds a name if it had one word and has another now.
 fn add_moved<A: Allocator>(
     moved: &mut Vec<Moved, A>,
-    name: Name,
+    name: Location,
     old: &WordSet,
     known: &AbstractState<'_>,
 ) -> Result<(), Halt> {
@@ -110,7 +110,7 @@ fn add_moved<A: Allocator>(
 fn grow(line: &mut CellInvariant, known: &AbstractState<'_>, limits: &Limits, pace: Pace) {
     let cell = line.tracked.cell;
     let old = line.tracked.set;
-    let set = old.union(&left_to(known, &Name::Cell(cell), limits));
+    let set = old.union(&left_to(known, &Location::Cell(cell), limits));
     let growths = line.growths.saturating_add(1);
     let counted = limits.counted.contains(cell);
     line.tracked.set = widened(&old, &set, growths, counted, limits, pace);
@@ -132,7 +132,7 @@ fn grow_all<A: Allocator>(
     for line in cells {
         let cell = line.tracked.cell;
         if !is_within(known, cell, &line.tracked.set) {
-            add_moved(moved, Name::Cell(cell), &line.tracked.set, known)?;
+            add_moved(moved, Location::Cell(cell), &line.tracked.set, known)?;
             grow(line, known, limits, pace);
             growth.grew = true;
             if line.tracked.set.is_all() {
@@ -223,8 +223,10 @@ impl<A: Allocator> Invariant<A> {
         if self.covers_accumulator(known) {
             return Ok(grew);
         }
-        add_moved(moved, Name::Accumulator, &self.ac, known)?;
-        let set = self.ac.union(&left_to(known, &Name::Accumulator, limits));
+        add_moved(moved, Location::Accumulator, &self.ac, known)?;
+        let set = self
+            .ac
+            .union(&left_to(known, &Location::Accumulator, limits));
         self.growths = self.growths.saturating_add(1);
         self.ac = widened(&self.ac, &set, self.growths, false, limits, pace);
         Ok(true)
@@ -240,14 +242,14 @@ impl<A: Allocator> Invariant<A> {
     /// Whether the accumulator has no other words.
     fn covers_accumulator(&self, known: &AbstractState<'_>) -> bool {
         known.accumulator().is_subset(&self.ac)
-            || known.narrowed(&Name::Accumulator).is_subset(&self.ac)
+            || known.narrowed(&Location::Accumulator).is_subset(&self.ac)
     }
 
     /// Whether a name that has one word has no other one now.
-    fn stays(&self, name: &Name, known: &AbstractState<'_>) -> bool {
+    fn stays(&self, name: &Location, known: &AbstractState<'_>) -> bool {
         match name {
-            Name::Accumulator => self.covers_accumulator(known),
-            Name::Cell(cell) => is_within(known, *cell, &self.set(name)),
+            Location::Accumulator => self.covers_accumulator(known),
+            Location::Cell(cell) => is_within(known, *cell, &self.set(name)),
         }
     }
 
@@ -265,13 +267,13 @@ impl<A: Allocator> Invariant<A> {
     /// Whether both sides of an equation have one word, and they fulfil it.
     fn shows(&self, equation: &Equation) -> bool {
         let left = self.only(&equation.left);
-        let right = self.only(&Name::Cell(equation.right));
+        let right = self.only(&Location::Cell(equation.right));
         fulfils(left, right, equation.more)
     }
 
     /// Whether both sides of an equation, which have one word each, have no other one now.
     fn keeps_both(&self, equation: &Equation, known: &AbstractState<'_>) -> bool {
-        self.stays(&equation.left, known) && self.stays(&Name::Cell(equation.right), known)
+        self.stays(&equation.left, known) && self.stays(&Location::Cell(equation.right), known)
     }
 
     /// Adds the equations between names that moved by the same.

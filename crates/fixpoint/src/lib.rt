@@ -16,6 +16,6 @@ mod table;
 mod widening;
 
 pub use halt::Halt;
-pub use program::Program;
+pub use program::AnalysedProgram;
 pub use search::Search;
 pub use widening::{MANY_RUNS, ONE_RUN};

@@ -2,7 +2,7 @@
 //! are written. Only of these a quick search keeps what is known.
 
 use crate::halt::Halt;
-use crate::program::{Program, is_reference};
+use crate::program::{AnalysedProgram, is_reference};
 use instruct::{Operation, refers_indirectly, target};
 use std::alloc::Allocator;
 use std::collections::BTreeMap;
@@ -70,7 +70,7 @@ fn may_skip(word: Word) -> bool {
 
 /// The cells that a word names to write, and that the routine writes that it calls.
 fn written_by<A: Allocator, D: Allocator>(
-    program: &Program<'_, D>,
+    program: &AnalysedProgram<'_, D>,
     at: Word,
     word: Word,
     writes: &Sets<A>,
@@ -94,7 +94,10 @@ fn written_by<A: Allocator, D: Allocator>(
 
 impl<A: Allocator + Copy> Needs<A> {
     /// What the words of a program need.
-    pub(crate) fn of<D: Allocator>(alloc: A, program: &Program<'_, D>) -> Result<Needs<A>, Halt> {
+    pub(crate) fn of<D: Allocator>(
+        alloc: A,
+        program: &AnalysedProgram<'_, D>,
+    ) -> Result<Needs<A>, Halt> {
         let mut needs = Needs {
             cells: BTreeMap::new(alloc),
             writes: BTreeMap::new(alloc),
@@ -105,7 +108,7 @@ impl<A: Allocator + Copy> Needs<A> {
     }
 
     /// Finds what routines write.
-    fn find_writes<D: Allocator>(&mut self, program: &Program<'_, D>) -> Result<(), Halt> {
+    fn find_writes<D: Allocator>(&mut self, program: &AnalysedProgram<'_, D>) -> Result<(), Halt> {
         for _round in 0..MOST_ROUNDS {
             if !self.add_writes(program)? {
                 return Ok(());
@@ -115,7 +118,7 @@ impl<A: Allocator + Copy> Needs<A> {
     }
 
     /// Adds what each routine writes, and tells whether something was added.
-    fn add_writes<D: Allocator>(&mut self, program: &Program<'_, D>) -> Result<bool, Halt> {
+    fn add_writes<D: Allocator>(&mut self, program: &AnalysedProgram<'_, D>) -> Result<bool, Halt> {
         let mut grew = false;
         for routine in program.declaration.routines() {
             let cells = self.written_in(program, routine.body());
@@ -127,7 +130,7 @@ impl<A: Allocator + Copy> Needs<A> {
     }
 
     /// Finds what is needed at each address.
-    fn find_cells<D: Allocator>(&mut self, program: &Program<'_, D>) -> Result<(), Halt> {
+    fn find_cells<D: Allocator>(&mut self, program: &AnalysedProgram<'_, D>) -> Result<(), Halt> {
         for _round in 0..MOST_ROUNDS {
             if !self.add_cells(program)? {
                 return Ok(());
@@ -137,7 +140,7 @@ impl<A: Allocator + Copy> Needs<A> {
     }
 
     /// Adds what is needed at each address, from the last on, and tells whether something was added.
-    fn add_cells<D: Allocator>(&mut self, program: &Program<'_, D>) -> Result<bool, Halt> {
+    fn add_cells<D: Allocator>(&mut self, program: &AnalysedProgram<'_, D>) -> Result<bool, Halt> {
         let mut grew = false;
         for more in 0..4096usize {
             let at = Word::from_index(4095 - more);
@@ -154,7 +157,7 @@ impl<A: Allocator + Copy> Needs<A> {
     /// What is needed before the word at an address; all, where it may be written.
     fn before<D: Allocator>(
         &mut self,
-        program: &Program<'_, D>,
+        program: &AnalysedProgram<'_, D>,
         at: Word,
     ) -> Result<WordSet, Halt> {
         let Some(word) = program.fixed_word(at) else {
@@ -172,7 +175,7 @@ impl<A: Allocator + Copy> Needs<A> {
     /// What is needed before a memory reference.
     fn before_reference<D: Allocator>(
         &mut self,
-        program: &Program<'_, D>,
+        program: &AnalysedProgram<'_, D>,
         at: Word,
         word: Word,
     ) -> Result<WordSet, Halt> {
@@ -197,7 +200,7 @@ impl<A: Allocator + Copy> Needs<A> {
     /// and the routine writes is needed when the routine returns.
     fn before_call<D: Allocator>(
         &mut self,
-        program: &Program<'_, D>,
+        program: &AnalysedProgram<'_, D>,
         at: Word,
         place: Option<Word>,
     ) -> Result<WordSet, Halt> {
@@ -219,7 +222,11 @@ impl<A: Allocator> Needs<A> {
     }
 
     /// What the words of a body write.
-    fn written_in<D: Allocator>(&self, program: &Program<'_, D>, body: &WordSet) -> WordSet {
+    fn written_in<D: Allocator>(
+        &self,
+        program: &AnalysedProgram<'_, D>,
+        body: &WordSet,
+    ) -> WordSet {
         let mut cells = WordSet::empty();
         for index in 0..4096usize {
             let at = Word::from_index(index);
@@ -243,7 +250,7 @@ impl<A: Allocator> Needs<A> {
     /// What is needed before a jump; all, where it isn't known where it goes.
     fn before_jump<D: Allocator>(
         &self,
-        program: &Program<'_, D>,
+        program: &AnalysedProgram<'_, D>,
         named: Word,
         place: Option<Word>,
     ) -> WordSet {
@@ -262,7 +269,7 @@ impl<A: Allocator> Needs<A> {
     /// What is needed where a call may return.
     fn after_returns<D: Allocator>(
         &self,
-        program: &Program<'_, D>,
+        program: &AnalysedProgram<'_, D>,
         at: Word,
         entry: Word,
     ) -> WordSet {

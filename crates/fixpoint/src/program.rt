@@ -20,7 +20,7 @@ const MOST_TRACKED: usize = 64;
 /// that instructions name or that stand in bodies, those that facts speak of at most, and where their
 /// sets may end.
 #[derive(Drop)]
-pub struct Program<'a, D: Allocator> {
+pub struct AnalysedProgram<'a, D: Allocator> {
     pub image: &'a Image,
     pub declaration: &'a Declaration<D>,
     pub(crate) bodies: WordSet,
@@ -108,11 +108,15 @@ fn add_cell(cells: &mut WordSet, cell: Word) {
     }
 }
 
-impl<'a, D: Allocator> Program<'a, D> {
+impl<'a, D: Allocator> AnalysedProgram<'a, D> {
     /// A tape's words and a declaration, with sets of at most so many runs. The cells that facts speak
     /// of are the variables that instructions name, then those in bodies, then those on the tape; at
     /// most 64.
-    pub fn of(image: &'a Image, declaration: &'a Declaration<D>, most_runs: usize) -> Program<'a, D>
+    pub fn of(
+        image: &'a Image,
+        declaration: &'a Declaration<D>,
+        most_runs: usize,
+    ) -> AnalysedProgram<'a, D>
         ensures image { result.image.now ≡ image.now }
         ensures declaration { result.declaration.now ≡ declaration.now }
     {
@@ -122,7 +126,7 @@ impl<'a, D: Allocator> Program<'a, D> {
         add_code(&mut named, declaration, &bodies);
         let mut tracked = named;
         add_loaded(&mut tracked, image, declaration);
-        Program {
+        AnalysedProgram {
             image,
             declaration,
             bodies,
@@ -250,7 +254,7 @@ fn code_at(image: &Image, bodies: &WordSet, at: Word) -> Option<Word> {
     image.get(at)
 }
 
-impl<D: Allocator> Program<'_, D> {
+impl<D: Allocator> AnalysedProgram<'_, D> {
     /// Whether an address is in a body.
     pub(crate) fn has(&self, body: &Body, at: Word) -> bool {
         match body {

@@ -7,7 +7,7 @@ use Rattle.instruct.specs.Instructions.{Meaning, And, Tad, Isz, Dca, Jms, Jmp, G
 use Rattle.processor.specs.Machine.{steps_pointer, next_pc}
 use Rattle.policy.specs.Rules.{pointer_of}
 use Rattle.wordset.specs.Words.{Words, SameWords, plus, one, everything, some_below, has_some, only, shifted, sums, without, or_any}
-use Rattle.domain.specs.Facts.{Name, Ac, Cell, Fact, Place, is_routine, is_outside, joined, narrowed, outside, possible, tape_word, words_in}
+use Rattle.domain.specs.Facts.{Location, Ac, Cell, Fact, Place, is_routine, is_outside, joined, narrowed, outside, possible, tape_word, words_in}
 use Rattle.domain.specs.Changes.{moved, strongly_updated, weakly_updated, with_equations, with_link, with_name, with_offsets}
 use Rattle.facts.specs.Conditions.{CountsItsReturn, may_read, may_store, may_write}
 use Rattle.facts.specs.Outcomes.{Successor, Goes, CallsTo, Returns, ac_after, alive, all_operated2, anded, changes_ac, dca_case, device_outcomes, given, goes, isz_case, jmp, link_after, operated1, operated2, operated3, outcomes_of, part2, related1, related2, stepped, tad, tad_case, tad_fact, tad_word, targets, words_at}
@@ -82,7 +82,7 @@ joined_alike {f} {g} {x} {y} w h k = record {
   offsets = h.offsets;
 }
   where
-    sets : (n : Name) (v : ℕ) → v < 4096 → (b : Bool) → (let s : Words = if b then f.set n else x.set n in let t : Words = if b then g.set n else y.set n in s v ≡ t v)
+    sets : (n : Location) (v : ℕ) → v < 4096 → (b : Bool) → (let s : Words = if b then f.set n else x.set n in let t : Words = if b then g.set n else y.set n in s v ≡ t v)
     sets n v lt true = h.sets n v lt
     sets n v lt false = k.sets n v lt
 

@@ -7,7 +7,7 @@ use Rattle.processor.specs.Machine.{State}
 use Rattle.processor.specs.Runs.{IsStart}
 use Rattle.declaration.specs.Declaration.{Routine, Declaration}
 use Rattle.certificate.specs.Certificate.{writes_of}
-use Rattle.domain.specs.Facts.{Name, Ac, Cell, Fact, Place, AllTrue, Means, joined, possible, values}
+use Rattle.domain.specs.Facts.{Location, Ac, Cell, Fact, Place, AllTrue, Means, joined, possible, values}
 use Rattle.domain.specs.Changes.{with_offsets}
 use Rattle.facts.specs.Conditions.{EntriesAreKept, ReadsAreListed, WritesAreDeclared, WritesAreListed}
 use Rattle.facts.specs.Outcomes.{Successor, Goes, CallsTo, Returns, outcomes_of, targets}
@@ -153,7 +153,7 @@ few_to j fs xs s a h = λ r i.
     (h r (is_in_to j fs xs r a i))
 
 -- the start
-start_value : (d : Declaration) (s : State) → s.ac < 4096 → ((a : ℕ) → s.memory a < 4096) → (n : Name) → values d s.memory s.ac s.memory n < 4096
+start_value : (d : Declaration) (s : State) → s.ac < 4096 → ((a : ℕ) → s.memory a < 4096) → (n : Location) → values d s.memory s.ac s.memory n < 4096
 start_value d s ac words Ac = ac
 start_value d s ac words (Cell a) = go (d.variable a)
   where

@@ -6,7 +6,7 @@ use crate::fixtures::{
 use analyser::{GuessFault, Turns, guess_within};
 use certificate::{Certificate, Version};
 use declaration::Declaration;
-use facts::{CountedOffsets, Equation, Fact, Name, entails_return};
+use facts::{CountedOffsets, Equation, Fact, Location, entails_return};
 use instruct::Profile;
 use judge::certify;
 use pal_asm::{assemble, translate};
@@ -151,7 +151,7 @@ fn fact_is_told(read: &Certificate<Global>, at: Word) -> bool {
     };
     let registers = fact.accumulator().count() == 6 && fact.mq().is_all();
     let details = fact.cells().len() == 1 && fact.equations().len() == 1;
-    registers && details && fact.set(&Name::Cell(word(0o10))).count() == 5
+    registers && details && fact.set(&Location::Cell(word(0o10))).count() == 5
 }
 
 /// Whether the routine and its exit are told.
@@ -185,7 +185,7 @@ fn after_a_letter() -> Fact {
     fact.track(word(0o10), WordSet::range(word(0o225), word(0o231)));
     fact.track(word(0o224), WordSet::range(word(0o7773), word(0o7777)));
     fact.relate(Equation {
-        left: Name::Cell(word(0o10)),
+        left: Location::Cell(word(0o10)),
         right: word(0o224),
         more: word(0o232),
     });
@@ -199,8 +199,8 @@ fn a_fact_tells_what_it_was_told(rt: HostRuntime) {
     assert_eq!(rt; fact.link(), Links::one(Link::CLEAR));
     assert!(rt; fact.cells().len() == 2 && !fact.is_full_of_cells());
     assert!(rt; fact.equations().len() == 1 && !fact.is_full_of_equations());
-    assert_eq!(rt; fact.set(&Name::Cell(word(0o10))).count(), 5);
-    assert!(rt; fact.set(&Name::Cell(word(0o11))).is_all() && fact.offsets().is_empty());
+    assert_eq!(rt; fact.set(&Location::Cell(word(0o10))).count(), 5);
+    assert!(rt; fact.set(&Location::Cell(word(0o11))).is_all() && fact.offsets().is_empty());
     fact.set_mq(WordSet::range(word(3), word(5)));
     let mut offsets = CountedOffsets::none();
     offsets.insert(7);

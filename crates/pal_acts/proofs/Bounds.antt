@@ -16,7 +16,7 @@ use Rattle.pal_acts.specs.declared.act.Term.TheVariants.{Number, Symbol, Here}
 use Rattle.pal_acts.specs.declared.act.Join.{Join}
 use Rattle.pal_acts.specs.declared.act.Act.{Act}
 use Rattle.pal_acts.specs.declared.act.Act.TheVariants as act
-use Rattle.pal_acts.specs.declared.act.Place.{Place}
+use Rattle.pal_acts.specs.declared.act.SourcePlace.{SourcePlace}
 use Rattle.pal_acts.specs.declared.act.PlacedWord.{PlacedWord}
 use Rattle.pal_acts.specs.declared.code.Code.{Code}
 use Rattle.pal_acts.specs.declared.code.Code.TheVariants.{Undefined}
@@ -164,7 +164,7 @@ module _ (σ : Values) (given : (n : Name) → Below (σ n)) where
   found_below here e act.Word h all = word_below here e h all
   found_below here e _ h all = tt
 
-  placed_below : (p : Place) (at : ℕ) (o : Option (Result ℕ Code)) (before : List PlacedWord) → BelowFound o → AllBelow before → AllBelow (with_word p at o before)
+  placed_below : (p : SourcePlace) (at : ℕ) (o : Option (Result ℕ Code)) (before : List PlacedWord) → BelowFound o → AllBelow before → AllBelow (with_word p at o before)
   placed_below p at None before h all = all
   placed_below p at (Some (Ok v)) before h all = (h, all)
   placed_below p at (Some (Err c)) before h all = all

@@ -7,8 +7,8 @@ use Rattle.pal_acts.specs.Acts.{PlacedAct}
 use Rattle.pal_acts.specs.Values.{Values}
 use Rattle.pal_acts.specs.Meaning.{location_after, location}
 use Rattle.pal_acts.specs.Sources.{Encodes, with_word, words}
-use Rattle.pal_acts.specs.declared.assembly.Refused.{Refused}
-use Rattle.pal_acts.specs.declared.assembly.Refused.TheVariants.{Fault, NoMemory}
+use Rattle.pal_acts.specs.declared.assembly.ActsFault.{ActsFault}
+use Rattle.pal_acts.specs.declared.assembly.ActsFault.TheVariants.{Fault, NoMemory}
 use Rattle.pal_acts.specs.declared.code.Code.{Code}
 use Rattle.pal_acts.specs.Words.{word_of}
 use Rattle.pal_acts.specs.Steps.{Codes, BreaksKeeping, FindsKeeping}
@@ -52,7 +52,7 @@ module _ (σ : Values) (here : ℕ) (next : PlacedAct) (before : List PlacedAct)
 
 -- an act that isn't kept is the first fault of a word, or memory was refused for it
 pub stops_keeping : (σ : Values) (acts : List PlacedAct) (at : ℕ) (next : PlacedAct) (here : ℕ) → at < length acts → slice_get acts at ≡ Some next → here ≡ location σ (reverse (take at acts))
-    → Encodes σ (reverse (take at acts)) → (r : Refused) → BreaksKeeping σ here next r → FindsKeeping σ acts r
+    → Encodes σ (reverse (take at acts)) → (r : ActsFault) → BreaksKeeping σ here next r → FindsKeeping σ acts r
 stops_keeping σ acts at next here within stands is fine (Fault place code) h = record {
   earlier = reverse (take at acts);
   next = next;

@@ -3,7 +3,7 @@ use Rattle.std.proofs.Common.{◌≡◌, ◌∙◌, sym, ap, refl, ℕ, List, []
 use Rattle.std.specs.Prelude.{reverse, Result, Ok, Err}
 use Rattle.std.proofs.lemmas.List.{reverse-append, reverse-reverse}
 use Rattle.pal_text.specs.declared.names.Name.{Name}
-use Rattle.pal_acts.specs.declared.act.Place.{Place}
+use Rattle.pal_acts.specs.declared.act.SourcePlace.{SourcePlace}
 use Rattle.pal_acts.specs.declared.code.Code.{Code}
 use Rattle.pal_acts.specs.Acts.{PlacedAct}
 use Rattle.pal_acts.specs.Values.{Values, known}
@@ -84,13 +84,13 @@ module _ (perm : List (Name × ℕ)) (limit : ℕ) where
   fails_one : (e : List PlacedAct) (n : PlacedAct) (c d : Code) → Fails e n c → Fails e n d → c ≡ d
   fails_one e n c d (s, k, h) (u, l, f) = one_err c d (sym h ∙ ap (λ s. next_taken perm limit s e n) (unique perm limit e s u k l) ∙ f)
 
-  fails : (acts : List PlacedAct) (at : Place) (c : Code) → (h : Stops perm limit acts at c) → Fails h.earlier h.next c
+  fails : (acts : List PlacedAct) (at : SourcePlace) (c : Code) → (h : Stops perm limit acts at c) → Fails h.earlier h.next c
   fails acts at c h = h.such.1
 
-  stops_never : (acts : List PlacedAct) (at : Place) (c : Code) (s : List (Name × ℕ)) → Defines perm limit (reverse acts) s → Stops perm limit acts at c → ⊥
+  stops_never : (acts : List PlacedAct) (at : SourcePlace) (c : Code) (s : List (Name × ℕ)) → Defines perm limit (reverse acts) s → Stops perm limit acts at c → ⊥
   stops_never acts at c s d h = never Defined Fits Fails fits_back fits_apart fails_one acts h.earlier h.later h.next c (s, d) h.parts (fails acts at c h)
 
-  stops_one : (acts : List PlacedAct) (at au : Place) (c d : Code) → Stops perm limit acts at c → Stops perm limit acts au d → (at ≡ au) × (c ≡ d)
+  stops_one : (acts : List PlacedAct) (at au : SourcePlace) (c d : Code) → Stops perm limit acts at c → Stops perm limit acts au d → (at ≡ au) × (c ≡ d)
   stops_one acts at au c d h k =
       let r = first Defined Fits Fails fits_back fits_apart fails_one acts h.earlier k.earlier h.later k.later h.next k.next c d (h.such.1.0, h.such.1.1) (k.such.1.0, k.such.1.1) h.parts k.parts (fails acts at c h) (fails acts au d k) in
       (h.such.0 ∙ ap (λ a. a.place) r.0 ∙ sym k.such.0, r.1)
@@ -112,10 +112,10 @@ module _ (σ : Values) where
   words_one : (e : List PlacedAct) (n : PlacedAct) (c d : Code) → Breaks e n c → Breaks e n d → c ≡ d
   words_one e n c d h k = let both = sym h ∙ k in cc
 
-  finds_never : (acts : List PlacedAct) (at : Place) (c : Code) → Encodes σ (reverse acts) → Finds σ acts at c → ⊥
+  finds_never : (acts : List PlacedAct) (at : SourcePlace) (c : Code) → Encodes σ (reverse acts) → Finds σ acts at c → ⊥
   finds_never acts at c g h = never (Encodes σ) IsWordFine Breaks words_back words_apart words_one acts h.earlier h.later h.next c g h.parts h.such.2
 
-  finds_one : (acts : List PlacedAct) (at au : Place) (c d : Code) → Finds σ acts at c → Finds σ acts au d → (at ≡ au) × (c ≡ d)
+  finds_one : (acts : List PlacedAct) (at au : SourcePlace) (c d : Code) → Finds σ acts at c → Finds σ acts au d → (at ≡ au) × (c ≡ d)
   finds_one acts at au c d h k =
       let r = first (Encodes σ) IsWordFine Breaks words_back words_apart words_one acts h.earlier k.earlier h.later k.later h.next k.next c d h.such.1 k.such.1 h.parts k.parts h.such.2 k.such.2 in
       (h.such.0 ∙ ap (λ a. a.place) r.0 ∙ sym k.such.0, r.1)

@@ -6,8 +6,8 @@ use Rattle.std.proofs.lemmas.List.{reverse-reverse, take_all, drop_more, drop_al
 use Rattle.pal_text.specs.declared.names.Name.{Name}
 use Rattle.pal_acts.specs.declared.act.Join.{Join}
 use Rattle.pal_acts.specs.declared.act.PlacedWord.{PlacedWord}
-use Rattle.pal_acts.specs.declared.assembly.Refused.{Refused}
-use Rattle.pal_acts.specs.declared.assembly.Refused.TheVariants.{Fault, NoMemory}
+use Rattle.pal_acts.specs.declared.assembly.ActsFault.{ActsFault}
+use Rattle.pal_acts.specs.declared.assembly.ActsFault.TheVariants.{Fault, NoMemory}
 use Rattle.pal_acts.specs.Acts.{PlacedAct}
 use Rattle.pal_acts.specs.Values.{Values, known, term_value, joined, value_after}
 use Rattle.pal_acts.specs.Meaning.{Defines}
@@ -31,11 +31,11 @@ module _ (perm here own : List (Name × ℕ)) (acts : List PlacedAct) (same : he
       let R : List (Name × ℕ) → Type 0 = λ p. IsImage (words (known p own) (reverse acts)) image in
       record { defines = defines; encodes = subst P same encodes; image_is = subst R same (subst Q back made) }
 
-  pub words_refused : (e : Refused) → FindsKeeping (known here own) acts e → RefusesKeeping perm 1024 acts e
+  pub words_refused : (e : ActsFault) → FindsKeeping (known here own) acts e → RefusesKeeping perm 1024 acts e
   words_refused (Fault place code) h = inr (own, defines, subst (λ p. FindsKeeping (known p own) acts (Fault place code)) same h)
   words_refused NoMemory h = inr (own, defines, subst (λ p. FindsKeeping (known p own) acts NoMemory) same h)
 
-pub symbols_refused : (perm : List (Name × ℕ)) (acts : List PlacedAct) (e : Refused) → StopsBy perm 1024 acts e → RefusesKeeping perm 1024 acts e
+pub symbols_refused : (perm : List (Name × ℕ)) (acts : List PlacedAct) (e : ActsFault) → StopsBy perm 1024 acts e → RefusesKeeping perm 1024 acts e
 symbols_refused perm acts (Fault place code) h = inl h
 symbols_refused perm acts NoMemory h = inl h
 

@@ -2,22 +2,22 @@
 use Rattle.std.specs.Prelude.{ℕ, List, map, slice_range}
 use Rattle.pal_acts.specs.declared.act.Act.{Act}
 use Rattle.pal_acts.specs.declared.act.Join.{Join}
-use Rattle.pal_acts.specs.declared.act.Place.{Place}
+use Rattle.pal_acts.specs.declared.act.SourcePlace.{SourcePlace}
 use Rattle.pal_acts.specs.declared.acts.Placed.{Placed}
 use Rattle.pal_acts.specs.declared.acts.Kept.{Kept}
 
 -- An act, where it stands, and the terms of its expression; none where it has no expression.
 pub record PlacedAct : Type 0 where
-  pub place : Place
+  pub place : SourcePlace
   pub terms : List Join
   pub act : Act
 
 -- An act with its place and the terms of its expression, which are none where it has no expression.
-abbrev pub placed : Place → List Join → Act → PlacedAct
+abbrev pub placed : SourcePlace → List Join → Act → PlacedAct
 placed p e a = record { place = p; terms = e; act = a }
 
 -- The place of a part's line, both counted from 1.
-abbrev pub place : ℕ → ℕ → Place
+abbrev pub place : ℕ → ℕ → SourcePlace
 place part line = record { part = part; line = line }
 
 -- The act that is lent so.

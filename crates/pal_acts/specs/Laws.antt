@@ -10,7 +10,7 @@ use Rattle.pal_acts.specs.declared.act.Term.TheVariants.{Symbol}
 use Rattle.pal_acts.specs.declared.act.Join.{Join}
 use Rattle.pal_acts.specs.declared.act.Act.{Act}
 use Rattle.pal_acts.specs.declared.act.Act.TheVariants as act
-use Rattle.pal_acts.specs.declared.act.Place.{Place}
+use Rattle.pal_acts.specs.declared.act.SourcePlace.{SourcePlace}
 use Rattle.pal_acts.specs.declared.code.Code.{Code}
 use Rattle.pal_acts.specs.Acts.{PlacedAct}
 use Rattle.pal_acts.specs.Values.{Values, has, known, value}
@@ -95,19 +95,19 @@ OneSource = (permanent : List (Name × ℕ)) (limit : ℕ) (acts : List PlacedAc
 
 -- A source with a meaning has no fault.
 abbrev pub NotBoth : Type 0
-NotBoth = (permanent : List (Name × ℕ)) (limit : ℕ) (acts : List PlacedAct) (own : List (Name × ℕ)) (image : List (Option ℕ)) (place : Place) (code : Code)
+NotBoth = (permanent : List (Name × ℕ)) (limit : ℕ) (acts : List PlacedAct) (own : List (Name × ℕ)) (image : List (Option ℕ)) (place : SourcePlace) (code : Code)
     → IsSource permanent limit acts own image → IsRefused permanent limit acts place code → ⊥
 
 -- Any two faults of a source are the same, at the same place.
 abbrev pub OneFault : Type 0
-OneFault = (permanent : List (Name × ℕ)) (limit : ℕ) (acts : List PlacedAct) (place there : Place) (code other : Code)
+OneFault = (permanent : List (Name × ℕ)) (limit : ℕ) (acts : List PlacedAct) (place there : SourcePlace) (code other : Code)
     → IsRefused permanent limit acts place code → IsRefused permanent limit acts there other → (place ≡ there) × (code ≡ other)
 
 -- Each source has a meaning or a fault.
 abbrev pub EachSourceIsAnswered : Type 0
 EachSourceIsAnswered =
     (permanent : List (Name × ℕ)) (limit : ℕ) (acts : List PlacedAct) → ((own : List (Name × ℕ)) × (image : List (Option ℕ)) × IsSource permanent limit acts own image)
-    ⊎ ((place : Place) × (code : Code) × IsRefused permanent limit acts place code)
+    ⊎ ((place : SourcePlace) × (code : Code) × IsRefused permanent limit acts place code)
 
 -- No name stands twice among these.
 abbrev pub no_name_twice : List Name → Bool

@@ -3,7 +3,7 @@
 use Rattle.std.specs.Prelude.{◌≡◌, ◌≢◌, ℕ, ◌<◌, if◌then◌else◌, List, [], ◌∷◌, length, Option, Some, None, Result, Ok, Err, nat_eq, reverse}
 use Rattle.bin_tape.specs.Image.{word_at}
 use Rattle.pal_text.specs.declared.names.Name.{Name}
-use Rattle.pal_acts.specs.declared.act.Place.{Place}
+use Rattle.pal_acts.specs.declared.act.SourcePlace.{SourcePlace}
 use Rattle.pal_acts.specs.declared.act.PlacedWord.{PlacedWord}
 use Rattle.pal_acts.specs.declared.code.Code.{Code}
 use Rattle.pal_acts.specs.Acts.{PlacedAct}
@@ -17,7 +17,7 @@ Encodes σ [] = Unit {0}
 Encodes σ (a ∷ before) = ((code : Code) → word_of σ (location σ before) a.terms a.act ≢ Some (Err code)) × Encodes σ before
 
 -- A word with its place and its address, before others; where there is none, these alone.
-abbrev pub with_word : Place → ℕ → Option (Result ℕ Code) → List PlacedWord → List PlacedWord
+abbrev pub with_word : SourcePlace → ℕ → Option (Result ℕ Code) → List PlacedWord → List PlacedWord
 with_word p at (Some (Ok w)) before = record { place = p; at = at; word = w } ∷ before
 with_word p at _ before = before
 

@@ -5,8 +5,8 @@ use Rattle.pal_acts.specs.declared.act.PlacedWord.{PlacedWord}
 use Rattle.pal_acts.specs.declared.code.Code.{Code}
 use Rattle.pal_acts.specs.declared.symbols.Refusal.{Refusal}
 use Rattle.pal_acts.specs.declared.symbols.Refusal.TheVariants as refusal
-use Rattle.pal_acts.specs.declared.assembly.Refused.{Refused}
-use Rattle.pal_acts.specs.declared.assembly.Refused.TheVariants.{Fault, NoMemory}
+use Rattle.pal_acts.specs.declared.assembly.ActsFault.{ActsFault}
+use Rattle.pal_acts.specs.declared.assembly.ActsFault.TheVariants.{Fault, NoMemory}
 use Rattle.pal_acts.specs.Acts.{PlacedAct}
 use Rattle.pal_acts.specs.Values.{Values}
 use Rattle.pal_acts.specs.Meaning.{location}
@@ -21,17 +21,17 @@ IsFault count taken (refusal.Fault code) = taken ≡ Err code
 IsFault count taken refusal.NoMemory = (new : List (Name × ℕ)) × (taken ≡ Ok new) × (length new ≡ count + 1)
 
 -- The acts are refused before their words are looked at.
-abbrev pub StopsBy : List (Name × ℕ) → ℕ → List PlacedAct → Refused → Type 0
+abbrev pub StopsBy : List (Name × ℕ) → ℕ → List PlacedAct → ActsFault → Type 0
 StopsBy permanent limit acts (Fault place code) = Stops permanent limit acts place code
 StopsBy permanent limit acts NoMemory = AsksForMemory permanent limit acts
 
 -- The acts are refused for a word.
-abbrev pub FindsBy : Values → List PlacedAct → Refused → Type 0
+abbrev pub FindsBy : Values → List PlacedAct → ActsFault → Type 0
 FindsBy σ acts (Fault place code) = Finds σ acts place code
 FindsBy σ acts NoMemory = ⊥
 
 -- The acts are refused for a word, or memory was refused for one.
-abbrev pub FindsKeeping : Values → List PlacedAct → Refused → Type 0
+abbrev pub FindsKeeping : Values → List PlacedAct → ActsFault → Type 0
 FindsKeeping σ acts (Fault place code) = Finds σ acts place code
 FindsKeeping σ acts NoMemory = AsksForWord σ acts
 
@@ -51,7 +51,7 @@ Keeps σ next kept here kept' here' = (before : List PlacedAct) → here ≡ loc
     → (kept' ≡ reverse (words σ (next ∷ before))) × Encodes σ (next ∷ before) × (here' ≡ location σ (next ∷ before))
 
 -- An act at this location isn't kept: it is to be a word and is none, or memory was refused for it.
-abbrev pub BreaksKeeping : Values → ℕ → PlacedAct → Refused → Type 0
+abbrev pub BreaksKeeping : Values → ℕ → PlacedAct → ActsFault → Type 0
 BreaksKeeping σ here next (Fault place code) = (place ≡ next.place) × (word_of σ here next.terms next.act ≡ Some (Err code))
 BreaksKeeping σ here next NoMemory = (w : ℕ) × (word_of σ here next.terms next.act ≡ Some (Ok w))
 

@@ -55,7 +55,7 @@ pub enum Act {
 
 /// The part and the line where something stands, counted from 1.
 #[derive(Clone, Copy, PartialEq, Eq, Debug)]
-pub struct Place {
+pub struct SourcePlace {
     pub part: usize,
     pub line: usize,
 }
@@ -63,7 +63,7 @@ pub struct Place {
 /// A word that a source puts into memory: where its statement stands, its address and its value.
 #[derive(Clone, Copy, PartialEq, Eq, Debug)]
 pub struct PlacedWord {
-    pub place: Place,
+    pub place: SourcePlace,
     pub at: Word,
     pub word: Word,
 }

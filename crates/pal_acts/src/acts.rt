@@ -4,14 +4,14 @@ ghost use Rattle.std.specs.Prelude.{◌≡◌, ◌<◌, [], ◌∷◌, ◌++◌,
 ghost use Rattle.pal_acts.specs.declared.act.Join.{Join as Joined};
 ghost use Rattle.pal_acts.specs.Acts.{placed, shown};
 
-use crate::act::{Act, Join, Place};
+use crate::act::{Act, Join, SourcePlace};
 use std::alloc::{AllocError, Allocator};
 use std::marker::Model;
 
 /// An act, where it stands, and the terms of its expression; none where it has no expression.
 #[derive(Clone, Copy)]
 pub struct Placed<'t> {
-    pub place: Place,
+    pub place: SourcePlace,
     pub act: Act,
     pub terms: &'t [Join],
 }
@@ -27,7 +27,7 @@ struct Span {
 /// An act as it is kept.
 #[derive(Clone, Copy)]
 struct Kept {
-    place: Place,
+    place: SourcePlace,
     act: Act,
     span: Span,
 }
@@ -109,7 +109,7 @@ impl<A: Allocator> Acts<A> {
     ///
     /// Memory was refused. Then the acts are as they were.
     #[inline(always)]
-    pub fn keep(&mut self, place: Place, act: Act, terms: &[Join]) -> Result<(), AllocError>
+    pub fn keep(&mut self, place: SourcePlace, act: Act, terms: &[Join]) -> Result<(), AllocError>
         ensures kept { OnOk result (self.new ≡ self.old ++ placed place terms.now act ∷ []) }
         ensures same { OnErr result (self.new ≡ self.old) }
     {

@@ -2,7 +2,7 @@
 
 ghost use Rattle.std.specs.Prelude.{◌≡◌, ◌⊎◌, [], Some, Err, reverse, IfOk, IfErr, OnOk, MatchResult, ℕ, List, Option};
 ghost use Rattle.pal_text.specs.declared.names.Name.{Name as Named};
-ghost use Rattle.pal_acts.specs.declared.act.Place.{Place as Placing};
+ghost use Rattle.pal_acts.specs.declared.act.SourcePlace.{SourcePlace as Placing};
 ghost use Rattle.pal_acts.specs.declared.code.Code.{Code as Coded};
 ghost use Rattle.pal_acts.specs.Acts.{shown};
 ghost use Rattle.pal_acts.specs.Values.{known};
@@ -12,7 +12,7 @@ ghost use Rattle.pal_acts.specs.Sources.{IsSource, IsImage, Encodes, words, all_
 ghost use Rattle.pal_acts.specs.Faults.{Refuses, RefusesKeeping, IsRefused};
 ghost use Rattle.pal_acts.specs.Steps.{StopsBy, FindsBy, FindsKeeping, BreaksKeeping, Codes, Puts, Keeps};
 
-use crate::act::{Act, Place, PlacedWord};
+use crate::act::{Act, PlacedWord, SourcePlace};
 use crate::acts::{Acts, Placed};
 use crate::code::Code;
 use crate::symbols::{Refusal, SymbolTable, Symbols};
@@ -22,9 +22,9 @@ use word12::Word;
 
 /// Why a source is refused.
 #[derive(Clone, Copy, PartialEq, Eq)]
-pub enum Refused {
+pub enum ActsFault {
     /// An act at this place has this fault, the first of the source.
-    Fault(Place, Code),
+    Fault(SourcePlace, Code),
     /// Memory was refused.
     NoMemory,
 }
@@ -48,7 +48,7 @@ pub struct AssembledWords<'p, A: Allocator + Copy> {
 fn take_acts<A: Allocator + Copy>(
     symbols: &mut Symbols<'_, A>,
     acts: &Acts<A>,
-) -> Result<(), Refused>
+) -> Result<(), ActsFault>
     requires { symbols.old.own.entries ≡ [] }
     ensures symbols { OnOk result (Defines symbols.old.permanent.now.entries 1024
         (reverse acts.now) symbols.new.own.entries) }
@@ -60,8 +60,8 @@ fn take_acts<A: Allocator + Copy>(
         let next = acts.get(at);
         match symbols.act(&mut here, next.act, next.terms) {
             Ok(()) => {}
-            Err(Refusal::Fault(code)) => return Err(Refused::Fault(next.place, code)),
-            Err(Refusal::NoMemory) => return Err(Refused::NoMemory),
+            Err(Refusal::Fault(code)) => return Err(ActsFault::Fault(next.place, code)),
+            Err(Refusal::NoMemory) => return Err(ActsFault::NoMemory),
         }
     }
     Ok(())
@@ -72,7 +72,7 @@ fn define<'p, A: Allocator + Copy>(
     alloc: A,
     permanent: &'p SymbolTable<A>,
     acts: &Acts<A>,
-) -> Result<Symbols<'p, A>, Refused>
+) -> Result<Symbols<'p, A>, ActsFault>
     ensures symbols { IfOk result (λ s. Defines permanent.now.entries 1024 (reverse acts.now)
         s.own.entries) }
     ensures permanent { IfOk result (λ s. s.permanent.now.entries ≡ permanent.now.entries) }
@@ -149,7 +149,7 @@ fn keep<A: Allocator + Copy>(
     next: Placed<'_>,
     kept: &mut Vec<PlacedWord, A>,
     here: &mut Word,
-) -> Result<(), Refused>
+) -> Result<(), ActsFault>
     ensures keeps { OnOk result (Keeps (known symbols.now.permanent.now.entries
         symbols.now.own.entries) (shown next.entry) kept.old.items here.old kept.new.items
         here.new) }
@@ -159,15 +159,15 @@ fn keep<A: Allocator + Copy>(
     match code(symbols, next, here) {
         Ok(Some(found)) => match kept.push(found) {
             Ok(()) => Ok(()),
-            Err(_) => Err(Refused::NoMemory),
+            Err(_) => Err(ActsFault::NoMemory),
         },
         Ok(None) => Ok(()),
-        Err(code) => Err(Refused::Fault(next.place, code)),
+        Err(code) => Err(ActsFault::Fault(next.place, code)),
     }
 }
 
 /// The image of acts whose symbols these are, or the first fault of a word.
-fn encode<A: Allocator + Copy>(symbols: &Symbols<'_, A>, acts: &Acts<A>) -> Result<Image, Refused>
+fn encode<A: Allocator + Copy>(symbols: &Symbols<'_, A>, acts: &Acts<A>) -> Result<Image, ActsFault>
     ensures encodes { OnOk result (Encodes (known symbols.now.permanent.now.entries
         symbols.now.own.entries) (reverse acts.now)) }
     ensures image { IfOk result (IsImage (words (known symbols.now.permanent.now.entries
@@ -180,7 +180,7 @@ fn encode<A: Allocator + Copy>(symbols: &Symbols<'_, A>, acts: &Acts<A>) -> Resu
     for at in 0..acts.len() {
         let next = acts.get(at);
         if let Err(code) = put(symbols, next, &mut image, &mut here) {
-            return Err(Refused::Fault(next.place, code));
+            return Err(ActsFault::Fault(next.place, code));
         }
     }
     Ok(image)
@@ -192,7 +192,7 @@ fn keep_all<A: Allocator + Copy>(
     symbols: &Symbols<'_, A>,
     acts: &Acts<A>,
     kept: &mut Vec<PlacedWord, A>,
-) -> Result<(), Refused>
+) -> Result<(), ActsFault>
     requires { kept.old.items ≡ [] }
     ensures encodes { OnOk result (Encodes (known symbols.now.permanent.now.entries
         symbols.now.own.entries) (reverse acts.now)) }
@@ -213,7 +213,7 @@ fn keep_words<A: Allocator + Copy>(
     alloc: A,
     symbols: &Symbols<'_, A>,
     acts: &Acts<A>,
-) -> Result<Vec<PlacedWord, A>, Refused>
+) -> Result<Vec<PlacedWord, A>, ActsFault>
     ensures encodes { OnOk result (Encodes (known symbols.now.permanent.now.entries
         symbols.now.own.entries) (reverse acts.now)) }
     ensures words { IfOk result (λ kept. kept.items ≡
@@ -242,7 +242,7 @@ fn assemble_acts<'p, A: Allocator + Copy>(
     alloc: A,
     permanent: &'p SymbolTable<A>,
     acts: &Acts<A>,
-) -> Result<Assembled<'p, A>, Refused>
+) -> Result<Assembled<'p, A>, ActsFault>
     ensures permanent { IfOk result (λ found. found.symbols.permanent.now.entries ≡
         permanent.now.entries) }
     ensures found { IfOk result (λ found. IsSource permanent.now.entries 1024 acts.now
@@ -259,7 +259,7 @@ fn assemble_words<'p, A: Allocator + Copy>(
     alloc: A,
     permanent: &'p SymbolTable<A>,
     acts: &Acts<A>,
-) -> Result<AssembledWords<'p, A>, Refused>
+) -> Result<AssembledWords<'p, A>, ActsFault>
     ensures permanent { IfOk result (λ found. found.symbols.permanent.now.entries ≡
         permanent.now.entries) }
     ensures found { IfOk result (λ found. IsSource permanent.now.entries 1024 acts.now
@@ -289,7 +289,7 @@ pub fn assemble<'p, A: Allocator + Copy>(
     alloc: A,
     permanent: &'p SymbolTable<A>,
     acts: &Acts<A>,
-) -> Result<Assembled<'p, A>, Refused>
+) -> Result<Assembled<'p, A>, ActsFault>
     ensures permanent { IfOk result (λ found. found.symbols.permanent.now.entries ≡
         permanent.now.entries) }
     ensures found { IfOk result (λ found. IsSource permanent.now.entries 1024 acts.now
@@ -299,12 +299,12 @@ pub fn assemble<'p, A: Allocator + Copy>(
     ensures meant { (own : List (Named × ℕ)) (image : List (Option ℕ)) →
         IsSource permanent.now.entries 1024 acts.now own image →
         MatchResult result (λ found. (found.symbols.own.entries ≡ own) × (found.image ≡ image))
-        (λ refused. refused ≡ Refused.NoMemory) }
+        (λ refused. refused ≡ ActsFault.NoMemory) }
     // A source that has a fault is answered by no other, and by no meaning.
     ensures faulty { (place : Placing) (code : Coded) →
         IsRefused permanent.now.entries 1024 acts.now place code →
-        MatchResult result (λ found. ⊥) (λ refused. (refused ≡ Refused.Fault place code) ⊎
-        (refused ≡ Refused.NoMemory)) }
+        MatchResult result (λ found. ⊥) (λ refused. (refused ≡ ActsFault.Fault place code) ⊎
+        (refused ≡ ActsFault.NoMemory)) }
 {
     assemble_acts(alloc, permanent, acts)
 }
@@ -320,7 +320,7 @@ pub fn assemble_with_words<'p, A: Allocator + Copy>(
     alloc: A,
     permanent: &'p SymbolTable<A>,
     acts: &Acts<A>,
-) -> Result<AssembledWords<'p, A>, Refused>
+) -> Result<AssembledWords<'p, A>, ActsFault>
     ensures permanent { IfOk result (λ found. found.symbols.permanent.now.entries ≡
         permanent.now.entries) }
     ensures found { IfOk result (λ found. IsSource permanent.now.entries 1024 acts.now
@@ -332,12 +332,12 @@ pub fn assemble_with_words<'p, A: Allocator + Copy>(
     ensures meant { (own : List (Named × ℕ)) (image : List (Option ℕ)) →
         IsSource permanent.now.entries 1024 acts.now own image →
         MatchResult result (λ found. (found.symbols.own.entries ≡ own) × (found.image ≡ image))
-        (λ refused. refused ≡ Refused.NoMemory) }
+        (λ refused. refused ≡ ActsFault.NoMemory) }
     // A source that has a fault is answered by no other, and by no meaning.
     ensures faulty { (place : Placing) (code : Coded) →
         IsRefused permanent.now.entries 1024 acts.now place code →
-        MatchResult result (λ found. ⊥) (λ refused. (refused ≡ Refused.Fault place code) ⊎
-        (refused ≡ Refused.NoMemory)) }
+        MatchResult result (λ found. ⊥) (λ refused. (refused ≡ ActsFault.Fault place code) ⊎
+        (refused ≡ ActsFault.NoMemory)) }
 {
     assemble_words(alloc, permanent, acts)
 }

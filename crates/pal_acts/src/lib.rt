@@ -15,9 +15,9 @@ pub mod permanent;
 pub mod symbols;
 mod words;
 
-pub use act::{Act, Join, Name, Place, PlacedWord, Sign, Term};
+pub use act::{Act, Join, Name, PlacedWord, Sign, SourcePlace, Term};
 pub use acts::{Acts, Placed};
-pub use assembly::{Assembled, AssembledWords, Refused, assemble, assemble_with_words};
+pub use assembly::{ActsFault, Assembled, AssembledWords, assemble, assemble_with_words};
 pub use code::Code;
 pub use permanent::permanent_table;
 pub use symbols::{SymbolTable, Symbols};

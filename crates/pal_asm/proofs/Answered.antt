@@ -11,7 +11,7 @@ use Rattle.pal_text.specs.Statements.{Piece, pieces, own, closing, Stand}
 use Rattle.pal_text.specs.Statements as stands
 use Rattle.pal_text.proofs.Answered.{Answers, answered, part_closed}
 use Rattle.pal_acts.specs.declared.act.Act.TheVariants as act
-use Rattle.pal_acts.specs.declared.act.Place.{Place}
+use Rattle.pal_acts.specs.declared.act.SourcePlace.{SourcePlace}
 use Rattle.pal_acts.specs.declared.code.Code.{Code}
 use Rattle.pal_acts.specs.declared.code.Code.TheVariants.{IllegalCharacter}
 use Rattle.pal_acts.specs.Acts.{PlacedAct, placed, place}
@@ -71,7 +71,7 @@ module _ (perm : List (Name × ℕ)) (parts : List (List ℕ)) where
   Answered = ((own : List (Name × ℕ)) × (image : List (Option ℕ)) × Means perm parts own image) ⊎ ((fault : PalFault) × IsFault perm parts fault)
 
   by_acts : size_fault parts ≡ None → (read : Read 1 Octal parts)
-      → ((own : List (Name × ℕ)) × (image : List (Option ℕ)) × IsSource perm 1024 read.0 own image) ⊎ ((at : Place) × (code : Code) × IsRefused perm 1024 read.0 at code) → Answered
+      → ((own : List (Name × ℕ)) × (image : List (Option ℕ)) × IsSource perm 1024 read.0 own image) ⊎ ((at : SourcePlace) × (code : Code) × IsRefused perm 1024 read.0 at code) → Answered
   by_acts sizes read (inl k) = inl (k.0, k.1, record { acts = read.0; lines = read.1; sizes = sizes; reads = read.2; so = k.2 })
   by_acts sizes read (inr k) = inr (fault_at k.1 k.0.part k.0.line, inr (record { acts = read.0; lines = read.1; sizes = sizes; reads = read.2; so = k.2 }))
 

@@ -23,7 +23,7 @@ use Rattle.pal_acts.specs.declared.act.Term.{Term}
 use Rattle.pal_acts.specs.declared.act.Term.TheVariants.{Number}
 use Rattle.pal_acts.specs.declared.act.Join.{Join}
 use Rattle.pal_acts.specs.declared.act.Act.TheVariants as act
-use Rattle.pal_acts.specs.declared.act.Place.{Place}
+use Rattle.pal_acts.specs.declared.act.SourcePlace.{SourcePlace}
 use Rattle.pal_acts.specs.declared.code.Code.{Code}
 use Rattle.pal_acts.specs.Acts.{PlacedAct, placed, place}
 use Rattle.pal_acts.specs.Permanent.{permanent_symbols, common_symbols, further_symbols}
@@ -76,22 +76,22 @@ joins_read b source s (t ∷ ts) =
 abbrev Each : List PlacedAct → Type 0
 Each acts = AllByRecursion HasNumbers acts
 
-tags_hold : (p : Place) (source : List ℕ) (ts : List Token) → Each (map (tag_act p source) ts)
+tags_hold : (p : SourcePlace) (source : List ℕ) (ts : List Token) → Each (map (tag_act p source) ts)
 tags_hold p source [] = tt
 tags_hold p source (t ∷ ts) = (tt, tags_hold p source ts)
 
-said_hold : (p : Place) (last : Bool) (source : List ℕ) (name : Option Token) (js : List Join) (f : Form) → Numbers js → Each (said_acts p last source name js f)
+said_hold : (p : SourcePlace) (last : Bool) (source : List ℕ) (name : Option Token) (js : List Join) (f : Form) → Numbers js → Each (said_acts p last source name js f)
 said_hold p last source name js form.Origin h = (h, tt)
 said_hold p last source name js form.Assign h = (h, tt)
 said_hold p last source name js form.Word h = (h, tt)
 said_hold p last source name js form.Pause h = cond_both last (placed p [] act.LastPause ∷ []) [] Each (λ is. (tt, tt)) (λ is. tt)
 said_hold p last source name js _ h = tt
 
-with_hold : (p : Place) (last : Bool) (source : List ℕ) (tags : List Token) (said : Said) (r : Result (List Join) Code) → ReadAll r → Each (acts_with p last source tags said r)
+with_hold : (p : SourcePlace) (last : Bool) (source : List ℕ) (tags : List Token) (said : Said) (r : Result (List Join) Code) → ReadAll r → Each (acts_with p last source tags said r)
 with_hold p last source tags said (Err c) h = (tt, tt)
 with_hold p last source tags said (Ok js) h = all_append HasNumbers (map (tag_act p source) tags) (said_acts p last source said.name js said.form) (tags_hold p source tags) (said_hold p last source said.name js said.form h)
 
-statement_hold : (p : Place) (b : ℕ) (last : Bool) (source : List ℕ) (tags : List Token) (said : Said) → Each (statement_acts p b last source tags said)
+statement_hold : (p : SourcePlace) (b : ℕ) (last : Bool) (source : List ℕ) (tags : List Token) (said : Said) → Each (statement_acts p b last source tags said)
 statement_hold p b last source tags said =
     with_hold p last source tags said (expression b source said.operand) (joins_read b source Or said.operand)
 

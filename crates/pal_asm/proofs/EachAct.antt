@@ -13,7 +13,7 @@ use Rattle.pal_text.proofs.Rises.{all_append}
 use Rattle.pal_acts.specs.declared.act.Join.{Join}
 use Rattle.pal_acts.specs.declared.act.Act.{Act}
 use Rattle.pal_acts.specs.declared.act.Act.TheVariants as act
-use Rattle.pal_acts.specs.declared.act.Place.{Place}
+use Rattle.pal_acts.specs.declared.act.SourcePlace.{SourcePlace}
 use Rattle.pal_acts.specs.declared.code.Code.{Code}
 use Rattle.pal_acts.specs.declared.code.Code.TheVariants.{DuplicateTag}
 use Rattle.pal_acts.specs.Acts.{PlacedAct, placed}
@@ -24,7 +24,7 @@ no_word : (source : List ℕ) (name : Option Token) → assigned source name ≡
 no_word source (Some t) e = cc
 no_word source None e = cc
 
-module _ (P : PlacedAct → Type 0) (p : Place) (idle : (e : List Join) (a : Act) → (a ≡ act.Word → ⊥) → P (placed p e a)) where
+module _ (P : PlacedAct → Type 0) (p : SourcePlace) (idle : (e : List Join) (a : Act) → (a ≡ act.Word → ⊥) → P (placed p e a)) where
   abbrev Each : List PlacedAct → Type 0
   Each acts = AllByRecursion P acts
 

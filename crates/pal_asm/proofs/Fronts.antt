@@ -5,7 +5,7 @@ use Rattle.std.proofs.lemmas.Bool.{cond-true}
 use Rattle.std.proofs.lemmas.List.{take_all, drop_more}
 use Rattle.std.proofs.lemmas.Option.{slice_get_within, slice_get-get_or}
 use Rattle.pal_text.specs.declared.names.Name.{Name}
-use Rattle.pal_acts.specs.declared.act.Place.{Place}
+use Rattle.pal_acts.specs.declared.act.SourcePlace.{SourcePlace}
 use Rattle.pal_acts.specs.declared.act.PlacedWord.{PlacedWord}
 use Rattle.pal_asm.specs.Listings.{is_at, line_text, words_text, word_text, symbols_text, symbol_text}
 use Rattle.pal_asm.specs.Kept.{next_at, after_those}
@@ -19,7 +19,7 @@ some_is : {X : Type 0} (x y : X) → Some x ≡ Some y → x ≡ y
 some_is x y e = cc
 
 -- a word taken off the front
-module _ (p : Place) where
+module _ (p : SourcePlace) where
   pub word_off : (xs : List PlacedWord) (d : PlacedWord) → 1 ≤ length xs → is_at p (get_or xs 0 d) ≡ true
       → (after_those p (take (length xs - 1) (drop 1 xs)) ≡ after_those p xs) × (next_at p xs ≡ get_or xs 0 d ∷ next_at p (take (length xs - 1) (drop 1 xs)))
   word_off [] d h is = absurd (omega arith)

@@ -13,7 +13,7 @@ use Rattle.pal_text.proofs.Rises.{all_append, all_reverse}
 use Rattle.pal_acts.specs.declared.act.Join.{Join}
 use Rattle.pal_acts.specs.declared.act.Act.{Act}
 use Rattle.pal_acts.specs.declared.act.Act.TheVariants as act
-use Rattle.pal_acts.specs.declared.act.Place.{Place}
+use Rattle.pal_acts.specs.declared.act.SourcePlace.{SourcePlace}
 use Rattle.pal_acts.specs.declared.code.Code.{Code}
 use Rattle.pal_acts.specs.Acts.{PlacedAct, placed, place}
 use Rattle.pal_acts.specs.Values.{Values, known}
@@ -34,12 +34,12 @@ use Rattle.pal_asm.proofs.StandsOn.{Fairs, lines_to, part_fair, stops, on_line}
 
 -- ---- lines
 
-listed_left : (p : Place) (ls more : List TextLine) → IsListed p ls → IsListed p (ls ++ more)
+listed_left : (p : SourcePlace) (ls more : List TextLine) → IsListed p ls → IsListed p (ls ++ more)
 listed_left p [] more h = absurd h
 listed_left p (l ∷ ls) more (inl h) = inl h
 listed_left p (l ∷ ls) more (inr h) = inr (listed_left p ls more h)
 
-listed_right : (p : Place) (ls more : List TextLine) → IsListed p more → IsListed p (ls ++ more)
+listed_right : (p : SourcePlace) (ls more : List TextLine) → IsListed p more → IsListed p (ls ++ more)
 listed_right p [] more h = h
 listed_right p (l ∷ ls) more h = inr (listed_right p ls more h)
 
@@ -53,22 +53,22 @@ text_listed n m k source (l ∷ ls) h lt = elim (cases_eq k m) [
 -- ---- acts
 
 -- an act that is a word stands on a line
-abbrev StandsBy : List TextLine → Place → Act → Type 0
+abbrev StandsBy : List TextLine → SourcePlace → Act → Type 0
 StandsBy lines p act.Word = IsListed p lines
 StandsBy lines p _ = Unit {0}
 
 abbrev Stands : List TextLine → PlacedAct → Type 0
 Stands lines a = StandsBy lines a.place a.act
 
-by_more : (lines others : List TextLine) (p : Place) (a : Act) → (IsListed p lines → IsListed p others) → StandsBy lines p a → StandsBy others p a
+by_more : (lines others : List TextLine) (p : SourcePlace) (a : Act) → (IsListed p lines → IsListed p others) → StandsBy lines p a → StandsBy others p a
 by_more lines others p act.Word k h = k h
 by_more lines others p _ k h = tt
 
-all_more : (lines others : List TextLine) (acts : List PlacedAct) → ((p : Place) → IsListed p lines → IsListed p others) → AllByRecursion (Stands lines) acts → AllByRecursion (Stands others) acts
+all_more : (lines others : List TextLine) (acts : List PlacedAct) → ((p : SourcePlace) → IsListed p lines → IsListed p others) → AllByRecursion (Stands lines) acts → AllByRecursion (Stands others) acts
 all_more lines others [] k h = tt
 all_more lines others (a ∷ acts) k h = (by_more lines others a.place a.act (k a.place) h.0, all_more lines others acts k h.1)
 
-idle_stands : (lines : List TextLine) (p : Place) (e : List Join) (a : Act) → (a ≡ act.Word → ⊥) → Stands lines (placed p e a)
+idle_stands : (lines : List TextLine) (p : SourcePlace) (e : List Join) (a : Act) → (a ≡ act.Word → ⊥) → Stands lines (placed p e a)
 idle_stands lines p e act.Word h = absurd (h refl)
 idle_stands lines p e _ h = tt
 
@@ -108,11 +108,11 @@ reads_stand n r parts acts lines (next_part m q q' p ps mine more ls c does e h)
 abbrev AllListed : List TextLine → List PlacedWord → Type 0
 AllListed lines ws = AllByRecursion (λ w. IsListed w.place lines) ws
 
-word_listed : (lines : List TextLine) (p : Place) (at : ℕ) (value : Result ℕ Code) (ws : List PlacedWord) → IsListed p lines → AllListed lines ws → AllListed lines (with_word p at (Some value) ws)
+word_listed : (lines : List TextLine) (p : SourcePlace) (at : ℕ) (value : Result ℕ Code) (ws : List PlacedWord) → IsListed p lines → AllListed lines ws → AllListed lines (with_word p at (Some value) ws)
 word_listed lines p at (Ok w) ws h all = (h, all)
 word_listed lines p at (Err c) ws h all = all
 
-and_word_listed : (lines : List TextLine) (σ : Values) (here : ℕ) (p : Place) (e : List Join) (a : Act) (ws : List PlacedWord) → StandsBy lines p a → AllListed lines ws → AllListed lines (with_word p here (word_of σ here e a) ws)
+and_word_listed : (lines : List TextLine) (σ : Values) (here : ℕ) (p : SourcePlace) (e : List Join) (a : Act) (ws : List PlacedWord) → StandsBy lines p a → AllListed lines ws → AllListed lines (with_word p here (word_of σ here e a) ws)
 and_word_listed lines σ here p e act.Word ws h all = word_listed lines p here (word_value σ here e) ws h all
 and_word_listed lines σ here p e _ ws h all = all
 

@@ -16,8 +16,8 @@ use Rattle.pal_acts.specs.declared.code.Code.TheVariants.{IllegalCharacter}
 use Rattle.pal_acts.specs.Sources.{IsSource, all_words}
 use Rattle.pal_acts.specs.Values.{known}
 use Rattle.pal_acts.specs.declared.act.PlacedWord.{PlacedWord}
-use Rattle.pal_acts.specs.declared.assembly.Refused.{Refused}
-use Rattle.pal_acts.specs.declared.assembly.Refused.TheVariants as refused
+use Rattle.pal_acts.specs.declared.assembly.ActsFault.{ActsFault}
+use Rattle.pal_acts.specs.declared.assembly.ActsFault.TheVariants as refused
 use Rattle.pal_acts.proofs.Told.{Has}
 use Rattle.pal_acts.proofs.First.{one_source, not_both, one_fault}
 use Rattle.pal_asm.specs.declared.number.Radix.{Radix}
@@ -25,7 +25,7 @@ use Rattle.pal_asm.specs.declared.number.Radix.TheVariants.{Octal}
 use Rattle.pal_asm.specs.declared.fault.PalFault.{PalFault}
 use Rattle.pal_asm.specs.declared.fault.AssembleFault.{AssembleFault}
 use Rattle.pal_asm.specs.declared.fault.AssembleFault.TheVariants.{Source, NoMemory}
-use Rattle.pal_acts.specs.declared.act.Place.{Place}
+use Rattle.pal_acts.specs.declared.act.SourcePlace.{SourcePlace}
 use Rattle.pal_acts.specs.Acts.{PlacedAct, placed, place}
 use Rattle.pal_asm.specs.Numbers.{base, radix_after}
 use Rattle.pal_asm.specs.Acts.{statement_acts, Does, ends, goes_on}
@@ -123,8 +123,8 @@ module _ (perm : List (Name × ℕ)) (parts : List (List ℕ)) where
   one_fault_of : (acts : List PlacedAct) (f g : PalFault) → IsFaultOf perm acts f → IsFaultOf perm acts g → f ≡ g
   one_fault_of acts f g h k =
       let e : (place f.part f.line ≡ place g.part g.line) × (f.code ≡ g.code) = one_fault perm 1024 acts (place f.part f.line) (place g.part g.line) f.code g.code h k in
-      let part_in : Place → ℕ = λ p. p.part in
-      let line_in : Place → ℕ = λ p. p.line in
+      let part_in : SourcePlace → ℕ = λ p. p.part in
+      let line_in : SourcePlace → ℕ = λ p. p.line in
       let parts_are : f.part ≡ g.part = ap part_in e.0 in
       let lines_are : f.line ≡ g.line = ap line_in e.0 in
       λ i. record { code = e.1 i; part = parts_are i; line = lines_are i }
@@ -159,7 +159,7 @@ matched (Ok x) P Q F G ok err p f = p x ok
 matched (Err e) P Q F G ok err p f = f e err
 
 -- a refusal of acts is that of their source
-pub told_so : (perm : List (Name × ℕ)) (acts : List PlacedAct) (r : Refused) → Has perm 1024 acts r → RefusesActs perm acts (fault_of r)
+pub told_so : (perm : List (Name × ℕ)) (acts : List PlacedAct) (r : ActsFault) → Has perm 1024 acts r → RefusesActs perm acts (fault_of r)
 told_so perm acts (refused.Fault place code) h = h
 told_so perm acts refused.NoMemory h = tt
 

@@ -12,7 +12,7 @@ use Rattle.pal_text.specs.Statements.{Piece, pieces}
 use Rattle.pal_acts.specs.declared.act.Act.{Act}
 use Rattle.pal_acts.specs.declared.act.Act.TheVariants as act
 use Rattle.pal_acts.specs.declared.act.Join.{Join}
-use Rattle.pal_acts.specs.declared.act.Place.{Place}
+use Rattle.pal_acts.specs.declared.act.SourcePlace.{SourcePlace}
 use Rattle.pal_acts.specs.declared.code.Code.{Code}
 use Rattle.pal_acts.specs.Acts.{PlacedAct, place}
 use Rattle.pal_acts.specs.Values.{Values, known}
@@ -31,34 +31,34 @@ use Rattle.pal_asm.proofs.EachAct.{statement_holds}
 use Rattle.pal_asm.proofs.Climbs.{Marks, part_marks}
 use Rattle.pal_asm.proofs.Merged.{Upto, upto_trans, After, LinesAfter, lines_weaker, turns_are}
 
-upto_refl : (p : Place) → Upto p p
+upto_refl : (p : SourcePlace) → Upto p p
 upto_refl p = inr (refl, omega arith)
 
 -- acts in order from this place on
-abbrev ActsAfter : Place → List PlacedAct → Type 0
+abbrev ActsAfter : SourcePlace → List PlacedAct → Type 0
 ActsAfter p [] = Unit {0}
 ActsAfter p (a ∷ xs) = Upto p (a.place) × ActsAfter (a.place) xs
 
-acts_weaker : (p q : Place) (xs : List PlacedAct) → Upto p q → ActsAfter q xs → ActsAfter p xs
+acts_weaker : (p q : SourcePlace) (xs : List PlacedAct) → Upto p q → ActsAfter q xs → ActsAfter p xs
 acts_weaker p q [] h a = tt
 acts_weaker p q (x ∷ xs) h a = (upto_trans p q x.place h a.0, a.1)
 
-abbrev IsAt : Place → PlacedAct → Type 0
+abbrev IsAt : SourcePlace → PlacedAct → Type 0
 IsAt p a = a.place ≡ p
 
-at_after : (p : Place) (xs tail : List PlacedAct) → AllByRecursion (IsAt p) xs → ActsAfter p tail → ActsAfter p (xs ++ tail)
+at_after : (p : SourcePlace) (xs tail : List PlacedAct) → AllByRecursion (IsAt p) xs → ActsAfter p tail → ActsAfter p (xs ++ tail)
 at_after p [] tail all h = h
-at_after p (x ∷ xs) tail all h = let P : Place → Type 0 = λ q. Upto p q × ActsAfter q (xs ++ tail) in subst P (sym all.0) (upto_refl p, at_after p xs tail all.1 h)
+at_after p (x ∷ xs) tail all h = let P : SourcePlace → Type 0 = λ q. Upto p q × ActsAfter q (xs ++ tail) in subst P (sym all.0) (upto_refl p, at_after p xs tail all.1 h)
 
 does_after : (n : ℕ) (last : Bool) (source : List ℕ) (r r' : Radix) (l : ℕ) (ps : List Piece) (acts later : List PlacedAct) (c : Close)
     → Marks l ps → Does n last source r ps acts r' c → ((m : ℕ) → ActsAfter (place n m) later) → ActsAfter (place n l) (acts ++ later)
 does_after n last source r r' l ps acts later c marks (ends q p qs tags said d reads e) k =
-    let at : Place = place n p.mark.line in
+    let at : SourcePlace = place n p.mark.line in
     let mine : List PlacedAct = statement_acts at (base q) last source tags said in
     let all : AllByRecursion (IsAt at) mine = statement_holds (IsAt at) at (λ e a h. refl) (base q) last source tags said (λ js h. refl) in
     acts_weaker (place n l) at (mine ++ later) (inr (refl, marks.0)) (at_after at mine later all (k p.mark.line))
 does_after n last source r r' l ps acts later c marks (goes_on q q' p qs tags said more d reads e h) k =
-    let at : Place = place n p.mark.line in
+    let at : SourcePlace = place n p.mark.line in
     let mine : List PlacedAct = statement_acts at (base q) last source tags said in
     let all : AllByRecursion (IsAt at) mine = statement_holds (IsAt at) at (λ e a h. refl) (base q) last source tags said (λ js h. refl) in
     let P : List PlacedAct → Type 0 = λ xs. ActsAfter (place n l) xs in
@@ -66,7 +66,7 @@ does_after n last source r r' l ps acts later c marks (goes_on q q' p qs tags sa
     (acts_weaker (place n l) at (mine ++ (more ++ later)) (inr (refl, marks.0))
     (at_after at mine (more ++ later) all (does_after n last source (radix_after q said.form) q' p.mark.line qs more later d marks.1 h k)))
 
-reads_after : (p : Place) (n : ℕ) (r : Radix) (parts : List (List ℕ)) (acts : List PlacedAct) (lines : List TextLine) → p.part < n → Reads n r parts acts lines → ActsAfter p acts
+reads_after : (p : SourcePlace) (n : ℕ) (r : Radix) (parts : List (List ℕ)) (acts : List PlacedAct) (lines : List TextLine) → p.part < n → Reads n r parts acts lines → ActsAfter p acts
 reads_after p n r parts acts lines lt (no_part m q) = tt
 reads_after p n r parts acts lines lt (broken m q s ss line is) = (inl lt, tt)
 reads_after p n r parts acts lines lt (last_part m q q' s ss mine c does e) =
@@ -77,58 +77,58 @@ reads_after p n r parts acts lines lt (next_part m q q' s ss mine more ls c does
     (does_after m _ s q q' 0 (pieces 0 0 (part_tokens s)) mine more c (part_marks s) does (λ k. reads_after (place m k) (m + 1) q' ss more ls (omega arith) h))
 
 -- the same with the newest first
-abbrev ActsUpto : Place → List PlacedAct → Type 0
+abbrev ActsUpto : SourcePlace → List PlacedAct → Type 0
 ActsUpto p [] = Unit {0}
 ActsUpto p (a ∷ xs) = Upto (a.place) p × ActsUpto (a.place) xs
 
-acts_higher : (p q : Place) (xs : List PlacedAct) → Upto p q → ActsUpto p xs → ActsUpto q xs
+acts_higher : (p q : SourcePlace) (xs : List PlacedAct) → Upto p q → ActsUpto p xs → ActsUpto q xs
 acts_higher p q [] h a = tt
 acts_higher p q (x ∷ xs) h a = (upto_trans x.place p q a.0 h, a.1)
 
-acts_turned : (p : Place) (xs before : List PlacedAct) → ActsAfter p xs → ActsUpto p before → (q : Place) × ActsUpto q (reverse xs ++ before)
+acts_turned : (p : SourcePlace) (xs before : List PlacedAct) → ActsAfter p xs → ActsUpto p before → (q : SourcePlace) × ActsUpto q (reverse xs ++ before)
 acts_turned p [] before a b = (p, b)
 acts_turned p (x ∷ xs) before a b =
-    let P : List PlacedAct → Type 0 = λ l. (q : Place) × ActsUpto q l in
+    let P : List PlacedAct → Type 0 = λ l. (q : SourcePlace) × ActsUpto q l in
     subst P (sym (ap (λ l. l ++ before) (reverse-append (x ∷ []) xs) ∙ append_assoc (reverse xs) (x ∷ []) before))
     (acts_turned x.place xs (x ∷ before) a.1 (upto_refl x.place, acts_higher p x.place before a.0 b))
 
-abbrev WordsUpto : Place → List PlacedWord → Type 0
+abbrev WordsUpto : SourcePlace → List PlacedWord → Type 0
 WordsUpto p [] = Unit {0}
 WordsUpto p (w ∷ ws) = Upto w.place p × WordsUpto w.place ws
 
-words_higher : (p q : Place) (ws : List PlacedWord) → Upto p q → WordsUpto p ws → WordsUpto q ws
+words_higher : (p q : SourcePlace) (ws : List PlacedWord) → Upto p q → WordsUpto p ws → WordsUpto q ws
 words_higher p q [] h a = tt
 words_higher p q (w ∷ ws) h a = (upto_trans w.place p q a.0 h, a.1)
 
-word_upto : (p q : Place) (at : ℕ) (value : Result ℕ Code) (ws : List PlacedWord) → Upto q p → WordsUpto q ws → WordsUpto p (with_word q at (Some value) ws)
+word_upto : (p q : SourcePlace) (at : ℕ) (value : Result ℕ Code) (ws : List PlacedWord) → Upto q p → WordsUpto q ws → WordsUpto p (with_word q at (Some value) ws)
 word_upto p q at (Ok w) ws h a = (h, a)
 word_upto p q at (Err c) ws h a = words_higher q p ws h a
 
-and_word_upto : (σ : Values) (here : ℕ) (p q : Place) (e : List Join) (a : Act) (ws : List PlacedWord) → Upto q p → WordsUpto q ws → WordsUpto p (with_word q here (word_of σ here e a) ws)
+and_word_upto : (σ : Values) (here : ℕ) (p q : SourcePlace) (e : List Join) (a : Act) (ws : List PlacedWord) → Upto q p → WordsUpto q ws → WordsUpto p (with_word q here (word_of σ here e a) ws)
 and_word_upto σ here p q e act.Word ws h w = word_upto p q here (word_value σ here e) ws h w
 and_word_upto σ here p q e _ ws h w = words_higher q p ws h w
 
-words_upto : (σ : Values) (p : Place) (before : List PlacedAct) → ActsUpto p before → WordsUpto p (words σ before)
+words_upto : (σ : Values) (p : SourcePlace) (before : List PlacedAct) → ActsUpto p before → WordsUpto p (words σ before)
 words_upto σ p [] a = tt
 words_upto σ p (x ∷ before) a = and_word_upto σ (location σ before) p x.place x.terms x.act (words σ before) a.0 (words_upto σ x.place before a.1)
 
-words_lower : (p q : Place) (ws : List PlacedWord) → Upto p q → After q ws → After p ws
+words_lower : (p q : SourcePlace) (ws : List PlacedWord) → Upto p q → After q ws → After p ws
 words_lower p q [] h a = tt
 words_lower p q (w ∷ ws) h a = (upto_trans p q w.place h a.0, a.1)
 
-words_turned : (p : Place) (ws later : List PlacedWord) → WordsUpto p ws → After p later → (q : Place) × After q (reverse ws ++ later)
+words_turned : (p : SourcePlace) (ws later : List PlacedWord) → WordsUpto p ws → After p later → (q : SourcePlace) × After q (reverse ws ++ later)
 words_turned p [] later a b = (p, b)
 words_turned p (w ∷ ws) later a b =
-    let P : List PlacedWord → Type 0 = λ l. (q : Place) × After q l in
+    let P : List PlacedWord → Type 0 = λ l. (q : SourcePlace) × After q l in
     subst P (sym (ap (λ l. l ++ later) (reverse-append (w ∷ []) ws) ∙ append_assoc (reverse ws) (w ∷ []) later))
     (words_turned w.place ws (w ∷ later) a.1 (upto_refl w.place, words_lower w.place p later a.0 b))
 
-words_after : (σ : Values) (parts : List (List ℕ)) (acts : List PlacedAct) (lines : List TextLine) → Reads 1 Octal parts acts lines → (q : Place) × After q (all_words σ acts)
+words_after : (σ : Values) (parts : List (List ℕ)) (acts : List PlacedAct) (lines : List TextLine) → Reads 1 Octal parts acts lines → (q : SourcePlace) × After q (all_words σ acts)
 words_after σ parts acts lines reads =
-    let turned : (q : Place) × ActsUpto q (reverse acts ++ []) = acts_turned (place 0 0) acts [] (reads_after (place 0 0) 1 Octal parts acts lines (omega arith) reads) tt in
+    let turned : (q : SourcePlace) × ActsUpto q (reverse acts ++ []) = acts_turned (place 0 0) acts [] (reads_after (place 0 0) 1 Octal parts acts lines (omega arith) reads) tt in
     let P : List PlacedAct → Type 0 = λ l. ActsUpto turned.0 l in
     let upto : WordsUpto turned.0 (words σ (reverse acts)) = words_upto σ turned.0 (reverse acts) (subst P (append-nil (reverse acts)) turned.1) in
-    let found : (q : Place) × After q (all_words σ acts ++ []) = words_turned turned.0 (words σ (reverse acts)) [] upto tt in
+    let found : (q : SourcePlace) × After q (all_words σ acts ++ []) = words_turned turned.0 (words σ (reverse acts)) [] upto tt in
     let Q : List PlacedWord → Type 0 = λ l. After found.0 l in
     (found.0, subst Q (append-nil (all_words σ acts)) found.1)
 
@@ -136,11 +136,11 @@ text_after : (n m k : ℕ) (source : List ℕ) (ls : List Line) (later : List Te
 text_after n m k source [] later lt f = f m
 text_after n m k source (l ∷ ls) later lt f = (inr (refl, lt), text_after n k (k + 1) source ls later (omega arith) f)
 
-part_lines_after : (p : Place) (n : ℕ) (source : List ℕ) (c : Close) (later : List TextLine) → p.part < n → ((i : ℕ) → LinesAfter (place n i) later) → LinesAfter p (part_lines n source c ++ later)
+part_lines_after : (p : SourcePlace) (n : ℕ) (source : List ℕ) (c : Close) (later : List TextLine) → p.part < n → ((i : ℕ) → LinesAfter (place n i) later) → LinesAfter p (part_lines n source c ++ later)
 part_lines_after p n source c later lt f =
     lines_weaker p (place n 0) (part_lines n source c ++ later) (inl lt) (text_after n 0 1 source (all_lines (take c.stop source)) later (omega arith) f)
 
-lines_after : (p : Place) (n : ℕ) (r : Radix) (parts : List (List ℕ)) (acts : List PlacedAct) (lines : List TextLine) → p.part < n → Reads n r parts acts lines → LinesAfter p lines
+lines_after : (p : SourcePlace) (n : ℕ) (r : Radix) (parts : List (List ℕ)) (acts : List PlacedAct) (lines : List TextLine) → p.part < n → Reads n r parts acts lines → LinesAfter p lines
 lines_after p n r parts acts lines lt (no_part m q) = tt
 lines_after p n r parts acts lines lt (broken m q s ss line is) = tt
 lines_after p n r parts acts lines lt (last_part m q q' s ss mine c does e) =
@@ -153,7 +153,7 @@ lines_after p n r parts acts lines lt (next_part m q q' s ss mine more ls c does
 pub listed_by : (σ : Values) (parts : List (List ℕ)) (acts : List PlacedAct) (lines : List TextLine) (own : List (Name × ℕ)) (text : List ℕ) → Reads 1 Octal parts acts lines
     → text ≡ turns_text lines (all_words σ acts) ++ codes "\n" ++ symbols_text own → text ≡ listing lines (all_words σ acts) own
 listed_by σ parts acts lines own text reads e =
-    let w : (q : Place) × After q (all_words σ acts) = words_after σ parts acts lines reads in
+    let w : (q : SourcePlace) × After q (all_words σ acts) = words_after σ parts acts lines reads in
     e ∙ ap (λ l. l ++ codes "\n" ++ symbols_text own) (turns_are (place 0 0) w.0 lines (all_words σ acts) (lines_after (place 0 0) 1 Octal parts acts lines (omega arith) reads) w.1)
 
 pub lists_by : (perm own : List (Name × ℕ)) (parts : List (List ℕ)) (acts : List PlacedAct) (lines : List TextLine) (text : List ℕ) → size_fault parts ≡ None → Reads 1 Octal parts acts lines

@@ -13,7 +13,7 @@ use Rattle.pal_text.proofs.Rises.{all_take, all_drop}
 use Rattle.pal_acts.specs.declared.act.Join.{Join}
 use Rattle.pal_acts.specs.declared.act.Act.{Act}
 use Rattle.pal_acts.specs.declared.act.Act.TheVariants as act
-use Rattle.pal_acts.specs.declared.act.Place.{Place}
+use Rattle.pal_acts.specs.declared.act.SourcePlace.{SourcePlace}
 use Rattle.pal_acts.specs.declared.code.Code.{Code}
 use Rattle.pal_acts.specs.Acts.{PlacedAct, placed}
 use Rattle.pal_asm.specs.Expressions.{expression}
@@ -23,7 +23,7 @@ use Rattle.pal_asm.specs.Kept.{Says, names_in, after_tags, operand_by, assign_by
 record Apart (ts names : List Token) (said : Said) : Type 0 where
   names_are : names_in (length names) ts ≡ names
   operand_is : operand_by said.form (after_tags (length names) ts) ≡ said.operand
-  body_is : (p : Place) (last : Bool) (source : List ℕ) (js : List Join) → body_by p last source (after_tags (length names) ts) said.form js ≡ said_acts p last source said.name js said.form
+  body_is : (p : SourcePlace) (last : Bool) (source : List ℕ) (js : List Join) → body_by p last source (after_tags (length names) ts) said.form js ≡ said_acts p last source said.name js said.form
 
 no_names : (ts : List Token) → names_in 0 ts ≡ []
 no_names [] = refl
@@ -35,12 +35,12 @@ no_tags [] = refl
 no_tags (t ∷ []) = refl
 no_tags (t ∷ u ∷ ts) = refl
 
-direction_by : (k : Kind) (p : Place) (source : List ℕ) (t : Token) (js : List Join) → is_direction k ≡ true → assign_by p source t js k ≡ placed p js act.AssignDirection ∷ []
+direction_by : (k : Kind) (p : SourcePlace) (source : List ℕ) (t : Token) (js : List Join) → is_direction k ≡ true → assign_by p source t js k ≡ placed p js act.AssignDirection ∷ []
 direction_by kind.Symbol p source t js h = cc
 direction_by _ p source t js h = refl
 
 -- a statement without a tag
-bare : (ts : List Token) (said : Said) → operand_by said.form ts ≡ said.operand → ((p : Place) (last : Bool) (source : List ℕ) (js : List Join) → body_by p last source ts said.form js ≡ said_acts p last source said.name js said.form) → Apart ts [] said
+bare : (ts : List Token) (said : Said) → operand_by said.form ts ≡ said.operand → ((p : SourcePlace) (last : Bool) (source : List ℕ) (js : List Join) → body_by p last source ts said.form js ≡ said_acts p last source said.name js said.form) → Apart ts [] said
 bare ts said h k = record {
   names_are = no_names ts;
   operand_is = ap (operand_by said.form) (no_tags ts) ∙ h;
@@ -81,7 +81,7 @@ module _ (ts : List Token) (s : Statement) (says : Says ts s) where
       sym (reads ∙ ap (expression b source) (is ∙ (λ i. operand_by (says.form i) (after i)) ∙ ap (λ n. operand_by says.said.form (after_tags n ts)) says.tags ∙ parts.operand_is))
 
   -- its numbers are good
-  pub kept_all : (b : ℕ) (last : Bool) (source : List ℕ) (p : Place) (js : List Join) (body tokens : List Token) (old mid new : List PlacedAct) → body ≡ after_tags s.tags ts → tokens ≡ operand_by s.form body
+  pub kept_all : (b : ℕ) (last : Bool) (source : List ℕ) (p : SourcePlace) (js : List Join) (body tokens : List Token) (old mid new : List PlacedAct) → body ≡ after_tags s.tags ts → tokens ≡ operand_by s.form body
       → Ok js ≡ expression b source tokens → mid ≡ old ++ map (tag_act p source) (names_in s.tags ts) → new ≡ mid ++ body_by p last source body s.form js
       → new ≡ old ++ statement_acts p b last source says.names says.said
   kept_all b last source p js body tokens old mid new after is reads tags rest =
@@ -93,7 +93,7 @@ module _ (ts : List Token) (s : Statement) (says : Says ts s) where
       ∙ ap (λ r. old ++ acts_with p last source says.names says.said r) (sym (expression_is b source (Ok js) body tokens after is reads))
 
   -- one is bad
-  pub kept_none : (b : ℕ) (last : Bool) (source : List ℕ) (p : Place) (c : Code) (body tokens : List Token) (old new : List PlacedAct) → body ≡ after_tags s.tags ts → tokens ≡ operand_by s.form body
+  pub kept_none : (b : ℕ) (last : Bool) (source : List ℕ) (p : SourcePlace) (c : Code) (body tokens : List Token) (old new : List PlacedAct) → body ≡ after_tags s.tags ts → tokens ≡ operand_by s.form body
       → Err c ≡ expression b source tokens → new ≡ old ++ placed p [] (act.Wrong c) ∷ [] → new ≡ old ++ statement_acts p b last source says.names says.said
   kept_none b last source p c body tokens old new after is reads kept =
       kept ∙ ap (λ r. old ++ acts_with p last source says.names says.said r) (sym (expression_is b source (Err c) body tokens after is reads))
@@ -117,7 +117,7 @@ name_off (x ∷ y ∷ xs) n d h some =
     let all : take (length (x ∷ y ∷ xs) - 2) xs ≡ xs = take_all (length (x ∷ y ∷ xs) - 2) xs (omega arith) in
     ap (λ b. if b then [] else x ∷ names_in (n - 1) xs) (ne_eqb n 0 some) ∙ ap (λ l. x ∷ names_in (n - 1) l) (sym all)
 
-pub tag_kept : (p : Place) (source : List ℕ) (xs : List Token) (n : ℕ) (d : Token) (a : Act) (acts new : List PlacedAct) → 2 ≤ length xs → (n ≡ 0 → ⊥) → a ≡ tag_by source (get_or xs 0 d) (get_or xs 0 d).kind
+pub tag_kept : (p : SourcePlace) (source : List ℕ) (xs : List Token) (n : ℕ) (d : Token) (a : Act) (acts new : List PlacedAct) → 2 ≤ length xs → (n ≡ 0 → ⊥) → a ≡ tag_by source (get_or xs 0 d) (get_or xs 0 d).kind
     → new ≡ acts ++ placed p [] a ∷ [] → new ++ map (tag_act p source) (names_in (n - 1) (take (length xs - 2) (drop 2 xs))) ≡ acts ++ map (tag_act p source) (names_in n xs)
 tag_kept p source xs n d a acts new h some does kept =
     let later : List PlacedAct = map (tag_act p source) (names_in (n - 1) (take (length xs - 2) (drop 2 xs))) in

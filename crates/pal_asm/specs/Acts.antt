@@ -12,7 +12,7 @@ use Rattle.pal_text.specs.Statements.{Piece, own, closing}
 use Rattle.pal_acts.specs.declared.act.Join.{Join}
 use Rattle.pal_acts.specs.declared.act.Act.{Act}
 use Rattle.pal_acts.specs.declared.act.Act.TheVariants as act
-use Rattle.pal_acts.specs.declared.act.Place.{Place}
+use Rattle.pal_acts.specs.declared.act.SourcePlace.{SourcePlace}
 use Rattle.pal_acts.specs.declared.code.Code.{Code}
 use Rattle.pal_acts.specs.declared.code.Code.TheVariants.{DuplicateTag}
 use Rattle.pal_acts.specs.Acts.{PlacedAct, placed, place}
@@ -26,7 +26,7 @@ tag_by source t kind.Symbol = act.Tag (name_of source t)
 tag_by source t _ = act.Wrong DuplicateTag
 
 -- A tag gives its symbol the current location; DECIMAL, OCTAL and PAUSE can't be given one.
-abbrev pub tag_act : Place → List ℕ → Token → PlacedAct
+abbrev pub tag_act : SourcePlace → List ℕ → Token → PlacedAct
 tag_act p source t = placed p [] (tag_by source t t.kind)
 
 -- What is assigned a value: a symbol, or a direction, which can't be given one.
@@ -35,7 +35,7 @@ assigned source (Some name) = act.Assign (name_of source name)
 assigned source None = act.AssignDirection
 
 -- What is said after the tags in this form does this, where its expression has these terms. PAUSE is a fault in the last part.
-abbrev pub said_acts : Place → Bool → List ℕ → Option Token → List Join → Form → List PlacedAct
+abbrev pub said_acts : SourcePlace → Bool → List ℕ → Option Token → List Join → Form → List PlacedAct
 said_acts p last source name js form.Origin = placed p js act.Origin ∷ []
 said_acts p last source name js form.Assign = placed p js (assigned source name) ∷ []
 said_acts p last source name js form.Word = placed p js act.Word ∷ []
@@ -44,12 +44,12 @@ said_acts p last source name js _ = []
 
 -- What a statement at this place with these tags does, which says this, where its expression has these terms: what its tags do,
 -- and then the rest. With a bad number it is that fault and nothing else.
-abbrev pub acts_with : Place → Bool → List ℕ → List Token → Said → Result (List Join) Code → List PlacedAct
+abbrev pub acts_with : SourcePlace → Bool → List ℕ → List Token → Said → Result (List Join) Code → List PlacedAct
 acts_with p last source tags said (Err c) = placed p [] (act.Wrong c) ∷ []
 acts_with p last source tags said (Ok js) = map (tag_act p source) tags ++ said_acts p last source said.name js said.form
 
 -- A statement at this place with these tags, which says this.
-abbrev pub statement_acts : Place → ℕ → Bool → List ℕ → List Token → Said → List PlacedAct
+abbrev pub statement_acts : SourcePlace → ℕ → Bool → List ℕ → List Token → Said → List PlacedAct
 statement_acts p b last source tags said = acts_with p last source tags said (expression b source said.operand)
 
 -- These pieces of a part with this number and these bytes have these acts, where numbers are written so before them. Then they

@@ -15,11 +15,11 @@ use Rattle.pal_text.specs.Lines.{all_lines}
 use Rattle.pal_text.specs.Parts.{IsIllegal}
 use Rattle.pal_acts.specs.declared.act.Join.{Join}
 use Rattle.pal_acts.specs.declared.act.Act.TheVariants as act
-use Rattle.pal_acts.specs.declared.act.Place.{Place}
+use Rattle.pal_acts.specs.declared.act.SourcePlace.{SourcePlace}
 use Rattle.pal_acts.specs.declared.act.PlacedWord.{PlacedWord}
 use Rattle.pal_acts.specs.declared.code.Code.{Code}
-use Rattle.pal_acts.specs.declared.assembly.Refused.{Refused}
-use Rattle.pal_acts.specs.declared.assembly.Refused.TheVariants as refused
+use Rattle.pal_acts.specs.declared.assembly.ActsFault.{ActsFault}
+use Rattle.pal_acts.specs.declared.assembly.ActsFault.TheVariants as refused
 use Rattle.pal_acts.specs.Acts.{PlacedAct, placed, place}
 use Rattle.pal_acts.specs.Faults.{IsRefused}
 use Rattle.pal_asm.specs.declared.number.Radix.{Radix}
@@ -69,16 +69,16 @@ operand_by form.Word ts = ts
 operand_by _ ts = []
 
 -- What an assignment does, by what its first token is.
-abbrev pub assign_by : Place → List ℕ → Token → List Join → Kind → List PlacedAct
+abbrev pub assign_by : SourcePlace → List ℕ → Token → List Join → Kind → List PlacedAct
 assign_by p source t js kind.Symbol = placed p js (act.Assign (name_of source t)) ∷ []
 assign_by p source t js _ = placed p js act.AssignDirection ∷ []
 
-abbrev pub assign_acts : Place → List ℕ → List Token → List Join → List PlacedAct
+abbrev pub assign_acts : SourcePlace → List ℕ → List Token → List Join → List PlacedAct
 assign_acts p source [] js = []
 assign_acts p source (t ∷ ts) js = assign_by p source t js t.kind
 
 -- What the tokens after the tags do in a statement of this form.
-abbrev pub body_by : Place → Bool → List ℕ → List Token → Form → List Join → List PlacedAct
+abbrev pub body_by : SourcePlace → Bool → List ℕ → List Token → Form → List Join → List PlacedAct
 body_by p last source ts form.Origin js = placed p js act.Origin ∷ []
 body_by p last source ts form.Assign js = assign_acts p source ts js
 body_by p last source ts form.Word js = placed p js act.Word ∷ []
@@ -110,7 +110,7 @@ pub record Turns (n : ℕ) (r : Radix) (last : Bool) (part : List ℕ) (old new 
   pub reads : (rest : List (List ℕ)) (acts : List PlacedAct) (lines : List TextLine) → last ≡ nat_eq (length rest) 0 → Follows turn (n + 1) rest acts lines → Reads n r (part ∷ rest) (more ++ acts) (more_lines ++ lines)
 
 -- The line that stands there with these bytes.
-abbrev pub text_line : Place → List ℕ → TextLine
+abbrev pub text_line : SourcePlace → List ℕ → TextLine
 text_line p bytes = record { place = p; bytes = bytes }
 
 -- The line that is kept so.
@@ -127,7 +127,7 @@ lines_of_fronts [] = []
 lines_of_fronts (f ∷ fs) = text_lines f.number 1 f.bytes.now (all_lines f.bytes.now) ++ lines_of_fronts fs
 
 -- A refusal of acts as that of their source.
-abbrev pub fault_of : Refused → AssembleFault
+abbrev pub fault_of : ActsFault → AssembleFault
 fault_of (refused.Fault place code) = Source (fault_at code place.part place.line)
 fault_of refused.NoMemory = NoMemory
 
@@ -141,21 +141,21 @@ RefusesActs permanent acts (Source fault) = IsFaultOf permanent acts fault
 RefusesActs permanent acts NoMemory = Unit {0}
 
 -- A word stands before this place.
-abbrev pub is_before : Place → PlacedWord → Bool
+abbrev pub is_before : SourcePlace → PlacedWord → Bool
 is_before p w = nat_lt w.place.part p.part || (nat_eq w.place.part p.part && nat_lt w.place.line p.line)
 
 -- Words from the first one on that isn't before this place.
-abbrev pub skip : Place → List PlacedWord → List PlacedWord
+abbrev pub skip : SourcePlace → List PlacedWord → List PlacedWord
 skip p [] = []
 skip p (w ∷ ws) = if is_before p w then skip p ws else w ∷ ws
 
 -- The words at the front that stand at this place.
-abbrev pub next_at : Place → List PlacedWord → List PlacedWord
+abbrev pub next_at : SourcePlace → List PlacedWord → List PlacedWord
 next_at p [] = []
 next_at p (w ∷ ws) = if is_at p w then w ∷ next_at p ws else []
 
 -- Words after those at the front that stand at this place.
-abbrev pub after_those : Place → List PlacedWord → List PlacedWord
+abbrev pub after_those : SourcePlace → List PlacedWord → List PlacedWord
 after_those p [] = []
 after_those p (w ∷ ws) = if is_at p w then after_those p ws else w ∷ ws
 

@@ -7,7 +7,7 @@ use Rattle.pal_text.specs.declared.names.Name.{Name}
 use Rattle.pal_acts.specs.Permanent.{permanent_symbols}
 use Rattle.pal_asm.specs.declared.fault.PalFault.{PalFault}
 use Rattle.pal_asm.specs.Sources.{TextLine, Means, IsFault}
-use Rattle.pal_acts.specs.declared.act.Place.{Place}
+use Rattle.pal_acts.specs.declared.act.SourcePlace.{SourcePlace}
 use Rattle.pal_acts.specs.Values.{known}
 use Rattle.pal_acts.specs.Sources.{all_words}
 use Rattle.pal_asm.specs.Listings.{Lists}
@@ -44,7 +44,7 @@ ListingIsOne = (permanent : List (Name × ℕ)) (parts : List (List ℕ)) (own :
     → Lists permanent parts own text → Lists permanent parts own text' → text ≡ text'
 
 -- A line stands at this place.
-abbrev pub IsListed : Place → List TextLine → Type 0
+abbrev pub IsListed : SourcePlace → List TextLine → Type 0
 IsListed p [] = ⊥
 IsListed p (l ∷ ls) = (l.place ≡ p) ⊎ IsListed p ls
 

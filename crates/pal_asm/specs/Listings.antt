@@ -3,14 +3,14 @@ use Rattle.std.specs.Prelude.{◌≡◌, ℕ, Bool, ◌||◌, ◌&&◌, not, if�
 use Rattle.word12.specs.Words.{octal_text}
 use Rattle.pal_text.specs.declared.names.Name.{Name}
 use Rattle.pal_text.specs.Characters.{char, characters, code, is_character}
-use Rattle.pal_acts.specs.declared.act.Place.{Place}
+use Rattle.pal_acts.specs.declared.act.SourcePlace.{SourcePlace}
 use Rattle.pal_acts.specs.declared.act.PlacedWord.{PlacedWord}
 use Rattle.pal_acts.specs.Values.{known}
 use Rattle.pal_acts.specs.Sources.{all_words}
 use Rattle.pal_asm.specs.Sources.{TextLine, IsReadSo}
 
 -- A word stands at this place.
-abbrev pub is_at : Place → PlacedWord → Bool
+abbrev pub is_at : SourcePlace → PlacedWord → Bool
 is_at p w = nat_eq w.place.part p.part && nat_eq w.place.line p.line
 
 -- Characters from the first one on that is no space and no tab: those at the front of a line aren't listed.

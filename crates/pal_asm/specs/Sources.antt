@@ -10,7 +10,7 @@ use Rattle.pal_text.specs.Names.{part_tokens}
 use Rattle.pal_text.specs.Statements.{pieces}
 use Rattle.pal_text.specs.Parts.{IsIllegal}
 use Rattle.pal_acts.specs.declared.act.Act.TheVariants as act
-use Rattle.pal_acts.specs.declared.act.Place.{Place}
+use Rattle.pal_acts.specs.declared.act.SourcePlace.{SourcePlace}
 use Rattle.pal_acts.specs.declared.code.Code.{Code}
 use Rattle.pal_acts.specs.declared.code.Code.TheVariants.{IllegalCharacter, TooLong}
 use Rattle.pal_acts.specs.Acts.{PlacedAct, placed, place}
@@ -38,7 +38,7 @@ size_fault parts = if nat_lt (length parts) 1 || nat_lt 16 (length parts) then S
 
 -- A line of a source: where it stands, and its bytes without those that end it.
 pub record TextLine : Type 0 where
-  pub place : Place
+  pub place : SourcePlace
   pub bytes : List ℕ
 
 -- The lines of a part, the first of which has this number.

@@ -9,7 +9,7 @@ ghost use Rattle.pal_asm.specs.Sources.{text_lines};
 ghost use Rattle.pal_asm.specs.Kept.{lines_in, lines_of_fronts, is_before, skip, next_at, after_those, turns_text};
 
 use crate::front::Front;
-use pal_acts::{Name, Place, PlacedWord, SymbolTable};
+use pal_acts::{Name, PlacedWord, SourcePlace, SymbolTable};
 use pal_text::characters::is_character_code;
 use pal_text::{Line, lines_of};
 use std::alloc::{AllocError, Allocator};
@@ -18,7 +18,7 @@ use word12::Word;
 /// A line of a source: where it stands, and its bytes without those that end it.
 #[derive(Clone, Copy)]
 pub(crate) struct ListedLine<'s> {
-    pub(crate) place: Place,
+    pub(crate) place: SourcePlace,
     pub(crate) bytes: &'s [u8],
 }
 
@@ -34,7 +34,7 @@ fn keep_lines<'s, A: Allocator + Copy>(
 {
     for (at, line) in lines.iter().enumerate() {
         kept.push(ListedLine {
-            place: Place {
+            place: SourcePlace {
                 part: front.number,
                 line: at + 1,
             },
@@ -81,20 +81,20 @@ fn push_word<A: Allocator>(text: &mut Vec<u8, A>, word: PlacedWord) -> Result<()
     text.extend_from_slice(&word.word.to_octal())
 }
 
-fn stands_at(place: Place, word: PlacedWord) -> bool
+fn stands_at(place: SourcePlace, word: PlacedWord) -> bool
     ensures { result ≡ is_at place word }
 {
     word.place == place
 }
 
-fn stands_before(place: Place, word: PlacedWord) -> bool
+fn stands_before(place: SourcePlace, word: PlacedWord) -> bool
     ensures { result ≡ is_before place word }
 {
     word.place.part < place.part || (word.place.part == place.part && word.place.line < place.line)
 }
 
 /// The words from the first one on that isn't before this place.
-fn from_place(place: Place, words: &[PlacedWord]) -> &[PlacedWord]
+fn from_place(place: SourcePlace, words: &[PlacedWord]) -> &[PlacedWord]
     ensures { result.now ≡ skip place words.now }
 {
     let mut rest = words;
@@ -110,7 +110,7 @@ fn from_place(place: Place, words: &[PlacedWord]) -> &[PlacedWord]
 /// Adds the words that come next and stand at this place, and tells those after them.
 fn push_words<'w, A: Allocator>(
     text: &mut Vec<u8, A>,
-    place: Place,
+    place: SourcePlace,
     words: &'w [PlacedWord],
 ) -> Result<&'w [PlacedWord], AllocError>
     ensures rest { IfOk result (λ rest. rest.now ≡ after_those place words.now) }

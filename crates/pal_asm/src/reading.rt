@@ -8,8 +8,8 @@ ghost use Rattle.pal_asm.specs.Kept.{lines_of_fronts, IsRead, StopsPart, Turns};
 use crate::front::Front;
 use crate::number::Radix;
 use crate::statement::{NumberedPart, keep_statement};
-use pal_acts::{Act, Acts, Code, Join, Place};
-use pal_text::{Close, Ending, Next, Reader, StatementFault};
+use pal_acts::{Act, Acts, Code, Join, SourcePlace};
+use pal_text::{Close, Ending, Next, StatementFault, StatementReader};
 use std::alloc::{AllocError, Allocator};
 
 /// What comes after a part: the next one, with numbers written so, or nothing.
@@ -31,7 +31,7 @@ pub(crate) struct Reached {
 fn keep_read<A: Allocator + Copy>(
     before: Radix,
     part: &NumberedPart<'_>,
-    reader: &mut Reader<'_, A>,
+    reader: &mut StatementReader<'_, A>,
     joins: &mut Vec<Join, A>,
     acts: &mut Acts<A>,
 ) -> Result<Reached, StatementFault>
@@ -67,7 +67,7 @@ fn keep_statements<A: Allocator + Copy>(
     ensures read { IfOk result (IsRead part.now before acts.old acts.new) }
     ensures stops { IfErr result (StopsPart part.now.source.now acts.old acts.new) }
 {
-    let mut reader = Reader::new(alloc, part.source);
+    let mut reader = StatementReader::new(alloc, part.source);
     let mut joins = Vec::new(alloc);
     keep_read(before, part, &mut reader, &mut joins, acts)
 }
@@ -99,7 +99,7 @@ fn read_part<'s, A: Allocator + Copy>(
         }
         Err(StatementFault::Illegal(line)) => {
             acts.truncate(count);
-            let place = Place {
+            let place = SourcePlace {
                 part: part.number,
                 line,
             };

@@ -10,7 +10,7 @@ ghost use Rattle.pal_asm.specs.Kept.{Says, names_in, after_tags, operand_by, ass
 
 use crate::expression::{name, read_expression};
 use crate::number::Radix;
-use pal_acts::{Act, Acts, Code, Join, Place};
+use pal_acts::{Act, Acts, Code, Join, SourcePlace};
 use pal_text::{Form, Kind, Statement, Token};
 use std::alloc::{AllocError, Allocator};
 
@@ -52,7 +52,7 @@ fn without_tags(count: usize, tokens: &[Token]) -> &[Token]
 /// Keeps so many tags, each of which has a comma after it.
 fn keep_tags<A: Allocator>(
     source: &[u8],
-    place: Place,
+    place: SourcePlace,
     count: usize,
     tokens: &[Token],
     acts: &mut Acts<A>,
@@ -88,7 +88,7 @@ fn operand_of(form: Form, tokens: &[Token]) -> &[Token]
 /// Keeps an assignment; one to DECIMAL, OCTAL or PAUSE is an act of its own.
 fn keep_assignment<A: Allocator>(
     source: &[u8],
-    place: Place,
+    place: SourcePlace,
     tokens: &[Token],
     joins: &[Join],
     acts: &mut Acts<A>,
@@ -109,7 +109,7 @@ fn keep_assignment<A: Allocator>(
 /// Keeps what a statement does after its tags.
 fn keep_body<A: Allocator>(
     part: &NumberedPart<'_>,
-    place: Place,
+    place: SourcePlace,
     tokens: &[Token],
     form: Form,
     joins: &[Join],
@@ -144,7 +144,7 @@ pub(crate) fn keep_statement<A: Allocator>(
         statement_acts (place part.now.number statement.line) (base radix) part.now.last
         part.now.source.now says.names says.said) }
 {
-    let place = Place {
+    let place = SourcePlace {
         part: part.number,
         line: statement.line,
     };

@@ -14,20 +14,20 @@ use crate::reading::read_source;
 use crate::sizes::fault_of_sizes;
 use bin_tape::Image;
 use instruct::Profile;
-use pal_acts::{Acts, Assembled, Refused, SymbolTable, Symbols, permanent_table};
+use pal_acts::{Acts, ActsFault, Assembled, SymbolTable, Symbols, permanent_table};
 use std::alloc::Allocator;
 
 /// A refusal of acts as that of their source.
-pub(crate) fn fault_of(refused: Refused) -> AssembleFault
+pub(crate) fn fault_of(refused: ActsFault) -> AssembleFault
     ensures { result ≡ fault_of refused }
 {
     match refused {
-        Refused::Fault(place, code) => AssembleFault::Source(PalFault {
+        ActsFault::Fault(place, code) => AssembleFault::Source(PalFault {
             code,
             part: place.part,
             line: place.line,
         }),
-        Refused::NoMemory => AssembleFault::NoMemory,
+        ActsFault::NoMemory => AssembleFault::NoMemory,
     }
 }
 

@@ -1,6 +1,6 @@
 //! The text of a PAL III source: its characters, lines, tokens and statements.
 //!
-//! A source is read part by part. A part is a list of bytes; a [`Reader`] gives its statements one
+//! A source is read part by part. A part is a list of bytes; a [`StatementReader`] gives its statements one
 //! after another, and [`statements`] all of them with their tokens and the lines of the part, or the
 //! first fault of its form. What numbers and symbols are worth is not looked at here.
 #![tactic(auto)]
@@ -23,5 +23,5 @@ pub use grammar::Form;
 pub use lines::{Line, lines_of};
 pub use names::Name;
 pub use part::{LONGEST, Part, statements};
-pub use reader::{Found, Next, Reader};
+pub use reader::{Found, Next, StatementReader};
 pub use tokens::{Kind, Token};

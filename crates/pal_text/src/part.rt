@@ -17,7 +17,7 @@ ghost use Rattle.pal_text.specs.declared.lines.Line.{Line as Lined};
 use crate::cut::{Close, Ending, Statement};
 use crate::fault::{StatementFault, TextFault};
 use crate::lines::{Line, lines_of};
-use crate::reader::{Found, Next, Reader};
+use crate::reader::{Found, Next, StatementReader};
 use crate::tokens::Token;
 use std::alloc::{AllocError, Allocator};
 
@@ -87,7 +87,7 @@ fn keep<A: Allocator>(
 /// Gathers what a reader at the front of a part reads: each statement, its tokens and the one that
 /// ends it, up to where the part ends.
 fn gather<A: Allocator + Copy>(
-    reader: &mut Reader<'_, A>,
+    reader: &mut StatementReader<'_, A>,
     tokens: &mut Vec<Token, A>,
     statements: &mut Vec<Statement, A>,
 ) -> Result<Close, StatementFault>
@@ -132,7 +132,7 @@ fn read_part<'s, A: Allocator + Copy>(alloc: A, source: &'s [u8]) -> Result<Part
         (closed part.ending part.stop)) }
     ensures fault { IfErr result (IsFault source.now) }
 {
-    let mut reader = Reader::new(alloc, source);
+    let mut reader = StatementReader::new(alloc, source);
     let mut tokens = Vec::new(alloc);
     let mut statements = Vec::new(alloc);
     let close = gather(&mut reader, &mut tokens, &mut statements)?;
@@ -150,7 +150,7 @@ fn read_part<'s, A: Allocator + Copy>(alloc: A, source: &'s [u8]) -> Result<Part
 }
 
 /// Reads a part of a source: its statements up to `$`, PAUSE or its last byte. Where each of them
-/// ends and what it may be, a `Reader` says.
+/// ends and what it may be, a `StatementReader` says.
 ///
 /// # Errors
 ///

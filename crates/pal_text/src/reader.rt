@@ -112,14 +112,14 @@ fn read_statement<A: Allocator>(
 /// after `$` or at its last byte. The reader holds the tokens of one statement at a time, and goes
 /// over the bytes once.
 #[derive(Drop)]
-pub struct Reader<'s, A: Allocator + Copy> {
+pub struct StatementReader<'s, A: Allocator + Copy> {
     source: &'s [u8],
     standing: Standing,
     count: usize,
     tokens: Vec<Token, A>,
 }
 
-impl<'s, A: Allocator + Copy> Model for Reader<'s, A> {
+impl<'s, A: Allocator + Copy> Model for StatementReader<'s, A> {
     ghost use Rattle.std.specs.Prelude.{length, ◌≤◌};
     ghost use Rattle.pal_text.specs.Progress.{Progress, ended_at};
 
@@ -139,7 +139,7 @@ impl<'s, A: Allocator + Copy> Model for Reader<'s, A> {
         StandsAt reader.source.now reader.count reader.standing };
 }
 
-impl<'s, A: Allocator + Copy> Reader<'s, A> {
+impl<'s, A: Allocator + Copy> StatementReader<'s, A> {
     /// A reader at the front of a part, which must have at most 65,536 bytes.
     pub fn new(alloc: A, source: &'s [u8]) -> Self
         requires { length source.now ≤ 65536 }
@@ -148,7 +148,7 @@ impl<'s, A: Allocator + Copy> Reader<'s, A> {
         ensures own { result.own ≡ [] }
         ensures close { result.close ≡ None }
     {
-        Reader {
+        StatementReader {
             source,
             standing: Standing::Begins(Place {
                 at: 0,

@@ -6,7 +6,7 @@ use crate::files::{open_input, open_output};
 use command_line::Destination;
 use command_parts::status::{Fault, Status};
 use report_commands::drafting::report_draft;
-use report_commands::reporting::{Form, SourceNotes};
+use report_commands::reporting::{ReportForm, SourceNotes};
 use std::alloc::Global;
 use std::rt::Files;
 use streams::ByteSource;
@@ -40,7 +40,7 @@ pub fn report_stuck<R: Files + Print, T: ByteSource, D: ByteSource>(
     requires declaration_readable { D.mark declaration.old ≡ false }
 {
     let mut page = open_output(rt, Destination::MadeLast(name))?;
-    report_draft(alloc, tape, declaration, &mut page, Form::Page, notes)
+    report_draft(alloc, tape, declaration, &mut page, ReportForm::Page, notes)
 }
 
 /// Writes to a file what a search for the program of these files had found when it was stuck.

@@ -13,7 +13,7 @@ use Rattle.domain.specs.Same.{Agree}
 use Rattle.domain.specs.Changes.{with_offsets}
 use Rattle.domain.specs.Meaning.{equation_of, meaning, statement_of}
 use Rattle.domain.specs.declared.fact.Fact.{Fact as CodeFact}
-use Rattle.domain.specs.declared.names.Equation.{Equation as CodeEquation}
+use Rattle.domain.specs.declared.location.Equation.{Equation as CodeEquation}
 use Rattle.facts.proofs.Alike.{narrowed_same, only_same, same_law}
 use Rattle.facts.proofs.AgreeLemmas.{agree_sym, same_fact, narrowed_agree}
 use Rattle.facts.proofs.EntailLemmas.{drop_item, entails_iff}

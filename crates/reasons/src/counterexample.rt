@@ -14,7 +14,7 @@ ghost use Rattle.facts.specs.Starts.{are_always, holds_before};
 ghost use Rattle.reasons.specs.Gaps.{IsBeyond, IsLinkBeyond, IsCounterexample, IsStartCounterexample};
 
 use bin_tape::Image;
-use facts::{AbstractState, CountedOffsets, Equation, Fact, Name, is_always};
+use facts::{AbstractState, CountedOffsets, Equation, Fact, Location, is_always};
 use word12::{Link, Word};
 use wordset::{Links, WordSet};
 
@@ -62,7 +62,7 @@ fn register_gap(known: &AbstractState<'_>, fact: &Fact) -> Option<Counterexample
     ensures found { IfSome result (IsCounterexample (fact_of_state known.now) (meaning fact.now)) }
     ensures none { IfNone result (EntailsRegisters (fact_of_state known.now) (meaning fact.now)) }
 {
-    if let Some(word) = word_beyond(&known.narrowed(&Name::Accumulator), &fact.accumulator()) {
+    if let Some(word) = word_beyond(&known.narrowed(&Location::Accumulator), &fact.accumulator()) {
         return Some(Counterexample::Accumulator(word));
     }
     if let Some(word) = word_beyond(&known.mq(), &fact.mq()) {
@@ -109,7 +109,7 @@ fn cell_gap(known: &AbstractState<'_>, fact: &Fact) -> Option<Counterexample>
     let cells = fact.cells();
     for at in 0..cells.len() {
         let tracked = cells.get(at);
-        let name = Name::Cell(tracked.cell);
+        let name = Location::Cell(tracked.cell);
         if let Some(word) = word_beyond(&known.narrowed(&name), &fact.set(&name)) {
             return Some(Counterexample::Cell(tracked.cell, word));
         }
@@ -189,7 +189,7 @@ fn cell_gap_at_start(fact: &Fact, image: &Image) -> Option<Counterexample>
     for at in 0..cells.len() {
         let tracked = cells.get(at);
         let held = words_at_start(image, tracked.cell);
-        if let Some(word) = word_beyond(&held, &fact.set(&Name::Cell(tracked.cell))) {
+        if let Some(word) = word_beyond(&held, &fact.set(&Location::Cell(tracked.cell))) {
             return Some(Counterexample::Cell(tracked.cell, word));
         }
     }

@@ -9,7 +9,7 @@ use Rattle.command_parts.specs.Faults.{IsDeclarationInputFault, IsRunFault, IsTa
 use Rattle.command_parts.specs.Inputs.{HasDeclaration, HasImage, Input, IsGoodDeclaration, IsGoodTape}
 use Rattle.command_parts.specs.declared.status.Fault.{Fault}
 use Rattle.command_parts.specs.declared.status.Fault.TheVariants.{Guess}
-use Rattle.report_texts.specs.declared.pen.Form.{Form}
+use Rattle.report_texts.specs.declared.pen.ReportForm.{ReportForm}
 use Rattle.report_texts.specs.Head.{head_of, stuck_opening}
 
 -- The line of a search that is stuck at an address, as `verify` writes it.
@@ -18,13 +18,13 @@ stuck_line at = (codes "not known: stuck at " ++ octal_text at) ++ codes "\n"
 
 -- The page is what stands before the line in its form, then the line of a search that is stuck at this address, then that
 -- nothing is shown, and then more.
-pub record IsDraftPage (form : Form) (at : ℕ) (page : List ℕ) : Type 0 where
+pub record IsDraftPage (form : ReportForm) (at : ℕ) (page : List ℕ) : Type 0 where
   pub rest : List ℕ
   pub page_is : page ≡ head_of form ++ (stuck_line at ++ (stuck_opening form ++ rest))
 
 -- The frames are a tape, the text is that of a declaration, and there is the draft of a certificate whose lines are where
 -- they may be, and which has a fact at an address; the page is that of a search that is stuck there.
-pub record IsDraftReport (form : Form) (frames text : Option (List ℕ)) (page : List ℕ) : Type 0 where
+pub record IsDraftReport (form : ReportForm) (frames text : Option (List ℕ)) (page : List ℕ) : Type 0 where
   pub image : List (Option ℕ)
   pub tape : HasImage frames image
   pub declaration : Declaration

@@ -22,7 +22,7 @@ use command_parts::text::push_place;
 use declaration::Declaration;
 use judge::Refusal;
 use reasons::{Reason, why_stuck};
-use report_texts::{Finding, Form, Report, SourceNotes, head_of, stuck_opening};
+use report_texts::{Finding, Report, ReportForm, SourceNotes, head_of, stuck_opening};
 use std::alloc::{AllocError, Allocator};
 use streams::{ByteSink, ByteSource, put};
 use verdict_texts::reason_text::push_why;
@@ -60,7 +60,7 @@ fn below_stuck<A: Allocator + Copy, D: Allocator, C: Allocator>(
     declaration: &Declaration<D>,
     draft: &Certificate<C>,
     at: Word,
-    form: Form,
+    form: ReportForm,
     notes: Option<&SourceNotes<A>>,
 ) -> Result<Vec<u8, A>, AllocError> {
     let told = why_stuck(image, declaration, draft, at);
@@ -84,7 +84,7 @@ fn below_stuck<A: Allocator + Copy, D: Allocator, C: Allocator>(
 /// The line of a search that is stuck, with what stands before and right behind it in a form, and the rest.
 fn joined<A: Allocator>(
     alloc: A,
-    form: Form,
+    form: ReportForm,
     at: Word,
     rest: &[u8],
 ) -> Result<Vec<u8, A>, AllocError>
@@ -107,7 +107,7 @@ fn draft_page<A: Allocator + Copy, D: Allocator, C: Allocator>(
     declaration: &Declaration<D>,
     draft: &Certificate<C>,
     at: Word,
-    form: Form,
+    form: ReportForm,
     notes: Option<&SourceNotes<A>>,
 ) -> Result<Vec<u8, A>, AllocError>
     ensures { IfOk result (λ page. IsDraftPage form at page.items) }
@@ -135,7 +135,7 @@ pub fn report_draft<A: Allocator + Copy, R: ByteSource, D: ByteSource, W: ByteSi
     tape: &mut R,
     declaration: &mut D,
     out: &mut W,
-    form: Form,
+    form: ReportForm,
     notes: Option<&SourceNotes<A>>,
 ) -> Result<Status, Fault>
     requires readable { R.mark tape.old ≡ false }

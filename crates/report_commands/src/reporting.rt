@@ -20,7 +20,7 @@ use declaration::Declaration;
 use judge::{Refusal, judge};
 use reasons::why;
 use report_texts::{Finding, Report, head_of, listing_below, opening, page_below};
-pub use report_texts::{Form, SourceNote, SourceNotes, notes_of};
+pub use report_texts::{ReportForm, SourceNote, SourceNotes, notes_of};
 use std::alloc::{AllocError, Allocator};
 use streams::{ByteSink, ByteSource, put};
 use verdict_texts::certificates::certificate_from;
@@ -49,11 +49,11 @@ pub(crate) fn below_lines<A: Allocator + Copy, D: Allocator, C: Allocator>(
     alloc: A,
     report: &Report<'_, A, D, C>,
     lines: &[u8],
-    form: Form,
+    form: ReportForm,
 ) -> Result<Vec<u8, A>, AllocError> {
     match form {
-        Form::Page => page_below(alloc, report, lines),
-        Form::Text => {
+        ReportForm::Page => page_below(alloc, report, lines),
+        ReportForm::Text => {
             let mut text = Vec::new(alloc);
             text.extend_from_slice(lines)?;
             text.extend_from_slice(&listing_below(alloc, report)?)?;
@@ -69,7 +69,7 @@ fn below<A: Allocator + Copy, D: Allocator, C: Allocator>(
     declaration: &Declaration<D>,
     certificate: &Certificate<C>,
     verdict: &Result<(), Refusal>,
-    form: Form,
+    form: ReportForm,
     notes: Option<&SourceNotes<A>>,
 ) -> Result<Vec<u8, A>, AllocError> {
     let lines = why_lines(alloc, image, declaration, certificate, verdict)?;
@@ -95,7 +95,7 @@ fn below<A: Allocator + Copy, D: Allocator, C: Allocator>(
 /// The line of a verdict, with what stands before and right behind it in a form, and the rest.
 fn joined<A: Allocator>(
     alloc: A,
-    form: Form,
+    form: ReportForm,
     verdict: &Result<(), Refusal>,
     line: &[u8],
     rest: &[u8],
@@ -129,7 +129,7 @@ pub fn report<A: Allocator + Copy, R: ByteSource, D: ByteSource, C: ByteSource, 
     declaration: &mut D,
     certificate: &mut C,
     out: &mut W,
-    form: Form,
+    form: ReportForm,
     notes: Option<&SourceNotes<A>>,
 ) -> Result<Status, Fault>
     requires readable { R.mark tape.old ≡ false }

@@ -1,16 +1,16 @@
 //! What is known at an address, item by item, and what of it is the same as on the line above.
 
 use crate::pen::Pen;
-use facts::{Equation, Fact, Name, TrackedCells, narrowed};
+use facts::{Equation, Fact, Location, TrackedCells, narrowed};
 use std::alloc::Allocator;
 use word12::{Link, Word};
 use wordset::{Links, WordSet};
 
 /// Writes AC, or the address of a cell in brackets, for the word in it.
-fn write_held_in<A: Allocator>(pen: &mut Pen<A>, name: &Name) {
+fn write_held_in<A: Allocator>(pen: &mut Pen<A>, name: &Location) {
     match name {
-        Name::Accumulator => pen.put(b"AC"),
-        Name::Cell(cell) => write_bracketed(pen, *cell),
+        Location::Accumulator => pen.put(b"AC"),
+        Location::Cell(cell) => write_bracketed(pen, *cell),
     }
 }
 
@@ -69,7 +69,7 @@ fn write_registers<A: Allocator>(pen: &mut Pen<A>, fact: &Fact, above: &Fact, ne
 fn write_cells<A: Allocator>(pen: &mut Pen<A>, cells: &TrackedCells, above: &Fact, near: bool) {
     for index in 0..cells.len() {
         let tracked = cells.get(index);
-        let same = near && above.set(&Name::Cell(tracked.cell)) == tracked.set;
+        let same = near && above.set(&Location::Cell(tracked.cell)) == tracked.set;
         write_item(pen, &tracked.cell.to_octal(), &tracked.set, same);
     }
 }

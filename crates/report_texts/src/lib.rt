@@ -17,8 +17,8 @@ mod variables;
 
 use listing::push_listing;
 pub use page::page_below;
-pub use pen::Form;
 use pen::Pen;
+pub use pen::ReportForm;
 pub use report::{Finding, Report};
 pub use source_notes::{SourceNote, SourceNotes, notes_of};
 use std::alloc::{AllocError, Allocator};
@@ -33,7 +33,7 @@ pub fn listing_below<A: Allocator + Copy, D: Allocator, C: Allocator>(
     alloc: A,
     report: &Report<'_, A, D, C>,
 ) -> Result<Vec<u8, A>, AllocError> {
-    let mut pen = Pen::new(alloc, Form::Text, &report.lines());
+    let mut pen = Pen::new(alloc, ReportForm::Text, &report.lines());
     push_listing(&mut pen, report);
     pen.into_bytes()
 }

@@ -4,7 +4,7 @@ use crate::access::writes_through;
 use crate::graph::write_graph;
 use crate::listing::{push_listing, write_variable};
 use crate::map::write_map;
-use crate::pen::{Form, Pen};
+use crate::pen::{Pen, ReportForm};
 use crate::report::{Finding, Report};
 use declaration::Declaration;
 use instruct::Profile;
@@ -246,7 +246,7 @@ pub fn page_below<A: Allocator + Copy, D: Allocator, C: Allocator>(
     report: &Report<'_, A, D, C>,
     why: &[u8],
 ) -> Result<Vec<u8, A>, AllocError> {
-    let mut pen = Pen::new(alloc, Form::Page, &report.lines());
+    let mut pen = Pen::new(alloc, ReportForm::Page, &report.lines());
     write_verdict(&mut pen, report, why);
     write_map(&mut pen, report);
     write_graph(&mut pen, alloc, report)?;

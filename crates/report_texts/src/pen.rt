@@ -13,7 +13,7 @@ const MOST_SAME: usize = 8;
 
 /// In which form a report is written.
 #[derive(Clone, Copy)]
-pub enum Form {
+pub enum ReportForm {
     /// Plain text.
     Text,
     /// A page of HTML.
@@ -51,11 +51,11 @@ fn escaped(byte: u8) -> Option<&'static [u8]> {
 
 impl<A: Allocator> Pen<A> {
     /// A pen that has written nothing, for a listing with lines at these addresses.
-    pub(crate) fn new(alloc: A, form: Form, lines: &WordSet) -> Pen<A> {
+    pub(crate) fn new(alloc: A, form: ReportForm, lines: &WordSet) -> Pen<A> {
         Pen {
             bytes: Vec::new(alloc),
             written: Ok(()),
-            is_page: matches!(form, Form::Page),
+            is_page: matches!(form, ReportForm::Page),
             lines: *lines,
             indent: 0,
             has_item: false,

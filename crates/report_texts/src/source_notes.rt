@@ -1,6 +1,6 @@
 //! What the source of a program says of its addresses.
 
-use crate::pen::{Form, Pen};
+use crate::pen::{Pen, ReportForm};
 use std::alloc::{AllocError, Allocator};
 use word12::Word;
 use wordset::WordSet;
@@ -182,7 +182,7 @@ pub fn notes_of<A: Allocator + Copy>(
     alloc: A,
     listing: &[u8],
 ) -> Result<SourceNotes<A>, AllocError> {
-    let mut pen = Pen::new(alloc, Form::Text, &WordSet::empty());
+    let mut pen = Pen::new(alloc, ReportForm::Text, &WordSet::empty());
     let mut entries = Vec::from_elem(alloc, None, 4096)?;
     let mut reached = Reached {
         line: 0,

@@ -3,7 +3,7 @@
 ghost use Rattle.std.specs.Prelude.{◌≡◌};
 ghost use Rattle.report_texts.specs.Head.{head_of, opening, stuck_opening};
 
-use crate::pen::Form;
+use crate::pen::ReportForm;
 use judge::Refusal;
 
 /// What a page begins with, up to the verdict.
@@ -12,24 +12,24 @@ const HEAD: &[u8] =
 
 /// What stands before the verdict in a form.
 #[tactic(auto, unfolding(crate::specs::Head::head_of))]
-pub fn head_of(form: Form) -> &'static [u8]
+pub fn head_of(form: ReportForm) -> &'static [u8]
     ensures { result.now ≡ head_of form }
 {
     match form {
-        Form::Text => b"",
-        Form::Page => HEAD,
+        ReportForm::Text => b"",
+        ReportForm::Page => HEAD,
     }
 }
 
 /// What stands right behind the verdict in a form: in a page, what a yes shows, or that a no shows
 /// nothing.
 #[tactic(auto, unfolding(crate::specs::Head::opening))]
-pub fn opening(form: Form, verdict: &Result<(), Refusal>) -> &'static [u8]
+pub fn opening(form: ReportForm, verdict: &Result<(), Refusal>) -> &'static [u8]
     ensures { result.now ≡ opening form verdict.now }
 {
     match form {
-        Form::Text => b"",
-        Form::Page => match verdict {
+        ReportForm::Text => b"",
+        ReportForm::Page => match verdict {
             Ok(()) => b"</h1>\n<p>Shown is that no run breaks the declaration.",
             Err(_) => b"</h1>\n<p>This certificate shows nothing.",
         },
@@ -38,11 +38,11 @@ pub fn opening(form: Form, verdict: &Result<(), Refusal>) -> &'static [u8]
 
 /// What stands right behind the line of a search that is stuck: in a page, that nothing is shown.
 #[tactic(auto, unfolding(crate::specs::Head::stuck_opening))]
-pub fn stuck_opening(form: Form) -> &'static [u8]
+pub fn stuck_opening(form: ReportForm) -> &'static [u8]
     ensures { result.now ≡ stuck_opening form }
 {
     match form {
-        Form::Text => b"",
-        Form::Page => b"</h1>\n<p>Nothing is shown.",
+        ReportForm::Text => b"",
+        ReportForm::Page => b"</h1>\n<p>Nothing is shown.",
     }
 }

@@ -17,7 +17,7 @@ use program_files::faults::{bound_text, stuck_address, with_omissions};
 use program_files::files::{open_input, open_output};
 use program_files::saving::{save_answer, save_proposed};
 use program_files::tellers::{open_input_if, report_to, tell_to};
-use report_commands::reporting::{Form, report};
+use report_commands::reporting::{ReportForm, report};
 use search_commands::completing::complete;
 use search_commands::declaring::{DeclareOptions, declare};
 use search_commands::verifying::{Answer, Lack, VerifyOptions, answer_status, verify_proposed};
@@ -218,7 +218,11 @@ pub fn report_numbered<R: Files + Input + Print>(
     let notes = source_notes(alloc, given)?;
     let mut claims = open_input(rt, certificate)?;
     let mut page = open_output(rt, out)?;
-    let form = if text { Form::Text } else { Form::Page };
+    let form = if text {
+        ReportForm::Text
+    } else {
+        ReportForm::Page
+    };
     report(
         alloc,
         &mut frames_of(numbered),

@@ -9,7 +9,7 @@ use crate::references::{about_reference, put_undefined};
 use crate::statement::{Act, Faulty, faulty_of};
 use crate::symbols::{Source, source_of};
 use instruct::Profile;
-use pal_acts::{Code, Place, permanent_table};
+use pal_acts::{Code, SourcePlace, permanent_table};
 use pal_asm::PalFault;
 use pal_text::Kind;
 use std::alloc::{AllocError, Allocator};
@@ -177,7 +177,7 @@ fn leave_out<A: Allocator>(bytes: &mut [u8], faulty: &Faulty<A>, marked: usize, 
 #[derive(Drop)]
 struct Course<A: Allocator> {
     told: usize,
-    places: Vec<Place, A>,
+    places: Vec<SourcePlace, A>,
     is_astray: bool,
 }
 

@@ -3,7 +3,7 @@
 use crate::lines::bytes_between;
 use crate::pieces::{name_of, tokens_from};
 use indexmap::IndexMap;
-use pal_acts::{Code, Join, Name, Place, Sign, SymbolTable, Symbols, Term};
+use pal_acts::{Code, Join, Name, Sign, SourcePlace, SymbolTable, Symbols, Term};
 use pal_text::{Ending, Form, Kind, Statement, TextFault, Token, statements};
 use std::alloc::{AllocError, Allocator};
 use word12::Word;
@@ -28,7 +28,7 @@ pub(crate) struct Meanings<'p, A: Allocator + Copy> {
 }
 
 /// A place behind all statements.
-pub(crate) const NOWHERE: Place = Place {
+pub(crate) const NOWHERE: SourcePlace = SourcePlace {
     part: usize::MAX,
     line: 0,
 };
@@ -213,7 +213,7 @@ impl<'p, A: Allocator + Copy> Meanings<'p, A> {
         alloc: A,
         part: usize,
         bytes: &[u8],
-        stop: Place,
+        stop: SourcePlace,
     ) -> Result<bool, AllocError> {
         let read = match statements(alloc, bytes) {
             Ok(read) => read,
@@ -239,7 +239,7 @@ pub(crate) fn meanings_before<'p, A: Allocator + Copy>(
     alloc: A,
     permanent: &'p SymbolTable<A>,
     copies: &[Vec<u8, A>],
-    stop: Place,
+    stop: SourcePlace,
 ) -> Result<Meanings<'p, A>, AllocError> {
     let mut meanings = Meanings::new(alloc, permanent);
     for (part, copy) in copies.iter().enumerate() {

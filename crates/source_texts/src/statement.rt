@@ -3,7 +3,7 @@
 use crate::copies::statement_end;
 use crate::pieces::{count_front_tokens, count_tag_tokens, name_of, tokens_from, tokens_in};
 use crate::symbols::moves_location;
-use pal_acts::{Code, Place};
+use pal_acts::{Code, SourcePlace};
 use pal_asm::PalFault;
 use pal_text::{Kind, Line, Token, lines_of};
 use std::alloc::{AllocError, Allocator};
@@ -14,7 +14,7 @@ use std::alloc::{AllocError, Allocator};
 pub(crate) struct Faulty<A: Allocator> {
     pub(crate) code: Code,
     pub(crate) part: usize,
-    pub(crate) place: Place,
+    pub(crate) place: SourcePlace,
     pub(crate) start: usize,
     pub(crate) end: usize,
     pub(crate) tokens: Vec<Token, A>,
@@ -100,7 +100,7 @@ pub(crate) fn faulty_of<A: Allocator + Copy>(
     Ok(Faulty {
         code: fault.code,
         part: fault.part.saturating_sub(1),
-        place: Place {
+        place: SourcePlace {
             part: fault.part,
             line: fault.line,
         },

@@ -2,7 +2,7 @@
 
 use bin_tape::Image;
 use declaration::Declaration;
-use facts::{Equation, Fact, Name, Place, Scratch, Successor, outcomes};
+use facts::{Equation, Fact, Location, Place, Scratch, Successor, outcomes};
 use std::alloc::Allocator;
 use word12::{Link, Word};
 use wordset::Links;
@@ -23,7 +23,7 @@ fn track(fact: &mut Fact, cell: usize, low: usize) {
 }
 
 /// Relates a name to a cell, where there is room.
-fn relate(fact: &mut Fact, left: Name, right: usize, more: usize) {
+fn relate(fact: &mut Fact, left: Location, right: usize, more: usize) {
     if !fact.is_full_of_equations() {
         fact.relate(Equation {
             left,
@@ -44,7 +44,7 @@ pub fn before(pairs: usize) -> Fact {
             let (left, right) = (0o10 + 2 * pair, 0o11 + 2 * pair);
             track(&mut fact, left, 0o225);
             track(&mut fact, right, 0o7773);
-            relate(&mut fact, Name::Cell(word(left)), right, 0o232);
+            relate(&mut fact, Location::Cell(word(left)), right, 0o232);
         }
     }
     fact
@@ -55,7 +55,7 @@ pub fn before(pairs: usize) -> Fact {
 pub fn after(pairs: usize) -> Fact {
     let mut fact = before(pairs);
     fact.set_accumulator_row(word(0o225), word(0o231));
-    relate(&mut fact, Name::Accumulator, 0o10, 0);
+    relate(&mut fact, Location::Accumulator, 0o10, 0);
     fact
 }
 

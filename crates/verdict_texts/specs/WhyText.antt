@@ -7,9 +7,9 @@ use Rattle.bin_tape.specs.Image.{word_at}
 use Rattle.declaration.specs.Declaration.{Declaration}
 use Rattle.facts.specs.declared.Condition.{Condition}
 use Rattle.facts.specs.declared.Condition.TheVariants as condition
-use Rattle.domain.specs.declared.names.Name.{Name}
-use Rattle.domain.specs.declared.names.Name.TheVariants as name
-use Rattle.domain.specs.declared.names.Equation.{Equation}
+use Rattle.domain.specs.declared.location.Location.{Location}
+use Rattle.domain.specs.declared.location.Location.TheVariants as name
+use Rattle.domain.specs.declared.location.Equation.{Equation}
 use Rattle.certificate.specs.Spelling.{Lines, fact_text_at}
 use Rattle.judge.specs.Conditions.{Case, IsFirst}
 use Rattle.judge.specs.declared.judging.Refusal.{Refusal}
@@ -60,7 +60,7 @@ abbrev pub around_number : List ℕ → ℕ → List ℕ → List ℕ
 around_number before number after = before ++ decimal number ++ after
 
 -- AC, or the address of a cell.
-abbrev pub name_text : Name → List ℕ
+abbrev pub name_text : Location → List ℕ
 name_text name.Accumulator = codes "AC"
 name_text (name.Cell a) = octal_text a
 

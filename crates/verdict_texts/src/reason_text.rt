@@ -10,7 +10,7 @@ ghost use Rattle.verdict_texts.specs.WhyText.{around, around_number, asked_text,
 use crate::verdict::condition_name;
 use bin_tape::Image;
 use command_parts::text::{push_dump_line, push_place, push_word};
-use facts::{Equation, Name};
+use facts::{Equation, Location};
 use instruct::Profile;
 use itoa::Buffer;
 use judge::{Condition, Refusal};
@@ -98,12 +98,12 @@ fn push_link<A: Allocator>(text: &mut Vec<u8, A>, link: Link) -> Result<(), Allo
 }
 
 /// Adds AC, or the address of a cell.
-fn push_name<A: Allocator>(text: &mut Vec<u8, A>, name: &Name) -> Result<(), AllocError>
+fn push_name<A: Allocator>(text: &mut Vec<u8, A>, name: &Location) -> Result<(), AllocError>
     ensures { OnOk result (text.new.items ≡ text.old.items ++ name_text name.now) }
 {
     match name {
-        Name::Accumulator => text.extend_from_slice(b"AC"),
-        Name::Cell(cell) => push_word(text, *cell),
+        Location::Accumulator => text.extend_from_slice(b"AC"),
+        Location::Cell(cell) => push_word(text, *cell),
     }
 }
 

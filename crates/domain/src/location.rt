@@ -4,15 +4,15 @@ ghost use Rattle.std.specs.Prelude.{◌≡◌, ◌↔◌, IsTrue};
 ghost use Rattle.wordset.specs.Words.{plus, minus};
 ghost use Rattle.domain.specs.Facts.{Ac, Cell, same};
 ghost use Rattle.domain.specs.Changes.{oriented};
-ghost use Rattle.domain.specs.Meaning.{name_of, equation_of};
+ghost use Rattle.domain.specs.Meaning.{location_of, equation_of};
 
 use word12::Word;
 
 /// What a set or an equation of a fact speaks of.
 ///
-/// Contracts see it as `name_of` gives it.
+/// Contracts see it as `location_of` gives it.
 #[derive(Clone, Copy, PartialEq, Eq, Debug)]
-pub enum Name {
+pub enum Location {
     /// The accumulator.
     Accumulator,
     /// The cell of this address.
@@ -25,7 +25,7 @@ pub enum Name {
 #[derive(Clone, Copy, PartialEq, Eq, Debug)]
 pub struct Equation {
     /// The accumulator or a cell.
-    pub left: Name,
+    pub left: Location,
     /// The address of a cell.
     pub right: Word,
     /// How much more the left word is.
@@ -39,7 +39,7 @@ impl Default for Equation {
 
     fn default() -> Self {
         Equation {
-            left: Name::Accumulator,
+            left: Location::Accumulator,
             right: Word::ZERO,
             more: Word::ZERO,
         }
@@ -47,17 +47,17 @@ impl Default for Equation {
 }
 
 /// Whether two names are one.
-pub fn is_same_name(a: &Name, b: &Name) -> bool
-    ensures { result ≡ same (name_of a.now) (name_of b.now) }
+pub fn is_same_location(a: &Location, b: &Location) -> bool
+    ensures { result ≡ same (location_of a.now) (location_of b.now) }
 {
     match a {
-        Name::Accumulator => match b {
-            Name::Accumulator => true,
-            Name::Cell(_) => false,
+        Location::Accumulator => match b {
+            Location::Accumulator => true,
+            Location::Cell(_) => false,
         },
-        Name::Cell(x) => match b {
-            Name::Accumulator => false,
-            Name::Cell(y) => *x == *y,
+        Location::Cell(x) => match b {
+            Location::Accumulator => false,
+            Location::Cell(y) => *x == *y,
         },
     }
 }
@@ -66,7 +66,7 @@ pub fn is_same_name(a: &Name, b: &Name) -> bool
 pub fn is_same_equation(a: &Equation, b: &Equation) -> bool
     ensures { IsTrue result ↔ (equation_of a.now ≡ equation_of b.now) }
 {
-    is_same_name(&a.left, &b.left) && a.right == b.right && a.more == b.more
+    is_same_location(&a.left, &b.left) && a.right == b.right && a.more == b.more
 }
 
 /// The word that takes back what another adds.
@@ -82,13 +82,13 @@ pub fn turned(y: Word, z: Word, k: Word) -> Equation
 {
     if y < z {
         Equation {
-            left: Name::Cell(y),
+            left: Location::Cell(y),
             right: z,
             more: k,
         }
     } else {
         Equation {
-            left: Name::Cell(z),
+            left: Location::Cell(z),
             right: y,
             more: negated(k),
         }

@@ -37,9 +37,7 @@ meet_one f n e es old new m v lt = rw (m v lt) (go (old v) _ _ _)
   where
     go : (a b c d : Bool) → ((a && (b && (c && true))) && d) ≡ (a && (b && (c && d)))
     go true true true d = refl
-    go true true false d = refl
-    go true false c d = refl
-    go false b c d = refl
+    go _ _ _ d = refl
 
 -- the entries, one by one or by cell
 pub each_tracked : (f : Fact) (cells : List TrackedCell) → EachWithin f cells → (a : ℕ) → IsWithin (narrowed f (Cell a)) (tracked a cells)
@@ -120,10 +118,9 @@ pub unspoken : (f : Fact) (n : Location) (e : Equation) (old : Words) → (same 
 unspoken f n e old h v lt = go (same e.left n) (same e.right n) h (old v) _ _
   where
     go : (p q : Bool) → (p || q) ≡ false → (o x y : Bool) → o ≡ (o && ((if p then x else true) && ((if q then y else true) && true)))
-    go true q h o x y = absurd (true≢false h)
-    go false true h o x y = absurd (true≢false h)
     go false false h true x y = refl
     go false false h false x y = refl
+    go _ _ h o x y = absurd (true≢false h)
 
 -- Tracked cells one by one.
 pub cell_dropped : (cells : List TrackedCell) (i : ℕ) → i < length cells → drop i cells ≡ cell_at cells i ∷ drop (i + 1) cells

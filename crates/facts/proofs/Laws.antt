@@ -8,9 +8,8 @@ use Rattle.facts.proofs.Numbers.{minus_plus, moved_number, or_left, or_right, on
 
 pub same_true : (m n : Location) → same m n ≡ true → m ≡ n
 same_true Ac Ac e = refl
-same_true Ac (Cell b) e = absurd (false≢true e)
-same_true (Cell a) Ac e = absurd (false≢true e)
 same_true (Cell a) (Cell b) e = ap Cell (eqb-true a b e)
+same_true _ _ e = absurd (false≢true e)
 
 pub same_cell : (a b : ℕ) → (a ≡ b → ⊥) → same (Cell a) (Cell b) ≡ false
 same_cell a b h = ne_eqb a b h
@@ -86,9 +85,8 @@ free_all names o [] t = tt
 free_all {v} {w} names o (e ∷ es) t = go (free_all names o es t.1) (names e.left) (names e.right) refl refl
   where
     go : AllTrue w (free_of names es) → (b c : Bool) → names e.left ≡ b → names e.right ≡ c → AllTrue w (if b || c then free_of names es else e ∷ free_of names es)
-    go rest true c p q = rest
-    go rest false true p q = rest
     go rest false false p q = (o e.left p ∙ (t.0 ∙ ap (λ x. plus x e.more) (sym (o e.right q))), rest)
+    go rest _ _ p q = rest
 
 pub assigned_holds : {n : Location} {f : Fact} {v w : Values} (set : Words) → Holds f v → OnlyAt n v w → set (w n) ≡ true → Holds (strongly_updated n set f) w
 unfolding strongly_updated
@@ -211,8 +209,7 @@ outside_kept v w written o (e ∷ es) t = go (outside_kept v w written o es) (is
   where
     go : (AllTrue v (outside written es) → AllTrue w (outside written es)) → (b c : Bool) → is_outside written e.left ≡ b → is_outside written e.right ≡ c → AllTrue v (if b && c then e ∷ outside written es else outside written es) → AllTrue w (if b && c then e ∷ outside written es else outside written es)
     go rest true true p q t = (kept_outside v w written o e.left p ∙ (t.0 ∙ ap (λ x. plus x e.more) (sym (kept_outside v w written o e.right q))), rest t.1)
-    go rest true false p q t = rest t
-    go rest false c p q t = rest t
+    go rest _ _ p q t = rest t
 
 pub still_outside : {f : Fact} {v w : Values} (written : Words) → ((a : ℕ) → has_cell written a ≡ false → w (Cell a) ≡ v (Cell a)) → HoldsOutside written f v → HoldsOutside written f w
 still_outside {f} {v} {w} written o h = record {

@@ -73,9 +73,8 @@ chosen_agrees os o e h = subst (λ b. AgreeingSuccessors os (given b o)) e h
 
 pub append_agree : (a b c d : List Successor) → AgreeingSuccessors a b → AgreeingSuccessors c d → AgreeingSuccessors (a ++ c) (b ++ d)
 append_agree [] [] c d h k = k
-append_agree [] (p ∷ ps) c d h k = absurd h
-append_agree (o ∷ os) [] c d h k = absurd h
 append_agree (o ∷ os) (p ∷ ps) c d h k = (h.0, append_agree os ps c d h.1 k)
+append_agree _ _ c d h k = absurd h
 
 pub keeps_agreeing : (a l : List Successor) → AgreeingSuccessors a l → AgreeingSuccessors (a ++ []) l
 keeps_agreeing [] l h = h

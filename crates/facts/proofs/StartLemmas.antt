@@ -111,9 +111,7 @@ test_registers image f e = go (each_below 4096 (f.set Ac)) (each_below 4096 f.mq
   where
     go : (a b c d : Bool) → (a && (b && c)) ≡ false → false ≡ (a && (b && (c && d)))
     go true true true d e = absurd (true≢false e)
-    go true true false d e = refl
-    go true false c d e = refl
-    go false b c d e = refl
+    go _ _ _ d e = refl
 
 pub test_cells : (image : Image) (f : Fact) → (((a : ℕ) → a < 4096 → has_each (image a) (f.set (Cell a)) ≡ true) → ⊥) → false ≡ holds_before image f
 unfolding holds_before
@@ -121,10 +119,7 @@ test_cells image f h = go (each_below 4096 (f.set Ac)) (each_below 4096 f.mq) (e
   where
     go : (a b c d e : Bool) → each_below 4096 (λ a. has_each (image a) (f.set (Cell a))) ≡ d → false ≡ (a && (b && (c && (d && e))))
     go true true true true e q = absurd (h (λ a lt. each_at 4096 (λ a. has_each (image a) (f.set (Cell a))) a lt q))
-    go true true true false e q = refl
-    go true true false d e q = refl
-    go true false c d e q = refl
-    go false b c d e q = refl
+    go _ _ _ _ e q = refl
 
 pub two_links : (l : Links) → each_below 2 (links_of l) ≡ (if l.set then l.clear else false)
 unfolding some_below
@@ -132,8 +127,7 @@ two_links l = go l.set l.clear
   where
     go : (a b : Bool) → not (not a || (not b || false)) ≡ (if a then b else false)
     go true true = refl
-    go true false = refl
-    go false b = refl
+    go _ _ = refl
 
 pub start_end : (image : Image) (cells : List TrackedCell) (i : ℕ) → length cells ≤ i →
     (MayStart image (drop i cells) ↔ MayStart image cells) → IsTrue true ↔ MayStart image cells

@@ -80,8 +80,7 @@ module _ (pl : Place) (tape : AreTapeWords pl.image) (begin : pl.declaration.sta
 
   between_true : (o p : Option ℕ) (x y more : ℕ) → is_always_between o p more ≡ true → ((w : ℕ) → o ≡ Some w → x ≡ w) → ((w : ℕ) → p ≡ Some w → y ≡ w) → x ≡ plus y more
   between_true (Some u) (Some v) x y more e l r = let a : x ≡ u = l u refl in let b : y ≡ v = r v refl in rw (a, b) (eqb-true u (plus v more) e)
-  between_true (Some u) None x y more e l r = absurd (false≢true e)
-  between_true None p x y more e l r = absurd (false≢true e)
+  between_true _ _ x y more e l r = absurd (false≢true e)
 
   of_true : (s : State) → IsStart pl.image pl.declaration.start s → (l r : Location) (more : ℕ) → is_always_of pl.image l r more ≡ true → begun s l ≡ plus (begun s r) more
   of_true s st (Cell a) (Cell b) more e =

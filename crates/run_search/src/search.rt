@@ -116,15 +116,6 @@ struct Glance {
     place: Word,
 }
 
-impl Glance {
-    /// Whether the next step asks for an input, or a device is busy.
-    #[inline(always)]
-    fn asks_or_waits<A: Allocator>(&self, watcher: &Watcher<A>) -> bool {
-        let panel = watcher.world().panel();
-        matches!(self.look, Look::Asks(_)) || panel.printer.busy || panel.punch.busy
-    }
-}
-
 impl<A: Allocator + Copy> RunSearch<A> {
     /// Before the first run. The same seed gives the same runs.
     ///
@@ -521,10 +512,8 @@ impl<A: Allocator + Copy> RunSearch<A> {
     {
         turns.are_within();
         let glance = self.glance(&trial.watcher);
-        if glance.asks_or_waits(&trial.watcher) && !is_prepared {
-            if !self.prepare(program, trial, glance.look)? {
-                return Ok(Progress::Over);
-            }
+        if !is_prepared && !self.prepare(program, trial, glance.look)? {
+            return Ok(Progress::Over);
         }
         if self.records {
             return self.step_recorded(program, trial, turns);
@@ -557,12 +546,35 @@ impl<A: Allocator + Copy> RunSearch<A> {
     }
 
     /// Gives what the next step asks for, and lets devices get done. False where the run is over.
-    #[inline(never)]
+    #[inline(always)]
     fn prepare<D: Allocator>(
         &mut self,
         program: &DeclaredProgram<'_, D>,
         trial: &mut Trial<A>,
         look: Look,
+    ) -> Result<bool, NoMemory>
+        requires profile { profile_of trial.old.watcher.world
+            ≡ (meaning program.now.declaration.now).profile }
+        ensures profile { profile_of trial.new.watcher.world
+            ≡ (meaning program.now.declaration.now).profile }
+    {
+        if let Look::Asks(ask) = look {
+            if !self.answer(program, trial, ask)? {
+                return Ok(false);
+            }
+        }
+        let Trial { watcher, run, .. } = trial;
+        run.complete(watcher, program.declaration, &mut self.random)?;
+        Ok(true)
+    }
+
+    /// Gives what the next step asks for, if it comes now. False where the run is over.
+    #[inline(never)]
+    fn answer<D: Allocator>(
+        &mut self,
+        program: &DeclaredProgram<'_, D>,
+        trial: &mut Trial<A>,
+        ask: Ask,
     ) -> Result<bool, NoMemory>
         requires profile { profile_of trial.old.watcher.world
             ≡ (meaning program.now.declaration.now).profile }
@@ -575,45 +587,32 @@ impl<A: Allocator + Copy> RunSearch<A> {
             plan,
             ..
         } = trial;
-        if let Some(ask) = self.ask(watcher, run, plan, look) {
-            self.keep(watcher, run, ask)?;
-            if !run.is_asked() {
-                return Ok(false);
-            }
-            let number = run.inputs.len();
-            let Some(value) = plan.input(number, ask, &self.alphabet, &mut self.random) else {
-                return Ok(false);
-            };
-            run.pace.gave_input(&mut self.random);
-            run.answer(watcher, program.declaration, Input { ask, value })?;
+        if !self.comes(watcher, run, plan, ask) {
+            return Ok(true);
         }
-        run.complete(watcher, program.declaration, &mut self.random)?;
+        self.keep(watcher, run, ask)?;
+        if !run.is_asked() {
+            return Ok(false);
+        }
+        let number = run.inputs.len();
+        let Some(value) = plan.input(number, ask, &self.alphabet, &mut self.random) else {
+            return Ok(false);
+        };
+        run.pace.gave_input(&mut self.random);
+        run.answer(watcher, program.declaration, Input { ask, value })?;
         Ok(true)
     }
 
-    /// The input that the next step asks for and that comes now.
-    fn ask(
-        &mut self,
-        watcher: &Watcher<A>,
-        run: &mut Run<A>,
-        plan: &Plan<A>,
-        look: Look,
-    ) -> Option<Ask> {
-        let Look::Asks(ask) = look else {
-            return None;
-        };
+    /// Whether an input that the next step asks for comes now.
+    fn comes(&mut self, watcher: &Watcher<A>, run: &mut Run<A>, plan: &Plan<A>, ask: Ask) -> bool {
         if !ask.is_wanted(&watcher.world().panel()) {
-            return None;
+            return false;
         }
         if matches!(ask, Ask::Switches) {
-            return Some(ask);
+            return true;
         }
         let looks_away = plan.purpose == Purpose::Roam && self.random.once_in(8);
-        if run.pace.gives_input() && !looks_away {
-            Some(ask)
-        } else {
-            None
-        }
+        run.pace.gives_input() && !looks_away
     }
 
     /// Keeps the state in which an input is asked for, if something new was seen.

@@ -7,19 +7,16 @@ use Rattle.instruct.specs.declared.Operation.{Operation}
 use Rattle.instruct.specs.declared.Operation.TheVariants as operation
 use Rattle.instruct.specs.Operates.{is_halt, MqOperate}
 use Rattle.instruct.specs.Bits.{is_indirect, named_cell}
-use Rattle.instruct.specs.Instructions.{Meaning, And, Tad, Isz, Group1, Group2, Group3, Device, DeviceAction, Undefined, kind_of, operation_of, reference}
+use Rattle.instruct.specs.Instructions.{Meaning, Group1, Group2, Group3, Device, DeviceAction, Undefined, kind_of, operation_of, reference}
 use Rattle.instruct.proofs.KindLemmas.{reference_meaning, group2_meaning}
 use Rattle.wordset.specs.Words.{Words, SameWords, IsWithin, nothing, only}
+use Rattle.wordset.proofs.LaneBits.{or_false}
 use Rattle.processor.specs.Machine.{steps_pointer}
 use Rattle.domain.specs.Facts.{Fact, Place, is_routine}
 use Rattle.facts.specs.Outcomes.{targets, meaning_at}
 use Rattle.facts.specs.Conditions.{may_read, may_write, reads_operand, stores, counts, CountsItsReturn, MayWrite}
 use Rattle.policy.specs.Rules.{HaltsDeclared}
 use Rattle.facts.proofs.Numbers.{or_left, or_right}
-
-pub or_false : (b : Bool) → b ≡ (b || false)
-or_false true = refl
-or_false false = refl
 
 pub no_reference : {r : Bool} {k : Type 0} → r ≡ false → (IsTrue r ↔ k) → k → ⊥
 no_reference e h k = false≢true (sym e ∙ h.1 k)
@@ -48,7 +45,7 @@ read_by : (pl : Place) (f : Fact) (o : Operation) (i : Bool) (c a : ℕ) → ((i
 read_by pl f operation.And i c a = refl
 read_by pl f operation.Tad i c a = refl
 read_by pl f operation.Isz i c a = refl
-read_by pl f _ i c a = sym (or_false (i && (a == c)))
+read_by pl f _ i c a = or_false (i && (a == c))
 
 pub reads_none : (pl : Place) (f : Fact) (m : Meaning) → (kind_of m ≡ Memory → ⊥) → (a : ℕ) → may_read pl f m a ≡ false
 reads_none pl f m h a = unless_memory (λ m. may_read pl f m a ≡ false) (λ w. refl) (λ w. refl) (λ o. refl) (λ d. refl) refl m h

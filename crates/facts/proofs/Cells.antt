@@ -1,23 +1,16 @@
 use Rattle.std.proofs.Common.{◌≡◌, ℕ, ◌+◌, ◌-◌, ◌<◌, ◌≤◌, Bool, true, false, ◌&&◌, ◌⊎◌, Option, Some, None, List, [], ◌∷◌, refl, sym, ap, ◌∙◌, inl, inr, arith}
 use Rattle.std.specs.Prelude.{if◌then◌else◌}
-use Rattle.std.proofs.lemmas.Bool.{and_from, eqb-true, eqb-false, eq-eqb, ne_eqb, true≢false, false≢true, cases_eq}
+use Rattle.std.proofs.lemmas.Bool.{and_from, eqb-true, eqb-false, eq-eqb, true≢false, false≢true, cases_eq}
 use Rattle.wordset.specs.Words.{plus, minus, Words, everything}
 use Rattle.processor.specs.Cells.{Cells, updated}
 use Rattle.processor.specs.Machine.{State, seen, place, steps_pointer}
+pub use Rattle.processor.proofs.CellLemmas.{updated_same, updated_other}
 use Rattle.declaration.specs.Declaration.{Declaration, IsDeclared}
 use Rattle.policy.specs.Calls.{Call, Calls}
 use Rattle.domain.specs.Facts.{Location, Ac, Cell, same, Equation, Fact, Values, AllTrue, Holds, narrowed, values, KeepsRest, Place, OwnWord, StandsIn, Means, own_words, is_routine, tape_word, words_in, possible}
 use Rattle.facts.specs.Law.{IsState, TopIsEntry}
 use Rattle.facts.proofs.Numbers.{if_below, plus_lt, some_from}
 use Rattle.facts.proofs.Laws.{WordsAre, OnlyAt, narrowed_at}
-
-pub updated_same : (m : Cells) (a v : ℕ) → updated m a v a ≡ v
-unfolding updated
-updated_same m a v = rw (eq-eqb a a refl)
-
-pub updated_other : (m : Cells) (a v b : ℕ) → (b ≡ a → ⊥) → updated m a v b ≡ m b
-unfolding updated
-updated_other m a v b h = rw (ne_eqb b a h)
 
 pub words_updated : (m : Cells) (a v : ℕ) → v < 4096 → ((b : ℕ) → m b < 4096) → (b : ℕ) → updated m a v b < 4096
 words_updated m a v h ws b = elim (cases_eq b a) [

@@ -4,7 +4,8 @@ use Rattle.std.proofs.lemmas.Bool.{and_from, cases_Bool, eqb-true, ne_eqb, true�
 use Rattle.wordset.specs.Words.{plus, minus, Words, union, shifted}
 use Rattle.domain.specs.Facts.{Location, Ac, Cell, same, Equation, Fact, Values, IsTrueOf, AllTrue, Holds, met_by, narrowed, Among, Knows, KnowsAll, Entails, has_cell, is_outside, outside, joined}
 use Rattle.domain.specs.Changes.{moved_equations, with_set, moved, free_of, strongly_updated, cells_of, weakly_updated_sets, weakly_updated, oriented, copy_of, copied, with_equations}
-use Rattle.facts.proofs.Numbers.{minus_plus, moved_number, or_left, or_right, only_tells}
+use Rattle.wordset.proofs.Firsts.{only_word}
+use Rattle.facts.proofs.Numbers.{minus_plus, moved_number, or_left, or_right}
 
 pub same_true : (m n : Location) → same m n ≡ true → m ≡ n
 same_true Ac Ac e = refl
@@ -164,8 +165,8 @@ known_true : {f : Fact} {v : Values} (e : Equation) → WordsAre v → Holds f v
 known_true {f} {v} e ws h k = elim k [
   | inl m ↦ among_true v e f.equations h.equations m
   | inr p ↦
-      (let l : v e.left ≡ p.0 = only_tells (narrowed f e.left) p.0 (v e.left) p.2 (ws.each e.left) (narrowed_at ws h e.left) in
-      let r : v e.right ≡ p.1 = only_tells (narrowed f e.right) p.1 (v e.right) p.3 (ws.each e.right) (narrowed_at ws h e.right) in
+      (let l : v e.left ≡ p.0 = (only_word (narrowed f e.left) p.0 p.2).lone (v e.left) (ws.each e.left) (narrowed_at ws h e.left) in
+      let r : v e.right ≡ p.1 = (only_word (narrowed f e.right) p.1 p.3).lone (v e.right) (ws.each e.right) (narrowed_at ws h e.right) in
       rw (l, r) p.4)
 ]
 

@@ -4,7 +4,7 @@ use Rattle.std.specs.Prelude.{nat_le, nat_lt}
 use Rattle.std.proofs.lemmas.Bool.Decides.{nat_tests}
 use Rattle.instruct.specs.Operates.{MqOperate, mq_operate_of}
 use Rattle.wordset.specs.Words.{Words, SameWords, everything, between, one, plus}
-use Rattle.domain.specs.Facts.{Ac, Fact, same}
+use Rattle.domain.specs.Facts.{Ac, Fact}
 use Rattle.domain.specs.Changes.{strongly_updated, with_name, with_mq}
 use Rattle.facts.specs.Outcomes.{Successor, goes, changes_ac, related1, operated3}
 use Rattle.domain.specs.Same.{Agree}

@@ -1,36 +1,22 @@
 -- The test of a fact against every start is exact.
-use Rattle.std.proofs.Common.{◌≡◌, ℕ, zero, suc, ◌%◌, ◌<◌, ◌==◌, Bool, true, false, not, Option, Some, None, List, [], ◌∷◌, refl, sym, ap, ◌∙◌, subst, inl, inr, arith, lit<}
+use Rattle.std.proofs.Common.{◌≡◌, ℕ, ◌%◌, ◌<◌, ◌==◌, Bool, true, false, not, Option, Some, None, List, [], ◌∷◌, refl, sym, ap, ◌∙◌, subst, inl, inr, arith, lit<}
 use Rattle.std.specs.Prelude.{if◌then◌else◌, nat_lt}
-use Rattle.std.proofs.lemmas.Bool.{and_parts, and_from, cases_Bool, eqb-true, eq-eqb, ne_eqb, true≢false, false≢true, ltb-true, ltb-false}
+use Rattle.std.proofs.lemmas.Bool.{and_parts, and_from, cases_Bool, eqb-true, eq-eqb, ne_eqb, not-true, not-false, true≢false, false≢true, ltb-true, ltb-false}
 use Rattle.wordset.specs.Words.{plus, Words, some_below}
 use Rattle.processor.specs.Cells.{Cells}
 use Rattle.processor.specs.Machine.{State}
 use Rattle.processor.specs.Runs.{Image, IsStart}
 use Rattle.domain.specs.Facts.{Location, Ac, Cell, same, Equation, Fact, Values, IsTrueOf, AllTrue, values, Place}
 use Rattle.facts.specs.Starts.{HoldsOfStarts, each_below, has_each, is_always_between, is_always_of, is_always, are_always, holds_before, AreTapeWords, TracksWords, StartLaw}
-use Rattle.facts.proofs.Numbers.{if_below, some_not}
+use Rattle.wordset.proofs.Tests.{some_none_of, none_of_some}
+use Rattle.facts.proofs.Numbers.{if_below}
 use Rattle.facts.proofs.Laws.{same_true}
 
-none_below : (n : ℕ) (test : ℕ → Bool) → ((k : ℕ) → k < n → test k ≡ true) → some_below n (λ v. not (test v)) ≡ false
-unfolding some_below
-none_below zero test h = refl
-none_below (suc n) test h =
-    let here : test n ≡ true = h n (omega arith) in
-    rw here (none_below n test (λ k lt. h k (omega arith)))
-
-not_false : (b : Bool) → not b ≡ false → b ≡ true
-not_false true e = refl
-not_false false e = absurd (true≢false e)
-
-not_true : (b : Bool) → not b ≡ true → b ≡ false
-not_true true e = absurd (false≢true e)
-not_true false e = refl
-
 pub each_from : (n : ℕ) (test : ℕ → Bool) → ((k : ℕ) → k < n → test k ≡ true) → each_below n test ≡ true
-each_from n test h = let e : some_below n (λ v. not (test v)) ≡ false = none_below n test h in rw e
+each_from n test h = let e : some_below n (λ v. not (test v)) ≡ false = some_none_of n (λ v. not (test v)) (λ k lt. ap not (h k lt)) in rw e
 
 pub each_at : (n : ℕ) (test : ℕ → Bool) (k : ℕ) → k < n → each_below n test ≡ true → test k ≡ true
-each_at n test k lt e = not_false (test k) (some_not n (λ v. not (test v)) k lt (not_true (some_below n (λ v. not (test v))) e))
+each_at n test k lt e = not-false (test k) (none_of_some n (λ v. not (test v)) (not-true (some_below n (λ v. not (test v))) e) k lt)
 
 -- a cell of a memory with the tape's words laid over others
 abbrev pub laid_cell : Option ℕ → ℕ → ℕ

@@ -14,7 +14,8 @@ use Rattle.domain.specs.Facts.{Location, Ac, Cell, same, Fact, Values, Holds, na
 use Rattle.domain.specs.Changes.{with_set, moved, strongly_updated, weakly_updated, with_equations, with_mq, with_link, with_offsets, with_name}
 use Rattle.facts.specs.Outcomes.{stepped, targets, words_at, Successor, Goes, given, alive, goes, tad_word, tad_case, tad_fact, tad, isz_case, dca_case, jmp, anded, ac_after, link_after, changes_ac, related1, operated1, part2, related2, operated2, all_operated2, operated3, device_outcomes}
 use Rattle.facts.specs.Law.{IsState, TopIsEntry, LandsIn, SomeOutcome}
-use Rattle.facts.proofs.Numbers.{minus_plus, minus_other, plus_lt, or_left, or_right, only_tells, some_from}
+use Rattle.wordset.proofs.Firsts.{only_word}
+use Rattle.facts.proofs.Numbers.{minus_plus, minus_other, plus_lt, or_left, or_right, some_from}
 use Rattle.facts.proofs.Operates.{and_word, or_word, ac_after_word, link_after_bit, ac_kept, operate2_word, mq_words, ands_true, ors_true, or_byte_true, or_word_true}
 use Rattle.facts.proofs.Laws.{WordsAre, OnlyAt, narrowed_at, moved_holds, assigned_holds, smeared_holds, copied_holds, same_true, same_cell}
 use Rattle.facts.proofs.Cells.{updated_same, seen_words, values_words, value_of, updated_values, ac_values, hidden_values, holds_at, rest_updated, own_updated, own_like, top_not, word_true}
@@ -34,9 +35,6 @@ some_left p (o ∷ os) qs h = elim h [ inl x ↦ inl x | inr x ↦ inr (some_lef
 pub some_right : (p : Successor → Type 0) (os qs : List Successor) → SomeOutcome p qs → SomeOutcome p (os ++ qs)
 some_right p [] qs h = h
 some_right p (o ∷ os) qs h = inr (some_right p os qs h)
-
-pub has_word : (set : Words) (w : ℕ) → w < 4096 → set w ≡ true → has_some set ≡ true
-has_word set w h e = some_from 4096 set w h e
 
 module _ (pl : Place) (dd : IsDeclared pl.declaration) (start : Cells) (sw : (a : ℕ) → start a < 4096) (loaded : (a w : ℕ) → pl.image a ≡ Some w → start a ≡ w) where
   -- the outcome is where t is
@@ -115,13 +113,13 @@ module _ (pl : Place) (dd : IsDeclared pl.declaration) (start : Cells) (sw : (a 
   ac_true f s ks ss h = narrowed_at (names_words f s ks ss h) h.holds Ac
 
   pub ac_some : (f : Fact) (s : State) (ks : Calls) → IsState s → Means pl start f s ks → has_some (narrowed f Ac) ≡ true
-  ac_some f s ks ss h = has_word (narrowed f Ac) s.ac ss.ac (ac_true f s ks ss h)
+  ac_some f s ks ss h = some_from 4096 (narrowed f Ac) s.ac ss.ac (ac_true f s ks ss h)
 
   alive_true : (p changed : Words) (f g : Fact) (s t : State) (ks : Calls) (y v : ℕ) → IsState s → Means pl start f s ks → y < 4096 → p y ≡ true → v < 4096 → changed v ≡ true →
       t.ac < 4096 → t.link < 2 → t.mq < 4096 → Means pl start g t ks → alive p f changed g ≡ true
   alive_true p changed f g s t ks y v ss h ly ey lv ev la ll lm m =
-      and_from _ _ (has_word p y ly ey) (and_from _ _ (ac_some f s ks ss h)
-      (and_from _ _ (has_word (g.set Ac) t.ac la (m.holds.sets Ac)) (and_from _ _ (has_word g.mq t.mq lm m.mq) (and_from _ _ (some_from 2 g.link t.link ll m.link) (has_word changed v lv ev)))))
+      and_from _ _ (some_from 4096 p y ly ey) (and_from _ _ (ac_some f s ks ss h)
+      (and_from _ _ (some_from 4096 (g.set Ac) t.ac la (m.holds.sets Ac)) (and_from _ _ (some_from 4096 g.mq t.mq lm m.mq) (and_from _ _ (some_from 2 g.link t.link ll m.link) (some_from 4096 changed v lv ev)))))
 
   goes_to : (p changed next : Words) (f g : Fact) (s t : State) (ks : Calls) (y v : ℕ) → IsState s → Means pl start f s ks → y < 4096 → p y ≡ true → v < 4096 → changed v ≡ true →
       t.ac < 4096 → t.link < 2 → t.mq < 4096 → next t.pc ≡ true → Means pl start g t ks → SomeOutcome (Lands t ks) (goes p f changed next g)
@@ -213,9 +211,9 @@ module _ (pl : Place) (dd : IsDeclared pl.declaration) (start : Cells) (sw : (a 
 
       holds : Holds (tad_case pl f v (only p) (only (narrowed f Ac)) (only v)) (values pl.declaration start (plus s.ac x) s.memory)
       holds = tad_holds f s ks v y ss h vy (only p) (only (narrowed f Ac)) (only v)
-          (λ z q. sym (only_tells p z y q lt e))
-          (λ z q. sym (only_tells (narrowed f Ac) z s.ac q ss.ac (ac_true f s ks ss h)))
-          (λ z q. sym (only_tells v z x q (ss.words y) vy))
+          (λ z q. sym ((only_word p z q).lone y lt e))
+          (λ z q. sym ((only_word (narrowed f Ac) z q).lone s.ac ss.ac (ac_true f s ks ss h)))
+          (λ z q. sym ((only_word v z q).lone x (ss.words y) vy))
 
       link : toggled f.link (carries (narrowed f Ac) v) ((s.link + (s.ac + x) / 4096) % 2) ≡ true
       link = toggle_true f.link (narrowed f Ac) v s.link s.ac x ss.link ss.ac (ss.words y) h.link (ac_true f s ks ss h) vy
@@ -366,7 +364,7 @@ module _ (pl : Place) (dd : IsDeclared pl.declaration) (start : Cells) (sw : (a 
         (some_given (Lands (counted s y) ks) _ _
         (and_from _ _
         (some_from 4096 (λ a. p a && has_some (without 4095 (narrowed f (Cell a)))) y lt
-        (and_from _ _ e (has_word (without 4095 (narrowed f (Cell y))) (s.memory y) (ss.words y) (other z.0))))
+        (and_from _ _ e (some_from 4096 (without 4095 (narrowed f (Cell y))) (s.memory y) (ss.words y) (other z.0))))
         (alive_true p everything f _ s (counted s y) ks y 0 ss h lt e (lit< tt) refl ss.ac ss.link ss.mq (means _)))
         (rw z.1 (eq-eqb (plus s.pc 1) (plus s.pc 1) refl), means _))
   ]
@@ -409,7 +407,7 @@ module _ (pl : Place) (dd : IsDeclared pl.declaration) (start : Cells) (sw : (a 
         | inr m ↦ absurd (let w : None ≡ Some y = sym q ∙ m.3 in cc)
       ]
       go (Some z) q =
-          let zy : z ≡ y = sym (only_tells p z y q lt e) in
+          let zy : z ≡ y = sym ((only_word p z q).lone y lt e) in
           rw zy (elim may [
             | inl var ↦ isz_one f s ks p y ss top h lt e var
             | inr m ↦ isz_own f s ks p y ss top h lt e m.0 m.1 m.2 m.4
@@ -462,7 +460,7 @@ module _ (pl : Place) (dd : IsDeclared pl.declaration) (start : Cells) (sw : (a 
           goes_to p everything (one (plus s.pc 1)) f _ s (deposited s y) ks y 0 ss h lt e (lit< tt) refl (lit< tt) ss.link ss.mq next
           (means _ refl refl refl (assigned_holds (one 0) (smeared_holds p (λ a. narrowed f Ac) h.holds refl out within) clear refl))
       go (Some z) q =
-          let zy : z ≡ y = sym (only_tells p z y q lt e) in
+          let zy : z ≡ y = sym ((only_word p z q).lone y lt e) in
           rw zy (goes_to p (narrowed f Ac) (one (plus s.pc 1)) f _ s (deposited s y) ks y s.ac ss h lt e ss.ac (ac_true f s ks ss h) (lit< tt) ss.link ss.mq next
           (means _ refl refl refl
           (assigned_holds (one 0)
@@ -588,7 +586,7 @@ module _ (pl : Place) (dd : IsDeclared pl.declaration) (start : Cells) (sw : (a 
       link_means (related2 w (part2 w f l b) f) (operated w s v b) ks (one l)
       (related2_means w f s ks (part2 w f l b) v _ ss h lt part) (eq-eqb s.link l (sym el)) in
       some_given (Lands _ ks) _ _
-      (and_from _ _ (rw el h.link) (and_from _ _ (has_word (part2 w f l b) s.ac ss.ac part)
+      (and_from _ _ (rw el h.link) (and_from _ _ (some_from 4096 (part2 w f l b) s.ac ss.ac part)
       (alive_true everything everything f _ s _ ks 0 0 ss h (lit< tt) refl (lit< tt) refl (operate2_word w s.ac v ss.ac lt) ss.link ss.mq m)))
       (eq-eqb (next_pc s.pc b) (next_pc s.pc b) refl, m)
 

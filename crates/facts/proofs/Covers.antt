@@ -1,7 +1,7 @@
 -- The step law, over all instructions.
 use Rattle.std.proofs.Common.{◌≡◌, ℕ, ◌+◌, ◌*◌, ◌/◌, ◌%◌, ◌<◌, ◌==◌, Bool, true, false, ◌&&◌, ◌⊎◌, Option, Some, None, [], ◌∷◌, refl, sym, ◌∙◌, subst, inl, inr, arith}
 use Rattle.std.specs.Prelude.{if◌then◌else◌}
-use Rattle.std.proofs.lemmas.Bool.{and_parts, and_from, eqb-true, eq-eqb, true≢false, false≢true}
+use Rattle.std.proofs.lemmas.Bool.{and_parts, and_from, cond_both, false_from_ne_true, eqb-true, eq-eqb, true≢false, false≢true}
 use Rattle.instruct.specs.declared.Profile.{Profile}
 use Rattle.instruct.specs.declared.Profile.TheVariants.{Pdp8I, Pdp8E}
 use Rattle.instruct.specs.Bits.{has_bit, named_cell}
@@ -160,11 +160,7 @@ module _ (pl : Place) (dd : IsDeclared pl.declaration) (start : Cells) (sw : (a 
 
   stepped_offsets : (i : Bool) (c : ℕ) (f : Fact) (o : ℕ) → f.offsets o ≡ false → (stepped i c f).offsets o ≡ false
   unfolding moved
-  stepped_offsets i c f o e = go (steps_pointer i c)
-    where
-      go : (b : Bool) → (let chosen : Fact = if b then moved (Cell c) 1 f else f in chosen.offsets o ≡ false)
-      go true = e
-      go false = e
+  stepped_offsets i c f o e = cond_both (steps_pointer i c) (moved (Cell c) 1 f) f (λ (chosen : Fact). chosen.offsets o ≡ false) (λ q. e) (λ q. e)
 
   routine_entry : (ks : Calls) (c : ℕ) → StandsIn pl ks → TopIsEntry pl.declaration ks → is_routine pl.routine c ≡ true → pl.declaration.entry c ≡ true
   routine_entry [] c st t e = absurd (false≢true (rw st at e))
@@ -172,11 +168,7 @@ module _ (pl : Place) (dd : IsDeclared pl.declaration) (start : Cells) (sw : (a 
 
   not_return : (i : Bool) (ks : Calls) (c : ℕ) → StandsIn pl ks → TopIsEntry pl.declaration ks → (i ≡ true → pl.declaration.entry c ≡ false) → (i && is_routine pl.routine c) ≡ false
   not_return false ks c st t e = refl
-  not_return true ks c st t e = go (is_routine pl.routine c) refl
-    where
-      go : (b : Bool) → is_routine pl.routine c ≡ b → b ≡ false
-      go false q = refl
-      go true q = absurd (true≢false (sym (routine_entry ks c st t q) ∙ e refl))
+  not_return true ks c st t e = false_from_ne_true (is_routine pl.routine c) (λ q. true≢false (sym (routine_entry ks c st t q) ∙ e refl))
 
   pub covered : (m : Meaning) (f : Fact) (s t : State) (q : Answer) (ks : Calls) → NamesWord m → IsState s → TopIsEntry pl.declaration ks → Means pl start f s ks →
       WritesAreDeclared pl f m → EntriesAreKept pl f m → GoesOn pl.declaration m s.pc → IsOrdinary pl.declaration m → Does m s q t → SomeOutcome (LandsIn pl start t ks) (outcomes_of pl f s.pc m)

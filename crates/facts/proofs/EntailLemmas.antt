@@ -1,6 +1,6 @@
 use Rattle.std.proofs.Common.{◌≡◌, ℕ, ◌+◌, ◌<◌, ◌==◌, Bool, true, false, ◌&&◌, ◌||◌, ◌≤◌, Some, None, List, [], ◌∷◌, map, drop, get_or, length, refl, sym, ap, ◌∙◌, subst, arith}
 use Rattle.std.specs.Prelude.{if◌then◌else◌, IsTrue, ◌↔◌}
-use Rattle.std.proofs.lemmas.Bool.{and_from, and_parts, eqb-true, eq-eqb, true≢false, false≢true}
+use Rattle.std.proofs.lemmas.Bool.{and_from, and_parts, cond_both, eqb-true, eq-eqb, true≢false, false≢true}
 use Rattle.std.proofs.lemmas.List.{drop_more}
 use Rattle.std.proofs.Math.ListN.{drop_of_length-le}
 use Rattle.wordset.specs.Words.{plus, minus, Words, SameWords, IsWithin, only}
@@ -42,11 +42,8 @@ meet_one f n e es old new m v lt = rw (m v lt) (go (old v) _ _ _)
 -- the entries, one by one or by cell
 pub each_tracked : (f : Fact) (cells : List TrackedCell) → EachWithin f cells → (a : ℕ) → IsWithin (narrowed f (Cell a)) (tracked a cells)
 each_tracked f [] w a v lt h = refl
-each_tracked f (t ∷ ts) w a v lt h = and_from _ _ (go (t.address == a) refl) (each_tracked f ts w.1 a v lt h)
-  where
-    go : (b : Bool) → (t.address == a) ≡ b → (if b then t.set v else true) ≡ true
-    go false e = refl
-    go true e = w.0 v lt (let q : t.address ≡ a = eqb-true t.address a e in rw q h)
+each_tracked f (t ∷ ts) w a v lt h = and_from _ _ (cond_both (t.address == a) (t.set v) true (λ x. x ≡ true)
+    (λ e. w.0 v lt (let q : t.address ≡ a = eqb-true t.address a e in rw q h)) (λ e. refl)) (each_tracked f ts w.1 a v lt h)
 
 pub tracked_each : (f : Fact) (cells : List TrackedCell) → ((a : ℕ) → IsWithin (narrowed f (Cell a)) (tracked a cells)) → EachWithin f cells
 tracked_each f [] w = tt

@@ -1,6 +1,6 @@
 use Rattle.std.proofs.Common.{◌≡◌, ℕ, ◌<◌, ◌==◌, Bool, true, false, not, ◌&&◌, ◌||◌, ◌⊎◌, List, [], ◌∷◌, ◌++◌, refl, sym, ap, ◌∙◌, inl, inr, arith}
 use Rattle.std.specs.Prelude.{if◌then◌else◌, nat_lt}
-use Rattle.std.proofs.lemmas.Bool.{and_from, cases_Bool, eqb-true, ne_eqb, true≢false, false≢true}
+use Rattle.std.proofs.lemmas.Bool.{and_from, cases_Bool, cond_both, eqb-true, ne_eqb, not-true, true≢false, false≢true}
 use Rattle.wordset.specs.Words.{plus, minus, Words, union, shifted}
 use Rattle.domain.specs.Facts.{Location, Ac, Cell, same, Equation, Fact, Values, IsTrueOf, AllTrue, Holds, met_by, narrowed, Among, Knows, KnowsAll, Entails, has_cell, is_outside, outside, joined}
 use Rattle.domain.specs.Changes.{moved_equations, with_set, moved, free_of, strongly_updated, cells_of, weakly_updated_sets, weakly_updated, oriented, copy_of, copied, with_equations}
@@ -50,19 +50,11 @@ narrowed_at {f} {v} ws h n = and_from _ _ (h.sets n) (met_true f v n ws h f.equa
 -- a name is the one that changed, or keeps its word
 either : {n : Location} {v w : Values} (k : ℕ) → OnlyAt n v w → w n ≡ plus (v n) k → (m : Location) →
     w m ≡ (if same m n then plus (v m) k else v m)
-either {n} {v} {w} k o e m = go (same m n) refl
-  where
-    go : (b : Bool) → same m n ≡ b → w m ≡ (if b then plus (v m) k else v m)
-    go true q = let l : m ≡ n = same_true m n q in rw l e
-    go false q = o.others m q
+either {n} {v} {w} k o e m = cond_both (same m n) (plus (v m) k) (v m) (λ x. w m ≡ x) (λ q. let l : m ≡ n = same_true m n q in rw l e) (λ q. o.others m q)
 
-set_at : (n : Location) (set : Words) (sets : Location → Words) (w : Values) → set (w n) ≡ true →
+pub set_at : (n : Location) (set : Words) (sets : Location → Words) (w : Values) → set (w n) ≡ true →
     ((m : Location) → same m n ≡ false → sets m (w m) ≡ true) → (m : Location) → with_set n set sets m (w m) ≡ true
-set_at n set sets w here there m = go (same m n) refl
-  where
-    go : (b : Bool) → same m n ≡ b → (let chosen : Words = if b then set else sets m in chosen (w m) ≡ true)
-    go true q = let l : m ≡ n = same_true m n q in rw l here
-    go false q = there m q
+set_at n set sets w here there m = cond_both (same m n) set (sets m) (λ (chosen : Words). chosen (w m) ≡ true) (λ q. let l : m ≡ n = same_true m n q in rw l here) (λ q. there m q)
 
 moved_all : {n : Location} {v w : Values} (k : ℕ) → WordsAre v → OnlyAt n v w → w n ≡ plus (v n) k → (es : List Equation) → AllTrue v es → AllTrue w (moved_equations n k es)
 moved_all k ws o e [] t = tt
@@ -111,14 +103,12 @@ smeared_holds {f} {v} {w} cells new h ac out within = record {
 
     sets : (m : Location) → weakly_updated_sets cells new f.set m (w m) ≡ true
     sets Ac = rw ac (h.sets Ac)
-    sets (Cell a) = go (nat_lt a 4096 && cells a) refl
-      where
-        go : (b : Bool) → (nat_lt a 4096 && cells a) ≡ b → (let chosen : Words = if b then union (f.set (Cell a)) (new a) else f.set (Cell a) in chosen (w (Cell a)) ≡ true)
-        go false q = rw (out a q) (h.sets (Cell a))
-        go true q = elim (within a q) [
+    sets (Cell a) = cond_both (nat_lt a 4096 && cells a) (union (f.set (Cell a)) (new a)) (f.set (Cell a)) (λ (chosen : Words). chosen (w (Cell a)) ≡ true)
+        (λ q. elim (within a q) [
           | inl e ↦ or_left (f.set (Cell a) (w (Cell a))) (new a (w (Cell a))) (rw e (h.sets (Cell a)))
           | inr e ↦ or_right (f.set (Cell a) (w (Cell a))) (new a (w (Cell a))) e
-        ]
+        ])
+        (λ q. rw (out a q) (h.sets (Cell a)))
 
 pub all_append : (v : Values) (es gs : List Equation) → AllTrue v es → AllTrue v gs → AllTrue v (es ++ gs)
 all_append v [] gs t u = u
@@ -187,11 +177,9 @@ pub record HoldsOutside (written : Words) (f : Fact) (v : Values) : Type 0 where
 
 outside_all : (v : Values) (written : Words) (es : List Equation) → AllTrue v es → AllTrue v (outside written es)
 outside_all v written [] t = tt
-outside_all v written (e ∷ es) t = go (outside_all v written es t.1) (is_outside written e.left && is_outside written e.right)
-  where
-    go : AllTrue v (outside written es) → (b : Bool) → AllTrue v (if b then e ∷ outside written es else outside written es)
-    go rest true = (t.0, rest)
-    go rest false = rest
+outside_all v written (e ∷ es) t =
+    let rest : AllTrue v (outside written es) = outside_all v written es t.1 in
+    cond_both (is_outside written e.left && is_outside written e.right) (e ∷ outside written es) (outside written es) (AllTrue v) (λ q. (t.0, rest)) (λ q. rest)
 
 pub outside_holds : {f : Fact} {v : Values} (written : Words) → Holds f v → HoldsOutside written f v
 outside_holds {f} {v} written h = record {
@@ -228,8 +216,4 @@ joined_holds {call} {exit} {v} written c x = record {
   where
     sets : (n : Location) → (let chosen : Words = if is_outside written n then call.set n else exit.set n in chosen (v n) ≡ true)
     sets Ac = x.sets Ac
-    sets (Cell a) = go (has_cell written a) refl
-      where
-        go : (b : Bool) → has_cell written a ≡ b → (let chosen : Words = if not b then call.set (Cell a) else exit.set (Cell a) in chosen (v (Cell a)) ≡ true)
-        go true q = x.sets (Cell a)
-        go false q = c.cells a q
+    sets (Cell a) = cond_both (not (has_cell written a)) (call.set (Cell a)) (exit.set (Cell a)) (λ (chosen : Words). chosen (v (Cell a)) ≡ true) (λ q. c.cells a (not-true _ q)) (λ q. x.sets (Cell a))

@@ -1,7 +1,7 @@
 -- Sums and differences of words.
 use Rattle.std.proofs.Common.{◌≡◌, ℕ, ◌<◌, Bool, true, false, arith}
 use Rattle.std.specs.Prelude.{if◌then◌else◌}
-use Rattle.wordset.specs.Words.{plus, minus}
+use Rattle.wordset.specs.Words.{plus, minus, Words}
 pub use Rattle.wordset.proofs.Tests.{or_left, or_right, some_from}
 
 pub minus_plus : (a k : ℕ) → a < 4096 → minus (plus a k) k ≡ a
@@ -27,3 +27,8 @@ moved_number true true xl xr yl yr k more hl hr el er e = omega arith
 moved_number true false xl xr yl yr k more hl hr el er e = omega arith
 moved_number false true xl xr yl yr k more hl hr el er e = omega arith
 moved_number false false xl xr yl yr k more hl hr el er e = omega arith
+
+-- two conditionals on one test
+pub if_both : (b : Bool) (s t x y : Words) (v : ℕ) → s v ≡ x v → t v ≡ y v → (let l : Words = if b then s else t in let r : Words = if b then x else y in l v ≡ r v)
+if_both true s t x y v h g = h
+if_both false s t x y v h g = g

@@ -9,7 +9,7 @@ use Rattle.domain.specs.Facts.{Cell, Fact, Place, narrowed, words_in, own_words,
 use Rattle.facts.specs.Outcomes.{words_at}
 use Rattle.domain.specs.Same.{Agree}
 use Rattle.facts.proofs.Alike.{some_same}
-use Rattle.facts.proofs.Numbers.{minus_lt}
+use Rattle.facts.proofs.Numbers.{minus_lt, if_both}
 use Rattle.facts.proofs.AgreeLemmas.{narrowed_agree}
 
 -- one step of a union over numbers
@@ -26,13 +26,10 @@ own_agree s h v lt = some_same 8 _ _ (λ o l. ap (λ b. b && s (minus v (o + 1))
 
 pub in_agree : {f g : Fact} (pl : Place) (a : ℕ) → Agree f g → SameWords (words_in pl f a) (words_in pl g a)
 unfolding words_in
-in_agree {f} {g} pl a h v lt = go (pl.declaration.variable a) (is_routine pl.routine a)
-  where
-    go : (b c : Bool) → (let x : Words = if b then narrowed f (Cell a) else (if c then own_words pl.sites f else (if pl.declaration.entry a then everything else tape_word (pl.image a))) in
-        let y : Words = if b then narrowed g (Cell a) else (if c then own_words pl.sites g else (if pl.declaration.entry a then everything else tape_word (pl.image a))) in x v ≡ y v)
-    go true c = narrowed_agree h (Cell a) v lt
-    go false true = own_agree pl.sites h v lt
-    go false false = refl
+in_agree {f} {g} pl a h v lt =
+    let rest : Words = if pl.declaration.entry a then everything else tape_word (pl.image a) in
+    if_both (pl.declaration.variable a) (narrowed f (Cell a)) (if is_routine pl.routine a then own_words pl.sites f else rest) (narrowed g (Cell a)) (if is_routine pl.routine a then own_words pl.sites g else rest) v
+    (narrowed_agree h (Cell a) v lt) (if_both (is_routine pl.routine a) (own_words pl.sites f) rest (own_words pl.sites g) rest v (own_agree pl.sites h v lt) refl)
 
 -- both tests
 pub and_both : {a b c d : Bool} → a ≡ c → b ≡ d → (a && b) ≡ (c && d)
@@ -76,11 +73,7 @@ toggled_same {l} {m} {c} {d} h g k lt =
     rw (a, b, e, f) refl
 
 pub without_agree : {a b : Words} (w : ℕ) → SameWords a b → SameWords (without w a) (without w b)
-without_agree {a} {b} w h v lt = go (v == w)
-  where
-    go : (q : Bool) → (if q then false else a v) ≡ (if q then false else b v)
-    go true = refl
-    go false = h v lt
+without_agree {a} {b} w h v lt = ap (λ x. if v == w then false else x) (h v lt)
 
 pub all_same : {s : Words} → s ≡ all_words → SameWords s everything
 all_same {s} e v lt = ap (λ (x : Words). x v) e ∙ lt-ltb v 4096 lt

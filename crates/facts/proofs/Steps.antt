@@ -1,7 +1,7 @@
 -- The step law for each instruction: from a state of a fact, a step lands in one of the instruction's outcomes.
 use Rattle.std.proofs.Common.{◌≡◌, ℕ, ◌+◌, ◌-◌, ◌/◌, ◌%◌, ◌<◌, ◌≤◌, ◌==◌, Bool, true, false, not, ◌&&◌, ◌⊎◌, Option, Some, None, List, [], ◌∷◌, ◌++◌, refl, sym, ap, ◌∙◌, subst, inl, inr, arith, lit<}
 use Rattle.std.specs.Prelude.{if◌then◌else◌, nat_lt, bit_and, bit_or}
-use Rattle.std.proofs.lemmas.Bool.{and_from, eqb-true, eq-eqb, ne_eqb, true≢false, false≢true, cases_eq, lt-ltb}
+use Rattle.std.proofs.lemmas.Bool.{and_from, cond_both, eqb-true, eq-eqb, ne_eqb, true≢false, false≢true, cases_eq, lt-ltb}
 use Rattle.instruct.specs.Bits.{has_bit}
 use Rattle.instruct.specs.Operates.{operate2_of, skips_of, MqOperate, Mql, Mqa, Swp, Cam, ClaMqa, ClaSwp, mq_operate}
 use Rattle.instruct.specs.Instructions.{Skips, Ors, Clears, Takes, Leaves}
@@ -10,15 +10,15 @@ use Rattle.processor.specs.Cells.{Cells, updated}
 use Rattle.processor.specs.Machine.{State, seen, place, steps_pointer, next_pc}
 use Rattle.declaration.specs.Declaration.{IsDeclared}
 use Rattle.policy.specs.Calls.{Calls}
-use Rattle.domain.specs.Facts.{Location, Ac, Cell, same, Fact, Values, Holds, narrowed, values, Place, OwnWord, StandsIn, Means, is_routine, words_in}
+use Rattle.domain.specs.Facts.{Location, Ac, Cell, Fact, Values, Holds, narrowed, values, Place, OwnWord, StandsIn, Means, is_routine, words_in}
 use Rattle.domain.specs.Changes.{with_set, moved, strongly_updated, weakly_updated, with_equations, with_mq, with_link, with_offsets, with_name}
 use Rattle.facts.specs.Outcomes.{stepped, targets, words_at, Successor, Goes, given, alive, goes, tad_word, tad_case, tad_fact, tad, isz_case, dca_case, jmp, anded, ac_after, link_after, changes_ac, related1, operated1, part2, related2, operated2, all_operated2, operated3, device_outcomes}
 use Rattle.facts.specs.Law.{IsState, TopIsEntry, LandsIn, SomeOutcome}
 use Rattle.wordset.proofs.Firsts.{only_word}
 use Rattle.facts.proofs.Numbers.{minus_plus, minus_other, plus_lt, or_left, or_right, some_from}
 use Rattle.facts.proofs.Operates.{and_word, or_word, ac_after_word, link_after_bit, ac_kept, operate2_word, mq_words, ands_true, ors_true, or_byte_true, or_word_true}
-use Rattle.facts.proofs.Laws.{WordsAre, OnlyAt, narrowed_at, moved_holds, assigned_holds, smeared_holds, copied_holds, same_true, same_cell}
-use Rattle.facts.proofs.Cells.{updated_same, seen_words, values_words, value_of, updated_values, ac_values, hidden_values, holds_at, rest_updated, own_updated, own_like, top_not, word_true}
+use Rattle.facts.proofs.Laws.{WordsAre, OnlyAt, narrowed_at, moved_holds, assigned_holds, set_at, smeared_holds, copied_holds, same_cell}
+use Rattle.facts.proofs.Cells.{updated_same, seen_words, values_words, value_of, updated_values, ac_values, hidden_values, holds_at, rest_updated, own_updated, own_like, top_not, variable_true, word_true}
 
 -- the state that the access sees
 abbrev pub after_pointer : Bool → ℕ → State → State
@@ -84,19 +84,12 @@ module _ (pl : Place) (dd : IsDeclared pl.declaration) (start : Cells) (sw : (a 
   pub target_true : (i : Bool) (c : ℕ) (f : Fact) (s : State) (ks : Calls) → IsState s → TopIsEntry pl.declaration ks →
       (steps_pointer i c ≡ true → pl.declaration.variable c ≡ true) → Means pl start f s ks → targets pl i c f (place i c s.memory) ≡ true
   target_true false c f s ks ss top var h = eq-eqb c c refl
-  target_true true c f s ks ss top var h = go (steps_pointer true c) refl
-    where
-      m1 : Means pl start (stepped true c f) (after_pointer true c s) ks
-      m1 = pointer_means true c f s ks ss top var h
-
-      go : (b : Bool) → steps_pointer true c ≡ b →
-          (let chosen : Words = if b then (stepped true c f).set (Cell c) else words_in pl f c in chosen (seen true c s.memory c) ≡ true)
-      go true e =
-          let v : values pl.declaration start s.ac (seen true c s.memory) (Cell c) ≡ seen true c s.memory c = value_of pl.declaration start s.ac (seen true c s.memory) c (var e) in
-          rw v at (m1.holds.sets (Cell c))
-      go false e =
-          let x : seen true c s.memory c ≡ s.memory c = rw e in
-          rw x (word_true pl dd start sw loaded f s ks c ss h)
+  target_true true c f s ks ss top var h =
+      cond_both (steps_pointer true c) ((stepped true c f).set (Cell c)) (words_in pl f c) (λ (chosen : Words). chosen (seen true c s.memory c) ≡ true)
+      (λ e. let m : Means pl start (stepped true c f) (after_pointer true c s) ks = pointer_means true c f s ks ss top var h in
+      let v : values pl.declaration start s.ac (seen true c s.memory) (Cell c) ≡ seen true c s.memory c = value_of pl.declaration start s.ac (seen true c s.memory) c (var e) in
+      rw v at (m.holds.sets (Cell c)))
+      (λ e. let x : seen true c s.memory c ≡ s.memory c = rw e in rw x (word_true pl dd start sw loaded f s ks c ss h))
 
   -- TAD
   abbrev pub added : State → ℕ → State
@@ -242,11 +235,6 @@ module _ (pl : Place) (dd : IsDeclared pl.declaration) (start : Cells) (sw : (a 
       value_of pl.declaration start s.ac (updated s.memory y (plus (s.memory y) 1)) y e ∙
       (updated_same s.memory y (plus (s.memory y) 1) ∙ ap (λ x. plus x 1) (sym (value_of pl.declaration start s.ac s.memory y e)))
 
-  cell_true : (f : Fact) (s : State) (ks : Calls) (y : ℕ) → IsState s → Means pl start f s ks → pl.declaration.variable y ≡ true → narrowed f (Cell y) (s.memory y) ≡ true
-  cell_true f s ks y ss h e =
-      let v : values pl.declaration start s.ac s.memory (Cell y) ≡ s.memory y = value_of pl.declaration start s.ac s.memory y e in
-      rw v at (narrowed_at (names_words f s ks ss h) h.holds (Cell y))
-
   set_true : (f : Fact) (s : State) (ks : Calls) (y : ℕ) → Means pl start f s ks → pl.declaration.variable y ≡ true → f.set (Cell y) (s.memory y) ≡ true
   set_true f s ks y h e =
       let v : values pl.declaration start s.ac s.memory (Cell y) ≡ s.memory y = value_of pl.declaration start s.ac s.memory y e in
@@ -270,11 +258,7 @@ module _ (pl : Place) (dd : IsDeclared pl.declaration) (start : Cells) (sw : (a 
       here = value_of pl.declaration start s.ac (updated s.memory y (plus (s.memory y) 1)) y var ∙ updated_same s.memory y (plus (s.memory y) 1)
 
       sets : (n : Location) → with_set (Cell y) set (moved (Cell y) 1 f).set n (now n) ≡ true
-      sets n = go (same n (Cell y)) refl
-        where
-          go : (b : Bool) → same n (Cell y) ≡ b → (let chosen : Words = if b then set else (moved (Cell y) 1 f).set n in chosen (now n) ≡ true)
-          go false q = m.sets n
-          go true q = let l : n ≡ Cell y = same_true n (Cell y) q in rw (l, here) e
+      sets = set_at (Cell y) set (moved (Cell y) 1 f).set now (rw here e) (λ n q. m.sets n)
 
   zero_test : (x : ℕ) → x < 4096 → ((x ≡ 4095) × ((plus x 1 == 0) ≡ true)) ⊎ ((x ≡ 4095 → ⊥) × ((plus x 1 == 0) ≡ false))
   zero_test x h = elim (cases_eq x 4095) [
@@ -290,7 +274,7 @@ module _ (pl : Place) (dd : IsDeclared pl.declaration) (start : Cells) (sw : (a 
         let m : Means pl start (with_name (Cell y) (one 0) (moved (Cell y) 1 f)) (counted s y) ks = counted_means f s ks y _ (one 0) ss top h var (eq-eqb _ 0 w) in
         some_left (Lands (counted s y) ks) _ _
         (some_given (Lands (counted s y) ks) _ _
-        (and_from _ _ (let q : s.memory y ≡ 4095 = z.0 in rw q at (cell_true f s ks y ss h var))
+        (and_from _ _ (let q : s.memory y ≡ 4095 = z.0 in rw q at (variable_true pl dd start sw loaded f s ks y ss h var))
         (alive_true p (one 0) f _ s (counted s y) ks y 0 ss h lt e (lit< tt) refl ss.ac ss.link ss.mq m))
         (rw z.1 (eq-eqb (plus s.pc 2) (plus s.pc 2) refl), m)))
     | inr z ↦
@@ -304,7 +288,7 @@ module _ (pl : Place) (dd : IsDeclared pl.declaration) (start : Cells) (sw : (a 
       moved_in : (plus (s.memory y) 1 == 0) ≡ false → without 0 (shifted (narrowed f (Cell y)) 1) (plus (s.memory y) 1) ≡ true
       moved_in e =
           let back : minus (plus (s.memory y) 1) 1 ≡ s.memory y = minus_plus (s.memory y) 1 (ss.words y) in
-          rw (e, back) (cell_true f s ks y ss h var)
+          rw (e, back) (variable_true pl dd start sw loaded f s ks y ss h var)
 
   own_more : (f : Fact) (m : Cells) (y : ℕ) (ks : Calls) → StandsIn pl ks → OwnWord f m ks → pl.routine ≡ Some y → f.offsets 7 ≡ false →
       (o : ℕ) × (o < 7) × (f.offsets o ≡ true) × (plus (m y) 1 ≡ m y + 1) × OwnWord (with_offsets (λ n. if n == 0 then false else f.offsets (n - 1)) f) (updated m y (plus (m y) 1)) ks
@@ -357,7 +341,7 @@ module _ (pl : Place) (dd : IsDeclared pl.declaration) (start : Cells) (sw : (a 
     | inl z ↦ some_left (Lands (counted s y) ks) _ _
         (some_given (Lands (counted s y) ks) _ _
         (and_from _ _
-        (some_from 4096 (λ a. p a && narrowed f (Cell a) 4095) y lt (and_from _ _ e (let q : s.memory y ≡ 4095 = z.0 in rw q at (cell_true f s ks y ss h var))))
+        (some_from 4096 (λ a. p a && narrowed f (Cell a) 4095) y lt (and_from _ _ e (let q : s.memory y ≡ 4095 = z.0 in rw q at (variable_true pl dd start sw loaded f s ks y ss h var))))
         (alive_true p everything f _ s (counted s y) ks y 0 ss h lt e (lit< tt) refl ss.ac ss.link ss.mq (means _)))
         (rw z.1 (eq-eqb (plus s.pc 2) (plus s.pc 2) refl), means _))
     | inr z ↦ some_right (Lands (counted s y) ks) _ _
@@ -370,7 +354,7 @@ module _ (pl : Place) (dd : IsDeclared pl.declaration) (start : Cells) (sw : (a 
   ]
     where
       other : (s.memory y ≡ 4095 → ⊥) → without 4095 (narrowed f (Cell y)) (s.memory y) ≡ true
-      other n = let q : (s.memory y == 4095) ≡ false = ne_eqb (s.memory y) 4095 n in rw q (cell_true f s ks y ss h var)
+      other n = let q : (s.memory y == 4095) ≡ false = ne_eqb (s.memory y) 4095 n in rw q (variable_true pl dd start sw loaded f s ks y ss h var)
 
       was : Values
       was = values pl.declaration start s.ac s.memory
@@ -553,11 +537,7 @@ module _ (pl : Place) (dd : IsDeclared pl.declaration) (start : Cells) (sw : (a 
 
   -- group 2
   part_true : (w : ℕ) (f : Fact) (s : State) (ks : Calls) → IsState s → Means pl start f s ks → part2 w f s.link (skips_of w s.ac s.link) s.ac ≡ true
-  part_true w f s ks ss h = and_from _ _ (ac_true f s ks ss h) (go (skips_of w s.ac s.link))
-    where
-      go : (b : Bool) → (if b then b else not b) ≡ true
-      go true = refl
-      go false = refl
+  part_true w f s ks ss h = and_from _ _ (ac_true f s ks ss h) (let b : Bool = skips_of w s.ac s.link in cond_both b b (not b) (λ x. x ≡ true) (λ q. q) (λ q. ap not q))
 
   related2_means : (w : ℕ) (f : Fact) (s : State) (ks : Calls) (part : Words) (v pc : ℕ) → IsState s → Means pl start f s ks → v < 4096 → part s.ac ≡ true →
       Means pl start (related2 w part f) (record s { ac = operate2_of w s.ac v; pc = pc }) ks

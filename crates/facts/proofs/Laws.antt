@@ -1,6 +1,6 @@
-use Rattle.std.proofs.Common.{◌≡◌, ℕ, ◌<◌, ◌==◌, Bool, true, false, not, ◌&&◌, ◌||◌, ◌⊎◌, List, [], ◌∷◌, ◌++◌, refl, sym, ap, ◌∙◌, inl, inr, arith}
+use Rattle.std.proofs.Common.{◌≡◌, ℕ, ◌<◌, ◌==◌, Bool, true, false, not, ◌&&◌, ◌||◌, List, [], ◌∷◌, ◌++◌, refl, sym, ap, ◌∙◌, inl, inr, arith}
 use Rattle.std.specs.Prelude.{if◌then◌else◌, nat_lt}
-use Rattle.std.proofs.lemmas.Bool.{and_from, cases_Bool, cond_both, eqb-true, ne_eqb, not-true, true≢false, false≢true}
+use Rattle.std.proofs.lemmas.Bool.{and_from, cases_Bool, cases_eq, cond_both, eqb-true, lt-ltb, ne_eqb, not-true, true≢false, false≢true}
 use Rattle.wordset.specs.Words.{plus, minus, Words, union, shifted}
 use Rattle.domain.specs.Facts.{Location, Ac, Cell, same, Equation, Fact, Values, IsTrueOf, AllTrue, Holds, met_by, narrowed, Among, Knows, KnowsAll, Entails, has_cell, is_outside, outside, joined}
 use Rattle.domain.specs.Changes.{moved_equations, with_set, moved, free_of, strongly_updated, cells_of, weakly_updated_sets, weakly_updated, oriented, copy_of, copied, with_equations}
@@ -88,25 +88,24 @@ assigned_holds {n} {f} {v} {w} set h o e = record {
   equations = free_all (λ m. same m n) (λ m q. o.others m q) f.equations h.equations;
 }
 
-pub smeared_holds : {f : Fact} {v w : Values} (cells : Words) (new : ℕ → Words) → Holds f v → w Ac ≡ v Ac →
-    ((a : ℕ) → (nat_lt a 4096 && cells a) ≡ false → w (Cell a) ≡ v (Cell a)) →
-    ((a : ℕ) → (nat_lt a 4096 && cells a) ≡ true → (w (Cell a) ≡ v (Cell a)) ⊎ (new a (w (Cell a)) ≡ true)) → Holds (weakly_updated cells new f) w
+-- one of the cells took a word of its new ones
+pub smeared_holds : {f : Fact} {v w : Values} (cells : Words) (new : ℕ → Words) (y : ℕ) → y < 4096 → cells y ≡ true → Holds f v → OnlyAt (Cell y) v w → new y (w (Cell y)) ≡ true → Holds (weakly_updated cells new f) w
 unfolding weakly_updated
-smeared_holds {f} {v} {w} cells new h ac out within = record {
-  sets = sets;
-  equations = free_all (cells_of cells) kept f.equations h.equations;
-}
+smeared_holds {f} {v} {w} cells new y lt e h o is = record { sets = sets; equations = free_all (cells_of cells) kept f.equations h.equations }
   where
+    out : (a : ℕ) → (nat_lt a 4096 && cells a) ≡ false → w (Cell a) ≡ v (Cell a)
+    out a q = o.others (Cell a) (same_cell a y (λ g. true≢false (sym (and_from _ _ (lt-ltb y 4096 lt) e) ∙ (rw g at q))))
+
     kept : (m : Location) → cells_of cells m ≡ false → w m ≡ v m
-    kept Ac q = ac
+    kept Ac q = o.others Ac refl
     kept (Cell a) q = out a q
 
     sets : (m : Location) → weakly_updated_sets cells new f.set m (w m) ≡ true
-    sets Ac = rw ac (h.sets Ac)
+    sets Ac = rw (o.others Ac refl) (h.sets Ac)
     sets (Cell a) = cond_both (nat_lt a 4096 && cells a) (union (f.set (Cell a)) (new a)) (f.set (Cell a)) (λ (chosen : Words). chosen (w (Cell a)) ≡ true)
-        (λ q. elim (within a q) [
-          | inl e ↦ or_left (f.set (Cell a) (w (Cell a))) (new a (w (Cell a))) (rw e (h.sets (Cell a)))
-          | inr e ↦ or_right (f.set (Cell a) (w (Cell a))) (new a (w (Cell a))) e
+        (λ q. elim (cases_eq a y) [
+          | inl g ↦ or_right (f.set (Cell a) (w (Cell a))) (new a (w (Cell a))) (rw g is)
+          | inr n ↦ or_left (f.set (Cell a) (w (Cell a))) (new a (w (Cell a))) (rw (o.others (Cell a) (same_cell a y n)) (h.sets (Cell a)))
         ])
         (λ q. rw (out a q) (h.sets (Cell a)))
 

@@ -1,6 +1,6 @@
 -- What is asked of a word: the cells that it reads and writes.
 use Rattle.std.proofs.Common.{◌≡◌, ℕ, ◌<◌, ◌==◌, Bool, true, false, ◌&&◌, ◌||◌, ◌⊎◌, Option, Some, None, refl, sym, ap, ◌∙◌, subst, inl, inr}
-use Rattle.std.proofs.lemmas.Bool.{eqb-true, eq-eqb, false≢true}
+use Rattle.std.proofs.lemmas.Bool.{or_cases, eqb-true, eq-eqb, false≢true}
 use Rattle.std.specs.Prelude.{IsTrue, ◌↔◌}
 use Rattle.instruct.specs.declared.Instruction.TheVariants.{Memory, Operate2}
 use Rattle.instruct.specs.declared.Operation.{Operation}
@@ -94,11 +94,7 @@ listed_iff r cells listed writes e here h =
     (λ q a lt c. there a (sym (here a) ∙ h.0 q a lt c), λ p. h.1 (λ a lt c. here a ∙ back a (p a lt c)))
   where
     there : (a : ℕ) → (writes a || (a == e)) ≡ true → (writes a ≡ true) ⊎ (a ≡ e)
-    there a t = go (writes a) refl t
-      where
-        go : (b : Bool) → writes a ≡ b → (b || (a == e)) ≡ true → (writes a ≡ true) ⊎ (a ≡ e)
-        go true q k = inl q
-        go false q k = inr (eqb-true a e k)
+    there a t = elim (or_cases (writes a) (a == e) t) [ inl w ↦ inl w | inr q ↦ inr (eqb-true a e q) ]
 
     back : (a : ℕ) → (writes a ≡ true) ⊎ (a ≡ e) → (writes a || (a == e)) ≡ true
     back a x = elim x [

@@ -1,8 +1,8 @@
 -- What happens to what is known.
-use Rattle.std.proofs.Common.{◌≡◌, ℕ, ◌-◌, ◌<◌, ◌==◌, Bool, true, false, ◌&&◌, ◌||◌, List, ◌++◌, map, refl, ap, subst, ◌∙◌, arith}
+use Rattle.std.proofs.Common.{◌≡◌, ℕ, ◌-◌, ◌<◌, ◌==◌, Bool, true, false, ◌&&◌, ◌||◌, List, ◌++◌, map, refl, ap, subst, ◌∙◌, arith, inl, inr}
 use Rattle.std.proofs.Math.Path.{fun_ext}
 use Rattle.std.specs.Prelude.{if◌then◌else◌, nat_lt}
-use Rattle.std.proofs.lemmas.Bool.{ltb-true}
+use Rattle.std.proofs.lemmas.Bool.{cases_Bool, ltb-true}
 use Rattle.wordset.specs.declared.links.Links.{Links as CodeLinks}
 use Rattle.std.specs.Borrow.{Bor}
 use Rattle.wordset.specs.Words.{minus, Words, SameWords, SameLinks, one, shifted, union}
@@ -124,30 +124,18 @@ moved_agree {f} {g} n k h = record {
 
 pub smeared_agree : {f g : Fact} {p q : Words} {s t : ℕ → Words} → Agree f g → SameWords p q → ((y : ℕ) → SameWords (s y) (t y)) → Agree (weakly_updated p s f) (weakly_updated q t g)
 unfolding weakly_updated
-smeared_agree {f} {g} {p} {q} {s} {t} h e n = record { sets = sets; mq = h.mq; link = h.link; equations = frees; offsets = h.offsets }
+smeared_agree {f} {g} {p} {q} {s} {t} h e n =
+    record { sets = sets; mq = h.mq; link = h.link; equations = ap (λ x. free_of x f.equations) (fun_ext name) ∙ ap (free_of (cells_of q)) h.equations; offsets = h.offsets }
   where
-    has : (a : ℕ) → has_cell p a ≡ has_cell q a
-    has a = below (nat_lt a 4096) refl
-      where
-        below : (b : Bool) → nat_lt a 4096 ≡ b → (b && p a) ≡ (b && q a)
-        below true l = e a (ltb-true a 4096 l)
-        below false l = refl
-
-    names : cells_of p ≡ cells_of q
-    names = fun_ext (λ m. name m)
-      where
-        name : (m : Location) → cells_of p m ≡ cells_of q m
-        name Ac = refl
-        name (Cell a) = has a
-
-    frees : free_of (cells_of p) f.equations ≡ free_of (cells_of q) g.equations
-    frees = ap (λ x. free_of x f.equations) names ∙ ap (free_of (cells_of q)) h.equations
+    name : (m : Location) → cells_of p m ≡ cells_of q m
+    name Ac = refl
+    name (Cell a) = elim (cases_Bool (nat_lt a 4096)) [ inl l ↦ ap (λ x. nat_lt a 4096 && x) (e a (ltb-true a 4096 l)) | inr l ↦ rw l refl ]
 
     sets : (m : Location) → SameWords (weakly_updated_sets p s f.set m) (weakly_updated_sets q t g.set m)
     sets Ac v lt = h.sets Ac v lt
     sets (Cell a) v lt =
         if_both (has_cell p a) (union (f.set (Cell a)) (s a)) (f.set (Cell a)) (union (g.set (Cell a)) (t a)) (g.set (Cell a)) v (or_both (h.sets (Cell a) v lt) (n a v lt)) (h.sets (Cell a) v lt)
-        ∙ ap (λ (b : Bool). let x : Words = if b then union (g.set (Cell a)) (t a) else g.set (Cell a) in x v) (has a)
+        ∙ ap (λ (b : Bool). let x : Words = if b then union (g.set (Cell a)) (t a) else g.set (Cell a) in x v) (name (Cell a))
 
 pub link_agree : {f g : Fact} {l m : Words} → Agree f g → SameLinks l m → Agree (with_link l f) (with_link m g)
 link_agree h e = record { sets = h.sets; mq = h.mq; link = e; equations = h.equations; offsets = h.offsets }

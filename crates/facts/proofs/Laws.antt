@@ -1,6 +1,6 @@
 use Rattle.std.proofs.Common.{◌≡◌, ℕ, ◌<◌, ◌==◌, Bool, true, false, not, ◌&&◌, ◌||◌, List, [], ◌∷◌, ◌++◌, refl, sym, ap, ◌∙◌, inl, inr, arith}
 use Rattle.std.specs.Prelude.{if◌then◌else◌, nat_lt}
-use Rattle.std.proofs.lemmas.Bool.{and_from, cases_Bool, cases_eq, cond_both, eqb-true, lt-ltb, ne_eqb, not-true, true≢false, false≢true}
+use Rattle.std.proofs.lemmas.Bool.{and_from, and_parts, or_parts, cases_Bool, cases_eq, cond_both, eqb-true, lt-ltb, ne_eqb, not-true, true≢false, false≢true}
 use Rattle.wordset.specs.Words.{plus, minus, Words, union, shifted}
 use Rattle.domain.specs.Facts.{Location, Ac, Cell, same, Equation, Fact, Values, IsTrueOf, AllTrue, Holds, met_by, narrowed, Among, Knows, KnowsAll, Entails, has_cell, is_outside, outside, joined}
 use Rattle.domain.specs.Changes.{moved_equations, with_set, moved, free_of, strongly_updated, cells_of, weakly_updated_sets, weakly_updated, oriented, copy_of, copied, with_equations}
@@ -75,11 +75,10 @@ moved_holds {n} {f} {v} {w} k ws h o e = record {
 
 free_all : {v w : Values} (names : Location → Bool) → ((m : Location) → names m ≡ false → w m ≡ v m) → (es : List Equation) → AllTrue v es → AllTrue w (free_of names es)
 free_all names o [] t = tt
-free_all {v} {w} names o (e ∷ es) t = go (free_all names o es t.1) (names e.left) (names e.right) refl refl
-  where
-    go : AllTrue w (free_of names es) → (b c : Bool) → names e.left ≡ b → names e.right ≡ c → AllTrue w (if b || c then free_of names es else e ∷ free_of names es)
-    go rest false false p q = (o e.left p ∙ (t.0 ∙ ap (λ x. plus x e.more) (sym (o e.right q))), rest)
-    go rest _ _ p q = rest
+free_all {v} {w} names o (e ∷ es) t =
+    let rest : AllTrue w (free_of names es) = free_all names o es t.1 in
+    cond_both (names e.left || names e.right) (free_of names es) (e ∷ free_of names es) (AllTrue w) (λ q. rest)
+    (λ q. (o e.left (or_parts _ _ q).0 ∙ (t.0 ∙ ap (λ x. plus x e.more) (sym (o e.right (or_parts _ _ q).1))), rest))
 
 pub assigned_holds : {n : Location} {f : Fact} {v w : Values} (set : Words) → Holds f v → OnlyAt n v w → set (w n) ≡ true → Holds (strongly_updated n set f) w
 unfolding strongly_updated
@@ -193,11 +192,10 @@ kept_outside v w written o (Cell a) q = o a (elim (cases_Bool (has_cell written 
 
 outside_kept : (v w : Values) (written : Words) → ((a : ℕ) → has_cell written a ≡ false → w (Cell a) ≡ v (Cell a)) → (es : List Equation) → AllTrue v (outside written es) → AllTrue w (outside written es)
 outside_kept v w written o [] t = tt
-outside_kept v w written o (e ∷ es) t = go (outside_kept v w written o es) (is_outside written e.left) (is_outside written e.right) refl refl t
-  where
-    go : (AllTrue v (outside written es) → AllTrue w (outside written es)) → (b c : Bool) → is_outside written e.left ≡ b → is_outside written e.right ≡ c → AllTrue v (if b && c then e ∷ outside written es else outside written es) → AllTrue w (if b && c then e ∷ outside written es else outside written es)
-    go rest true true p q t = (kept_outside v w written o e.left p ∙ (t.0 ∙ ap (λ x. plus x e.more) (sym (kept_outside v w written o e.right q))), rest t.1)
-    go rest _ _ p q t = rest t
+outside_kept v w written o (e ∷ es) t =
+    cond_both (is_outside written e.left && is_outside written e.right) (e ∷ outside written es) (outside written es) (λ xs. AllTrue v xs → AllTrue w xs)
+    (λ q u. (kept_outside v w written o e.left (and_parts _ _ q).0 ∙ (u.0 ∙ ap (λ x. plus x e.more) (sym (kept_outside v w written o e.right (and_parts _ _ q).1))), outside_kept v w written o es u.1))
+    (λ q u. outside_kept v w written o es u) t
 
 pub still_outside : {f : Fact} {v w : Values} (written : Words) → ((a : ℕ) → has_cell written a ≡ false → w (Cell a) ≡ v (Cell a)) → HoldsOutside written f v → HoldsOutside written f w
 still_outside {f} {v} {w} written o h = record {

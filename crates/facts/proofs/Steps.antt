@@ -205,11 +205,6 @@ module _ (pl : Place) (dd : IsDeclared pl.declaration) (start : Cells) (sw : (a 
       (pl.declaration.variable y ≡ true) ⊎
       ((pl.declaration.variable y ≡ false) × (pl.declaration.entry y ≡ true) × (pl.routine ≡ Some y) × (only p ≡ Some y) × (f.offsets 7 ≡ false))
 
-  set_true : (f : Fact) (s : State) (ks : Calls) (y : ℕ) → Means pl start f s ks → pl.declaration.variable y ≡ true → f.set (Cell y) (s.memory y) ≡ true
-  set_true f s ks y h e =
-      let v : values pl.declaration start s.ac s.memory (Cell y) ≡ s.memory y = value_of pl.declaration start s.ac s.memory y e in
-      rw v at (h.holds.sets (Cell y))
-
   -- one variable is counted, and its new word is in the set
   counted_means : (f : Fact) (s : State) (ks : Calls) (y pc : ℕ) (set : Words) → IsState s → TopIsEntry pl.declaration ks → Means pl start f s ks → pl.declaration.variable y ≡ true →
       set (plus (s.memory y) 1) ≡ true →
@@ -324,7 +319,8 @@ module _ (pl : Place) (dd : IsDeclared pl.declaration) (start : Cells) (sw : (a 
           let v : vals s.ac (updated s.memory y (plus (s.memory y) 1)) (Cell y) ≡ plus (s.memory y) 1 =
           value_of pl.declaration start s.ac (updated s.memory y (plus (s.memory y) 1)) y var ∙ updated_same s.memory y (plus (s.memory y) 1) in
           let back : minus (plus (s.memory y) 1) 1 ≡ s.memory y = minus_plus (s.memory y) 1 (ss.words y) in
-          rw (v, back) (set_true f s ks y h var)
+          let was : vals s.ac s.memory (Cell y) ≡ s.memory y = value_of pl.declaration start s.ac s.memory y var in
+          rw (v, back) (rw was at (h.holds.sets (Cell y)))
 
       means : (pc : ℕ) → Means pl start (weakly_updated p (λ a. shifted (f.set (Cell a)) 1) f) (record s { pc = pc; memory = updated s.memory y (plus (s.memory y) 1) }) ks
       means pc = means_updated f (weakly_updated p (λ a. shifted (f.set (Cell a)) 1) f) s ks y (plus (s.memory y) 1) s.ac pc top var h

@@ -53,6 +53,12 @@ tracked_each f (t ∷ ts) w = (
   tracked_each f ts (λ a v lt h. (and_parts _ _ (w a v lt h)).1),
 )
 
+pub none_is : {A : Type 0} {p : A} → None ≡ Some p → ⊥
+none_is e = cc
+
+pub some_is : {A : Type 0} {p q : A} → Some p ≡ Some q → p ≡ q
+some_is e = cc
+
 -- two single words
 pub shows_some : (f : Fact) (e : Equation) (x y z : ℕ) (t : Bool) → Some x ≡ only (narrowed f e.left) → Some y ≡ only (narrowed f e.right) →
     t ≡ (x == z) → z ≡ plus y e.more → IsTrue t ↔ Shows f e
@@ -60,12 +66,6 @@ shows_some f e x y z t l r et ez = (
   λ q. (x, y, sym l, sym r, eqb-true x z (sym et ∙ q) ∙ ez),
   λ s. (let ex : s.0 ≡ x = some_is (sym s.2 ∙ sym l) in let ey : s.1 ≡ y = some_is (sym s.3 ∙ sym r) in et ∙ eq-eqb x z (sym ex ∙ s.4 ∙ ap (λ k. plus k e.more) ey ∙ sym ez)),
 )
-  where
-    some_is : {p q : ℕ} → Some p ≡ Some q → p ≡ q
-    some_is e = cc
-
-pub none_is : {p : ℕ} → None ≡ Some p → ⊥
-none_is e = cc
 
 pub drop_item : {A : Type 0} (xs : List A) (i : ℕ) (x : A) → i < length xs → x ≡ get_or xs i x → drop i xs ≡ x ∷ drop (i + 1) xs
 drop_item xs i x lt e = drop_more xs i x lt ∙ ap (λ y. y ∷ drop (i + 1) xs) (sym e)

@@ -1,5 +1,5 @@
 -- Outcomes that agree.
-use Rattle.std.proofs.Common.{◌≡◌, ℕ, ◌+◌, ◌-◌, ◌<◌, ◌%◌, ◌==◌, Bool, true, false, not, ◌&&◌, List, [], ◌∷◌, ◌++◌, refl, sym, ap, ◌∙◌, subst, arith, lit<}
+use Rattle.std.proofs.Common.{◌≡◌, ℕ, ◌+◌, ◌<◌, ◌%◌, ◌==◌, Bool, true, false, not, ◌&&◌, List, [], ◌∷◌, ◌++◌, refl, sym, ap, ◌∙◌, subst, arith, lit<}
 use Rattle.wordset.specs.Words.{plus, minus, Words, SameWords, one, everything, has_some, has_link, shifted}
 use Rattle.domain.specs.Facts.{Ac, Fact, narrowed}
 use Rattle.facts.specs.Outcomes.{Successor, alive, given}

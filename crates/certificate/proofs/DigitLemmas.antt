@@ -2,7 +2,7 @@
 use Rattle.std.proofs.Common.{◌≡◌, ◌≢◌, ◌⊎◌, ℕ, zero, suc, ◌+◌, ◌-◌, ◌<◌, ◌≤◌, ◌==◌, Bool, true, false, not, ◌&&◌, ◌||◌, List, [], ◌∷◌, ◌++◌, Option, Some, None, refl, ap, ◌∙◌, sym, subst, inl, inr, arith, append_assoc, append-nil}
 use Rattle.std.specs.Prelude.{if◌then◌else◌, IfSome, IsTrue}
 use Rattle.std.specs.Option.{IsSomeAnd}
-use Rattle.std.proofs.lemmas.Bool.{true≢false, false≢true, eq-eqb, ne_eqb, cases_lt}
+use Rattle.std.proofs.lemmas.Bool.{true≢false, false≢true, eq-eqb, ne_eqb, cases_lt, cases_Bool}
 use Rattle.std.proofs.Math.Bool.{and-true, and-false, or-false}
 use Rattle.wordset.specs.Words.{Words, some_below}
 use Rattle.wordset.proofs.Tests.{some_none_of, none_of_some}
@@ -91,13 +91,6 @@ no_digits c old t none = record { none = λ v a b. none v b; read = reads old; o
 left_at : (c n : ℕ) (s : Words) → n < c → digits_from (c - n) n s ≡ digit_at s n ++ digits_from (c - (n + 1)) (n + 1) s
 left_at c n s h = let z : c - n ≡ suc (c - (n + 1)) = omega arith in ap (λ k. digits_from k n s) z ∙ from_more (c - (n + 1)) n s
 
-pub by_digit : (s : Words) (n : ℕ) → (s n ≡ true) ⊎ (s n ≡ false)
-by_digit s n = go (s n)
-  where
-    go : (b : Bool) → (b ≡ true) ⊎ (b ≡ false)
-    go true = inl refl
-    go false = inr refl
-
 pub at_some : {X : Type 0} (P : X → Type 0) (o : Option X) (x : X) → IfSome o P → o ≡ Some x → P x
 at_some P None x h e = absurd (cc)
 at_some P (Some y) x h e = let z : y ≡ x = cc in subst P z h
@@ -131,7 +124,7 @@ digit_tried c n old now next t u b small few h took kept begins more = record { 
 
     only : (s : Words) (tail : List ℕ) → EndsField tail → old ≡ Some (digits c s ++ tail) →
         ((v : ℕ) → v < n + 1 → u v ≡ s v) × (next ≡ Some (digits_from (c - (n + 1)) (n + 1) s ++ tail))
-    only s tail ends e = go (by_digit s n) b refl
+    only s tail ends e = go (cases_Bool (s n)) b refl
       where
         left : List ℕ
         left = digits_from (c - (n + 1)) (n + 1) s
@@ -197,11 +190,7 @@ pub some_offsets : (t : Words) → some_below 8 t ≡ true → offsets_text t �
 some_offsets t e = rw e refl
 
 pub by_offsets : (s : Words) → (some_below 8 s ≡ true) ⊎ ((v : ℕ) → v < 8 → s v ≡ false)
-by_offsets s = go (some_below 8 s) refl
-  where
-    go : (b : Bool) → some_below 8 s ≡ b → (some_below 8 s ≡ true) ⊎ ((v : ℕ) → v < 8 → s v ≡ false)
-    go true e = inl e
-    go false e = inr (none_of_some 8 s e)
+by_offsets s = elim (cases_Bool (some_below 8 s)) [ inl e ↦ inl e | inr e ↦ inr (none_of_some 8 s e) ]
 
 -- Digits don't begin with a dash.
 pub digit_first : (k n : ℕ) (s : Words) (tail r : List ℕ) → EndsField tail → digits_from k n s ++ tail ≡ 45 ∷ r → ⊥

@@ -1,11 +1,11 @@
 -- What is written of a set is the text of its runs.
 use Rattle.std.proofs.Common.{◌≡◌, ◌⊎◌, ℕ, zero, suc, ◌+◌, ◌-◌, ◌<◌, ◌≤◌, ◌==◌, Bool, true, false, not, ◌&&◌, ◌||◌, List, [], ◌∷◌, ◌++◌, refl, ap, ◌∙◌, sym, subst, inl, inr, arith, append_assoc, append-nil}
 use Rattle.std.specs.Prelude.{if◌then◌else◌, codes}
-use Rattle.std.proofs.lemmas.Bool.{true≢false, eq-eqb, ne_eqb, cases_lt}
+use Rattle.std.proofs.lemmas.Bool.{true≢false, eq-eqb, ne_eqb, cases_lt, cases_Bool}
 use Rattle.std.proofs.Math.Bool.{and-false, or-true}
 use Rattle.word12.specs.Words.{octal_text}
 use Rattle.wordset.specs.Words.{Words, SameWords, nothing, some_below, has_some}
-use Rattle.wordset.proofs.Tests.{some_from, some_none_of, none_of_some}
+use Rattle.wordset.proofs.Tests.{some_more, some_from, some_none_of, none_of_some}
 use Rattle.certificate.specs.declared.packed.Run.{Run}
 use Rattle.certificate.specs.Spelling.{begins, ends, mark, marks, set_text}
 use Rattle.certificate.specs.Fields.{run_text}
@@ -32,10 +32,6 @@ absent s a e = mark_none s a (rw e refl) (rw e refl)
 marks_more : (n : ℕ) (s : Words) → marks (n + 1) s ≡ marks n s ++ mark s n
 unfolding marks
 marks_more n s = let e : n + 1 ≡ suc n = omega arith in ap (λ k. marks k s) e
-
-some_more : (n : ℕ) (s : Words) → some_below (n + 1) s ≡ (s n || some_below n s)
-unfolding some_below
-some_more n s = let e : n + 1 ≡ suc n = omega arith in rw e refl
 
 -- The words below n are those of runs, and what is written of them is the text of these.
 record Marked (s : Words) (n next : ℕ) : Type 0 where
@@ -259,8 +255,7 @@ pub record Full (s : Words) : Type 0 where
   pub text : set_text s ≡ runs_text (runs.first ∷ runs.more)
 
 pub by_words : (s : Words) → Full s ⊎ ((v : ℕ) → v < 4096 → s v ≡ false)
-by_words s = go (has_some s) refl
-  where
-    go : (b : Bool) → has_some s ≡ b → Full s ⊎ ((v : ℕ) → v < 4096 → s v ≡ false)
-    go true e = inl (record { runs = runs_of s e; text = full_text s e ∙ (runs_of s e).text })
-    go false e = inr (none_of_some 4096 s e)
+by_words s = elim (cases_Bool (has_some s)) [
+  | inl e ↦ inl (record { runs = runs_of s e; text = full_text s e ∙ (runs_of s e).text })
+  | inr e ↦ inr (none_of_some 4096 s e)
+]

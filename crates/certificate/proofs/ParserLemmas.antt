@@ -150,9 +150,9 @@ next_refused kept text line bytes old p q f is h small t = go f t
     g = let z : HasRead (Some p) text kept = rw is at h.read in z
 
     go : (f : CertificateFault) → ((before : List Line) → Tracks p before → Declines p.version before line f) → Refuses (bytes ++ 10 ∷ []) f
-    go (faults.BadLine n) t = let b = t g.before g.tracks in inr (λ rest. inl (faulty kept p text line bytes rest n IsBad g e feed small b.0 b.1))
-    go (faults.Order n) t = let b = t g.before g.tracks in inr (λ rest. faulty kept p text line bytes rest n IsMisplaced g e feed small b.0 b.1)
-    go faults.TooMany t = inr (λ rest. inl (length g.before + 2, faulty kept p text line bytes rest (length g.before + 2) IsOneTooMany g e feed small refl (t g.before g.tracks)))
+    go (faults.BadLine n) t = let b = t g.before g.tracks in λ rest. inl (faulty kept p text line bytes rest n IsBad g e feed small b.0 b.1)
+    go (faults.Order n) t = let b = t g.before g.tracks in λ rest. faulty kept p text line bytes rest n IsMisplaced g e feed small b.0 b.1
+    go faults.TooMany t = λ rest. inl (length g.before + 2, faulty kept p text line bytes rest (length g.before + 2) IsOneTooMany g e feed small refl (t g.before g.tracks))
     go faults.Version t = absurd (t g.before g.tracks)
     go faults.NoMemory t = absurd (t g.before g.tracks)
     go faults.ReadFault t = absurd (t g.before g.tracks)
@@ -160,8 +160,8 @@ next_refused kept text line bytes old p q f is h small t = go f t
 -- A line that is too long.
 pub long_refused : (kept : Packed) (text line bytes : List ℕ) (old : Option Progress) (p : Progress) (long : Bool) (n : ℕ) → old ≡ Some p → long ≡ true →
     Parts text kept old line long bytes → length bytes < most_bytes → n ≡ p.number → Refuses (bytes ++ 10 ∷ []) (faults.BadLine n)
-long_refused kept text line bytes old p long n is e h small number =
-    inr (λ rest. inl (faulty kept p text h.tail bytes rest n IsBad g h.split h.feed small (number ∙ g.tracks.number) (long_bad p.version g.before h.tail (h.long e))))
+long_refused kept text line bytes old p long n is e h small number = λ rest.
+    inl (faulty kept p text h.tail bytes rest n IsBad g h.split h.feed small (number ∙ g.tracks.number) (long_bad p.version g.before h.tail (h.long e)))
   where
     g : Reached p text kept
     g = let z : HasRead (Some p) text kept = rw is at h.read in z
@@ -217,14 +217,14 @@ pub one_too_many : (kept : Packed) (text line bytes : List ℕ) (progress : Opti
     count ≡ most_bytes → count ≡ length bytes → Refuses (bytes ++ b ∷ []) faults.TooMany
 one_too_many kept text line bytes progress long b count h most e =
     let n : length bytes ≡ most_bytes = sym e ∙ most in
-    inr (λ rest. inr (
+    λ rest. inr (
       (let z : length (bytes ++ b ∷ [] ++ rest) ≡ length bytes + 1 + length rest =
           ap length (append_assoc bytes (b ∷ []) rest) ∙ (length-append bytes (b ∷ rest) ∙ omega arith) in omega arith),
       (let t : take most_bytes (bytes ++ b ∷ [] ++ rest) ≡ bytes =
           ap (λ (x : List ℕ). take most_bytes x) (append_assoc bytes (b ∷ []) rest) ∙
           (ap (λ k. take k (bytes ++ (b ∷ rest))) (sym n) ∙ take-append_seam bytes (b ∷ rest)) in
           rw t (whole progress h)),
-    ))
+    )
   where
     whole : (o : Option Progress) → Parts text kept o line long bytes → NoFeed bytes ⊎ HasRest bytes
     whole None h = inl (let z : text ≡ [] = h.read.0 in let w : bytes ≡ h.tail = h.split ∙ rw z refl in rw w h.feed)

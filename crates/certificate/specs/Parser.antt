@@ -1,5 +1,5 @@
 -- What the parser of a certificate's text has seen; it serves private contracts.
-use Rattle.std.specs.Prelude.{◌≡◌, ℕ, ◌+◌, ◌<◌, ◌≤◌, ◌⊎◌, Bool, true, false, List, [], ◌++◌, length, Option, Some, None, IfSome}
+use Rattle.std.specs.Prelude.{◌≡◌, ℕ, ◌+◌, ◌<◌, ◌≤◌, Bool, true, false, List, [], ◌++◌, length, Option, Some, None, IfSome}
 use Rattle.certificate.specs.declared.CertificateFault.{CertificateFault}
 use Rattle.certificate.specs.declared.CertificateFault.TheVariants.{NoMemory}
 use Rattle.certificate.specs.declared.progress.Progress.{Progress}
@@ -52,7 +52,8 @@ pub record IsSmall {A : Type 0} (p : Parser A) : Type 0 where
 
 -- Memory was wanting for a line of the bytes, or whatever follows them, the text has this fault.
 abbrev pub Refuses : List ℕ → CertificateFault → Type 0
-Refuses bytes fault = ((fault ≡ NoMemory) × AsksForMemory bytes) ⊎ ((rest : List ℕ) → HasFault (bytes ++ rest) fault)
+Refuses bytes NoMemory = AsksForMemory bytes
+Refuses bytes fault = (rest : List ℕ) → HasFault (bytes ++ rest) fault
 
 -- The certificate is that of the bytes.
 pub record IsParsed (bytes : List ℕ) (c : Kept) : Type 0 where

@@ -1,5 +1,5 @@
 -- What reading in pieces keeps; it serves private contracts.
-use Rattle.std.specs.Prelude.{◌≡◌, ℕ, ◌+◌, ◌≤◌, ◌⊎◌, List, length, take, Option, Result, Err, MatchResult}
+use Rattle.std.specs.Prelude.{◌≡◌, ℕ, ◌+◌, ◌≤◌, ◌⊎◌, List, length, take, Option, Result, MatchResult}
 use Rattle.std.specs.Io.KnownBytes.{Consumes, IsAtEnd}
 use Rattle.certificate.specs.declared.CertificateFault.{CertificateFault}
 use Rattle.certificate.specs.declared.CertificateFault.TheVariants.{NoMemory, ReadFault}
@@ -17,11 +17,15 @@ pub record CameTo {A : Type 0} (old new : Option (List ℕ)) (p : Parser A) : Ty
   pub seen : Seen p given
   pub small : IsSmall p
 
--- What the bytes that a source gave are answered with, of which it may have more.
+-- What a fault says of the bytes that a source gave, of which it may have more: where a read failed, that they bring no answer.
+abbrev pub Told : List ℕ → Option (List ℕ) → CertificateFault → Type 0
+Told given new ReadFault = IsUnanswered given
+Told given new NoMemory = AsksForMemory given
+Told given new fault = Settles given fault ⊎ (HasFault given fault × IsAtEnd new)
+
+-- What the bytes that a source gave are answered with.
 abbrev pub IsAnswered : List ℕ → Option (List ℕ) → Result Kept CertificateFault → Type 0
-IsAnswered given new r = MatchResult r
-    (λ c. IsParsed given c × IsAtEnd new)
-    (λ fault. ((fault ≡ NoMemory) × AsksForMemory given) ⊎ (Settles given fault ⊎ (HasFault given fault × IsAtEnd new)))
+IsAnswered given new r = MatchResult r (λ c. IsParsed given c × IsAtEnd new) (Told given new)
 
 -- What the source gave brings the answer, or a read failed before it had one.
 pub record Serves (old new : Option (List ℕ)) (r : Result Kept CertificateFault) : Type 0 where
@@ -29,4 +33,4 @@ pub record Serves (old new : Option (List ℕ)) (r : Result Kept CertificateFaul
   pub taken : Consumes old new given
   pub count : length given ≤ 1048577
   pub prompt : (n : ℕ) → n + 512 ≤ length given → IsUnanswered (take n given)
-  pub answer : ((r ≡ Err ReadFault) × IsUnanswered given) ⊎ IsAnswered given new r
+  pub answer : IsAnswered given new r

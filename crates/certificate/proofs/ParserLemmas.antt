@@ -1,8 +1,7 @@
 -- A certificate's text taken byte by byte.
-use Rattle.std.proofs.Common.{◌≡◌, ◌⊎◌, ℕ, ◌+◌, ◌<◌, ◌≤◌, ◌==◌, Bool, true, false, List, [], ◌∷◌, ◌++◌, length, Option, Some, None, refl, ap, ◌∙◌, sym, subst, inl, inr, arith, append_assoc, append-nil, length-append}
-use Rattle.std.specs.Prelude.{not, ◌&&◌, ◌||◌, take}
+use Rattle.std.proofs.Common.{◌≡◌, ℕ, ◌+◌, ◌<◌, ◌≤◌, ◌==◌, Bool, true, false, List, [], ◌∷◌, ◌++◌, length, Option, Some, None, refl, ap, ◌∙◌, sym, subst, inl, inr, arith, append_assoc, append-nil, length-append}
+use Rattle.std.specs.Prelude.{not, ◌&&◌, ◌||◌}
 use Rattle.std.proofs.lemmas.Bool.{true≢false, eqb-true, eq-eqb, cases_lt}
-use Rattle.std.proofs.Math.Seq.{take-append_seam}
 use Rattle.certificate.specs.declared.Version.{Version}
 use Rattle.certificate.specs.declared.CertificateFault.{CertificateFault}
 use Rattle.certificate.specs.declared.CertificateFault.TheVariants as faults
@@ -211,24 +210,6 @@ passed kept text line new_line bytes piece progress long h n fits = record {
     longer : (c : Bool) → long ≡ c → 32768 < length (h.tail ++ piece)
     longer true q = let z : 32768 < length h.tail = h.long q in omega (arith, length-append h.tail piece)
     longer false q = let z : length line ≡ length h.tail = ap length (h.same q) in omega (arith, length-append h.tail piece)
-
--- A byte past the most.
-pub one_too_many : (kept : Packed) (text line bytes : List ℕ) (progress : Option Progress) (long : Bool) (b count : ℕ) → Parts text kept progress line long bytes →
-    count ≡ most_bytes → count ≡ length bytes → Refuses (bytes ++ b ∷ []) faults.TooMany
-one_too_many kept text line bytes progress long b count h most e =
-    let n : length bytes ≡ most_bytes = sym e ∙ most in
-    λ rest. inr (
-      (let z : length (bytes ++ b ∷ [] ++ rest) ≡ length bytes + 1 + length rest =
-          ap length (append_assoc bytes (b ∷ []) rest) ∙ (length-append bytes (b ∷ rest) ∙ omega arith) in omega arith),
-      (let t : take most_bytes (bytes ++ b ∷ [] ++ rest) ≡ bytes =
-          ap (λ (x : List ℕ). take most_bytes x) (append_assoc bytes (b ∷ []) rest) ∙
-          (ap (λ k. take k (bytes ++ (b ∷ rest))) (sym n) ∙ take-append_seam bytes (b ∷ rest)) in
-          rw t (whole progress h)),
-    )
-  where
-    whole : (o : Option Progress) → Parts text kept o line long bytes → NoFeed bytes ⊎ HasRest bytes
-    whole None h = inl (let z : text ≡ [] = h.read.0 in let w : bytes ≡ h.tail = h.split ∙ rw z refl in rw w h.feed)
-    whole (Some p) h = inr (rest_of kept text line bytes long p h)
 
 pub is_full : (n most : ℕ) → true ≡ (n == most) → most ≤ n
 is_full n most e = let z : n ≡ most = eqb-true n most (sym e) in omega arith

@@ -80,13 +80,26 @@ module _ (kept : Packed) (text line bytes : List ℕ) (long : Bool) where
     feed = no_feed_both h.tail more h.feed feed;
   })
 
+  -- More bytes come than are read, and none of those that are is a line feed.
+  pub full : (o : Option Progress) → Parts text kept o line long bytes → (k : ℕ) (piece : List ℕ) → length bytes + k ≡ most_bytes →
+      k < length piece → NoFeed (take k piece) → Refuses (bytes ++ piece) faults.TooMany
+  full o h k piece most more feed = λ rest. inr (
+    omega (arith, length-append (bytes ++ piece) rest, length-append bytes piece),
+    subst (λ (x : List ℕ). NoFeed x ⊎ HasRest x) (sym (front rest)) (goes_on o h (take k piece) feed),
+  )
+    where
+      front : (rest : List ℕ) → take most_bytes (bytes ++ piece ++ rest) ≡ bytes ++ take k piece
+      front rest =
+          ap (λ (x : List ℕ). take most_bytes x) (append_assoc bytes piece rest) ∙
+          (ap (λ i. take i (bytes ++ (piece ++ rest))) (sym most) ∙
+          (take-append-add bytes (piece ++ rest) k ∙ ap (λ (x : List ℕ). bytes ++ x) (take-append-le k piece rest (omega arith))))
+
   -- There may follow too many,
   too_long : (o : Option Progress) → Parts text kept o line long bytes → (k : ℕ) → length bytes + k ≡ most_bytes → HasFault (bytes ++ replicate (k + 1) 0) faults.TooMany
   too_long o h k most =
-      let n : length (bytes ++ replicate (k + 1) 0) ≡ length bytes + (k + 1) = length-append bytes (replicate (k + 1) 0) ∙ ap (λ i. length bytes + i) (length-replicate (k + 1) 0) in
-      let t : take most_bytes (bytes ++ replicate (k + 1) 0) ≡ bytes ++ take k (replicate (k + 1) 0) =
-      ap (λ i. take i (bytes ++ replicate (k + 1) 0)) (sym most) ∙ take-append-add bytes (replicate (k + 1) 0) k in
-      inr (omega arith, subst (λ (x : List ℕ). NoFeed x ⊎ HasRest x) (sym t) (goes_on o h (take k (replicate (k + 1) 0)) (feed_taken k _ (zeros_feed (k + 1)))))
+      let n : length (replicate {A = ℕ} (k + 1) 0) ≡ k + 1 = length-replicate (k + 1) 0 in
+      subst (λ (x : List ℕ). HasFault x faults.TooMany) (append-nil (bytes ++ replicate (k + 1) 0))
+      (full o h k (replicate (k + 1) 0) most (omega arith) (feed_taken k _ (zeros_feed (k + 1))) [])
 
   -- or nothing.
   other_end : (p : Progress) → Parts text kept (Some p) line long bytes → length bytes ≤ most_bytes → HasFault bytes faults.TooMany → ⊥
@@ -293,18 +306,3 @@ no_feed_more bytes n h front ne = rw (take_more bytes n 0 h) (no_feed_both (take
 pub with_feed : (before bytes : List ℕ) (n : ℕ) → n < length bytes → get_or bytes n 0 ≡ 10 → before ++ take n bytes ++ 10 ∷ [] ≡ before ++ take (n + 1) bytes
 with_feed before bytes n h e = append_assoc before (take n bytes) (10 ∷ []) ∙
     ap (λ (x : List ℕ). before ++ x) (ap (λ (b : ℕ). take n bytes ++ b ∷ []) (sym e) ∙ sym (take_more bytes n 0 h))
-
--- More bytes come than are read, and none of them is a line feed.
-pub too_many : (kept : Packed) (text line bytes piece : List ℕ) (progress : Option Progress) (long : Bool) (k : ℕ) → Parts text kept progress line long bytes →
-    NoFeed piece → length bytes + k ≡ most_bytes → k < length piece → Refuses (bytes ++ piece) faults.TooMany
-too_many kept text line bytes piece progress long k h feed most more = λ rest. inr (
-  (let a : length (bytes ++ piece ++ rest) ≡ length (bytes ++ piece) + length rest = length-append (bytes ++ piece) rest in
-      let b : length (bytes ++ piece) ≡ length bytes + length piece = length-append bytes piece in omega arith),
-  subst (λ (x : List ℕ). NoFeed x ⊎ HasRest x) (sym (front rest)) (goes_on kept text line bytes long progress h (take k piece) (feed_taken k piece feed)),
-)
-  where
-    front : (rest : List ℕ) → take most_bytes (bytes ++ piece ++ rest) ≡ bytes ++ take k piece
-    front rest =
-        ap (λ (x : List ℕ). take most_bytes x) (append_assoc bytes piece rest) ∙
-        (ap (λ i. take i (bytes ++ (piece ++ rest))) (sym most) ∙
-        (take-append-add bytes (piece ++ rest) k ∙ ap (λ (x : List ℕ). bytes ++ x) (take-append-le k piece rest (omega arith))))

@@ -236,36 +236,32 @@ pub not_empty : (line : List ℕ) → false ≡ (length line == 0) → line ≡ 
 not_empty line e f = true≢false (sym (eq-eqb (length line) 0 (ap length f)) ∙ sym e)
 
 -- The certificate that is kept.
-pub whole_kept : (kept : Packed) (text : List ℕ) (o : Option Progress) (p : Progress) (v : Version) → v ≡ p.version → o ≡ Some p →
-    HasRead o text kept → ((before : List Line) → Tracks p before → any is_end before ≡ true) → IsWhole v kept
-whole_kept kept text o p v same is h ended =
+pub whole_kept : (kept : Packed) (text : List ℕ) (o : Option Progress) (p : Progress) → o ≡ Some p → HasRead o text kept → p.ended ≡ true →
+    IsWhole p.version kept
+whole_kept kept text o p is h done =
     let g : Reached p text kept = let z : HasRead (Some p) text kept = rw is at h in z in
-    let e : Ended p.version g.before = ended_last p.version g.before g.order (ended g.before g.tracks) in
-    whole v kept (rw (same, g.keeps) e.order) (rw g.keeps e.no_end)
+    let e : Ended p.version g.before = ended_last p.version g.before g.order (sym g.tracks.others.ended ∙ done) in
+    whole p.version kept (rw g.keeps e.order) (rw g.keeps e.no_end)
 
-pub whole_parsed : (kept : Packed) (text line bytes : List ℕ) (o : Option Progress) (p : Progress) (long : Bool) (v : Version) →
-    v ≡ p.version → o ≡ Some p → ((before : List Line) → Tracks p before → any is_end before ≡ true) →
-    IsWhole v kept → Parts text kept o line long bytes → long ≡ false → line ≡ [] → length bytes ≤ most_bytes →
-    IsParsed bytes (record { version = v; lines = kept })
-whole_parsed kept text line bytes o p long v same is ended w h short none few =
+pub whole_parsed : (kept : Packed) (text line bytes : List ℕ) (o : Option Progress) (p : Progress) (long : Bool) → o ≡ Some p → p.ended ≡ true →
+    IsWhole p.version kept → Parts text kept o line long bytes → long ≡ false → line ≡ [] → length bytes ≤ most_bytes →
+    IsParsed bytes (record { version = p.version; lines = kept })
+whole_parsed kept text line bytes o p long is done w h short none few =
     record {
-      found = all ∙ (sym (ap (front v) lines) ∙
-          (sym (text_of_gathered v (said_lines kept ++ End ∷ []) (rw lines order) (rw lines has_end)) ∙ ap spelled (gathered_end v (said_lines kept) w.order w.no_end)));
-      lines = gathered_formed v (said_lines kept) w.order;
-      is_text = record { lines = g.before; order = order; ended = has_end; text = all; few = few };
+      found = all ∙ (sym (ap (front p.version) lines) ∙
+          (sym (text_of_gathered p.version (said_lines kept ++ End ∷ []) (rw lines g.order) (rw lines has_end)) ∙ ap spelled (gathered_end p.version (said_lines kept) w.order w.no_end)));
+      lines = gathered_formed p.version (said_lines kept) w.order;
+      is_text = record { lines = g.before; order = g.order; ended = has_end; text = all; few = few };
     }
   where
     g : Reached p text kept
     g = let z : HasRead (Some p) text kept = rw is at h.read in z
 
-    order : AreInOrder v g.before
-    order = rw same g.order
-
     has_end : any is_end g.before ≡ true
-    has_end = ended g.before g.tracks
+    has_end = sym g.tracks.others.ended ∙ done
 
-    all : bytes ≡ front v g.before
-    all = h.split ∙ (ap (λ (x : List ℕ). text ++ x) (sym (h.same short) ∙ none) ∙ (append-nil text ∙ (g.is ∙ ap (λ (x : Version). front x g.before) (sym same))))
+    all : bytes ≡ front p.version g.before
+    all = h.split ∙ (ap (λ (x : List ℕ). text ++ x) (sym (h.same short) ∙ none) ∙ (append-nil text ∙ g.is))
 
     lines : newest_first [] (said_lines kept ++ End ∷ []) ≡ g.before
     lines =

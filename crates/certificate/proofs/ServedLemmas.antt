@@ -16,9 +16,8 @@ use Rattle.certificate.specs.Packed.{Packed}
 use Rattle.certificate.specs.Order.{any, is_end}
 use Rattle.certificate.specs.Faults.{most_bytes, NoFeed, IsText, HasRest, HasFault, AsksForMemory}
 use Rattle.certificate.specs.Kept.{Kept, meaning}
-use Rattle.certificate.specs.Parser.{Parts, Seen, IsSmall, Refuses, IsParsed}
+use Rattle.certificate.specs.Parser.{CameTo, Told, IsAnswered, Serves, Parts, Seen, IsSmall, Refuses, IsParsed}
 use Rattle.certificate.specs.Serving.{Settles, IsUnanswered, is_read_fault, failed_to_read}
-use Rattle.certificate.specs.Served.{CameTo, Told, IsAnswered, Serves}
 use Rattle.certificate.proofs.LengthLemmas.{no_feed_both, feed_taken}
 use Rattle.certificate.proofs.OneFaultLemmas.{no_fault, one_fault}
 use Rattle.certificate.proofs.ParserLemmas.{rest_of}

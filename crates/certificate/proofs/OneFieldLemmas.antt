@@ -13,7 +13,7 @@ use Rattle.certificate.specs.Packed.{set_of_runs, StandApart}
 use Rattle.certificate.proofs.ApartLemmas.{more_text, runs_text, run_is}
 use Rattle.certificate.proofs.SetLemmas.{by_words, empty_text}
 use Rattle.certificate.proofs.RunLemmas.{first_digit, no_dash, no_comma}
-use Rattle.certificate.proofs.DigitLemmas.{digit_at, digits_from, from_more, from_none, other_digit, digit_first, all_from, no_offsets, some_offsets, by_offsets}
+use Rattle.certificate.proofs.DigitLemmas.{digit_at, digits_from, from_more, from_none, other_digit, all_from, no_offsets, some_offsets, by_offsets}
 
 pub word_one : (a b : ℕ) (x y : List ℕ) → a < 4096 → b < 4096 → octal_text a ++ x ≡ octal_text b ++ y → (a ≡ b) × (x ≡ y)
 word_one a b x y f g e =
@@ -116,10 +116,10 @@ digits_from_one (suc k) n s t x y dx dy e = elim (cases_Bool (s n)) [
     | inl g ↦ (
         let q : (48 + n) ∷ (digits_from k (n + 1) s ++ x) ≡ (48 + n) ∷ (digits_from k (n + 1) t ++ y) = rw (at_digit s n f, at_digit t n g) at m in
         both (f ∙ sym g) (digits_from_one k (n + 1) s t x y dx dy (cc)))
-    | inr g ↦ absurd (other_digit k (n + 1) n t y (digits_from k (n + 1) s ++ x) dy (omega arith) (sym (rw (at_digit s n f, no_digit t n g) at m)))
+    | inr g ↦ absurd (other_digit k (n + 1) (48 + n) t y (digits_from k (n + 1) s ++ x) dy (omega arith) (omega arith) (sym (rw (at_digit s n f, no_digit t n g) at m)))
   ]
   | inr f ↦ elim (cases_Bool (t n)) [
-    | inl g ↦ absurd (other_digit k (n + 1) n s x (digits_from k (n + 1) t ++ y) dx (omega arith) (rw (no_digit s n f, at_digit t n g) at m))
+    | inl g ↦ absurd (other_digit k (n + 1) (48 + n) s x (digits_from k (n + 1) t ++ y) dx (omega arith) (omega arith) (rw (no_digit s n f, at_digit t n g) at m))
     | inr g ↦ both (f ∙ sym g) (digits_from_one k (n + 1) s t x y dx dy (rw (no_digit s n f, no_digit t n g) at m))
   ]
 ]
@@ -147,10 +147,10 @@ pub offsets_one : (s t : Words) (x y : List ℕ) → EndsField x → EndsField y
 offsets_one s t x y dx dy e = elim (by_offsets s) [
   | inl f ↦ elim (by_offsets t) [
     | inl g ↦ digits_one 8 s t x y dx dy (rw (some_offsets s f, some_offsets t g) at e)
-    | inr g ↦ absurd (digit_first 8 0 s x y dx (rw (some_offsets s f, all_from 8 s, no_offsets t g) at e))
+    | inr g ↦ absurd (other_digit 8 0 45 s x y dx (omega arith) (omega arith) (rw (some_offsets s f, all_from 8 s, no_offsets t g) at e))
   ]
   | inr f ↦ elim (by_offsets t) [
-    | inl g ↦ absurd (digit_first 8 0 t y x dy (sym (rw (no_offsets s f, some_offsets t g, all_from 8 t) at e)))
+    | inl g ↦ absurd (other_digit 8 0 45 t y x dy (omega arith) (omega arith) (sym (rw (no_offsets s f, some_offsets t g, all_from 8 t) at e)))
     | inr g ↦ (λ v p. f v p ∙ sym (g v p), (let z : 45 ∷ x ≡ 45 ∷ y = rw (no_offsets s f, no_offsets t g) at e in cc))
   ]
 ]

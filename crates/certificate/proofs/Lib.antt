@@ -1,7 +1,6 @@
 pub mod TextLemmas
 pub mod ApartLemmas
 pub mod SetLemmas
-pub mod FieldsLemmas
 pub mod RunLemmas
 pub mod DigitLemmas
 pub mod LineLemmas
@@ -28,6 +27,5 @@ pub mod FactTextLemmas
 pub mod ReadLemmas
 pub mod ServedLemmas
 pub mod AddingLemmas
-mod ReadBackLemmas
 pub mod DecideLemmas
 mod AnswerLemmas

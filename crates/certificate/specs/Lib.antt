@@ -10,7 +10,6 @@ pub mod Progress
 pub mod Faults
 pub mod Parser
 pub mod Serving
-pub mod Served
 pub mod Gathered
 pub mod Packed
 pub mod Found

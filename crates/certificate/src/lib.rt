@@ -326,23 +326,27 @@ pub fn sample_law()
 
 /// The text of a certificate is its first line and then the lines of its routines, facts, exits and
 /// of the end, in this order, each with a line feed.
+#[tactic(auto, using(crate::proofs::TextOrderLemmas::text_law))]
 pub fn text_law()
     ensures { TextLaw }
 {}
 
 /// A text has one meaning: lines of one text say the same, and certificates have one text exactly
 /// where they say the same.
+#[tactic(auto, using(crate::proofs::SameTextLemmas::spelling_law))]
 pub fn spelling_law()
     ensures { SpellingLaw }
 {}
 
 /// Certificates that say the same line by line claim the same of each routine, address and exit.
+#[tactic(auto, using(crate::proofs::SameMeaningLemmas::meaning_law))]
 pub fn meaning_law()
     ensures { MeaningLaw }
 {}
 
 /// The text of a certificate's lines is a text of lines in order, unless it's longer than what is
 /// read, and each text of lines in order is a certificate's.
+#[tactic(auto, using(crate::proofs::FromOrderLemmas::reading_law))]
 pub fn reading_law()
     ensures { ReadingLaw }
 {}
@@ -354,6 +358,7 @@ pub fn read_back_law()
 {}
 
 /// A certificate's text has no fault, no text has two, and each text is a certificate's or has one.
+#[tactic(auto, using(crate::proofs::AnswerLemmas::fault_law))]
 pub fn fault_law()
     ensures { FaultLaw }
 {}

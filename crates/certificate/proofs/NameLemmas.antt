@@ -10,9 +10,9 @@ use Rattle.certificate.specs.Packed.{Packed, said_lines}
 use Rattle.certificate.specs.Reading.{Each, has_routine, has_fact_in, has_exit_in}
 use Rattle.certificate.specs.Spelling.{Line, RoutineIs, FactIs, ExitIs, End}
 use Rattle.certificate.specs.Line.{IsLine}
-use Rattle.certificate.specs.Order.{is_detail, place}
+use Rattle.certificate.specs.Order.{is_detail, place, is_routine, has_details}
 use Rattle.certificate.specs.Gathered.{routines_of, facts_of, exits_of}
-use Rattle.certificate.specs.Found.{from_place, IsWhole, IsNextPlace, begins_routine, begins_fact, begins_exit}
+use Rattle.certificate.specs.Found.{from_place, IsWhole, IsNextPlace, begins}
 use Rattle.certificate.proofs.ReaderLemmas.{formed, routine_claims, fact_claims, exit_claims}
 
 -- where a line has the place of a routine, that of a fact or that of an exit, it is one
@@ -33,16 +33,13 @@ line_at v (l ∷ ls) p h some = go (line_at v ls p h.1) (is_detail l) refl some
     ]
 
 kind_at : (v : Version) (p : ℕ) (ls : List Line) → IsAt v p ls →
-    (p < 4096 → begins_routine ls ≡ true) × (4096 ≤ p → p < 8192 → begins_fact ls ≡ true) × (8192 ≤ p → p < 40960 → begins_exit ls ≡ true)
+    (p < 4096 → begins is_routine ls ≡ true) × (4096 ≤ p → p < 40960 → begins has_details ls ≡ true)
 kind_at v p [] h = absurd h
 kind_at v p (RoutineIs r ∷ ls) h =
-    let b : r.entry < 4096 = h.0.entry in let e : r.entry ≡ p = h.2 in (λ s. refl, λ l s. absurd (omega arith), λ l s. absurd (omega arith))
-kind_at v p (FactIs a r m ∷ ls) h =
-    let b : a < 4096 = h.0.0 in let e : 4096 + a ≡ p = h.2 in (λ s. absurd (omega arith), λ l s. refl, λ l s. absurd (omega arith))
-kind_at v p (ExitIs x o r ∷ ls) h =
-    let e : 8192 + (8 * x + o) ≡ p = h.2 in (λ s. absurd (omega arith), λ l s. absurd (omega arith), λ l s. refl)
-kind_at v p (End ∷ ls) h =
-    let e : 40960 ≡ p = h.2 in (λ s. absurd (omega arith), λ l s. absurd (omega arith), λ l s. absurd (omega arith))
+    let b : r.entry < 4096 = h.0.entry in let e : r.entry ≡ p = h.2 in (λ s. refl, λ l s. absurd (omega arith))
+kind_at v p (FactIs a r m ∷ ls) h = let e : 4096 + a ≡ p = h.2 in (λ s. absurd (omega arith), λ l s. refl)
+kind_at v p (ExitIs x o r ∷ ls) h = let e : 8192 + (8 * x + o) ≡ p = h.2 in (λ s. absurd (omega arith), λ l s. refl)
+kind_at v p (End ∷ ls) h = let e : 40960 ≡ p = h.2 in (λ s. absurd (omega arith), λ l s. absurd (omega arith))
 kind_at v p (l ∷ ls) h = absurd (true≢false h.1)
 
 -- a line at the place of a routine says that there is one, and without a line there is none
@@ -53,7 +50,7 @@ listed_at v k e w small some =
 
 not_listed : (v : Version) (k : Packed) (e : ℕ) → IsWhole v k → e < 4096 → from_place e (said_lines k) ≡ [] →
     has_routine (routines_of (said_lines k)) e ≡ false
-not_listed v k e w small none = sym (routine_claims v k e _ w small refl).0 ∙ ap begins_routine none
+not_listed v k e w small none = sym (routine_claims v k e _ w small refl).0 ∙ ap (begins is_routine) none
 
 -- and one at the place of an exit likewise
 exit_at : (v : Version) (k : Packed) (e x : ℕ) → IsWhole v k → e < 4096 → 8192 + 8 * e ≤ x → x < 8192 + 8 * e + 8 →
@@ -61,13 +58,13 @@ exit_at : (v : Version) (k : Packed) (e x : ℕ) → IsWhole v k → e < 4096 �
 exit_at v k e x w small low high some =
     let o : ℕ = x - (8192 + 8 * e) in
     let same : x ≡ 8192 + (8 * e + o) = omega arith in
-    let there : begins_exit (from_place x (said_lines k)) ≡ true = (kind_at v x _ (line_at v (said_lines k) x (formed v k w) some)).2 (omega arith) (omega arith) in
+    let there : begins has_details (from_place x (said_lines k)) ≡ true = (kind_at v x _ (line_at v (said_lines k) x (formed v k w) some)).1 (omega arith) (omega arith) in
     some_from 8 (has_exit_in (exits_of (said_lines k)) e) o (omega arith) (sym (exit_claims v k e o x _ w small (omega arith) same refl).0 ∙ there)
 
 no_exits : (v : Version) (k : Packed) (e : ℕ) → IsWhole v k → e < 4096 →
     ((p : ℕ) → 8192 + 8 * e ≤ p → p < 8192 + 8 * e + 8 → from_place p (said_lines k) ≡ []) → some_below 8 (has_exit_in (exits_of (said_lines k)) e) ≡ false
 no_exits v k e w small none = some_none_of 8 (has_exit_in (exits_of (said_lines k)) e)
-    (λ o few. sym (exit_claims v k e o (8192 + (8 * e + o)) _ w small few refl refl).0 ∙ ap begins_exit (none (8192 + (8 * e + o)) (omega arith) (omega (arith, few))))
+    (λ o few. sym (exit_claims v k e o (8192 + (8 * e + o)) _ w small few refl refl).0 ∙ ap (begins has_details) (none (8192 + (8 * e + o)) (omega arith) (omega (arith, few))))
 
 -- whether a routine is named is told by the next place from that of its entry on, and by that from its first exit's on
 abbrev Names : Packed → ℕ → Bool
@@ -135,7 +132,7 @@ module _ (v : Version) (k : Packed) (from r f x g y least : ℕ) (w : IsWhole v 
       let e : least ≤ g = l.under_f in
       let i : least ≤ y = l.under_x in
       let no_fact : has_fact_in (facts_of (said_lines k)) a ≡ false =
-      sym (fact_claims v k a _ w small refl).0 ∙ ap begins_fact (fact.before (4096 + a) (omega arith) (omega arith)) in
+      sym (fact_claims v k a _ w small refl).0 ∙ ap (begins has_details) (fact.before (4096 + a) (omega arith) (omega arith)) in
       rw (
         not_listed v k a w small (routine.before a late (omega arith)),
         no_fact,

@@ -3,13 +3,16 @@ use Rattle.std.proofs.Common.{◌≡◌, ℕ, ◌+◌, ◌*◌, ◌<◌, ◌≤�
 use Rattle.std.specs.Prelude.{if◌then◌else◌, Option, Some, None, IfSome}
 use Rattle.std.proofs.lemmas.Bool.{ne_eqb}
 use Rattle.std.proofs.lemmas.Bool.Decides.{eqb_tells}
+use Rattle.wordset.specs.Words.{Words, everything}
+use Rattle.domain.specs.Statements.{Statement, fact_of}
 use Rattle.certificate.specs.declared.Version.{Version}
 use Rattle.certificate.specs.Packed.{Packed, said_lines}
-use Rattle.certificate.specs.Spelling.{ExitLine, Line, RoutineIs, FactIs, ExitIs, CellIs, EquationIs, End}
+use Rattle.certificate.specs.Spelling.{FactLine, ExitLine, Line, RoutineIs, FactIs, ExitIs, CellIs, EquationIs, End}
 use Rattle.certificate.specs.Reading.{Each, IsFactLine, IsExit, has_routine, has_fact_in, fact_in, has_exit_in, exit_in, statement_in, exit_statement_in}
 use Rattle.certificate.specs.Line.{IsLine}
+use Rattle.certificate.specs.Order.{is_routine, has_details}
 use Rattle.certificate.specs.Gathered.{routines_of, facts_of, exits_of}
-use Rattle.certificate.specs.Found.{from_place, IsWhole, FitUnderFirst, begins_routine, begins_fact, begins_exit, first_fact, first_exit, fact_statement, exit_statement, SaysFirst}
+use Rattle.certificate.specs.Found.{from_place, IsWhole, FitUnderFirst, begins, IsSaid, SaysFirst}
 use Rattle.certificate.proofs.GatherLemmas.{follows, each_formed}
 use Rattle.certificate.proofs.FormLemmas.{gathered_formed}
 
@@ -21,7 +24,7 @@ tests_alike a b c d to from = elim (eqb_tells a b) [
 ]
 
 routines_found : (v : Version) (ls : List Line) (e : ℕ) → Each (IsLine v) ls → e < 4096 →
-    (has_routine (routines_of ls) e ≡ begins_routine (from_place e ls)) × SaysFirst (routines_of ls) e (from_place e ls)
+    (has_routine (routines_of ls) e ≡ begins is_routine (from_place e ls)) × SaysFirst (routines_of ls) e (from_place e ls)
 routines_found v [] e h b = (refl, tt)
 routines_found v (RoutineIs r ∷ ls) e h b = elim (eqb_tells r.entry e) [
   | inl t ↦ rw t.0 (refl, record { rank = rw t.0 refl; sites = rw t.0 refl; writes = rw t.0 refl })
@@ -29,8 +32,8 @@ routines_found v (RoutineIs r ∷ ls) e h b = elim (eqb_tells r.entry e) [
 ]
   where
     go : (r.entry == e) ≡ false →
-        (has_routine (routines_of ls) e ≡ begins_routine (from_place e ls)) × SaysFirst (routines_of ls) e (from_place e ls) →
-        (has_routine (routines_of (RoutineIs r ∷ ls)) e ≡ begins_routine (from_place e (RoutineIs r ∷ ls))) ×
+        (has_routine (routines_of ls) e ≡ begins is_routine (from_place e ls)) × SaysFirst (routines_of ls) e (from_place e ls) →
+        (has_routine (routines_of (RoutineIs r ∷ ls)) e ≡ begins is_routine (from_place e (RoutineIs r ∷ ls))) ×
         SaysFirst (routines_of (RoutineIs r ∷ ls)) e (from_place e (RoutineIs r ∷ ls))
     go f g = rw f (g.0, later (from_place e ls) g.1)
       where
@@ -44,15 +47,22 @@ routines_found v (CellIs c ∷ ls) e h b = routines_found v ls e h.1 b
 routines_found v (EquationIs q ∷ ls) e h b = routines_found v ls e h.1 b
 routines_found v (End ∷ ls) e h b = rw (ne_eqb 40960 e (λ q. omega arith)) (routines_found v ls e h.1 b)
 
-facts_found : (v : Version) (ls : List Line) (a : ℕ) → Each (IsLine v) ls → a < 4096 →
-    (has_fact_in (facts_of ls) a ≡ begins_fact (from_place (4096 + a) ls)) × (fact_in (facts_of ls) a ≡ first_fact (from_place (4096 + a) ls)) ×
-    (statement_in (facts_of ls) a ≡ fact_statement (from_place (4096 + a) ls))
-facts_found v [] a h b = (refl, refl, refl)
+-- What is found is the fact of an address, or the exit of an entry and an offset.
+abbrev FactFound : List FactLine → ℕ → List Line → Type 0
+FactFound fs a ls = (begins has_details ls ≡ has_fact_in fs a) × ((s : Statement) (offsets : Words) → IsSaid ls s offsets →
+    (fact_of s offsets ≡ fact_in fs a) × (statement_in fs a ≡ Some s))
+
+abbrev ExitFound : List ExitLine → ℕ → ℕ → List Line → Type 0
+ExitFound xs e p ls = (begins has_details ls ≡ has_exit_in xs e p) × ((s : Statement) (offsets : Words) → IsSaid ls s offsets →
+    (fact_of s everything ≡ exit_in xs e p) × (exit_statement_in xs e p ≡ Some s) × ((o : ℕ) → o < 8 → offsets o ≡ true))
+
+facts_found : (v : Version) (ls : List Line) (a : ℕ) → Each (IsLine v) ls → a < 4096 → FactFound (facts_of ls) a (from_place (4096 + a) ls)
+facts_found v [] a h b = (refl, λ s o q. absurd q)
 facts_found v (RoutineIs r ∷ ls) a h b =
     rw (ne_eqb r.entry (4096 + a) (λ q. let z : r.entry < 4096 = h.0.entry in omega arith)) (facts_found v ls a h.1 b)
 facts_found v (FactIs x r m ∷ ls) a h b =
     rw (tests_alike (4096 + x) (4096 + a) x a (λ q. omega arith) (λ q. omega arith)) (elim (eqb_tells x a) [
-      | inl t ↦ rw t.0 (refl, refl, refl)
+      | inl t ↦ rw t.0 (refl, λ s o q. rw (q.0, q.1) (refl, refl))
       | inr t ↦ rw t.0 (facts_found v ls a h.1 b)
     ])
 facts_found v (ExitIs x o r ∷ ls) a h b = rw (ne_eqb (8192 + (8 * x + o)) (4096 + a) (λ q. omega arith)) (facts_found v ls a h.1 b)
@@ -69,28 +79,19 @@ exit_test x o e p h g = elim (eqb_tells x e) [
 ]
 
 exits_found : (v : Version) (ls : List Line) (e p : ℕ) → Each (IsLine v) ls → e < 4096 → p < 8 →
-    (has_exit_in (exits_of ls) e p ≡ begins_exit (from_place (8192 + (8 * e + p)) ls)) ×
-    (exit_in (exits_of ls) e p ≡ first_exit (from_place (8192 + (8 * e + p)) ls)) ×
-    (exit_statement_in (exits_of ls) e p ≡ exit_statement (from_place (8192 + (8 * e + p)) ls))
-exits_found v [] e p h b g = (refl, refl, refl)
+    ExitFound (exits_of ls) e p (from_place (8192 + (8 * e + p)) ls)
+exits_found v [] e p h b g = (refl, λ s o q. absurd q)
 exits_found v (RoutineIs r ∷ ls) e p h b g =
     rw (ne_eqb r.entry (8192 + (8 * e + p)) (λ q. let z : r.entry < 4096 = h.0.entry in omega arith)) (exits_found v ls e p h.1 b g)
 exits_found v (FactIs x r m ∷ ls) e p h b g =
     rw (ne_eqb (4096 + x) (8192 + (8 * e + p)) (λ q. let z : x < 4096 = h.0.0 in omega arith)) (exits_found v ls e p h.1 b g)
-exits_found v (ExitIs x o r ∷ ls) e p h b g =
-    rw (exit_test x o e p h.0.1 g) (go (if x == e then o == p else false) (exits_found v ls e p h.1 b g))
-  where
-    go : (d : Bool) → (has_exit_in (exits_of ls) e p ≡ begins_exit (from_place (8192 + (8 * e + p)) ls)) ×
-        (exit_in (exits_of ls) e p ≡ first_exit (from_place (8192 + (8 * e + p)) ls)) ×
-        (exit_statement_in (exits_of ls) e p ≡ exit_statement (from_place (8192 + (8 * e + p)) ls)) →
-        ((if d then true else has_exit_in (exits_of ls) e p) ≡
-        begins_exit (if d then ExitIs x o r ∷ ls else from_place (8192 + (8 * e + p)) ls)) ×
-        ((if d then first_exit (ExitIs x o r ∷ ls) else exit_in (exits_of ls) e p) ≡
-        first_exit (if d then ExitIs x o r ∷ ls else from_place (8192 + (8 * e + p)) ls)) ×
-        ((if d then exit_statement (ExitIs x o r ∷ ls) else exit_statement_in (exits_of ls) e p) ≡
-        exit_statement (if d then ExitIs x o r ∷ ls else from_place (8192 + (8 * e + p)) ls))
-    go true i = (refl, refl, refl)
-    go false i = i
+exits_found v (ExitIs x o r ∷ ls) e p h b g = rw (exit_test x o e p h.0.1 g) (elim (eqb_tells x e) [
+  | inl t ↦ rw t.0 (elim (eqb_tells o p) [
+    | inl u ↦ rw u.0 (refl, λ s m q. rw q.0 (refl, refl, q.1))
+    | inr u ↦ rw u.0 (exits_found v ls e p h.1 b g)
+  ])
+  | inr t ↦ rw t.0 (exits_found v ls e p h.1 b g)
+])
 exits_found v (CellIs c ∷ ls) e p h b g = exits_found v ls e p h.1 b g
 exits_found v (EquationIs q ∷ ls) e p h b g = exits_found v ls e p h.1 b g
 exits_found v (End ∷ ls) e p h b g = rw (ne_eqb 40960 (8192 + (8 * e + p)) (λ q. omega arith)) (exits_found v ls e p h.1 b g)
@@ -134,23 +135,17 @@ formed v k w = each_formed v [] (said_lines k) (follows v [] (said_lines k) w.or
 
 pub routine_claims : (v : Version) (k : Packed) (e : ℕ) (ls : List Line) → IsWhole v k → e < 4096 →
     ls ≡ from_place e (said_lines k) →
-    (begins_routine ls ≡ has_routine (routines_of (said_lines k)) e) × SaysFirst (routines_of (said_lines k)) e ls
+    (begins is_routine ls ≡ has_routine (routines_of (said_lines k)) e) × SaysFirst (routines_of (said_lines k)) e ls
 routine_claims v k e ls w b at =
     let f = routines_found v (said_lines k) e (formed v k w) b in rw at (sym f.0, f.1)
 
 pub fact_claims : (v : Version) (k : Packed) (a : ℕ) (ls : List Line) → IsWhole v k → a < 4096 →
-    ls ≡ from_place (4096 + a) (said_lines k) →
-    (begins_fact ls ≡ has_fact_in (facts_of (said_lines k)) a) × (first_fact ls ≡ fact_in (facts_of (said_lines k)) a) ×
-    (statement_in (facts_of (said_lines k)) a ≡ fact_statement ls)
-fact_claims v k a ls w b at =
-    let f = facts_found v (said_lines k) a (formed v k w) b in rw at (sym f.0, sym f.1, f.2)
+    ls ≡ from_place (4096 + a) (said_lines k) → FactFound (facts_of (said_lines k)) a ls
+fact_claims v k a ls w b at = rw at (facts_found v (said_lines k) a (formed v k w) b)
 
 pub exit_claims : (v : Version) (k : Packed) (e o p : ℕ) (ls : List Line) → IsWhole v k → e < 4096 → o < 8 →
-    p ≡ 8192 + (8 * e + o) → ls ≡ from_place p (said_lines k) →
-    (begins_exit ls ≡ has_exit_in (exits_of (said_lines k)) e o) × (first_exit ls ≡ exit_in (exits_of (said_lines k)) e o) ×
-    (exit_statement_in (exits_of (said_lines k)) e o ≡ exit_statement ls)
-exit_claims v k e o p ls w b g same at =
-    let f = exits_found v (said_lines k) e o (formed v k w) b g in rw (at, same) (sym f.0, sym f.1, f.2)
+    p ≡ 8192 + (8 * e + o) → ls ≡ from_place p (said_lines k) → ExitFound (exits_of (said_lines k)) e o ls
+exit_claims v k e o p ls w b g same at = rw (at, same) (exits_found v (said_lines k) e o (formed v k w) b g)
 
 pub no_claim : (v : Version) (k : Packed) (e o : ℕ) → IsWhole v k → 8 ≤ o →
     has_exit_in (exits_of (said_lines k)) e o ≡ false

@@ -1,6 +1,6 @@
 //! The lines of a certificate as they are kept, and what is found in them.
 
-ghost use Rattle.std.specs.Prelude.{ℕ, ◌≡◌, ◌+◌, ◌<◌, List, ◌∷◌, ◌++◌, length, map, drop, OnOk, OnErr, IfSome, is_some, true, false};
+ghost use Rattle.std.specs.Prelude.{ℕ, ◌≡◌, ◌+◌, ◌<◌, ◌≤◌, List, ◌∷◌, ◌++◌, length, map, drop, slice_range, OnOk, OnErr, IfSome, is_some, true, false};
 ghost use Rattle.std.specs.Prelude.{is_ok, if◌then◌else◌};
 ghost use Rattle.domain.specs.Meaning.{statement_of, offsets_of, tracked_cells, equation_of};
 ghost use Rattle.certificate.specs.Spelling.{RoutineLine as SaidRoutine, Line as SaidLine, CellIs, EquationIs};
@@ -8,7 +8,7 @@ ghost use Rattle.certificate.specs.Order.{is_end, is_routine, has_details};
 ghost use Rattle.certificate.specs.Adding.{HasRoomUnder};
 ghost use Rattle.certificate.specs.Claimed.{claimed_line};
 ghost use Rattle.certificate.specs.Packed.{Begins, said_at, said_lines, LiesWithin};
-ghost use Rattle.certificate.specs.Found.{Keeps, unended, FitUnderFirst, with_details, IsRoutineOf, begins, IsSaid, SaysFirst};
+ghost use Rattle.certificate.specs.Found.{Keeps, unended, FitUnderFirst, with_details, first_with_details, IsRoutineOf, begins, IsSaid, SaysFirst};
 
 use crate::RoutineClaim;
 use crate::packed::{Claim, PackedLine, PackedLines, Run, add, begin_said, routine_of};
@@ -111,6 +111,26 @@ fn add_details<A: Allocator>(fact: &mut Fact, lines: &PackedLines<A>, start: usi
             return;
         }
     }
+}
+
+/// Where the lines end of which the one at a place is the first, and its cells and equations are the
+/// others; there are none past the last line.
+pub fn end_of<A: Allocator>(lines: &PackedLines<A>, start: usize) -> usize
+    ensures within { result ≤ length (said_lines lines.now) }
+    ensures is { slice_range (said_lines lines.now) start result ≡
+        first_with_details (drop start (said_lines lines.now)) }
+{
+    let count = lines.len();
+    if start >= count {
+        return count;
+    }
+    for at in start + 1..count {
+        let (_runs, line) = lines.line(at);
+        if !line.is_detail() {
+            return at;
+        }
+    }
+    count
 }
 
 /// What the line at a place says of a routine, if there is one and it does.

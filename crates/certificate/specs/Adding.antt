@@ -1,10 +1,21 @@
--- What a line adds to what is said of a fact, and where there is room for it; it serves private contracts.
+-- The line of a claim; what a line adds to what is said of a fact, and where there is room for it. For private contracts.
 use Rattle.std.specs.Prelude.{◌≡◌, ◌+◌, ◌<◌, ◌≤◌, List, [], ◌∷◌, ◌++◌, length}
 use Rattle.domain.specs.Statements.{Statement}
 use Rattle.wordset.specs.Lanes.{words}
 use Rattle.certificate.specs.declared.RoutineClaim.{RoutineClaim}
-use Rattle.certificate.specs.Spelling.{Line, RoutineIs, CellIs, EquationIs}
+use Rattle.certificate.specs.Spelling.{Line, RoutineIs, CellIs, EquationIs, FactIs, ExitIs, registers_of}
 use Rattle.certificate.specs.Gathered.{cells_under, equations_under}
+use Rattle.domain.specs.Meaning.{tracked_of, equation_of, offsets_of, statement_of}
+use Rattle.certificate.specs.declared.packed.Claim.{Claim}
+use Rattle.certificate.specs.declared.packed.Claim.TheVariants as claim
+
+-- The line of a claim, by which it is added.
+abbrev pub claimed_line : Claim → Line
+claimed_line (claim.Routine e n r) = RoutineIs (record { entry = e; rank = n; sites = words r.now.sites; writes = words r.now.writes })
+claimed_line (claim.Fact a f) = FactIs a (registers_of (statement_of f.now)) (offsets_of f.now.offsets)
+claimed_line (claim.Exit e o f) = ExitIs e o (registers_of (statement_of f.now))
+claimed_line (claim.Cell c) = CellIs (tracked_of c.now)
+claimed_line (claim.Equation e) = EquationIs (equation_of e)
 
 -- A statement with the cell or the equation of a line after its own.
 abbrev pub with_line : Statement → Line → Statement

@@ -5,8 +5,7 @@ ghost use Rattle.std.specs.Prelude.{is_ok, if◌then◌else◌};
 ghost use Rattle.domain.specs.Meaning.{statement_of, offsets_of, tracked_cells, equation_of};
 ghost use Rattle.certificate.specs.Spelling.{RoutineLine as SaidRoutine, Line as SaidLine, CellIs, EquationIs};
 ghost use Rattle.certificate.specs.Order.{is_end, is_routine, has_details};
-ghost use Rattle.certificate.specs.Adding.{HasRoomUnder};
-ghost use Rattle.certificate.specs.Claimed.{claimed_line};
+ghost use Rattle.certificate.specs.Adding.{claimed_line, HasRoomUnder};
 ghost use Rattle.certificate.specs.Packed.{Begins, said_at, said_lines, LiesWithin};
 ghost use Rattle.certificate.specs.Found.{Keeps, unended, FitUnderFirst, with_details, first_with_details, IsRoutineOf, begins, IsSaid, SaysFirst};
 

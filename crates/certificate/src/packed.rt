@@ -8,8 +8,7 @@ ghost use Rattle.certificate.specs.Spelling.{registers_of};
 ghost use Rattle.certificate.specs.Order.{is_detail, is_end, is_routine, has_details};
 ghost use Rattle.certificate.specs.Gathered.{stated};
 ghost use Rattle.certificate.specs.Found.{past, last_past, AreRising, IsSought, IsNextPlace, from_place, IsSaid};
-ghost use Rattle.certificate.specs.Adding.{with_line, HasRoomFor, IsRoutineLine};
-ghost use Rattle.certificate.specs.Claimed.{claimed_line};
+ghost use Rattle.certificate.specs.Adding.{claimed_line, with_line, HasRoomFor, IsRoutineLine};
 ghost use Rattle.certificate.specs.Spelled.{IsLastOf};
 ghost use Rattle.certificate.specs.Packed.{Begins, set_of_runs, added, set_at, registers_at, said_at, said_lines, StandApart, AreWithin, LiesWithin, AreLaid, IsPacked};
 

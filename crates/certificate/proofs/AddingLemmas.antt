@@ -1,18 +1,16 @@
 -- Lines that add to what is said of a fact, and the line of the fact itself.
-use Rattle.std.proofs.Common.{◌≡◌, ℕ, suc, ◌+◌, ◌≤◌, true, false, List, [], ◌∷◌, ◌++◌, length, get_or, drop, Option, Some, None, refl, ap, ◌∙◌, sym, arith, append_assoc, append-nil, length-append}
-use Rattle.std.specs.Prelude.{IfSome}
+use Rattle.std.proofs.Common.{◌≡◌, ℕ, suc, ◌+◌, ◌≤◌, true, false, List, [], ◌∷◌, ◌++◌, length, get_or, drop, refl, ap, ◌∙◌, sym, arith, append_assoc, append-nil, length-append}
 use Rattle.std.proofs.lemmas.Bool.{true≢false}
 use Rattle.wordset.specs.Words.{Words, between}
 use Rattle.domain.specs.Facts.{Equation}
 use Rattle.domain.specs.Statements.{TrackedCell, Statement}
-use Rattle.certificate.specs.declared.RoutineClaim.{RoutineClaim}
-use Rattle.certificate.specs.Spelling.{RoutineLine, Line, RoutineIs, FactIs, ExitIs, CellIs, EquationIs}
+use Rattle.certificate.specs.Spelling.{Line, FactIs, ExitIs, CellIs, EquationIs}
 use Rattle.certificate.specs.declared.packed.Run.{Run}
 use Rattle.certificate.specs.Order.{is_detail}
 use Rattle.certificate.specs.Gathered.{cells_under, equations_under}
 use Rattle.certificate.specs.Packed.{set_of_runs}
-use Rattle.certificate.specs.Found.{with_details, FitUnder, FitUnderFirst, IsSaid, SaysFirst, IsRoutineOf}
-use Rattle.certificate.specs.Adding.{with_line, HasRoomFor, HasRoomUnder, IsRoutineLine}
+use Rattle.certificate.specs.Found.{with_details, FitUnder, FitUnderFirst, IsSaid}
+use Rattle.certificate.specs.Adding.{with_line, HasRoomFor, HasRoomUnder}
 use Rattle.std.specs.Prelude.{◌<◌, ◌-◌, ◌&&◌, take, slice_range}
 use Rattle.std.proofs.lemmas.List.{drop_more}
 use Rattle.wordset.proofs.SetLemmas.{equal_words, all_everything}
@@ -102,14 +100,3 @@ pub said_there : (lines : List Line) (i : ℕ) (l : Line) (s new : Statement) (o
 said_there lines i (FactIs a r m) s new offsets now e is done same = rw (e, same) (rw (done, is.0) refl, is.1)
 said_there lines i (ExitIs x o r) s new offsets now e is done same = rw (e, same) (rw (done, is.0) refl, is.1)
 said_there lines i l s new offsets now e is done same = absurd is
-
--- A routine's line at a place.
-is_routine : (l : Line) (ls : List Line) (given : RoutineClaim) (rs : List RoutineLine) (e : ℕ) → IsRoutineLine l given → SaysFirst rs e (l ∷ ls) → IsRoutineOf rs e given
-is_routine (RoutineIs r) ls given rs e h says =
-    record { rank = h.0 ∙ sym says.rank; sites = h.1 ∙ sym says.sites; writes = h.2 ∙ sym says.writes }
-is_routine l ls given rs e h says = absurd h
-
-pub routine_there : (lines : List Line) (i : ℕ) (l : Line) (given : Option RoutineClaim) (rs : List RoutineLine) (e : ℕ) → drop i lines ≡ l ∷ drop (i + 1) lines →
-    IfSome given (λ r. IsRoutineLine l r) → SaysFirst rs e (drop i lines) → IfSome given (λ r. IsRoutineOf rs e r)
-routine_there lines i l None rs e is h says = tt
-routine_there lines i l (Some r) rs e is h says = is_routine l (drop (i + 1) lines) r rs e h (rw is at says)

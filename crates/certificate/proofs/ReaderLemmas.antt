@@ -1,18 +1,20 @@
 -- What the lines at a place say is what the certificate claims; and places tell where something is claimed.
 use Rattle.std.proofs.Common.{◌≡◌, ℕ, ◌+◌, ◌*◌, ◌<◌, ◌≤◌, ◌==◌, Bool, true, false, List, [], ◌∷◌, refl, sym, inl, inr, arith, ◌-◌, ltb, ap, ◌∙◌}
-use Rattle.std.specs.Prelude.{if◌then◌else◌, Option, Some, None, IfSome, ◌||◌, ◌⊎◌, min}
+use Rattle.std.specs.Prelude.{if◌then◌else◌, Some, ◌||◌, ◌⊎◌, min}
 use Rattle.std.proofs.lemmas.Bool.{ne_eqb, true≢false, cases_lt, lt-ltb, le-ltb}
 use Rattle.std.proofs.lemmas.Bool.Decides.{eqb_tells}
 use Rattle.wordset.specs.Words.{Words, everything, some_below, IsFirstFrom, HasNoneFrom}
 use Rattle.domain.specs.Statements.{Statement, fact_of}
 use Rattle.certificate.specs.declared.Version.{Version}
 use Rattle.certificate.specs.Packed.{Packed, said_lines}
-use Rattle.certificate.specs.Spelling.{FactLine, ExitLine, Line, RoutineIs, FactIs, ExitIs, CellIs, EquationIs, End}
+use Rattle.certificate.specs.Spelling.{RoutineLine, FactLine, ExitLine, Line, RoutineIs, FactIs, ExitIs, CellIs, EquationIs, End}
 use Rattle.certificate.specs.Reading.{Each, IsFactLine, IsExit, has_routine, has_fact_in, fact_in, has_exit_in, exit_in, statement_in, exit_statement_in}
 use Rattle.certificate.specs.Line.{IsLine}
 use Rattle.certificate.specs.Order.{is_routine, has_details, is_detail, place}
 use Rattle.certificate.specs.Gathered.{routines_of, facts_of, exits_of}
-use Rattle.certificate.specs.Found.{from_place, IsWhole, FitUnderFirst, begins, IsSaid, SaysFirst, IsNextPlace}
+use Rattle.certificate.specs.Found.{from_place, IsWhole, FitUnderFirst, begins, IsSaid, IsRoutineOf, IsNextPlace}
+use Rattle.certificate.specs.Adding.{BeginsRoutine}
+use Rattle.certificate.specs.declared.RoutineClaim.{RoutineClaim}
 use Rattle.certificate.proofs.GatherLemmas.{follows, each_formed}
 use Rattle.certificate.proofs.FormLemmas.{gathered_formed}
 use Rattle.wordset.proofs.Tests.{some_from, some_none_of, or_left, or_right}
@@ -24,24 +26,20 @@ tests_alike a b c d to from = elim (eqb_tells a b) [
   | inr t ↦ elim (eqb_tells c d) [ inl u ↦ absurd (t.1 (from u.1)) | inr u ↦ rw (t.0, u.0) refl ]
 ]
 
-routines_found : (v : Version) (ls : List Line) (e : ℕ) → Each (IsLine v) ls → e < 4096 →
-    (has_routine (routines_of ls) e ≡ begins is_routine (from_place e ls)) × SaysFirst (routines_of ls) e (from_place e ls)
-routines_found v [] e h b = (refl, tt)
+-- What is found is the routine of an entry.
+abbrev RoutineFound : List RoutineLine → ℕ → List Line → Type 0
+RoutineFound rs e ls = (begins is_routine ls ≡ has_routine rs e) × ((given : RoutineClaim) → BeginsRoutine ls given → IsRoutineOf rs e given)
+
+routines_found : (v : Version) (ls : List Line) (e : ℕ) → Each (IsLine v) ls → e < 4096 → RoutineFound (routines_of ls) e (from_place e ls)
+routines_found v [] e h b = (refl, λ given q. absurd q)
 routines_found v (RoutineIs r ∷ ls) e h b = elim (eqb_tells r.entry e) [
-  | inl t ↦ rw t.0 (refl, record { rank = rw t.0 refl; sites = rw t.0 refl; writes = rw t.0 refl })
-  | inr t ↦ go t.0 (routines_found v ls e h.1 b)
+  | inl t ↦ rw t.0 (refl, λ given q. record { rank = rw t.0 q.0; sites = rw t.0 q.1; writes = rw t.0 q.2 })
+  | inr t ↦ let f = routines_found v ls e h.1 b in rw t.0 (
+    f.0,
+    λ given q.
+        let g = f.1 given q in record { rank = rw t.0 g.rank; sites = rw t.0 g.sites; writes = rw t.0 g.writes },
+  )
 ]
-  where
-    go : (r.entry == e) ≡ false →
-        (has_routine (routines_of ls) e ≡ begins is_routine (from_place e ls)) × SaysFirst (routines_of ls) e (from_place e ls) →
-        (has_routine (routines_of (RoutineIs r ∷ ls)) e ≡ begins is_routine (from_place e (RoutineIs r ∷ ls))) ×
-        SaysFirst (routines_of (RoutineIs r ∷ ls)) e (from_place e (RoutineIs r ∷ ls))
-    go f g = rw f (g.0, later (from_place e ls) g.1)
-      where
-        later : (rest : List Line) → SaysFirst (routines_of ls) e rest → SaysFirst (r ∷ routines_of ls) e rest
-        later (RoutineIs q ∷ rest) s = record { rank = rw f s.rank; sites = rw f s.sites; writes = rw f s.writes }
-        later [] s = tt
-        later (l ∷ rest) s = tt
 routines_found v (FactIs a r m ∷ ls) e h b = rw (ne_eqb (4096 + a) e (λ q. omega arith)) (routines_found v ls e h.1 b)
 routines_found v (ExitIs x o r ∷ ls) e h b = rw (ne_eqb (8192 + (8 * x + o)) e (λ q. omega arith)) (routines_found v ls e h.1 b)
 routines_found v (CellIs c ∷ ls) e h b = routines_found v ls e h.1 b
@@ -125,20 +123,13 @@ fits_first v (CellIs c ∷ ls) p f x = fits_first v ls p f x
 fits_first v (EquationIs q ∷ ls) p f x = fits_first v ls p f x
 fits_first v (End ∷ ls) p f x = fits_picked (40960 == p) (End ∷ ls) (from_place p ls) tt (fits_first v ls p f x)
 
--- What follows for an answer.
-pub told : {X : Type 0} (o : Option X) (P Q : X → Type 0) → ((x : X) → P x → Q x) → IfSome o P → IfSome o Q
-told (Some x) P Q to h = to x h
-told None P Q to h = tt
-
 -- The lines that are kept of a certificate.
 pub formed : (v : Version) (k : Packed) → IsWhole v k → Each (IsLine v) (said_lines k)
 formed v k w = each_formed v [] (said_lines k) (follows v [] (said_lines k) w.order)
 
 pub routine_claims : (v : Version) (k : Packed) (e : ℕ) (ls : List Line) → IsWhole v k → e < 4096 →
-    ls ≡ from_place e (said_lines k) →
-    (begins is_routine ls ≡ has_routine (routines_of (said_lines k)) e) × SaysFirst (routines_of (said_lines k)) e ls
-routine_claims v k e ls w b at =
-    let f = routines_found v (said_lines k) e (formed v k w) b in rw at (sym f.0, f.1)
+    ls ≡ from_place e (said_lines k) → RoutineFound (routines_of (said_lines k)) e ls
+routine_claims v k e ls w b at = rw at (routines_found v (said_lines k) e (formed v k w) b)
 
 pub fact_claims : (v : Version) (k : Packed) (a : ℕ) (ls : List Line) → IsWhole v k → a < 4096 →
     ls ≡ from_place (4096 + a) (said_lines k) → FactFound (facts_of (said_lines k)) a ls

@@ -37,3 +37,8 @@ HasRoomUnder s ls = (length s.cells + length (cells_under ls) ≤ 64) × (length
 abbrev pub IsRoutineLine : Line → RoutineClaim → Type 0
 IsRoutineLine (RoutineIs r) given = (given.rank ≡ r.rank) × (words given.sites ≡ r.sites) × (words given.writes ≡ r.writes)
 IsRoutineLine _ given = ⊥
+
+-- So is the first line.
+abbrev pub BeginsRoutine : List Line → RoutineClaim → Type 0
+BeginsRoutine [] given = ⊥
+BeginsRoutine (l ∷ ls) given = IsRoutineLine l given

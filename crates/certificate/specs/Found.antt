@@ -8,7 +8,7 @@ use Rattle.certificate.specs.declared.Version.{Version}
 use Rattle.certificate.specs.declared.RoutineClaim.{RoutineClaim}
 use Rattle.certificate.specs.declared.packed.Run.{Run}
 use Rattle.certificate.specs.declared.packed.KeptLine.{KeptLine}
-use Rattle.certificate.specs.Spelling.{RoutineLine, Line, RoutineIs, FactIs, ExitIs, End}
+use Rattle.certificate.specs.Spelling.{RoutineLine, Line, FactIs, ExitIs, End}
 use Rattle.certificate.specs.Reading.{rank_in, sites_in, writes_in}
 use Rattle.certificate.specs.Order.{is_detail, place, any, is_end, details_of_last, AreInOrder}
 use Rattle.certificate.specs.Packed.{Packed, said_at, said_lines, IsKept}
@@ -109,17 +109,6 @@ pub record IsRoutineOf (rs : List RoutineLine) (e : ℕ) (r : RoutineClaim) : Ty
   pub rank : r.rank ≡ rank_in rs e
   pub sites : words r.sites ≡ sites_in rs e
   pub writes : words r.writes ≡ writes_in rs e
-
--- What the routines say of an entry is what the first line says, if it's a routine's.
-pub record SaysOf (rs : List RoutineLine) (e : ℕ) (r : RoutineLine) : Type 0 where
-  pub rank : rank_in rs e ≡ r.rank
-  pub sites : sites_in rs e ≡ r.sites
-  pub writes : writes_in rs e ≡ r.writes
-
-abbrev pub SaysFirst : List RoutineLine → ℕ → List Line → Type 0
-SaysFirst rs e [] = Unit {0}
-SaysFirst rs e (RoutineIs r ∷ ls) = SaysOf rs e r
-SaysFirst rs e (_ ∷ ls) = Unit {0}
 
 -- The first line with the cells and equations under it.
 abbrev pub first_with_details : List Line → List Line

@@ -1,13 +1,13 @@
 //! The lines of a certificate as they are kept, and what is found in them.
 
-ghost use Rattle.std.specs.Prelude.{ℕ, ◌≡◌, ◌+◌, ◌<◌, ◌≤◌, List, ◌∷◌, ◌++◌, length, map, drop, slice_range, OnOk, OnErr, IfSome, is_some, true, false};
+ghost use Rattle.std.specs.Prelude.{◌≡◌, ◌+◌, ◌<◌, ◌≤◌, List, ◌∷◌, ◌++◌, length, map, drop, slice_range, OnOk, OnErr, IfSome, is_some, true, false};
 ghost use Rattle.std.specs.Prelude.{is_ok, if◌then◌else◌};
 ghost use Rattle.domain.specs.Meaning.{statement_of, offsets_of, tracked_cells, equation_of};
-ghost use Rattle.certificate.specs.Spelling.{RoutineLine as SaidRoutine, Line as SaidLine, CellIs, EquationIs};
+ghost use Rattle.certificate.specs.Spelling.{Line as SaidLine, CellIs, EquationIs};
 ghost use Rattle.certificate.specs.Order.{is_end, is_routine, has_details};
-ghost use Rattle.certificate.specs.Adding.{claimed_line, HasRoomUnder};
+ghost use Rattle.certificate.specs.Adding.{claimed_line, HasRoomUnder, BeginsRoutine};
 ghost use Rattle.certificate.specs.Packed.{Begins, said_at, said_lines, LiesWithin};
-ghost use Rattle.certificate.specs.Found.{Keeps, unended, FitUnderFirst, with_details, first_with_details, IsRoutineOf, begins, IsSaid, SaysFirst};
+ghost use Rattle.certificate.specs.Found.{Keeps, unended, FitUnderFirst, with_details, first_with_details, begins, IsSaid};
 
 use crate::RoutineClaim;
 use crate::packed::{Claim, PackedLine, PackedLines, Run, add, begin_said, routine_of};
@@ -135,8 +135,7 @@ pub fn end_of<A: Allocator>(lines: &PackedLines<A>, start: usize) -> usize
 /// What the line at a place says of a routine, if there is one and it does.
 pub fn first_routine<A: Allocator>(lines: &PackedLines<A>, start: usize) -> Option<RoutineClaim>
     ensures there { is_some result ≡ begins is_routine (drop start (said_lines lines.now)) }
-    ensures says { (rs : List SaidRoutine) (e : ℕ) → SaysFirst rs e (drop start (said_lines lines.now)) →
-        IfSome result (λ r. IsRoutineOf rs e r) }
+    ensures says { IfSome result (λ r. BeginsRoutine (drop start (said_lines lines.now)) r) }
 {
     if start >= lines.len() {
         return None;

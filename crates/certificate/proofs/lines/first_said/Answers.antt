@@ -1,10 +1,7 @@
-use Rattle.std.proofs.Common.{◌∙◌, ap, sym, refl, List}
+use Rattle.std.proofs.Common.{refl}
 use Rattle.std.proofs.lemmas.Bool.{true≢false}
 use Rattle.domain.specs.Meaning.{statement_of, offsets_of}
-use Rattle.certificate.specs.Spelling.{Line}
-use Rattle.certificate.specs.Order.{has_details}
 use Rattle.certificate.specs.Packed.{said_at, said_lines}
-use Rattle.certificate.specs.Found.{begins}
 use Rattle.certificate.proofs.AddingLemmas.{room_under, said_there}
 use Rattle.certificate.proofs.lines.first_said.Goals as goal
 
@@ -16,7 +13,7 @@ add_details-requires g c = record {
 
 pub returns : goal.returns
 returns g c = record {
-  there = c.if-not-begin_said.ensures.there ∙ ap (λ (ls : List Line). begins has_details ls) (sym c.line.ensures.there);
+  there = rw c.line.ensures.there c.if-not-begin_said.ensures.there;
   says = λ here. said_there (said_lines c.args.lines.now) c.args.start (said_at c.line.result.0.now c.line.result.1.now) (statement_of c.begin_said.new.fact) _
       (offsets_of c.begin_said.new.fact.offsets) _ c.line.ensures.there (c.if-not-begin_said.ensures.says refl) c.add_details.ensures.statement c.add_details.ensures.offsets;
   kept = λ e. absurd (true≢false e);

@@ -19,7 +19,6 @@ pub mod FormLemmas
 pub mod PackedLemmas
 pub mod FoundLemmas
 pub mod ReaderLemmas
-mod NameLemmas
 pub mod SpelledLemmas
 pub mod MakerLemmas
 pub mod PutLemmas

@@ -4,7 +4,6 @@ pub mod Reading
 pub mod Sample
 pub mod Line
 pub mod Fields
-pub mod Claimed
 pub mod Order
 pub mod Progress
 pub mod Faults

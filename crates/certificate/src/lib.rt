@@ -20,11 +20,11 @@ ghost use Rattle.certificate.specs.Sample.{SampleLaw};
 ghost use Rattle.certificate.specs.Line.{TextLaw};
 ghost use Rattle.certificate.specs.Exact.{SpellingLaw, MeaningLaw, ReadingLaw, ReadBackLaw, FaultLaw};
 
-use crate::lines::{first_exit, first_fact, first_routine};
+use crate::lines::{end_of, first_routine, first_said};
 use crate::packed::PackedLines;
 use crate::parser::Parser;
 use crate::progress::{FIRST_EXIT, FIRST_FACT};
-use crate::spelled::{put_text, put_with_details};
+use crate::spelled::{put_lines, put_text};
 use domain::Fact;
 use std::alloc::Allocator;
 use std::marker::Model;
@@ -169,7 +169,8 @@ impl<A: Allocator> Certificate<A> {
         ensures marks { W.mark sink.new ≡ is_err result }
     {
         let start = self.kept.from(FIRST_FACT + at.index());
-        match put_with_details(sink, self.version, &self.kept, start) {
+        let end = end_of(&self.kept, start);
+        match put_lines(sink, self.version, &self.kept, start, end) {
             Ok(()) => Ok(()),
             Err(_) => Err(WriteFault),
         }
@@ -246,7 +247,7 @@ impl<A: Allocator> Certificate<A> {
         ensures kept { result ≡ false → fact.new ≡ fact.old }
     {
         let start = self.kept.from(FIRST_FACT + at.index());
-        first_fact(&self.kept, start, fact)
+        first_said(&self.kept, start, fact)
     }
 
     /// What holds when the routine of an entry returns by an offset, if that is said; it has all
@@ -285,7 +286,7 @@ impl<A: Allocator> Certificate<A> {
             return false;
         }
         let start = kept.from(FIRST_EXIT + 8 * entry.index() + offset);
-        first_exit(kept, start, exit)
+        first_said(kept, start, exit)
     }
 }
 

@@ -306,14 +306,11 @@ module _ (pl : Place) (dd : IsDeclared pl.declaration) (start : Cells) (sw : (a 
         (some_given (Lands (counted s y) ks) _ _
         (and_from _ _
         (some_from 4096 (λ a. p a && has_some (without 4095 (narrowed f (Cell a)))) y lt
-        (and_from _ _ e (some_from 4096 (without 4095 (narrowed f (Cell y))) (s.memory y) (ss.words y) (other z.0))))
+        (and_from _ _ e (some_from 4096 (without 4095 (narrowed f (Cell y))) (s.memory y) (ss.words y) (let q : (s.memory y == 4095) ≡ false = ne_eqb (s.memory y) 4095 z.0 in rw q (variable_true pl dd start sw loaded f s ks y ss h var)))))
         (alive_true p everything f _ s (counted s y) ks y 0 ss h lt e (lit< tt) refl ss.ac ss.link ss.mq (means _)))
         (rw z.1 (eq-eqb (plus s.pc 1) (plus s.pc 1) refl), means _))
   ]
     where
-      other : (s.memory y ≡ 4095 → ⊥) → without 4095 (narrowed f (Cell y)) (s.memory y) ≡ true
-      other n = let q : (s.memory y == 4095) ≡ false = ne_eqb (s.memory y) 4095 n in rw q (variable_true pl dd start sw loaded f s ks y ss h var)
-
       here : shifted (f.set (Cell y)) 1 (vals s.ac (updated s.memory y (plus (s.memory y) 1)) (Cell y)) ≡ true
       here =
           let v : vals s.ac (updated s.memory y (plus (s.memory y) 1)) (Cell y) ≡ plus (s.memory y) 1 =

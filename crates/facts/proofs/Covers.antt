@@ -21,7 +21,7 @@ use Rattle.facts.specs.Law.{IsState, TopIsEntry, IsOrdinary, LandsIn, SomeOutcom
 use Rattle.facts.proofs.Numbers.{if_below, plus_lt, or_left, or_right}
 use Rattle.facts.proofs.Operates.{and_word, or_word, or_byte_true, ac_after_word, link_after_bit, operate2_word, mq_words}
 use Rattle.facts.proofs.Cells.{words_updated, seen_words, seen_place}
-use Rattle.facts.proofs.Steps.{after_pointer, pointer_state, pointer_means, target_true, tad_step, MayCount, isz_step, dca_step, jmp_step, and_step, operate1_step, operate2_step, operate3_step, skip_step, ac_true, ac_step, leave_step}
+use Rattle.facts.proofs.Steps.{after_pointer, pointer_state, pointer_means, target_true, tad_step, MayCount, isz_step, dca_step, jmp_step, and_step, operate1_step, operate2_step, operate3_step, skip_step, ac_true, ac_step, go_step}
 
 -- an instruction names a word
 abbrev pub NamesWord : Meaning → Type 0
@@ -224,7 +224,7 @@ module _ (pl : Place) (dd : IsDeclared pl.declaration) (start : Cells) (sw : (a 
           (or_byte_true (narrowed f Ac) s.ac a.0 ss.ac a.1 (ac_true pl dd start sw loaded f s ks ss h)))
       by Clears ac skip a = rw (a.2, a.1) (ac_step pl dd start sw loaded f s ks (one 0) 0 ss h (lit< tt) refl)
       by Takes ac skip a = rw (a.4, a.3) (ac_step pl dd start sw loaded f s ks (λ v. nat_lt v 256) a.0 ss h (small_byte a.0 a.1) (lt-ltb a.0 256 a.1))
-      by Leaves ac skip a = rw (a.2, a.1) (leave_step pl dd start sw loaded f s ks ss h)
+      by Leaves ac skip a = rw (a.2, a.1) (go_step pl dd start sw loaded f s ks (plus s.pc 1) ss h)
   covered Undefined f s t q ks n ss top h wd ek on plain does = absurd does
 
 pub step_law : StepLaw

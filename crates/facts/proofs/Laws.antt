@@ -92,12 +92,9 @@ pub smeared_holds : {f : Fact} {v w : Values} (cells : Words) (new : ℕ → Wor
 unfolding weakly_updated
 smeared_holds {f} {v} {w} cells new y lt e h o is = record { sets = sets; equations = free_all (cells_of cells) kept f.equations h.equations }
   where
-    out : (a : ℕ) → (nat_lt a 4096 && cells a) ≡ false → w (Cell a) ≡ v (Cell a)
-    out a q = o.others (Cell a) (same_cell a y (λ g. true≢false (sym (and_from _ _ (lt-ltb y 4096 lt) e) ∙ (rw g at q))))
-
     kept : (m : Location) → cells_of cells m ≡ false → w m ≡ v m
     kept Ac q = o.others Ac refl
-    kept (Cell a) q = out a q
+    kept (Cell a) q = o.others (Cell a) (same_cell a y (λ g. true≢false (sym (and_from _ _ (lt-ltb y 4096 lt) e) ∙ (rw g at q))))
 
     sets : (m : Location) → weakly_updated_sets cells new f.set m (w m) ≡ true
     sets Ac = rw (o.others Ac refl) (h.sets Ac)
@@ -106,7 +103,7 @@ smeared_holds {f} {v} {w} cells new y lt e h o is = record { sets = sets; equati
           | inl g ↦ or_right (f.set (Cell a) (w (Cell a))) (new a (w (Cell a))) (rw g is)
           | inr n ↦ or_left (f.set (Cell a) (w (Cell a))) (new a (w (Cell a))) (rw (o.others (Cell a) (same_cell a y n)) (h.sets (Cell a)))
         ])
-        (λ q. rw (out a q) (h.sets (Cell a)))
+        (λ q. rw (kept (Cell a) q) (h.sets (Cell a)))
 
 pub all_append : (v : Values) (es gs : List Equation) → AllTrue v es → AllTrue v gs → AllTrue v (es ++ gs)
 all_append v [] gs t u = u

@@ -2,7 +2,7 @@
 use Rattle.std.proofs.Common.{◌≡◌, ℕ, ◌<◌, Bool, true, false, arith}
 use Rattle.std.specs.Prelude.{if◌then◌else◌}
 use Rattle.wordset.specs.Words.{plus, minus, Words}
-pub use Rattle.wordset.proofs.Tests.{or_left, or_right, some_from}
+pub use Rattle.wordset.proofs.Tests.{both_ways, or_left, or_right, some_from}
 
 pub minus_plus : (a k : ℕ) → a < 4096 → minus (plus a k) k ≡ a
 minus_plus a k h = omega arith

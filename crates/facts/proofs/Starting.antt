@@ -121,20 +121,17 @@ module _ (pl : Place) (tape : AreTapeWords pl.image) (begin : pl.declaration.sta
   cells_always : (a b more : ℕ) → (a ≡ b → ⊥) → OfAll (λ v. v (Cell a) ≡ plus (v (Cell b)) more) → is_always_between (pl.image a) (pl.image b) more ≡ true
   cells_always a b more n h = go (pl.image a) (pl.image b) refl refl
     where
-      left : (v : ℕ) → v < 4096 → begun (state_with 0 0 0 (but a v)) (Cell a) ≡ plus (begun (state_with 0 0 0 (but a v)) (Cell b)) more
-      left v lt = h (state_with 0 0 0 (but a v)) (start_of 0 (lit< tt) (but a v) (but_words a v lt))
-
-      right : (v : ℕ) → v < 4096 → begun (state_with 0 0 0 (but b v)) (Cell a) ≡ plus (begun (state_with 0 0 0 (but b v)) (Cell b)) more
-      right v lt = h (state_with 0 0 0 (but b v)) (start_of 0 (lit< tt) (but b v) (but_words b v lt))
+      at : (c v : ℕ) → v < 4096 → begun (state_with 0 0 0 (but c v)) (Cell a) ≡ plus (begun (state_with 0 0 0 (but c v)) (Cell b)) more
+      at c v lt = h (state_with 0 0 0 (but c v)) (start_of 0 (lit< tt) (but c v) (but_words c v lt))
 
       go : (o p : Option ℕ) → pl.image a ≡ o → pl.image b ≡ p → is_always_between o p more ≡ true
-      go (Some x) (Some y) e f = eq-eqb x (plus y more) (sym (tape_cell a x 0 (but a 0) e) ∙ (left 0 (lit< tt) ∙ ap (λ z. plus z more) (tape_cell b y 0 (but a 0) f)))
+      go (Some x) (Some y) e f = eq-eqb x (plus y more) (sym (tape_cell a x 0 (but a 0) e) ∙ (at a 0 (lit< tt) ∙ ap (λ z. plus z more) (tape_cell b y 0 (but a 0) f)))
       go (Some x) None e f = absurd (no_shift x more
-          (sym (tape_cell a x 0 (but b 0) e) ∙ (right 0 (lit< tt) ∙ ap (λ z. plus z more) (free_cell b 0 0 f)))
-          (sym (tape_cell a x 0 (but b 1) e) ∙ (right 1 (lit< tt) ∙ ap (λ z. plus z more) (free_cell b 1 0 f))))
+          (sym (tape_cell a x 0 (but b 0) e) ∙ (at b 0 (lit< tt) ∙ ap (λ z. plus z more) (free_cell b 0 0 f)))
+          (sym (tape_cell a x 0 (but b 1) e) ∙ (at b 1 (lit< tt) ∙ ap (λ z. plus z more) (free_cell b 1 0 f))))
       go None p e f = absurd (no_number (laid_cell (pl.image b) 0) more
-          (sym (free_cell a 0 0 e) ∙ (left 0 (lit< tt) ∙ ap (λ z. plus z more) (other_cell a b 0 0 (λ q. n (sym q)))))
-          (sym (free_cell a 1 0 e) ∙ (left 1 (lit< tt) ∙ ap (λ z. plus z more) (other_cell a b 1 0 (λ q. n (sym q))))))
+          (sym (free_cell a 0 0 e) ∙ (at a 0 (lit< tt) ∙ ap (λ z. plus z more) (other_cell a b 0 0 (λ q. n (sym q)))))
+          (sym (free_cell a 1 0 e) ∙ (at a 1 (lit< tt) ∙ ap (λ z. plus z more) (other_cell a b 1 0 (λ q. n (sym q))))))
 
   ac_start : (ac : ℕ) → ac < 4096 → IsStart pl.image pl.declaration.start (state_with ac 0 0 (λ a. 0))
   ac_start ac lt = start_of ac lt (λ a. 0) (λ a. lit< tt)

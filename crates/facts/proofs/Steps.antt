@@ -4,7 +4,7 @@ use Rattle.std.specs.Prelude.{if◌then◌else◌, bit_and, bit_or}
 use Rattle.std.proofs.lemmas.Bool.{and_from, cond_both, eqb-true, eq-eqb, ne_eqb, true≢false, false≢true, cases_eq}
 use Rattle.instruct.specs.Bits.{has_bit}
 use Rattle.instruct.specs.Operates.{operate2_of, skips_of, MqOperate, Mql, Mqa, Swp, Cam, ClaMqa, ClaSwp, mq_operate}
-use Rattle.instruct.specs.Instructions.{Skips, Leaves}
+use Rattle.instruct.specs.Instructions.{Skips}
 use Rattle.wordset.specs.Words.{plus, minus, Words, everything, one, some_below, has_some, without, shifted, sums, carries, toggled, only, ands, ors, or_any, images_at, images}
 use Rattle.processor.specs.Cells.{Cells, updated}
 use Rattle.processor.specs.Machine.{State, seen, place, steps_pointer, next_pc}
@@ -306,14 +306,11 @@ module _ (pl : Place) (dd : IsDeclared pl.declaration) (start : Cells) (sw : (a 
         (some_given (Lands (counted s y) ks) _ _
         (and_from _ _
         (some_from 4096 (λ a. p a && has_some (without 4095 (narrowed f (Cell a)))) y lt
-        (and_from _ _ e (some_from 4096 (without 4095 (narrowed f (Cell y))) (s.memory y) (ss.words y) (other z.0))))
+        (and_from _ _ e (some_from 4096 (without 4095 (narrowed f (Cell y))) (s.memory y) (ss.words y) (let q : (s.memory y == 4095) ≡ false = ne_eqb (s.memory y) 4095 z.0 in rw q (variable_true pl dd start sw loaded f s ks y ss h var)))))
         (alive_true p everything f _ s (counted s y) ks y 0 ss h lt e (lit< tt) refl ss.ac ss.link ss.mq (means _)))
         (rw z.1 (eq-eqb (plus s.pc 1) (plus s.pc 1) refl), means _))
   ]
     where
-      other : (s.memory y ≡ 4095 → ⊥) → without 4095 (narrowed f (Cell y)) (s.memory y) ≡ true
-      other n = let q : (s.memory y == 4095) ≡ false = ne_eqb (s.memory y) 4095 n in rw q (variable_true pl dd start sw loaded f s ks y ss h var)
-
       here : shifted (f.set (Cell y)) 1 (vals s.ac (updated s.memory y (plus (s.memory y) 1)) (Cell y)) ≡ true
       here =
           let v : vals s.ac (updated s.memory y (plus (s.memory y) 1)) (Cell y) ≡ plus (s.memory y) 1 =
@@ -529,14 +526,12 @@ module _ (pl : Place) (dd : IsDeclared pl.declaration) (start : Cells) (sw : (a 
       (mq_words o s.ac s.mq ss.ac ss.mq).0 ss.link (mq_words o s.ac s.mq ss.ac ss.mq).1 (eq-eqb (plus s.pc 1) (plus s.pc 1) refl) (operated3_means o f s ks ss h)
 
   -- device words
-  pub skip_step : (f : Fact) (s : State) (ks : Calls) (skip : Bool) → IsState s → Means pl start f s ks →
-      SomeOutcome (Lands (record s { pc = next_pc s.pc skip }) ks) (device_outcomes s.pc f Skips)
-  skip_step f s ks true ss h =
-      some_right (Lands (record s { pc = plus s.pc 2 }) ks) (goes everything f everything (one (plus s.pc 1)) f) _
-      (goes_to everything everything (one (plus s.pc 2)) f f s _ ks 0 0 ss h (lit< tt) refl (lit< tt) refl ss.ac ss.link ss.mq (eq-eqb (plus s.pc 2) _ refl) (same_step f s ks _ h))
-  skip_step f s ks false ss h =
-      some_left (Lands (record s { pc = plus s.pc 1 }) ks) _ _
-      (goes_to everything everything (one (plus s.pc 1)) f f s _ ks 0 0 ss h (lit< tt) refl (lit< tt) refl ss.ac ss.link ss.mq (eq-eqb (plus s.pc 1) _ refl) (same_step f s ks _ h))
+  pub go_step : (f : Fact) (s : State) (ks : Calls) (pc : ℕ) → IsState s → Means pl start f s ks → SomeOutcome (Lands (record s { pc = pc }) ks) (goes everything f everything (one pc) f)
+  go_step f s ks pc ss h = goes_to everything everything (one pc) f f s _ ks 0 0 ss h (lit< tt) refl (lit< tt) refl ss.ac ss.link ss.mq (eq-eqb pc pc refl) (same_step f s ks pc h)
+
+  pub skip_step : (f : Fact) (s : State) (ks : Calls) (skip : Bool) → IsState s → Means pl start f s ks → SomeOutcome (Lands (record s { pc = next_pc s.pc skip }) ks) (device_outcomes s.pc f Skips)
+  skip_step f s ks true ss h = some_right (Lands (record s { pc = plus s.pc 2 }) ks) (goes everything f everything (one (plus s.pc 1)) f) _ (go_step f s ks (plus s.pc 2) ss h)
+  skip_step f s ks false ss h = some_left (Lands (record s { pc = plus s.pc 1 }) ks) _ _ (go_step f s ks (plus s.pc 1) ss h)
 
   -- the accumulator takes a word of the set
   pub ac_step : (f : Fact) (s : State) (ks : Calls) (set : Words) (ac : ℕ) → IsState s → Means pl start f s ks → ac < 4096 → set ac ≡ true →
@@ -544,8 +539,3 @@ module _ (pl : Place) (dd : IsDeclared pl.declaration) (start : Cells) (sw : (a 
   ac_step f s ks set ac ss h lt e =
       goes_to everything everything (one (plus s.pc 1)) f (strongly_updated Ac set f) s _ ks 0 0 ss h (lit< tt) refl (lit< tt) refl lt ss.link ss.mq
       (eq-eqb (plus s.pc 1) _ refl) (ac_means f s ks set ac (plus s.pc 1) ss h e)
-
-  pub leave_step : (f : Fact) (s : State) (ks : Calls) → IsState s → Means pl start f s ks →
-      SomeOutcome (Lands (record s { pc = plus s.pc 1 }) ks) (device_outcomes s.pc f Leaves)
-  leave_step f s ks ss h =
-      goes_to everything everything (one (plus s.pc 1)) f f s _ ks 0 0 ss h (lit< tt) refl (lit< tt) refl ss.ac ss.link ss.mq (eq-eqb (plus s.pc 1) _ refl) (same_step f s ks _ h)

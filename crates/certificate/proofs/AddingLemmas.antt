@@ -1,18 +1,16 @@
 -- Lines that add to what is said of a fact, and the line of the fact itself.
-use Rattle.std.proofs.Common.{◌≡◌, ℕ, suc, ◌+◌, ◌≤◌, true, false, List, [], ◌∷◌, ◌++◌, length, get_or, drop, Option, Some, None, refl, ap, ◌∙◌, sym, arith, append_assoc, append-nil, length-append}
-use Rattle.std.specs.Prelude.{IfSome}
+use Rattle.std.proofs.Common.{◌≡◌, ℕ, suc, ◌+◌, ◌≤◌, true, false, List, [], ◌∷◌, ◌++◌, length, get_or, drop, refl, ap, ◌∙◌, sym, arith, append_assoc, append-nil, length-append}
 use Rattle.std.proofs.lemmas.Bool.{true≢false}
 use Rattle.wordset.specs.Words.{Words, between}
 use Rattle.domain.specs.Facts.{Equation}
 use Rattle.domain.specs.Statements.{TrackedCell, Statement}
-use Rattle.certificate.specs.declared.RoutineClaim.{RoutineClaim}
-use Rattle.certificate.specs.Spelling.{RoutineLine, Line, RoutineIs, FactIs, ExitIs, CellIs, EquationIs}
+use Rattle.certificate.specs.Spelling.{Line, FactIs, ExitIs, CellIs, EquationIs}
 use Rattle.certificate.specs.declared.packed.Run.{Run}
 use Rattle.certificate.specs.Order.{is_detail}
 use Rattle.certificate.specs.Gathered.{cells_under, equations_under}
 use Rattle.certificate.specs.Packed.{set_of_runs}
-use Rattle.certificate.specs.Found.{with_details, begins_fact, begins_exit, begins_routine, FitUnder, SaysFirst, IsRoutineOf}
-use Rattle.certificate.specs.Adding.{with_line, HasRoomFor, HasRoomUnder, IsFactLine, IsExitLine, IsRoutineLine, SaysFactAt, SaysExitAt}
+use Rattle.certificate.specs.Found.{with_details, FitUnder, FitUnderFirst, IsSaid}
+use Rattle.certificate.specs.Adding.{with_line, HasRoomFor, HasRoomUnder}
 use Rattle.std.specs.Prelude.{◌<◌, ◌-◌, ◌&&◌, take, slice_range}
 use Rattle.std.proofs.lemmas.List.{drop_more}
 use Rattle.wordset.proofs.SetLemmas.{equal_words, all_everything}
@@ -86,49 +84,19 @@ pub done_there : (s new : Statement) (lines : List Line) (i : ℕ) (l : Line) �
     new ≡ with_details s (drop i lines)
 done_there s new lines i l e n d = n ∙ (unchanged s l d ∙ rw e (sym (none_under s l (drop (i + 1) lines) d)))
 
--- The first line alone tells what begins.
-pub fact_first : (l : Line) (ls : List Line) → begins_fact (l ∷ []) ≡ begins_fact (l ∷ ls)
-fact_first (FactIs a r m) ls = refl
-fact_first l ls = refl
-
-pub exit_first : (l : Line) (ls : List Line) → begins_exit (l ∷ []) ≡ begins_exit (l ∷ ls)
-exit_first (ExitIs x o r) ls = refl
-exit_first l ls = refl
-
-pub routine_first : (l : Line) (ls : List Line) → begins_routine (l ∷ []) ≡ begins_routine (l ∷ ls)
-routine_first (RoutineIs r) ls = refl
-routine_first l ls = refl
-
 -- There is room after the line itself.
 room_after : (ls : List Line) → FitUnder ls → (0 + length (cells_under ls) ≤ 64) × (0 + length (equations_under ls) ≤ 32)
 room_after ls q = (omega (arith, q.0), omega (arith, q.1))
 
--- A fact's line at a place.
-pub fact_there : (lines : List Line) (i : ℕ) (l : Line) (s : Statement) (offsets : Words) → drop i lines ≡ l ∷ drop (i + 1) lines → IsFactLine l s offsets →
-    SaysFactAt i lines s offsets
-fact_there lines i (FactIs a r m) s offsets e h = record {
-  fact = rw (e, h.0, h.1) refl;
-  statement = rw (e, h.0) refl;
-  room = λ q. rw h.0 (room_after (drop (i + 1) lines) (rw e at q));
-}
-fact_there lines i l s offsets e h = absurd h
+-- A fact's or an exit's line at a place: there is room for its details, and it says them too.
+pub room_under : (lines : List Line) (i : ℕ) (l : Line) (s : Statement) (offsets : Words) → drop i lines ≡ l ∷ drop (i + 1) lines → IsSaid (l ∷ []) s offsets →
+    FitUnderFirst (drop i lines) → HasRoomUnder s (drop (i + 1) lines)
+room_under lines i (FactIs a r m) s offsets e is fit = rw is.0 (room_after (drop (i + 1) lines) (rw e at fit))
+room_under lines i (ExitIs x o r) s offsets e is fit = rw is.0 (room_after (drop (i + 1) lines) (rw e at fit))
+room_under lines i l s offsets e is fit = absurd is
 
--- An exit's line at a place.
-pub exit_there : (lines : List Line) (i : ℕ) (l : Line) (s : Statement) → drop i lines ≡ l ∷ drop (i + 1) lines → IsExitLine l s → SaysExitAt i lines s
-exit_there lines i (ExitIs x o r) s e h = record {
-  fact = rw (e, h) refl;
-  statement = rw (e, h) refl;
-  room = λ q. rw h (room_after (drop (i + 1) lines) (rw e at q));
-}
-exit_there lines i l s e h = absurd h
-
--- A routine's line at a place.
-is_routine : (l : Line) (ls : List Line) (given : RoutineClaim) (rs : List RoutineLine) (e : ℕ) → IsRoutineLine l given → SaysFirst rs e (l ∷ ls) → IsRoutineOf rs e given
-is_routine (RoutineIs r) ls given rs e h says =
-    record { rank = h.0 ∙ sym says.rank; sites = h.1 ∙ sym says.sites; writes = h.2 ∙ sym says.writes }
-is_routine l ls given rs e h says = absurd h
-
-pub routine_there : (lines : List Line) (i : ℕ) (l : Line) (given : Option RoutineClaim) (rs : List RoutineLine) (e : ℕ) → drop i lines ≡ l ∷ drop (i + 1) lines →
-    IfSome given (λ r. IsRoutineLine l r) → SaysFirst rs e (drop i lines) → IfSome given (λ r. IsRoutineOf rs e r)
-routine_there lines i l None rs e is h says = tt
-routine_there lines i l (Some r) rs e is h says = is_routine l (drop (i + 1) lines) r rs e h (rw is at says)
+pub said_there : (lines : List Line) (i : ℕ) (l : Line) (s new : Statement) (offsets now : Words) → drop i lines ≡ l ∷ drop (i + 1) lines →
+    IsSaid (l ∷ []) s offsets → new ≡ with_details s (drop (i + 1) lines) → now ≡ offsets → IsSaid (drop i lines) new now
+said_there lines i (FactIs a r m) s new offsets now e is done same = rw (e, same) (rw (done, is.0) refl, is.1)
+said_there lines i (ExitIs x o r) s new offsets now e is done same = rw (e, same) (rw (done, is.0) refl, is.1)
+said_there lines i l s new offsets now e is done same = absurd is

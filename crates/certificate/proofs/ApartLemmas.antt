@@ -85,11 +85,11 @@ first_or r rs v = joined_or (union nothing (between r.first r.last)) rs v
 pub in_first : (r : Run) (rs : List Run) (v : ℕ) → r.first ≤ v → v ≤ r.last → joined nothing (r ∷ rs) v ≡ true
 in_first r rs v a b = first_or r rs v ∙ or_with _ _ true (joined nothing rs v) (in_between r.first r.last v a b) refl
 
-past_first : (r : Run) (rs : List Run) (v : ℕ) → r.last < v → joined nothing (r ∷ rs) v ≡ joined nothing rs v
+pub past_first : (r : Run) (rs : List Run) (v : ℕ) → r.last < v → joined nothing (r ∷ rs) v ≡ joined nothing rs v
 past_first r rs v a = first_or r rs v ∙ or_with _ _ false (joined nothing rs v) (above_between r.first r.last v a) refl
 
 -- No word stands before the first run.
-before_all : (n : ℕ) (rs : List Run) (v : ℕ) → StandApart n rs → v < n → joined nothing rs v ≡ false
+pub before_all : (n : ℕ) (rs : List Run) (v : ℕ) → StandApart n rs → v < n → joined nothing rs v ≡ false
 before_all n [] v h small = refl
 before_all n (r ∷ rs) v h small =
     let a : n ≤ r.first = h.0 in
@@ -98,55 +98,6 @@ before_all n (r ∷ rs) v h small =
 
 pub run_is : (a b : Run) → a.first ≡ b.first → a.last ≡ b.last → a ≡ b
 run_is a b e f = ap (λ (n : ℕ). record a { first = n }) e ∙ ap (λ (n : ℕ). record b { last = n }) f
-
--- A set has one list of such runs.
-abbrev SameSet : List Run → List Run → Type 0
-SameSet rs ts = (v : ℕ) → v < 4096 → joined nothing rs v ≡ joined nothing ts v
-
-not_before : (n m : ℕ) (r t : Run) (rs ts : List Run) → StandApart n (r ∷ rs) → StandApart m (t ∷ ts) → SameSet (r ∷ rs) (t ∷ ts) → r.first < t.first → ⊥
-not_before n m r t rs ts a b e h =
-    let order : r.first ≤ r.last = a.1 in
-    let small : r.last < 4096 = a.2 in
-    true≢false (sym (in_first r rs r.first (omega arith) order) ∙
-    (e r.first (omega arith) ∙ before_all t.first (t ∷ ts) r.first (omega arith, b.1, b.2, b.3) h))
-
-not_shorter : (n m : ℕ) (r t : Run) (rs ts : List Run) → StandApart n (r ∷ rs) → StandApart m (t ∷ ts) → SameSet (r ∷ rs) (t ∷ ts) → r.first ≡ t.first → r.last < t.last → ⊥
-not_shorter n m r t rs ts a b e f h =
-    let order : r.first ≤ r.last = a.1 in
-    let small : t.last < 4096 = b.2 in
-    true≢false (sym (in_first t ts (r.last + 1) (omega arith) (omega arith)) ∙
-    (sym (e (r.last + 1) (omega arith)) ∙ (past_first r rs (r.last + 1) (omega arith) ∙ before_all (r.last + 2) rs (r.last + 1) a.3 (omega arith))))
-
-not_none : (n : ℕ) (r : Run) (rs : List Run) → StandApart n (r ∷ rs) → SameSet [] (r ∷ rs) → ⊥
-not_none n r rs a e =
-    let order : r.first ≤ r.last = a.1 in
-    let small : r.last < 4096 = a.2 in
-    true≢false (sym (in_first r rs r.first (omega arith) order) ∙ sym (e r.first (omega arith)))
-
-back : (rs ts : List Run) → SameSet rs ts → SameSet ts rs
-back rs ts e = λ v h. sym (e v h)
-
-equal : (a b : ℕ) → (a < b → ⊥) → (b < a → ⊥) → a ≡ b
-equal a b f g = elim (cases_lt a b) [
-  | inl h ↦ absurd (f h)
-  | inr h ↦ elim (cases_lt b a) [ inl k ↦ absurd (g k) | inr k ↦ omega arith ]
-]
-
-others_same : (n m : ℕ) (r t : Run) (rs ts : List Run) → StandApart n (r ∷ rs) → StandApart m (t ∷ ts) → SameSet (r ∷ rs) (t ∷ ts) → r.last ≡ t.last → SameSet rs ts
-others_same n m r t rs ts a b e f = λ v h. elim (cases_lt r.last v) [
-  | inl k ↦ sym (past_first r rs v k) ∙ (e v h ∙ past_first t ts v (omega arith))
-  | inr k ↦ before_all (r.last + 2) rs v a.3 (omega arith) ∙ sym (before_all (t.last + 2) ts v b.3 (omega arith))
-]
-
-pub one_list : (n m : ℕ) (rs ts : List Run) → StandApart n rs → StandApart m ts → SameSet rs ts → rs ≡ ts
-one_list n m [] [] a b e = refl
-one_list n m [] (t ∷ ts) a b e = absurd (not_none m t ts b e)
-one_list n m (r ∷ rs) [] a b e = absurd (not_none n r rs a (back (r ∷ rs) [] e))
-one_list n m (r ∷ rs) (t ∷ ts) a b e =
-    let k : SameSet (t ∷ ts) (r ∷ rs) = back (r ∷ rs) (t ∷ ts) e in
-    let p : r.first ≡ t.first = equal r.first t.first (not_before n m r t rs ts a b e) (not_before m n t r ts rs b a k) in
-    let q : r.last ≡ t.last = equal r.last t.last (not_shorter n m r t rs ts a b e p) (not_shorter m n t r ts rs b a k (sym p)) in
-    ap (λ (x : Run). x ∷ rs) (run_is r t p q) ∙ ap (λ (x : List Run). t ∷ x) (one_list (r.last + 2) (t.last + 2) rs ts a.3 b.3 (others_same n m r t rs ts a b e q))
 
 -- The words of a set below n are those of these runs, after which the next one may begin at another number.
 pub record Closed (s : Words) (rs : List Run) (n next : ℕ) : Type 0 where
@@ -157,7 +108,7 @@ pub record Closed (s : Words) (rs : List Run) (n next : ℕ) : Type 0 where
 pub none_closed : (s : Words) → Closed s [] 0 0
 none_closed s = record { apart = λ ts h. h; same = λ v a b. absurd (omega arith); above = λ v a. refl }
 
-later : (n m : ℕ) (ts : List Run) → n ≤ m → StandApart m ts → StandApart n ts
+pub later : (n m : ℕ) (ts : List Run) → n ≤ m → StandApart m ts → StandApart n ts
 later n m [] a h = tt
 later n m (t ∷ ts) a h = ((let b : m ≤ t.first = h.0 in omega arith), h.1, h.2, h.3)
 

@@ -2,7 +2,7 @@
 use Rattle.std.proofs.Common.{◌≡◌, ◌≢◌, ◌⊎◌, ℕ, zero, suc, ◌+◌, ◌-◌, ◌<◌, ◌≤◌, ◌==◌, Bool, true, false, not, ◌&&◌, ◌||◌, List, [], ◌∷◌, ◌++◌, Option, Some, None, refl, ap, ◌∙◌, sym, subst, inl, inr, arith, append_assoc, append-nil}
 use Rattle.std.specs.Prelude.{if◌then◌else◌, IfSome, IsTrue}
 use Rattle.std.specs.Option.{IsSomeAnd}
-use Rattle.std.proofs.lemmas.Bool.{true≢false, false≢true, eq-eqb, ne_eqb, cases_lt}
+use Rattle.std.proofs.lemmas.Bool.{true≢false, false≢true, eq-eqb, ne_eqb, cases_lt, cases_Bool}
 use Rattle.std.proofs.Math.Bool.{and-true, and-false, or-false}
 use Rattle.wordset.specs.Words.{Words, some_below}
 use Rattle.wordset.proofs.Tests.{some_none_of, none_of_some}
@@ -54,17 +54,15 @@ digits_same (suc n) s t h =
     let e : digits n s ≡ digits n t = digits_same n s t (λ v a. h v (omega arith)) in
     let f : s n ≡ t n = h n (omega arith) in rw (e, f) refl
 
--- A digit before n isn't next.
-pub other_digit : (k n m : ℕ) (s : Words) (tail r : List ℕ) → EndsField tail → m < n → digits_from k n s ++ tail ≡ (48 + m) ∷ r → ⊥
+-- No lesser digit than n is next, and no dash.
+pub other_digit : (k n x : ℕ) (s : Words) (tail r : List ℕ) → EndsField tail → 32 < x → x < 48 + n → digits_from k n s ++ tail ≡ x ∷ r → ⊥
 unfolding digits_from
-other_digit zero n m s [] r ends h e = absurd (cc)
-other_digit zero n m s (c ∷ cs) r ends h e = let z : c ≡ 48 + m = cc in omega arith
-other_digit (suc k) n m s tail r ends h e = go (s n) refl (other_digit k (n + 1) m s tail r ends (omega arith))
-  where
-    go : (b : Bool) → s n ≡ b → (digits_from k (n + 1) s ++ tail ≡ (48 + m) ∷ r → ⊥) → ⊥
-    go true q more = (let w : (48 + n) ∷ (digits_from k (n + 1) s ++ tail) ≡ (48 + m) ∷ r = rw q at e in
-        let z : 48 + n ≡ 48 + m = cc in omega arith)
-    go false q more = more (rw q at e)
+other_digit zero n x s [] r ends low high e = absurd (cc)
+other_digit zero n x s (c ∷ cs) r ends low high e = let z : c ≡ x = cc in omega arith
+other_digit (suc k) n x s tail r ends low high e = elim (cases_Bool (s n)) [
+  | inl q ↦ (let w : (48 + n) ∷ (digits_from k (n + 1) s ++ tail) ≡ x ∷ r = rw q at e in let z : 48 + n ≡ x = cc in omega arith)
+  | inr q ↦ other_digit k (n + 1) x s tail r ends low (omega arith) (rw q at e)
+]
 
 -- The digits below n are read, of c digits.
 pub record DigitsRead (c n : ℕ) (old now : Option (List ℕ)) (t : Words) : Type 0 where
@@ -90,13 +88,6 @@ no_digits c old t none = record { none = λ v a b. none v b; read = reads old; o
 -- What is left at the digit n.
 left_at : (c n : ℕ) (s : Words) → n < c → digits_from (c - n) n s ≡ digit_at s n ++ digits_from (c - (n + 1)) (n + 1) s
 left_at c n s h = let z : c - n ≡ suc (c - (n + 1)) = omega arith in ap (λ k. digits_from k n s) z ∙ from_more (c - (n + 1)) n s
-
-pub by_digit : (s : Words) (n : ℕ) → (s n ≡ true) ⊎ (s n ≡ false)
-by_digit s n = go (s n)
-  where
-    go : (b : Bool) → (b ≡ true) ⊎ (b ≡ false)
-    go true = inl refl
-    go false = inr refl
 
 pub at_some : {X : Type 0} (P : X → Type 0) (o : Option X) (x : X) → IfSome o P → o ≡ Some x → P x
 at_some P None x h e = absurd (cc)
@@ -131,7 +122,7 @@ digit_tried c n old now next t u b small few h took kept begins more = record { 
 
     only : (s : Words) (tail : List ℕ) → EndsField tail → old ≡ Some (digits c s ++ tail) →
         ((v : ℕ) → v < n + 1 → u v ≡ s v) × (next ≡ Some (digits_from (c - (n + 1)) (n + 1) s ++ tail))
-    only s tail ends e = go (by_digit s n) b refl
+    only s tail ends e = go (cases_Bool (s n)) b refl
       where
         left : List ℕ
         left = digits_from (c - (n + 1)) (n + 1) s
@@ -150,7 +141,7 @@ digit_tried c n old now next t u b small few h took kept begins more = record { 
 
         taken : (o : Option (List ℕ)) → IsSomeAnd o (λ r. now ≡ Some ((48 + n) ∷ r)) → now ≡ Some (left ++ tail) → ⊥
         taken None w q = w
-        taken (Some r) w q = other_digit (c - (n + 1)) (n + 1) n s tail r ends (omega arith) (cc)
+        taken (Some r) w q = other_digit (c - (n + 1)) (n + 1) (48 + n) s tail r ends (omega arith) (omega arith) (cc)
 
         go : (s n ≡ true) ⊎ (s n ≡ false) → (d : Bool) → b ≡ d → ((v : ℕ) → v < n + 1 → u v ≡ s v) × (next ≡ Some (left ++ tail))
         go (inl has) d q = let w : (b ≡ true) × (next ≡ Some (left ++ tail)) = begins (left ++ tail) (at true has) in (up (here ∙ (w.0 ∙ sym has)), w.1)
@@ -197,23 +188,7 @@ pub some_offsets : (t : Words) → some_below 8 t ≡ true → offsets_text t �
 some_offsets t e = rw e refl
 
 pub by_offsets : (s : Words) → (some_below 8 s ≡ true) ⊎ ((v : ℕ) → v < 8 → s v ≡ false)
-by_offsets s = go (some_below 8 s) refl
-  where
-    go : (b : Bool) → some_below 8 s ≡ b → (some_below 8 s ≡ true) ⊎ ((v : ℕ) → v < 8 → s v ≡ false)
-    go true e = inl e
-    go false e = inr (none_of_some 8 s e)
-
--- Digits don't begin with a dash.
-pub digit_first : (k n : ℕ) (s : Words) (tail r : List ℕ) → EndsField tail → digits_from k n s ++ tail ≡ 45 ∷ r → ⊥
-unfolding digits_from
-digit_first zero n s [] r ends e = absurd (cc)
-digit_first zero n s (c ∷ cs) r ends e = let z : c ≡ 45 = cc in omega arith
-digit_first (suc k) n s tail r ends e = go (s n) refl (digit_first k (n + 1) s tail r ends)
-  where
-    go : (b : Bool) → s n ≡ b → (digits_from k (n + 1) s ++ tail ≡ 45 ∷ r → ⊥) → ⊥
-    go true q more = (let w : (48 + n) ∷ (digits_from k (n + 1) s ++ tail) ≡ 45 ∷ r = rw q at e in
-        let z : 48 + n ≡ 45 = cc in omega arith)
-    go false q more = more (rw q at e)
+by_offsets s = elim (cases_Bool (some_below 8 s)) [ inl e ↦ inl e | inr e ↦ inr (none_of_some 8 s e) ]
 
 -- What a call that reads offsets says.
 pub record OffsetsRead (old now : Option (List ℕ)) (t : Words) : Type 0 where
@@ -229,7 +204,7 @@ dash_read old (Some r) t none took begins = record { read = rw (no_offsets t non
     only : (s : Words) (tail : List ℕ) → EndsField tail → old ≡ Some (offsets_text s ++ tail) →
         ((o : ℕ) → o < 8 → t o ≡ s o) × (Some r ≡ Some tail)
     only s tail ends e = elim (by_offsets s) [
-      | inl some ↦ absurd (digit_first 8 0 s tail r ends (
+      | inl some ↦ absurd (other_digit 8 0 45 s tail r ends (omega arith) (omega arith) (
           let f : offsets_text s ≡ digits_from 8 0 s = some_offsets s some ∙ all_from 8 s in
           let g : old ≡ Some (digits_from 8 0 s ++ tail) = e ∙ ap (λ (x : List ℕ). Some (x ++ tail)) f in cc))
       | inr empty ↦ (λ o h. none o h ∙ sym (empty o h), (begins tail (e ∙ ap (λ (x : List ℕ). Some (x ++ tail)) (no_offsets s empty))).1)

@@ -1,22 +1,21 @@
 -- The lines of one fact among those of a certificate.
-use Rattle.std.proofs.Common.{◌≡◌, ℕ, ◌+◌, ◌*◌, ◌<◌, ◌≤◌, true, false, List, [], ◌∷◌, ◌++◌, refl, ap, ◌∙◌, sym, arith, append_assoc, append-nil, inl, inr, drop, subst, Option}
-use Rattle.std.specs.Prelude.{map, flat_map}
-use Rattle.std.specs.Io.KnownBytes.{Appends}
-use Rattle.streams.specs.Bytes.{AppendsFront}
-use Rattle.streams.proofs.BytesLemmas.{front_after}
+use Rattle.std.proofs.Common.{◌≡◌, ℕ, ◌+◌, ◌*◌, ◌<◌, ◌≤◌, true, false, List, [], ◌∷◌, ◌++◌, refl, ap, ◌∙◌, sym, arith, append_assoc, append-nil, inl, inr, suc, ◌-◌, Bool, length, get_or, take, drop}
+use Rattle.std.proofs.lemmas.List.{take_all, drop_all, drop_more}
+use Rattle.std.specs.Prelude.{map, flat_map, slice_range, if◌then◌else◌}
 use Rattle.std.proofs.lemmas.Bool.{eq-eqb, ne_eqb, cases_eq}
 use Rattle.domain.specs.Facts.{Equation}
 use Rattle.domain.specs.Statements.{TrackedCell}
 use Rattle.certificate.specs.declared.Version.{Version}
-use Rattle.certificate.specs.Spelling.{RoutineLine, FactLine, ExitLine, Lines, fact_text_in, fact_text_at, Line, RoutineIs, FactIs, CellIs, EquationIs, registers_of, lines_of_fact, lines_of_exit, line_text, ended, all_ended}
+use Rattle.certificate.specs.Spelling.{RoutineLine, FactLine, ExitLine, Lines, fact_text_in, fact_text_at, Line, RoutineIs, FactIs, CellIs, EquationIs, End, registers_of, lines_of_fact, lines_of_exit, all_ended}
 use Rattle.certificate.specs.Reading.{RiseFrom, Each, IsRoutine, AreLines}
-use Rattle.certificate.specs.Order.{any, is_end, is_detail, details_of_last, AreInOrder}
+use Rattle.certificate.specs.Order.{is_detail, details_of_last}
 use Rattle.certificate.specs.Gathered.{gathered}
-use Rattle.certificate.specs.Found.{newest_first, from_place, first_with_details}
+use Rattle.certificate.specs.Found.{from_place, first_with_details, IsWhole}
+use Rattle.certificate.specs.Kept.{Kept, meaning}
+use Rattle.certificate.specs.Packed.{Packed, said_lines}
 use Rattle.certificate.proofs.GatherLemmas.{body_of}
 use Rattle.certificate.proofs.FormLemmas.{gathered_formed}
 use Rattle.certificate.proofs.MakerLemmas.{kept_body}
-use Rattle.certificate.proofs.SpelledLemmas.{front_more}
 
 -- The cells and equations that come first.
 details_first : (cs : List TrackedCell) (es : List Equation) (ls : List Line) → details_of_last ls ≡ [] →
@@ -74,38 +73,46 @@ facts_found v a low (f ∷ fs) es small rise =
           facts_found v a (f.address + 1) fs es small rise.1)
     ]
 
-pub fact_found : (v : Version) (a : ℕ) (ls : List Line) → a < 4096 → AreInOrder v (newest_first [] ls) → any is_end (newest_first [] ls) ≡ false →
-    all_ended v (first_with_details (from_place (4096 + a) ls)) ≡ fact_text_at (gathered v ls) a
-fact_found v a ls small order unended =
-    let c : Lines = gathered v ls in
-    let whole : ls ≡ body_of c = kept_body v ls order unended in
-    let form : AreLines c = gathered_formed v ls order in
+-- The lines from that of the fact on that are its own.
+pub fact_found : (v : Version) (k : Packed) (c : Kept) (a n : ℕ) (rest said : List Line) → IsWhole v k → record { version = v; lines = k } ≡ c → a < 4096 → a ≡ n →
+    rest ≡ from_place (4096 + a) (said_lines k) → said ≡ first_with_details rest → all_ended v said ≡ fact_text_at (meaning c) n
+fact_found v k kept a n rest said w view small same at is =
+    let c : Lines = gathered v (said_lines k) in
+    let whole : said_lines k ≡ body_of c = kept_body v (said_lines k) w.order w.no_end in
+    let form : AreLines c = gathered_formed v (said_lines k) w.order in
     let later : List Line = flat_map lines_of_fact c.facts ++ flat_map lines_of_exit c.exits in
-    ap (λ (x : List Line). all_ended v (first_with_details (from_place (4096 + a) x)))
+    ap (all_ended v) (is ∙ ap first_with_details (at ∙ (ap (from_place (4096 + a))
     (whole ∙ append_assoc (map RoutineIs c.routines) (flat_map lines_of_fact c.facts) (flat_map lines_of_exit c.exits)) ∙
-    (ap (λ (x : List Line). all_ended v (first_with_details x)) (routines_passed a c.routines later form.routines) ∙
-    facts_found v a 0 c.facts c.exits small form.facts_rise)
+    routines_passed a c.routines later form.routines))) ∙
+    (facts_found v a 0 c.facts c.exits small form.facts_rise ∙ (ap (fact_text_at c) same ∙ ap (λ (x : Kept). fact_text_at (meaning x) n) view))
 
--- ---- cells and equations that are written one after another
+-- The place i of a detail, or of the first line after the details.
+abbrev pub EndsAt : List Line → ℕ → ℕ
+EndsAt ls i = i + length (details_of_last (drop i ls))
 
-one_more : (v : Version) (l : Line) (rest : List Line) → is_detail l ≡ true → all_ended v (details_of_last (l ∷ rest)) ≡ ended (line_text v l) ++ all_ended v (details_of_last rest)
-one_more v l rest is = rw is refl
+pub detail_passed : (ls : List Line) (i : ℕ) (l : Line) → drop i ls ≡ l ∷ drop (i + 1) ls → is_detail l ≡ true → EndsAt ls (i + 1) ≡ EndsAt ls i
+detail_passed ls i l at is = rw (at, is) (omega arith)
 
-abbrev left : Version → List Line → ℕ → List ℕ
-left v ls i = all_ended v (details_of_last (drop i ls))
+pub other_line : (ls : List Line) (i : ℕ) (l : Line) → drop i ls ≡ l ∷ drop (i + 1) ls → is_detail l ≡ false → EndsAt ls i ≡ i
+other_line ls i l at is = rw (at, is) (omega arith)
 
-pub detail_next : (v : Version) (ls : List Line) (i : ℕ) (l : Line) (wrote all : List ℕ) → drop i ls ≡ l ∷ drop (i + 1) ls → is_detail l ≡ true →
-    wrote ++ all_ended v (details_of_last (drop i ls)) ≡ all → wrote ++ ended (line_text v l) ++ all_ended v (details_of_last (drop (i + 1) ls)) ≡ all
-detail_next v ls i l wrote all at is so =
-    append_assoc wrote (ended (line_text v l)) (left v ls (i + 1)) ∙
-    (ap (λ (x : List ℕ). wrote ++ x) (sym (ap (λ (x : List Line). all_ended v (details_of_last x)) at ∙ one_more v l (drop (i + 1) ls) is)) ∙ so)
+pub no_line : (ls : List Line) (i : ℕ) → length ls ≤ i → EndsAt ls i ≡ i
+no_line ls i h = rw (drop_all i ls h) (omega arith)
 
-pub detail_cut : (a b c : Option (List ℕ)) (v : Version) (ls : List Line) (i : ℕ) (l : Line) (wrote all piece : List ℕ) → drop i ls ≡ l ∷ drop (i + 1) ls → is_detail l ≡ true →
-    wrote ++ all_ended v (details_of_last (drop i ls)) ≡ all → Appends a b wrote → piece ≡ ended (line_text v l) → AppendsFront b c piece → AppendsFront a c all
-detail_cut a b c v ls i l wrote all piece at is so whole same front =
-    subst (λ (x : List ℕ). AppendsFront a c x) (detail_next v ls i l wrote all at is so)
-    (front_more a c (wrote ++ ended (line_text v l)) (left v ls (i + 1)) (front_after a b c wrote (ended (line_text v l)) whole (rw same at front)))
+details_taken : (ls : List Line) → take (length (details_of_last ls)) ls ≡ details_of_last ls
+details_taken [] = refl
+details_taken (l ∷ ls) = go (is_detail l) (details_taken ls)
+  where
+    go : (d : Bool) → take (length (details_of_last ls)) ls ≡ details_of_last ls →
+        take (length (if d then l ∷ details_of_last ls else [])) (l ∷ ls) ≡ (if d then l ∷ details_of_last ls else [])
+    go true i = ap (λ (x : List Line). l ∷ x) i
+    go false i = refl
 
-pub first_line_of : (v : Version) (ls : List Line) (i : ℕ) (l : Line) → drop i ls ≡ l ∷ drop (i + 1) ls →
-    ended (line_text v l) ++ all_ended v (details_of_last (drop (i + 1) ls)) ≡ all_ended v (first_with_details (drop i ls))
-first_line_of v ls i l at = sym (ap (λ (x : List Line). all_ended v (first_with_details x)) at)
+pub first_ended : (ls : List Line) (i n : ℕ) → i < length ls → n ≡ EndsAt ls (i + 1) → slice_range ls i n ≡ first_with_details (drop i ls)
+first_ended ls i n h is =
+    let at : drop i ls ≡ get_or ls i End ∷ drop (i + 1) ls = drop_more ls i End h in
+    let k : n - i ≡ suc (length (details_of_last (drop (i + 1) ls))) = omega (arith, is) in
+    rw (at, k) (ap (λ (x : List Line). get_or ls i End ∷ x) (details_taken (drop (i + 1) ls)))
+
+pub none_first : (ls : List Line) (i n : ℕ) → length ls ≤ i → slice_range ls i n ≡ first_with_details (drop i ls)
+none_first ls i n h = rw (drop_all i ls h) (take_all (n - i) [] (omega arith))

@@ -1,7 +1,7 @@
 -- A line's text has no line feed and at most 32,768 bytes.
 use Rattle.std.proofs.Common.{◌≡◌, ℕ, zero, suc, ◌+◌, ◌*◌, ◌/◌, ◌%◌, ◌<◌, ◌≤◌, ◌==◌, Bool, true, false, not, ◌&&◌, List, [], ◌∷◌, ◌++◌, length, take, refl, ◌∙◌, sym, inl, inr, arith, length-append}
 use Rattle.std.specs.Prelude.{if◌then◌else◌, codes}
-use Rattle.std.proofs.lemmas.Bool.{false≢true, eq-eqb, ne_eqb, cases_lt}
+use Rattle.std.proofs.lemmas.Bool.{false≢true, eq-eqb, ne_eqb, cases_lt, cases_Bool}
 use Rattle.word12.specs.Words.{octal_text}
 use Rattle.wordset.specs.Words.{Words, some_below}
 use Rattle.domain.specs.Facts.{Location, Ac, Cell}
@@ -23,11 +23,10 @@ feedless (c ∷ cs) = not (c == 10) && feedless cs
 no_feeds : (cs : List ℕ) → feedless cs ≡ true → NoFeed cs
 unfolding feedless
 no_feeds [] e = tt
-no_feeds (c ∷ cs) e = go (c == 10) refl e (no_feeds cs)
-  where
-    go : (b : Bool) → (c == 10) ≡ b → (not b && feedless cs) ≡ true → (feedless cs ≡ true → NoFeed cs) → NoFeed (c ∷ cs)
-    go true q f more = absurd (false≢true f)
-    go false q f more = (λ z. false≢true (sym q ∙ eq-eqb c 10 z), more f)
+no_feeds (c ∷ cs) e = elim (cases_Bool (c == 10)) [
+  | inl q ↦ absurd (false≢true (rw q at e))
+  | inr q ↦ (λ z. false≢true (sym q ∙ eq-eqb c 10 z), no_feeds cs (rw q at e))
+]
 
 pub no_feed_both : (xs ys : List ℕ) → NoFeed xs → NoFeed ys → NoFeed (xs ++ ys)
 no_feed_both [] ys f g = g

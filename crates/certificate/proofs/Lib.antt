@@ -1,7 +1,6 @@
 pub mod TextLemmas
 pub mod ApartLemmas
 pub mod SetLemmas
-pub mod FieldsLemmas
 pub mod RunLemmas
 pub mod DigitLemmas
 pub mod LineLemmas
@@ -20,7 +19,6 @@ pub mod FormLemmas
 pub mod PackedLemmas
 pub mod FoundLemmas
 pub mod ReaderLemmas
-mod NameLemmas
 pub mod SpelledLemmas
 pub mod MakerLemmas
 pub mod PutLemmas
@@ -28,6 +26,5 @@ pub mod FactTextLemmas
 pub mod ReadLemmas
 pub mod ServedLemmas
 pub mod AddingLemmas
-mod ReadBackLemmas
 pub mod DecideLemmas
 mod AnswerLemmas

@@ -1,8 +1,7 @@
 -- Two ways to read one text go through the same lines.
-use Rattle.std.proofs.Common.{◌≡◌, ◌⊎◌, ℕ, suc, ◌+◌, ◌-◌, ◌<◌, ◌≤◌, Bool, true, false, List, [], ◌∷◌, ◌++◌, length, refl, ap, ◌∙◌, sym, subst, inl, inr, arith, append_assoc, append-nil, length-append}
-use Rattle.std.specs.Prelude.{if◌then◌else◌, take}
+use Rattle.std.proofs.Common.{◌≡◌, ◌⊎◌, ℕ, suc, ◌+◌, ◌-◌, ◌<◌, ◌≤◌, Bool, List, [], ◌∷◌, ◌++◌, length, refl, ap, ◌∙◌, sym, subst, inl, inr, arith, append_assoc, append-nil, length-append}
+use Rattle.std.specs.Prelude.{take}
 use Rattle.std.proofs.Math.Seq.{take-append-add}
-use Rattle.std.proofs.lemmas.Bool.{true≢false, false≢true}
 use Rattle.certificate.specs.declared.Version.{Version}
 use Rattle.certificate.specs.declared.CertificateFault.{CertificateFault}
 use Rattle.certificate.specs.declared.CertificateFault.TheVariants as faults
@@ -13,7 +12,7 @@ use Rattle.certificate.specs.Order.{is_detail, has_details, is_end, any, how_man
 use Rattle.certificate.specs.Found.{newest_first}
 use Rattle.certificate.specs.Faults.{most_bytes, NoFeed, IsText, HasLine, HasFaultyLine, HasNoVersion, HasRest, IsCut, IsTooLong, HasFault}
 use Rattle.certificate.specs.Exact.{Alike}
-use Rattle.certificate.proofs.TextLemmas.{along, seam, front_newest}
+use Rattle.certificate.proofs.TextLemmas.{along, either, seam, front_newest}
 use Rattle.certificate.proofs.OneLineLemmas.{line_one, first_one}
 use Rattle.certificate.proofs.LengthLemmas.{line_feed, version_feed}
 use Rattle.certificate.proofs.OneTextLemmas.{no_line, version_one}
@@ -88,23 +87,16 @@ length_same = along SameLine (λ b c. length b ≡ length c) refl (λ l m ls ms 
 next_same : (b c : List Line) → Alike SameLine b c → next_place b ≡ next_place c
 next_same = along SameLine (λ b c. next_place b ≡ next_place c) refl (λ l m ls ms h e. ap (λ k. k + 1) (place_kept l m h))
 
-if_alike : (p q : Bool) (a b c d : List Line) → p ≡ q → Alike SameLine a c → Alike SameLine b d →
-    Alike SameLine (if p then a else b) (if q then c else d)
-if_alike true true a b c d e f g = f
-if_alike true false a b c d e f g = absurd (true≢false e)
-if_alike false true a b c d e f g = absurd (false≢true e)
-if_alike false false a b c d e f g = g
-
 heads_same : (b c : List Line) → Alike SameLine b c → Alike SameLine (heads b) (heads c)
 heads_same =
     along SameLine (λ b c. Alike SameLine (heads b) (heads c)) tt
-    (λ l m ls ms h g. if_alike (is_detail l) (is_detail m) (heads ls) (l ∷ heads ls) (heads ms) (m ∷ heads ms) (one_kind l m h).detail g (h, g))
+    (λ l m ls ms h g. either (Alike SameLine) (is_detail l) (is_detail m) (heads ls) (heads ms) (l ∷ heads ls) (m ∷ heads ms) (one_kind l m h).detail g (h, g))
 
 last_same : (b c : List Line) → Alike SameLine b c → Alike SameLine (details_of_last b) (details_of_last c)
 last_same =
     along SameLine (λ b c. Alike SameLine (details_of_last b) (details_of_last c)) tt
     (λ l m ls ms h g.
-    if_alike (is_detail l) (is_detail m) (l ∷ details_of_last ls) [] (m ∷ details_of_last ms) [] (one_kind l m h).detail (h, g) tt)
+    either (Alike SameLine) (is_detail l) (is_detail m) (l ∷ details_of_last ls) (m ∷ details_of_last ms) [] [] (one_kind l m h).detail (h, g) tt)
 
 -- What may come next.
 pub stand_same : (b c : List Line) (l m : Line) → Alike SameLine b c → SameLine l m → may_stand b l ≡ may_stand c m
@@ -114,7 +106,7 @@ stand_same b c l m h g =
 order_same : (b c : List Line) (l m : Line) → Alike SameLine b c → SameLine l m → InOrder b l → InOrder c m
 order_same b c l m h g o =
     let e : next_place (fellows b l) ≡ next_place (fellows c m) = next_same (fellows b l) (fellows c m)
-    (if_alike (is_detail l) (is_detail m) (details_of_last b) (heads b) (details_of_last c) (heads c) (one_kind l m g).detail
+    (either (Alike SameLine) (is_detail l) (is_detail m) (details_of_last b) (details_of_last c) (heads b) (heads c) (one_kind l m g).detail
     (last_same b c h) (heads_same b c h)) in
     let f : place l ≡ place m = place_kept l m g in omega arith
 

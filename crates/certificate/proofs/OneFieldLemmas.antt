@@ -1,7 +1,7 @@
 -- What is written of a field tells what it says and what comes after it.
 use Rattle.std.proofs.Common.{◌≡◌, ℕ, zero, suc, ◌+◌, ◌/◌, ◌%◌, ◌<◌, ◌≤◌, ◌==◌, true, false, List, [], ◌∷◌, ◌++◌, refl, ap, ◌∙◌, sym, inl, inr, arith, append_assoc}
 use Rattle.std.specs.Prelude.{codes}
-use Rattle.std.proofs.lemmas.Bool.{eq-eqb, ne_eqb, cases_lt}
+use Rattle.std.proofs.lemmas.Bool.{eq-eqb, ne_eqb, cases_lt, cases_Bool}
 use Rattle.word12.specs.Words.{octal_text}
 use Rattle.wordset.specs.Words.{Words, SameWords}
 use Rattle.domain.specs.Facts.{Location, Ac, Cell}
@@ -13,7 +13,7 @@ use Rattle.certificate.specs.Packed.{set_of_runs, StandApart}
 use Rattle.certificate.proofs.ApartLemmas.{more_text, runs_text, run_is}
 use Rattle.certificate.proofs.SetLemmas.{by_words, empty_text}
 use Rattle.certificate.proofs.RunLemmas.{first_digit, no_dash, no_comma}
-use Rattle.certificate.proofs.DigitLemmas.{digit_at, digits_from, from_more, from_none, other_digit, by_digit, digit_first, all_from, no_offsets, some_offsets, by_offsets}
+use Rattle.certificate.proofs.DigitLemmas.{digit_at, digits_from, from_more, from_none, other_digit, all_from, no_offsets, some_offsets, by_offsets}
 
 pub word_one : (a b : ℕ) (x y : List ℕ) → a < 4096 → b < 4096 → octal_text a ++ x ≡ octal_text b ++ y → (a ≡ b) × (x ≡ y)
 word_one a b x y f g e =
@@ -111,15 +111,15 @@ no_digit s n e = rw e refl
 digits_from_one : (k n : ℕ) (s t : Words) (x y : List ℕ) → EndsField x → EndsField y → digits_from k n s ++ x ≡ digits_from k n t ++ y →
     ((v : ℕ) → n ≤ v → v < n + k → s v ≡ t v) × (x ≡ y)
 digits_from_one zero n s t x y dx dy e = (λ v a b. absurd (omega arith), rw (from_none n s, from_none n t) at e)
-digits_from_one (suc k) n s t x y dx dy e = elim (by_digit s n) [
-  | inl f ↦ elim (by_digit t n) [
+digits_from_one (suc k) n s t x y dx dy e = elim (cases_Bool (s n)) [
+  | inl f ↦ elim (cases_Bool (t n)) [
     | inl g ↦ (
         let q : (48 + n) ∷ (digits_from k (n + 1) s ++ x) ≡ (48 + n) ∷ (digits_from k (n + 1) t ++ y) = rw (at_digit s n f, at_digit t n g) at m in
         both (f ∙ sym g) (digits_from_one k (n + 1) s t x y dx dy (cc)))
-    | inr g ↦ absurd (other_digit k (n + 1) n t y (digits_from k (n + 1) s ++ x) dy (omega arith) (sym (rw (at_digit s n f, no_digit t n g) at m)))
+    | inr g ↦ absurd (other_digit k (n + 1) (48 + n) t y (digits_from k (n + 1) s ++ x) dy (omega arith) (omega arith) (sym (rw (at_digit s n f, no_digit t n g) at m)))
   ]
-  | inr f ↦ elim (by_digit t n) [
-    | inl g ↦ absurd (other_digit k (n + 1) n s x (digits_from k (n + 1) t ++ y) dx (omega arith) (rw (no_digit s n f, at_digit t n g) at m))
+  | inr f ↦ elim (cases_Bool (t n)) [
+    | inl g ↦ absurd (other_digit k (n + 1) (48 + n) s x (digits_from k (n + 1) t ++ y) dx (omega arith) (omega arith) (rw (no_digit s n f, at_digit t n g) at m))
     | inr g ↦ both (f ∙ sym g) (digits_from_one k (n + 1) s t x y dx dy (rw (no_digit s n f, no_digit t n g) at m))
   ]
 ]
@@ -147,10 +147,10 @@ pub offsets_one : (s t : Words) (x y : List ℕ) → EndsField x → EndsField y
 offsets_one s t x y dx dy e = elim (by_offsets s) [
   | inl f ↦ elim (by_offsets t) [
     | inl g ↦ digits_one 8 s t x y dx dy (rw (some_offsets s f, some_offsets t g) at e)
-    | inr g ↦ absurd (digit_first 8 0 s x y dx (rw (some_offsets s f, all_from 8 s, no_offsets t g) at e))
+    | inr g ↦ absurd (other_digit 8 0 45 s x y dx (omega arith) (omega arith) (rw (some_offsets s f, all_from 8 s, no_offsets t g) at e))
   ]
   | inr f ↦ elim (by_offsets t) [
-    | inl g ↦ absurd (digit_first 8 0 t y x dy (sym (rw (no_offsets s f, some_offsets t g, all_from 8 t) at e)))
+    | inl g ↦ absurd (other_digit 8 0 45 t y x dy (omega arith) (omega arith) (sym (rw (no_offsets s f, some_offsets t g, all_from 8 t) at e)))
     | inr g ↦ (λ v p. f v p ∙ sym (g v p), (let z : 45 ∷ x ≡ 45 ∷ y = rw (no_offsets s f, no_offsets t g) at e in cc))
   ]
 ]

@@ -3,7 +3,7 @@ use Rattle.std.proofs.Common.{◌≡◌, ℕ, ◌+◌, ◌-◌, ◌<◌, ◌≤�
 use Rattle.std.specs.Prelude.{not, nat_le, slice_range}
 use Rattle.std.specs.List.{AllByRecursion}
 use Rattle.std.proofs.lemmas.Bool.{true≢false, cases_lt}
-use Rattle.std.proofs.Math.Bool.{or-true}
+use Rattle.std.proofs.Math.Bool.{or-true, and-false}
 use Rattle.std.proofs.lemmas.Bool.Decides.{nat_tests}
 use Rattle.std.proofs.lemmas.List.{take_all, take_at, take_more, drop_at, drop-append-le, take-append-le, length-drop, length-map, drop-map, drop_more, map_push, map_more}
 use Rattle.std.proofs.lemmas.List.Elements.{All-from_recursion}
@@ -40,20 +40,12 @@ pub below_between : (low high v : ℕ) → v < low → between low high v ≡ fa
 below_between low high v a = grind (arith, nat_tests)
 
 pub above_between : (low high v : ℕ) → high < v → between low high v ≡ false
-above_between low high v a = go (nat_le low v) (nat_le v high) (grind (arith, nat_tests))
-  where
-    go : (b c : Bool) → c ≡ false → (b && c) ≡ false
-    go true c e = e
-    go false c e = refl
+above_between low high v a = let e : nat_le v high ≡ false = grind (arith, nat_tests) in rw e (and-false (nat_le low v))
 
 -- No run, and a run more.
 pub no_run : (v : ℕ) → set_of_runs [] v ≡ false
 unfolding set_of_runs
-no_run v = go (all_words v)
-  where
-    go : (b : Bool) → (b && false) ≡ false
-    go true = refl
-    go false = refl
+no_run v = and-false (all_words v)
 
 pub run_more : (rs : List Run) (r : Run) → r.last < 4096 → (v : ℕ) → set_of_runs (rs ++ r ∷ []) v ≡ (set_of_runs rs v || between r.first r.last v)
 unfolding set_of_runs

@@ -1,8 +1,7 @@
 -- A certificate's text taken byte by byte.
-use Rattle.std.proofs.Common.{◌≡◌, ◌⊎◌, ℕ, ◌+◌, ◌<◌, ◌≤◌, ◌==◌, Bool, true, false, List, [], ◌∷◌, ◌++◌, length, Option, Some, None, refl, ap, ◌∙◌, sym, subst, inl, inr, arith, append_assoc, append-nil, length-append}
-use Rattle.std.specs.Prelude.{not, ◌&&◌, ◌||◌, take}
+use Rattle.std.proofs.Common.{◌≡◌, ℕ, ◌+◌, ◌<◌, ◌≤◌, ◌==◌, Bool, true, false, List, [], ◌∷◌, ◌++◌, length, Option, Some, None, refl, ap, ◌∙◌, sym, subst, inl, inr, arith, append_assoc, append-nil, length-append}
+use Rattle.std.specs.Prelude.{not, ◌&&◌, ◌||◌}
 use Rattle.std.proofs.lemmas.Bool.{true≢false, eqb-true, eq-eqb, cases_lt}
-use Rattle.std.proofs.Math.Seq.{take-append_seam}
 use Rattle.certificate.specs.declared.Version.{Version}
 use Rattle.certificate.specs.declared.CertificateFault.{CertificateFault}
 use Rattle.certificate.specs.declared.CertificateFault.TheVariants as faults
@@ -150,9 +149,9 @@ next_refused kept text line bytes old p q f is h small t = go f t
     g = let z : HasRead (Some p) text kept = rw is at h.read in z
 
     go : (f : CertificateFault) → ((before : List Line) → Tracks p before → Declines p.version before line f) → Refuses (bytes ++ 10 ∷ []) f
-    go (faults.BadLine n) t = let b = t g.before g.tracks in inr (λ rest. inl (faulty kept p text line bytes rest n IsBad g e feed small b.0 b.1))
-    go (faults.Order n) t = let b = t g.before g.tracks in inr (λ rest. faulty kept p text line bytes rest n IsMisplaced g e feed small b.0 b.1)
-    go faults.TooMany t = inr (λ rest. inl (length g.before + 2, faulty kept p text line bytes rest (length g.before + 2) IsOneTooMany g e feed small refl (t g.before g.tracks)))
+    go (faults.BadLine n) t = let b = t g.before g.tracks in λ rest. inl (faulty kept p text line bytes rest n IsBad g e feed small b.0 b.1)
+    go (faults.Order n) t = let b = t g.before g.tracks in λ rest. faulty kept p text line bytes rest n IsMisplaced g e feed small b.0 b.1
+    go faults.TooMany t = λ rest. inl (length g.before + 2, faulty kept p text line bytes rest (length g.before + 2) IsOneTooMany g e feed small refl (t g.before g.tracks))
     go faults.Version t = absurd (t g.before g.tracks)
     go faults.NoMemory t = absurd (t g.before g.tracks)
     go faults.ReadFault t = absurd (t g.before g.tracks)
@@ -160,8 +159,8 @@ next_refused kept text line bytes old p q f is h small t = go f t
 -- A line that is too long.
 pub long_refused : (kept : Packed) (text line bytes : List ℕ) (old : Option Progress) (p : Progress) (long : Bool) (n : ℕ) → old ≡ Some p → long ≡ true →
     Parts text kept old line long bytes → length bytes < most_bytes → n ≡ p.number → Refuses (bytes ++ 10 ∷ []) (faults.BadLine n)
-long_refused kept text line bytes old p long n is e h small number =
-    inr (λ rest. inl (faulty kept p text h.tail bytes rest n IsBad g h.split h.feed small (number ∙ g.tracks.number) (long_bad p.version g.before h.tail (h.long e))))
+long_refused kept text line bytes old p long n is e h small number = λ rest.
+    inl (faulty kept p text h.tail bytes rest n IsBad g h.split h.feed small (number ∙ g.tracks.number) (long_bad p.version g.before h.tail (h.long e)))
   where
     g : Reached p text kept
     g = let z : HasRead (Some p) text kept = rw is at h.read in z
@@ -212,24 +211,6 @@ passed kept text line new_line bytes piece progress long h n fits = record {
     longer true q = let z : 32768 < length h.tail = h.long q in omega (arith, length-append h.tail piece)
     longer false q = let z : length line ≡ length h.tail = ap length (h.same q) in omega (arith, length-append h.tail piece)
 
--- A byte past the most.
-pub one_too_many : (kept : Packed) (text line bytes : List ℕ) (progress : Option Progress) (long : Bool) (b count : ℕ) → Parts text kept progress line long bytes →
-    count ≡ most_bytes → count ≡ length bytes → Refuses (bytes ++ b ∷ []) faults.TooMany
-one_too_many kept text line bytes progress long b count h most e =
-    let n : length bytes ≡ most_bytes = sym e ∙ most in
-    inr (λ rest. inr (
-      (let z : length (bytes ++ b ∷ [] ++ rest) ≡ length bytes + 1 + length rest =
-          ap length (append_assoc bytes (b ∷ []) rest) ∙ (length-append bytes (b ∷ rest) ∙ omega arith) in omega arith),
-      (let t : take most_bytes (bytes ++ b ∷ [] ++ rest) ≡ bytes =
-          ap (λ (x : List ℕ). take most_bytes x) (append_assoc bytes (b ∷ []) rest) ∙
-          (ap (λ k. take k (bytes ++ (b ∷ rest))) (sym n) ∙ take-append_seam bytes (b ∷ rest)) in
-          rw t (whole progress h)),
-    ))
-  where
-    whole : (o : Option Progress) → Parts text kept o line long bytes → NoFeed bytes ⊎ HasRest bytes
-    whole None h = inl (let z : text ≡ [] = h.read.0 in let w : bytes ≡ h.tail = h.split ∙ rw z refl in rw w h.feed)
-    whole (Some p) h = inr (rest_of kept text line bytes long p h)
-
 pub is_full : (n most : ℕ) → true ≡ (n == most) → most ≤ n
 is_full n most e = let z : n ≡ most = eqb-true n most (sym e) in omega arith
 
@@ -255,36 +236,32 @@ pub not_empty : (line : List ℕ) → false ≡ (length line == 0) → line ≡ 
 not_empty line e f = true≢false (sym (eq-eqb (length line) 0 (ap length f)) ∙ sym e)
 
 -- The certificate that is kept.
-pub whole_kept : (kept : Packed) (text : List ℕ) (o : Option Progress) (p : Progress) (v : Version) → v ≡ p.version → o ≡ Some p →
-    HasRead o text kept → ((before : List Line) → Tracks p before → any is_end before ≡ true) → IsWhole v kept
-whole_kept kept text o p v same is h ended =
+pub whole_kept : (kept : Packed) (text : List ℕ) (o : Option Progress) (p : Progress) → o ≡ Some p → HasRead o text kept → p.ended ≡ true →
+    IsWhole p.version kept
+whole_kept kept text o p is h done =
     let g : Reached p text kept = let z : HasRead (Some p) text kept = rw is at h in z in
-    let e : Ended p.version g.before = ended_last p.version g.before g.order (ended g.before g.tracks) in
-    whole v kept (rw (same, g.keeps) e.order) (rw g.keeps e.no_end)
+    let e : Ended p.version g.before = ended_last p.version g.before g.order (sym g.tracks.others.ended ∙ done) in
+    whole p.version kept (rw g.keeps e.order) (rw g.keeps e.no_end)
 
-pub whole_parsed : (kept : Packed) (text line bytes : List ℕ) (o : Option Progress) (p : Progress) (long : Bool) (v : Version) →
-    v ≡ p.version → o ≡ Some p → ((before : List Line) → Tracks p before → any is_end before ≡ true) →
-    IsWhole v kept → Parts text kept o line long bytes → long ≡ false → line ≡ [] → length bytes ≤ most_bytes →
-    IsParsed bytes (record { version = v; lines = kept })
-whole_parsed kept text line bytes o p long v same is ended w h short none few =
+pub whole_parsed : (kept : Packed) (text line bytes : List ℕ) (o : Option Progress) (p : Progress) (long : Bool) → o ≡ Some p → p.ended ≡ true →
+    IsWhole p.version kept → Parts text kept o line long bytes → long ≡ false → line ≡ [] → length bytes ≤ most_bytes →
+    IsParsed bytes (record { version = p.version; lines = kept })
+whole_parsed kept text line bytes o p long is done w h short none few =
     record {
-      found = all ∙ (sym (ap (front v) lines) ∙
-          (sym (text_of_gathered v (said_lines kept ++ End ∷ []) (rw lines order) (rw lines has_end)) ∙ ap spelled (gathered_end v (said_lines kept) w.order w.no_end)));
-      lines = gathered_formed v (said_lines kept) w.order;
-      is_text = record { lines = g.before; order = order; ended = has_end; text = all; few = few };
+      found = all ∙ (sym (ap (front p.version) lines) ∙
+          (sym (text_of_gathered p.version (said_lines kept ++ End ∷ []) (rw lines g.order) (rw lines has_end)) ∙ ap spelled (gathered_end p.version (said_lines kept) w.order w.no_end)));
+      lines = gathered_formed p.version (said_lines kept) w.order;
+      is_text = record { lines = g.before; order = g.order; ended = has_end; text = all; few = few };
     }
   where
     g : Reached p text kept
     g = let z : HasRead (Some p) text kept = rw is at h.read in z
 
-    order : AreInOrder v g.before
-    order = rw same g.order
-
     has_end : any is_end g.before ≡ true
-    has_end = ended g.before g.tracks
+    has_end = sym g.tracks.others.ended ∙ done
 
-    all : bytes ≡ front v g.before
-    all = h.split ∙ (ap (λ (x : List ℕ). text ++ x) (sym (h.same short) ∙ none) ∙ (append-nil text ∙ (g.is ∙ ap (λ (x : Version). front x g.before) (sym same))))
+    all : bytes ≡ front p.version g.before
+    all = h.split ∙ (ap (λ (x : List ℕ). text ++ x) (sym (h.same short) ∙ none) ∙ (append-nil text ∙ g.is))
 
     lines : newest_first [] (said_lines kept ++ End ∷ []) ≡ g.before
     lines =

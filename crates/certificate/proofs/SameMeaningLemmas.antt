@@ -1,7 +1,6 @@
 -- Certificates that say the same line by line make the same claims.
 use Rattle.std.proofs.Common.{◌≡◌, ℕ, ◌<◌, ◌==◌, Bool, true, false, List, [], ◌∷◌, refl, ap}
 use Rattle.std.specs.Prelude.{◌&&◌, if◌then◌else◌}
-use Rattle.std.proofs.lemmas.Bool.{true≢false, false≢true}
 use Rattle.wordset.specs.Words.{Words, SameWords}
 use Rattle.domain.specs.Facts.{Location, Ac, Cell}
 use Rattle.domain.specs.Statements.{TrackedCell, Statement, tracked, sets_of, fact_of, unknown}
@@ -10,13 +9,7 @@ use Rattle.certificate.specs.Spelling.{RoutineLine, ExitLine, Lines}
 use Rattle.certificate.specs.Reading.{has_routine, rank_in, sites_in, writes_in, has_fact_in, fact_in, is_exit, has_exit_in, exit_in, certificate_of}
 use Rattle.certificate.specs.Exact.{Alike, SameRoutineLine, SameCell, SameStatement, SameFactLine, SameExitLine, SameLines, SameCertificate, MeaningLaw}
 use Rattle.wordset.specs.Words.{everything}
-use Rattle.certificate.proofs.TextLemmas.{along}
-
-either : {A : Type 0} (R : A → A → Type 0) (b c : Bool) (w x y z : A) → b ≡ c → R w x → R y z → R (if b then w else y) (if c then x else z)
-either R true true w x y z e f g = f
-either R true false w x y z e f g = absurd (true≢false e)
-either R false true w x y z e f g = absurd (false≢true e)
-either R false false w x y z e f g = g
+use Rattle.certificate.proofs.TextLemmas.{along, either}
 
 -- Lists searched from their front on.
 searched : {A B : Type 0} (Same : A → A → Type 0) (R : B → B → Type 0) (test : A → Bool) (value : A → B) (other : B) (find : List A → B) →

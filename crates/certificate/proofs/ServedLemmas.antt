@@ -16,9 +16,8 @@ use Rattle.certificate.specs.Packed.{Packed}
 use Rattle.certificate.specs.Order.{any, is_end}
 use Rattle.certificate.specs.Faults.{most_bytes, NoFeed, IsText, HasRest, HasFault, AsksForMemory}
 use Rattle.certificate.specs.Kept.{Kept, meaning}
-use Rattle.certificate.specs.Parser.{Parts, Seen, IsSmall, Refuses, IsParsed}
+use Rattle.certificate.specs.Parser.{CameTo, Told, IsAnswered, Serves, Parts, Seen, IsSmall, Refuses, IsParsed}
 use Rattle.certificate.specs.Serving.{Settles, IsUnanswered, is_read_fault, failed_to_read}
-use Rattle.certificate.specs.Served.{CameTo, IsAnswered, Serves}
 use Rattle.certificate.proofs.LengthLemmas.{no_feed_both, feed_taken}
 use Rattle.certificate.proofs.OneFaultLemmas.{no_fault, one_fault}
 use Rattle.certificate.proofs.ParserLemmas.{rest_of}
@@ -59,9 +58,9 @@ asks_on xs ys zs e a = record {
 
 -- What a front refuses the whole refuses.
 pub refused_on : (xs ys zs : List ℕ) (fault : CertificateFault) → xs ++ ys ≡ zs → Refuses xs fault → Refuses zs fault
-refused_on xs ys zs fault e (inl asks) = inl (asks.0, asks_on xs ys zs e asks.1)
-refused_on xs ys zs fault e (inr settled) = inr (λ rest.
-    subst (λ (x : List ℕ). HasFault x fault) (sym (append_assoc xs ys rest) ∙ ap (λ (x : List ℕ). x ++ rest) e) (settled (ys ++ rest)))
+refused_on xs ys zs faults.NoMemory e asks = asks_on xs ys zs e asks
+refused_on xs ys zs fault e settled = λ rest.
+    subst (λ (x : List ℕ). HasFault x fault) (sym (append_assoc xs ys rest) ∙ ap (λ (x : List ℕ). x ++ rest) e) (settled (ys ++ rest))
 
 -- What may follow the bytes that the parser took.
 module _ (kept : Packed) (text line bytes : List ℕ) (long : Bool) where
@@ -80,13 +79,26 @@ module _ (kept : Packed) (text line bytes : List ℕ) (long : Bool) where
     feed = no_feed_both h.tail more h.feed feed;
   })
 
+  -- More bytes come than are read, and none of those that are is a line feed.
+  pub full : (o : Option Progress) → Parts text kept o line long bytes → (k : ℕ) (piece : List ℕ) → length bytes + k ≡ most_bytes →
+      k < length piece → NoFeed (take k piece) → Refuses (bytes ++ piece) faults.TooMany
+  full o h k piece most more feed = λ rest. inr (
+    omega (arith, length-append (bytes ++ piece) rest, length-append bytes piece),
+    subst (λ (x : List ℕ). NoFeed x ⊎ HasRest x) (sym (front rest)) (goes_on o h (take k piece) feed),
+  )
+    where
+      front : (rest : List ℕ) → take most_bytes (bytes ++ piece ++ rest) ≡ bytes ++ take k piece
+      front rest =
+          ap (λ (x : List ℕ). take most_bytes x) (append_assoc bytes piece rest) ∙
+          (ap (λ i. take i (bytes ++ (piece ++ rest))) (sym most) ∙
+          (take-append-add bytes (piece ++ rest) k ∙ ap (λ (x : List ℕ). bytes ++ x) (take-append-le k piece rest (omega arith))))
+
   -- There may follow too many,
   too_long : (o : Option Progress) → Parts text kept o line long bytes → (k : ℕ) → length bytes + k ≡ most_bytes → HasFault (bytes ++ replicate (k + 1) 0) faults.TooMany
   too_long o h k most =
-      let n : length (bytes ++ replicate (k + 1) 0) ≡ length bytes + (k + 1) = length-append bytes (replicate (k + 1) 0) ∙ ap (λ i. length bytes + i) (length-replicate (k + 1) 0) in
-      let t : take most_bytes (bytes ++ replicate (k + 1) 0) ≡ bytes ++ take k (replicate (k + 1) 0) =
-      ap (λ i. take i (bytes ++ replicate (k + 1) 0)) (sym most) ∙ take-append-add bytes (replicate (k + 1) 0) k in
-      inr (omega arith, subst (λ (x : List ℕ). NoFeed x ⊎ HasRest x) (sym t) (goes_on o h (take k (replicate (k + 1) 0)) (feed_taken k _ (zeros_feed (k + 1)))))
+      let n : length (replicate {A = ℕ} (k + 1) 0) ≡ k + 1 = length-replicate (k + 1) 0 in
+      subst (λ (x : List ℕ). HasFault x faults.TooMany) (append-nil (bytes ++ replicate (k + 1) 0))
+      (full o h k (replicate (k + 1) 0) most (omega arith) (feed_taken k _ (zeros_feed (k + 1))) [])
 
   -- or nothing.
   other_end : (p : Progress) → Parts text kept (Some p) line long bytes → length bytes ≤ most_bytes → HasFault bytes faults.TooMany → ⊥
@@ -154,8 +166,8 @@ no_read bytes faults.ReadFault h = absurd h
 no_read bytes fault h = refl
 
 pub no_read_refused : (bytes : List ℕ) (fault : CertificateFault) → Refuses bytes fault → is_read_fault fault ≡ false
-no_read_refused bytes fault (inl e) = rw e.0 refl
-no_read_refused bytes fault (inr h) = no_read (bytes ++ []) fault (h [])
+no_read_refused bytes faults.NoMemory h = refl
+no_read_refused bytes fault h = no_read (bytes ++ []) fault (h [])
 
 pub no_read_parsed : {X : Type 0} (P : X → Type 0) (bytes : List ℕ) (r : Result X CertificateFault) → MatchResult r P (HasFault bytes) → failed_to_read r ≡ false
 no_read_parsed P bytes (Ok x) h = refl
@@ -178,7 +190,7 @@ module _ {A : Type 0} (a b c : Option (List ℕ)) (p : Parser A) where
     taken = Consumes-kept a b c came.given came.taken keeps;
     count = (let e : p.count ≡ length came.given = came.count in let few : p.count ≤ most_bytes = came.small.count in omega arith);
     prompt = λ n le. taken_open n came.given (came_open came);
-    answer = inl (refl, came_open came);
+    answer = came_open came;
   }
 
   pub serve_end : (r : Result Kept CertificateFault) → (came : CameTo a b p) → Consumes b c [] → IsAtEnd c →
@@ -188,12 +200,14 @@ module _ {A : Type 0} (a b c : Option (List ℕ)) (p : Parser A) where
     taken = subst (Consumes a c) (append-nil came.given) (Consumes-trans a b c came.given [] came.taken taken);
     count = (let e : p.count ≡ length came.given = came.count in let few : p.count ≤ most_bytes = came.small.count in omega arith);
     prompt = λ n le. taken_open n came.given (came_open came);
-    answer = inr (ended r answer);
+    answer = ended r answer;
   }
     where
       ended : (r : Result Kept CertificateFault) → MatchResult r (IsParsed came.given) (HasFault came.given) → IsAnswered came.given c r
       ended (Ok k) h = (h, end)
-      ended (Err fault) h = inr (inr (h, end))
+      ended (Err faults.NoMemory) h = absurd h
+      ended (Err faults.ReadFault) h = absurd h
+      ended (Err fault) h = inr (h, end)
 
   module _ (piece : List ℕ) (came : CameTo a b p) (taken : Consumes b c piece) where
     both_count : length (came.given ++ piece) ≡ p.count + length piece
@@ -214,26 +228,17 @@ module _ {A : Type 0} (a b c : Option (List ℕ)) (p : Parser A) where
       taken = Consumes-trans a b c came.given piece came.taken taken;
       count = (let e = both_count in omega (arith, e));
       prompt = prompt_after came.given piece (came_open came) short;
-      answer = inr (told refused);
+      answer = told fault refused;
     }
       where
-        told : Refuses (came.given ++ piece) fault → IsAnswered (came.given ++ piece) c (Err fault)
-        told (inl e) = inl e
-        told (inr h) = inr (inl h)
+        told : (fault : CertificateFault) → Refuses (came.given ++ piece) fault → Told (came.given ++ piece) c fault
+        told faults.NoMemory h = h
+        told faults.ReadFault h = absurd (h [])
+        told fault h = inl h
 
 -- What the answer says of the source's bytes.
 abbrev pub Answer : Type 0
 Answer = Result Kept CertificateFault
-
-abbrev the_ok : Kept → Answer
-the_ok c = Ok c
-
-abbrev the_err : CertificateFault → Answer
-the_err fault = Err fault
-
--- A read failed before the bytes brought an answer.
-abbrev pub Fails : List ℕ → Answer → Type 0
-Fails given r = (r ≡ Err faults.ReadFault) × IsUnanswered given
 
 abbrev pub IsFaultOf : Option (List ℕ) → CertificateFault → Type 0
 IsFaultOf old fault = (fault ≡ faults.NoMemory) ⊎ ((fault ≡ faults.ReadFault) ⊎ IfSome old (λ bytes. HasFault bytes fault))
@@ -243,12 +248,6 @@ of_front None new given fault t s = tt
 of_front (Some bytes) None given fault t s = absurd t
 of_front (Some bytes) (Some rest) given fault t s = subst (λ (x : List ℕ). HasFault x fault) (sym t) (s rest)
 
-other : (c : Kept) → the_ok c ≡ the_err faults.ReadFault → ⊥
-other c e = absurd (cc)
-
-same_fault : (f g : CertificateFault) → the_err f ≡ the_err g → f ≡ g
-same_fault f g e = cc
-
 module _ (old new : Option (List ℕ)) where
   pub gave : (r : Answer) (s : Serves old new r) (P : List ℕ → Type 0) → P s.given → Gave old new P
   gave r s P h = go old s.taken
@@ -257,57 +256,20 @@ module _ (old new : Option (List ℕ)) where
       go None t = tt
       go (Some bytes) t = (s.given, t, h)
 
-  pub serves_parsed : (c : Kept) (s : Serves old new (Ok c)) → IsParsed s.given c × IsAtEnd new
-  serves_parsed c s = go s.answer
-    where
-      go : Fails s.given (Ok c) ⊎ IsAnswered s.given new (Ok c) → IsParsed s.given c × IsAtEnd new
-      go (inl h) = absurd (other c h.0)
-      go (inr h) = h
-
   pub serves_found : (r : Answer) → Serves old new r → (P : List ℕ → Kept → Type 0) → ((bytes : List ℕ) (c : Kept) → IsParsed bytes c → P bytes c) →
       IfOk r (λ c. IfSome old (λ bytes. P bytes c))
   serves_found (Err fault) s P to = tt
-  serves_found (Ok c) s P to =
-      let h = serves_parsed c s in
-      Consumes-whole old new s.given (λ bytes. P bytes c) s.taken h.1 (to s.given c h.0)
+  serves_found (Ok c) s P to = Consumes-whole old new s.given (λ bytes. P bytes c) s.taken s.answer.1 (to s.given c s.answer.0)
 
   pub serves_refused : (r : Answer) → Serves old new r → IfErr r (IsFaultOf old)
   serves_refused (Ok c) s = tt
-  serves_refused (Err fault) s = go s.answer
+  serves_refused (Err fault) s = go fault s.answer
     where
-      go : Fails s.given (Err fault) ⊎ IsAnswered s.given new (Err fault) → IsFaultOf old fault
-      go (inl h) = inr (inl (same_fault fault faults.ReadFault h.0))
-      go (inr (inl e)) = inl e.0
-      go (inr (inr (inl h))) = inr (inr (of_front old new s.given fault s.taken h))
-      go (inr (inr (inr h))) = inr (inr (Consumes-whole old new s.given (λ bytes. HasFault bytes fault) s.taken h.1 h.0))
-
-  pub serves_unanswered : (r : Answer) → (s : Serves old new r) → r ≡ Err faults.ReadFault → IsUnanswered s.given
-  serves_unanswered r s is = go r is s.answer
-    where
-      go : (r : Answer) → r ≡ Err faults.ReadFault → Fails s.given r ⊎ IsAnswered s.given new r → IsUnanswered s.given
-      go r e (inl h) = h.1
-      go (Ok c) e (inr h) = absurd (cc)
-      go (Err fault) e (inr h) = let f : fault ≡ faults.ReadFault = cc in absurd (none (rw f at h))
-        where
-          none : ((faults.ReadFault ≡ faults.NoMemory) × AsksForMemory s.given) ⊎ (Settles s.given faults.ReadFault ⊎ (HasFault s.given faults.ReadFault × IsAtEnd new)) → ⊥
-          none (inl e) = let z : faults.ReadFault ≡ faults.NoMemory = e.0 in absurd (cc)
-          none (inr (inl g)) = g []
-          none (inr (inr g)) = g.0
-
-  -- Memory is refused only for a line of what was given.
-  pub serves_memory : (r : Answer) → (s : Serves old new r) → r ≡ Err faults.NoMemory → AsksForMemory s.given
-  serves_memory r s is = go r is s.answer
-    where
-      go : (r : Answer) → r ≡ Err faults.NoMemory → Fails s.given r ⊎ IsAnswered s.given new r → AsksForMemory s.given
-      go r e (inl h) = let z : r ≡ Err faults.ReadFault = h.0 in let f : faults.NoMemory ≡ faults.ReadFault = same_fault _ _ (sym e ∙ z) in absurd (cc)
-      go (Ok c) e (inr h) = absurd (cc)
-      go (Err fault) e (inr h) = let f : fault ≡ faults.NoMemory = cc in told (rw f at h)
-        where
-          told : ((faults.NoMemory ≡ faults.NoMemory) × AsksForMemory s.given) ⊎ (Settles s.given faults.NoMemory ⊎ (HasFault s.given faults.NoMemory × IsAtEnd new)) →
-              AsksForMemory s.given
-          told (inl e) = e.1
-          told (inr (inl g)) = absurd (g [])
-          told (inr (inr g)) = absurd g.0
+      go : (fault : CertificateFault) → Told s.given new fault → IsFaultOf old fault
+      go faults.NoMemory h = inl refl
+      go faults.ReadFault h = inr (inl refl)
+      go fault (inl h) = inr (inr (of_front old new s.given fault s.taken h))
+      go fault (inr h) = inr (inr (Consumes-whole old new s.given (λ bytes. HasFault bytes fault) s.taken h.1 h.0))
 
   -- So no certificate is refused, and no fault is passed over.
   pub serves_only : (r : Answer) → Serves old new r → IfSome old (λ bytes. (v : Version) → IsText v bytes →
@@ -343,18 +305,3 @@ no_feed_more bytes n h front ne = rw (take_more bytes n 0 h) (no_feed_both (take
 pub with_feed : (before bytes : List ℕ) (n : ℕ) → n < length bytes → get_or bytes n 0 ≡ 10 → before ++ take n bytes ++ 10 ∷ [] ≡ before ++ take (n + 1) bytes
 with_feed before bytes n h e = append_assoc before (take n bytes) (10 ∷ []) ∙
     ap (λ (x : List ℕ). before ++ x) (ap (λ (b : ℕ). take n bytes ++ b ∷ []) (sym e) ∙ sym (take_more bytes n 0 h))
-
--- More bytes come than are read, and none of them is a line feed.
-pub too_many : (kept : Packed) (text line bytes piece : List ℕ) (progress : Option Progress) (long : Bool) (k : ℕ) → Parts text kept progress line long bytes →
-    NoFeed piece → length bytes + k ≡ most_bytes → k < length piece → Refuses (bytes ++ piece) faults.TooMany
-too_many kept text line bytes piece progress long k h feed most more = inr (λ rest. inr (
-  (let a : length (bytes ++ piece ++ rest) ≡ length (bytes ++ piece) + length rest = length-append (bytes ++ piece) rest in
-      let b : length (bytes ++ piece) ≡ length bytes + length piece = length-append bytes piece in omega arith),
-  subst (λ (x : List ℕ). NoFeed x ⊎ HasRest x) (sym (front rest)) (goes_on kept text line bytes long progress h (take k piece) (feed_taken k piece feed)),
-))
-  where
-    front : (rest : List ℕ) → take most_bytes (bytes ++ piece ++ rest) ≡ bytes ++ take k piece
-    front rest =
-        ap (λ (x : List ℕ). take most_bytes x) (append_assoc bytes piece rest) ∙
-        (ap (λ i. take i (bytes ++ (piece ++ rest))) (sym most) ∙
-        (take-append-add bytes (piece ++ rest) k ∙ ap (λ (x : List ℕ). bytes ++ x) (take-append-le k piece rest (omega arith))))

@@ -1,7 +1,7 @@
--- What is written of a set is the text of its runs.
-use Rattle.std.proofs.Common.{◌≡◌, ◌⊎◌, ℕ, zero, suc, ◌+◌, ◌-◌, ◌<◌, ◌≤◌, ◌==◌, Bool, true, false, not, ◌&&◌, ◌||◌, List, [], ◌∷◌, ◌++◌, refl, ap, ◌∙◌, sym, subst, inl, inr, arith, append_assoc, append-nil}
+-- What is written of a set is the text of its runs, and each set has some.
+use Rattle.std.proofs.Common.{◌≡◌, ◌⊎◌, ℕ, zero, suc, ◌+◌, ◌-◌, ◌<◌, ◌≤◌, ◌==◌, Bool, true, false, not, ◌&&◌, ◌||◌, List, [], ◌∷◌, ◌++◌, refl, ap, ◌∙◌, sym, inl, inr, arith, append_assoc, append-nil}
 use Rattle.std.specs.Prelude.{if◌then◌else◌, codes}
-use Rattle.std.proofs.lemmas.Bool.{true≢false, eq-eqb, ne_eqb, cases_lt}
+use Rattle.std.proofs.lemmas.Bool.{true≢false, eq-eqb, ne_eqb, cases_lt, cases_Bool}
 use Rattle.std.proofs.Math.Bool.{and-false, or-true}
 use Rattle.word12.specs.Words.{octal_text}
 use Rattle.wordset.specs.Words.{Words, SameWords, nothing, some_below, has_some}
@@ -11,7 +11,7 @@ use Rattle.certificate.specs.Spelling.{begins, ends, mark, marks, set_text}
 use Rattle.certificate.specs.Fields.{run_text}
 use Rattle.certificate.specs.Packed.{joined, set_of_runs, StandApart}
 use Rattle.certificate.proofs.PackedLemmas.{runs_within}
-use Rattle.certificate.proofs.ApartLemmas.{runs_text, has, comma, has_more, runs_more, in_first, one_list, Closed, none_closed, skip, close, closed_all, closed_apart}
+use Rattle.certificate.proofs.ApartLemmas.{more_text, runs_text, in_first, past_first, before_all, later}
 
 nothing_more : (b : Bool) (x : List ℕ) → (if b && false then x else []) ≡ []
 nothing_more true x = refl
@@ -23,200 +23,185 @@ mark_first s a e = rw e (rw (nothing_more (ends s a) (codes "-" ++ octal_text a)
 mark_last : (s : Words) (a : ℕ) → begins s a ≡ false → ends s a ≡ true → mark s a ≡ codes "-" ++ octal_text a
 mark_last s a e f = rw (e, f) refl
 
-mark_none : (s : Words) (a : ℕ) → begins s a ≡ false → ends s a ≡ false → mark s a ≡ []
-mark_none s a e f = rw (e, f) refl
-
 absent : (s : Words) (a : ℕ) → s a ≡ false → mark s a ≡ []
-absent s a e = mark_none s a (rw e refl) (rw e refl)
+absent s a e = rw e refl
 
 marks_more : (n : ℕ) (s : Words) → marks (n + 1) s ≡ marks n s ++ mark s n
 unfolding marks
 marks_more n s = let e : n + 1 ≡ suc n = omega arith in ap (λ k. marks k s) e
 
-some_more : (n : ℕ) (s : Words) → some_below (n + 1) s ≡ (s n || some_below n s)
-unfolding some_below
-some_more n s = let e : n + 1 ≡ suc n = omega arith in rw e refl
+-- Where nothing is written, the text stays.
+still : (s : Words) (n k m : ℕ) → m ≡ n + k → ((v : ℕ) → n ≤ v → v < m → mark s v ≡ []) → marks m s ≡ marks n s
+still s n zero m e none = let f : m ≡ n = omega arith in ap (λ i. marks i s) f
+still s n (suc k) m e none =
+    let f : m ≡ n + k + 1 = omega arith in
+    ap (λ i. marks i s) f ∙ (marks_more (n + k) s ∙ (ap (λ (x : List ℕ). marks (n + k) s ++ x) (none (n + k) (omega arith) (omega arith)) ∙
+    (append-nil (marks (n + k) s) ∙ still s n k (n + k) refl (λ v a b. none v a (omega arith)))))
 
--- The words below n are those of runs, and what is written of them is the text of these.
-record Marked (s : Words) (n next : ℕ) : Type 0 where
+-- What is written at the words of a run.
+run_marks : (s : Words) (low high : ℕ) → low ≤ high → high < 4096 → begins s low ≡ true → ((v : ℕ) → low ≤ v → v ≤ high → s v ≡ true) →
+    (high < 4095 → s (high + 1) ≡ false) → marks (high + 1) s ≡ marks low s ++ ((if some_below low s then codes "," else []) ++ run_text low high)
+run_marks s low high order small starts inside stops = elim (cases_lt low high) [
+  | inl h ↦
+      marks_more high s ∙ (ap (λ (x : List ℕ). marks high s ++ x) (mark_last s high (inner high h (omega arith)) last) ∙
+      (ap (λ (x : List ℕ). x ++ (codes "-" ++ octal_text high)) (still s (low + 1) (high - (low + 1)) high (omega arith) (quiet h) ∙ first) ∙
+      (append_assoc (marks low s) (comma ++ octal_text low) (codes "-" ++ octal_text high) ∙
+      ap (λ (x : List ℕ). marks low s ++ x) (append_assoc comma (octal_text low) (codes "-" ++ octal_text high) ∙ rw (ne_eqb low high (λ z. omega arith)) refl))))
+  | inr h ↦ (let z : high ≡ low = omega arith in rw (z, eq-eqb low low refl, append-nil (octal_text low)) first)
+]
+  where
+    comma : List ℕ
+    comma = if some_below low s then codes "," else []
+
+    first : marks (low + 1) s ≡ marks low s ++ (comma ++ octal_text low)
+    first = marks_more low s ∙ ap (λ (x : List ℕ). marks low s ++ x) (mark_first s low starts)
+
+    inner : (v : ℕ) → low < v → v ≤ high → begins s v ≡ false
+    inner v a b = rw (ne_eqb v 0 (λ z. omega arith), inside (v - 1) (omega arith) (omega arith)) (and-false (s v))
+
+    quiet : low < high → (v : ℕ) → low + 1 ≤ v → v < high → mark s v ≡ []
+    quiet h v a b =
+        let e : ends s v ≡ false = rw (ne_eqb v 4095 (λ z. omega arith), inside (v + 1) (omega arith) (omega arith)) (and-false (s v)) in
+        rw (inner v (omega arith) (omega arith), e) refl
+
+    last : ends s high ≡ true
+    last = elim (cases_lt high 4095) [
+      | inl a ↦ rw (inside high order (omega arith), stops a) (or-true (high == 4095))
+      | inr a ↦ rw (inside high order (omega arith), eq-eqb high 4095 (omega arith)) refl
+    ]
+
+-- The text of runs, of which the first has a comma before it if words came before.
+after : Bool → List Run → List ℕ
+after b [] = []
+after b (r ∷ rs) = ((if b then codes "," else []) ++ run_text r.first r.last) ++ more_text rs
+
+after_some : (rs : List Run) → after true rs ≡ more_text rs
+unfolding after
+after_some [] = refl
+after_some (r ∷ rs) = refl
+
+after_none : (rs : List Run) → after false rs ≡ runs_text rs
+unfolding after
+after_none [] = refl
+after_none (r ∷ rs) = refl
+
+-- From n on a set's words are those of runs that begin at another number or after it.
+marks_runs : (s : Words) (b : Bool) (n next : ℕ) (rs : List Run) → n ≤ 4096 → n ≤ next → (n ≡ 0) ⊎ (n < next) → StandApart next rs →
+    ((v : ℕ) → n ≤ v → v < 4096 → s v ≡ joined nothing rs v) →
+    ((m : ℕ) → n ≤ m → ((v : ℕ) → n ≤ v → v < m → s v ≡ false) → some_below m s ≡ b) → marks 4096 s ≡ marks n s ++ after b rs
+unfolding after
+marks_runs s b n next [] small within start apart same some =
+    still s n (4096 - n) 4096 (omega arith) (λ v c d. absent s v (same v c d)) ∙ sym (append-nil (marks n s))
+marks_runs s b n next (r ∷ rs) small within start apart same some =
+    marks_runs s true (r.last + 1) (r.last + 2) rs (omega arith) (omega arith) (inr (omega arith)) apart.3
+    (λ v c d. same v (omega arith) d ∙ past_first r rs v (omega arith))
+    (λ m c none. some_from m s r.last (omega arith) (inside r.last order (omega arith))) ∙
+    (ap (λ (x : List ℕ). marks (r.last + 1) s ++ x) (after_some rs) ∙
+    (ap (λ (x : List ℕ). x ++ more_text rs) run ∙ append_assoc (marks n s) ((if b then codes "," else []) ++ run_text r.first r.last) (more_text rs)))
+  where
+    reached : next ≤ r.first
+    reached = apart.0
+
+    order : r.first ≤ r.last
+    order = apart.1
+
+    high : r.last < 4096
+    high = apart.2
+
+    gap : (v : ℕ) → n ≤ v → v < r.first → s v ≡ false
+    gap v c d = same v c (omega arith) ∙ before_all r.first (r ∷ rs) v (omega arith, order, high, apart.3) d
+
+    inside : (v : ℕ) → r.first ≤ v → v ≤ r.last → s v ≡ true
+    inside v c d = same v (omega arith) (omega arith) ∙ in_first r rs v c d
+
+    before : (n ≡ 0) ⊎ (n < next) → 0 < r.first → n ≤ r.first - 1
+    before (inl e) p = omega arith
+    before (inr e) p = omega arith
+
+    starts : (r.first == 0 || not (s (r.first - 1))) ≡ true
+    starts = elim (cases_lt 0 r.first) [
+      | inl p ↦ rw (gap (r.first - 1) (before start p) (omega arith)) (or-true (r.first == 0))
+      | inr p ↦ rw (eq-eqb r.first 0 (omega arith)) refl
+    ]
+
+    run : marks (r.last + 1) s ≡ marks n s ++ ((if b then codes "," else []) ++ run_text r.first r.last)
+    run =
+        run_marks s r.first r.last order high (rw (inside r.first (omega arith) order) starts) inside
+        (λ c. same (r.last + 1) (omega arith) (omega arith) ∙ (past_first r rs (r.last + 1) (omega arith) ∙ before_all (r.last + 2) rs (r.last + 1) apart.3 (omega arith))) ∙
+        (ap (λ (x : List ℕ). x ++ ((if some_below r.first s then codes "," else []) ++ run_text r.first r.last))
+        (still s n (r.first - n) r.first (omega arith) (λ v c d. absent s v (gap v c d))) ∙
+        ap (λ c. marks n s ++ ((if c then codes "," else []) ++ run_text r.first r.last)) (some r.first (omega arith) gap))
+
+pub text_all : (s : Words) (rs : List Run) → StandApart 0 rs → ((v : ℕ) → v < 4096 → s v ≡ joined nothing rs v) → marks 4096 s ≡ runs_text rs
+unfolding marks
+text_all s rs h same =
+    marks_runs s false 0 0 rs (omega arith) (omega arith) (inl refl) h (λ v a b. same v b)
+    (λ m a none. some_none_of m s (λ v b. none v (omega arith) b)) ∙ after_none rs
+
+-- ---- the runs of a set
+
+-- The runs of a set's words from n on.
+record RunsFrom (s : Words) (n : ℕ) : Type 0 where
   runs : List Run
-  closed : Closed s runs n next
-  some : some_below n s ≡ has runs
-  text : marks n s ≡ runs_text runs
+  apart : StandApart n runs
+  same : (v : ℕ) → n ≤ v → v < 4096 → s v ≡ joined nothing runs v
 
--- A run may begin at n.
-record Gap (s : Words) (n : ℕ) : Type 0 where
-  marked : Marked s n n
-  starts : (n == 0 || not (s (n - 1))) ≡ true
-
--- A run has ended right before n.
-record Ended (s : Words) (n : ℕ) : Type 0 where
-  next : ℕ
-  few : next ≤ n + 1
-  marked : Marked s n next
-  none : n < 4096 → s n ≡ false
-
--- A run goes on at n.
-record Open (s : Words) (n : ℕ) : Type 0 where
-  low : ℕ
-  before : Marked s low low
-  reached : low < n
-  small : n < 4096
-  inside : (v : ℕ) → low ≤ v → v ≤ n → s v ≡ true
-  text : marks n s ≡ runs_text before.runs ++ comma before.runs ++ octal_text low
-
-abbrev State : Words → ℕ → Type 0
-State s n = Gap s n ⊎ (Ended s n ⊎ Open s n)
-
--- A word that isn't in the set.
-passed : (s : Words) (n next : ℕ) → Marked s n next → next ≤ n + 1 → s n ≡ false → Gap s (n + 1)
-passed s n next m h e = record {
-  marked = record {
-    runs = m.runs;
-    closed = skip s m.runs n next (n + 1) m.closed (omega arith) h (λ v a b c. let z : v ≡ n = omega arith in rw z e);
-    some = some_more n s ∙ rw e m.some;
-    text = marks_more n s ∙ (ap (λ (x : List ℕ). marks n s ++ x) (absent s n e) ∙ (append-nil (marks n s) ∙ m.text));
-  };
-  starts = (let k : n + 1 - 1 ≡ n = omega arith in let f : (n + 1 == 0) ≡ false = ne_eqb (n + 1) 0 (λ z. omega arith) in rw (f, k, e) refl);
-}
-
--- The last word of a run.
-ended : (s : Words) (low n : ℕ) (m : Marked s low low) → low ≤ n → n < 4096 → ((v : ℕ) → low ≤ v → v ≤ n → s v ≡ true) →
-    marks (n + 1) s ≡ runs_text m.runs ++ comma m.runs ++ run_text low n → (n < 4095 → s (n + 1) ≡ false) → Ended s (n + 1)
-ended s low n m order small inside text none = record {
-  next = n + 2;
-  few = omega arith;
-  marked = record {
-    runs = m.runs ++ run ∷ [];
-    closed = close s m.runs run m.closed order small inside;
-    some = some_from (n + 1) s n (omega arith) (inside n order (omega arith)) ∙ sym (has_more m.runs run);
-    text = text ∙ sym (runs_more m.runs run);
-  };
-  none = λ h. none (omega arith);
+-- A run at the front, and further ones.
+begun : (s : Words) (n last : ℕ) (rs : List Run) → n ≤ last → last < 4096 → StandApart (last + 2) rs → ((v : ℕ) → n ≤ v → v ≤ last → s v ≡ true) →
+    ((v : ℕ) → last < v → v < 4096 → s v ≡ joined nothing rs v) → RunsFrom s n
+begun s n last rs order small apart inside same = record {
+  runs = run ∷ rs;
+  apart = (omega arith, order, small, apart);
+  same = λ v a b. elim (cases_lt last v) [
+    | inl c ↦ same v c b ∙ sym (past_first run rs v c)
+    | inr c ↦ inside v a (omega arith) ∙ sym (in_first run rs v a (omega arith))
+  ];
 }
   where
     run : Run
-    run = record { first = low; last = n }
+    run = record { first = n; last = last }
 
--- A word is the last one of its run, or another comes after it.
-record IsLast (s : Words) (n : ℕ) : Type 0 where
-  ends : ends s n ≡ true
-  none : n < 4095 → s (n + 1) ≡ false
-
-record GoesOn (s : Words) (n : ℕ) : Type 0 where
-  ends : ends s n ≡ false
-  small : n + 1 < 4096
-  next : s (n + 1) ≡ true
-
-last_or : (s : Words) (n : ℕ) → s n ≡ true → n < 4096 → IsLast s n ⊎ GoesOn s n
-last_or s n here small = elim (cases_lt n 4095) [
-  | inl h ↦ go (s (n + 1)) refl h
-  | inr h ↦ inl (record { ends = rw (here, eq-eqb n 4095 (omega arith)) refl; none = λ w. absurd (omega arith) })
+-- The runs from a word on by those from the next one on.
+one_down : (s : Words) (n : ℕ) → n < 4096 → s n ≡ true → (rs : List Run) → StandApart (n + 1) rs →
+    ((v : ℕ) → n + 1 ≤ v → v < 4096 → s v ≡ joined nothing rs v) → RunsFrom s n
+one_down s n small here [] apart same =
+    begun s n n [] (omega arith) small tt (λ v a b. let z : v ≡ n = omega arith in rw z here) (λ v a b. same v (omega arith) b)
+one_down s n small here (r ∷ rs) apart same = elim (cases_lt (n + 1) r.first) [
+  | inl h ↦ begun s n n (r ∷ rs) (omega arith) small (omega arith, apart.1, apart.2, apart.3) (λ v a b. let z : v ≡ n = omega arith in rw z here)
+      (λ v a b. same v (omega arith) b)
+  | inr h ↦ (let low : n + 1 ≤ r.first = apart.0 in let order : r.first ≤ r.last = apart.1 in let high : r.last < 4096 = apart.2 in
+      begun s n r.last rs (omega arith) high apart.3
+      (λ v a b. elim (cases_lt n v) [
+        | inl c ↦ same v (omega arith) (omega arith) ∙ in_first r rs v (omega arith) b
+        | inr c ↦ (let z : v ≡ n = omega arith in rw z here)
+      ])
+      (λ v a b. same v (omega arith) b ∙ past_first r rs v a))
 ]
-  where
-    go : (b : Bool) → s (n + 1) ≡ b → n < 4095 → IsLast s n ⊎ GoesOn s n
-    go false e h = inl (record { ends = rw (here, e) (or-true (n == 4095)); none = λ w. e })
-    go true e h = inr (record { ends = rw (ne_eqb n 4095 (λ z. omega arith), e) (and-false (s n)); small = omega arith; next = e })
 
--- The first word of a run.
-first_text : (s : Words) (n : ℕ) (m : Marked s n n) → begins s n ≡ true → marks (n + 1) s ≡ runs_text m.runs ++ comma m.runs ++ octal_text n
-first_text s n m b =
-    marks_more n s ∙ (ap (λ (x : List ℕ). x ++ mark s n) m.text ∙ (ap (λ (x : List ℕ). runs_text m.runs ++ x) (mark_first s n b ∙ ap (λ c. (if c then codes "," else []) ++ octal_text n) m.some) ∙
-    sym (append_assoc (runs_text m.runs) (comma m.runs) (octal_text n))))
-
-one_word : (n : ℕ) → octal_text n ≡ run_text n n
-one_word n = rw (eq-eqb n n refl) (sym (append-nil (octal_text n)))
-
-two_words : (low n : ℕ) → low < n → octal_text low ++ (codes "-" ++ octal_text n) ≡ run_text low n
-two_words low n h = rw (ne_eqb low n (λ z. omega arith)) refl
-
-step : (s : Words) (n : ℕ) → n < 4096 → State s n → State s (n + 1)
-step s n small (inl g) = go (s n) refl
-  where
-    go : (b : Bool) → s n ≡ b → State s (n + 1)
-    go false e = inl (passed s n n g.marked (omega arith) e)
-    go true e =
-        let text : marks (n + 1) s ≡ runs_text g.marked.runs ++ comma g.marked.runs ++ octal_text n = first_text s n g.marked (rw e g.starts) in
-        let here : (v : ℕ) → n ≤ v → v ≤ n → s v ≡ true = (λ v a b. let z : v ≡ n = omega arith in rw z e) in
-        elim (last_or s n e small) [
-          | inl l ↦ inr (inl (ended s n n g.marked (omega arith) small here
-              (text ∙ ap (λ (x : List ℕ). runs_text g.marked.runs ++ comma g.marked.runs ++ x) (one_word n)) l.none))
-          | inr l ↦ inr (inr (record {
-            low = n;
-            before = g.marked;
-            reached = omega arith;
-            small = l.small;
-            inside = λ v a b. elim (cases_lt n v) [
-              | inl w ↦ (let z : v ≡ n + 1 = omega arith in rw z l.next)
-              | inr w ↦ here v a w
-            ];
-            text = text;
-          }))
-        ]
-step s n small (inr (inl d)) = inl (passed s n d.next d.marked d.few (d.none small))
-step s n small (inr (inr o)) =
-    let reached : o.low < n = o.reached in
-    let here : s n ≡ true = o.inside n (omega arith) (omega arith) in
-    let earlier : s (n - 1) ≡ true = o.inside (n - 1) (omega arith) (omega arith) in
-    let inner : begins s n ≡ false = rw (ne_eqb n 0 (λ z. omega arith), earlier) (and-false (s n)) in
-    elim (last_or s n here small) [
-      | inl l ↦ inr (inl (ended s o.low n o.before (omega arith) small o.inside
-          (marks_more n s ∙ (ap (λ (x : List ℕ). x ++ mark s n) o.text ∙
-          (ap (λ (x : List ℕ). (runs_text o.before.runs ++ comma o.before.runs ++ octal_text o.low) ++ x) (mark_last s n inner l.ends) ∙
-          (append_assoc (runs_text o.before.runs ++ comma o.before.runs) (octal_text o.low) (codes "-" ++ octal_text n) ∙
-          ap (λ (x : List ℕ). runs_text o.before.runs ++ comma o.before.runs ++ x) (two_words o.low n reached))))) l.none))
-      | inr l ↦ inr (inr (record {
-        low = o.low;
-        before = o.before;
-        reached = omega arith;
-        small = l.small;
-        inside = λ v a b. elim (cases_lt n v) [
-          | inl w ↦ (let z : v ≡ n + 1 = omega arith in rw z l.next)
-          | inr w ↦ o.inside v a w
+runs_down : (s : Words) (k n : ℕ) → k + n ≡ 4096 → RunsFrom s n
+runs_down s zero n e = record { runs = []; apart = tt; same = λ v a b. absurd (omega arith) }
+runs_down s (suc k) n e =
+    let f : RunsFrom s (n + 1) = runs_down s k (n + 1) (omega arith) in
+    elim (cases_Bool (s n)) [
+      | inl here ↦ one_down s n (omega arith) here f.runs f.apart f.same
+      | inr none ↦ record {
+        runs = f.runs;
+        apart = later n (n + 1) f.runs (omega arith) f.apart;
+        same = λ v a b. elim (cases_lt n v) [
+          | inl c ↦ f.same v (omega arith) b
+          | inr c ↦ (let z : v ≡ n = omega arith in rw z (none ∙ sym (before_all (n + 1) f.runs n f.apart (omega arith))))
         ];
-        text = marks_more n s ∙ (ap (λ (x : List ℕ). marks n s ++ x) (mark_none s n inner l.ends) ∙ (append-nil (marks n s) ∙ o.text));
-      }))
+      }
     ]
 
-at_first : (s : Words) → Gap s 0
-unfolding marks some_below
-at_first s = record { marked = record { runs = []; closed = none_closed s; some = refl; text = refl }; starts = refl }
-
-up_to : (n : ℕ) (s : Words) → n ≤ 4096 → State s n
-up_to zero s h = inl (at_first s)
-up_to (suc n) s h = let e : n + 1 ≡ suc n = omega arith in subst (State s) e (step s n (omega arith) (up_to n s (omega arith)))
-
--- Each set has runs, of which the text is what is written of it.
-record Scan (s : Words) : Type 0 where
-  runs : List Run
-  apart : StandApart 0 runs
-  same : (v : ℕ) → v < 4096 → s v ≡ joined nothing runs v
-  text : marks 4096 s ≡ runs_text runs
-
-scan : (s : Words) → Scan s
-scan s = whole (up_to 4096 s (omega arith))
-  where
-    done : (next : ℕ) → Marked s 4096 next → Scan s
-    done next m = record {
-      runs = m.runs;
-      apart = closed_apart s m.runs 4096 next m.closed;
-      same = closed_all s m.runs 4096 next m.closed (λ v a b. absurd (omega arith));
-      text = m.text;
-    }
-
-    whole : State s 4096 → Scan s
-    whole (inl g) = done 4096 g.marked
-    whole (inr (inl d)) = done d.next d.marked
-    whole (inr (inr o)) = absurd (let small : 4096 < 4096 = o.small in omega arith)
-
-pub text_all : (s : Words) (rs : List Run) → StandApart 0 rs → ((v : ℕ) → v < 4096 → s v ≡ joined nothing rs v) → marks 4096 s ≡ runs_text rs
-text_all s rs h same =
-    let c : Scan s = scan s in
-    c.text ∙ ap runs_text (one_list 0 0 c.runs rs c.apart h (λ v a. sym (c.same v a) ∙ same v a))
+set_runs : (s : Words) → RunsFrom s 0
+set_runs s = runs_down s 4096 0 (omega arith)
 
 -- Sets with the same words are written alike.
 pub marks_same : (s t : Words) → SameWords s t → marks 4096 s ≡ marks 4096 t
-marks_same s t e = let c : Scan s = scan s in c.text ∙ sym (text_all t c.runs c.apart (λ v a. sym (e v a) ∙ c.same v a))
+marks_same s t e =
+    let c : RunsFrom s 0 = set_runs s in
+    text_all s c.runs c.apart (λ v a. c.same v (omega arith) a) ∙ sym (text_all t c.runs c.apart (λ v a. sym (e v a) ∙ c.same v (omega arith) a))
 
 pub text_of : (rs : List Run) → StandApart 0 rs → marks 4096 (set_of_runs rs) ≡ runs_text rs
 text_of rs h = text_all (set_of_runs rs) rs h (λ v a. sym (runs_within rs v a))
@@ -238,14 +223,20 @@ pub record RunsOf (s : Words) : Type 0 where
   pub text : marks 4096 s ≡ runs_text (first ∷ more)
 
 pub runs_of : (s : Words) → has_some s ≡ true → RunsOf s
-runs_of s full = go c.runs c.apart c.same c.text
+runs_of s full = go c.runs c.apart (λ v a. c.same v (omega arith) a)
   where
-    c : Scan s
-    c = scan s
+    c : RunsFrom s 0
+    c = set_runs s
 
-    go : (rs : List Run) → StandApart 0 rs → ((v : ℕ) → v < 4096 → s v ≡ joined nothing rs v) → marks 4096 s ≡ runs_text rs → RunsOf s
-    go [] apart same text = absurd (true≢false (sym full ∙ some_none_of 4096 s (λ v a. same v a)))
-    go (r ∷ rs) apart same text = record { first = r; more = rs; apart = apart; same = λ v a. sym (same v a ∙ runs_within (r ∷ rs) v a); text = text }
+    go : (rs : List Run) → StandApart 0 rs → ((v : ℕ) → v < 4096 → s v ≡ joined nothing rs v) → RunsOf s
+    go [] apart same = absurd (true≢false (sym full ∙ some_none_of 4096 s (λ v a. same v a)))
+    go (r ∷ rs) apart same = record {
+      first = r;
+      more = rs;
+      apart = apart;
+      same = λ v a. sym (same v a ∙ runs_within (r ∷ rs) v a);
+      text = text_all s (r ∷ rs) apart same;
+    }
 
 pub empty_text : (s : Words) → ((v : ℕ) → v < 4096 → s v ≡ false) → set_text s ≡ 45 ∷ []
 empty_text s none = rw (some_none_of 4096 s none) refl
@@ -259,8 +250,7 @@ pub record Full (s : Words) : Type 0 where
   pub text : set_text s ≡ runs_text (runs.first ∷ runs.more)
 
 pub by_words : (s : Words) → Full s ⊎ ((v : ℕ) → v < 4096 → s v ≡ false)
-by_words s = go (has_some s) refl
-  where
-    go : (b : Bool) → has_some s ≡ b → Full s ⊎ ((v : ℕ) → v < 4096 → s v ≡ false)
-    go true e = inl (record { runs = runs_of s e; text = full_text s e ∙ (runs_of s e).text })
-    go false e = inr (none_of_some 4096 s e)
+by_words s = elim (cases_Bool (has_some s)) [
+  | inl e ↦ inl (record { runs = runs_of s e; text = full_text s e ∙ (runs_of s e).text })
+  | inr e ↦ inr (none_of_some 4096 s e)
+]

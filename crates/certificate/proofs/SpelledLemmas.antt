@@ -1,11 +1,10 @@
 -- The text of a line while it's written.
-use Rattle.std.proofs.Common.{◌≡◌, ℕ, Option, drop, length-append, ◌+◌, ◌<◌, ◌≤◌, ◌==◌, Bool, false, List, [], ◌∷◌, ◌++◌, length, refl, ap, ◌∙◌, sym, inl, inr, arith, append_assoc, append-nil, get_or, length-take-le}
-use Rattle.std.specs.Prelude.{take, if◌then◌else◌, IsTrue}
+use Rattle.std.proofs.Common.{◌≡◌, ℕ, Option, suc, drop, subst, length-append, ◌-◌, ◌+◌, ◌<◌, ◌≤◌, ◌==◌, Bool, false, List, [], ◌∷◌, ◌++◌, length, refl, ap, ◌∙◌, sym, inl, inr, arith, append_assoc, append-nil, get_or, length-take-le}
+use Rattle.std.specs.Prelude.{take, slice_range, if◌then◌else◌, IsTrue}
 use Rattle.std.proofs.lemmas.Bool.{true≢false, ne_eqb, cases_lt}
-use Rattle.std.proofs.lemmas.List.{take_all, length-take, take-append-le, take-append-drop}
-use Rattle.std.proofs.Math.Seq.{take-add, take-append-add}
+use Rattle.std.proofs.lemmas.List.{take_all, length-take, take-append-le}
+use Rattle.std.proofs.Math.Seq.{take-append-add}
 use Rattle.std.specs.Io.KnownBytes.{Appends}
-use Rattle.std.proofs.KnownBytes.{Appends-trans}
 use Rattle.streams.specs.Bytes.{AppendsFront}
 use Rattle.streams.proofs.BytesLemmas.{front_after}
 use Rattle.certificate.specs.declared.Version.{Version}
@@ -15,7 +14,6 @@ use Rattle.certificate.specs.Fields.{run_text}
 use Rattle.certificate.specs.declared.packed.Run.{Run}
 use Rattle.certificate.specs.Packed.{set_of_runs, StandApart}
 use Rattle.certificate.specs.Spelled.{Adds, IsLastOf}
-use Rattle.certificate.proofs.TextLemmas.{both_ended}
 use Rattle.certificate.proofs.SetLemmas.{text_of, text_all, some_runs}
 use Rattle.certificate.proofs.ApartLemmas.{runs_text, comma, has_more, runs_more, taken, Closed, found_run, closed_all, closed_apart}
 use Rattle.certificate.proofs.DigitLemmas.{digits_more, digits_none, no_offsets, some_offsets, has_offset}
@@ -134,13 +132,6 @@ pub some_offset : (old now : List ℕ) (s : Words) → (((o : ℕ) → o < 8 →
     Adds old now (offsets_text s)
 some_offset old now s some h = rw (some_offsets s (has_offset s some)) h
 
--- Lines one after another.
-lines_more : (v : Version) (ls : List Line) (i : ℕ) (l : Line) → drop i ls ≡ l ∷ drop (i + 1) ls →
-    all_ended v (take (i + 1) ls) ≡ all_ended v (take i ls) ++ ended (line_text v l)
-lines_more v ls i l at =
-    ap (all_ended v) (take-add i 1 ls ∙ ap (λ (x : List Line). take i ls ++ take 1 x) at) ∙
-    (both_ended v (take i ls) (l ∷ []) ∙ ap (λ (x : List ℕ). all_ended v (take i ls) ++ x) (append-nil (ended (line_text v l))))
-
 pub front_more : (a b : Option (List ℕ)) (first second : List ℕ) → AppendsFront a b first → AppendsFront a b (first ++ second)
 front_more a b first second front = record {
   count = front.count;
@@ -148,15 +139,24 @@ front_more a b first second front = record {
   out = (let f : front.count ≤ length first = (let g = front.within in omega (arith, g)) in rw (take-append-le front.count first second f) front.out);
 }
 
-pub line_put : (a b c : Option (List ℕ)) (v : Version) (ls : List Line) (i : ℕ) (l : Line) (text : List ℕ) → drop i ls ≡ l ∷ drop (i + 1) ls →
-    Appends a b (all_ended v (take i ls)) → text ≡ ended (line_text v l) → Appends b c text → Appends a c (all_ended v (take (i + 1) ls))
-line_put a b c v ls i l text at p e q =
-    rw (lines_more v ls i l at) (Appends-trans a b c (all_ended v (take i ls)) (ended (line_text v l)) p (rw e at q))
+-- Lines that are written one after another, up to the one at a place n.
+first_in_range : (ls : List Line) (i n : ℕ) (l : Line) → drop i ls ≡ l ∷ drop (i + 1) ls → i < n → slice_range ls i n ≡ l ∷ slice_range ls (i + 1) n
+first_in_range ls i n l at more = let k : n - i ≡ suc (n - (i + 1)) = omega arith in ap (take (n - i)) at ∙ rw k refl
 
-pub line_cut : (a b c : Option (List ℕ)) (v : Version) (ls : List Line) (i : ℕ) (l : Line) (text : List ℕ) → drop i ls ≡ l ∷ drop (i + 1) ls →
-    Appends a b (all_ended v (take i ls)) → text ≡ ended (line_text v l) → AppendsFront b c text → AppendsFront a c (all_ended v ls)
-line_cut a b c v ls i l text at p e q =
-    let f : AppendsFront a c (all_ended v (take (i + 1) ls)) =
-    rw (lines_more v ls i l at) (front_after a b c (all_ended v (take i ls)) (ended (line_text v l)) p (rw e at q)) in
-    rw (sym (both_ended v (take (i + 1) ls) (drop (i + 1) ls)) ∙ ap (λ (x : List Line). all_ended v x) (take-append-drop (i + 1) ls))
-    at (front_more a c (all_ended v (take (i + 1) ls)) (all_ended v (drop (i + 1) ls)) f)
+pub line_next : (v : Version) (ls : List Line) (i n : ℕ) (l : Line) (wrote all : List ℕ) → drop i ls ≡ l ∷ drop (i + 1) ls → i < n →
+    wrote ++ all_ended v (slice_range ls i n) ≡ all → (wrote ++ ended (line_text v l)) ++ all_ended v (slice_range ls (i + 1) n) ≡ all
+line_next v ls i n l wrote all at more so =
+    append_assoc wrote (ended (line_text v l)) (all_ended v (slice_range ls (i + 1) n)) ∙
+    (ap (λ (x : List Line). wrote ++ all_ended v x) (sym (first_in_range ls i n l at more)) ∙ so)
+
+pub line_cut : (a b c : Option (List ℕ)) (v : Version) (ls : List Line) (i n : ℕ) (l : Line) (wrote all piece : List ℕ) → drop i ls ≡ l ∷ drop (i + 1) ls → i < n →
+    wrote ++ all_ended v (slice_range ls i n) ≡ all → Appends a b wrote → piece ≡ ended (line_text v l) → AppendsFront b c piece → AppendsFront a c all
+line_cut a b c v ls i n l wrote all piece at more so whole same front =
+    subst (λ (x : List ℕ). AppendsFront a c x) (line_next v ls i n l wrote all at more so)
+    (front_more a c (wrote ++ ended (line_text v l)) (all_ended v (slice_range ls (i + 1) n)) (front_after a b c wrote (ended (line_text v l)) whole (rw same at front)))
+
+pub lines_done : (v : Version) (ls : List Line) (i n : ℕ) (wrote all : List ℕ) → n ≤ i → wrote ++ all_ended v (slice_range ls i n) ≡ all → wrote ≡ all
+lines_done v ls i n wrote all h so = let k : n - i ≡ 0 = omega arith in sym (append-nil wrote) ∙ (rw k at so)
+
+pub all_lines : (ls : List Line) (n : ℕ) → n ≡ length ls → slice_range ls 0 n ≡ ls
+all_lines ls n e = let k : n - 0 ≡ n = omega arith in rw k (take_all n ls (omega (arith, e)))

@@ -92,7 +92,6 @@ facts_after v [] before n h low each rise = h
 facts_after v (f ∷ fs) before n h low each rise =
     let small : f.address < 4096 = each.0.address in
     let reached : n ≤ f.address = rise.0 in
-    let line : Line = FactIs f.address (registers_of f.statement) f.offsets in
     let next : IsNext v before (FactIs f.address (registers_of f.statement) f.offsets) = record { stands = rw h.no_end refl; order = omega arith; room = tt } in
     let p : Sofar v (4096 + f.address + 1) (newest_first before (lines_of_fact f)) =
     details_after v (4096 + f.address + 1) f.statement (FactIs f.address (registers_of f.statement) f.offsets ∷ before) each.0.statement

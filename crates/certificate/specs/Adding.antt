@@ -1,12 +1,21 @@
--- What a line adds to what is said of a fact, and where there is room for it; it serves private contracts.
-use Rattle.std.specs.Prelude.{◌≡◌, ℕ, ◌+◌, ◌<◌, ◌≤◌, List, [], ◌∷◌, ◌++◌, length, drop, Some}
-use Rattle.wordset.specs.Words.{Words, everything}
-use Rattle.domain.specs.Statements.{Statement, fact_of}
+-- The line of a claim; what a line adds to what is said of a fact, and where there is room for it. For private contracts.
+use Rattle.std.specs.Prelude.{◌≡◌, ◌+◌, ◌<◌, ◌≤◌, List, [], ◌∷◌, ◌++◌, length}
+use Rattle.domain.specs.Statements.{Statement}
 use Rattle.wordset.specs.Lanes.{words}
 use Rattle.certificate.specs.declared.RoutineClaim.{RoutineClaim}
-use Rattle.certificate.specs.Spelling.{Line, RoutineIs, FactIs, ExitIs, CellIs, EquationIs}
-use Rattle.certificate.specs.Gathered.{cells_under, equations_under, stated}
-use Rattle.certificate.specs.Found.{with_details, first_fact, first_exit, fact_statement, exit_statement, FitUnderFirst}
+use Rattle.certificate.specs.Spelling.{Line, RoutineIs, CellIs, EquationIs, FactIs, ExitIs, registers_of}
+use Rattle.certificate.specs.Gathered.{cells_under, equations_under}
+use Rattle.domain.specs.Meaning.{tracked_of, equation_of, offsets_of, statement_of}
+use Rattle.certificate.specs.declared.packed.Claim.{Claim}
+use Rattle.certificate.specs.declared.packed.Claim.TheVariants as claim
+
+-- The line of a claim, by which it is added.
+abbrev pub claimed_line : Claim → Line
+claimed_line (claim.Routine e n r) = RoutineIs (record { entry = e; rank = n; sites = words r.now.sites; writes = words r.now.writes })
+claimed_line (claim.Fact a f) = FactIs a (registers_of (statement_of f.now)) (offsets_of f.now.offsets)
+claimed_line (claim.Exit e o f) = ExitIs e o (registers_of (statement_of f.now))
+claimed_line (claim.Cell c) = CellIs (tracked_of c.now)
+claimed_line (claim.Equation e) = EquationIs (equation_of e)
 
 -- A statement with the cell or the equation of a line after its own.
 abbrev pub with_line : Statement → Line → Statement
@@ -24,29 +33,12 @@ HasRoomFor s _ = Unit {0}
 abbrev pub HasRoomUnder : Statement → List Line → Type 0
 HasRoomUnder s ls = (length s.cells + length (cells_under ls) ≤ 64) × (length s.equations + length (equations_under ls) ≤ 32)
 
--- The line is a fact's that says this, but for its details, and has these offsets.
-abbrev pub IsFactLine : Line → Statement → Words → Type 0
-IsFactLine (FactIs a r known) s offsets = (s ≡ stated r []) × (offsets ≡ known)
-IsFactLine _ s offsets = ⊥
-
--- The line is an exit's that says this, but for its details.
-abbrev pub IsExitLine : Line → Statement → Type 0
-IsExitLine (ExitIs e o r) s = s ≡ stated r []
-IsExitLine _ s = ⊥
-
 -- The line is a routine's with this rank, these sites and these written cells.
 abbrev pub IsRoutineLine : Line → RoutineClaim → Type 0
 IsRoutineLine (RoutineIs r) given = (given.rank ≡ r.rank) × (words given.sites ≡ r.sites) × (words given.writes ≡ r.writes)
 IsRoutineLine _ given = ⊥
 
--- The line at a place is a fact's with these offsets, and this is what it says but for its details, for which there is room.
-pub record SaysFactAt (at : ℕ) (ls : List Line) (s : Statement) (offsets : Words) : Type 0 where
-  pub fact : first_fact (drop at ls) ≡ fact_of (with_details s (drop (at + 1) ls)) offsets
-  pub statement : fact_statement (drop at ls) ≡ Some (with_details s (drop (at + 1) ls))
-  pub room : FitUnderFirst (drop at ls) → HasRoomUnder s (drop (at + 1) ls)
-
--- The line at a place is an exit's, and this is what it says but for its details, for which there is room.
-pub record SaysExitAt (at : ℕ) (ls : List Line) (s : Statement) : Type 0 where
-  pub fact : first_exit (drop at ls) ≡ fact_of (with_details s (drop (at + 1) ls)) everything
-  pub statement : exit_statement (drop at ls) ≡ Some (with_details s (drop (at + 1) ls))
-  pub room : FitUnderFirst (drop at ls) → HasRoomUnder s (drop (at + 1) ls)
+-- So is the first line.
+abbrev pub BeginsRoutine : List Line → RoutineClaim → Type 0
+BeginsRoutine [] given = ⊥
+BeginsRoutine (l ∷ ls) given = IsRoutineLine l given

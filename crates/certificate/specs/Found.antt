@@ -1,15 +1,14 @@
 -- How a line is found by its place, and what stands there; it serves private contracts.
-use Rattle.std.specs.Prelude.{◌≡◌, ℕ, ◌+◌, ◌-◌, ◌≤◌, ◌<◌, ◌==◌, get_or, Bool, true, false, if◌then◌else◌, List, [], ◌∷◌, ◌++◌, length, drop, Option, Some, None}
+use Rattle.std.specs.Prelude.{◌≡◌, ℕ, ◌+◌, ◌-◌, ◌≤◌, ◌<◌, ◌==◌, get_or, Bool, true, false, if◌then◌else◌, List, [], ◌∷◌, ◌++◌, length, drop}
 use Rattle.std.specs.List.{AllByRecursion}
-use Rattle.domain.specs.Facts.{Fact}
-use Rattle.wordset.specs.Words.{everything}
-use Rattle.domain.specs.Statements.{Statement, fact_of, unknown}
+use Rattle.wordset.specs.Words.{Words}
+use Rattle.domain.specs.Statements.{Statement}
 use Rattle.wordset.specs.Lanes.{words}
 use Rattle.certificate.specs.declared.Version.{Version}
 use Rattle.certificate.specs.declared.RoutineClaim.{RoutineClaim}
 use Rattle.certificate.specs.declared.packed.Run.{Run}
 use Rattle.certificate.specs.declared.packed.KeptLine.{KeptLine}
-use Rattle.certificate.specs.Spelling.{RoutineLine, Line, RoutineIs, FactIs, ExitIs, End}
+use Rattle.certificate.specs.Spelling.{RoutineLine, Line, FactIs, ExitIs, End}
 use Rattle.certificate.specs.Reading.{rank_in, sites_in, writes_in}
 use Rattle.certificate.specs.Order.{is_detail, place, any, is_end, details_of_last, AreInOrder}
 use Rattle.certificate.specs.Packed.{Packed, said_at, said_lines, IsKept}
@@ -93,61 +92,23 @@ FitUnderFirst (_ ∷ ls) = Unit {0}
 abbrev pub with_details : Statement → List Line → Statement
 with_details s ls = record s { cells = s.cells ++ cells_under ls; equations = s.equations ++ equations_under ls }
 
--- The first line is that of a routine, of a fact or of an exit.
-abbrev pub begins_routine : List Line → Bool
-begins_routine [] = false
-begins_routine (RoutineIs r ∷ ls) = true
-begins_routine (_ ∷ ls) = false
+-- There is a first line, and it passes the test.
+abbrev pub begins : (Line → Bool) → List Line → Bool
+begins test [] = false
+begins test (l ∷ ls) = test l
 
-abbrev pub begins_fact : List Line → Bool
-begins_fact [] = false
-begins_fact (FactIs a r offsets ∷ ls) = true
-begins_fact (_ ∷ ls) = false
-
-abbrev pub begins_exit : List Line → Bool
-begins_exit [] = false
-begins_exit (ExitIs e o r ∷ ls) = true
-begins_exit (_ ∷ ls) = false
-
--- The fact at the front.
-abbrev pub first_fact : List Line → Fact
-first_fact [] = unknown
-first_fact (FactIs a r offsets ∷ ls) = fact_of (stated r ls) offsets
-first_fact (_ ∷ ls) = unknown
-
--- The exit's fact at the front.
-abbrev pub first_exit : List Line → Fact
-first_exit [] = unknown
-first_exit (ExitIs e o r ∷ ls) = fact_of (stated r ls) everything
-first_exit (_ ∷ ls) = unknown
-
--- What the fact or the exit at the front says.
-abbrev pub fact_statement : List Line → Option Statement
-fact_statement [] = None
-fact_statement (FactIs a r offsets ∷ ls) = Some (stated r ls)
-fact_statement (_ ∷ ls) = None
-
-abbrev pub exit_statement : List Line → Option Statement
-exit_statement [] = None
-exit_statement (ExitIs e o r ∷ ls) = Some (stated r ls)
-exit_statement (_ ∷ ls) = None
+-- The first line is that of a fact or of an exit, which says this with its details. The offsets are the fact's; for an exit,
+-- which doesn't speak of them, they are all.
+abbrev pub IsSaid : List Line → Statement → Words → Type 0
+IsSaid (FactIs a r known ∷ ls) s offsets = (s ≡ stated r ls) × (offsets ≡ known)
+IsSaid (ExitIs e o r ∷ ls) s offsets = (s ≡ stated r ls) × ((n : ℕ) → n < 8 → offsets n ≡ true)
+IsSaid _ s offsets = ⊥
 
 -- A routine that is given is what the routines say of an entry.
 pub record IsRoutineOf (rs : List RoutineLine) (e : ℕ) (r : RoutineClaim) : Type 0 where
   pub rank : r.rank ≡ rank_in rs e
   pub sites : words r.sites ≡ sites_in rs e
   pub writes : words r.writes ≡ writes_in rs e
-
--- What the routines say of an entry is what the first line says, if it's a routine's.
-pub record SaysOf (rs : List RoutineLine) (e : ℕ) (r : RoutineLine) : Type 0 where
-  pub rank : rank_in rs e ≡ r.rank
-  pub sites : sites_in rs e ≡ r.sites
-  pub writes : writes_in rs e ≡ r.writes
-
-abbrev pub SaysFirst : List RoutineLine → ℕ → List Line → Type 0
-SaysFirst rs e [] = Unit {0}
-SaysFirst rs e (RoutineIs r ∷ ls) = SaysOf rs e r
-SaysFirst rs e (_ ∷ ls) = Unit {0}
 
 -- The first line with the cells and equations under it.
 abbrev pub first_with_details : List Line → List Line

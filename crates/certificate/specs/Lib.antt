@@ -4,13 +4,11 @@ pub mod Reading
 pub mod Sample
 pub mod Line
 pub mod Fields
-pub mod Claimed
 pub mod Order
 pub mod Progress
 pub mod Faults
 pub mod Parser
 pub mod Serving
-pub mod Served
 pub mod Gathered
 pub mod Packed
 pub mod Found

@@ -1,7 +1,8 @@
--- What the parser of a certificate's text has seen; it serves private contracts.
-use Rattle.std.specs.Prelude.{◌≡◌, ℕ, ◌+◌, ◌<◌, ◌≤◌, ◌⊎◌, Bool, true, false, List, [], ◌++◌, length, Option, Some, None, IfSome}
+-- What the parser of a certificate's text has seen, and what reading in pieces keeps; it serves private contracts.
+use Rattle.std.specs.Prelude.{◌≡◌, ℕ, ◌+◌, ◌<◌, ◌≤◌, ◌⊎◌, Bool, true, false, List, [], ◌++◌, length, take, Option, Some, None, IfSome, Result, MatchResult}
+use Rattle.std.specs.Io.KnownBytes.{Consumes, IsAtEnd}
 use Rattle.certificate.specs.declared.CertificateFault.{CertificateFault}
-use Rattle.certificate.specs.declared.CertificateFault.TheVariants.{NoMemory}
+use Rattle.certificate.specs.declared.CertificateFault.TheVariants.{NoMemory, ReadFault}
 use Rattle.certificate.specs.declared.progress.Progress.{Progress}
 use Rattle.certificate.specs.declared.parser.Parser.{Parser}
 use Rattle.certificate.specs.Spelling.{text, Line}
@@ -12,6 +13,7 @@ use Rattle.certificate.specs.Faults.{NoFeed, HasFault, AsksForMemory, IsText, mo
 use Rattle.certificate.specs.Packed.{Packed}
 use Rattle.certificate.specs.Found.{Keeps, unended}
 use Rattle.certificate.specs.Kept.{Kept, meaning}
+use Rattle.certificate.specs.Serving.{Settles, IsUnanswered}
 
 -- Lines in order of which the text is this and what is kept is that.
 pub record Reached (p : Progress) (text : List ℕ) (kept : Packed) : Type 0 where
@@ -52,10 +54,37 @@ pub record IsSmall {A : Type 0} (p : Parser A) : Type 0 where
 
 -- Memory was wanting for a line of the bytes, or whatever follows them, the text has this fault.
 abbrev pub Refuses : List ℕ → CertificateFault → Type 0
-Refuses bytes fault = ((fault ≡ NoMemory) × AsksForMemory bytes) ⊎ ((rest : List ℕ) → HasFault (bytes ++ rest) fault)
+Refuses bytes NoMemory = AsksForMemory bytes
+Refuses bytes fault = (rest : List ℕ) → HasFault (bytes ++ rest) fault
 
 -- The certificate is that of the bytes.
 pub record IsParsed (bytes : List ℕ) (c : Kept) : Type 0 where
   pub found : bytes ≡ text (meaning c)
   pub lines : AreLines (meaning c)
   pub is_text : IsText (meaning c).version bytes
+
+-- The parser has seen what the source gave.
+pub record CameTo {A : Type 0} (old new : Option (List ℕ)) (p : Parser A) : Type 0 where
+  pub given : List ℕ
+  pub taken : Consumes old new given
+  pub count : p.count ≡ length given
+  pub seen : Seen p given
+  pub small : IsSmall p
+
+-- What a fault says of the bytes that a source gave, of which it may have more: where a read failed, that they bring no answer.
+abbrev pub Told : List ℕ → Option (List ℕ) → CertificateFault → Type 0
+Told given new ReadFault = IsUnanswered given
+Told given new NoMemory = AsksForMemory given
+Told given new fault = Settles given fault ⊎ (HasFault given fault × IsAtEnd new)
+
+-- What the bytes that a source gave are answered with.
+abbrev pub IsAnswered : List ℕ → Option (List ℕ) → Result Kept CertificateFault → Type 0
+IsAnswered given new r = MatchResult r (λ c. IsParsed given c × IsAtEnd new) (Told given new)
+
+-- What the source gave brings the answer, or a read failed before it had one.
+pub record Serves (old new : Option (List ℕ)) (r : Result Kept CertificateFault) : Type 0 where
+  pub given : List ℕ
+  pub taken : Consumes old new given
+  pub count : length given ≤ 1048577
+  pub prompt : (n : ℕ) → n + 512 ≤ length given → IsUnanswered (take n given)
+  pub answer : IsAnswered given new r

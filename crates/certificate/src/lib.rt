@@ -20,11 +20,11 @@ ghost use Rattle.certificate.specs.Sample.{SampleLaw};
 ghost use Rattle.certificate.specs.Line.{TextLaw};
 ghost use Rattle.certificate.specs.Exact.{SpellingLaw, MeaningLaw, ReadingLaw, ReadBackLaw, FaultLaw};
 
-use crate::lines::{first_exit, first_fact, first_routine};
+use crate::lines::{end_of, first_routine, first_said};
 use crate::packed::PackedLines;
 use crate::parser::Parser;
 use crate::progress::{FIRST_EXIT, FIRST_FACT};
-use crate::spelled::{put_text, put_with_details};
+use crate::spelled::{put_lines, put_text};
 use domain::Fact;
 use std::alloc::Allocator;
 use std::marker::Model;
@@ -169,7 +169,8 @@ impl<A: Allocator> Certificate<A> {
         ensures marks { W.mark sink.new ≡ is_err result }
     {
         let start = self.kept.from(FIRST_FACT + at.index());
-        match put_with_details(sink, self.version, &self.kept, start) {
+        let end = end_of(&self.kept, start);
+        match put_lines(sink, self.version, &self.kept, start, end) {
             Ok(()) => Ok(()),
             Err(_) => Err(WriteFault),
         }
@@ -246,7 +247,7 @@ impl<A: Allocator> Certificate<A> {
         ensures kept { result ≡ false → fact.new ≡ fact.old }
     {
         let start = self.kept.from(FIRST_FACT + at.index());
-        first_fact(&self.kept, start, fact)
+        first_said(&self.kept, start, fact)
     }
 
     /// What holds when the routine of an entry returns by an offset, if that is said; it has all
@@ -285,7 +286,7 @@ impl<A: Allocator> Certificate<A> {
             return false;
         }
         let start = kept.from(FIRST_EXIT + 8 * entry.index() + offset);
-        first_exit(kept, start, exit)
+        first_said(kept, start, exit)
     }
 }
 
@@ -326,23 +327,27 @@ pub fn sample_law()
 
 /// The text of a certificate is its first line and then the lines of its routines, facts, exits and
 /// of the end, in this order, each with a line feed.
+#[tactic(auto, using(crate::proofs::TextOrderLemmas::text_law))]
 pub fn text_law()
     ensures { TextLaw }
 {}
 
 /// A text has one meaning: lines of one text say the same, and certificates have one text exactly
 /// where they say the same.
+#[tactic(auto, using(crate::proofs::SameTextLemmas::spelling_law))]
 pub fn spelling_law()
     ensures { SpellingLaw }
 {}
 
 /// Certificates that say the same line by line claim the same of each routine, address and exit.
+#[tactic(auto, using(crate::proofs::SameMeaningLemmas::meaning_law))]
 pub fn meaning_law()
     ensures { MeaningLaw }
 {}
 
 /// The text of a certificate's lines is a text of lines in order, unless it's longer than what is
 /// read, and each text of lines in order is a certificate's.
+#[tactic(auto, using(crate::proofs::FromOrderLemmas::reading_law))]
 pub fn reading_law()
     ensures { ReadingLaw }
 {}
@@ -354,6 +359,7 @@ pub fn read_back_law()
 {}
 
 /// A certificate's text has no fault, no text has two, and each text is a certificate's or has one.
+#[tactic(auto, using(crate::proofs::AnswerLemmas::fault_law))]
 pub fn fault_law()
     ensures { FaultLaw }
 {}

@@ -1,19 +1,16 @@
 //! The lines of a certificate as they are kept, and what is found in them.
 
-ghost use Rattle.std.specs.Prelude.{ℕ, ◌≡◌, ◌+◌, ◌<◌, List, [], ◌∷◌, ◌++◌, length, map, drop, OnOk, OnErr, Some, IfSome, is_some, true, false};
+ghost use Rattle.std.specs.Prelude.{◌≡◌, ◌+◌, ◌<◌, ◌≤◌, List, ◌∷◌, ◌++◌, length, map, drop, slice_range, OnOk, OnErr, IfSome, is_some, true, false};
 ghost use Rattle.std.specs.Prelude.{is_ok, if◌then◌else◌};
-ghost use Rattle.domain.specs.Meaning.{statement_of, offsets_of, tracked_cells, equation_of, meaning as fact_meaning};
-ghost use Rattle.domain.specs.Changes.{with_offsets};
-ghost use Rattle.wordset.specs.Words.{everything};
-ghost use Rattle.certificate.specs.Spelling.{RoutineLine as SaidRoutine, Line as SaidLine, CellIs, EquationIs};
-ghost use Rattle.certificate.specs.Order.{is_end};
-ghost use Rattle.certificate.specs.Adding.{HasRoomUnder};
-ghost use Rattle.certificate.specs.Claimed.{claimed_line};
+ghost use Rattle.domain.specs.Meaning.{statement_of, offsets_of, tracked_cells, equation_of};
+ghost use Rattle.certificate.specs.Spelling.{Line as SaidLine, CellIs, EquationIs};
+ghost use Rattle.certificate.specs.Order.{is_end, is_routine, has_details};
+ghost use Rattle.certificate.specs.Adding.{claimed_line, HasRoomUnder, BeginsRoutine};
 ghost use Rattle.certificate.specs.Packed.{Begins, said_at, said_lines, LiesWithin};
-ghost use Rattle.certificate.specs.Found.{Keeps, unended, FitUnderFirst, with_details, IsRoutineOf, begins_routine, begins_fact, begins_exit, first_fact, first_exit, fact_statement, exit_statement, SaysFirst};
+ghost use Rattle.certificate.specs.Found.{Keeps, unended, FitUnderFirst, with_details, first_with_details, begins, IsSaid};
 
 use crate::RoutineClaim;
-use crate::packed::{Claim, PackedLine, PackedLines, Run, add, begin_exit, begin_fact, routine_of};
+use crate::packed::{Claim, PackedLine, PackedLines, Run, add, begin_said, routine_of};
 use domain::{Equation, Fact, TrackedCells};
 use std::alloc::{AllocError, Allocator};
 
@@ -115,11 +112,30 @@ fn add_details<A: Allocator>(fact: &mut Fact, lines: &PackedLines<A>, start: usi
     }
 }
 
+/// Where the lines end of which the one at a place is the first, and its cells and equations are the
+/// others; there are none past the last line.
+pub fn end_of<A: Allocator>(lines: &PackedLines<A>, start: usize) -> usize
+    ensures within { result ≤ length (said_lines lines.now) }
+    ensures is { slice_range (said_lines lines.now) start result ≡
+        first_with_details (drop start (said_lines lines.now)) }
+{
+    let count = lines.len();
+    if start >= count {
+        return count;
+    }
+    for at in start + 1..count {
+        let (_runs, line) = lines.line(at);
+        if !line.is_detail() {
+            return at;
+        }
+    }
+    count
+}
+
 /// What the line at a place says of a routine, if there is one and it does.
 pub fn first_routine<A: Allocator>(lines: &PackedLines<A>, start: usize) -> Option<RoutineClaim>
-    ensures there { is_some result ≡ begins_routine (drop start (said_lines lines.now)) }
-    ensures says { (rs : List SaidRoutine) (e : ℕ) → SaysFirst rs e (drop start (said_lines lines.now)) →
-        IfSome result (λ r. IsRoutineOf rs e r) }
+    ensures there { is_some result ≡ begins is_routine (drop start (said_lines lines.now)) }
+    ensures says { IfSome result (λ r. BeginsRoutine (drop start (said_lines lines.now)) r) }
 {
     if start >= lines.len() {
         return None;
@@ -128,45 +144,22 @@ pub fn first_routine<A: Allocator>(lines: &PackedLines<A>, start: usize) -> Opti
     routine_of(runs, line)
 }
 
-/// Whether the line at a place is a fact's, which the lent fact then says.
-pub fn first_fact<A: Allocator>(lines: &PackedLines<A>, start: usize, fact: &mut Fact) -> bool
+/// Whether the line at a place is a fact's or an exit's, which the lent fact then says; of an exit it
+/// has all offsets.
+pub fn first_said<A: Allocator>(lines: &PackedLines<A>, start: usize, fact: &mut Fact) -> bool
     requires fit { FitUnderFirst (drop start (said_lines lines.now)) }
-    ensures there { result ≡ begins_fact (drop start (said_lines lines.now)) }
-    ensures fact { result ≡ true → fact_meaning fact.new ≡ first_fact (drop start (said_lines lines.now)) }
-    ensures statement { result ≡ true →
-        fact_statement (drop start (said_lines lines.now)) ≡ Some (statement_of fact.new) }
+    ensures there { result ≡ begins has_details (drop start (said_lines lines.now)) }
+    ensures says { result ≡ true → IsSaid (drop start (said_lines lines.now))
+        (statement_of fact.new) (offsets_of fact.new.offsets) }
     ensures kept { result ≡ false → fact.new ≡ fact.old }
 {
     if start >= lines.len() {
         return false;
     }
     let (runs, line) = lines.line(start);
-    if !begin_fact(runs, line, fact) {
+    if !begin_said(runs, line, fact) {
         return false;
     }
     add_details(fact, lines, start + 1);
-    true
-}
-
-/// Whether the line at a place is an exit's, which the lent fact then says, with all offsets.
-pub fn first_exit<A: Allocator>(lines: &PackedLines<A>, start: usize, exit: &mut Fact) -> bool
-    requires fit { FitUnderFirst (drop start (said_lines lines.now)) }
-    ensures there { result ≡ begins_exit (drop start (said_lines lines.now)) }
-    ensures fact { result ≡ true → with_offsets everything (fact_meaning exit.new) ≡
-        first_exit (drop start (said_lines lines.now)) }
-    ensures statement { result ≡ true →
-        exit_statement (drop start (said_lines lines.now)) ≡ Some (statement_of exit.new) }
-    ensures offsets { result ≡ true → (o : ℕ) → o < 8 →
-        (fact_meaning exit.new).offsets o ≡ true }
-    ensures kept { result ≡ false → exit.new ≡ exit.old }
-{
-    if start >= lines.len() {
-        return false;
-    }
-    let (runs, line) = lines.line(start);
-    if !begin_exit(runs, line, exit) {
-        return false;
-    }
-    add_details(exit, lines, start + 1);
     true
 }

@@ -41,8 +41,6 @@ impl<A: Allocator> Certificate<A> {
             with_routine (meaning self.old) (routine_at entry routine.now)) }
         ensures same { OnErr result (meaning self.new ≡ meaning self.old) }
     {
-        let index = entry.index();
-        prove!(index < 4096);
         let line = Claim::Routine(entry, routine.rank as u8, routine);
         match self.kept.keep_all(&line, &TrackedCells::new(), &[]) {
             Ok(()) => Ok(()),
@@ -62,8 +60,6 @@ impl<A: Allocator> Certificate<A> {
             with_fact (meaning self.old) (fact_at at fact.now)) }
         ensures same { OnErr result (meaning self.new ≡ meaning self.old) }
     {
-        let index = at.index();
-        prove!(index < 4096);
         let line = Claim::Fact(at, fact);
         match self.kept.keep_all(&line, fact.cells(), fact.equations()) {
             Ok(()) => Ok(()),
@@ -84,8 +80,6 @@ impl<A: Allocator> Certificate<A> {
             with_exit (meaning self.old) (exit_at entry offset fact.now)) }
         ensures same { OnErr result (meaning self.new ≡ meaning self.old) }
     {
-        let index = entry.index();
-        prove!(index < 4096);
         let line = Claim::Exit(entry, offset as u8, fact);
         match self.kept.keep_all(&line, fact.cells(), fact.equations()) {
             Ok(()) => Ok(()),

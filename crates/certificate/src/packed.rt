@@ -1,15 +1,14 @@
 //! Lines packed: each set by its runs of words, and the runs of all sets in one list.
 
-ghost use Rattle.std.specs.Prelude.{ℕ, ◌≡◌, ◌+◌, ◌<◌, ◌≤◌, List, [], ◌∷◌, ◌++◌, length, take, drop, true, false, is_some, IfOk, IfSome, OnOk, OnErr};
+ghost use Rattle.std.specs.Prelude.{◌≡◌, ◌+◌, ◌<◌, ◌≤◌, List, [], ◌∷◌, ◌++◌, length, take, drop, true, false, is_some, IfOk, IfSome, OnOk, OnErr};
 ghost use Rattle.wordset.specs.Lanes.{words};
 ghost use Rattle.domain.specs.Meaning.{statement_of, offsets_of};
 ghost use Rattle.certificate.specs.declared.packed.Run.{Run};
 ghost use Rattle.certificate.specs.Spelling.{registers_of};
-ghost use Rattle.certificate.specs.Order.{is_detail, is_end};
+ghost use Rattle.certificate.specs.Order.{is_detail, is_end, is_routine, has_details};
 ghost use Rattle.certificate.specs.Gathered.{stated};
-ghost use Rattle.certificate.specs.Found.{past, last_past, AreRising, IsSought, IsNextPlace, from_place, begins_routine, begins_fact, begins_exit};
-ghost use Rattle.certificate.specs.Adding.{with_line, HasRoomFor, IsFactLine, IsExitLine, IsRoutineLine};
-ghost use Rattle.certificate.specs.Claimed.{claimed_line};
+ghost use Rattle.certificate.specs.Found.{past, last_past, AreRising, IsSought, IsNextPlace, from_place, IsSaid};
+ghost use Rattle.certificate.specs.Adding.{claimed_line, with_line, HasRoomFor, IsRoutineLine};
 ghost use Rattle.certificate.specs.Spelled.{IsLastOf};
 ghost use Rattle.certificate.specs.Packed.{Begins, set_of_runs, added, set_at, registers_at, said_at, said_lines, StandApart, AreWithin, LiesWithin, AreLaid, IsPacked};
 
@@ -417,11 +416,12 @@ pub fn add(runs: &[Run], packed: &PackedLine, fact: &mut Fact) -> bool
     }
 }
 
-/// Whether a line is a fact's, which the lent one then says but for its details.
-pub fn begin_fact(runs: &[Run], packed: &PackedLine, fact: &mut Fact) -> bool
+/// Whether a line is a fact's or an exit's, which the lent fact then says but for its details; of an
+/// exit it has all offsets.
+pub fn begin_said(runs: &[Run], packed: &PackedLine, fact: &mut Fact) -> bool
     requires { LiesWithin (length runs.now) packed.now }
-    ensures there { result ≡ begins_fact (said_at runs.now packed.now ∷ []) }
-    ensures says { result ≡ true → IsFactLine (said_at runs.now packed.now)
+    ensures there { result ≡ has_details (said_at runs.now packed.now) }
+    ensures says { result ≡ true → IsSaid (said_at runs.now packed.now ∷ [])
         (statement_of fact.new) (offsets_of fact.new.offsets) }
     ensures kept { result ≡ false → fact.new ≡ fact.old }
 {
@@ -430,22 +430,8 @@ pub fn begin_fact(runs: &[Run], packed: &PackedLine, fact: &mut Fact) -> bool
             begin(runs, registers, *offsets, fact);
             true
         }
-        _ => false,
-    }
-}
-
-/// Whether a line is an exit's, which the lent fact then says but for its details.
-pub fn begin_exit(runs: &[Run], packed: &PackedLine, exit: &mut Fact) -> bool
-    requires { LiesWithin (length runs.now) packed.now }
-    ensures there { result ≡ begins_exit (said_at runs.now packed.now ∷ []) }
-    ensures says { result ≡ true →
-        IsExitLine (said_at runs.now packed.now) (statement_of exit.new) }
-    ensures offsets { result ≡ true → (o : ℕ) → o < 8 → offsets_of exit.new.offsets o ≡ true }
-    ensures kept { result ≡ false → exit.new ≡ exit.old }
-{
-    match packed {
         PackedLine::Exit(_, _, registers) => {
-            begin(runs, registers, CountedOffsets::all(), exit);
+            begin(runs, registers, CountedOffsets::all(), fact);
             true
         }
         _ => false,
@@ -456,7 +442,7 @@ pub fn begin_exit(runs: &[Run], packed: &PackedLine, exit: &mut Fact) -> bool
 #[inline(never)]
 pub fn routine_of(runs: &[Run], packed: &PackedLine) -> Option<RoutineClaim>
     requires { LiesWithin (length runs.now) packed.now }
-    ensures there { is_some result ≡ begins_routine (said_at runs.now packed.now ∷ []) }
+    ensures there { is_some result ≡ is_routine (said_at runs.now packed.now) }
     ensures says { IfSome result (λ r. IsRoutineLine (said_at runs.now packed.now) r) }
 {
     match packed {

@@ -124,7 +124,7 @@ impl<A: Allocator> Parser<A> {
             (Refuses (bytes ++ 10 ∷ [])) }
     {
         if self.is_long {
-            return Err(CertificateFault::BadLine(progress.number()));
+            return Err(CertificateFault::BadLine(progress.number));
         }
         let mut next = progress;
         self.runs.clear();
@@ -243,14 +243,14 @@ impl<A: Allocator> Parser<A> {
         let Some(progress) = progress else {
             return Err(CertificateFault::Version);
         };
-        if !progress.is_ended() {
-            return Err(CertificateFault::BadLine(progress.number()));
+        if !progress.ended {
+            return Err(CertificateFault::BadLine(progress.number));
         }
         if is_long || !line.is_empty() {
-            return Err(CertificateFault::BadLine(progress.number()));
+            return Err(CertificateFault::BadLine(progress.number));
         }
         Ok(Certificate {
-            version: progress.version(),
+            version: progress.version,
             kept,
         })
     }

@@ -10,7 +10,7 @@ ghost use Rattle.certificate.specs.Reading.{AreLines};
 ghost use Rattle.certificate.specs.Faults.{HasFault, IsText, AsksForMemory};
 ghost use Rattle.certificate.specs.Kept.{meaning};
 ghost use Rattle.certificate.specs.Serving.{IsPrompt, IsUnanswered, failed_to_read};
-ghost use Rattle.certificate.specs.Served.{Serves};
+ghost use Rattle.certificate.specs.Parser.{Serves};
 
 use crate::parser::Parser;
 use crate::{Certificate, CertificateFault};

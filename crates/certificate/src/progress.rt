@@ -5,7 +5,7 @@ ghost use Rattle.domain.specs.Meaning.{equation_of};
 ghost use Rattle.certificate.specs.declared.packed.Run.{Run};
 ghost use Rattle.certificate.specs.Reading.{place_of_equation};
 ghost use Rattle.certificate.specs.Spelling.{Line as SaidLine};
-ghost use Rattle.certificate.specs.Order.{any, is_end, may_stand, is_detail, place, next_place, fellows, HasRoom};
+ghost use Rattle.certificate.specs.Order.{may_stand, is_detail, place, next_place, fellows, HasRoom};
 ghost use Rattle.certificate.specs.Progress.{Tracks, TracksOthers, Fits, Takes};
 ghost use Rattle.certificate.specs.Packed.{said_at, LiesWithin};
 
@@ -26,9 +26,12 @@ pub const LAST_PLACE: usize = 40960;
 /// What is kept of the lines that were read.
 #[derive(Clone, Copy)]
 pub struct Progress {
-    version: Version,
-    number: usize,
-    ended: bool,
+    /// The version of the text.
+    pub version: Version,
+    /// The number of the next line, counted from 1.
+    pub number: usize,
+    /// Whether the end was read.
+    pub ended: bool,
     takes_details: bool,
     next_head: usize,
     next_detail: usize,
@@ -84,27 +87,6 @@ impl Progress {
             cells: 0,
             equations: 0,
         }
-    }
-
-    /// The number of the next line, counted from 1.
-    pub fn number(&self) -> usize
-        ensures { result ≡ self.now.number }
-    {
-        self.number
-    }
-
-    /// The version of the text.
-    pub fn version(&self) -> Version
-        ensures { result ≡ self.now.version }
-    {
-        self.version
-    }
-
-    /// Whether the end was read.
-    pub fn is_ended(&self) -> bool
-        ensures { (before : List SaidLine) → Tracks self.now before → result ≡ any is_end before }
-    {
-        self.ended
     }
 
     /// Whether a line may stand here.

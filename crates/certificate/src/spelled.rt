@@ -1,7 +1,7 @@
 //! The text of a line.
 
-ghost use Rattle.std.specs.Prelude.{ℕ, ◌≡◌, ◌<◌, ◌≤◌, [], ◌∷◌, ◌+◌, ◌==◌, length, codes, if◌then◌else◌};
-ghost use Rattle.std.specs.Prelude.{OnOk, OnErr, is_err, false, ◌++◌, drop};
+ghost use Rattle.std.specs.Prelude.{◌≡◌, ◌<◌, ◌≤◌, [], ◌∷◌, ◌+◌, ◌==◌, length, codes, if◌then◌else◌};
+ghost use Rattle.std.specs.Prelude.{OnOk, OnErr, is_err, false, ◌++◌, slice_range};
 ghost use Rattle.std.specs.Io.KnownBytes.{Appends};
 ghost use Rattle.streams.specs.Bytes.{AppendsFront};
 ghost use Rattle.word12.specs.Words.{octal_text};
@@ -14,8 +14,6 @@ ghost use Rattle.certificate.specs.Reading.{Each};
 ghost use Rattle.certificate.specs.Fields.{run_text};
 ghost use Rattle.certificate.specs.Spelled.{Adds};
 ghost use Rattle.certificate.specs.Packed.{set_of_runs, set_at, other_at, routine_at, registers_at, said_at, said_lines, AreWithin, LiesWithin, StandApart};
-ghost use Rattle.certificate.specs.Order.{details_of_last};
-ghost use Rattle.certificate.specs.Found.{first_with_details};
 
 use crate::Version;
 use crate::packed::{
@@ -379,22 +377,25 @@ fn first_line(version: Version) -> &'static [u8]
     }
 }
 
-/// Writes the lines after the first one.
-fn put_lines<A: Allocator, W: ByteSink>(
+/// Writes the lines from a place on, up to the one at another place.
+pub fn put_lines<A: Allocator, W: ByteSink>(
     sink: &mut W,
     version: Version,
     lines: &PackedLines<A>,
+    start: usize,
+    end: usize,
 ) -> Result<(), Failed>
     requires unmarked { W.mark sink.old ≡ false }
+    requires within { end ≤ length (said_lines lines.now) }
     requires form { Each (IsLine version) (said_lines lines.now) }
     ensures whole { OnOk result (Appends (W.taken sink.old) (W.taken sink.new)
-        (all_ended version (said_lines lines.now))) }
+        (all_ended version (slice_range (said_lines lines.now) start end))) }
     ensures front { OnErr result (AppendsFront (W.taken sink.old) (W.taken sink.new)
-        (all_ended version (said_lines lines.now))) }
+        (all_ended version (slice_range (said_lines lines.now) start end))) }
     ensures marks { W.mark sink.new ≡ is_err result }
 {
     let mut text = LineText::new();
-    for at in 0..lines.len() {
+    for at in start..end {
         let (runs, line) = lines.line(at);
         text.put_line(version, runs, line);
         if let Err(failed) = put(sink, &text.bytes) {
@@ -402,60 +403,6 @@ fn put_lines<A: Allocator, W: ByteSink>(
         }
     }
     Ok(())
-}
-
-/// Writes the lines of cells and equations from a place on, up to the first other line.
-fn put_details<A: Allocator, W: ByteSink>(
-    sink: &mut W,
-    version: Version,
-    lines: &PackedLines<A>,
-    start: usize,
-) -> Result<(), Failed>
-    requires unmarked { W.mark sink.old ≡ false }
-    requires form { Each (IsLine version) (said_lines lines.now) }
-    ensures whole { OnOk result (Appends (W.taken sink.old) (W.taken sink.new)
-        (all_ended version (details_of_last (drop start (said_lines lines.now))))) }
-    ensures front { OnErr result (AppendsFront (W.taken sink.old) (W.taken sink.new)
-        (all_ended version (details_of_last (drop start (said_lines lines.now))))) }
-    ensures marks { W.mark sink.new ≡ is_err result }
-{
-    let mut text = LineText::new();
-    for at in start..lines.len() {
-        let (runs, line) = lines.line(at);
-        if !line.is_detail() {
-            return Ok(());
-        }
-        text.put_line(version, runs, line);
-        if let Err(failed) = put(sink, &text.bytes) {
-            return Err(failed);
-        }
-    }
-    Ok(())
-}
-
-/// Writes the line at a place with the cells and equations under it; nothing past the last one.
-pub fn put_with_details<A: Allocator, W: ByteSink>(
-    sink: &mut W,
-    version: Version,
-    lines: &PackedLines<A>,
-    start: usize,
-) -> Result<(), Failed>
-    requires unmarked { W.mark sink.old ≡ false }
-    requires form { Each (IsLine version) (said_lines lines.now) }
-    ensures whole { OnOk result (Appends (W.taken sink.old) (W.taken sink.new)
-        (all_ended version (first_with_details (drop start (said_lines lines.now))))) }
-    ensures front { OnErr result (AppendsFront (W.taken sink.old) (W.taken sink.new)
-        (all_ended version (first_with_details (drop start (said_lines lines.now))))) }
-    ensures marks { W.mark sink.new ≡ is_err result }
-{
-    if start >= lines.len() {
-        return Ok(());
-    }
-    let mut text = LineText::new();
-    let (runs, line) = lines.line(start);
-    text.put_line(version, runs, line);
-    put(sink, &text.bytes)?;
-    put_details(sink, version, lines, start + 1)
 }
 
 /// Writes a certificate's text: its first line, these lines and the end.
@@ -475,6 +422,6 @@ pub fn put_text<A: Allocator, W: ByteSink>(
     ensures marks { W.mark sink.new ≡ is_err result }
 {
     put(sink, first_line(version))?;
-    put_lines(sink, version, lines)?;
+    put_lines(sink, version, lines, 0, lines.len())?;
     put(sink, b"end\n")
 }

@@ -1,25 +1,22 @@
 -- What is asked of a word: the cells that it reads and writes.
 use Rattle.std.proofs.Common.{◌≡◌, ℕ, ◌<◌, ◌==◌, Bool, true, false, ◌&&◌, ◌||◌, ◌⊎◌, Option, Some, None, refl, sym, ap, ◌∙◌, subst, inl, inr}
-use Rattle.std.proofs.lemmas.Bool.{eqb-true, eq-eqb, false≢true}
+use Rattle.std.proofs.lemmas.Bool.{or_cases, eqb-true, eq-eqb, false≢true}
 use Rattle.std.specs.Prelude.{IsTrue, ◌↔◌}
 use Rattle.instruct.specs.declared.Instruction.TheVariants.{Memory, Operate2}
 use Rattle.instruct.specs.declared.Operation.{Operation}
 use Rattle.instruct.specs.declared.Operation.TheVariants as operation
 use Rattle.instruct.specs.Operates.{is_halt, MqOperate}
 use Rattle.instruct.specs.Bits.{is_indirect, named_cell}
-use Rattle.instruct.specs.Instructions.{Meaning, And, Tad, Isz, Group1, Group2, Group3, Device, DeviceAction, Undefined, kind_of, operation_of, reference}
+use Rattle.instruct.specs.Instructions.{Meaning, Group1, Group2, Group3, Device, DeviceAction, Undefined, kind_of, operation_of, reference}
 use Rattle.instruct.proofs.KindLemmas.{reference_meaning, group2_meaning}
 use Rattle.wordset.specs.Words.{Words, SameWords, IsWithin, nothing, only}
+use Rattle.wordset.proofs.LaneBits.{or_false}
 use Rattle.processor.specs.Machine.{steps_pointer}
 use Rattle.domain.specs.Facts.{Fact, Place, is_routine}
 use Rattle.facts.specs.Outcomes.{targets, meaning_at}
 use Rattle.facts.specs.Conditions.{may_read, may_write, reads_operand, stores, counts, CountsItsReturn, MayWrite}
 use Rattle.policy.specs.Rules.{HaltsDeclared}
 use Rattle.facts.proofs.Numbers.{or_left, or_right}
-
-pub or_false : (b : Bool) → b ≡ (b || false)
-or_false true = refl
-or_false false = refl
 
 pub no_reference : {r : Bool} {k : Type 0} → r ≡ false → (IsTrue r ↔ k) → k → ⊥
 no_reference e h k = false≢true (sym e ∙ h.1 k)
@@ -48,7 +45,7 @@ read_by : (pl : Place) (f : Fact) (o : Operation) (i : Bool) (c a : ℕ) → ((i
 read_by pl f operation.And i c a = refl
 read_by pl f operation.Tad i c a = refl
 read_by pl f operation.Isz i c a = refl
-read_by pl f _ i c a = sym (or_false (i && (a == c)))
+read_by pl f _ i c a = or_false (i && (a == c))
 
 pub reads_none : (pl : Place) (f : Fact) (m : Meaning) → (kind_of m ≡ Memory → ⊥) → (a : ℕ) → may_read pl f m a ≡ false
 reads_none pl f m h a = unless_memory (λ m. may_read pl f m a ≡ false) (λ w. refl) (λ w. refl) (λ o. refl) (λ d. refl) refl m h
@@ -97,11 +94,7 @@ listed_iff r cells listed writes e here h =
     (λ q a lt c. there a (sym (here a) ∙ h.0 q a lt c), λ p. h.1 (λ a lt c. here a ∙ back a (p a lt c)))
   where
     there : (a : ℕ) → (writes a || (a == e)) ≡ true → (writes a ≡ true) ⊎ (a ≡ e)
-    there a t = go (writes a) refl t
-      where
-        go : (b : Bool) → writes a ≡ b → (b || (a == e)) ≡ true → (writes a ≡ true) ⊎ (a ≡ e)
-        go true q k = inl q
-        go false q k = inr (eqb-true a e k)
+    there a t = elim (or_cases (writes a) (a == e) t) [ inl w ↦ inl w | inr q ↦ inr (eqb-true a e q) ]
 
     back : (a : ℕ) → (writes a ≡ true) ⊎ (a ≡ e) → (writes a || (a == e)) ≡ true
     back a x = elim x [

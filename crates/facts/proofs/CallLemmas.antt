@@ -6,7 +6,7 @@ use Rattle.instruct.specs.declared.Instruction.TheVariants.{Memory}
 use Rattle.instruct.specs.declared.Operation.{Operation}
 use Rattle.instruct.specs.declared.Operation.TheVariants as operation
 use Rattle.instruct.specs.Bits.{is_indirect, named_cell}
-use Rattle.instruct.specs.Instructions.{Meaning, And, Jms, kind_of, operation_of, reference}
+use Rattle.instruct.specs.Instructions.{Meaning, Jms, kind_of, operation_of, reference}
 use Rattle.wordset.specs.Words.{Words}
 use Rattle.declaration.specs.Declaration.{Declaration, IsListed}
 use Rattle.domain.specs.Facts.{Fact, Place}

@@ -1,23 +1,15 @@
 use Rattle.std.proofs.Common.{◌≡◌, ℕ, ◌+◌, ◌-◌, ◌<◌, ◌≤◌, Bool, true, false, ◌&&◌, ◌⊎◌, Option, Some, None, List, [], ◌∷◌, refl, sym, ap, ◌∙◌, inl, inr, arith}
-use Rattle.std.specs.Prelude.{if◌then◌else◌}
-use Rattle.std.proofs.lemmas.Bool.{and_from, eqb-true, eqb-false, eq-eqb, ne_eqb, true≢false, false≢true, cases_eq}
+use Rattle.std.proofs.lemmas.Bool.{and_from, cond_both, eqb-true, eqb-false, eq-eqb, true≢false, false≢true, cases_eq}
 use Rattle.wordset.specs.Words.{plus, minus, Words, everything}
 use Rattle.processor.specs.Cells.{Cells, updated}
 use Rattle.processor.specs.Machine.{State, seen, place, steps_pointer}
+pub use Rattle.processor.proofs.CellLemmas.{updated_same, updated_other}
 use Rattle.declaration.specs.Declaration.{Declaration, IsDeclared}
 use Rattle.policy.specs.Calls.{Call, Calls}
 use Rattle.domain.specs.Facts.{Location, Ac, Cell, same, Equation, Fact, Values, AllTrue, Holds, narrowed, values, KeepsRest, Place, OwnWord, StandsIn, Means, own_words, is_routine, tape_word, words_in, possible}
 use Rattle.facts.specs.Law.{IsState, TopIsEntry}
 use Rattle.facts.proofs.Numbers.{if_below, plus_lt, some_from}
 use Rattle.facts.proofs.Laws.{WordsAre, OnlyAt, narrowed_at}
-
-pub updated_same : (m : Cells) (a v : ℕ) → updated m a v a ≡ v
-unfolding updated
-updated_same m a v = rw (eq-eqb a a refl)
-
-pub updated_other : (m : Cells) (a v b : ℕ) → (b ≡ a → ⊥) → updated m a v b ≡ m b
-unfolding updated
-updated_other m a v b h = rw (ne_eqb b a h)
 
 pub words_updated : (m : Cells) (a v : ℕ) → v < 4096 → ((b : ℕ) → m b < 4096) → (b : ℕ) → updated m a v b < 4096
 words_updated m a v h ws b = elim (cases_eq b a) [
@@ -27,11 +19,7 @@ words_updated m a v h ws b = elim (cases_eq b a) [
 
 -- memory after a pointer was stepped, and the place that a reference refers to
 pub seen_words : (i : Bool) (c : ℕ) (m : Cells) → ((a : ℕ) → m a < 4096) → (a : ℕ) → seen i c m a < 4096
-seen_words i c m ws a = go (steps_pointer i c)
-  where
-    go : (b : Bool) → (let chosen : Cells = if b then updated m c (plus (m c) 1) else m in chosen a < 4096)
-    go true = words_updated m c (plus (m c) 1) (plus_lt (m c) 1) ws a
-    go false = ws a
+seen_words i c m ws a = cond_both (steps_pointer i c) (updated m c (plus (m c) 1)) m (λ (chosen : Cells). chosen a < 4096) (λ q. words_updated m c (plus (m c) 1) (plus_lt (m c) 1) ws a) (λ q. ws a)
 
 pub seen_place : (i : Bool) (c : ℕ) (m : Cells) → ((a : ℕ) → m a < 4096) → c < 4096 → place i c m < 4096
 seen_place false c m ws h = h
@@ -114,26 +102,22 @@ module _ (pl : Place) (dd : IsDeclared pl.declaration) (start : Cells) (sw : (a 
       let back : minus (k.after + o.0) (o.0 + 1) ≡ k.after - 1 = omega arith in
       rw v (some_from 8 (λ n. f.offsets n && pl.sites (minus (k.after + o.0) (n + 1))) o.0 o.1 (and_from _ _ o.2 (rw back st.3)))
 
+  -- a variable's word is in its narrowed set
+  pub variable_true : (f : Fact) (s : State) (ks : Calls) (a : ℕ) → IsState s → Means pl start f s ks → pl.declaration.variable a ≡ true → narrowed f (Cell a) (s.memory a) ≡ true
+  variable_true f s ks a ss h p =
+      let v : values pl.declaration start s.ac s.memory (Cell a) ≡ s.memory a = value_of pl.declaration start s.ac s.memory a p in
+      rw v at (narrowed_at (values_words pl.declaration start s.ac s.memory ss.ac sw ss.words) h.holds (Cell a))
+
   pub word_true : (f : Fact) (s : State) (ks : Calls) (a : ℕ) → IsState s → Means pl start f s ks → words_in pl f a (s.memory a) ≡ true
   unfolding words_in
-  word_true f s ks a ss h = go (pl.declaration.variable a) (is_routine pl.routine a) (pl.declaration.entry a) refl refl refl
+  word_true f s ks a ss h = cond_both (pl.declaration.variable a) (narrowed f (Cell a)) _ has (λ p. variable_true f s ks a ss h p)
+      (λ p. cond_both (is_routine pl.routine a) (own_words pl.sites f) _ has (λ q. own_true f s.memory ks a h.stands h.own q)
+      (λ q. cond_both (pl.declaration.entry a) everything (tape_word (pl.image a)) has (λ r. refl) (λ r. tape_true (pl.image a) (s.memory a) (λ w t. h.rest a p r ∙ loaded a w t))))
     where
-      go : (b c e : Bool) → pl.declaration.variable a ≡ b → is_routine pl.routine a ≡ c → pl.declaration.entry a ≡ e →
-          (let chosen : Words = if b then narrowed f (Cell a) else (if c then own_words pl.sites f else (if e then everything else tape_word (pl.image a))) in chosen (s.memory a) ≡ true)
-      go true c e p q r =
-          let v : values pl.declaration start s.ac s.memory (Cell a) ≡ s.memory a = value_of pl.declaration start s.ac s.memory a p in
-          rw v at (narrowed_at (values_words pl.declaration start s.ac s.memory ss.ac sw ss.words) h.holds (Cell a))
-      go false true e p q r = own_true f s.memory ks a h.stands h.own q
-      go false false true p q r = refl
-      go false false false p q r = tape_true (pl.image a) (s.memory a) (λ w t. h.rest a p r ∙ loaded a w t)
+      has : Words → Type 0
+      has chosen = chosen (s.memory a) ≡ true
 
   pub possible_true : (f : Fact) (s : State) (ks : Calls) (a : ℕ) → IsState s → Means pl start f s ks → pl.declaration.entry a ≡ false → possible pl f a (s.memory a) ≡ true
   unfolding possible
-  possible_true f s ks a ss h r = go (pl.declaration.variable a) refl
-    where
-      go : (b : Bool) → pl.declaration.variable a ≡ b →
-          (let chosen : Words = if b then narrowed f (Cell a) else tape_word (pl.image a) in chosen (s.memory a) ≡ true)
-      go true p =
-          let v : values pl.declaration start s.ac s.memory (Cell a) ≡ s.memory a = value_of pl.declaration start s.ac s.memory a p in
-          rw v at (narrowed_at (values_words pl.declaration start s.ac s.memory ss.ac sw ss.words) h.holds (Cell a))
-      go false p = tape_true (pl.image a) (s.memory a) (λ w t. h.rest a p r ∙ loaded a w t)
+  possible_true f s ks a ss h r = cond_both (pl.declaration.variable a) (narrowed f (Cell a)) (tape_word (pl.image a)) (λ (chosen : Words). chosen (s.memory a) ≡ true)
+      (λ p. variable_true f s ks a ss h p) (λ p. tape_true (pl.image a) (s.memory a) (λ w t. h.rest a p r ∙ loaded a w t))

@@ -7,7 +7,8 @@ use Rattle.wordset.specs.Lanes.{words}
 use Rattle.wordset.specs.Links.{links_of}
 use Rattle.domain.specs.Facts.{Location, Ac, Cell, Equation, joined, outside, has_cell, is_outside}
 use Rattle.domain.specs.Same.{Agree}
-use Rattle.facts.proofs.Numbers.{minus_lt}
+use Rattle.facts.proofs.Numbers.{minus_lt, if_both}
+use Rattle.facts.proofs.PlaceLemmas.{or_both}
 use Rattle.domain.specs.declared.fact.Fact.{Fact as CodeFact}
 use Rattle.facts.specs.declared.state.AbstractState.{AbstractState}
 use Rattle.facts.specs.declared.state.Update.{Update}
@@ -69,24 +70,11 @@ fact_agrees f k b p t ac mq link offsets es = record {
 
 pub changed_same : (c : Update) (a : ℕ) {s t : Words} → SameWords s t → SameWords (changed c a s) (changed c a t)
 changed_same Unchanged a h v lt = h v lt
-changed_same (Strong c r) a {s} {t} h v lt = go (a == c)
-  where
-    go : (b : Bool) → (let x : Words = if b then words r.now else s in let y : Words = if b then words r.now else t in x v ≡ y v)
-    go true = refl
-    go false = h v lt
-changed_same (WeakIncrement p) a {s} {t} h v lt = go (has_cell (words p.now) a)
-  where
-    more : s (minus v 1) ≡ t (minus v 1)
-    more = h (minus v 1) (minus_lt v 1)
-
-    go : (b : Bool) → (let x : Words = if b then union s (shifted s 1) else s in let y : Words = if b then union t (shifted t 1) else t in x v ≡ y v)
-    go true = rw (h v lt, more) refl
-    go false = h v lt
-changed_same (WeakStore p r) a {s} {t} h v lt = go (has_cell (words p.now) a)
-  where
-    go : (b : Bool) → (let x : Words = if b then union s (words r.now) else s in let y : Words = if b then union t (words r.now) else t in x v ≡ y v)
-    go true = rw (h v lt) refl
-    go false = h v lt
+changed_same (Strong c r) a {s} {t} h v lt = if_both (a == c) (words r.now) s (words r.now) t v refl (h v lt)
+changed_same (WeakIncrement p) a {s} {t} h v lt =
+    if_both (has_cell (words p.now) a) (union s (shifted s 1)) s (union t (shifted t 1)) t v (or_both (h v lt) (h (minus v 1) (minus_lt v 1))) (h v lt)
+changed_same (WeakStore p r) a {s} {t} h v lt =
+    if_both (has_cell (words p.now) a) (union s (words r.now)) s (union t (words r.now)) t v (or_both (h v lt) refl) (h v lt)
 
 pub set_same : (k : AbstractState) (a : ℕ) {s t u : Words} → SameWords s (source_words k.base a) → SameWords t (changed k.pointer a s) → SameWords u (changed k.target a t) →
     SameWords u (sets_of_state k (Cell a))

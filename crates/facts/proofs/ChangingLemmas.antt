@@ -1,8 +1,8 @@
 -- What happens to what is known.
-use Rattle.std.proofs.Common.{◌≡◌, ℕ, ◌-◌, ◌<◌, ◌==◌, Bool, true, false, ◌&&◌, ◌||◌, List, ◌++◌, map, refl, ap, subst, ◌∙◌, arith}
+use Rattle.std.proofs.Common.{◌≡◌, ℕ, ◌-◌, ◌<◌, ◌==◌, Bool, true, false, ◌&&◌, ◌||◌, List, ◌++◌, map, refl, ap, subst, ◌∙◌, arith, inl, inr}
 use Rattle.std.proofs.Math.Path.{fun_ext}
 use Rattle.std.specs.Prelude.{if◌then◌else◌, nat_lt}
-use Rattle.std.proofs.lemmas.Bool.{ltb-true}
+use Rattle.std.proofs.lemmas.Bool.{cases_Bool, ltb-true}
 use Rattle.wordset.specs.declared.links.Links.{Links as CodeLinks}
 use Rattle.std.specs.Borrow.{Bor}
 use Rattle.wordset.specs.Words.{minus, Words, SameWords, SameLinks, one, shifted, union}
@@ -11,7 +11,8 @@ use Rattle.wordset.specs.Links.{links_of}
 use Rattle.domain.specs.Facts.{Location, Ac, Cell, same, Fact, Equation, narrowed, has_cell}
 use Rattle.domain.specs.Changes.{moved_equations, free_of, cells_of, with_set, copied, moved, strongly_updated, weakly_updated, weakly_updated_sets, with_name, with_equations, with_mq, with_link, with_offsets}
 use Rattle.domain.specs.Same.{Agree}
-use Rattle.facts.proofs.Numbers.{minus_lt}
+use Rattle.facts.proofs.Numbers.{minus_lt, if_both}
+use Rattle.facts.proofs.PlaceLemmas.{or_both}
 use Rattle.facts.proofs.AgreeLemmas.{agree_trans, narrowed_agree}
 use Rattle.domain.specs.declared.offsets.CountedOffsets.{CountedOffsets}
 use Rattle.facts.specs.declared.state.AbstractState.{AbstractState}
@@ -28,26 +29,14 @@ ac_sets k set new s (Cell a) v lt = refl
 pub target_sets : (k : AbstractState) (c : ℕ) (set : Bor (List ℕ)) (new : Words) → IsUnchanged k.target → SameWords (words set.now) new → (n : Location) →
     SameWords (sets_of_state (record k { target = Strong c set }) n) (with_set (Cell c) new (sets_of_state k) n)
 target_sets k c set new u s Ac v lt = refl
-target_sets k c set new u s (Cell a) v lt = go (a == c)
-  where
-    old : Words
-    old = changed k.pointer a (source_words k.base a)
-
-    go : (b : Bool) → (let x : Words = if b then words set.now else old in let y : Words = if b then new else changed k.target a old in x v ≡ y v)
-    go true = s v lt
-    go false = rw u refl
+target_sets k c set new u s (Cell a) v lt =
+    let old : Words = changed k.pointer a (source_words k.base a) in if_both (a == c) (words set.now) old new (changed k.target a old) v (s v lt) (rw u refl)
 
 pub pointer_sets : (k : AbstractState) (c : ℕ) (set : Bor (List ℕ)) (new : Words) → IsUnchanged k.pointer → IsUnchanged k.target → SameWords (words set.now) new → (n : Location) →
     SameWords (sets_of_state (record k { pointer = Strong c set; target = Unchanged }) n) (with_set (Cell c) new (sets_of_state k) n)
 pointer_sets k c set new p u s Ac v lt = refl
-pointer_sets k c set new p u s (Cell a) v lt = go (a == c)
-  where
-    old : Words
-    old = source_words k.base a
-
-    go : (b : Bool) → (let x : Words = if b then words set.now else old in let y : Words = if b then new else changed k.target a (changed k.pointer a old) in x v ≡ y v)
-    go true = s v lt
-    go false = rw (u, p) refl
+pointer_sets k c set new p u s (Cell a) v lt =
+    let old : Words = source_words k.base a in if_both (a == c) (words set.now) old new (changed k.target a (changed k.pointer a old)) v (s v lt) (rw (u, p) refl)
 
 pub assigned_ac : (k : AbstractState) (set : Bor (List ℕ)) (es : Bor (List CodeEquation)) → map equation_of es.now ≡ free_of (λ m. same m Ac) (map equation_of k.equations.now) →
     Agree (fact_of_state (record k { ac = set; equations = es })) (strongly_updated Ac (words set.now) (fact_of_state k))
@@ -108,11 +97,7 @@ smeared_stored k cells set es u e = record { sets = sets; mq = λ v lt. refl; li
 
 -- agreement is kept by what happens to facts
 pub with_set_same : (f g : Location → Words) (s t : Words) (n : Location) → ((m : Location) → SameWords (f m) (g m)) → SameWords s t → (m : Location) → SameWords (with_set n s f m) (with_set n t g m)
-with_set_same f g s t n h e m v lt = go (same m n)
-  where
-    go : (b : Bool) → (let x : Words = if b then s else f m in let y : Words = if b then t else g m in x v ≡ y v)
-    go true = e v lt
-    go false = h m v lt
+with_set_same f g s t n h e m v lt = if_both (same m n) s (f m) t (g m) v (e v lt) (h m v lt)
 
 pub assigned_agree : {f g : Fact} {s t : Words} (n : Location) → Agree f g → SameWords s t → Agree (strongly_updated n s f) (strongly_updated n t g)
 unfolding strongly_updated
@@ -139,33 +124,18 @@ moved_agree {f} {g} n k h = record {
 
 pub smeared_agree : {f g : Fact} {p q : Words} {s t : ℕ → Words} → Agree f g → SameWords p q → ((y : ℕ) → SameWords (s y) (t y)) → Agree (weakly_updated p s f) (weakly_updated q t g)
 unfolding weakly_updated
-smeared_agree {f} {g} {p} {q} {s} {t} h e n = record { sets = sets; mq = h.mq; link = h.link; equations = frees; offsets = h.offsets }
+smeared_agree {f} {g} {p} {q} {s} {t} h e n =
+    record { sets = sets; mq = h.mq; link = h.link; equations = ap (λ x. free_of x f.equations) (fun_ext name) ∙ ap (free_of (cells_of q)) h.equations; offsets = h.offsets }
   where
-    has : (a : ℕ) → has_cell p a ≡ has_cell q a
-    has a = below (nat_lt a 4096) refl
-      where
-        below : (b : Bool) → nat_lt a 4096 ≡ b → (b && p a) ≡ (b && q a)
-        below true l = e a (ltb-true a 4096 l)
-        below false l = refl
-
-    names : cells_of p ≡ cells_of q
-    names = fun_ext (λ m. name m)
-      where
-        name : (m : Location) → cells_of p m ≡ cells_of q m
-        name Ac = refl
-        name (Cell a) = has a
-
-    frees : free_of (cells_of p) f.equations ≡ free_of (cells_of q) g.equations
-    frees = ap (λ x. free_of x f.equations) names ∙ ap (free_of (cells_of q)) h.equations
+    name : (m : Location) → cells_of p m ≡ cells_of q m
+    name Ac = refl
+    name (Cell a) = elim (cases_Bool (nat_lt a 4096)) [ inl l ↦ ap (λ x. nat_lt a 4096 && x) (e a (ltb-true a 4096 l)) | inr l ↦ rw l refl ]
 
     sets : (m : Location) → SameWords (weakly_updated_sets p s f.set m) (weakly_updated_sets q t g.set m)
     sets Ac v lt = h.sets Ac v lt
-    sets (Cell a) v lt = go (has_cell p a) (has_cell q a) (has a)
-      where
-        go : (b c : Bool) → b ≡ c → (let x : Words = if b then union (f.set (Cell a)) (s a) else f.set (Cell a) in let y : Words = if c then union (g.set (Cell a)) (t a) else g.set (Cell a) in x v ≡ y v)
-        go true true z = rw (h.sets (Cell a) v lt, n a v lt) refl
-        go false false z = h.sets (Cell a) v lt
-        go _ _ z = absurd (cc)
+    sets (Cell a) v lt =
+        if_both (has_cell p a) (union (f.set (Cell a)) (s a)) (f.set (Cell a)) (union (g.set (Cell a)) (t a)) (g.set (Cell a)) v (or_both (h.sets (Cell a) v lt) (n a v lt)) (h.sets (Cell a) v lt)
+        ∙ ap (λ (b : Bool). let x : Words = if b then union (g.set (Cell a)) (t a) else g.set (Cell a) in x v) (name (Cell a))
 
 pub link_agree : {f g : Fact} {l m : Words} → Agree f g → SameLinks l m → Agree (with_link l f) (with_link m g)
 link_agree h e = record { sets = h.sets; mq = h.mq; link = e; equations = h.equations; offsets = h.offsets }
@@ -223,11 +193,4 @@ pub later_agrees : (k : AbstractState) (o : CountedOffsets) → ((n : ℕ) → n
 later_agrees k o h = record { sets = same_sets k k.mq k.link k.equations o; mq = λ v lt. refl; link = λ n lt. refl; equations = refl; offsets = h }
 
 pub later_agree : {f g : Fact} → Agree f g → Agree (with_offsets (λ n. if n == 0 then false else f.offsets (n - 1)) f) (with_offsets (λ n. if n == 0 then false else g.offsets (n - 1)) g)
-later_agree {f} {g} h = record { sets = h.sets; mq = h.mq; link = h.link; equations = h.equations; offsets = offsets }
-  where
-    offsets : (n : ℕ) → n < 8 → (if n == 0 then false else f.offsets (n - 1)) ≡ (if n == 0 then false else g.offsets (n - 1))
-    offsets n lt = go (n == 0)
-      where
-        go : (b : Bool) → (if b then false else f.offsets (n - 1)) ≡ (if b then false else g.offsets (n - 1))
-        go true = refl
-        go false = h.offsets (n - 1) (omega arith)
+later_agree {f} {g} h = record { sets = h.sets; mq = h.mq; link = h.link; equations = h.equations; offsets = λ n lt. ap (λ z. if n == 0 then false else z) (h.offsets (n - 1) (omega arith)) }

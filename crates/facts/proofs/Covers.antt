@@ -1,27 +1,27 @@
 -- The step law, over all instructions.
-use Rattle.std.proofs.Common.{◌≡◌, ℕ, ◌+◌, ◌*◌, ◌/◌, ◌%◌, ◌<◌, ◌==◌, Bool, true, false, ◌&&◌, ◌⊎◌, Option, Some, None, [], ◌∷◌, refl, sym, ◌∙◌, subst, inl, inr, arith}
-use Rattle.std.specs.Prelude.{if◌then◌else◌}
-use Rattle.std.proofs.lemmas.Bool.{and_parts, and_from, eqb-true, eq-eqb, true≢false, false≢true}
+use Rattle.std.proofs.Common.{◌≡◌, ℕ, ◌+◌, ◌*◌, ◌/◌, ◌%◌, ◌<◌, ◌==◌, Bool, true, false, ◌&&◌, ◌⊎◌, Option, Some, None, [], ◌∷◌, refl, sym, ◌∙◌, subst, inl, inr, arith, lit<}
+use Rattle.std.specs.Prelude.{if◌then◌else◌, nat_lt, bit_or}
+use Rattle.std.proofs.lemmas.Bool.{and_parts, and_from, cond_both, false_from_ne_true, lt-ltb, eqb-true, eq-eqb, true≢false, false≢true}
 use Rattle.instruct.specs.declared.Profile.{Profile}
 use Rattle.instruct.specs.declared.Profile.TheVariants.{Pdp8I, Pdp8E}
 use Rattle.instruct.specs.Bits.{has_bit, named_cell}
 use Rattle.instruct.specs.Operates.{is_halt, MqOperate, mq_operate_of}
 use Rattle.instruct.specs.Instructions.{Meaning, And, Tad, Isz, Dca, Jms, Jmp, Group1, Group2, Group3, Device, Undefined, DeviceAction, Skips, Ors, Clears, Takes, Leaves, device_action, device_meaning, is_group1, mq_meaning, group3_meaning, operate_meaning, meaning_of}
-use Rattle.wordset.specs.Words.{plus}
+use Rattle.wordset.specs.Words.{plus, one, or_any}
 use Rattle.processor.specs.Cells.{Cells}
 use Rattle.processor.specs.Machine.{State, Answer, Answers, seen, place, steps_pointer, next_pc, Does, instruction}
 use Rattle.declaration.specs.Declaration.{IsDeclared}
 use Rattle.policy.specs.Calls.{Calls}
 use Rattle.policy.specs.Runs.{GoesOn}
-use Rattle.domain.specs.Facts.{Cell, Fact, Place, StandsIn, Means, is_routine}
+use Rattle.domain.specs.Facts.{Ac, Cell, Fact, narrowed, Place, StandsIn, Means, is_routine}
 use Rattle.domain.specs.Changes.{moved}
 use Rattle.facts.specs.Outcomes.{stepped, targets, outcomes_of, all_operated2, ac_after, link_after}
 use Rattle.facts.specs.Conditions.{may_write, WritesAreDeclared, EntriesAreKept}
 use Rattle.facts.specs.Law.{IsState, TopIsEntry, IsOrdinary, LandsIn, SomeOutcome, StepLaw}
 use Rattle.facts.proofs.Numbers.{if_below, plus_lt, or_left, or_right}
-use Rattle.facts.proofs.Operates.{and_word, or_word, ac_after_word, link_after_bit, operate2_word, mq_words}
+use Rattle.facts.proofs.Operates.{and_word, or_word, or_byte_true, ac_after_word, link_after_bit, operate2_word, mq_words}
 use Rattle.facts.proofs.Cells.{words_updated, seen_words, seen_place}
-use Rattle.facts.proofs.Steps.{after_pointer, pointer_state, pointer_means, target_true, tad_step, MayCount, isz_step, dca_step, jmp_step, and_step, operate1_step, operate2_step, operate3_step, skip_step, or_step, clear_step, take_step, leave_step}
+use Rattle.facts.proofs.Steps.{after_pointer, pointer_state, pointer_means, target_true, tad_step, MayCount, isz_step, dca_step, jmp_step, and_step, operate1_step, operate2_step, operate3_step, skip_step, ac_true, ac_step, go_step}
 
 -- an instruction names a word
 abbrev pub NamesWord : Meaning → Type 0
@@ -160,11 +160,7 @@ module _ (pl : Place) (dd : IsDeclared pl.declaration) (start : Cells) (sw : (a 
 
   stepped_offsets : (i : Bool) (c : ℕ) (f : Fact) (o : ℕ) → f.offsets o ≡ false → (stepped i c f).offsets o ≡ false
   unfolding moved
-  stepped_offsets i c f o e = go (steps_pointer i c)
-    where
-      go : (b : Bool) → (let chosen : Fact = if b then moved (Cell c) 1 f else f in chosen.offsets o ≡ false)
-      go true = e
-      go false = e
+  stepped_offsets i c f o e = cond_both (steps_pointer i c) (moved (Cell c) 1 f) f (λ (chosen : Fact). chosen.offsets o ≡ false) (λ q. e) (λ q. e)
 
   routine_entry : (ks : Calls) (c : ℕ) → StandsIn pl ks → TopIsEntry pl.declaration ks → is_routine pl.routine c ≡ true → pl.declaration.entry c ≡ true
   routine_entry [] c st t e = absurd (false≢true (rw st at e))
@@ -172,11 +168,7 @@ module _ (pl : Place) (dd : IsDeclared pl.declaration) (start : Cells) (sw : (a 
 
   not_return : (i : Bool) (ks : Calls) (c : ℕ) → StandsIn pl ks → TopIsEntry pl.declaration ks → (i ≡ true → pl.declaration.entry c ≡ false) → (i && is_routine pl.routine c) ≡ false
   not_return false ks c st t e = refl
-  not_return true ks c st t e = go (is_routine pl.routine c) refl
-    where
-      go : (b : Bool) → is_routine pl.routine c ≡ b → b ≡ false
-      go false q = refl
-      go true q = absurd (true≢false (sym (routine_entry ks c st t q) ∙ e refl))
+  not_return true ks c st t e = false_from_ne_true (is_routine pl.routine c) (λ q. true≢false (sym (routine_entry ks c st t q) ∙ e refl))
 
   pub covered : (m : Meaning) (f : Fact) (s t : State) (q : Answer) (ks : Calls) → NamesWord m → IsState s → TopIsEntry pl.declaration ks → Means pl start f s ks →
       WritesAreDeclared pl f m → EntriesAreKept pl f m → GoesOn pl.declaration m s.pc → IsOrdinary pl.declaration m → Does m s q t → SomeOutcome (LandsIn pl start t ks) (outcomes_of pl f s.pc m)
@@ -228,10 +220,11 @@ module _ (pl : Place) (dd : IsDeclared pl.declaration) (start : Cells) (sw : (a 
       by : (action : DeviceAction) (ac : ℕ) (skip : Bool) → Answers action s.ac q ac skip →
           SomeOutcome (LandsIn pl start (record s { ac = ac; pc = next_pc s.pc skip }) ks) (outcomes_of pl f s.pc (Device action))
       by Skips ac skip a = rw a.1 (skip_step pl dd start sw loaded f s ks skip ss h)
-      by Ors ac skip a = rw (a.4, a.3) (or_step pl dd start sw loaded f s ks a.0 ss h a.1)
-      by Clears ac skip a = rw (a.2, a.1) (clear_step pl dd start sw loaded f s ks ss h)
-      by Takes ac skip a = rw (a.4, a.3) (take_step pl dd start sw loaded f s ks a.0 ss h a.1)
-      by Leaves ac skip a = rw (a.2, a.1) (leave_step pl dd start sw loaded f s ks ss h)
+      by Ors ac skip a = rw (a.4, a.3) (ac_step pl dd start sw loaded f s ks (or_any 255 (narrowed f Ac)) (bit_or s.ac a.0) ss h (or_word s.ac a.0 ss.ac (small_byte a.0 a.1))
+          (or_byte_true (narrowed f Ac) s.ac a.0 ss.ac a.1 (ac_true pl dd start sw loaded f s ks ss h)))
+      by Clears ac skip a = rw (a.2, a.1) (ac_step pl dd start sw loaded f s ks (one 0) 0 ss h (lit< tt) refl)
+      by Takes ac skip a = rw (a.4, a.3) (ac_step pl dd start sw loaded f s ks (λ v. nat_lt v 256) a.0 ss h (small_byte a.0 a.1) (lt-ltb a.0 256 a.1))
+      by Leaves ac skip a = rw (a.2, a.1) (go_step pl dd start sw loaded f s ks (plus s.pc 1) ss h)
   covered Undefined f s t q ks n ss top h wd ek on plain does = absurd does
 
 pub step_law : StepLaw

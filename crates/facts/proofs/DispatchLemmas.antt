@@ -16,6 +16,7 @@ use Rattle.wordset.specs.Words.{everything, one, plus}
 use Rattle.domain.specs.Facts.{Fact, Place}
 use Rattle.facts.specs.Outcomes.{Successor, goes, operated3, device_outcomes, outcomes_of, outcomes_at}
 use Rattle.facts.specs.Agreeing.{AgreeingSuccessors}
+use Rattle.facts.proofs.EntailLemmas.{none_is, some_is}
 
 pub by_meaning : (os : List Successor) (pl : Place) (f : Fact) (at w : ℕ) {m : Meaning} → meaning_of pl.declaration.profile at w ≡ m → AgreeingSuccessors os (outcomes_of pl f at m) → AgreeingSuccessors os (outcomes_at pl f at w)
 by_meaning os pl f at w e h = subst (λ m. AgreeingSuccessors os (outcomes_of pl f at m)) (sym e) h
@@ -26,23 +27,17 @@ by_group3 os pl f at w k h =
     let told = group3_meaning_of pl.declaration.profile at w k in
     subst (λ m. AgreeingSuccessors os (outcomes_of pl f at m)) (sym told.2) (h told.0 told.1)
 
-some_action : {a b : DeviceAction} → Some a ≡ Some b → a ≡ b
-some_action e = cc
-
 pub by_device : (os : List Successor) (pl : Place) (f : Fact) (at w : ℕ) (o : DeviceOperation) → kind_of (meaning_of pl.declaration.profile at w) ≡ Iot → Some o ≡ device_operation pl.declaration.profile w →
     AgreeingSuccessors os (device_outcomes at f (processor_action o)) → AgreeingSuccessors os (outcomes_at pl f at w)
 by_device os pl f at w o k e h =
     let told = device_meaning_of pl.declaration.profile at w k in
-    let same : processor_action o ≡ told.0 = some_action (ap (λ x. option_map processor_action x) e ∙ told.1) in
+    let same : processor_action o ≡ told.0 = some_is (ap (λ x. option_map processor_action x) e ∙ told.1) in
     subst (λ m. AgreeingSuccessors os (outcomes_of pl f at m)) (sym told.2) (subst (λ a. AgreeingSuccessors os (device_outcomes at f a)) same h)
 
 pub by_no_device : (os : List Successor) (pl : Place) (f : Fact) (at w : ℕ) → kind_of (meaning_of pl.declaration.profile at w) ≡ Iot → None ≡ device_operation pl.declaration.profile w → AgreeingSuccessors os (outcomes_at pl f at w)
 by_no_device os pl f at w k e =
     let told = device_meaning_of pl.declaration.profile at w k in
-    absurd (none_some (ap (λ x. option_map processor_action x) e ∙ told.1))
-  where
-    none_some : {a : DeviceAction} → None ≡ Some a → ⊥
-    none_some q = cc
+    absurd (none_is (ap (λ x. option_map processor_action x) e ∙ told.1))
 
 -- each word of group 1 of the 8/I is one of the 8/E
 kind_if : (b : Bool) (x y p q : Meaning) → (kind_of x ≡ Operate1 → kind_of p ≡ Operate1) → (kind_of y ≡ Operate1 → kind_of q ≡ Operate1) → kind_of (if b then x else y) ≡ Operate1 → kind_of (if b then p else q) ≡ Operate1

@@ -1,7 +1,7 @@
 -- Going through a set: each of its words passes, or one of them doesn't.
-use Rattle.std.proofs.Common.{◌≡◌, ℕ, ◌+◌, ◌<◌, Bool, true, false, ◌&&◌, refl, sym, ◌∙◌, subst, inl, inr, arith}
+use Rattle.std.proofs.Common.{◌≡◌, ℕ, ◌+◌, ◌<◌, Bool, true, false, ◌&&◌, sym, ◌∙◌, subst, inl, inr, arith}
 use Rattle.std.specs.Prelude.{IsTrue, ◌↔◌}
-use Rattle.std.proofs.lemmas.Bool.{and_from, cases_lt, cases_eq, true≢false, false≢true}
+use Rattle.std.proofs.lemmas.Bool.{and_from, and_left, and_right, cases_Bool, cases_lt, cases_eq, true≢false, false≢true}
 use Rattle.wordset.specs.Words.{Words, IsFirstFrom, HasNoneFrom, some_below}
 use Rattle.wordset.proofs.Tests.{some_from, some_none_of}
 
@@ -34,8 +34,4 @@ pub some_has : (set t : Words) {w : ℕ} → w < 4096 → set w ≡ true → t w
 some_has set t {w} lt is e = sym (some_from 4096 (λ y. set y && t y) w lt (and_from (set w) (t w) is e))
 
 pub none_has : (set t : Words) → ((a : ℕ) → a < 4096 → set a ≡ true → t a ≡ false) → false ≡ some_below 4096 (λ y. set y && t y)
-none_has set t h = sym (some_none_of 4096 (λ y. set y && t y) (λ v lt. go v lt (set v) refl))
-  where
-    go : (v : ℕ) → v < 4096 → (b : Bool) → set v ≡ b → (b && t v) ≡ false
-    go v lt true e = h v lt e
-    go v lt false e = refl
+none_has set t h = sym (some_none_of 4096 (λ y. set y && t y) (λ v lt. elim (cases_Bool (set v)) [ inl e ↦ and_right _ _ (h v lt e) | inr e ↦ and_left _ _ e ]))

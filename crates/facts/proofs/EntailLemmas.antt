@@ -1,6 +1,6 @@
 use Rattle.std.proofs.Common.{◌≡◌, ℕ, ◌+◌, ◌<◌, ◌==◌, Bool, true, false, ◌&&◌, ◌||◌, ◌≤◌, Some, None, List, [], ◌∷◌, map, drop, get_or, length, refl, sym, ap, ◌∙◌, subst, arith}
 use Rattle.std.specs.Prelude.{if◌then◌else◌, IsTrue, ◌↔◌}
-use Rattle.std.proofs.lemmas.Bool.{and_from, and_parts, eqb-true, eq-eqb, true≢false, false≢true}
+use Rattle.std.proofs.lemmas.Bool.{and_from, and_parts, cond_both, eqb-true, eq-eqb, true≢false, false≢true}
 use Rattle.std.proofs.lemmas.List.{drop_more}
 use Rattle.std.proofs.Math.ListN.{drop_of_length-le}
 use Rattle.wordset.specs.Words.{plus, minus, Words, SameWords, IsWithin, only}
@@ -42,11 +42,8 @@ meet_one f n e es old new m v lt = rw (m v lt) (go (old v) _ _ _)
 -- the entries, one by one or by cell
 pub each_tracked : (f : Fact) (cells : List TrackedCell) → EachWithin f cells → (a : ℕ) → IsWithin (narrowed f (Cell a)) (tracked a cells)
 each_tracked f [] w a v lt h = refl
-each_tracked f (t ∷ ts) w a v lt h = and_from _ _ (go (t.address == a) refl) (each_tracked f ts w.1 a v lt h)
-  where
-    go : (b : Bool) → (t.address == a) ≡ b → (if b then t.set v else true) ≡ true
-    go false e = refl
-    go true e = w.0 v lt (let q : t.address ≡ a = eqb-true t.address a e in rw q h)
+each_tracked f (t ∷ ts) w a v lt h = and_from _ _ (cond_both (t.address == a) (t.set v) true (λ x. x ≡ true)
+    (λ e. w.0 v lt (let q : t.address ≡ a = eqb-true t.address a e in rw q h)) (λ e. refl)) (each_tracked f ts w.1 a v lt h)
 
 pub tracked_each : (f : Fact) (cells : List TrackedCell) → ((a : ℕ) → IsWithin (narrowed f (Cell a)) (tracked a cells)) → EachWithin f cells
 tracked_each f [] w = tt
@@ -56,6 +53,12 @@ tracked_each f (t ∷ ts) w = (
   tracked_each f ts (λ a v lt h. (and_parts _ _ (w a v lt h)).1),
 )
 
+pub none_is : {A : Type 0} {p : A} → None ≡ Some p → ⊥
+none_is e = cc
+
+pub some_is : {A : Type 0} {p q : A} → Some p ≡ Some q → p ≡ q
+some_is e = cc
+
 -- two single words
 pub shows_some : (f : Fact) (e : Equation) (x y z : ℕ) (t : Bool) → Some x ≡ only (narrowed f e.left) → Some y ≡ only (narrowed f e.right) →
     t ≡ (x == z) → z ≡ plus y e.more → IsTrue t ↔ Shows f e
@@ -63,12 +66,6 @@ shows_some f e x y z t l r et ez = (
   λ q. (x, y, sym l, sym r, eqb-true x z (sym et ∙ q) ∙ ez),
   λ s. (let ex : s.0 ≡ x = some_is (sym s.2 ∙ sym l) in let ey : s.1 ≡ y = some_is (sym s.3 ∙ sym r) in et ∙ eq-eqb x z (sym ex ∙ s.4 ∙ ap (λ k. plus k e.more) ey ∙ sym ez)),
 )
-  where
-    some_is : {p q : ℕ} → Some p ≡ Some q → p ≡ q
-    some_is e = cc
-
-pub none_is : {p : ℕ} → None ≡ Some p → ⊥
-none_is e = cc
 
 pub drop_item : {A : Type 0} (xs : List A) (i : ℕ) (x : A) → i < length xs → x ≡ get_or xs i x → drop i xs ≡ x ∷ drop (i + 1) xs
 drop_item xs i x lt e = drop_more xs i x lt ∙ ap (λ y. y ∷ drop (i + 1) xs) (sym e)

@@ -1,10 +1,11 @@
-use Rattle.std.proofs.Common.{◌≡◌, ℕ, ◌<◌, ◌==◌, Bool, true, false, not, ◌&&◌, ◌||◌, ◌⊎◌, List, [], ◌∷◌, ◌++◌, refl, sym, ap, ◌∙◌, inl, inr, arith}
+use Rattle.std.proofs.Common.{◌≡◌, ℕ, ◌<◌, ◌==◌, Bool, true, false, not, ◌&&◌, ◌||◌, List, [], ◌∷◌, ◌++◌, refl, sym, ap, ◌∙◌, inl, inr, arith}
 use Rattle.std.specs.Prelude.{if◌then◌else◌, nat_lt}
-use Rattle.std.proofs.lemmas.Bool.{and_from, cases_Bool, eqb-true, ne_eqb, true≢false, false≢true}
+use Rattle.std.proofs.lemmas.Bool.{and_from, and_parts, or_parts, cases_Bool, cases_eq, cond_both, eqb-true, lt-ltb, ne_eqb, not-true, true≢false, false≢true}
 use Rattle.wordset.specs.Words.{plus, minus, Words, union, shifted}
 use Rattle.domain.specs.Facts.{Location, Ac, Cell, same, Equation, Fact, Values, IsTrueOf, AllTrue, Holds, met_by, narrowed, Among, Knows, KnowsAll, Entails, has_cell, is_outside, outside, joined}
 use Rattle.domain.specs.Changes.{moved_equations, with_set, moved, free_of, strongly_updated, cells_of, weakly_updated_sets, weakly_updated, oriented, copy_of, copied, with_equations}
-use Rattle.facts.proofs.Numbers.{minus_plus, moved_number, or_left, or_right, only_tells}
+use Rattle.wordset.proofs.Firsts.{only_word}
+use Rattle.facts.proofs.Numbers.{minus_plus, moved_number, or_left, or_right}
 
 pub same_true : (m n : Location) → same m n ≡ true → m ≡ n
 same_true Ac Ac e = refl
@@ -49,19 +50,11 @@ narrowed_at {f} {v} ws h n = and_from _ _ (h.sets n) (met_true f v n ws h f.equa
 -- a name is the one that changed, or keeps its word
 either : {n : Location} {v w : Values} (k : ℕ) → OnlyAt n v w → w n ≡ plus (v n) k → (m : Location) →
     w m ≡ (if same m n then plus (v m) k else v m)
-either {n} {v} {w} k o e m = go (same m n) refl
-  where
-    go : (b : Bool) → same m n ≡ b → w m ≡ (if b then plus (v m) k else v m)
-    go true q = let l : m ≡ n = same_true m n q in rw l e
-    go false q = o.others m q
+either {n} {v} {w} k o e m = cond_both (same m n) (plus (v m) k) (v m) (λ x. w m ≡ x) (λ q. let l : m ≡ n = same_true m n q in rw l e) (λ q. o.others m q)
 
-set_at : (n : Location) (set : Words) (sets : Location → Words) (w : Values) → set (w n) ≡ true →
+pub set_at : (n : Location) (set : Words) (sets : Location → Words) (w : Values) → set (w n) ≡ true →
     ((m : Location) → same m n ≡ false → sets m (w m) ≡ true) → (m : Location) → with_set n set sets m (w m) ≡ true
-set_at n set sets w here there m = go (same m n) refl
-  where
-    go : (b : Bool) → same m n ≡ b → (let chosen : Words = if b then set else sets m in chosen (w m) ≡ true)
-    go true q = let l : m ≡ n = same_true m n q in rw l here
-    go false q = there m q
+set_at n set sets w here there m = cond_both (same m n) set (sets m) (λ (chosen : Words). chosen (w m) ≡ true) (λ q. let l : m ≡ n = same_true m n q in rw l here) (λ q. there m q)
 
 moved_all : {n : Location} {v w : Values} (k : ℕ) → WordsAre v → OnlyAt n v w → w n ≡ plus (v n) k → (es : List Equation) → AllTrue v es → AllTrue w (moved_equations n k es)
 moved_all k ws o e [] t = tt
@@ -82,11 +75,10 @@ moved_holds {n} {f} {v} {w} k ws h o e = record {
 
 free_all : {v w : Values} (names : Location → Bool) → ((m : Location) → names m ≡ false → w m ≡ v m) → (es : List Equation) → AllTrue v es → AllTrue w (free_of names es)
 free_all names o [] t = tt
-free_all {v} {w} names o (e ∷ es) t = go (free_all names o es t.1) (names e.left) (names e.right) refl refl
-  where
-    go : AllTrue w (free_of names es) → (b c : Bool) → names e.left ≡ b → names e.right ≡ c → AllTrue w (if b || c then free_of names es else e ∷ free_of names es)
-    go rest false false p q = (o e.left p ∙ (t.0 ∙ ap (λ x. plus x e.more) (sym (o e.right q))), rest)
-    go rest _ _ p q = rest
+free_all {v} {w} names o (e ∷ es) t =
+    let rest : AllTrue w (free_of names es) = free_all names o es t.1 in
+    cond_both (names e.left || names e.right) (free_of names es) (e ∷ free_of names es) (AllTrue w) (λ q. rest)
+    (λ q. (o e.left (or_parts _ _ q).0 ∙ (t.0 ∙ ap (λ x. plus x e.more) (sym (o e.right (or_parts _ _ q).1))), rest))
 
 pub assigned_holds : {n : Location} {f : Fact} {v w : Values} (set : Words) → Holds f v → OnlyAt n v w → set (w n) ≡ true → Holds (strongly_updated n set f) w
 unfolding strongly_updated
@@ -95,29 +87,23 @@ assigned_holds {n} {f} {v} {w} set h o e = record {
   equations = free_all (λ m. same m n) (λ m q. o.others m q) f.equations h.equations;
 }
 
-pub smeared_holds : {f : Fact} {v w : Values} (cells : Words) (new : ℕ → Words) → Holds f v → w Ac ≡ v Ac →
-    ((a : ℕ) → (nat_lt a 4096 && cells a) ≡ false → w (Cell a) ≡ v (Cell a)) →
-    ((a : ℕ) → (nat_lt a 4096 && cells a) ≡ true → (w (Cell a) ≡ v (Cell a)) ⊎ (new a (w (Cell a)) ≡ true)) → Holds (weakly_updated cells new f) w
+-- one of the cells took a word of its new ones
+pub smeared_holds : {f : Fact} {v w : Values} (cells : Words) (new : ℕ → Words) (y : ℕ) → y < 4096 → cells y ≡ true → Holds f v → OnlyAt (Cell y) v w → new y (w (Cell y)) ≡ true → Holds (weakly_updated cells new f) w
 unfolding weakly_updated
-smeared_holds {f} {v} {w} cells new h ac out within = record {
-  sets = sets;
-  equations = free_all (cells_of cells) kept f.equations h.equations;
-}
+smeared_holds {f} {v} {w} cells new y lt e h o is = record { sets = sets; equations = free_all (cells_of cells) kept f.equations h.equations }
   where
     kept : (m : Location) → cells_of cells m ≡ false → w m ≡ v m
-    kept Ac q = ac
-    kept (Cell a) q = out a q
+    kept Ac q = o.others Ac refl
+    kept (Cell a) q = o.others (Cell a) (same_cell a y (λ g. true≢false (sym (and_from _ _ (lt-ltb y 4096 lt) e) ∙ (rw g at q))))
 
     sets : (m : Location) → weakly_updated_sets cells new f.set m (w m) ≡ true
-    sets Ac = rw ac (h.sets Ac)
-    sets (Cell a) = go (nat_lt a 4096 && cells a) refl
-      where
-        go : (b : Bool) → (nat_lt a 4096 && cells a) ≡ b → (let chosen : Words = if b then union (f.set (Cell a)) (new a) else f.set (Cell a) in chosen (w (Cell a)) ≡ true)
-        go false q = rw (out a q) (h.sets (Cell a))
-        go true q = elim (within a q) [
-          | inl e ↦ or_left (f.set (Cell a) (w (Cell a))) (new a (w (Cell a))) (rw e (h.sets (Cell a)))
-          | inr e ↦ or_right (f.set (Cell a) (w (Cell a))) (new a (w (Cell a))) e
-        ]
+    sets Ac = rw (o.others Ac refl) (h.sets Ac)
+    sets (Cell a) = cond_both (nat_lt a 4096 && cells a) (union (f.set (Cell a)) (new a)) (f.set (Cell a)) (λ (chosen : Words). chosen (w (Cell a)) ≡ true)
+        (λ q. elim (cases_eq a y) [
+          | inl g ↦ or_right (f.set (Cell a) (w (Cell a))) (new a (w (Cell a))) (rw g is)
+          | inr n ↦ or_left (f.set (Cell a) (w (Cell a))) (new a (w (Cell a))) (rw (o.others (Cell a) (same_cell a y n)) (h.sets (Cell a)))
+        ])
+        (λ q. rw (kept (Cell a) q) (h.sets (Cell a)))
 
 pub all_append : (v : Values) (es gs : List Equation) → AllTrue v es → AllTrue v gs → AllTrue v (es ++ gs)
 all_append v [] gs t u = u
@@ -164,8 +150,8 @@ known_true : {f : Fact} {v : Values} (e : Equation) → WordsAre v → Holds f v
 known_true {f} {v} e ws h k = elim k [
   | inl m ↦ among_true v e f.equations h.equations m
   | inr p ↦
-      (let l : v e.left ≡ p.0 = only_tells (narrowed f e.left) p.0 (v e.left) p.2 (ws.each e.left) (narrowed_at ws h e.left) in
-      let r : v e.right ≡ p.1 = only_tells (narrowed f e.right) p.1 (v e.right) p.3 (ws.each e.right) (narrowed_at ws h e.right) in
+      (let l : v e.left ≡ p.0 = (only_word (narrowed f e.left) p.0 p.2).lone (v e.left) (ws.each e.left) (narrowed_at ws h e.left) in
+      let r : v e.right ≡ p.1 = (only_word (narrowed f e.right) p.1 p.3).lone (v e.right) (ws.each e.right) (narrowed_at ws h e.right) in
       rw (l, r) p.4)
 ]
 
@@ -186,11 +172,9 @@ pub record HoldsOutside (written : Words) (f : Fact) (v : Values) : Type 0 where
 
 outside_all : (v : Values) (written : Words) (es : List Equation) → AllTrue v es → AllTrue v (outside written es)
 outside_all v written [] t = tt
-outside_all v written (e ∷ es) t = go (outside_all v written es t.1) (is_outside written e.left && is_outside written e.right)
-  where
-    go : AllTrue v (outside written es) → (b : Bool) → AllTrue v (if b then e ∷ outside written es else outside written es)
-    go rest true = (t.0, rest)
-    go rest false = rest
+outside_all v written (e ∷ es) t =
+    let rest : AllTrue v (outside written es) = outside_all v written es t.1 in
+    cond_both (is_outside written e.left && is_outside written e.right) (e ∷ outside written es) (outside written es) (AllTrue v) (λ q. (t.0, rest)) (λ q. rest)
 
 pub outside_holds : {f : Fact} {v : Values} (written : Words) → Holds f v → HoldsOutside written f v
 outside_holds {f} {v} written h = record {
@@ -205,11 +189,10 @@ kept_outside v w written o (Cell a) q = o a (elim (cases_Bool (has_cell written 
 
 outside_kept : (v w : Values) (written : Words) → ((a : ℕ) → has_cell written a ≡ false → w (Cell a) ≡ v (Cell a)) → (es : List Equation) → AllTrue v (outside written es) → AllTrue w (outside written es)
 outside_kept v w written o [] t = tt
-outside_kept v w written o (e ∷ es) t = go (outside_kept v w written o es) (is_outside written e.left) (is_outside written e.right) refl refl t
-  where
-    go : (AllTrue v (outside written es) → AllTrue w (outside written es)) → (b c : Bool) → is_outside written e.left ≡ b → is_outside written e.right ≡ c → AllTrue v (if b && c then e ∷ outside written es else outside written es) → AllTrue w (if b && c then e ∷ outside written es else outside written es)
-    go rest true true p q t = (kept_outside v w written o e.left p ∙ (t.0 ∙ ap (λ x. plus x e.more) (sym (kept_outside v w written o e.right q))), rest t.1)
-    go rest _ _ p q t = rest t
+outside_kept v w written o (e ∷ es) t =
+    cond_both (is_outside written e.left && is_outside written e.right) (e ∷ outside written es) (outside written es) (λ xs. AllTrue v xs → AllTrue w xs)
+    (λ q u. (kept_outside v w written o e.left (and_parts _ _ q).0 ∙ (u.0 ∙ ap (λ x. plus x e.more) (sym (kept_outside v w written o e.right (and_parts _ _ q).1))), outside_kept v w written o es u.1))
+    (λ q u. outside_kept v w written o es u) t
 
 pub still_outside : {f : Fact} {v w : Values} (written : Words) → ((a : ℕ) → has_cell written a ≡ false → w (Cell a) ≡ v (Cell a)) → HoldsOutside written f v → HoldsOutside written f w
 still_outside {f} {v} {w} written o h = record {
@@ -227,8 +210,4 @@ joined_holds {call} {exit} {v} written c x = record {
   where
     sets : (n : Location) → (let chosen : Words = if is_outside written n then call.set n else exit.set n in chosen (v n) ≡ true)
     sets Ac = x.sets Ac
-    sets (Cell a) = go (has_cell written a) refl
-      where
-        go : (b : Bool) → has_cell written a ≡ b → (let chosen : Words = if not b then call.set (Cell a) else exit.set (Cell a) in chosen (v (Cell a)) ≡ true)
-        go true q = x.sets (Cell a)
-        go false q = c.cells a q
+    sets (Cell a) = cond_both (not (has_cell written a)) (call.set (Cell a)) (exit.set (Cell a)) (λ (chosen : Words). chosen (v (Cell a)) ≡ true) (λ q. c.cells a (not-true _ q)) (λ q. x.sets (Cell a))

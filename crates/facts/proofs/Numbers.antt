@@ -1,7 +1,8 @@
-use Rattle.std.proofs.Common.{◌≡◌, ℕ, zero, suc, ◌<◌, ◌==◌, Bool, true, false, ◌||◌, Option, Some, None, refl, sym, ◌∙◌, inl, inr, arith}
+-- Sums and differences of words.
+use Rattle.std.proofs.Common.{◌≡◌, ℕ, ◌<◌, Bool, true, false, arith}
 use Rattle.std.specs.Prelude.{if◌then◌else◌}
-use Rattle.std.proofs.lemmas.Bool.{cases_Bool, eqb-true, true≢false, false≢true, cases_eq}
-use Rattle.wordset.specs.Words.{plus, minus, Words, some_below, without, first_below, only_of, only}
+use Rattle.wordset.specs.Words.{plus, minus, Words}
+pub use Rattle.wordset.proofs.Tests.{both_ways, or_left, or_right, some_from}
 
 pub minus_plus : (a k : ℕ) → a < 4096 → minus (plus a k) k ≡ a
 minus_plus a k h = omega arith
@@ -27,41 +28,7 @@ moved_number true false xl xr yl yr k more hl hr el er e = omega arith
 moved_number false true xl xr yl yr k more hl hr el er e = omega arith
 moved_number false false xl xr yl yr k more hl hr el er e = omega arith
 
-pub or_right : (a b : Bool) → b ≡ true → (a || b) ≡ true
-or_right true b e = refl
-or_right false b e = e
-
-pub or_left : (a b : Bool) → a ≡ true → (a || b) ≡ true
-or_left true b e = refl
-or_left false b e = absurd (false≢true e)
-
-pub some_from : (n : ℕ) (test : ℕ → Bool) (k : ℕ) → k < n → test k ≡ true → some_below n test ≡ true
-unfolding some_below
-some_from zero test k h e = absurd (omega arith)
-some_from (suc n) test k h e =
-    elim (cases_eq k n) [
-      | inl q ↦ (let t : test n ≡ true = rw (← q) e in rw t)
-      | inr q ↦ or_right (test n) (some_below n test) (some_from n test k (omega arith) e)
-    ]
-
-pub some_not : (n : ℕ) (test : ℕ → Bool) (k : ℕ) → k < n → some_below n test ≡ false → test k ≡ false
-some_not n test k h e =
-    elim (cases_Bool (test k)) [ inl t ↦ absurd (true≢false (sym (some_from n test k h t) ∙ e)) | inr t ↦ t ]
-
-pub only_tells : (set : Words) (y z : ℕ) → only set ≡ Some y → z < 4096 → set z ≡ true → z ≡ y
-unfolding only
-only_tells set y z = go (first_below 4096 set)
-  where
-    at_some : (k : ℕ) (b : Bool) → some_below 4096 (without k set) ≡ b → (if b then None else Some k) ≡ Some y → z < 4096 → set z ≡ true → z ≡ y
-    at_some k true s e h t = absurd (cc)
-    at_some k false s e h t =
-        let ky : k ≡ y = cc in
-        let n : without k set z ≡ false = some_not 4096 (without k set) z h s in
-        elim (cases_Bool (z == k)) [
-          | inl q ↦ eqb-true z k q ∙ ky
-          | inr q ↦ absurd (true≢false (sym t ∙ (rw q at n)))
-        ]
-
-    go : (o : Option ℕ) → only_of set o ≡ Some y → z < 4096 → set z ≡ true → z ≡ y
-    go None e h t = absurd (cc)
-    go (Some k) e h t = at_some k (some_below 4096 (without k set)) refl e h t
+-- two conditionals on one test
+pub if_both : (b : Bool) (s t x y : Words) (v : ℕ) → s v ≡ x v → t v ≡ y v → (let l : Words = if b then s else t in let r : Words = if b then x else y in l v ≡ r v)
+if_both true s t x y v h g = h
+if_both false s t x y v h g = g

@@ -1,7 +1,7 @@
 -- What the operate words make of words: words again, and when the accumulator keeps its word.
 use Rattle.std.proofs.Common.{◌≡◌, ℕ, ◌+◌, ◌-◌, ◌%◌, ◌<◌, ◌==◌, Bool, true, false, ◌&&◌, ◌||◌, refl, ◌∙◌, arith, lit<}
 use Rattle.std.specs.Prelude.{if◌then◌else◌, bit_and, bit_or}
-use Rattle.std.proofs.lemmas.Bool.{and_from, eq-eqb, true≢false}
+use Rattle.std.proofs.lemmas.Bool.{and_from, cond_both, eq-eqb, true≢false}
 use Rattle.std.proofs.lemmas.Nat.{and_le_l, or_lt, and_mask}
 use Rattle.instruct.specs.Bits.{has_bit}
 use Rattle.instruct.specs.Operates.{cleared, complemented, counted, left, right, exchanged, rotated, operate1_of, operate2_of, MqOperate, Mql, Mqa, Swp, Cam, ClaMqa, ClaSwp, mq_operate}
@@ -27,11 +27,8 @@ complemented_pair : (w : ℕ) (s : ℕ × ℕ) → IsPair s → IsPair (compleme
 complemented_pair w s h = record { word = if_below (has_bit 5 w) (4095 - s.0) s.0 4096 (omega arith) h.word; bit = if_below (has_bit 4 w) (1 - s.1) s.1 2 (omega arith) h.bit }
 
 counted_pair : (w : ℕ) (s : ℕ × ℕ) → IsPair s → IsPair (counted w s)
-counted_pair w s h = go (has_bit 0 w)
-  where
-    go : (p : Bool) → IsPair (if p then ((s.0 + 1) % 4096, (if s.0 == 4095 then 1 - s.1 else s.1)) else s)
-    go true = record { word = omega arith; bit = if_below (s.0 == 4095) (1 - s.1) s.1 2 (omega arith) h.bit }
-    go false = h
+counted_pair w s h = cond_both (has_bit 0 w) ((s.0 + 1) % 4096, (if s.0 == 4095 then 1 - s.1 else s.1)) s IsPair
+    (λ e. record { word = omega arith; bit = if_below (s.0 == 4095) (1 - s.1) s.1 2 (omega arith) h.bit }) (λ e. h)
 
 left_pair : (s : ℕ × ℕ) → IsPair s → IsPair (left s)
 left_pair s h =
@@ -49,17 +46,11 @@ exchanged_word : (a : ℕ) → a < 4096 → exchanged a < 4096
 exchanged_word a h = omega arith
 
 rotated_pair : (w : ℕ) (s : ℕ × ℕ) → IsPair s → IsPair (rotated w s)
-rotated_pair w s h = go (has_bit 3 w) (has_bit 2 w) (has_bit 1 w)
-  where
-    go : (p q r : Bool) → IsPair
-        (if p then (if r then right (right s) else right s)
-        else (if q then (if r then left (left s) else left s) else (if r then (exchanged s.0, s.1) else s)))
-    go true q true = right_pair (right s) (right_pair s h)
-    go true q false = right_pair s h
-    go false true true = left_pair (left s) (left_pair s h)
-    go false true false = left_pair s h
-    go false false true = record { word = exchanged_word s.0 h.word; bit = h.bit }
-    go false false false = h
+rotated_pair w s h = cond_both (has_bit 3 w) (if has_bit 1 w then right (right s) else right s) _ IsPair
+    (λ e. cond_both (has_bit 1 w) (right (right s)) (right s) IsPair (λ d. right_pair (right s) (right_pair s h)) (λ d. right_pair s h))
+    (λ e. cond_both (has_bit 2 w) (if has_bit 1 w then left (left s) else left s) (if has_bit 1 w then (exchanged s.0, s.1) else s) IsPair
+    (λ d. cond_both (has_bit 1 w) (left (left s)) (left s) IsPair (λ b. left_pair (left s) (left_pair s h)) (λ b. left_pair s h))
+    (λ d. cond_both (has_bit 1 w) (exchanged s.0, s.1) s IsPair (λ b. record { word = exchanged_word s.0 h.word; bit = h.bit }) (λ b. h)))
 
 operate1_pair : (w : ℕ) (s : ℕ × ℕ) → IsPair s → IsPair (operate1_of w s)
 operate1_pair w s h =

@@ -1,12 +1,12 @@
 -- Outcomes that agree.
-use Rattle.std.proofs.Common.{◌≡◌, ℕ, ◌+◌, ◌-◌, ◌<◌, ◌%◌, ◌==◌, Bool, true, false, not, ◌&&◌, List, [], ◌∷◌, ◌++◌, refl, sym, ap, ◌∙◌, subst, arith, lit<}
+use Rattle.std.proofs.Common.{◌≡◌, ℕ, ◌+◌, ◌<◌, ◌%◌, ◌==◌, Bool, true, false, not, ◌&&◌, List, [], ◌∷◌, ◌++◌, refl, sym, ap, ◌∙◌, subst, arith, lit<}
 use Rattle.wordset.specs.Words.{plus, minus, Words, SameWords, one, everything, has_some, has_link, shifted}
 use Rattle.domain.specs.Facts.{Ac, Fact, narrowed}
 use Rattle.facts.specs.Outcomes.{Successor, alive, given}
 use Rattle.domain.specs.Same.{Agree}
 use Rattle.facts.specs.Agreeing.{AgreeingSuccessor, AgreeingSuccessors}
-use Rattle.std.proofs.lemmas.Bool.{eq-eqb}
-use Rattle.facts.proofs.Numbers.{minus_lt, some_from}
+use Rattle.std.proofs.lemmas.Bool.{and_right, eq-eqb, not-false, not-true}
+use Rattle.facts.proofs.Numbers.{both_ways, minus_lt, some_from}
 use Rattle.facts.proofs.Alike.{some_same}
 use Rattle.facts.proofs.AgreeLemmas.{narrowed_agree}
 use Rattle.facts.proofs.PlaceLemmas.{and_both}
@@ -23,11 +23,7 @@ has_one {n = n} lt e = has_same e ∙ some_from 4096 (one n) n lt (eq-eqb n n re
 
 -- what isn't empty has something
 pub not_empty : {r b : Bool} → r ≡ not b → not r ≡ b
-not_empty {r} {b} e = ap not e ∙ twice b
-  where
-    twice : (c : Bool) → not (not c) ≡ c
-    twice true = refl
-    twice false = refl
+not_empty {r} {b} e = both_ways (not r) b (λ h. not-false b (sym e ∙ not-true r h)) (λ h. ap not (e ∙ ap not h))
 
 all_five : {a b c d e g h i j k : Bool} → a ≡ g → b ≡ h → c ≡ i → d ≡ j → e ≡ k → (a && (b && (c && (d && e)))) ≡ (g && (h && (i && (j && k))))
 all_five p q r s t = rw (p, q, r, s, t) refl
@@ -49,13 +45,9 @@ alive_agree ep a es b =
 pub alive_changed : {r : Bool} (p : Words) (f : Fact) (s : Words) (h : Fact) → r ≡ has_some s → (r && alive p f everything h) ≡ alive p f s h
 alive_changed p f s h e = rw (e, has_everything) (go (has_some p) (has_some (narrowed f Ac)) (has_some (h.set Ac)) (has_some h.mq) (has_link h.link) (has_some s))
   where
-    no : (a : Bool) {x : Bool} → x ≡ false → (a && x) ≡ false
-    no true q = q
-    no false q = refl
-
     go : (a b c d e k : Bool) → (k && (a && (b && (c && (d && (e && true)))))) ≡ (a && (b && (c && (d && (e && k)))))
     go a b c d e true = refl
-    go a b c d e false = sym (no a (no b (no c (no d (no e refl)))))
+    go a b c d e false = sym (and_right a _ (and_right b _ (and_right c _ (and_right d _ (and_right e _ refl)))))
 
 pub given_agree : (a b : Bool) (o : Successor) (p : Successor) → a ≡ b → AgreeingSuccessor o p → AgreeingSuccessors (given a o) (given b p)
 given_agree true true o p e h = (h, tt)

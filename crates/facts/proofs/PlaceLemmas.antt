@@ -1,29 +1,24 @@
 -- What cells may hold, and the images of sets, for facts that agree.
-use Rattle.std.proofs.Common.{◌≡◌, ℕ, ◌+◌, ◌-◌, ◌/◌, ◌<◌, ◌==◌, Bool, true, false, ◌&&◌, ◌||◌, refl, ap, ◌∙◌, arith, add-one}
+use Rattle.std.proofs.Common.{◌≡◌, ℕ, ◌+◌, ◌-◌, ◌/◌, ◌<◌, ◌==◌, Bool, true, false, ◌&&◌, ◌||◌, refl, sym, ap, ◌∙◌, arith}
 use Rattle.std.specs.Prelude.{if◌then◌else◌, bit_and, bit_or}
-use Rattle.wordset.specs.Words.{minus, Words, SameWords, SameLinks, everything, all_words, some_below, sums, carries, toggled, ands, ors, or_any, images, images_at, shifted, without}
+use Rattle.wordset.proofs.LaneBits.{or_false}
+use Rattle.wordset.proofs.Tests.{or_right, some_more}
+use Rattle.wordset.specs.Words.{minus, Words, SameWords, SameLinks, everything, all_words, some_below, sums, carries, toggled, ands, ors, or_any, images, images_at, without}
 use Rattle.std.proofs.lemmas.Bool.{lt-ltb}
 use Rattle.domain.specs.Facts.{Cell, Fact, Place, narrowed, words_in, own_words, is_routine, tape_word}
 use Rattle.facts.specs.Outcomes.{words_at}
 use Rattle.domain.specs.Same.{Agree}
 use Rattle.facts.proofs.Alike.{some_same}
-use Rattle.facts.proofs.Numbers.{minus_lt}
+use Rattle.facts.proofs.Numbers.{minus_lt, if_both}
 use Rattle.facts.proofs.AgreeLemmas.{narrowed_agree}
 
 -- one step of a union over numbers
-pub some_none : (test : ℕ → Bool) → false ≡ some_below 0 test
-unfolding some_below
-some_none test = refl
-
 pub some_step : (n : ℕ) (test : ℕ → Bool) (old new : Bool) → old ≡ some_below n test → new ≡ (old || test n) → new ≡ some_below (n + 1) test
-unfolding some_below
-some_step n test old new e h = rw add-one (h ∙ ap (λ b. b || test n) e ∙ swap (some_below n test) (test n))
+some_step n test old new e h = h ∙ ap (λ b. b || test n) e ∙ swap (some_below n test) (test n) ∙ sym (some_more n test)
   where
     swap : (a b : Bool) → (a || b) ≡ (b || a)
-    swap true true = refl
-    swap true false = refl
-    swap false true = refl
-    swap false false = refl
+    swap true b = sym (or_right b true refl)
+    swap false b = sym (or_false b)
 
 -- facts that agree leave the same words
 pub own_agree : {f g : Fact} (s : Words) → Agree f g → SameWords (own_words s f) (own_words s g)
@@ -31,13 +26,10 @@ own_agree s h v lt = some_same 8 _ _ (λ o l. ap (λ b. b && s (minus v (o + 1))
 
 pub in_agree : {f g : Fact} (pl : Place) (a : ℕ) → Agree f g → SameWords (words_in pl f a) (words_in pl g a)
 unfolding words_in
-in_agree {f} {g} pl a h v lt = go (pl.declaration.variable a) (is_routine pl.routine a)
-  where
-    go : (b c : Bool) → (let x : Words = if b then narrowed f (Cell a) else (if c then own_words pl.sites f else (if pl.declaration.entry a then everything else tape_word (pl.image a))) in
-        let y : Words = if b then narrowed g (Cell a) else (if c then own_words pl.sites g else (if pl.declaration.entry a then everything else tape_word (pl.image a))) in x v ≡ y v)
-    go true c = narrowed_agree h (Cell a) v lt
-    go false true = own_agree pl.sites h v lt
-    go false false = refl
+in_agree {f} {g} pl a h v lt =
+    let rest : Words = if pl.declaration.entry a then everything else tape_word (pl.image a) in
+    if_both (pl.declaration.variable a) (narrowed f (Cell a)) (if is_routine pl.routine a then own_words pl.sites f else rest) (narrowed g (Cell a)) (if is_routine pl.routine a then own_words pl.sites g else rest) v
+    (narrowed_agree h (Cell a) v lt) (if_both (is_routine pl.routine a) (own_words pl.sites f) rest (own_words pl.sites g) rest v (own_agree pl.sites h v lt) refl)
 
 -- both tests
 pub and_both : {a b c d : Bool} → a ≡ c → b ≡ d → (a && b) ≡ (c && d)
@@ -81,11 +73,7 @@ toggled_same {l} {m} {c} {d} h g k lt =
     rw (a, b, e, f) refl
 
 pub without_agree : {a b : Words} (w : ℕ) → SameWords a b → SameWords (without w a) (without w b)
-without_agree {a} {b} w h v lt = go (v == w)
-  where
-    go : (q : Bool) → (if q then false else a v) ≡ (if q then false else b v)
-    go true = refl
-    go false = h v lt
+without_agree {a} {b} w h v lt = ap (λ x. if v == w then false else x) (h v lt)
 
 pub all_same : {s : Words} → s ≡ all_words → SameWords s everything
 all_same {s} e v lt = ap (λ (x : Words). x v) e ∙ lt-ltb v 4096 lt
@@ -98,11 +86,3 @@ own_end sites f code offsets set n v e s o h =
 
 pub or_both : {a b c d : Bool} → a ≡ c → b ≡ d → (a || b) ≡ (c || d)
 or_both {a} {b} {c} {d} e f = ap (λ x. x || b) e ∙ ap (λ y. c || y) f
-
--- the words that counting leaves, but for 0, of the same words
-pub counted_same : {s t : Words} → SameWords s t → SameWords (without 0 (shifted s 1)) (without 0 (shifted t 1))
-counted_same {s} {t} e v lt = go (v == 0)
-  where
-    go : (b : Bool) → (if b then false else s (minus v 1)) ≡ (if b then false else t (minus v 1))
-    go true = refl
-    go false = e (minus v 1) (omega arith)

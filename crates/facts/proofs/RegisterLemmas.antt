@@ -4,12 +4,13 @@ use Rattle.std.specs.Prelude.{nat_le, nat_lt}
 use Rattle.std.proofs.lemmas.Bool.Decides.{nat_tests}
 use Rattle.instruct.specs.Operates.{MqOperate, mq_operate_of}
 use Rattle.wordset.specs.Words.{Words, SameWords, everything, between, one, plus}
-use Rattle.domain.specs.Facts.{Ac, Fact, same}
+use Rattle.domain.specs.Facts.{Ac, Fact}
 use Rattle.domain.specs.Changes.{strongly_updated, with_name, with_mq}
 use Rattle.facts.specs.Outcomes.{Successor, goes, changes_ac, related1, operated3}
 use Rattle.domain.specs.Same.{Agree}
 use Rattle.facts.specs.Agreeing.{AgreeingSuccessors}
 use Rattle.facts.proofs.ChangingLemmas.{set_twice}
+use Rattle.facts.proofs.EntailLemmas.{some_is}
 
 pub related_none : {k : Fact} (w : ℕ) (f : Fact) (s : Words) → changes_ac w ≡ true → Agree k (strongly_updated Ac s f) → Agree k (with_name Ac s (related1 w f))
 unfolding strongly_updated
@@ -20,9 +21,6 @@ bytes_same {s} low high e l h v lt = ap (λ (x : Words). x v) e ∙ ap (λ n. na
   where
     below : (n : ℕ) → (nat_le 0 n && nat_le n 255) ≡ nat_lt n 256
     below n = grind (arith, nat_tests)
-
-some_is : {a b : MqOperate} → Some a ≡ Some b → a ≡ b
-some_is e = cc
 
 pub exchange_is : (os : List Successor) (at w k : ℕ) (p o : MqOperate) (f : Fact) → w ≡ k → mq_operate_of k ≡ Some p → mq_operate_of w ≡ Some o →
     AgreeingSuccessors os (goes everything f everything (one (plus at 1)) (operated3 p f)) → AgreeingSuccessors os (goes everything f everything (one (plus at 1)) (operated3 o f))

@@ -6,6 +6,7 @@ use Rattle.instruct.specs.Bits.{has_bit}
 use Rattle.instruct.specs.Operates.{any_test_holds, skips_of}
 use Rattle.wordset.specs.Words.{Words, SameWords, one, between, nothing, all_words, meet, difference}
 use Rattle.std.proofs.lemmas.Bool.{lt-ltb}
+use Rattle.facts.proofs.Numbers.{if_both}
 
 last_word : (v : ℕ) → v < 4096 → nat_le v 4095 ≡ true
 last_word v lt = grind (arith, nat_tests)
@@ -61,8 +62,4 @@ part_failing w l v skip t a p r te is e h =
     go _ _ _ q = absurd (cc)
 
 pub kept_same : {s t : Words} (w : ℕ) → SameWords s t → SameWords (if has_bit 7 w then one 0 else s) (if has_bit 7 w then one 0 else t)
-kept_same {s} {t} w h v lt = go (has_bit 7 w)
-  where
-    go : (b : Bool) → (let x : Words = if b then one 0 else s in let y : Words = if b then one 0 else t in x v ≡ y v)
-    go true = refl
-    go false = h v lt
+kept_same {s} {t} w h v lt = if_both (has_bit 7 w) (one 0) s (one 0) t v refl (h v lt)

@@ -2,7 +2,7 @@
 use Rattle.std.proofs.Common.{◌≡◌, ℕ, ◌+◌, ◌<◌, ◌≤◌, ◌==◌, Bool, true, false, not, ◌&&◌, ◌||◌, Option, Some, None, List, [], ◌∷◌, drop, length, refl, sym, ap, ◌∙◌, subst, arith}
 use Rattle.std.specs.Prelude.{if◌then◌else◌, IsTrue, ◌↔◌, nat_lt}
 use Rattle.std.specs.Option.{ForSome}
-use Rattle.std.proofs.lemmas.Bool.{and_from, and_parts, eqb-true, eq-eqb, true≢false}
+use Rattle.std.proofs.lemmas.Bool.{and_from, and_parts, cond_both, eqb-true, eq-eqb, true≢false}
 use Rattle.std.proofs.Math.ListN.{drop_of_length-le}
 use Rattle.wordset.specs.Words.{Words, SameWords, everything, some_below}
 use Rattle.wordset.proofs.Tests.{both_ways}
@@ -69,22 +69,15 @@ start_fails image cells i lt small w h =
 
 pub cells_tracked : (cells : List TrackedCell) → AreCells cells → (a v : ℕ) → 4096 ≤ a → tracked a cells v ≡ true
 cells_tracked [] h a v lt = refl
-cells_tracked (t ∷ ts) h a v lt = and_from _ _ (go (t.address == a) refl) (cells_tracked ts h.1 a v lt)
-  where
-    go : (b : Bool) → (t.address == a) ≡ b → (if b then t.set v else true) ≡ true
-    go false e = refl
-    go true e = absurd (let q : t.address ≡ a = eqb-true t.address a e in let s : t.address < 4096 = h.0 in omega arith)
+cells_tracked (t ∷ ts) h a v lt = and_from _ _ (cond_both (t.address == a) (t.set v) true (λ x. x ≡ true)
+    (λ e. absurd (let q : t.address ≡ a = eqb-true t.address a e in let s : t.address < 4096 = h.0 in omega arith)) (λ e. refl)) (cells_tracked ts h.1 a v lt)
 
 pub tape_words : (cells : List (Option ℕ)) → HoldsWords cells → AreTapeWords (image_of cells)
-tape_words cells h a w = go (nat_lt a 4096)
+tape_words cells h a w = cond_both (nat_lt a 4096) (word_at cells a) None (λ o. o ≡ Some w → w < 4096) (λ q. some (word_at cells a) (h.words a)) (λ q e. absurd (cc))
   where
     some : (o : Option ℕ) → ForSome o (λ v. v < 4096) → o ≡ Some w → w < 4096
     some None f e = absurd (cc)
     some (Some x) f e = (let q : x ≡ w = cc in let g : x < 4096 = f x refl in subst (λ y. y < 4096) q g)
-
-    go : (b : Bool) → (if b then word_at cells a else None) ≡ Some w → w < 4096
-    go true e = some (word_at cells a) (h.words a) e
-    go false e = absurd (cc)
 
 pub tests_start : (cells : List (Option ℕ)) (f : CodeFact) (r : Bool) → r ≡ holds_before (image_of cells) (meaning f) → HoldsWords cells → AreCells (statement_of f).cells →
     (pl : Place) → pl.image ≡ image_of cells → pl.routine ≡ None → pl.declaration.start < 4096 → IsTrue r ↔ HoldsOfStarts pl (meaning f)

@@ -1,36 +1,22 @@
 -- The test of a fact against every start is exact.
-use Rattle.std.proofs.Common.{◌≡◌, ℕ, zero, suc, ◌%◌, ◌<◌, ◌==◌, Bool, true, false, not, Option, Some, None, List, [], ◌∷◌, refl, sym, ap, ◌∙◌, subst, inl, inr, arith, lit<}
+use Rattle.std.proofs.Common.{◌≡◌, ℕ, ◌%◌, ◌<◌, ◌==◌, Bool, true, false, not, Option, Some, None, List, [], ◌∷◌, refl, sym, ap, ◌∙◌, subst, inl, inr, arith, lit<}
 use Rattle.std.specs.Prelude.{if◌then◌else◌, nat_lt}
-use Rattle.std.proofs.lemmas.Bool.{and_parts, and_from, cases_Bool, eqb-true, eq-eqb, ne_eqb, true≢false, false≢true, ltb-true, ltb-false}
+use Rattle.std.proofs.lemmas.Bool.{and_parts, and_from, cases_Bool, cond_both, eqb-true, eq-eqb, ne_eqb, not-true, not-false, true≢false, false≢true, ltb-true, ltb-false}
 use Rattle.wordset.specs.Words.{plus, Words, some_below}
 use Rattle.processor.specs.Cells.{Cells}
 use Rattle.processor.specs.Machine.{State}
 use Rattle.processor.specs.Runs.{Image, IsStart}
 use Rattle.domain.specs.Facts.{Location, Ac, Cell, same, Equation, Fact, Values, IsTrueOf, AllTrue, values, Place}
 use Rattle.facts.specs.Starts.{HoldsOfStarts, each_below, has_each, is_always_between, is_always_of, is_always, are_always, holds_before, AreTapeWords, TracksWords, StartLaw}
-use Rattle.facts.proofs.Numbers.{if_below, some_not}
+use Rattle.wordset.proofs.Tests.{some_none_of, none_of_some}
+use Rattle.facts.proofs.Numbers.{if_below}
 use Rattle.facts.proofs.Laws.{same_true}
 
-none_below : (n : ℕ) (test : ℕ → Bool) → ((k : ℕ) → k < n → test k ≡ true) → some_below n (λ v. not (test v)) ≡ false
-unfolding some_below
-none_below zero test h = refl
-none_below (suc n) test h =
-    let here : test n ≡ true = h n (omega arith) in
-    rw here (none_below n test (λ k lt. h k (omega arith)))
-
-not_false : (b : Bool) → not b ≡ false → b ≡ true
-not_false true e = refl
-not_false false e = absurd (true≢false e)
-
-not_true : (b : Bool) → not b ≡ true → b ≡ false
-not_true true e = absurd (false≢true e)
-not_true false e = refl
-
 pub each_from : (n : ℕ) (test : ℕ → Bool) → ((k : ℕ) → k < n → test k ≡ true) → each_below n test ≡ true
-each_from n test h = let e : some_below n (λ v. not (test v)) ≡ false = none_below n test h in rw e
+each_from n test h = let e : some_below n (λ v. not (test v)) ≡ false = some_none_of n (λ v. not (test v)) (λ k lt. ap not (h k lt)) in rw e
 
 pub each_at : (n : ℕ) (test : ℕ → Bool) (k : ℕ) → k < n → each_below n test ≡ true → test k ≡ true
-each_at n test k lt e = not_false (test k) (some_not n (λ v. not (test v)) k lt (not_true (some_below n (λ v. not (test v))) e))
+each_at n test k lt e = not-false (test k) (none_of_some n (λ v. not (test v)) (not-true (some_below n (λ v. not (test v))) e) k lt)
 
 -- a cell of a memory with the tape's words laid over others
 abbrev pub laid_cell : Option ℕ → ℕ → ℕ
@@ -63,11 +49,7 @@ module _ (pl : Place) (tape : AreTapeWords pl.image) (begin : pl.declaration.sta
   begun s = values pl.declaration s.memory s.ac s.memory
 
   begun_cell : (s : State) (a : ℕ) → begun s (Cell a) ≡ s.memory a
-  begun_cell s a = go (pl.declaration.variable a)
-    where
-      go : (b : Bool) → (if b then s.memory a else s.memory a) ≡ s.memory a
-      go true = refl
-      go false = refl
+  begun_cell s a = cond_both (pl.declaration.variable a) (s.memory a) (s.memory a) (λ x. x ≡ s.memory a) (λ q. refl) (λ q. refl)
 
   begun_word : (s : State) → IsStart pl.image pl.declaration.start s → (n : Location) → begun s n < 4096
   begun_word s st Ac = st.ac
@@ -92,11 +74,10 @@ module _ (pl : Place) (tape : AreTapeWords pl.image) (begin : pl.declaration.sta
   turned x more lt e = omega arith
 
   equation_true : (s : State) → IsStart pl.image pl.declaration.start s → (e : Equation) → is_always pl.image e ≡ true → IsTrueOf (begun s) e
-  equation_true s st e h = go (same e.left e.right) refl h
-    where
-      go : (b : Bool) → same e.left e.right ≡ b → (if b then e.more % 4096 == 0 else is_always_of pl.image e.left e.right e.more) ≡ true → IsTrueOf (begun s) e
-      go true q t = let l : e.left ≡ e.right = same_true e.left e.right q in rw l (turned (begun s e.right) e.more (begun_word s st e.right) (eqb-true (e.more % 4096) 0 t))
-      go false q t = of_true s st e.left e.right e.more t
+  equation_true s st e h =
+      cond_both (same e.left e.right) (e.more % 4096 == 0) (is_always_of pl.image e.left e.right e.more) (λ x. x ≡ true → IsTrueOf (begun s) e)
+      (λ q t. let l : e.left ≡ e.right = same_true e.left e.right q in rw l (turned (begun s e.right) e.more (begun_word s st e.right) (eqb-true (e.more % 4096) 0 t)))
+      (λ q t. of_true s st e.left e.right e.more t) h
 
   all_true : (s : State) → IsStart pl.image pl.declaration.start s → (es : List Equation) → are_always pl.image es ≡ true → AllTrue (begun s) es
   all_true s st [] h = tt
@@ -140,20 +121,17 @@ module _ (pl : Place) (tape : AreTapeWords pl.image) (begin : pl.declaration.sta
   cells_always : (a b more : ℕ) → (a ≡ b → ⊥) → OfAll (λ v. v (Cell a) ≡ plus (v (Cell b)) more) → is_always_between (pl.image a) (pl.image b) more ≡ true
   cells_always a b more n h = go (pl.image a) (pl.image b) refl refl
     where
-      left : (v : ℕ) → v < 4096 → begun (state_with 0 0 0 (but a v)) (Cell a) ≡ plus (begun (state_with 0 0 0 (but a v)) (Cell b)) more
-      left v lt = h (state_with 0 0 0 (but a v)) (start_of 0 (lit< tt) (but a v) (but_words a v lt))
-
-      right : (v : ℕ) → v < 4096 → begun (state_with 0 0 0 (but b v)) (Cell a) ≡ plus (begun (state_with 0 0 0 (but b v)) (Cell b)) more
-      right v lt = h (state_with 0 0 0 (but b v)) (start_of 0 (lit< tt) (but b v) (but_words b v lt))
+      at : (c v : ℕ) → v < 4096 → begun (state_with 0 0 0 (but c v)) (Cell a) ≡ plus (begun (state_with 0 0 0 (but c v)) (Cell b)) more
+      at c v lt = h (state_with 0 0 0 (but c v)) (start_of 0 (lit< tt) (but c v) (but_words c v lt))
 
       go : (o p : Option ℕ) → pl.image a ≡ o → pl.image b ≡ p → is_always_between o p more ≡ true
-      go (Some x) (Some y) e f = eq-eqb x (plus y more) (sym (tape_cell a x 0 (but a 0) e) ∙ (left 0 (lit< tt) ∙ ap (λ z. plus z more) (tape_cell b y 0 (but a 0) f)))
+      go (Some x) (Some y) e f = eq-eqb x (plus y more) (sym (tape_cell a x 0 (but a 0) e) ∙ (at a 0 (lit< tt) ∙ ap (λ z. plus z more) (tape_cell b y 0 (but a 0) f)))
       go (Some x) None e f = absurd (no_shift x more
-          (sym (tape_cell a x 0 (but b 0) e) ∙ (right 0 (lit< tt) ∙ ap (λ z. plus z more) (free_cell b 0 0 f)))
-          (sym (tape_cell a x 0 (but b 1) e) ∙ (right 1 (lit< tt) ∙ ap (λ z. plus z more) (free_cell b 1 0 f))))
+          (sym (tape_cell a x 0 (but b 0) e) ∙ (at b 0 (lit< tt) ∙ ap (λ z. plus z more) (free_cell b 0 0 f)))
+          (sym (tape_cell a x 0 (but b 1) e) ∙ (at b 1 (lit< tt) ∙ ap (λ z. plus z more) (free_cell b 1 0 f))))
       go None p e f = absurd (no_number (laid_cell (pl.image b) 0) more
-          (sym (free_cell a 0 0 e) ∙ (left 0 (lit< tt) ∙ ap (λ z. plus z more) (other_cell a b 0 0 (λ q. n (sym q)))))
-          (sym (free_cell a 1 0 e) ∙ (left 1 (lit< tt) ∙ ap (λ z. plus z more) (other_cell a b 1 0 (λ q. n (sym q))))))
+          (sym (free_cell a 0 0 e) ∙ (at a 0 (lit< tt) ∙ ap (λ z. plus z more) (other_cell a b 0 0 (λ q. n (sym q)))))
+          (sym (free_cell a 1 0 e) ∙ (at a 1 (lit< tt) ∙ ap (λ z. plus z more) (other_cell a b 1 0 (λ q. n (sym q))))))
 
   ac_start : (ac : ℕ) → ac < 4096 → IsStart pl.image pl.declaration.start (state_with ac 0 0 (λ a. 0))
   ac_start ac lt = start_of ac lt (λ a. 0) (λ a. lit< tt)
@@ -167,16 +145,14 @@ module _ (pl : Place) (tape : AreTapeWords pl.image) (begin : pl.declaration.sta
       (h (state_with 0 0 0 (λ b. 0)) (ac_start 0 (lit< tt))) (h (state_with 1 0 0 (λ b. 0)) (ac_start 1 (lit< tt))))
 
   equation_always : (e : Equation) → OfAll (λ v. IsTrueOf v e) → is_always pl.image e ≡ true
-  equation_always e h = go (same e.left e.right) refl
-    where
-      go : (b : Bool) → same e.left e.right ≡ b → (if b then e.more % 4096 == 0 else is_always_of pl.image e.left e.right e.more) ≡ true
-      go true q =
-          let l : e.left ≡ e.right = same_true e.left e.right q in
-          let s : State = state_with 0 0 0 (λ a. 0) in
-          let st : IsStart pl.image pl.declaration.start s = ac_start 0 (lit< tt) in
-          let t : begun s e.right ≡ plus (begun s e.right) e.more = subst (λ n. begun s n ≡ plus (begun s e.right) e.more) l (h s st) in
-          eq-eqb (e.more % 4096) 0 (unturned (begun s e.right) e.more (begun_word s st e.right) t)
-      go false q = of_always e.left e.right e.more q h
+  equation_always e h = cond_both (same e.left e.right) (e.more % 4096 == 0) (is_always_of pl.image e.left e.right e.more) (λ x. x ≡ true)
+      (λ q.
+      let l : e.left ≡ e.right = same_true e.left e.right q in
+      let s : State = state_with 0 0 0 (λ a. 0) in
+      let st : IsStart pl.image pl.declaration.start s = ac_start 0 (lit< tt) in
+      let t : begun s e.right ≡ plus (begun s e.right) e.more = subst (λ n. begun s n ≡ plus (begun s e.right) e.more) l (h s st) in
+      eq-eqb (e.more % 4096) 0 (unturned (begun s e.right) e.more (begun_word s st e.right) t))
+      (λ q. of_always e.left e.right e.more q h)
 
   all_always : (es : List Equation) → OfAll (λ v. AllTrue v es) → are_always pl.image es ≡ true
   all_always [] h = refl

@@ -1,23 +1,24 @@
 -- The step law for each instruction: from a state of a fact, a step lands in one of the instruction's outcomes.
 use Rattle.std.proofs.Common.{◌≡◌, ℕ, ◌+◌, ◌-◌, ◌/◌, ◌%◌, ◌<◌, ◌≤◌, ◌==◌, Bool, true, false, not, ◌&&◌, ◌⊎◌, Option, Some, None, List, [], ◌∷◌, ◌++◌, refl, sym, ap, ◌∙◌, subst, inl, inr, arith, lit<}
-use Rattle.std.specs.Prelude.{if◌then◌else◌, nat_lt, bit_and, bit_or}
-use Rattle.std.proofs.lemmas.Bool.{and_from, eqb-true, eq-eqb, ne_eqb, true≢false, false≢true, cases_eq, lt-ltb}
+use Rattle.std.specs.Prelude.{if◌then◌else◌, bit_and, bit_or}
+use Rattle.std.proofs.lemmas.Bool.{and_from, cond_both, eqb-true, eq-eqb, ne_eqb, true≢false, false≢true, cases_eq}
 use Rattle.instruct.specs.Bits.{has_bit}
 use Rattle.instruct.specs.Operates.{operate2_of, skips_of, MqOperate, Mql, Mqa, Swp, Cam, ClaMqa, ClaSwp, mq_operate}
-use Rattle.instruct.specs.Instructions.{Skips, Ors, Clears, Takes, Leaves}
+use Rattle.instruct.specs.Instructions.{Skips}
 use Rattle.wordset.specs.Words.{plus, minus, Words, everything, one, some_below, has_some, without, shifted, sums, carries, toggled, only, ands, ors, or_any, images_at, images}
 use Rattle.processor.specs.Cells.{Cells, updated}
 use Rattle.processor.specs.Machine.{State, seen, place, steps_pointer, next_pc}
 use Rattle.declaration.specs.Declaration.{IsDeclared}
 use Rattle.policy.specs.Calls.{Calls}
-use Rattle.domain.specs.Facts.{Location, Ac, Cell, same, Fact, Values, Holds, narrowed, values, Place, OwnWord, StandsIn, Means, is_routine, words_in}
-use Rattle.domain.specs.Changes.{with_set, moved, strongly_updated, weakly_updated, with_equations, with_mq, with_link, with_offsets, with_name}
+use Rattle.domain.specs.Facts.{Ac, Cell, Fact, Values, Holds, narrowed, values, Place, OwnWord, StandsIn, Means, is_routine, words_in}
+use Rattle.domain.specs.Changes.{moved, strongly_updated, weakly_updated, with_equations, with_mq, with_link, with_offsets, with_name}
 use Rattle.facts.specs.Outcomes.{stepped, targets, words_at, Successor, Goes, given, alive, goes, tad_word, tad_case, tad_fact, tad, isz_case, dca_case, jmp, anded, ac_after, link_after, changes_ac, related1, operated1, part2, related2, operated2, all_operated2, operated3, device_outcomes}
 use Rattle.facts.specs.Law.{IsState, TopIsEntry, LandsIn, SomeOutcome}
-use Rattle.facts.proofs.Numbers.{minus_plus, minus_other, plus_lt, or_left, or_right, only_tells, some_from}
-use Rattle.facts.proofs.Operates.{and_word, or_word, ac_after_word, link_after_bit, ac_kept, operate2_word, mq_words, ands_true, ors_true, or_byte_true, or_word_true}
-use Rattle.facts.proofs.Laws.{WordsAre, OnlyAt, narrowed_at, moved_holds, assigned_holds, smeared_holds, copied_holds, same_true, same_cell}
-use Rattle.facts.proofs.Cells.{updated_same, seen_words, values_words, value_of, updated_values, ac_values, hidden_values, holds_at, rest_updated, own_updated, own_like, top_not, word_true}
+use Rattle.wordset.proofs.Firsts.{only_word}
+use Rattle.facts.proofs.Numbers.{minus_plus, minus_other, plus_lt, or_left, or_right, some_from}
+use Rattle.facts.proofs.Operates.{and_word, ac_after_word, link_after_bit, ac_kept, operate2_word, mq_words, ands_true, ors_true, or_word_true}
+use Rattle.facts.proofs.Laws.{WordsAre, OnlyAt, narrowed_at, moved_holds, assigned_holds, set_at, smeared_holds, copied_holds}
+use Rattle.facts.proofs.Cells.{updated_same, seen_words, values_words, value_of, updated_values, ac_values, hidden_values, holds_at, rest_updated, own_updated, own_like, top_not, variable_true, word_true}
 
 -- the state that the access sees
 abbrev pub after_pointer : Bool → ℕ → State → State
@@ -35,10 +36,11 @@ pub some_right : (p : Successor → Type 0) (os qs : List Successor) → SomeOut
 some_right p [] qs h = h
 some_right p (o ∷ os) qs h = inr (some_right p os qs h)
 
-pub has_word : (set : Words) (w : ℕ) → w < 4096 → set w ≡ true → has_some set ≡ true
-has_word set w h e = some_from 4096 set w h e
-
 module _ (pl : Place) (dd : IsDeclared pl.declaration) (start : Cells) (sw : (a : ℕ) → start a < 4096) (loaded : (a w : ℕ) → pl.image a ≡ Some w → start a ≡ w) where
+  -- what the names stand for
+  abbrev pub vals : ℕ → Cells → Values
+  vals ac m = values pl.declaration start ac m
+
   -- the outcome is where t is
   abbrev pub Lands : State → Calls → Successor → Type 0
   Lands t ks = LandsIn pl start t ks
@@ -62,6 +64,11 @@ module _ (pl : Place) (dd : IsDeclared pl.declaration) (start : Cells) (sw : (a 
     own = own_like f g (updated s.memory y v) ks (λ o l q. rw eo q) (own_updated f s.memory y v ks (top_not pl.declaration y dd var ks top) h.own);
   }
 
+  counted_value : (s : State) (y : ℕ) → pl.declaration.variable y ≡ true → values pl.declaration start s.ac (updated s.memory y (plus (s.memory y) 1)) (Cell y) ≡ plus (values pl.declaration start s.ac s.memory (Cell y)) 1
+  counted_value s y e =
+      value_of pl.declaration start s.ac (updated s.memory y (plus (s.memory y) 1)) y e ∙
+      (updated_same s.memory y (plus (s.memory y) 1) ∙ ap (λ x. plus x 1) (sym (value_of pl.declaration start s.ac s.memory y e)))
+
   pub pointer_state : (i : Bool) (c : ℕ) (s : State) → IsState s → IsState (after_pointer i c s)
   pointer_state i c s ss = record { ac = ss.ac; link = ss.link; mq = ss.mq; pc = ss.pc; words = seen_words i c s.memory ss.words }
 
@@ -74,31 +81,19 @@ module _ (pl : Place) (dd : IsDeclared pl.declaration) (start : Cells) (sw : (a 
           Means pl start (if b then moved (Cell c) 1 f else f)
           (record s { memory = if b then updated s.memory c (plus (s.memory c) 1) else s.memory }) ks
       go false e = record { holds = h.holds; mq = h.mq; link = h.link; rest = h.rest; stands = h.stands; own = h.own }
-      go true e =
-          let v : pl.declaration.variable c ≡ true = var e in
-          let was : values pl.declaration start s.ac s.memory (Cell c) ≡ s.memory c = value_of pl.declaration start s.ac s.memory c v in
-          let is : values pl.declaration start s.ac (updated s.memory c (plus (s.memory c) 1)) (Cell c) ≡ plus (s.memory c) 1 =
-          value_of pl.declaration start s.ac (updated s.memory c (plus (s.memory c) 1)) c v ∙ updated_same s.memory c (plus (s.memory c) 1) in
-          means_updated f (moved (Cell c) 1 f) s ks c (plus (s.memory c) 1) s.ac s.pc top v h
-          (moved_holds 1 (values_words pl.declaration start s.ac s.memory ss.ac sw ss.words) h.holds (updated_values pl.declaration start s.ac s.memory c (plus (s.memory c) 1)) (is ∙ ap (λ x. plus x 1) (sym was)))
+      go true e = means_updated f (moved (Cell c) 1 f) s ks c (plus (s.memory c) 1) s.ac s.pc top (var e) h
+          (moved_holds 1 (values_words pl.declaration start s.ac s.memory ss.ac sw ss.words) h.holds (updated_values pl.declaration start s.ac s.memory c (plus (s.memory c) 1)) (counted_value s c (var e)))
           refl refl refl
 
   pub target_true : (i : Bool) (c : ℕ) (f : Fact) (s : State) (ks : Calls) → IsState s → TopIsEntry pl.declaration ks →
       (steps_pointer i c ≡ true → pl.declaration.variable c ≡ true) → Means pl start f s ks → targets pl i c f (place i c s.memory) ≡ true
   target_true false c f s ks ss top var h = eq-eqb c c refl
-  target_true true c f s ks ss top var h = go (steps_pointer true c) refl
-    where
-      m1 : Means pl start (stepped true c f) (after_pointer true c s) ks
-      m1 = pointer_means true c f s ks ss top var h
-
-      go : (b : Bool) → steps_pointer true c ≡ b →
-          (let chosen : Words = if b then (stepped true c f).set (Cell c) else words_in pl f c in chosen (seen true c s.memory c) ≡ true)
-      go true e =
-          let v : values pl.declaration start s.ac (seen true c s.memory) (Cell c) ≡ seen true c s.memory c = value_of pl.declaration start s.ac (seen true c s.memory) c (var e) in
-          rw v at (m1.holds.sets (Cell c))
-      go false e =
-          let x : seen true c s.memory c ≡ s.memory c = rw e in
-          rw x (word_true pl dd start sw loaded f s ks c ss h)
+  target_true true c f s ks ss top var h =
+      cond_both (steps_pointer true c) ((stepped true c f).set (Cell c)) (words_in pl f c) (λ (chosen : Words). chosen (seen true c s.memory c) ≡ true)
+      (λ e. let m : Means pl start (stepped true c f) (after_pointer true c s) ks = pointer_means true c f s ks ss top var h in
+      let v : values pl.declaration start s.ac (seen true c s.memory) (Cell c) ≡ seen true c s.memory c = value_of pl.declaration start s.ac (seen true c s.memory) c (var e) in
+      rw v at (m.holds.sets (Cell c)))
+      (λ e. let x : seen true c s.memory c ≡ s.memory c = rw e in rw x (word_true pl dd start sw loaded f s ks c ss h))
 
   -- TAD
   abbrev pub added : State → ℕ → State
@@ -115,13 +110,13 @@ module _ (pl : Place) (dd : IsDeclared pl.declaration) (start : Cells) (sw : (a 
   ac_true f s ks ss h = narrowed_at (names_words f s ks ss h) h.holds Ac
 
   pub ac_some : (f : Fact) (s : State) (ks : Calls) → IsState s → Means pl start f s ks → has_some (narrowed f Ac) ≡ true
-  ac_some f s ks ss h = has_word (narrowed f Ac) s.ac ss.ac (ac_true f s ks ss h)
+  ac_some f s ks ss h = some_from 4096 (narrowed f Ac) s.ac ss.ac (ac_true f s ks ss h)
 
   alive_true : (p changed : Words) (f g : Fact) (s t : State) (ks : Calls) (y v : ℕ) → IsState s → Means pl start f s ks → y < 4096 → p y ≡ true → v < 4096 → changed v ≡ true →
       t.ac < 4096 → t.link < 2 → t.mq < 4096 → Means pl start g t ks → alive p f changed g ≡ true
   alive_true p changed f g s t ks y v ss h ly ey lv ev la ll lm m =
-      and_from _ _ (has_word p y ly ey) (and_from _ _ (ac_some f s ks ss h)
-      (and_from _ _ (has_word (g.set Ac) t.ac la (m.holds.sets Ac)) (and_from _ _ (has_word g.mq t.mq lm m.mq) (and_from _ _ (some_from 2 g.link t.link ll m.link) (has_word changed v lv ev)))))
+      and_from _ _ (some_from 4096 p y ly ey) (and_from _ _ (ac_some f s ks ss h)
+      (and_from _ _ (some_from 4096 (g.set Ac) t.ac la (m.holds.sets Ac)) (and_from _ _ (some_from 4096 g.mq t.mq lm m.mq) (and_from _ _ (some_from 2 g.link t.link ll m.link) (some_from 4096 changed v lv ev)))))
 
   goes_to : (p changed next : Words) (f g : Fact) (s t : State) (ks : Calls) (y v : ℕ) → IsState s → Means pl start f s ks → y < 4096 → p y ≡ true → v < 4096 → changed v ≡ true →
       t.ac < 4096 → t.link < 2 → t.mq < 4096 → next t.pc ≡ true → Means pl start g t ks → SomeOutcome (Lands t ks) (goes p f changed next g)
@@ -152,79 +147,50 @@ module _ (pl : Place) (dd : IsDeclared pl.declaration) (start : Cells) (sw : (a 
         or_right _ _ (and_from _ _ (carry_true a b x y 1 hx hy p q e) (rw back hk)))
   ]
 
+  -- what holds where AC took the sum with a word of v
+  sum_holds : (f : Fact) (s : State) (ks : Calls) (v : Words) (y : ℕ) → IsState s → Means pl start f s ks → v (s.memory y) ≡ true → Holds (strongly_updated Ac (sums (narrowed f Ac) v) f) (vals (plus s.ac (s.memory y)) s.memory)
+  sum_holds f s ks v y ss h vy =
+      assigned_holds (sums (narrowed f Ac) v) h.holds (ac_values pl.declaration start s.ac (plus s.ac (s.memory y)) s.memory) (sum_true (narrowed f Ac) v s.ac (s.memory y) ss.ac (ss.words y) (ac_true f s ks ss h) vy)
+
+  word_holds : (f : Fact) (s : State) (ks : Calls) (v : Words) (y : ℕ) → IsState s → Means pl start f s ks → v (s.memory y) ≡ true → (ow : Option ℕ) →
+      ((z : ℕ) → ow ≡ Some z → z ≡ s.memory y) → Holds (tad_word f v ow) (vals (plus s.ac (s.memory y)) s.memory)
+  word_holds f s ks v y ss h vy None q = sum_holds f s ks v y ss h vy
+  word_holds f s ks v y ss h vy (Some w) q =
+      let now : Values = vals (plus s.ac (s.memory y)) s.memory in
+      let m : Holds (moved Ac w f) now = moved_holds w (names_words f s ks ss h) h.holds (ac_values pl.declaration start s.ac (plus s.ac (s.memory y)) s.memory) (ap (λ x. plus s.ac x) (sym (q w refl))) in
+      record {
+        sets = set_at Ac (sums (narrowed f Ac) v) (moved Ac w f).set now (sum_true (narrowed f Ac) v s.ac (s.memory y) ss.ac (ss.words y) (ac_true f s ks ss h) vy) (λ n q. m.sets n);
+        equations = m.equations;
+      }
+
   tad_holds : (f : Fact) (s : State) (ks : Calls) (v : Words) (y : ℕ) → IsState s → Means pl start f s ks → v (s.memory y) ≡ true → (oy oa ow : Option ℕ) →
-      ((z : ℕ) → oy ≡ Some z → z ≡ y) → ((z : ℕ) → oa ≡ Some z → z ≡ s.ac) → ((z : ℕ) → ow ≡ Some z → z ≡ s.memory y) →
-      Holds (tad_case pl f v oy oa ow) (values pl.declaration start (plus s.ac (s.memory y)) s.memory)
-  tad_holds f s ks v y ss h vy oy oa ow hy ha hw = go oy oa hy ha
-    where
-      was : Values
-      was = values pl.declaration start s.ac s.memory
-
-      now : Values
-      now = values pl.declaration start (plus s.ac (s.memory y)) s.memory
-
-      moves : OnlyAt Ac was now
-      moves = ac_values pl.declaration start s.ac (plus s.ac (s.memory y)) s.memory
-
-      sum : sums (narrowed f Ac) v (plus s.ac (s.memory y)) ≡ true
-      sum = sum_true (narrowed f Ac) v s.ac (s.memory y) ss.ac (ss.words y) (ac_true f s ks ss h) vy
-
-      plain : Holds (strongly_updated Ac (sums (narrowed f Ac) v) f) now
-      plain = assigned_holds (sums (narrowed f Ac) v) h.holds moves sum
-
-      word : (o : Option ℕ) → ((z : ℕ) → o ≡ Some z → z ≡ s.memory y) → Holds (tad_word f v o) now
-      word None q = plain
-      word (Some w) q =
-          let m : Holds (moved Ac w f) now = moved_holds w (names_words f s ks ss h) h.holds moves (ap (λ x. plus s.ac x) (sym (q w refl))) in
-          record { sets = sets m.sets; equations = m.equations }
-        where
-          sets : ((n : Location) → (moved Ac w f).set n (now n) ≡ true) → (n : Location) → (with_name Ac (sums (narrowed f Ac) v) (moved Ac w f)).set n (now n) ≡ true
-          sets m Ac = sum
-          sets m (Cell a) = m (Cell a)
-
-      go : (o p : Option ℕ) → ((z : ℕ) → o ≡ Some z → z ≡ y) → ((z : ℕ) → p ≡ Some z → z ≡ s.ac) → Holds (tad_case pl f v o p ow) now
-      go None p q r = word ow hw
-      go (Some z) None q r = word ow hw
-      go (Some z) (Some a) q r = at (pl.declaration.variable z) refl
-        where
-          at : (b : Bool) → pl.declaration.variable z ≡ b →
-              Holds (if b then with_equations (record { left = Ac; right = Cell z; more = a } ∷ []) (strongly_updated Ac (sums (narrowed f Ac) v) f) else tad_word f v ow) now
-          at false e = word ow hw
-          at true e =
-              let zv : now (Cell z) ≡ s.memory z = value_of pl.declaration start (plus s.ac (s.memory y)) s.memory z e in
-              let zy : z ≡ y = q z refl in
-              let az : a ≡ s.ac = r a refl in
-              let comm : plus s.ac (s.memory y) ≡ plus (s.memory y) s.ac = omega arith in
-              record { sets = plain.sets; equations = (comm ∙ (rw (zv, zy, az) refl), plain.equations) }
+      ((z : ℕ) → oy ≡ Some z → z ≡ y) → ((z : ℕ) → oa ≡ Some z → z ≡ s.ac) → ((z : ℕ) → ow ≡ Some z → z ≡ s.memory y) → Holds (tad_case pl f v oy oa ow) (vals (plus s.ac (s.memory y)) s.memory)
+  tad_holds f s ks v y ss h vy None oa ow hy ha hw = word_holds f s ks v y ss h vy ow hw
+  tad_holds f s ks v y ss h vy (Some z) None ow hy ha hw = word_holds f s ks v y ss h vy ow hw
+  tad_holds f s ks v y ss h vy (Some z) (Some a) ow hy ha hw =
+      let now : Values = vals (plus s.ac (s.memory y)) s.memory in
+      let plain : Holds (strongly_updated Ac (sums (narrowed f Ac) v) f) now = sum_holds f s ks v y ss h vy in
+      cond_both (pl.declaration.variable z) (with_equations (record { left = Ac; right = Cell z; more = a } ∷ []) (strongly_updated Ac (sums (narrowed f Ac) v) f)) (tad_word f v ow) (λ (g : Fact). Holds g now)
+      (λ e.
+      let zv : now (Cell z) ≡ s.memory z = value_of pl.declaration start (plus s.ac (s.memory y)) s.memory z e in
+      let zy : z ≡ y = hy z refl in
+      let az : a ≡ s.ac = ha a refl in
+      let comm : plus s.ac (s.memory y) ≡ plus (s.memory y) s.ac = omega arith in
+      record { sets = plain.sets; equations = (comm ∙ (rw (zv, zy, az) refl), plain.equations) })
+      (λ e. word_holds f s ks v y ss h vy ow hw)
 
   pub tad_step : (f : Fact) (s : State) (ks : Calls) (p : Words) (y : ℕ) → IsState s → Means pl start f s ks → y < 4096 → p y ≡ true → SomeOutcome (Lands (added s y) ks) (tad pl s.pc f p)
   unfolding strongly_updated moved
   tad_step f s ks p y ss h lt e =
-      goes_to p everything (one (plus s.pc 1)) f (tad_fact pl f p) s (added s y) ks y 0 ss h lt e (lit< tt) refl (plus_lt s.ac (s.memory y)) small ss.mq (eq-eqb (plus s.pc 1) (plus s.pc 1) refl) means
-    where
-      x : ℕ
-      x = s.memory y
-
-      v : Words
-      v = words_at pl f p
-
-      vy : v x ≡ true
-      vy = words_at_true f s ks p y ss h lt e
-
-      holds : Holds (tad_case pl f v (only p) (only (narrowed f Ac)) (only v)) (values pl.declaration start (plus s.ac x) s.memory)
-      holds = tad_holds f s ks v y ss h vy (only p) (only (narrowed f Ac)) (only v)
-          (λ z q. sym (only_tells p z y q lt e))
-          (λ z q. sym (only_tells (narrowed f Ac) z s.ac q ss.ac (ac_true f s ks ss h)))
-          (λ z q. sym (only_tells v z x q (ss.words y) vy))
-
-      link : toggled f.link (carries (narrowed f Ac) v) ((s.link + (s.ac + x) / 4096) % 2) ≡ true
-      link = toggle_true f.link (narrowed f Ac) v s.link s.ac x ss.link ss.ac (ss.words y) h.link (ac_true f s ks ss h) vy
-
-      means : Means pl start (tad_fact pl f p) (added s y) ks
-      means = means_like f (tad_fact pl f p) s ks (plus s.ac x) ((s.link + (s.ac + x) / 4096) % 2) s.mq (plus s.pc 1) h (record { sets = holds.sets; equations = holds.equations }) h.mq link refl
-
-      small : (s.link + (s.ac + s.memory y) / 4096) % 2 < 2
-      small = omega arith
+      let x : ℕ = s.memory y in
+      let v : Words = words_at pl f p in
+      let vy : v x ≡ true = words_at_true f s ks p y ss h lt e in
+      let holds : Holds (tad_case pl f v (only p) (only (narrowed f Ac)) (only v)) (vals (plus s.ac x) s.memory) = tad_holds f s ks v y ss h vy (only p) (only (narrowed f Ac)) (only v)
+      (λ z q. sym ((only_word p z q).lone y lt e)) (λ z q. sym ((only_word (narrowed f Ac) z q).lone s.ac ss.ac (ac_true f s ks ss h))) (λ z q. sym ((only_word v z q).lone x (ss.words y) vy)) in
+      let link : toggled f.link (carries (narrowed f Ac) v) ((s.link + (s.ac + x) / 4096) % 2) ≡ true = toggle_true f.link (narrowed f Ac) v s.link s.ac x ss.link ss.ac (ss.words y) h.link (ac_true f s ks ss h) vy in
+      let small : (s.link + (s.ac + s.memory y) / 4096) % 2 < 2 = omega arith in
+      goes_to p everything (one (plus s.pc 1)) f (tad_fact pl f p) s (added s y) ks y 0 ss h lt e (lit< tt) refl (plus_lt s.ac (s.memory y)) small ss.mq (eq-eqb (plus s.pc 1) (plus s.pc 1) refl)
+      (means_like f (tad_fact pl f p) s ks (plus s.ac x) ((s.link + (s.ac + x) / 4096) % 2) s.mq (plus s.pc 1) h (record { sets = holds.sets; equations = holds.equations }) h.mq link refl)
 
   -- ISZ
   abbrev pub counted : State → ℕ → State
@@ -239,44 +205,18 @@ module _ (pl : Place) (dd : IsDeclared pl.declaration) (start : Cells) (sw : (a 
       (pl.declaration.variable y ≡ true) ⊎
       ((pl.declaration.variable y ≡ false) × (pl.declaration.entry y ≡ true) × (pl.routine ≡ Some y) × (only p ≡ Some y) × (f.offsets 7 ≡ false))
 
-  counted_value : (s : State) (y : ℕ) → pl.declaration.variable y ≡ true → values pl.declaration start s.ac (updated s.memory y (plus (s.memory y) 1)) (Cell y) ≡ plus (values pl.declaration start s.ac s.memory (Cell y)) 1
-  counted_value s y e =
-      value_of pl.declaration start s.ac (updated s.memory y (plus (s.memory y) 1)) y e ∙
-      (updated_same s.memory y (plus (s.memory y) 1) ∙ ap (λ x. plus x 1) (sym (value_of pl.declaration start s.ac s.memory y e)))
-
-  cell_true : (f : Fact) (s : State) (ks : Calls) (y : ℕ) → IsState s → Means pl start f s ks → pl.declaration.variable y ≡ true → narrowed f (Cell y) (s.memory y) ≡ true
-  cell_true f s ks y ss h e =
-      let v : values pl.declaration start s.ac s.memory (Cell y) ≡ s.memory y = value_of pl.declaration start s.ac s.memory y e in
-      rw v at (narrowed_at (names_words f s ks ss h) h.holds (Cell y))
-
-  set_true : (f : Fact) (s : State) (ks : Calls) (y : ℕ) → Means pl start f s ks → pl.declaration.variable y ≡ true → f.set (Cell y) (s.memory y) ≡ true
-  set_true f s ks y h e =
-      let v : values pl.declaration start s.ac s.memory (Cell y) ≡ s.memory y = value_of pl.declaration start s.ac s.memory y e in
-      rw v at (h.holds.sets (Cell y))
-
   -- one variable is counted, and its new word is in the set
   counted_means : (f : Fact) (s : State) (ks : Calls) (y pc : ℕ) (set : Words) → IsState s → TopIsEntry pl.declaration ks → Means pl start f s ks → pl.declaration.variable y ≡ true →
       set (plus (s.memory y) 1) ≡ true →
       Means pl start (with_name (Cell y) set (moved (Cell y) 1 f)) (record s { pc = pc; memory = updated s.memory y (plus (s.memory y) 1) }) ks
   unfolding moved
   counted_means f s ks y pc set ss top h var e =
-      means_updated f (with_name (Cell y) set (moved (Cell y) 1 f)) s ks y (plus (s.memory y) 1) s.ac pc top var h (record { sets = sets; equations = m.equations }) refl refl refl
-    where
-      now : Values
-      now = values pl.declaration start s.ac (updated s.memory y (plus (s.memory y) 1))
-
-      m : Holds (moved (Cell y) 1 f) now
-      m = moved_holds 1 (names_words f s ks ss h) h.holds (updated_values pl.declaration start s.ac s.memory y (plus (s.memory y) 1)) (counted_value s y var)
-
-      here : now (Cell y) ≡ plus (s.memory y) 1
-      here = value_of pl.declaration start s.ac (updated s.memory y (plus (s.memory y) 1)) y var ∙ updated_same s.memory y (plus (s.memory y) 1)
-
-      sets : (n : Location) → with_set (Cell y) set (moved (Cell y) 1 f).set n (now n) ≡ true
-      sets n = go (same n (Cell y)) refl
-        where
-          go : (b : Bool) → same n (Cell y) ≡ b → (let chosen : Words = if b then set else (moved (Cell y) 1 f).set n in chosen (now n) ≡ true)
-          go false q = m.sets n
-          go true q = let l : n ≡ Cell y = same_true n (Cell y) q in rw (l, here) e
+      let now : Values = vals s.ac (updated s.memory y (plus (s.memory y) 1)) in
+      let m : Holds (moved (Cell y) 1 f) now =
+      moved_holds 1 (names_words f s ks ss h) h.holds (updated_values pl.declaration start s.ac s.memory y (plus (s.memory y) 1)) (counted_value s y var) in
+      let here : now (Cell y) ≡ plus (s.memory y) 1 = value_of pl.declaration start s.ac (updated s.memory y (plus (s.memory y) 1)) y var ∙ updated_same s.memory y (plus (s.memory y) 1) in
+      means_updated f (with_name (Cell y) set (moved (Cell y) 1 f)) s ks y (plus (s.memory y) 1) s.ac pc top var h
+      (record { sets = set_at (Cell y) set (moved (Cell y) 1 f).set now (rw here e) (λ n q. m.sets n); equations = m.equations }) refl refl refl
 
   zero_test : (x : ℕ) → x < 4096 → ((x ≡ 4095) × ((plus x 1 == 0) ≡ true)) ⊎ ((x ≡ 4095 → ⊥) × ((plus x 1 == 0) ≡ false))
   zero_test x h = elim (cases_eq x 4095) [
@@ -292,7 +232,7 @@ module _ (pl : Place) (dd : IsDeclared pl.declaration) (start : Cells) (sw : (a 
         let m : Means pl start (with_name (Cell y) (one 0) (moved (Cell y) 1 f)) (counted s y) ks = counted_means f s ks y _ (one 0) ss top h var (eq-eqb _ 0 w) in
         some_left (Lands (counted s y) ks) _ _
         (some_given (Lands (counted s y) ks) _ _
-        (and_from _ _ (let q : s.memory y ≡ 4095 = z.0 in rw q at (cell_true f s ks y ss h var))
+        (and_from _ _ (let q : s.memory y ≡ 4095 = z.0 in rw q at (variable_true pl dd start sw loaded f s ks y ss h var))
         (alive_true p (one 0) f _ s (counted s y) ks y 0 ss h lt e (lit< tt) refl ss.ac ss.link ss.mq m))
         (rw z.1 (eq-eqb (plus s.pc 2) (plus s.pc 2) refl), m)))
     | inr z ↦
@@ -306,7 +246,7 @@ module _ (pl : Place) (dd : IsDeclared pl.declaration) (start : Cells) (sw : (a 
       moved_in : (plus (s.memory y) 1 == 0) ≡ false → without 0 (shifted (narrowed f (Cell y)) 1) (plus (s.memory y) 1) ≡ true
       moved_in e =
           let back : minus (plus (s.memory y) 1) 1 ≡ s.memory y = minus_plus (s.memory y) 1 (ss.words y) in
-          rw (e, back) (cell_true f s ks y ss h var)
+          rw (e, back) (variable_true pl dd start sw loaded f s ks y ss h var)
 
   own_more : (f : Fact) (m : Cells) (y : ℕ) (ks : Calls) → StandsIn pl ks → OwnWord f m ks → pl.routine ≡ Some y → f.offsets 7 ≡ false →
       (o : ℕ) × (o < 7) × (f.offsets o ≡ true) × (plus (m y) 1 ≡ m y + 1) × OwnWord (with_offsets (λ n. if n == 0 then false else f.offsets (n - 1)) f) (updated m y (plus (m y) 1)) ks
@@ -359,45 +299,29 @@ module _ (pl : Place) (dd : IsDeclared pl.declaration) (start : Cells) (sw : (a 
     | inl z ↦ some_left (Lands (counted s y) ks) _ _
         (some_given (Lands (counted s y) ks) _ _
         (and_from _ _
-        (some_from 4096 (λ a. p a && narrowed f (Cell a) 4095) y lt (and_from _ _ e (let q : s.memory y ≡ 4095 = z.0 in rw q at (cell_true f s ks y ss h var))))
+        (some_from 4096 (λ a. p a && narrowed f (Cell a) 4095) y lt (and_from _ _ e (let q : s.memory y ≡ 4095 = z.0 in rw q at (variable_true pl dd start sw loaded f s ks y ss h var))))
         (alive_true p everything f _ s (counted s y) ks y 0 ss h lt e (lit< tt) refl ss.ac ss.link ss.mq (means _)))
         (rw z.1 (eq-eqb (plus s.pc 2) (plus s.pc 2) refl), means _))
     | inr z ↦ some_right (Lands (counted s y) ks) _ _
         (some_given (Lands (counted s y) ks) _ _
         (and_from _ _
         (some_from 4096 (λ a. p a && has_some (without 4095 (narrowed f (Cell a)))) y lt
-        (and_from _ _ e (has_word (without 4095 (narrowed f (Cell y))) (s.memory y) (ss.words y) (other z.0))))
+        (and_from _ _ e (some_from 4096 (without 4095 (narrowed f (Cell y))) (s.memory y) (ss.words y) (let q : (s.memory y == 4095) ≡ false = ne_eqb (s.memory y) 4095 z.0 in rw q (variable_true pl dd start sw loaded f s ks y ss h var)))))
         (alive_true p everything f _ s (counted s y) ks y 0 ss h lt e (lit< tt) refl ss.ac ss.link ss.mq (means _)))
         (rw z.1 (eq-eqb (plus s.pc 1) (plus s.pc 1) refl), means _))
   ]
     where
-      other : (s.memory y ≡ 4095 → ⊥) → without 4095 (narrowed f (Cell y)) (s.memory y) ≡ true
-      other n = let q : (s.memory y == 4095) ≡ false = ne_eqb (s.memory y) 4095 n in rw q (cell_true f s ks y ss h var)
-
-      was : Values
-      was = values pl.declaration start s.ac s.memory
-
-      now : Values
-      now = values pl.declaration start s.ac (updated s.memory y (plus (s.memory y) 1))
-
-      moves : OnlyAt (Cell y) was now
-      moves = updated_values pl.declaration start s.ac s.memory y (plus (s.memory y) 1)
-
-      within : (a : ℕ) → (nat_lt a 4096 && p a) ≡ true → (now (Cell a) ≡ was (Cell a)) ⊎ (shifted (f.set (Cell a)) 1 (now (Cell a)) ≡ true)
-      within a q = elim (cases_eq a y) [
-        | inr n ↦ inl (moves.others (Cell a) (same_cell a y n))
-        | inl g ↦ inr
-            (let v : now (Cell y) ≡ plus (s.memory y) 1 =
-            value_of pl.declaration start s.ac (updated s.memory y (plus (s.memory y) 1)) y var ∙ updated_same s.memory y (plus (s.memory y) 1) in
-            let back : minus (plus (s.memory y) 1) 1 ≡ s.memory y = minus_plus (s.memory y) 1 (ss.words y) in
-            rw (g, v, back) (set_true f s ks y h var))
-      ]
-
-      out : (a : ℕ) → (nat_lt a 4096 && p a) ≡ false → now (Cell a) ≡ was (Cell a)
-      out a q = moves.others (Cell a) (same_cell a y (λ g. true≢false (sym (and_from _ _ (lt-ltb y 4096 lt) e) ∙ (rw g at q))))
+      here : shifted (f.set (Cell y)) 1 (vals s.ac (updated s.memory y (plus (s.memory y) 1)) (Cell y)) ≡ true
+      here =
+          let v : vals s.ac (updated s.memory y (plus (s.memory y) 1)) (Cell y) ≡ plus (s.memory y) 1 =
+          value_of pl.declaration start s.ac (updated s.memory y (plus (s.memory y) 1)) y var ∙ updated_same s.memory y (plus (s.memory y) 1) in
+          let back : minus (plus (s.memory y) 1) 1 ≡ s.memory y = minus_plus (s.memory y) 1 (ss.words y) in
+          let was : vals s.ac s.memory (Cell y) ≡ s.memory y = value_of pl.declaration start s.ac s.memory y var in
+          rw (v, back) (rw was at (h.holds.sets (Cell y)))
 
       means : (pc : ℕ) → Means pl start (weakly_updated p (λ a. shifted (f.set (Cell a)) 1) f) (record s { pc = pc; memory = updated s.memory y (plus (s.memory y) 1) }) ks
-      means pc = means_updated f (weakly_updated p (λ a. shifted (f.set (Cell a)) 1) f) s ks y (plus (s.memory y) 1) s.ac pc top var h (smeared_holds p (λ a. shifted (f.set (Cell a)) 1) h.holds refl out within) refl refl refl
+      means pc = means_updated f (weakly_updated p (λ a. shifted (f.set (Cell a)) 1) f) s ks y (plus (s.memory y) 1) s.ac pc top var h
+          (smeared_holds p (λ a. shifted (f.set (Cell a)) 1) y lt e h.holds (updated_values pl.declaration start s.ac s.memory y (plus (s.memory y) 1)) here) refl refl refl
 
   pub isz_step : (f : Fact) (s : State) (ks : Calls) (p : Words) (y : ℕ) → IsState s → TopIsEntry pl.declaration ks → Means pl start f s ks → y < 4096 → p y ≡ true →
       MayCount f p y → SomeOutcome (Lands (counted s y) ks) (isz_case pl s.pc f p (only p))
@@ -409,7 +333,7 @@ module _ (pl : Place) (dd : IsDeclared pl.declaration) (start : Cells) (sw : (a 
         | inr m ↦ absurd (let w : None ≡ Some y = sym q ∙ m.3 in cc)
       ]
       go (Some z) q =
-          let zy : z ≡ y = sym (only_tells p z y q lt e) in
+          let zy : z ≡ y = sym ((only_word p z q).lone y lt e) in
           rw zy (elim may [
             | inl var ↦ isz_one f s ks p y ss top h lt e var
             | inr m ↦ isz_own f s ks p y ss top h lt e m.0 m.1 m.2 m.4
@@ -424,49 +348,26 @@ module _ (pl : Place) (dd : IsDeclared pl.declaration) (start : Cells) (sw : (a 
   unfolding strongly_updated weakly_updated
   dca_step f s ks p y ss top h lt e var = go (only p) refl
     where
-      was : Values
-      was = values pl.declaration start s.ac s.memory
-
-      mid : Values
-      mid = values pl.declaration start s.ac (updated s.memory y s.ac)
-
-      now : Values
-      now = values pl.declaration start 0 (updated s.memory y s.ac)
-
-      moves : OnlyAt (Cell y) was mid
+      moves : OnlyAt (Cell y) (vals s.ac s.memory) (vals s.ac (updated s.memory y s.ac))
       moves = updated_values pl.declaration start s.ac s.memory y s.ac
 
-      here : mid (Cell y) ≡ s.ac
+      here : vals s.ac (updated s.memory y s.ac) (Cell y) ≡ s.ac
       here = value_of pl.declaration start s.ac (updated s.memory y s.ac) y var ∙ updated_same s.memory y s.ac
 
-      clear : OnlyAt Ac mid now
-      clear = ac_values pl.declaration start s.ac 0 (updated s.memory y s.ac)
+      has : narrowed f Ac (vals s.ac (updated s.memory y s.ac) (Cell y)) ≡ true
+      has = rw here (ac_true f s ks ss h)
 
-      within : (a : ℕ) → (nat_lt a 4096 && p a) ≡ true → (mid (Cell a) ≡ was (Cell a)) ⊎ (narrowed f Ac (mid (Cell a)) ≡ true)
-      within a q = elim (cases_eq a y) [
-        | inr n ↦ inl (moves.others (Cell a) (same_cell a y n))
-        | inl g ↦ inr (rw (g, here) (ac_true f s ks ss h))
-      ]
-
-      out : (a : ℕ) → (nat_lt a 4096 && p a) ≡ false → mid (Cell a) ≡ was (Cell a)
-      out a q = moves.others (Cell a) (same_cell a y (λ g. true≢false (sym (and_from _ _ (lt-ltb y 4096 lt) e) ∙ (rw g at q))))
-
-      means : (g : Fact) → g.mq ≡ f.mq → g.link ≡ f.link → g.offsets ≡ f.offsets → Holds g now → Means pl start g (deposited s y) ks
-      means g em el eo hg = means_updated f g s ks y s.ac 0 (plus s.pc 1) top var h hg em el eo
-
-      next : one (plus s.pc 1) (plus s.pc 1) ≡ true
-      next = eq-eqb (plus s.pc 1) (plus s.pc 1) refl
+      ends : (changed : Words) (g : Fact) (v : ℕ) → v < 4096 → changed v ≡ true → g.mq ≡ f.mq → g.link ≡ f.link → g.offsets ≡ f.offsets → Holds g (vals s.ac (updated s.memory y s.ac)) →
+          SomeOutcome (Lands (deposited s y) ks) (goes p f changed (one (plus s.pc 1)) (strongly_updated Ac (one 0) g))
+      ends changed g v lv ev em el eo hg =
+          goes_to p changed (one (plus s.pc 1)) f _ s (deposited s y) ks y v ss h lt e lv ev (lit< tt) ss.link ss.mq (eq-eqb (plus s.pc 1) (plus s.pc 1) refl)
+          (means_updated f _ s ks y s.ac 0 (plus s.pc 1) top var h (assigned_holds (one 0) hg (ac_values pl.declaration start s.ac 0 (updated s.memory y s.ac)) refl) em el eo)
 
       go : (o : Option ℕ) → only p ≡ o → SomeOutcome (Lands (deposited s y) ks) (dca_case pl s.pc f p o)
-      go None q =
-          goes_to p everything (one (plus s.pc 1)) f _ s (deposited s y) ks y 0 ss h lt e (lit< tt) refl (lit< tt) ss.link ss.mq next
-          (means _ refl refl refl (assigned_holds (one 0) (smeared_holds p (λ a. narrowed f Ac) h.holds refl out within) clear refl))
+      go None q = ends everything _ 0 (lit< tt) refl refl refl refl (smeared_holds p (λ a. narrowed f Ac) y lt e h.holds moves has)
       go (Some z) q =
-          let zy : z ≡ y = sym (only_tells p z y q lt e) in
-          rw zy (goes_to p (narrowed f Ac) (one (plus s.pc 1)) f _ s (deposited s y) ks y s.ac ss h lt e ss.ac (ac_true f s ks ss h) (lit< tt) ss.link ss.mq next
-          (means _ refl refl refl
-          (assigned_holds (one 0)
-          (copied_holds y (narrowed f Ac) (names_words f s ks ss h) h.holds moves here (rw here (ac_true f s ks ss h))) clear refl)))
+          let zy : z ≡ y = sym ((only_word p z q).lone y lt e) in
+          rw zy (ends (narrowed f Ac) _ s.ac ss.ac (ac_true f s ks ss h) refl refl refl (copied_holds y (narrowed f Ac) (names_words f s ks ss h) h.holds moves here has))
 
   -- what leaves memory and link
   pub same_step : (f : Fact) (s : State) (ks : Calls) (pc : ℕ) → Means pl start f s ks → Means pl start f (record s { pc = pc }) ks
@@ -487,21 +388,11 @@ module _ (pl : Place) (dd : IsDeclared pl.declaration) (start : Cells) (sw : (a 
   -- AC's set is narrowed to one that has its word, and the link changes
   set_means : (f : Fact) (s : State) (ks : Calls) (set links : Words) (link pc : ℕ) → Means pl start f s ks → set s.ac ≡ true → links link ≡ true →
       Means pl start (with_link links (with_name Ac set f)) (record s { ac = s.ac; link = link; pc = pc }) ks
-  set_means f s ks set links link pc h e l = means_like f (with_link links (with_name Ac set f)) s ks s.ac link s.mq pc h (record { sets = sets; equations = h.holds.equations }) h.mq l refl
-    where
-      sets : (n : Location) → with_set Ac set f.set n (values pl.declaration start s.ac s.memory n) ≡ true
-      sets Ac = e
-      sets (Cell a) = h.holds.sets (Cell a)
+  set_means f s ks set links link pc h e l =
+      means_like f (with_link links (with_name Ac set f)) s ks s.ac link s.mq pc h (record { sets = set_at Ac set f.set (vals s.ac s.memory) e (λ n q. h.holds.sets n); equations = h.holds.equations }) h.mq l refl
 
   link_means : (f : Fact) (s : State) (ks : Calls) (links : Words) → Means pl start f s ks → links s.link ≡ true → Means pl start (with_link links f) s ks
-  link_means f s ks links h l = record {
-    holds = record { sets = h.holds.sets; equations = h.holds.equations };
-    mq = h.mq;
-    link = l;
-    rest = h.rest;
-    stands = h.stands;
-    own = own_like f (with_link links f) s.memory ks (λ o n q. q) h.own;
-  }
+  link_means f s ks links h l = means_like f (with_link links f) s ks s.ac s.link s.mq s.pc h (record { sets = h.holds.sets; equations = h.holds.equations }) h.mq l refl
 
   count_means : (f : Fact) (s : State) (ks : Calls) (pc : ℕ) → IsState s → Means pl start f s ks →
       Means pl start (moved Ac 1 f) (record s { ac = plus s.ac 1; link = s.link; pc = pc }) ks
@@ -529,7 +420,8 @@ module _ (pl : Place) (dd : IsDeclared pl.declaration) (start : Cells) (sw : (a 
 
   related1_means : (w : ℕ) (f : Fact) (s : State) (ks : Calls) (pc : ℕ) → IsState s → Means pl start f s ks →
       Means pl start (related1 w f) (record s { ac = ac_after w s.ac s.link; pc = pc }) ks
-  related1_means w f s ks pc ss h = go (changes_ac w) refl
+  related1_means w f s ks pc ss h = cond_both (changes_ac w) (strongly_updated Ac everything f) (if has_bit 0 w then moved Ac 1 f else f) (λ (g : Fact). Means pl start g (at (ac_after w s.ac s.link)) ks)
+      (λ e. ac_means f s ks everything (ac_after w s.ac s.link) pc ss h refl) (λ e. up (has_bit 0 w) (ac_after w s.ac s.link) (ac_kept w s.ac s.link e))
     where
       at : (x : ℕ) → State
       at x = record s { ac = x; pc = pc }
@@ -537,10 +429,6 @@ module _ (pl : Place) (dd : IsDeclared pl.declaration) (start : Cells) (sw : (a 
       up : (b : Bool) → (ac : ℕ) → ac ≡ (if b then plus s.ac 1 else s.ac) → Means pl start (if b then moved Ac 1 f else f) (at ac) ks
       up true ac e = subst (λ x. Means pl start (moved Ac 1 f) (at x) ks) (sym e) (count_means f s ks pc ss h)
       up false ac e = subst (λ x. Means pl start f (at x) ks) (sym e) (same_step f s ks pc h)
-
-      go : (b : Bool) → changes_ac w ≡ b → Means pl start (if b then strongly_updated Ac everything f else (if has_bit 0 w then moved Ac 1 f else f)) (at (ac_after w s.ac s.link)) ks
-      go true e = ac_means f s ks everything (ac_after w s.ac s.link) pc ss h refl
-      go false e = up (has_bit 0 w) (ac_after w s.ac s.link) (ac_kept w s.ac s.link e)
 
   pub operate1_step : (w : ℕ) (f : Fact) (s : State) (ks : Calls) → IsState s → Means pl start f s ks →
       SomeOutcome (Lands (record s { ac = ac_after w s.ac s.link; link = link_after w s.ac s.link; pc = plus s.pc 1 }) ks)
@@ -555,11 +443,7 @@ module _ (pl : Place) (dd : IsDeclared pl.declaration) (start : Cells) (sw : (a 
 
   -- group 2
   part_true : (w : ℕ) (f : Fact) (s : State) (ks : Calls) → IsState s → Means pl start f s ks → part2 w f s.link (skips_of w s.ac s.link) s.ac ≡ true
-  part_true w f s ks ss h = and_from _ _ (ac_true f s ks ss h) (go (skips_of w s.ac s.link))
-    where
-      go : (b : Bool) → (if b then b else not b) ≡ true
-      go true = refl
-      go false = refl
+  part_true w f s ks ss h = and_from _ _ (ac_true f s ks ss h) (let b : Bool = skips_of w s.ac s.link in cond_both b b (not b) (λ x. x ≡ true) (λ q. q) (λ q. ap not q))
 
   related2_means : (w : ℕ) (f : Fact) (s : State) (ks : Calls) (part : Words) (v pc : ℕ) → IsState s → Means pl start f s ks → v < 4096 → part s.ac ≡ true →
       Means pl start (related2 w part f) (record s { ac = operate2_of w s.ac v; pc = pc }) ks
@@ -588,7 +472,7 @@ module _ (pl : Place) (dd : IsDeclared pl.declaration) (start : Cells) (sw : (a 
       link_means (related2 w (part2 w f l b) f) (operated w s v b) ks (one l)
       (related2_means w f s ks (part2 w f l b) v _ ss h lt part) (eq-eqb s.link l (sym el)) in
       some_given (Lands _ ks) _ _
-      (and_from _ _ (rw el h.link) (and_from _ _ (has_word (part2 w f l b) s.ac ss.ac part)
+      (and_from _ _ (rw el h.link) (and_from _ _ (some_from 4096 (part2 w f l b) s.ac ss.ac part)
       (alive_true everything everything f _ s _ ks 0 0 ss h (lit< tt) refl (lit< tt) refl (operate2_word w s.ac v ss.ac lt) ss.link ss.mq m)))
       (eq-eqb (next_pc s.pc b) (next_pc s.pc b) refl, m)
 
@@ -642,14 +526,12 @@ module _ (pl : Place) (dd : IsDeclared pl.declaration) (start : Cells) (sw : (a 
       (mq_words o s.ac s.mq ss.ac ss.mq).0 ss.link (mq_words o s.ac s.mq ss.ac ss.mq).1 (eq-eqb (plus s.pc 1) (plus s.pc 1) refl) (operated3_means o f s ks ss h)
 
   -- device words
-  pub skip_step : (f : Fact) (s : State) (ks : Calls) (skip : Bool) → IsState s → Means pl start f s ks →
-      SomeOutcome (Lands (record s { pc = next_pc s.pc skip }) ks) (device_outcomes s.pc f Skips)
-  skip_step f s ks true ss h =
-      some_right (Lands (record s { pc = plus s.pc 2 }) ks) (goes everything f everything (one (plus s.pc 1)) f) _
-      (goes_to everything everything (one (plus s.pc 2)) f f s _ ks 0 0 ss h (lit< tt) refl (lit< tt) refl ss.ac ss.link ss.mq (eq-eqb (plus s.pc 2) _ refl) (same_step f s ks _ h))
-  skip_step f s ks false ss h =
-      some_left (Lands (record s { pc = plus s.pc 1 }) ks) _ _
-      (goes_to everything everything (one (plus s.pc 1)) f f s _ ks 0 0 ss h (lit< tt) refl (lit< tt) refl ss.ac ss.link ss.mq (eq-eqb (plus s.pc 1) _ refl) (same_step f s ks _ h))
+  pub go_step : (f : Fact) (s : State) (ks : Calls) (pc : ℕ) → IsState s → Means pl start f s ks → SomeOutcome (Lands (record s { pc = pc }) ks) (goes everything f everything (one pc) f)
+  go_step f s ks pc ss h = goes_to everything everything (one pc) f f s _ ks 0 0 ss h (lit< tt) refl (lit< tt) refl ss.ac ss.link ss.mq (eq-eqb pc pc refl) (same_step f s ks pc h)
+
+  pub skip_step : (f : Fact) (s : State) (ks : Calls) (skip : Bool) → IsState s → Means pl start f s ks → SomeOutcome (Lands (record s { pc = next_pc s.pc skip }) ks) (device_outcomes s.pc f Skips)
+  skip_step f s ks true ss h = some_right (Lands (record s { pc = plus s.pc 2 }) ks) (goes everything f everything (one (plus s.pc 1)) f) _ (go_step f s ks (plus s.pc 2) ss h)
+  skip_step f s ks false ss h = some_left (Lands (record s { pc = plus s.pc 1 }) ks) _ _ (go_step f s ks (plus s.pc 1) ss h)
 
   -- the accumulator takes a word of the set
   pub ac_step : (f : Fact) (s : State) (ks : Calls) (set : Words) (ac : ℕ) → IsState s → Means pl start f s ks → ac < 4096 → set ac ≡ true →
@@ -657,22 +539,3 @@ module _ (pl : Place) (dd : IsDeclared pl.declaration) (start : Cells) (sw : (a 
   ac_step f s ks set ac ss h lt e =
       goes_to everything everything (one (plus s.pc 1)) f (strongly_updated Ac set f) s _ ks 0 0 ss h (lit< tt) refl (lit< tt) refl lt ss.link ss.mq
       (eq-eqb (plus s.pc 1) _ refl) (ac_means f s ks set ac (plus s.pc 1) ss h e)
-
-  pub or_step : (f : Fact) (s : State) (ks : Calls) (b : ℕ) → IsState s → Means pl start f s ks → b < 256 →
-      SomeOutcome (Lands (record s { ac = bit_or s.ac b; pc = plus s.pc 1 }) ks) (device_outcomes s.pc f Ors)
-  or_step f s ks b ss h lt =
-      let small : b < 4096 = omega arith in
-      ac_step f s ks (or_any 255 (narrowed f Ac)) (bit_or s.ac b) ss h (or_word s.ac b ss.ac small) (or_byte_true (narrowed f Ac) s.ac b ss.ac lt (ac_true f s ks ss h))
-
-  pub clear_step : (f : Fact) (s : State) (ks : Calls) → IsState s → Means pl start f s ks →
-      SomeOutcome (Lands (record s { ac = 0; pc = plus s.pc 1 }) ks) (device_outcomes s.pc f Clears)
-  clear_step f s ks ss h = ac_step f s ks (one 0) 0 ss h (lit< tt) refl
-
-  pub take_step : (f : Fact) (s : State) (ks : Calls) (b : ℕ) → IsState s → Means pl start f s ks → b < 256 →
-      SomeOutcome (Lands (record s { ac = b; pc = plus s.pc 1 }) ks) (device_outcomes s.pc f Takes)
-  take_step f s ks b ss h lt = let small : b < 4096 = omega arith in ac_step f s ks (λ v. nat_lt v 256) b ss h small (lt-ltb b 256 lt)
-
-  pub leave_step : (f : Fact) (s : State) (ks : Calls) → IsState s → Means pl start f s ks →
-      SomeOutcome (Lands (record s { pc = plus s.pc 1 }) ks) (device_outcomes s.pc f Leaves)
-  leave_step f s ks ss h =
-      goes_to everything everything (one (plus s.pc 1)) f f s _ ks 0 0 ss h (lit< tt) refl (lit< tt) refl ss.ac ss.link ss.mq (eq-eqb (plus s.pc 1) _ refl) (same_step f s ks _ h)

@@ -1,6 +1,6 @@
 -- What TAD makes of a fact.
-use Rattle.std.proofs.Common.{◌≡◌, ℕ, Bool, true, false, Option, Some, None, [], ◌∷◌, refl, ap, ◌∙◌}
-use Rattle.std.specs.Prelude.{if◌then◌else◌}
+use Rattle.std.proofs.Common.{◌≡◌, ℕ, Option, Some, None, [], ◌∷◌, refl, ap, ◌∙◌}
+use Rattle.std.proofs.lemmas.Bool.{cond_both}
 use Rattle.wordset.specs.Words.{Words, SameLinks, sums, carries, toggled, only}
 use Rattle.domain.specs.Facts.{Ac, Cell, Fact, Place, narrowed}
 use Rattle.domain.specs.Changes.{moved, strongly_updated, with_equations, with_link}
@@ -16,11 +16,9 @@ tad_keeps : (pl : Place) (f : Fact) (v : Words) (y a w : Option ℕ) → ((tad_c
 unfolding strongly_updated
 tad_keeps pl f v None a w = word_keeps f v w
 tad_keeps pl f v (Some y) None w = word_keeps f v w
-tad_keeps pl f v (Some y) (Some a) w = go (pl.declaration.variable y)
-  where
-    go : (b : Bool) → (let s : Fact = if b then with_equations (record { left = Ac; right = Cell y; more = a } ∷ []) (strongly_updated Ac (sums (narrowed f Ac) v) f) else tad_word f v w in (s.mq ≡ f.mq) × (s.offsets ≡ f.offsets))
-    go true = (refl, refl)
-    go false = word_keeps f v w
+tad_keeps pl f v (Some y) (Some a) w =
+    cond_both (pl.declaration.variable y) (with_equations (record { left = Ac; right = Cell y; more = a } ∷ []) (strongly_updated Ac (sums (narrowed f Ac) v) f)) (tad_word f v w)
+    (λ (s : Fact). (s.mq ≡ f.mq) × (s.offsets ≡ f.offsets)) (λ q. (refl, refl)) (λ q. word_keeps f v w)
 
 pub tad_agrees : (pl : Place) (f : Fact) (p : Words) (s r : Fact) (links : Words) → Agree s (tad_case pl f (words_at pl f p) (only p) (only (narrowed f Ac)) (only (words_at pl f p))) →
     Agree r (with_link links s) → SameLinks links (toggled f.link (carries (narrowed f Ac) (words_at pl f p))) → Agree r (tad_fact pl f p)

@@ -12,6 +12,7 @@ mod hints;
 mod looks;
 mod pace;
 mod plan;
+mod planning;
 mod random;
 mod record;
 mod running;
@@ -19,6 +20,7 @@ mod script;
 mod search;
 mod seen;
 mod shorten;
+mod stepping;
 mod tree;
 mod votes;
 

@@ -215,6 +215,7 @@ impl<A: Allocator + Copy> Run<A> {
     }
 
     /// Lets the printer and the punch get done, if it is time.
+    #[inline(always)]
     pub(crate) fn complete<D: Allocator>(
         &mut self,
         watcher: &mut Watcher<A>,

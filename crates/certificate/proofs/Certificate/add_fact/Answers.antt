@@ -1,4 +1,4 @@
-use Rattle.std.proofs.Common.{◌<◌}
+use Rattle.std.proofs.Common.{rules}
 use Rattle.std.specs.Prelude.{is_ok}
 use Rattle.certificate.specs.Made.{fact_at}
 use Rattle.certificate.proofs.MakerLemmas.{fact_added}
@@ -7,15 +7,13 @@ use Rattle.certificate.proofs.Certificate.add_fact.Goals.{in-Ok, in-Err}
 
 pub invariant_of-self : goal.invariant_of-self
 invariant_of-self g c =
-    let small : c.args.at < 4096 = rw c.index-index.ensures.same at c.index-index.ensures.small in
     (fact_added c.self.inside.version c.self.inside.kept c.keep_all.new.self (fact_at c.args.at c.args.fact.now) (is_ok c.keep_all.result)
-    c.self.invariant small (rw (← c.self.view_is) at c.requires) (rw (c.cells.ensures, c.equations.ensures.equations) at c.keep_all.ensures)).whole
+    c.self.invariant (search rules) (rw (← c.self.view_is) at c.requires) (rw (c.cells.ensures, c.equations.ensures.equations) at c.keep_all.ensures)).whole
 
 pub returns-clause-added : goal.returns-clause-added
 returns-clause-added g c =
-    let small : c.args.at < 4096 = rw c.index-index.ensures.same at c.index-index.ensures.small in
     let a = fact_added c.self.inside.version c.self.inside.kept c.keep_all.new.self (fact_at c.args.at c.args.fact.now) (is_ok c.keep_all.result)
-    c.self.invariant small (rw (← c.self.view_is) at c.requires) (rw (c.cells.ensures, c.equations.ensures.equations) at c.keep_all.ensures) in
+    c.self.invariant (search rules) (rw (← c.self.view_is) at c.requires) (rw (c.cells.ensures, c.equations.ensures.equations) at c.keep_all.ensures) in
     elim c.match-keep_all.branch [
       | in-Ok w ↦ rw (w.result-is, ← c.self.view_is) (rw w.in-Ok.is at a.is)
       | in-Err w ↦ rw w.result-is tt

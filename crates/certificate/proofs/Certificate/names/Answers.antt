@@ -1,6 +1,6 @@
 use Rattle.std.proofs.Common.{◌∙◌, sym}
 use Rattle.std.proofs.lemmas.Bool.{eq-eqb}
-use Rattle.certificate.proofs.NameLemmas.{named_first, named_later}
+use Rattle.certificate.proofs.ReaderLemmas.{named_first, named_later}
 use Rattle.certificate.proofs.Certificate.names.Goals as goal
 
 pub returns-then-next_place-routine : goal.returns-then-next_place-routine

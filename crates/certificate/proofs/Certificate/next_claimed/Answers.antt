@@ -1,5 +1,5 @@
 use Rattle.std.proofs.Common.{◌≡◌, ◌<◌, ◌≤◌, ◌+◌, ◌-◌, ◌*◌, ◌/◌, arith}
-use Rattle.certificate.proofs.NameLemmas.{fact_is_claimed, least_of, next_is_claimed, none_is_claimed}
+use Rattle.certificate.proofs.ReaderLemmas.{fact_is_claimed, least_of, next_is_claimed, none_is_claimed}
 use Rattle.certificate.proofs.Certificate.next_claimed.Goals as goal
 
 pub returns-then-least-lt4096 : goal.returns-then-least-lt4096

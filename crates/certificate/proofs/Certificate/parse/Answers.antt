@@ -1,9 +1,9 @@
-use Rattle.std.proofs.Common.{◌≡◌, [], Err}
+use Rattle.std.proofs.Common.{◌≡◌, [], Err, subst}
 use Rattle.certificate.specs.Spelling.{text}
 use Rattle.certificate.specs.Reading.{AreLines}
 use Rattle.certificate.specs.Kept.{meaning}
 use Rattle.certificate.specs.Faults.{IsText}
-use Rattle.certificate.proofs.ReadLemmas.{taken_all, of_refused, of_finished, answers_found, answers_refused, answers_only, answers_exact, answers_memory}
+use Rattle.certificate.proofs.ReadLemmas.{Answers, taken_all, of_refused, of_finished, answers_found, answers_refused, answers_only, answers_exact}
 use Rattle.certificate.proofs.ParserLemmas.{was_read}
 use Rattle.certificate.proofs.Certificate.parse.Goals as goal
 
@@ -21,7 +21,7 @@ returns-in-Err g c =
       only = answers_only bytes (Err c.in-Err.fault) h;
       refused = answers_refused bytes (Err c.in-Err.fault) h;
       exact = answers_exact bytes (Err c.in-Err.fault) h;
-      memory = answers_memory bytes (Err c.in-Err.fault) h;
+      memory = λ e. subst (Answers bytes) e h;
     }
 
 pub returns : goal.returns
@@ -36,5 +36,5 @@ returns g c =
       only = answers_only bytes c.finish.result h;
       refused = answers_refused bytes c.finish.result h;
       exact = answers_exact bytes c.finish.result h;
-      memory = answers_memory bytes c.finish.result h;
+      memory = λ e. subst (Answers bytes) e h;
     }

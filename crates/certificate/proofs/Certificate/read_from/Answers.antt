@@ -1,18 +1,21 @@
 use Rattle.certificate.specs.Faults.{AsksForMemory}
 use Rattle.certificate.specs.Serving.{IsUnanswered}
-use Rattle.certificate.proofs.ServedLemmas.{gave, serves_only, serves_exact, serves_unanswered, serves_memory}
+use Rattle.certificate.proofs.ServedLemmas.{gave, serves_refused, serves_only, serves_exact}
 use Rattle.certificate.proofs.Certificate.read_from.Goals as goal
 
 pub returns-clause-only : goal.returns-clause-only
 returns-clause-only g c = serves_only _ _ c.read_source.result c.read_source.ensures.serves
+
+pub returns-clause-refused : goal.returns-clause-refused
+returns-clause-refused g c = serves_refused _ _ c.read_source.result c.read_source.ensures.serves
 
 pub returns-clause-exact : goal.returns-clause-exact
 returns-clause-exact g c = serves_exact _ _ c.read_source.result c.read_source.ensures.serves
 
 pub returns-clause-unanswered : goal.returns-clause-unanswered
 returns-clause-unanswered g c = λ e.
-    gave _ _ c.read_source.result c.read_source.ensures.serves IsUnanswered (serves_unanswered _ _ c.read_source.result c.read_source.ensures.serves e)
+    gave _ _ c.read_source.result c.read_source.ensures.serves IsUnanswered (rw e at c.read_source.ensures.serves.answer)
 
 pub returns-clause-memory : goal.returns-clause-memory
 returns-clause-memory g c = λ e.
-    gave _ _ c.read_source.result c.read_source.ensures.serves AsksForMemory (serves_memory _ _ c.read_source.result c.read_source.ensures.serves e)
+    gave _ _ c.read_source.result c.read_source.ensures.serves AsksForMemory (rw e at c.read_source.ensures.serves.answer)

@@ -7,8 +7,7 @@ use Rattle.certificate.specs.Spelling.{set_text, mq_text, digits}
 use Rattle.certificate.specs.Fields.{left}
 use Rattle.certificate.specs.Packed.{added}
 use Rattle.certificate.proofs.PackedLemmas.{from_none}
-use Rattle.certificate.proofs.FieldsLemmas.{both, earlier}
-use Rattle.certificate.proofs.LineLemmas.{are_registers, mq_space, words_fields}
+use Rattle.certificate.proofs.LineLemmas.{both, earlier, are_registers, mq_space, words_fields}
 use Rattle.certificate.proofs.line.read_registers.Goals as goal
 
 pub returns : goal.returns

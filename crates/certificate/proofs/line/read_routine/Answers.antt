@@ -4,8 +4,7 @@ use Rattle.std.proofs.lemmas.Bool.{false≢true}
 use Rattle.word12.specs.Words.{octal_text}
 use Rattle.certificate.specs.Fields.{left}
 use Rattle.certificate.proofs.PackedLemmas.{from_none}
-use Rattle.certificate.proofs.FieldsLemmas.{both, whole}
-use Rattle.certificate.proofs.LineLemmas.{routine_fields}
+use Rattle.certificate.proofs.LineLemmas.{both, whole, routine_fields}
 use Rattle.certificate.specs.Spelling.{RoutineLine, RoutineIs, set_text, rank_text}
 use Rattle.certificate.specs.Order.{Spells}
 use Rattle.certificate.specs.Packed.{added, routine_at}

@@ -1,5 +1,5 @@
 use Rattle.std.proofs.Common.{[], ◌∷◌}
-use Rattle.certificate.specs.Claimed.{claimed_line}
+use Rattle.certificate.specs.Adding.{claimed_line}
 use Rattle.certificate.specs.Packed.{said_lines}
 use Rattle.certificate.proofs.MakerLemmas.{begins_both}
 use Rattle.certificate.proofs.lines.push_all.Goals as goal

@@ -4,7 +4,7 @@ use Rattle.std.proofs.KnownBytes.{Appends-trans}
 use Rattle.certificate.specs.Spelling.{version_text, ended, all_ended}
 use Rattle.certificate.specs.Packed.{said_lines}
 use Rattle.streams.proofs.BytesLemmas.{front_after}
-use Rattle.certificate.proofs.SpelledLemmas.{front_more}
+use Rattle.certificate.proofs.SpelledLemmas.{front_more, all_lines}
 use Rattle.certificate.proofs.PutLemmas.{on_err, any_err}
 use Rattle.certificate.proofs.spelled.put_text.Goals as goal
 
@@ -15,7 +15,7 @@ returns-in_err-put_lines-clause-front g c =
     (ended (version_text c.args.version) ++ all_ended c.args.version (said_lines c.args.lines.now)) (ended (codes "end"))
     (front_after (g.W.ByteSink.taken c.args.sink.now) (g.W.ByteSink.taken c.put.new.sink) (g.W.ByteSink.taken c.put_lines.new.sink)
     (ended (version_text c.args.version)) (all_ended c.args.version (said_lines c.args.lines.now))
-    (rw c.first_line.ensures at c.in_ok-put.ensures.whole) c.in_err-put_lines.ensures.front))
+    (rw c.first_line.ensures at c.in_ok-put.ensures.whole) (rw (all_lines (said_lines c.args.lines.now) c.len.result c.len.ensures) at c.in_err-put_lines.ensures.front)))
 
 pub returns-clause-front : goal.returns-clause-front
 returns-clause-front g c =
@@ -24,4 +24,4 @@ returns-clause-front g c =
     (ended (version_text c.args.version) ++ all_ended c.args.version (said_lines c.args.lines.now)) (ended (codes "end"))
     (Appends-trans (g.W.ByteSink.taken c.args.sink.now) (g.W.ByteSink.taken c.put.new.sink) (g.W.ByteSink.taken c.put_lines.new.sink)
     (ended (version_text c.args.version)) (all_ended c.args.version (said_lines c.args.lines.now))
-    (rw c.first_line.ensures at c.in_ok-put.ensures.whole) c.in_ok-put_lines.ensures.whole) h) c.put-2.ensures.front
+    (rw c.first_line.ensures at c.in_ok-put.ensures.whole) (rw (all_lines (said_lines c.args.lines.now) c.len.result c.len.ensures) at c.in_ok-put_lines.ensures.whole)) h) c.put-2.ensures.front

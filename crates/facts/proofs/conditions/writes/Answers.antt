@@ -1,12 +1,13 @@
-use Rattle.std.proofs.Common.{refl, ap, subst}
+use Rattle.std.proofs.Common.{refl, sym, ap, subst}
 use Rattle.wordset.specs.Words.{Words, SameWords}
 use Rattle.wordset.specs.Lanes.{words}
+use Rattle.wordset.proofs.LaneBits.{or_false}
 use Rattle.instruct.specs.Instructions.{operation_of}
 use Rattle.facts.specs.Outcomes.{targets}
 use Rattle.facts.specs.Conditions.{may_write}
 use Rattle.domain.specs.Meaning.{meaning}
 use Rattle.facts.specs.Places.{place_of}
-use Rattle.facts.proofs.AskedLemmas.{no_reference, no_words, or_false, refers_to, writes_none, writes_reference}
+use Rattle.facts.proofs.AskedLemmas.{no_reference, no_words, refers_to, writes_none, writes_reference}
 use Rattle.facts.proofs.conditions.writes.Goals as goal
 
 pub returns-then-not-is_reference : goal.returns-then-not-is_reference
@@ -18,7 +19,7 @@ returns-then-not-stores g c =
     subst (λ m. SameWords (words c.pointer_if-pointer.result) (may_write pl (meaning c.args.fact.now) m))
     (refers_to pl c.args.at c.args.word _ _ ((c.is_reference.ensures c.args.at).0 c.if-not-is_reference.false) c.refers_indirectly-indirect.ensures c.target-named.ensures)
     (writes_reference _ _ (targets pl c.refers_indirectly-indirect.result c.target-named.result (meaning c.args.fact.now)) pl (meaning c.args.fact.now) (operation_of c.args.word) _ _ _ _ c.stores.ensures c.steps_pointer.ensures
-    (λ a. rw c.if-not-stores.true (or_false _)) c.pointer_if-pointer.ensures (λ v lt. refl))
+    (λ a. rw c.if-not-stores.true (sym (or_false _))) c.pointer_if-pointer.ensures (λ v lt. refl))
 
 pub returns : goal.returns
 returns g c =

@@ -1,5 +1,5 @@
-use Rattle.std.proofs.Common.{◌≡◌, ◌∙◌, Some, None, map, sym, arith}
-use Rattle.wordset.specs.Words.{SameWords, one, only, plus}
+use Rattle.std.proofs.Common.{◌∙◌, map, sym, arith}
+use Rattle.wordset.specs.Words.{SameWords, one, plus}
 use Rattle.wordset.specs.Lanes.{words}
 use Rattle.domain.specs.Facts.{Fact, narrowed, Ac, Cell}
 use Rattle.domain.specs.Changes.{strongly_updated, with_equations, copied}
@@ -13,21 +13,17 @@ use Rattle.facts.proofs.references.deposit.Goals as goal
 
 pub returns-in-Some : goal.returns-in-Some
 returns-in-Some c = λ pl f p h e.
-    let same : only p ≡ only (words c.args.targets.now) = sym (only_same _ _ e) in
     let ac : SameWords (words c.left_in-held.result.now) (narrowed f Ac) = λ v lt. c.left_in-held.ensures v lt ∙ narrowed_agree h Ac v lt in
-    let some : only (words c.args.targets.now) ≡ Some c.in-Some.cell = sym c.requires.single ∙ c.in-Some.is in
     let after = deposited_agree (fact_of_state c.args.state.now) (fact_of_state c.with_cell-put.result) (fact_of_state c.told-told.result) (fact_of_state c.with_ac-after.result) (words c.left_in-held.result.now) c.in-Some.cell (copied c.in-Some.cell (map equation_of c.args.state.now.equations.now)) (words c.put_one-zero.result.now)
     c.with_cell-put.ensures.same c.told-told.ensures.same c.put_one-zero.ensures c.with_ac-after.ensures.same in
     let made : Fact = strongly_updated Ac (one 0) (with_equations (copied c.in-Some.cell f.equations) (strongly_updated (Cell c.in-Some.cell) (narrowed f Ac) f)) in
-    rw (same, some) (chosen_agrees _ _ (alive_changed p f (narrowed f Ac) made (c.has_some.ensures ∙ has_same ac))
+    rw (sym (only_same _ _ e) ∙ (sym c.requires.single ∙ c.in-Some.is)) (chosen_agrees _ _ (alive_changed p f (narrowed f Ac) made (c.has_some.ensures ∙ has_same ac))
     (c.going.ensures p (one (plus c.args.at 1)) f made (has_same e) ac c.address_after-next.ensures (agree_trans after (deposited_words h c.in-Some.cell ac))))
 
 pub returns-in-None : goal.returns-in-None
 returns-in-None c = λ pl f p h e.
-    let same : only p ≡ only (words c.args.targets.now) = sym (only_same _ _ e) in
     let ac : SameWords (words c.left_in-held.result.now) (narrowed f Ac) = λ v lt. c.left_in-held.ensures v lt ∙ narrowed_agree h Ac v lt in
-    let none : only (words c.args.targets.now) ≡ None = sym c.requires.single ∙ c.in-None.is in
-    rw (same, none) (c.going-in-None.ensures p (one (plus c.args.at 1)) f _ (has_same e) ac c.address_after-next.ensures
+    rw (sym (only_same _ _ e) ∙ (sym c.requires.single ∙ c.in-None.is)) (c.going-in-None.ensures p (one (plus c.args.at 1)) f _ (has_same e) ac c.address_after-next.ensures
     (stored_words h e ac c.stored-put.ensures.same c.put_one-zero.ensures c.with_ac-cleared.ensures.same))
 
 pub with_ac-after-requires : goal.with_ac-after-requires

@@ -10,23 +10,19 @@ use Rattle.facts.proofs.registers.exchange.Goals as goal
 
 pub returns-in-3857 : goal.returns-in-3857
 returns-in-3857 c = λ o f is h.
-    let ac : SameWords (words c.narrowed-ac.result) (narrowed f Ac) = λ v lt. c.narrowed-ac.ensures v lt ∙ narrowed_agree h Ac v lt in
     exchange_is _ c.args.at c.args.word 3857 Mql o f (sym c.value.ensures.same ∙ c.in-3857.is) refl is
-    (c.take.ensures f (one 0) (narrowed f Ac) h (λ v lt. ap (λ (x : Words). x v) c.one-zero.ensures) ac)
+    (c.take.ensures f (one 0) (narrowed f Ac) h (λ v lt. ap (λ (x : Words). x v) c.one-zero.ensures) (λ v lt. c.narrowed-ac.ensures v lt ∙ narrowed_agree h Ac v lt))
 
 pub returns-in-3905 : goal.returns-in-3905
 returns-in-3905 c = λ o f is h.
     let ac : SameWords (words c.narrowed-ac.result) (narrowed f Ac) = λ v lt. c.narrowed-ac.ensures v lt ∙ narrowed_agree h Ac v lt in
-    let mq : SameWords (words c.args.state.now.mq.now) f.mq = h.mq in
-    let set : SameWords (words c.ors.result) (ors (narrowed f Ac) f.mq) = λ v lt. c.ors.ensures v lt ∙ ors_same ac mq v lt in
     exchange_is _ c.args.at c.args.word 3905 Mqa o f (sym c.value.ensures.same ∙ c.in-3905.is) refl is
-    (kept_mq _ c.args.at f (ors (narrowed f Ac) f.mq) (c.take-in-3905.ensures f (ors (narrowed f Ac) f.mq) f.mq h set mq))
+    (kept_mq _ c.args.at f (ors (narrowed f Ac) f.mq) (c.take-in-3905.ensures f (ors (narrowed f Ac) f.mq) f.mq h (λ v lt. c.ors.ensures v lt ∙ ors_same ac h.mq v lt) h.mq))
 
 pub returns-in-3921 : goal.returns-in-3921
 returns-in-3921 c = λ o f is h.
-    let ac : SameWords (words c.narrowed-ac.result) (narrowed f Ac) = λ v lt. c.narrowed-ac.ensures v lt ∙ narrowed_agree h Ac v lt in
     exchange_is _ c.args.at c.args.word 3921 Swp o f (sym c.value.ensures.same ∙ c.in-3921.is) refl is
-    (c.take-in-3921.ensures f f.mq (narrowed f Ac) h h.mq ac)
+    (c.take-in-3921.ensures f f.mq (narrowed f Ac) h h.mq (λ v lt. c.narrowed-ac.ensures v lt ∙ narrowed_agree h Ac v lt))
 
 pub returns-in-4033 : goal.returns-in-4033
 returns-in-4033 c = λ o f is h.

@@ -1,7 +1,6 @@
 use Rattle.std.proofs.Common.{ap, ◌∙◌}
-use Rattle.wordset.specs.Words.{Words, SameWords, SameLinks, images}
+use Rattle.wordset.specs.Words.{Words, SameWords, images}
 use Rattle.wordset.specs.Lanes.{words}
-use Rattle.wordset.specs.Links.{links_of}
 use Rattle.domain.specs.Facts.{narrowed, Ac}
 use Rattle.facts.specs.Outcomes.{operated1, ac_after, link_after}
 use Rattle.facts.proofs.PlaceLemmas.{images_same}
@@ -13,6 +12,6 @@ pub returns : goal.returns
 unfolding ac_after link_after
 returns c = λ f h.
     let ac : SameWords (words c.left_in-held.result.now) (narrowed f Ac) = λ v lt. c.left_in-held.ensures v lt ∙ narrowed_agree h Ac v lt in
-    let set : SameWords (words c.put_set-ac.result.now) (images (ac_after c.args.word) (narrowed f Ac) f.link) = λ v lt. ap (λ (x : Words). x v) c.put_set-ac.ensures ∙ c.map_operate-images.ensures.words v lt ∙ images_same (ac_after c.args.word) ac h.link v in
-    let links : SameLinks (links_of c.map_operate-images.result.1) (images (link_after c.args.word) (narrowed f Ac) f.link) = λ v lt. c.map_operate-images.ensures.links v lt ∙ images_same (link_after c.args.word) ac h.link v in
-    c.go_on.ensures f (operated1 c.args.word f) ac (agree_trans c.with_link-after.ensures (link_agree (c.related.ensures f _ h set) links))
+    c.go_on.ensures f (operated1 c.args.word f) ac (agree_trans c.with_link-after.ensures (link_agree
+    (c.related.ensures f (images (ac_after c.args.word) (narrowed f Ac) f.link) h (λ v lt. ap (λ (x : Words). x v) c.put_set-ac.ensures ∙ c.map_operate-images.ensures.words v lt ∙ images_same (ac_after c.args.word) ac h.link v))
+    (λ v lt. c.map_operate-images.ensures.links v lt ∙ images_same (link_after c.args.word) ac h.link v)))

@@ -1,8 +1,5 @@
 use Rattle.std.proofs.Common.{◌∙◌, sym, ap}
-use Rattle.std.specs.Prelude.{if◌then◌else◌}
-use Rattle.instruct.specs.Bits.{has_bit}
-use Rattle.wordset.specs.Words.{Words, SameWords, one, or_any}
-use Rattle.wordset.specs.Lanes.{words}
+use Rattle.wordset.specs.Words.{Words}
 use Rattle.domain.specs.Facts.{Ac}
 use Rattle.facts.proofs.PlaceLemmas.{or_any_same}
 use Rattle.facts.proofs.AgreeLemmas.{agree_trans}
@@ -12,8 +9,7 @@ use Rattle.facts.proofs.skipping.after_test.Goals as goal
 
 pub returns-then-reads_switches : goal.returns-then-reads_switches
 returns-then-reads_switches c = λ f p h e.
-    let set : SameWords (words c.put_switched.result.now) (or_any 4095 (if has_bit 7 c.args.word then one 0 else p)) = λ v lt. c.put_switched.ensures v lt ∙ or_any_same 4095 (kept_same c.args.word e) v lt in
-    rw (sym c.reads_switches.ensures ∙ c.if-reads_switches.true) (agree_trans c.with_ac.ensures.same (assigned_agree Ac h set))
+    rw (sym c.reads_switches.ensures ∙ c.if-reads_switches.true) (agree_trans c.with_ac.ensures.same (assigned_agree Ac h (λ v lt. c.put_switched.ensures v lt ∙ or_any_same 4095 (kept_same c.args.word e) v lt)))
 
 pub returns-then-clears : goal.returns-then-clears
 returns-then-clears c = λ f p h e. rw (sym c.reads_switches.ensures ∙ c.if-reads_switches.false, sym c.clears.ensures ∙ c.if-clears.true)

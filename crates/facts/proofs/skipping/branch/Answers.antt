@@ -7,8 +7,6 @@ use Rattle.processor.specs.Machine.{next_pc}
 use Rattle.domain.specs.Facts.{Ac, Fact, narrowed}
 use Rattle.domain.specs.Changes.{with_link}
 use Rattle.facts.specs.Outcomes.{alive, part2, related2}
-use Rattle.domain.specs.Same.{Agree}
-use Rattle.facts.specs.Knowing.{fact_of_state}
 use Rattle.facts.proofs.AgreeLemmas.{agree_trans, narrowed_agree}
 use Rattle.facts.proofs.ChangingLemmas.{link_agree}
 use Rattle.facts.proofs.Covers.{next_word}
@@ -24,8 +22,7 @@ returns c = λ f h.
     let part : SameWords (words c.put_part-part.result.now) (part2 c.args.word f c.args.link c.args.skip) =
     λ v lt. c.put_part-part.ensures v lt ∙ ap (λ b. b && (if skips_of c.args.word v c.args.link then c.args.skip else not c.args.skip)) (ac v lt) in
     let made : Fact = with_link (one c.args.link) (related2 c.args.word (part2 c.args.word f c.args.link c.args.skip) f) in
-    let after : Agree (fact_of_state c.with_link-linked.result) made =
-    agree_trans c.with_link-linked.ensures (link_agree (c.after_test-after.ensures f (part2 c.args.word f c.args.link c.args.skip) h part) c.one.ensures) in
     let on : f.link c.args.link ≡ true = sym (c.contains.ensures ∙ h.link c.args.link c.requires.link) ∙ c.if-not-contains.false in
     rw on (chosen_agrees _ _ (ap (λ b. b && alive everything f everything made) (c.has_some.ensures ∙ has_same part))
-    (c.going.ensures everything (one (next_pc c.args.at c.args.skip)) f made (has_one (next_word c.args.at c.args.skip) c.next_address-next.ensures) ac c.next_address-next.ensures after))
+    (c.going.ensures everything (one (next_pc c.args.at c.args.skip)) f made (has_one (next_word c.args.at c.args.skip) c.next_address-next.ensures) ac c.next_address-next.ensures
+    (agree_trans c.with_link-linked.ensures (link_agree (c.after_test-after.ensures f (part2 c.args.word f c.args.link c.args.skip) h part) c.one.ensures))))

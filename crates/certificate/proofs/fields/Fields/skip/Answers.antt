@@ -1,7 +1,7 @@
 use Rattle.std.proofs.lemmas.Bool.Decides.{Decides-eqb}
 use Rattle.std.proofs.lemmas.Slice.Eq.{strip_prefix_is}
 use Rattle.std.specs.Prelude.{Some, None}
-use Rattle.certificate.proofs.FieldsLemmas.{skipped, not_there}
+use Rattle.certificate.proofs.LineLemmas.{skipped, not_there}
 use Rattle.certificate.proofs.fields.Fields.skip.Goals as goal
 
 pub returns-in-Some-clause-read : goal.returns-in-Some-clause-read

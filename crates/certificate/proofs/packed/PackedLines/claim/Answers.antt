@@ -2,7 +2,7 @@ use Rattle.std.proofs.Common.{◌∙◌, List, ap, arith}
 use Rattle.certificate.specs.declared.packed.KeptLine.{KeptLine}
 use Rattle.certificate.specs.Packed.{lines_in}
 use Rattle.certificate.proofs.PutLemmas.{any_err}
-use Rattle.certificate.specs.Claimed.{claimed_line}
+use Rattle.certificate.specs.Adding.{claimed_line}
 use Rattle.certificate.proofs.PackedLemmas.{runs_added, line_added, all_within}
 use Rattle.certificate.proofs.FoundLemmas.{past_added}
 use Rattle.certificate.proofs.packed.PackedLines.claim.Goals as goal

@@ -1,13 +1,15 @@
 use Rattle.std.proofs.Common.{◌-◌, arith}
 use Rattle.std.proofs.lemmas.Bool.{false≢true}
+use Rattle.certificate.proofs.LengthLemmas.{feed_taken}
 use Rattle.certificate.proofs.ParserLemmas.{added, passed}
-use Rattle.certificate.proofs.ServedLemmas.{too_many}
+use Rattle.certificate.proofs.ServedLemmas.{full}
 use Rattle.certificate.proofs.parser.Parser.add.Goals as goal
 
 pub returns-then-bytes-self-clause-seen : goal.returns-then-bytes-self-clause-seen
 returns-then-bytes-self-clause-seen g c = λ before h e.
-    too_many c.args.self.now.kept h.text c.args.self.now.line.items before c.args.bytes.now c.args.self.now.progress c.args.self.now.is_long
-    (1048576 - c.args.self.now.count) h.parts c.requires.feed (let few = c.requires.small.count in omega (arith, few, e)) c.if-bytes-self.true
+    full c.args.self.now.kept h.text c.args.self.now.line.items before c.args.self.now.is_long c.args.self.now.progress h.parts
+    (1048576 - c.args.self.now.count) c.args.bytes.now (let few = c.requires.small.count in omega (arith, few, e)) c.if-bytes-self.true
+    (feed_taken (1048576 - c.args.self.now.count) c.args.bytes.now c.requires.feed)
 
 pub returns-in-Ok-clause-seen : goal.returns-in-Ok-clause-seen
 returns-in-Ok-clause-seen g c = λ before h e. record {

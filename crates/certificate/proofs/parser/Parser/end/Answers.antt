@@ -1,11 +1,11 @@
-use Rattle.std.proofs.Common.{arith}
-use Rattle.certificate.proofs.ParserLemmas.{one_too_many}
+use Rattle.std.proofs.Common.{[], ◌∷◌, arith}
+use Rattle.certificate.proofs.ServedLemmas.{full}
 use Rattle.certificate.proofs.parser.Parser.end.Goals as goal
 
 pub returns-then-self-eq-MOST_BYTES-clause-seen : goal.returns-then-self-eq-MOST_BYTES-clause-seen
 returns-then-self-eq-MOST_BYTES-clause-seen g c = λ bytes h e.
-    one_too_many c.args.self.now.kept h.text c.args.self.now.line.items bytes c.args.self.now.progress c.args.self.now.is_long 10
-    c.args.self.now.count h.parts c.if-self-eq-MOST_BYTES.true e
+    full c.args.self.now.kept h.text c.args.self.now.line.items bytes c.args.self.now.is_long c.args.self.now.progress h.parts 0 (10 ∷ [])
+    (omega (arith, c.if-self-eq-MOST_BYTES.true, e)) (omega arith) tt
 
 pub returns-in-None-clause-seen : goal.returns-in-None-clause-seen
 returns-in-None-clause-seen g c = λ bytes h e.

@@ -9,7 +9,7 @@ use Rattle.certificate.proofs.parser.Parser.end_next.Goals as goal
 pub returns-then-self-clause-seen : goal.returns-then-self-clause-seen
 returns-then-self-clause-seen g c = λ bytes h small.
     long_refused c.args.self.now.kept h.text c.args.self.now.line.items bytes c.args.self.now.progress c.args.progress c.args.self.now.is_long
-    c.number.result c.requires.next c.if-self.true h.parts small c.number.ensures
+    c.args.progress.number c.requires.next c.if-self.true h.parts small refl
 
 pub returns-in-Err-clause-seen : goal.returns-in-Err-clause-seen
 returns-in-Err-clause-seen g c = λ bytes h small.

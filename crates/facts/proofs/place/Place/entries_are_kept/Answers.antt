@@ -1,11 +1,8 @@
-use Rattle.std.proofs.Common.{◌≡◌, ◌∙◌, true, ℕ, refl, sym, ap}
+use Rattle.std.proofs.Common.{◌∙◌, refl, sym, ap}
 use Rattle.std.proofs.lemmas.Bool.{true≢false}
 use Rattle.wordset.specs.Words.{Words}
 use Rattle.wordset.specs.Lanes.{words}
-use Rattle.facts.specs.Conditions.{CountsItsReturn}
-use Rattle.facts.specs.Outcomes.{meaning_at}
 use Rattle.domain.specs.Meaning.{meaning}
-use Rattle.facts.specs.Places.{place_of}
 use Rattle.facts.proofs.AskedLemmas.{over, over_none}
 use Rattle.facts.proofs.EachLemmas.{one_fails, all_pass}
 use Rattle.facts.proofs.place.Place.entries_are_kept.Goals as goal
@@ -15,19 +12,13 @@ returns-then-not-is_writing g c = over_none _ _ (c.is_writing.ensures c.if-not-i
 
 pub returns-then-is_subset : goal.returns-then-is_subset
 returns-then-is_subset g c =
-    let pl = place_of c.args.self.now in
-    let P = λ (a : ℕ). pl.declaration.entry a ≡ true → CountsItsReturn pl (meaning c.args.fact.now) (meaning_at pl c.args.at c.args.word) a in
-    over _ _ P c.writes-written.ensures
+    over _ _ _ c.writes-written.ensures
     (λ t a lt w e. absurd (true≢false (sym (c.is_subset.ensures.0 c.if-is_subset.true a lt w) ∙ (ap (λ (x : Words). x a) c.variables.ensures ∙ c.is_declared.ensures.entry_not_variable a e))), λ q. refl)
 
 pub returns-then-not-keeps_entry : goal.returns-then-not-keeps_entry
 returns-then-not-keeps_entry g c =
-    let pl = place_of c.args.self.now in
-    let P = λ (a : ℕ). pl.declaration.entry a ≡ true → CountsItsReturn pl (meaning c.args.fact.now) (meaning_at pl c.args.at c.args.word) a in
-    over _ _ P c.writes-written.ensures (one_fails P (words c.writes-written.result) _ c.in-Some.ensures c.if-not-keeps_entry.true c.keeps_entry.ensures.1)
+    over _ _ _ c.writes-written.ensures (one_fails _ (words c.writes-written.result) _ c.in-Some.ensures c.if-not-keeps_entry.true c.keeps_entry.ensures.1)
 
 pub returns : goal.returns
 returns g c =
-    let pl = place_of c.args.self.now in
-    let P = λ (a : ℕ). pl.declaration.entry a ≡ true → CountsItsReturn pl (meaning c.args.fact.now) (meaning_at pl c.args.at c.args.word) a in
-    over _ _ P c.writes-written.ensures (λ t. all_pass P (words c.writes-written.result) c.in_default.ensures c.loop-cell.invariant, λ q. refl)
+    over _ _ _ c.writes-written.ensures (λ t. all_pass _ (words c.writes-written.result) c.in_default.ensures c.loop-cell.invariant, λ q. refl)

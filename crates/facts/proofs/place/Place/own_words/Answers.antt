@@ -1,14 +1,15 @@
-use Rattle.std.proofs.Common.{◌∙◌, ap, arith}
+use Rattle.std.proofs.Common.{◌∙◌, ap, sym, arith}
 use Rattle.std.specs.Prelude.{◌||◌}
 use Rattle.wordset.specs.Words.{Words, shifted}
 use Rattle.wordset.specs.Lanes.{words}
 use Rattle.domain.specs.Meaning.{offsets_of}
 use Rattle.facts.specs.Knowing.{fact_of_state}
-use Rattle.facts.proofs.PlaceLemmas.{some_none, some_step, own_end, and_both}
+use Rattle.wordset.proofs.Tests.{some_none}
+use Rattle.facts.proofs.PlaceLemmas.{some_step, own_end, and_both}
 use Rattle.facts.proofs.place.Place.own_words.Goals as goal
 
 pub loop-o-init : goal.loop-o-init
-loop-o-init g c = λ v h. ap (λ (s : Words). s v) c.empty.ensures ∙ some_none _
+loop-o-init g c = λ v h. ap (λ (s : Words). s v) c.empty.ensures ∙ sym (some_none _)
 
 pub loop-o-preserved : goal.loop-o-preserved
 loop-o-preserved g c = λ v h. some_step c.loop-o.o _ (words c.loop-o.place v) (words c.add_shifted_if.new.set v) (c.loop-o.invariant v h)

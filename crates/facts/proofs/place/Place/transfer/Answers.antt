@@ -1,4 +1,4 @@
-use Rattle.std.proofs.Common.{◌≡◌, ◌∙◌, ap, Some, None}
+use Rattle.std.proofs.Common.{◌∙◌, ap}
 use Rattle.instruct.specs.Devices.{device_operation}
 use Rattle.facts.specs.Places.{place_of}
 use Rattle.facts.proofs.DispatchLemmas.{by_device, by_no_device}
@@ -6,13 +6,9 @@ use Rattle.facts.proofs.place.Place.transfer.Goals as goal
 
 pub returns-in-Some : goal.returns-in-Some
 returns-in-Some g c = λ f h.
-    let of : Some c.in-Some.operation ≡ device_operation (place_of c.args.self.now).declaration.profile c.args.word =
-    c.in-Some.ensures.exact ∙ ap (λ p. device_operation p c.args.word) c.profile.ensures in
-    by_device _ (place_of c.args.self.now) f c.args.at c.args.word c.in-Some.operation c.requires.kind of
+    by_device _ (place_of c.args.self.now) f c.args.at c.args.word c.in-Some.operation c.requires.kind (c.in-Some.ensures.exact ∙ ap (λ p. device_operation p c.args.word) c.profile.ensures)
     (c.two.ensures _ (c.transfer.ensures f h))
 
 pub returns-in-None : goal.returns-in-None
 returns-in-None g c = λ f h.
-    let of : None ≡ device_operation (place_of c.args.self.now).declaration.profile c.args.word =
-    c.in-None.ensures.exact ∙ ap (λ p. device_operation p c.args.word) c.profile.ensures in
-    by_no_device _ (place_of c.args.self.now) f c.args.at c.args.word c.requires.kind of
+    by_no_device _ (place_of c.args.self.now) f c.args.at c.args.word c.requires.kind (c.in-None.ensures.exact ∙ ap (λ p. device_operation p c.args.word) c.profile.ensures)

@@ -1,6 +1,5 @@
 use Rattle.std.proofs.Common.{arith}
-use Rattle.facts.proofs.EntailLemmas.{not_both}
-use Rattle.facts.proofs.EntailLemmas.{each_step, each_fails}
+use Rattle.facts.proofs.EntailLemmas.{not_both, each_step, each_fails}
 use Rattle.facts.proofs.state.AbstractState.is_each_within.Goals as goal
 
 pub returns-then-not-is_within : goal.returns-then-not-is_within

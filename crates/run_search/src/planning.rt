@@ -1,0 +1,198 @@
+//! What to run next: a long run from the start, a hint, or a run from a kept state with other inputs.
+
+use crate::asking::Ask;
+use crate::plan::{Plan, Purpose};
+use crate::running::Input;
+use crate::search::RunSearch;
+use peripherals::NoMemory;
+use std::alloc::Allocator;
+
+/// The most inputs in which a change is tried.
+const MOST_CHANGED: usize = 400;
+
+impl<A: Allocator + Copy> RunSearch<A> {
+    /// What to run next: a quarter of all steps go to long runs from the start, the others to runs from
+    /// kept states.
+    pub(crate) fn next_plan(&mut self) -> Result<Plan<A>, NoMemory> {
+        if self.clock == self.begun && self.record.runs > 0 {
+            self.clock = self.clock.saturating_add(1);
+        }
+        self.begun = self.clock;
+        self.record.begins();
+        if self.roamed / 3 <= self.clock.saturating_sub(self.roamed) {
+            return self.plan_roaming();
+        }
+        if self.clock > self.lesson {
+            self.lesson = self.clock.saturating_add(self.clock / 4);
+            self.aims.votes.teach(&mut self.alphabet)?;
+        }
+        self.plan()
+    }
+
+    /// A long run from the start, mostly with the same few inputs.
+    fn plan_roaming(&mut self) -> Result<Plan<A>, NoMemory> {
+        let given = Vec::new(self.alloc);
+        let mut plan = Plan::of(self.alloc, Purpose::Roam, 0, given);
+        plan.more = 20usize << (self.random.below(8) & 7);
+        if !self.random.once_in(3) {
+            plan.few = self.alphabet.few(self.alloc, &mut self.random)?;
+        }
+        Ok(plan)
+    }
+
+    /// What to try next: a hint that came nearer, another hint, or a run from a kept state.
+    fn plan(&mut self) -> Result<Plan<A>, NoMemory> {
+        if !self.random.once_in(4) {
+            if let Some(hint) = self.aims.hints.pop_nearer() {
+                return Ok(Plan::by_hint(self.alloc, hint, 1));
+            }
+        }
+        if self.random.once_in(2) {
+            if let Some(hint) = self.aims.hints.pop(&mut self.random) {
+                let more = self.random.below(3);
+                return Ok(Plan::by_hint(self.alloc, hint, more));
+            }
+        }
+        self.plan_growing()
+    }
+
+    /// A run from a kept state.
+    fn plan_growing(&mut self) -> Result<Plan<A>, NoMemory> {
+        let state = self.tree.pick(&mut self.random);
+        let mut plan = if state != 0 && self.random.once_in(3) {
+            self.plan_changed(state)?
+        } else {
+            self.plan_next(state)?
+        };
+        match self.random.below(4) {
+            0 => plan.few = self.alphabet.few(self.alloc, &mut self.random)?,
+            1 => self.repeat(&mut plan, state)?,
+            _ => {}
+        }
+        plan.more = self.how_many_more(plan.in_turn);
+        Ok(plan)
+    }
+
+    /// How many inputs come behind those that are given: mostly a few.
+    fn how_many_more(&mut self, in_turn: bool) -> usize {
+        match self.random.below(8) {
+            0 | 1 | 2 | 3 => self.random.below(3),
+            4 | 5 => self.random.below(8),
+            6 => self.random.below(32),
+            _ if in_turn => self.random.below(600),
+            _ => self.random.below(100),
+        }
+    }
+
+    /// A run from a kept state with one input: each byte in turn, and every other time one by chance.
+    fn plan_next(&mut self, state: usize) -> Result<Plan<A>, NoMemory> {
+        let tries = self.tree.tries(state);
+        let ask = self.tree.ask(state);
+        let mask: usize = match ask {
+            Ask::Key | Ask::Frame => 0o377,
+            Ask::Switches => 0o7777,
+        };
+        let value = if tries & 1 == 0 && tries / 2 <= mask {
+            let turn = (tries / 2)
+                .wrapping_mul(167)
+                .wrapping_add(state.wrapping_mul(61));
+            (turn & mask & 0o7777) as u16
+        } else {
+            self.alphabet.value(&mut self.random, ask)
+        };
+        let mut given = Vec::new(self.alloc);
+        given.push(value).map_err(|_| NoMemory)?;
+        Ok(Plan::of(self.alloc, Purpose::Grow, state, given))
+    }
+
+    /// A run in which some of the last inputs before a kept state are others.
+    fn plan_changed(&mut self, state: usize) -> Result<Plan<A>, NoMemory> {
+        let least = 1 + self.random.below(12);
+        let tail = self.tree.tail(state, least)?;
+        if tail.inputs.len() >= MOST_CHANGED {
+            return self.plan_next(state);
+        }
+        let ask = self.tree.ask(state);
+        let mut given = values(self.alloc, &tail.inputs)?;
+        self.change(&mut given, ask)?;
+        if self.random.once_in(2) {
+            self.change(&mut given, ask)?;
+        }
+        Ok(Plan::of(self.alloc, Purpose::Grow, tail.base, given))
+    }
+
+    /// Changes one of some inputs, takes it out, or puts one in.
+    fn change(&mut self, inputs: &mut Vec<u16, A>, ask: Ask) -> Result<(), NoMemory> {
+        let value = self.alphabet.value(&mut self.random, ask);
+        let place = self.random.below(inputs.len().saturating_add(1));
+        let kind = self.random.below(5);
+        if kind == 2 && place < inputs.len() {
+            inputs.remove(place);
+            return Ok(());
+        }
+        if let Some(input) = inputs.get_mut(place) {
+            if kind == 4 {
+                let off = (self.random.below(8) & 7) as u16;
+                *input = moved(*input, off, self.random.once_in(2));
+                return Ok(());
+            }
+            if kind < 2 {
+                *input = value;
+                return Ok(());
+            }
+        }
+        if place <= inputs.len() {
+            inputs.insert(place, value).map_err(|_| NoMemory)?;
+        }
+        Ok(())
+    }
+
+    /// Lets a run repeat one input, or the last few inputs before a kept state.
+    fn repeat(&mut self, plan: &mut Plan<A>, state: usize) -> Result<(), NoMemory> {
+        plan.in_turn = true;
+        if self.random.once_in(2) {
+            let count = 1 + self.random.below(5);
+            let tail = self.tree.tail(state, count)?;
+            plan.base = state;
+            plan.given.clear();
+            for input in tail
+                .inputs
+                .iter()
+                .skip(tail.inputs.len().saturating_sub(count))
+            {
+                plan.few.push(input.value).map_err(|_| NoMemory)?;
+            }
+        }
+        if plan.few.is_empty() {
+            let ask = self.tree.ask(state);
+            let any = self.alphabet.value(&mut self.random, ask);
+            let last = plan.given.last().copied();
+            let value = if self.random.once_in(2) {
+                any
+            } else {
+                last.unwrap_or(any)
+            };
+            plan.few.push(value).map_err(|_| NoMemory)?;
+        }
+        Ok(())
+    }
+}
+
+/// The values of some inputs.
+fn values<A: Allocator>(alloc: A, inputs: &[Input]) -> Result<Vec<u16, A>, NoMemory> {
+    let mut values = Vec::new(alloc);
+    for input in inputs {
+        values.push(input.value).map_err(|_| NoMemory)?;
+    }
+    Ok(values)
+}
+
+/// A value that is 1 to 8 greater or less.
+fn moved(value: u16, off: u16, is_less: bool) -> u16 {
+    let moved = if is_less {
+        value.wrapping_sub(off).wrapping_sub(1)
+    } else {
+        value.wrapping_add(off).wrapping_add(1)
+    };
+    moved & 0o7777
+}

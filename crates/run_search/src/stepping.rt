@@ -1,0 +1,299 @@
+//! One step of a run: what it asks for is given, devices get done, and what is new is noted.
+
+ghost use Rattle.std.specs.Prelude.{◌≡◌, ◌≤◌};
+ghost use Rattle.declaration.specs.Kept.{meaning};
+ghost use Rattle.peripherals.specs.World.{profile_of};
+
+use crate::aiming::Miss;
+use crate::asking::Ask;
+use crate::looks::Look;
+use crate::plan::{Plan, Purpose};
+use crate::record::Sight;
+use crate::running::{Input, Progress, Run};
+use crate::search::{DeclaredProgram, RunSearch, Trial};
+use crate::tree::Tail;
+use instruct::target;
+use peripherals::NoMemory;
+use policy::Watcher;
+use processor::effective_address;
+use std::alloc::Allocator;
+use turns::Turns;
+use word12::Word;
+
+/// What is seen before a step.
+#[derive(Clone, Copy)]
+struct Glance {
+    at: Word,
+    ac: Word,
+    look: Look,
+    /// The address that an indirect reference uses, or the cell that a direct one stores in.
+    place: Word,
+}
+
+impl<A: Allocator + Copy> RunSearch<A> {
+    /// Makes the next step of a run, for which all may be prepared.
+    #[inline(always)]
+    pub(crate) fn advance<D: Allocator>(
+        &mut self,
+        program: &DeclaredProgram<'_, D>,
+        trial: &mut Trial<A>,
+        is_prepared: bool,
+        turns: &mut Turns,
+    ) -> Result<Progress, NoMemory>
+        requires profile { profile_of trial.old.watcher.world
+            ≡ (meaning program.now.declaration.now).profile }
+        ensures profile { profile_of trial.new.watcher.world
+            ≡ (meaning program.now.declaration.now).profile }
+        ensures limit { turns.new.limit ≡ turns.old.limit }
+        ensures rises { turns.old.spent ≤ turns.new.spent }
+        ensures within { turns.new.spent ≤ turns.new.limit }
+    {
+        turns.are_within();
+        let glance = self.glance(&trial.watcher);
+        if !is_prepared && !self.prepare(program, trial, glance.look)? {
+            return Ok(Progress::Over);
+        }
+        if self.records {
+            return self.step_recorded(program, trial, turns);
+        }
+        self.step(program, trial, &glance, turns)
+    }
+
+    /// Gives what the next step asks for, and lets devices get done. False where the run is over.
+    #[inline(always)]
+    fn prepare<D: Allocator>(
+        &mut self,
+        program: &DeclaredProgram<'_, D>,
+        trial: &mut Trial<A>,
+        look: Look,
+    ) -> Result<bool, NoMemory>
+        requires profile { profile_of trial.old.watcher.world
+            ≡ (meaning program.now.declaration.now).profile }
+        ensures profile { profile_of trial.new.watcher.world
+            ≡ (meaning program.now.declaration.now).profile }
+    {
+        if let Look::Asks(ask) = look {
+            if !self.answer(program, trial, ask)? {
+                return Ok(false);
+            }
+        }
+        let Trial { watcher, run, .. } = trial;
+        run.complete(watcher, program.declaration, &mut self.random)?;
+        Ok(true)
+    }
+
+    /// Gives what the next step asks for, if it comes now. False where the run is over.
+    #[inline(never)]
+    fn answer<D: Allocator>(
+        &mut self,
+        program: &DeclaredProgram<'_, D>,
+        trial: &mut Trial<A>,
+        ask: Ask,
+    ) -> Result<bool, NoMemory>
+        requires profile { profile_of trial.old.watcher.world
+            ≡ (meaning program.now.declaration.now).profile }
+        ensures profile { profile_of trial.new.watcher.world
+            ≡ (meaning program.now.declaration.now).profile }
+    {
+        let Trial {
+            watcher,
+            run,
+            plan,
+            ..
+        } = trial;
+        if !self.comes(watcher, run, plan, ask) {
+            return Ok(true);
+        }
+        self.keep(watcher, run, ask)?;
+        if !run.is_asked() {
+            return Ok(false);
+        }
+        let number = run.inputs.len();
+        let Some(value) = plan.input(number, ask, &self.alphabet, &mut self.random) else {
+            return Ok(false);
+        };
+        run.pace.gave_input(&mut self.random);
+        run.answer(watcher, program.declaration, Input { ask, value })?;
+        Ok(true)
+    }
+
+    /// Whether an input that the next step asks for comes now.
+    fn comes(&mut self, watcher: &Watcher<A>, run: &mut Run<A>, plan: &Plan<A>, ask: Ask) -> bool {
+        if !ask.is_wanted(&watcher.world().panel()) {
+            return false;
+        }
+        if matches!(ask, Ask::Switches) {
+            return true;
+        }
+        let looks_away = plan.purpose == Purpose::Roam && self.random.once_in(8);
+        run.pace.gives_input() && !looks_away
+    }
+
+    /// Keeps the state in which an input is asked for, if something new was seen.
+    fn keep(&mut self, watcher: &Watcher<A>, run: &mut Run<A>, ask: Ask) -> Result<(), NoMemory> {
+        if !run.news.is_any || !run.has_asked || !self.tree.has_room() || !run.extent.is_short() {
+            return Ok(());
+        }
+        let place = if run.news.is_step {
+            None
+        } else {
+            Some(run.news.place)
+        };
+        let mut inputs = Vec::new(self.alloc);
+        for input in run.inputs.iter().skip(run.before_base) {
+            inputs.push(*input).map_err(|_| NoMemory)?;
+        }
+        let tail = Tail {
+            base: run.base,
+            inputs,
+        };
+        let script = run.take_script(self.alloc);
+        run.before_base = run.inputs.len();
+        run.base = self
+            .tree
+            .keep(watcher, tail, script, run.extent, ask, place)?;
+        Ok(())
+    }
+
+    /// What is to be seen before the next step of a machine that is watched.
+    #[inline(always)]
+    fn glance(&self, watcher: &Watcher<A>) -> Glance {
+        let cpu = watcher.world().cpu();
+        let word = cpu.memory.get(cpu.pc);
+        let look = self.looks[word.index()];
+        let place = match look {
+            Look::Address => effective_address(&cpu.memory, word, cpu.pc),
+            Look::Stored => target(word, cpu.pc),
+            _ => Word::ZERO,
+        };
+        Glance {
+            at: cpu.pc,
+            ac: cpu.ac,
+            look,
+            place,
+        }
+    }
+
+    /// Makes a step, and notes what is new.
+    #[inline(always)]
+    fn step<D: Allocator>(
+        &mut self,
+        program: &DeclaredProgram<'_, D>,
+        trial: &mut Trial<A>,
+        glance: &Glance,
+        turns: &mut Turns,
+    ) -> Result<Progress, NoMemory>
+        requires profile { profile_of trial.old.watcher.world
+            ≡ (meaning program.now.declaration.now).profile }
+        ensures profile { profile_of trial.new.watcher.world
+            ≡ (meaning program.now.declaration.now).profile }
+        ensures limit { turns.new.limit ≡ turns.old.limit }
+        ensures rises { turns.old.spent ≤ turns.new.spent }
+        ensures within { turns.new.spent ≤ turns.new.limit }
+    {
+        let progress = trial
+            .run
+            .step(&mut trial.watcher, program.declaration, turns)?;
+        if progress == Progress::GoesOn && trial.plan.purpose != Purpose::Repeat {
+            self.note(&trial.watcher, &mut trial.run, &trial.plan, glance)?;
+        }
+        Ok(progress)
+    }
+
+    /// The same, and records what the step does, if it's made.
+    #[inline(never)]
+    fn step_recorded<D: Allocator>(
+        &mut self,
+        program: &DeclaredProgram<'_, D>,
+        trial: &mut Trial<A>,
+        turns: &mut Turns,
+    ) -> Result<Progress, NoMemory>
+        requires profile { profile_of trial.old.watcher.world
+            ≡ (meaning program.now.declaration.now).profile }
+        ensures profile { profile_of trial.new.watcher.world
+            ≡ (meaning program.now.declaration.now).profile }
+        ensures limit { turns.new.limit ≡ turns.old.limit }
+        ensures rises { turns.old.spent ≤ turns.new.spent }
+        ensures within { turns.new.spent ≤ turns.new.limit }
+    {
+        let sight = Sight::of(&trial.watcher);
+        let glance = self.glance(&trial.watcher);
+        let before = turns.spent();
+        let progress = self.step(program, trial, &glance, turns)?;
+        let is_made = turns.spent() != before && progress != Progress::Broken;
+        if is_made && trial.plan.purpose != Purpose::Repeat {
+            self.record.makes(&sight);
+        }
+        Ok(progress)
+    }
+
+    /// Notes what is new after a step.
+    #[inline(always)]
+    fn note(
+        &mut self,
+        watcher: &Watcher<A>,
+        run: &mut Run<A>,
+        plan: &Plan<A>,
+        glance: &Glance,
+    ) -> Result<(), NoMemory> {
+        let cpu = watcher.world().cpu();
+        if self.seen.sees_step(glance.at, cpu.pc) {
+            run.news.is_any = true;
+            run.news.is_step = true;
+            run.sees_new();
+        }
+        match glance.look {
+            Look::Nothing | Look::Asks(_) => {}
+            Look::Address => self.note_value(run, glance.at, glance.place),
+            Look::Stored => {
+                self.note_value(run, glance.at, cpu.memory.get(glance.place));
+                run.stirs();
+            }
+            Look::Zero | Look::Sign => {
+                if glance.ac != Word::ZERO {
+                    let miss = Miss {
+                        at: glance.at,
+                        ac: glance.ac.value(),
+                        is_for_zero: glance.look == Look::Zero,
+                    };
+                    self.note_miss(run, plan, miss)?;
+                }
+            }
+        }
+        Ok(())
+    }
+
+    /// Notes an address that was used or a word that was stored.
+    fn note_value(&mut self, run: &mut Run<A>, at: Word, value: Word) {
+        if self.seen.sees_value(at, value) {
+            if !run.news.is_any || self.seen.count(at) < self.seen.count(run.news.place) {
+                run.news.place = at;
+            }
+            run.news.is_any = true;
+            run.sees_new();
+        }
+    }
+
+    /// Notes a test that failed.
+    #[inline(never)]
+    fn note_miss(&mut self, run: &mut Run<A>, plan: &Plan<A>, miss: Miss) -> Result<(), NoMemory> {
+        if self.seen.sees_distance(miss.at, miss.distance()) {
+            if !run.news.is_any {
+                run.news.place = miss.at;
+            }
+            run.news.is_any = true;
+        }
+        if !miss.hints() {
+            return Ok(());
+        }
+        let goal = plan.goal;
+        self.aims.miss(
+            &self.tree,
+            run,
+            miss,
+            goal,
+            &mut self.alphabet,
+            &mut self.random,
+        )
+    }
+}

@@ -133,12 +133,10 @@ impl<A: Allocator> Place<'_, A> {
         if written.is_subset(self.declaration.variables()) {
             return true;
         }
-        let mut next = 0usize;
-        while let Some(cell) = written.first_from(next) {
+        for cell in written.iter() {
             if !self.keeps_entry(fact, at, word, cell) {
                 return false;
             }
-            next = cell.index() + 1;
         }
         true
     }

@@ -134,12 +134,10 @@ impl<A: Allocator> Place<'_, A> {
         if cells.is_subset(self.declaration.variables()) {
             return true;
         }
-        let mut next = 0usize;
-        while let Some(cell) = cells.first_from(next) {
+        for cell in cells.iter() {
             if !self.is_declared(cell) {
                 return false;
             }
-            next = cell.index() + 1;
         }
         true
     }

@@ -1,10 +1,9 @@
 use Rattle.std.proofs.Common.{◌∙◌, refl, sym, ap}
 use Rattle.std.proofs.lemmas.Bool.{true≢false}
 use Rattle.wordset.specs.Words.{Words}
-use Rattle.wordset.specs.Lanes.{words}
+use Rattle.wordset.proofs.IterLemmas.{of_set, one_fails, all_pass}
 use Rattle.domain.specs.Meaning.{meaning}
 use Rattle.facts.proofs.AskedLemmas.{over, over_none}
-use Rattle.facts.proofs.EachLemmas.{one_fails, all_pass}
 use Rattle.facts.proofs.place.Place.entries_are_kept.Goals as goal
 
 pub returns-then-not-is_writing : goal.returns-then-not-is_writing
@@ -17,8 +16,8 @@ returns-then-is_subset g c =
 
 pub returns-then-not-keeps_entry : goal.returns-then-not-keeps_entry
 returns-then-not-keeps_entry g c =
-    over _ _ _ c.writes-written.ensures (one_fails _ (words c.writes-written.result) _ c.in-Some.ensures c.if-not-keeps_entry.true c.keeps_entry.ensures.1)
+    over _ _ _ c.writes-written.ensures (one_fails _ (of_set c.iter-cell-items.ensures c.into_iter-cell-iterator.ensures.into_iter_gives c.loop-cell.invariant) c.in-Some.ensures.steps c.if-not-keeps_entry.true c.keeps_entry.ensures.1)
 
 pub returns : goal.returns
 returns g c =
-    over _ _ _ c.writes-written.ensures (λ t. all_pass _ (words c.writes-written.result) c.in_default.ensures c.loop-cell.invariant, λ q. refl)
+    over _ _ _ c.writes-written.ensures (λ t. all_pass (of_set c.iter-cell-items.ensures c.into_iter-cell-iterator.ensures.into_iter_gives c.loop-cell.invariant) c.in-None.ensures.steps, λ q. refl)

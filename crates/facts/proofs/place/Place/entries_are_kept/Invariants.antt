@@ -1,5 +1,6 @@
-use Rattle.std.proofs.Common.{◌≡◌, ℕ, ◌<◌, ◌-◌, true}
+use Rattle.std.proofs.Common.{◌≡◌, true}
 use Rattle.wordset.specs.Lanes.{words}
+use Rattle.wordset.proofs.IterLemmas.{Passed}
 use Rattle.facts.specs.Conditions.{CountsItsReturn}
 use Rattle.facts.specs.Outcomes.{meaning_at}
 use Rattle.domain.specs.Meaning.{meaning}
@@ -7,8 +8,5 @@ use Rattle.facts.specs.Places.{place_of}
 use Rattle.facts.proofs.place.Place.entries_are_kept.Given as goal
 
 abbrev pub invariant-loop-cell : goal.invariant-loop-cell
-invariant-loop-cell g l = (a : ℕ) → a < l.next → words l.written a ≡ true → (place_of l.self).declaration.entry a ≡ true →
-    CountsItsReturn (place_of l.self) (meaning l.fact) (meaning_at (place_of l.self) l.at l.word) a
-
-abbrev pub decreases-loop-cell : goal.decreases-loop-cell
-decreases-loop-cell g l = 4096 - l.next
+invariant-loop-cell g l =
+    Passed (λ a. (place_of l.self).declaration.entry a ≡ true → CountsItsReturn (place_of l.self) (meaning l.fact) (meaning_at (place_of l.self) l.at l.word) a) (words l.initial.cell-iterator.set.now) l.cell-iterator

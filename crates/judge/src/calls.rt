@@ -106,12 +106,10 @@ impl<A: Allocator, C: Claims> ProgramPoint<'_, A, C> {
             self.now.at) }
     {
         let callees = self.place.calls(self.fact, self.at, word);
-        let mut next = 0usize;
-        while let Some(entry) = callees.first_from(next) {
+        for entry in callees.iter() {
             if !self.callee_passes(condition, entry, others) {
                 return false;
             }
-            next = entry.index() + 1;
         }
         true
     }

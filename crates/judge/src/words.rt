@@ -172,12 +172,10 @@ impl<A: Allocator, C: Claims> ProgramPoint<'_, A, C> {
         ensures { IsTrue result ↔ HoldsForEach (case_of C.claims self.now) condition self.now.at }
     {
         self.place.declaration.is_declared();
-        let mut next = 0usize;
-        while let Some(word) = possible.first_from(next) {
+        for word in possible.iter() {
             if !self.holds_for(condition, word, others) {
                 return false;
             }
-            next = word.index() + 1;
         }
         true
     }

@@ -1,11 +1,7 @@
-use Rattle.std.proofs.Common.{◌≡◌, ◌<◌, ◌-◌, ℕ, true}
 use Rattle.wordset.specs.Lanes.{words}
+use Rattle.wordset.proofs.IterLemmas.{Passed}
 use Rattle.judge.specs.Spots.{HoldsHere}
 use Rattle.judge.proofs.point.ProgramPoint.holds_for_each.Given as goal
 
 abbrev pub invariant-loop-word : goal.invariant-loop-word
-invariant-loop-word g l =
-    (w : ℕ) → w < l.next → words l.possible w ≡ true → HoldsHere g.C.Claims.claims l.self l.condition w
-
-abbrev pub decreases-loop-word : goal.decreases-loop-word
-decreases-loop-word g l = 4096 - l.next
+invariant-loop-word g l = Passed (HoldsHere g.C.Claims.claims l.self l.condition) (words l.possible) l.word-iterator

@@ -35,12 +35,10 @@ impl<A: Allocator, C: Claims> ProgramPoint<'_, A, C> {
         ensures none { IfNone result (KeepsCallsHere C.claims self.now condition word) }
     {
         let callees = self.place.calls(self.fact, self.at, word);
-        let mut next = 0usize;
-        while let Some(entry) = callees.first_from(next) {
+        for entry in callees.iter() {
             if let Some(breach) = self.call_breaks(condition, entry) {
                 return Some(Breach::Calls(entry, breach));
             }
-            next = entry.index() + 1;
         }
         None
     }

@@ -68,12 +68,10 @@ impl<A: Allocator, C: Claims> ProgramPoint<'_, A, C> {
             ArrivesHere C.claims self.now (here self.now).routine a (fact_of_state known.now)) }
     {
         let owner = self.owner();
-        let mut next = 0usize;
-        while let Some(at) = addresses.first_from(next) {
+        for at in addresses.iter() {
             if let Some(landing) = self.misses(&owner, at, known) {
                 return Some((at, landing));
             }
-            next = at.index() + 1;
         }
         None
     }

@@ -131,12 +131,10 @@ impl<A: Allocator, C: Claims> ProgramPoint<'_, A, C> {
         ensures found { IfSome result (IsWrongHere C.claims self.now condition) }
         ensures none { IfNone result (EachKeepsHere C.claims self.now condition) }
     {
-        let mut next = 0usize;
-        while let Some(word) = possible.first_from(next) {
+        for word in possible.iter() {
             if let Some(breach) = self.breach(condition, word) {
                 return Some(Reason::ByWord(word, breach));
             }
-            next = word.index() + 1;
         }
         None
     }

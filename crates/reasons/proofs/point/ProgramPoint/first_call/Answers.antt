@@ -1,13 +1,12 @@
 use Rattle.std.proofs.Common.{◌∙◌}
-use Rattle.wordset.specs.Lanes.{words}
-use Rattle.facts.proofs.EachLemmas.{one_more, all_pass}
+use Rattle.wordset.proofs.IterLemmas.{of_set, one_more, all_pass}
 use Rattle.reasons.specs.Keeping.{KeepsCallHere}
 use Rattle.reasons.proofs.point.ProgramPoint.first_call.Goals as goal
 
 pub loop-entry-preserved : goal.loop-entry-preserved
-loop-entry-preserved g c =
-    one_more (KeepsCallHere g.C.Claims.claims c.args.self.now c.args.condition) (words c.calls-callees.result) _ c.in-Some.ensures c.index-next.ensures.same c.in_default-call_breaks.ensures.none c.loop-entry.invariant
+loop-entry-preserved g c = one_more {p = KeepsCallHere g.C.Claims.claims c.args.self.now c.args.condition} c.loop-entry.invariant c.in-Some.ensures.steps c.in_default.ensures.none
 
 pub returns-clause-none : goal.returns-clause-none
 returns-clause-none g c = λ e lt is.
-    all_pass (KeepsCallHere g.C.Claims.claims c.args.self.now c.args.condition) (words c.calls-callees.result) c.in_default.ensures c.loop-entry.invariant e lt (c.calls-callees.ensures e lt ∙ is)
+    let p = KeepsCallHere g.C.Claims.claims c.args.self.now c.args.condition in
+    all_pass {p = p} (of_set {p = p} c.iter-entry-items.ensures c.into_iter-entry-iterator.ensures.into_iter_gives c.loop-entry.invariant) c.in-None.ensures.steps e lt (c.calls-callees.ensures e lt ∙ is)

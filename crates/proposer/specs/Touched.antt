@@ -62,11 +62,6 @@ pub record IsTouchedBy (access : Access) (pl : Place) (f : Fact) (at cell : ℕ)
   pub is_possible : possible pl f at word ≡ true
   pub touched : touches access pl f (meaning_at pl at word) cell ≡ true
 
--- All that this word may do it to is among these cells.
-abbrev pub HasTouched : Access → Place → Fact → ℕ → Words → ℕ → Type 0
-HasTouched access pl f at cells word =
-    (cell : ℕ) → cell < 4096 → touches access pl f (meaning_at pl at word) cell ≡ true → cells cell ≡ true
-
 -- The fact at the address is in the body of main or of a routine that has a line, a word is possible there that may do it
 -- to the cell, and that isn't the routine's own entry.
 pub record IsTouchedFrom (access : Access) (j : Case) (at cell : ℕ) : Type 0 where

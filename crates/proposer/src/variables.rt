@@ -124,10 +124,8 @@ fn touched_at<D: Allocator>(access: Access, fact: &Fact, at: Word, place: &Place
 {
     let possible = place.possible_words(fact, at);
     let mut cells = WordSet::empty();
-    let mut next = 0usize;
-    while let Some(word) = possible.first_from(next) {
+    for word in possible.iter() {
         cells = cells.union(&access.cells(fact, at, word, place));
-        next = word.index() + 1;
     }
     cells
 }

@@ -1,38 +1,22 @@
-use Rattle.std.proofs.Common.{sym, ◌∙◌}
+use Rattle.std.proofs.Common.{refl, ap, ◌∙◌}
+use Rattle.std.specs.Prelude.{◌||◌}
+use Rattle.wordset.specs.Words.{Words}
 use Rattle.wordset.specs.Lanes.{words}
+use Rattle.wordset.proofs.IterLemmas.{none_gathered, image_gathered}
+use Rattle.wordset.specs.declared.iter.Iter.{Iter}
 use Rattle.domain.specs.Meaning.{meaning}
 use Rattle.facts.specs.Places.{place_of}
-use Rattle.facts.proofs.EachLemmas.{one_more, all_pass}
-use Rattle.proposer.specs.Touched.{HasTouched, IsTouchedBy}
-use Rattle.proposer.proofs.TouchLemmas.{first_of, in_either, second_of}
+use Rattle.proposer.proofs.TouchLemmas.{touched_by}
 use Rattle.proposer.proofs.variables.touched_at.Goals as goal
+
+pub loop-word-init : goal.loop-word-init
+loop-word-init g c =
+    none_gathered (record { set = refl; next = ap (λ (i : Iter). i.next) c.into_iter-word-iterator.ensures.into_iter_gives ∙ c.iter-word-items.ensures.next }) refl (λ cell lt. ap (λ (s : Words). s cell) c.empty-cells.ensures)
 
 pub loop-word-preserved : goal.loop-word-preserved
 loop-word-preserved g c =
-    let pl = place_of c.args.place.now in
-    let f = meaning c.args.fact.now in
-    let both = words c.union-cells.result in
-    record {
-      only =
-          in_either (IsTouchedBy c.args.access pl f c.args.at) both (words c.loop-word.cells) (words c.cells.result) c.union-cells.ensures c.loop-word.invariant.only
-          (λ cell lt is. record {
-            word = c.in-Some.word;
-            small = c.in-Some.ensures.small;
-            is_possible = sym (c.possible_words-possible.ensures c.in-Some.word c.in-Some.ensures.small) ∙ c.in-Some.ensures.within;
-            touched = sym (c.cells.ensures cell lt) ∙ is;
-          });
-      all =
-          one_more (HasTouched c.args.access pl f c.args.at both) (words c.possible_words-possible.result) _ c.in-Some.ensures c.index-next.ensures.same
-          (λ cell lt does. second_of both (words c.loop-word.cells) (words c.cells.result) c.union-cells.ensures cell (c.cells.ensures cell lt ∙ does))
-          (λ word lt is cell small does. first_of both (words c.loop-word.cells) (words c.cells.result) c.union-cells.ensures cell (c.loop-word.invariant.all word lt is cell small does));
-    }
+    image_gathered c.loop-word.invariant c.in-Some.ensures.steps
+    (λ cell lt. ap (λ (s : Words). s cell) c.union-cells.ensures ∙ ap (λ p. words c.loop-word.cells cell || p) (c.cells.ensures cell lt))
 
 pub returns : goal.returns
-returns g c = λ cell lt.
-    let pl = place_of c.args.place.now in
-    let f = meaning c.args.fact.now in (
-      c.loop-word.invariant.only cell lt,
-      λ by.
-          all_pass (HasTouched c.args.access pl f c.args.at (words c.loop-word.cells)) (words c.possible_words-possible.result) c.in_default.ensures c.loop-word.invariant.all
-          by.word by.small (c.possible_words-possible.ensures by.word by.small ∙ by.is_possible) cell lt by.touched,
-    )
+returns g c = touched_by c.args.access (place_of c.args.place.now) (meaning c.args.fact.now) c.args.at c.possible_words-possible.ensures c.iter-word-items.ensures c.into_iter-word-iterator.ensures.into_iter_gives c.loop-word.invariant c.in-None.ensures.steps

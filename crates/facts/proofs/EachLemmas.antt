@@ -1,16 +1,8 @@
--- Going through a set: each of its words passes, or one of them doesn't.
-use Rattle.std.proofs.Common.{◌≡◌, ℕ, ◌+◌, ◌<◌, Bool, true, false, ◌&&◌, sym, ◌∙◌, subst, inl, inr, arith}
-use Rattle.std.specs.Prelude.{IsTrue, ◌↔◌}
-use Rattle.std.proofs.lemmas.Bool.{and_from, and_left, and_right, cases_Bool, cases_lt, cases_eq, true≢false, false≢true}
-use Rattle.wordset.specs.Words.{Words, IsFirstFrom, HasNoneFrom, some_below}
+-- Going through a set: its next word passes; some of its words has a property, or none has.
+use Rattle.std.proofs.Common.{◌≡◌, ℕ, ◌+◌, ◌<◌, true, false, ◌&&◌, sym, ◌∙◌, subst, inl, inr, arith}
+use Rattle.std.proofs.lemmas.Bool.{and_from, and_left, and_right, cases_Bool, cases_lt, cases_eq, true≢false}
+use Rattle.wordset.specs.Words.{Words, IsFirstFrom, some_below}
 use Rattle.wordset.proofs.Tests.{some_from, some_none_of}
-
--- A word of the set fails.
-pub one_fails : (p : ℕ → Type 0) (set : Words) {from w : ℕ} (t : Bool) → IsFirstFrom from set w → t ≡ false → (p w → IsTrue t) → IsTrue false ↔ ((a : ℕ) → a < 4096 → set a ≡ true → p a)
-one_fails p set {from} {w} t first fails told = (
-  λ q. absurd (false≢true q),
-  λ each. absurd (true≢false (sym (told (each w first.small first.within)) ∙ fails)),
-)
 
 -- The next word of the set passes.
 pub one_more : (p : ℕ → Type 0) (set : Words) {from w : ℕ} (i : ℕ) → IsFirstFrom from set w → i ≡ w → p w → ((a : ℕ) → a < from → set a ≡ true → p a) → (a : ℕ) → a < i + 1 → set a ≡ true → p a
@@ -20,13 +12,6 @@ one_more p set {from} {w} i first same passes before a lt is = elim (cases_lt a 
     | inl e ↦ subst p (sym e) passes
     | inr n ↦ (let less : a < w = omega arith in absurd (true≢false (sym is ∙ first.before a h less)))
   ]
-]
-
--- No word is left.
-pub all_pass : (p : ℕ → Type 0) (set : Words) {from : ℕ} → HasNoneFrom from set → ((a : ℕ) → a < from → set a ≡ true → p a) → (a : ℕ) → a < 4096 → set a ≡ true → p a
-all_pass p set {from} none before a lt is = elim (cases_lt a from) [
-  | inl h ↦ before a h is
-  | inr h ↦ absurd (true≢false (sym is ∙ none a h lt))
 ]
 
 -- Some word of the set has a property, or none has.

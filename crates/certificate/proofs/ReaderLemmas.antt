@@ -216,6 +216,37 @@ named_later v k e r x w small next other exit =
       | inr b ↦ le-ltb x (8192 + 8 * e + 8) b ∙ sym (no_exits v k e w small (λ p low high. exit.before p low (omega arith)))
     ])
 
+-- the next routine's line, the entry of the next exit's, and the less of the two
+module _ (v : Version) (k : Packed) (from r x y least : ℕ) (w : IsWhole v k) (routine : IsNextPlace (said_lines k) from r)
+    (exit : IsNextPlace (said_lines k) (8192 + 8 * from) x) (low : 8192 + 8 * y ≤ x) (less : least ≡ min r y) where
+  unnamed : (a : ℕ) → from ≤ a → a < least → a < 4096 → Names k a ≡ false
+  unnamed a late under small = rw (
+    not_listed v k a w small (routine.before a late (omega arith)),
+    no_exits v k a w small (λ p below above. exit.before p (omega arith) (omega arith)),
+  ) refl
+
+  named_there : x < 8192 + 8 * y + 8 → least < 4096 → Names k least ≡ true
+  named_there high small = elim (cases_lt r y) [
+    | inl l ↦ (let e : least ≡ r = omega arith in or_left _ _ (listed_at v k least w small (rw (← e) at (routine.there (omega arith)))))
+    | inr g ↦ or_right _ _ (exit_at v k least x w small (omega arith) (omega arith) (exit.there (omega arith)))
+  ]
+
+  -- it is the next entry whose routine is named
+  pub next_is_named : x < 8192 + 8 * y + 8 → least < 4096 → IsFirstFrom from (Names k) least
+  next_is_named high small =
+      let a : from ≤ r = routine.reached in
+      let b : 8192 + 8 * from ≤ x = exit.reached in
+      record {
+        small = small;
+        reached = omega arith;
+        within = named_there high small;
+        before = λ u late under. unnamed u late under (omega arith);
+      }
+
+  -- where it is past all addresses none is named
+  pub none_is_named : 4096 ≤ least → HasNoneFrom from (Names k)
+  none_is_named large u late under = unnamed u late (omega arith) under
+
 -- the names that the claims have in a whole certificate
 abbrev Claimed : Packed → ℕ → Bool
 Claimed k a = has_routine (routines_of (said_lines k)) a || (has_fact_in (facts_of (said_lines k)) a || some_below 8 (has_exit_in (exits_of (said_lines k)) a))

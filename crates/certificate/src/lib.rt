@@ -168,7 +168,7 @@ impl<A: Allocator> Certificate<A> {
             (fact_text_at (meaning self.now) at)) }
         ensures marks { W.mark sink.new ≡ is_err result }
     {
-        let start = self.kept.from(FIRST_FACT + at.index());
+        let start = self.kept.from(0, FIRST_FACT + at.index());
         let end = end_of(&self.kept, start);
         match put_lines(sink, self.version, &self.kept, start, end) {
             Ok(()) => Ok(()),
@@ -183,7 +183,7 @@ impl<A: Allocator> Certificate<A> {
         ensures sites { IfSome result (λ r. words r.sites ≡ (claims self.now).sites entry) }
         ensures writes { IfSome result (λ r. words r.writes ≡ (claims self.now).writes entry) }
     {
-        first_routine(&self.kept, self.kept.from(entry.index()))
+        first_routine(&self.kept, self.kept.from(0, entry.index()))
     }
 
     /// Whether a routine of this entry is listed, or it is said what holds when it returns by some
@@ -194,6 +194,25 @@ impl<A: Allocator> Certificate<A> {
         let routine = entry.index();
         let exits = FIRST_EXIT + 8 * routine;
         self.kept.next_place(routine) == routine || self.kept.next_place(exits) < exits + 8
+    }
+
+    /// The least entry from a number on whose routine is named.
+    pub fn next_named(&self, from: usize) -> Option<Word>
+        ensures { MatchOption result
+            (HasNoneFrom from (names_routine (claims self.now)))
+            (λ w. IsFirstFrom from (names_routine (claims self.now)) w) }
+    {
+        if from >= 4096 {
+            return None;
+        }
+        let routine = self.kept.next_place(from);
+        let exit = (self.kept.next_place(FIRST_EXIT + 8 * from) - FIRST_EXIT) / 8;
+        let least = routine.min(exit);
+        if least < 4096 {
+            Some(Word::from_index(least))
+        } else {
+            None
+        }
     }
 
     /// The least address from a number on at which something is claimed: that of a fact, or the entry
@@ -246,8 +265,25 @@ impl<A: Allocator> Certificate<A> {
             statement_in (meaning self.now).facts at ≡ Some (statement_of fact.new) }
         ensures kept { result ≡ false → fact.new ≡ fact.old }
     {
-        let start = self.kept.from(FIRST_FACT + at.index());
-        first_said(&self.kept, start, fact)
+        self.fact_near(at, &mut 0, fact)
+    }
+
+    /// The same, where it's looked first at the line of a number. Where there is a fact, that becomes the
+    /// line behind the fact's own, at which that of the next address mostly begins. Any number serves: it
+    /// only spares a search, and nothing else is said of it.
+    pub fn fact_near(&self, at: Word, line: &mut usize, fact: &mut Fact) -> bool
+        ensures there { result ≡ (claims self.now).has_fact at }
+        ensures fact { result ≡ true → fact_meaning fact.new ≡ (claims self.now).fact at }
+        ensures statement { result ≡ true →
+            statement_in (meaning self.now).facts at ≡ Some (statement_of fact.new) }
+        ensures kept { result ≡ false → fact.new ≡ fact.old }
+    {
+        let start = self.kept.from(*line, FIRST_FACT + at.index());
+        let is_there = first_said(&self.kept, start, fact);
+        if is_there {
+            *line = start.saturating_add(1 + fact.cells().len() + fact.equations().len());
+        }
+        is_there
     }
 
     /// What holds when the routine of an entry returns by an offset, if that is said; it has all
@@ -285,7 +321,7 @@ impl<A: Allocator> Certificate<A> {
         if offset >= 8 {
             return false;
         }
-        let start = kept.from(FIRST_EXIT + 8 * entry.index() + offset);
+        let start = kept.from(0, FIRST_EXIT + 8 * entry.index() + offset);
         first_said(kept, start, exit)
     }
 }

@@ -554,17 +554,45 @@ impl<A: Allocator> PackedLines<A> {
         self.list.partition_point(|kept| kept.past <= place)
     }
 
-    /// Where the lines from the one of a place on begin, or past all where no line has it.
-    pub fn from(&self, place: usize) -> usize
+    /// Whether it's seen that the first line that is at a place or after it stands here.
+    fn is_sought(&self, at: usize, place: usize) -> bool
+        requires { AreRising 0 (said_lines self.now) }
+        ensures { result ≡ true → IsSought self.now place at }
+    {
+        if at == 0 || at >= self.list.len() {
+            return false;
+        }
+        if usize::from(self.list[at - 1].past) > place {
+            return false;
+        }
+        place < usize::from(self.list[at].past)
+    }
+
+    /// Where the lines from the one of a place on begin, or past all where no line has it. It's looked
+    /// first at one line.
+    pub fn from(&self, near: usize, place: usize) -> usize
         requires order { AreRising 0 (said_lines self.now) }
         requires small { place ≤ 40960 }
         ensures { drop result (said_lines self.now) ≡ from_place place (said_lines self.now) }
     {
-        let at = self.seek(place);
+        let at = self.place_near(near, place);
         if at < self.list.len() && usize::from(self.list[at].past) != place + 1 {
             return self.list.len();
         }
         at
+    }
+
+    /// Where the first line stands that is at a place or after it, or past all: it's looked first at one
+    /// line.
+    fn place_near(&self, near: usize, place: usize) -> usize
+        requires order { AreRising 0 (said_lines self.now) }
+        requires small { place ≤ 40960 }
+        ensures { IsSought self.now place result }
+    {
+        if self.is_sought(near, place) {
+            return near;
+        }
+        self.seek(place)
     }
 
     /// The least place of a line from a number on, or that of the end, which isn't kept.

@@ -1,9 +1,9 @@
 -- The order of the conditions, and what holds when those at all addresses do.
-use Rattle.std.proofs.Common.{◌≡◌, ℕ, ◌+◌, ◌*◌, ◌<◌, ◌≤◌, false, ◌⊎◌, refl, sym, ap, ◌∙◌, subst, inl, inr, arith, lit≤, lit<}
-use Rattle.std.specs.Prelude.{if◌then◌else◌}
+use Rattle.std.proofs.Common.{◌≡◌, ℕ, ◌+◌, ◌*◌, ◌<◌, ◌≤◌, Bool, true, false, ◌⊎◌, Option, None, Some, refl, sym, ap, ◌∙◌, subst, inl, inr, arith, lit≤, lit<}
+use Rattle.std.specs.Prelude.{if◌then◌else◌, ◌||◌, ◌↔◌, IsTrue, MatchOption}
 use Rattle.std.proofs.lemmas.Bool.{cases_order, cases_lt, true≢false}
 use Rattle.wordset.specs.Words.{IsFirstFrom, HasNoneFrom}
-use Rattle.certificate.specs.Certificate.{claimed}
+use Rattle.certificate.specs.Certificate.{Certificate, claimed, names_routine}
 use Rattle.facts.specs.declared.Condition.{Condition}
 use Rattle.facts.specs.declared.Condition.TheVariants.{V1, V2}
 use Rattle.judge.specs.Conditions.{Case, HoldsAt, StartsWell, IsLine, IsAsked, IsAskedAs, IsValid, IsFirst, is_first_condition, place_among, order}
@@ -97,3 +97,41 @@ all_hold j n none h a small line = elim (cases_lt a n) [
   | inl l ↦ h a l line
   | inr g ↦ absurd (true≢false (sym line ∙ none a g small))
 ]
+
+-- the next entry whose routine is named, from a number on
+abbrev pub NextNamed : Certificate → ℕ → Option ℕ → Type 0
+NextNamed c n found = MatchOption found (HasNoneFrom n (names_routine c)) (λ w. IsFirstFrom n (names_routine c) w)
+
+named_claimed : (listed fact exits : Bool) → (listed || exits) ≡ true → (listed || (fact || exits)) ≡ true
+named_claimed true fact exits h = refl
+named_claimed false true exits h = refl
+named_claimed false false exits h = h
+
+-- it isn't before the next address at which something is claimed
+not_before : (c : Certificate) (n a w : ℕ) → IsFirstFrom n (claimed c) a → IsFirstFrom n (names_routine c) w → a ≤ w
+not_before c n a w first named = elim (cases_lt w a) [
+  | inl l ↦ absurd (true≢false (sym (named_claimed (c.listed w) (c.has_fact w) _ named.within) ∙ first.before w named.reached l))
+  | inr g ↦ g
+]
+
+-- so there it tells whether the routine is named
+pub is_named : (c : Certificate) (n a : ℕ) (found : Option ℕ) (b : Bool) → IsFirstFrom n (claimed c) a → NextNamed c n found → (IsTrue b ↔ found ≡ Some a) → b ≡ names_routine c a
+is_named c n a found true first next told = sym (subst (λ o. NextNamed c n o) (told.0 refl) next).within
+is_named c n a None false first next told = sym (next a first.reached first.small)
+is_named c n a (Some w) false first next told = elim (cases_lt a w) [
+  | inl l ↦ sym (next.before a first.reached l)
+  | inr g ↦ absurd (true≢false (sym (told.1 (ap Some (let low : a ≤ w = not_before c n a w first next in omega arith)))))
+]
+
+-- and it's the next one still, if that isn't
+pub named_later : (c : Certificate) (n a i : ℕ) (found : Option ℕ) → IsFirstFrom n (claimed c) a → i ≡ a → NextNamed c n found → names_routine c a ≡ false → NextNamed c (i + 1) found
+named_later c n a i None first same next isnt = λ v late small. next v (let low : n ≤ a = first.reached in omega arith) small
+named_later c n a i (Some w) first same next isnt = record {
+  small = next.small;
+  reached = (let low : a ≤ w = not_before c n a w first next in elim (cases_lt a w) [
+    | inl l ↦ omega arith
+    | inr g ↦ absurd (true≢false (sym next.within ∙ ap (names_routine c) (let e : w ≡ a = omega arith in e) ∙ isnt))
+  ]);
+  within = next.within;
+  before = λ v late under. next.before v (let low : n ≤ a = first.reached in omega arith) under;
+}

@@ -30,10 +30,12 @@ pub trait Claims {
         ensures no_sites { IfNone result ((claims self.now).sites entry ≡ nothing) }
         ensures no_writes { IfNone result ((claims self.now).writes entry ≡ nothing) };
 
-    /// Whether a routine of this entry is listed, or it is claimed what holds when it returns
-    /// by some offset.
-    fn names(&self, entry: Word) -> bool
-        ensures { result ≡ names_routine (claims self.now) entry };
+    /// The least entry from a number on whose routine is listed, or of which it is claimed what holds
+    /// when it returns by some offset.
+    fn next_named(&self, from: usize) -> Option<Word>
+        ensures { MatchOption result
+            (HasNoneFrom from (names_routine (claims self.now)))
+            (λ w. IsFirstFrom from (names_routine (claims self.now)) w) };
 
     /// The least address from a number on at which something is claimed: that of a fact, or the entry
     /// of a routine that is named.
@@ -44,6 +46,13 @@ pub trait Claims {
 
     /// Whether there is a fact at an address, which the lent one then says; else it's left as it is.
     fn fact_into(&self, at: Word, fact: &mut Fact) -> bool
+        ensures there { result ≡ (claims self.now).has_fact at }
+        ensures fact { result ≡ true → meaning fact.new ≡ (claims self.now).fact at }
+        ensures kept { result ≡ false → fact.new ≡ fact.old };
+
+    /// The same, where it's looked first at the line of a number; where there is a fact, that becomes the
+    /// line behind the fact's own. Any number serves: it only spares a search.
+    fn fact_near(&self, at: Word, line: &mut usize, fact: &mut Fact) -> bool
         ensures there { result ≡ (claims self.now).has_fact at }
         ensures fact { result ≡ true → meaning fact.new ≡ (claims self.now).fact at }
         ensures kept { result ≡ false → fact.new ≡ fact.old };
@@ -65,8 +74,8 @@ impl<A: Allocator> Claims for Certificate<A> {
         self.routine(entry)
     }
 
-    fn names(&self, entry: Word) -> bool {
-        self.names(entry)
+    fn next_named(&self, from: usize) -> Option<Word> {
+        self.next_named(from)
     }
 
     fn next_claimed(&self, from: usize) -> Option<Word> {
@@ -75,6 +84,10 @@ impl<A: Allocator> Claims for Certificate<A> {
 
     fn fact_into(&self, at: Word, fact: &mut Fact) -> bool {
         self.fact_into(at, fact)
+    }
+
+    fn fact_near(&self, at: Word, line: &mut usize, fact: &mut Fact) -> bool {
+        self.fact_near(at, line, fact)
     }
 
     fn exit_into(&self, entry: Word, offset: usize, exit: &mut Fact) -> bool {

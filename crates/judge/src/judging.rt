@@ -1,6 +1,8 @@
 //! The judgement: every condition holds, or one fails before all others.
 
-ghost use Rattle.std.specs.Prelude.{◌≡◌, MatchResult, OnOk};
+ghost use Rattle.std.specs.Prelude.{◌≡◌, ◌↔◌, Some, IsTrue, MatchOption, MatchResult, OnOk};
+ghost use Rattle.wordset.specs.Words.{HasNoneFrom, IsFirstFrom};
+ghost use Rattle.certificate.specs.Certificate.{claimed};
 ghost use Rattle.peripherals.specs.Loading.{image_of};
 ghost use Rattle.declaration.specs.Kept.{meaning};
 ghost use Rattle.policy.specs.Runs.{IsSafe};
@@ -89,11 +91,50 @@ fn judge_on<A: Allocator, C: Claims>(
     }
     let mut body = Body::Main;
     let mut next = 0usize;
-    while let Some(address) = claims.next_claimed(next) {
-        if let Err(condition) = case.check_at(address, even, odd, &mut body, others) {
+    let mut named = claims.next_named(0);
+    while let Some(address) = next_address(claims, even, odd, next) {
+        let is_named = is_of(&named, address);
+        if let Err(condition) = case.check_at(address, is_named, even, odd, &mut body, others) {
             return Err(Refusal { condition, address });
         }
         next = address.index() + 1;
+        if is_named {
+            named = claims.next_named(next);
+        }
     }
     Ok(())
+}
+
+/// Whether it is this entry.
+fn is_of(entry: &Option<Word>, at: Word) -> bool
+    ensures { IsTrue result ↔ entry.now ≡ Some at }
+{
+    match entry {
+        None => false,
+        Some(entry) => *entry == at,
+    }
+}
+
+/// The least address from a number on at which something is claimed. Where the fact of that number was
+/// read already, it isn't looked for.
+fn next_address<C: Claims>(
+    claims: &C,
+    even: &FactCache,
+    odd: &FactCache,
+    from: usize,
+) -> Option<Word>
+    requires even { Shows (C.claims claims.now) even.now }
+    requires odd { Shows (C.claims claims.now) odd.now }
+    ensures { MatchOption result
+        (HasNoneFrom from (claimed (C.claims claims.now)))
+        (λ w. IsFirstFrom from (claimed (C.claims claims.now)) w) }
+{
+    if from < 4096 {
+        let here = if from % 2 == 0 { even } else { odd };
+        let at = Word::from_index(from);
+        if here.is_of(at) {
+            return Some(at);
+        }
+    }
+    claims.next_claimed(from)
 }

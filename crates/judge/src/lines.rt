@@ -3,6 +3,7 @@
 ghost use Rattle.std.specs.Prelude.{◌≡◌, ◌↔◌, Some, true, false, IsTrue, MatchResult};
 ghost use Rattle.wordset.specs.Words.{some_below};
 ghost use Rattle.domain.specs.Meaning.{meaning};
+ghost use Rattle.certificate.specs.Certificate.{names_routine};
 ghost use Rattle.facts.specs.Places.{routine_of, sites_of, writes_of};
 ghost use Rattle.judge.specs.Conditions.{StartsWell, IsPlaced, fact_at};
 ghost use Rattle.judge.specs.Pages.{Shows, Tells};
@@ -109,20 +110,10 @@ impl<A: Allocator, C: Claims> Case<'_, A, C> {
             (case_kept C.claims self.now).declaration.start }
         ensures page { Shows (C.claims self.now.claims.now) page.new }
     {
-        if !page.turn_to(self.claims, self.declaration.start()) {
+        if !page.turn_to(self.claims, self.declaration.start(), 0) {
             return false;
         }
         holds_before(page.fact(), self.image, self.declaration)
-    }
-
-    /// Whether the routine and exit lines at an address are where they may be: at an entry.
-    fn routines_are_placed(&self, at: Word) -> bool
-        ensures { IsTrue result ↔ RoutinesArePlaced (case_kept C.claims self.now) at }
-    {
-        if !self.claims.names(at) {
-            return true;
-        }
-        self.declaration.is_entry(at)
     }
 
     /// Whether the fact at an address is where it may be: in main's body with no offset, or in a listed
@@ -152,16 +143,18 @@ impl<A: Allocator, C: Claims> Case<'_, A, C> {
         }
     }
 
-    /// The first condition that fails at an address, if one does. Pages for even and for odd addresses
-    /// are lent.
+    /// The first condition that fails at an address, if one does; it's told whether a routine of that
+    /// entry is named. Pages for even and for odd addresses are lent.
     pub(crate) fn check_at(
         &self,
         at: Word,
+        is_named: bool,
         even: &mut FactCache,
         odd: &mut FactCache,
         body: &mut Body,
         others: &mut Others,
     ) -> Result<(), Condition>
+        requires named { is_named ≡ names_routine (C.claims self.now.claims.now) at }
         requires even { Shows (C.claims self.now.claims.now) even.old }
         requires odd { Shows (C.claims self.now.claims.now) odd.old }
         requires body { Tells (C.claims self.now.claims.now) body.old }
@@ -172,6 +165,9 @@ impl<A: Allocator, C: Claims> Case<'_, A, C> {
         ensures odd { Shows (C.claims self.now.claims.now) odd.new }
         ensures body { Tells (C.claims self.now.claims.now) body.new }
     {
+        if is_named && !self.declaration.is_entry(at) {
+            return Err(Condition::V2);
+        }
         if at.index() % 2 == 0 {
             self.check_page(at, even, odd, body, others)
         } else {
@@ -179,8 +175,8 @@ impl<A: Allocator, C: Claims> Case<'_, A, C> {
         }
     }
 
-    /// The first condition that fails at an address, if one does, with room for its fact and for the
-    /// one that follows.
+    /// The same, where its routine and exit lines are where they may be, with room for its fact and for
+    /// the one that follows.
     fn check_page(
         &self,
         at: Word,
@@ -189,6 +185,7 @@ impl<A: Allocator, C: Claims> Case<'_, A, C> {
         body: &mut Body,
         others: &mut Others,
     ) -> Result<(), Condition>
+        requires placed { RoutinesArePlaced (case_kept C.claims self.now) at }
         requires here { Shows (C.claims self.now.claims.now) here.old }
         requires following { Shows (C.claims self.now.claims.now) following.old }
         requires body { Tells (C.claims self.now.claims.now) body.old }
@@ -199,13 +196,10 @@ impl<A: Allocator, C: Claims> Case<'_, A, C> {
         ensures following { Shows (C.claims self.now.claims.now) following.new }
         ensures body { Tells (C.claims self.now.claims.now) body.new }
     {
-        if !self.routines_are_placed(at) {
-            return Err(Condition::V2);
-        }
-        if !here.turn_to(self.claims, at) {
+        if !here.turn_to(self.claims, at, 0) {
             return Ok(());
         }
-        let _is_followed = following.turn_to(self.claims, at.increment());
+        let _is_followed = following.turn_to(self.claims, at.increment(), here.end());
         self.check_fact(at, here.fact(), following, body, others)
     }
 

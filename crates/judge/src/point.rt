@@ -24,6 +24,8 @@ use word12::Word;
 pub(crate) struct FactCache {
     fact: Fact,
     address: Option<Word>,
+    /// The line behind the fact's own, where that of the next address is looked for first.
+    end: usize,
 }
 
 impl FactCache {
@@ -34,6 +36,7 @@ impl FactCache {
         FactCache {
             fact: Fact::any(),
             address: None,
+            end: 0,
         }
     }
 
@@ -42,6 +45,11 @@ impl FactCache {
         ensures { result.now ≡ self.now.fact }
     {
         &self.fact
+    }
+
+    /// The line behind the fact's own.
+    pub(crate) fn end(&self) -> usize {
+        self.end
     }
 
     /// Whether the fact is that of an address.
@@ -55,8 +63,8 @@ impl FactCache {
     }
 
     /// Whether there is a fact at an address, which then stands here. One that stands here already
-    /// isn't read again.
-    pub(crate) fn turn_to<C: Claims>(&mut self, claims: &C, at: Word) -> bool
+    /// isn't read again, and another is looked for first at the line of a number.
+    pub(crate) fn turn_to<C: Claims>(&mut self, claims: &C, at: Word, near: usize) -> bool
         requires { Shows (C.claims claims.now) self.old }
         ensures there { result ≡ (C.claims claims.now).has_fact at }
         ensures fact { result ≡ true → meaning self.new.fact ≡ (C.claims claims.now).fact at }
@@ -65,9 +73,11 @@ impl FactCache {
         if self.is_of(at) {
             return true;
         }
-        if !claims.fact_into(at, &mut self.fact) {
+        let mut line = near;
+        if !claims.fact_near(at, &mut line, &mut self.fact) {
             return false;
         }
+        self.end = line;
         self.address = Some(at);
         true
     }

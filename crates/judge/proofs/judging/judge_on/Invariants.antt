@@ -3,6 +3,7 @@ use Rattle.certificate.specs.Certificate.{claimed}
 use Rattle.judge.specs.Asked.{HoldsBetween}
 use Rattle.judge.specs.Judged.{judged}
 use Rattle.judge.specs.Pages.{Shows, Tells}
+use Rattle.judge.proofs.OrderLemmas.{NextNamed}
 use Rattle.judge.proofs.judging.judge_on.Given as goal
 
 abbrev pub invariant-loop-address : goal.invariant-loop-address
@@ -10,7 +11,8 @@ invariant-loop-address g l =
     ((a : ℕ) → a < l.next → claimed (g.C.Claims.claims l.claims) a ≡ true → HoldsBetween (judged l.image l.declaration (g.C.Claims.claims l.claims)) 1 15 a) ×
     Shows (g.C.Claims.claims l.claims) l.even ×
     Shows (g.C.Claims.claims l.claims) l.odd ×
-    Tells (g.C.Claims.claims l.claims) l.body
+    Tells (g.C.Claims.claims l.claims) l.body ×
+    NextNamed (g.C.Claims.claims l.claims) l.next l.named
 
 abbrev pub decreases-loop-address : goal.decreases-loop-address
 decreases-loop-address g l = 4096 - l.next

@@ -72,6 +72,10 @@ pub writes_reference : (s p t : Words) (pl : Place) (f : Fact) (o : Operation) (
     ((a : ℕ) → s a ≡ (p a || (r && t a))) → ((a : ℕ) → p a ≡ (j && (a == n))) → SameWords t (targets pl i n f) → SameWords s (may_write pl f (reference o i n))
 writes_reference s p t pl f o n i j r er ej hs hp ht v lt = hs v ∙ rw (hp v, ej, er, ht v lt) (written_by pl f o i n v)
 
+pub writes_direct : (s : Words) (pl : Place) (f : Fact) (o : Operation) (n : ℕ) (i r : Bool) → i ≡ false → r ≡ stores o →
+    ((a : ℕ) → s a ≡ (r && (a == n))) → SameWords s (may_write pl f (reference o i n))
+writes_direct s pl f o n i r ei er hs v lt = hs v ∙ rw (er, ei) (written_by pl f o false n v)
+
 -- an ISZ counts the return word up where all of these are so
 pub counts_at : {i : Bool} {n : ℕ} (pl : Place) (f : Fact) (at w a : ℕ) → kind_of (meaning_at pl at w) ≡ Memory → i ≡ is_indirect w → n ≡ named_cell w at →
     CountsItsReturn pl f (meaning_at pl at w) a ↔ ((counts (operation_of w) ≡ true) × (is_routine pl.routine a ≡ true) × (only (targets pl i n f) ≡ Some a) × (f.offsets 7 ≡ false))

@@ -46,8 +46,8 @@ pub(crate) fn counts(word: Word) -> bool
     matches!(Operation::of(word), Operation::Isz)
 }
 
-/// The cell that a memory reference names, where its pointer is meant.
-fn pointer_if(chosen: bool, named: Word) -> WordSet
+/// The cell that a memory reference names, where it is meant.
+fn named_if(chosen: bool, named: Word) -> WordSet
     ensures { (a : ℕ) → words result a ≡ (chosen && (a == named)) }
 {
     if chosen {
@@ -192,7 +192,7 @@ pub fn reads<A: Allocator>(fact: &Fact, at: Word, word: Word, place: &Place<'_, 
     let indirect = refers_indirectly(word);
     let named = target(word, at);
     let targets = place.targets_at(fact, indirect, named);
-    union_if(reads_operand(word), &pointer_if(indirect, named), &targets)
+    union_if(reads_operand(word), &named_if(indirect, named), &targets)
 }
 
 /// The cells that a word at the address of a fact may write, wherever the fact holds: the targets of
@@ -207,8 +207,12 @@ pub fn writes<A: Allocator>(fact: &Fact, at: Word, word: Word, place: &Place<'_,
     }
     let indirect = refers_indirectly(word);
     let named = target(word, at);
-    let pointer = pointer_if(steps_pointer(indirect, named), named);
-    if !stores(word) {
+    let is_stored = stores(word);
+    if !indirect {
+        return named_if(is_stored, named);
+    }
+    let pointer = named_if(steps_pointer(indirect, named), named);
+    if !is_stored {
         return pointer;
     }
     pointer.union(&place.targets_at(fact, indirect, named))

@@ -194,6 +194,7 @@ impl<A: Allocator> Place<'_, A> {
 /// (`step_law` says so). A HLT at a stop has none. They come in the order of the definition, and
 /// those that can't come about are left out: where the word has no meaning there are none.
 /// What is new in them stands in the room that is lent.
+#[inline(never)]
 pub fn outcomes<'a, A: Allocator>(
     fact: &'a Fact,
     at: Word,

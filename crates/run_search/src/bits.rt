@@ -23,8 +23,10 @@ impl<A: Allocator + Copy> Bits<A> {
             return false;
         };
         let bit = 1u64 << (number & 63);
-        let is_new = *word & bit == 0;
+        if *word & bit != 0 {
+            return false;
+        }
         *word |= bit;
-        is_new
+        true
     }
 }

@@ -167,6 +167,9 @@ fn reads<A: Allocator>(declaration: &Declaration<A>, reference: &Reference, call
     ensures { result
         ≡ reads (meaning declaration.now) reference.now (current (open_calls calls.now)) }
 {
+    if !declaration.reads_listed() {
+        return true;
+    }
     if reference.indirect && !may_load(declaration, calls, reference.named) {
         return false;
     }

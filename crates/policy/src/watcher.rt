@@ -242,6 +242,7 @@ impl<A: Allocator> Watcher<A> {
     }
 
     /// Applies an event that is no step and no CONTINUE at a stop.
+    #[inline(always)]
     fn pass<D: Allocator>(
         &mut self,
         declaration: &Declaration<D>,
@@ -271,6 +272,7 @@ impl<A: Allocator> Watcher<A> {
     ///
     /// `NoMemory` where room for a call on the call list, or for a byte that is printed or punched, was
     /// refused. The machine is as before; the call list may have the call.
+    #[inline(always)]
     pub fn next<D: Allocator>(
         &mut self,
         declaration: &Declaration<D>,

@@ -30,8 +30,12 @@ pub trait Claims {
         ensures no_sites { IfNone result ((claims self.now).sites entry ≡ nothing) }
         ensures no_writes { IfNone result ((claims self.now).writes entry ≡ nothing) };
 
-    /// The least entry from a number on whose routine is listed, or of which it is claimed what holds
-    /// when it returns by some offset.
+    /// Whether a routine of this entry is listed, or it is claimed what holds when it returns
+    /// by some offset.
+    fn names(&self, entry: Word) -> bool
+        ensures { result ≡ names_routine (claims self.now) entry };
+
+    /// The least entry from a number on that is named.
     fn next_named(&self, from: usize) -> Option<Word>
         ensures { MatchOption result
             (HasNoneFrom from (names_routine (claims self.now)))
@@ -72,6 +76,10 @@ impl<A: Allocator> Claims for Certificate<A> {
 
     fn routine(&self, entry: Word) -> Option<RoutineClaim> {
         self.routine(entry)
+    }
+
+    fn names(&self, entry: Word) -> bool {
+        self.names(entry)
     }
 
     fn next_named(&self, from: usize) -> Option<Word> {

@@ -205,6 +205,9 @@ class Reader:
                 self.until("{")
                 clauses.append((kind, name_of, folded(self.group())))
                 self.at += self.now() == ","
+            elif self.now() in OPENS:
+                self.skip_group()
+                last = self.at
             else:
                 self.at += 1
                 last = self.at

@@ -80,7 +80,7 @@ static FAULTS: [Explanation; 43] = [
         code: "UA",
         subject: Subject::Fault("source: UA 1 2"),
         meaning: "a symbol without a value",
-        advice: "define the symbol, before a line that uses it for a value or an\norigin; or the source needs what is left out (docs/PAL.md); of MQL and the\nlike: names of the 8/E want `--profile 8e`",
+        advice: "define the symbol, before a line that uses it for a value or an\norigin; or the source needs what is left out (docs/PAL.md); of MQL and the\nlike: `--profile 8e`, or a declaration's line `profile 8e`",
     },
     Explanation {
         code: "IR",
@@ -98,7 +98,7 @@ static FAULTS: [Explanation; 43] = [
         code: "PA",
         subject: Subject::Fault("source: PA 1 2"),
         meaning: "PAUSE in the last part",
-        advice: "the last part ends by `$`, the others by PAUSE",
+        advice: "name the part that follows too, or leave PAUSE out",
     },
     Explanation {
         code: "ST",

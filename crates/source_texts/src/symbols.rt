@@ -201,7 +201,9 @@ pub(crate) fn push_undefined_advice<A: Allocator + Copy>(
         return text.push_str(words);
     }
     if is_of_the_8e(alloc, name)? {
-        return text.push_str("it is a symbol of the PDP-8/E: --profile 8e has it");
+        return text.push_str(
+            "it is a symbol of the PDP-8/E, for --profile 8e or a declaration's line profile 8e",
+        );
     }
     let letters = letters_of(name);
     push_nearest(alloc, text, source, known, letters, part)?;

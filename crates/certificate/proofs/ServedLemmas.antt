@@ -1,6 +1,6 @@
 -- What a source gave, and what it brings.
 use Rattle.std.proofs.Common.{◌≡◌, ◌⊎◌, ℕ, zero, suc, ◌+◌, ◌-◌, ◌<◌, ◌≤◌, Bool, true, false, List, [], ◌∷◌, ◌++◌, length, take, drop, Option, Some, None, Result, Ok, Err, refl, ap, ◌∙◌, sym, subst, inl, inr, arith, append_assoc, append-nil, length-append, get_or, length-take-le}
-use Rattle.std.specs.Prelude.{replicate, IfOk, IfErr, IfSome, IsErrAnd, MatchResult}
+use Rattle.std.specs.Prelude.{slice_index, replicate, IfOk, IfErr, IfSome, IsErrAnd, MatchResult}
 use Rattle.std.specs.Io.KnownBytes.{Consumes, Keeps, IsAtEnd}
 use Rattle.std.proofs.KnownBytes.{Consumes-nil, Consumes-trans, Consumes-kept, Consumes-whole}
 use Rattle.std.proofs.lemmas.Bool.{true≢false}
@@ -297,9 +297,12 @@ module _ (old new : Option (List ℕ)) where
       go (Some bytes) (Err f) (inr (inl e)) t = λ fault g. inr (inl e)
       go (Some bytes) (Err f) (inr (inr h)) t = λ fault g. inr (inr (one_fault bytes f fault h g))
 
--- One byte more that is no line feed.
-pub no_feed_more : (bytes : List ℕ) (n : ℕ) → n < length bytes → NoFeed (take n bytes) → (get_or bytes n 0 ≡ 10 → ⊥) → NoFeed (take (n + 1) bytes)
-no_feed_more bytes n h front ne = rw (take_more bytes n 0 h) (no_feed_both (take n bytes) (get_or bytes n 0 ∷ []) front (ne, tt))
+-- Bytes of which none is at a place of a line feed.
+pub no_feed_before : (bytes : List ℕ) (n : ℕ) → ((k : ℕ) → k < n → (slice_index bytes k ≡ 10) → ⊥) → NoFeed (take n bytes)
+no_feed_before [] zero none = tt
+no_feed_before (b ∷ bytes) zero none = tt
+no_feed_before [] (suc n) none = tt
+no_feed_before (b ∷ bytes) (suc n) none = (none 0 (omega arith), no_feed_before bytes n (λ k h. none (suc k) (omega arith)))
 
 -- A line after what was taken, with its line feed.
 pub with_feed : (before bytes : List ℕ) (n : ℕ) → n < length bytes → get_or bytes n 0 ≡ 10 → before ++ take n bytes ++ 10 ∷ [] ≡ before ++ take (n + 1) bytes

@@ -77,9 +77,9 @@ impl<'a> Fields<'a> {
             (result ≡ d) × (left self.new ≡ Some rest) }
     {
         match self.rest.split_first() {
-            Some((first, rest)) if b'0' <= *first && *first < b'8' => {
+            Some((first, rest)) if is_digit(*first) => {
                 self.rest = rest;
-                usize::from(*first - b'0')
+                digit_of(*first)
             }
             _ => {
                 self.fail();
@@ -95,11 +95,20 @@ impl<'a> Fields<'a> {
             Some (octal_text w ++ rest) →
             (result ≡ w) × (left self.new ≡ Some rest) }
     {
-        let first = self.digit();
-        let second = self.digit();
-        let third = self.digit();
-        let fourth = self.digit();
-        Word::from_index(512 * first + 64 * second + 8 * third + fourth)
+        match self.rest {
+            [first, second, third, fourth, rest @ ..]
+                if is_digit(*first) && is_digit(*second) && is_digit(*third) && is_digit(*fourth) =>
+            {
+                self.rest = rest;
+                let high = 8 * digit_of(*first) + digit_of(*second);
+                let low = 8 * digit_of(*third) + digit_of(*fourth);
+                Word::from_index(64 * high + low)
+            }
+            _ => {
+                self.fail();
+                Word::ZERO
+            }
+        }
     }
 
     /// Some text as it stands here.
@@ -296,6 +305,22 @@ impl<'a> Fields<'a> {
         }
         Location::Cell(self.word())
     }
+}
+
+/// Whether a byte is an octal digit.
+fn is_digit(byte: u8) -> bool
+    ensures { IsTrue result ↔ ((48 ≤ byte) × (byte < 56)) }
+{
+    b'0' <= byte && byte < b'8'
+}
+
+/// The number that an octal digit stands for.
+fn digit_of(byte: u8) -> usize
+    requires low { 48 ≤ byte }
+    requires high { byte < 56 }
+    ensures { 48 + result ≡ byte }
+{
+    usize::from(byte - b'0')
 }
 
 /// The links of which the numbers are among these digits.

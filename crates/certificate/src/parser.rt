@@ -11,6 +11,7 @@ use crate::packed::{PackedLines, Runs};
 use crate::progress::Progress;
 use crate::{Certificate, CertificateFault, Version};
 use arrayvec::ArrayVec;
+use memchr::memchr;
 use std::alloc::Allocator;
 
 /// The most bytes of a certificate's text.
@@ -52,14 +53,10 @@ fn line_len(bytes: &[u8]) -> usize
     ensures front { NoFeed (take result bytes.now) }
     ensures feed { result < length bytes.now → get_or bytes.now result 0 ≡ 10 }
 {
-    let mut end = 0;
-    while end < bytes.len() {
-        if bytes[end] == b'\n' {
-            return end;
-        }
-        end += 1;
+    match memchr(b'\n', bytes) {
+        Some(end) => end,
+        None => bytes.len(),
     }
-    end
 }
 
 impl<A: Allocator + Copy> Parser<A> {

@@ -98,12 +98,12 @@ impl<'a> Fields<'a> {
         match self.rest {
             [first, second, third, fourth, rest @ ..]
                 if is_digit(*first) && is_digit(*second) && is_digit(*third) && is_digit(*fourth) =>
-            {
-                self.rest = rest;
-                let high = 8 * digit_of(*first) + digit_of(*second);
-                let low = 8 * digit_of(*third) + digit_of(*fourth);
-                Word::from_index(64 * high + low)
-            }
+                {
+                    self.rest = rest;
+                    let high = 8 * digit_of(*first) + digit_of(*second);
+                    let low = 8 * digit_of(*third) + digit_of(*fourth);
+                    Word::from_index(64 * high + low)
+                }
             _ => {
                 self.fail();
                 Word::ZERO

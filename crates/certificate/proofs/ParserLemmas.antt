@@ -1,6 +1,6 @@
 -- A certificate's text taken byte by byte.
-use Rattle.std.proofs.Common.{◌≡◌, ℕ, ◌+◌, ◌<◌, ◌≤◌, ◌==◌, Bool, true, false, List, [], ◌∷◌, ◌++◌, length, Option, Some, None, refl, ap, ◌∙◌, sym, subst, inl, inr, arith, append_assoc, append-nil, length-append}
-use Rattle.std.specs.Prelude.{not, ◌&&◌, ◌||◌}
+use Rattle.std.proofs.Common.{◌≡◌, ℕ, ◌+◌, ◌<◌, ◌≤◌, ◌==◌, Bool, true, false, List, [], ◌∷◌, ◌++◌, length, Option, Some, None, Result, Ok, Err, refl, ap, ◌∙◌, sym, subst, inl, inr, arith, append_assoc, append-nil, length-append}
+use Rattle.std.specs.Prelude.{IfSome, MatchResult, not, ◌&&◌, ◌||◌}
 use Rattle.std.proofs.lemmas.Bool.{true≢false, eqb-true, eq-eqb, cases_lt}
 use Rattle.certificate.specs.declared.Version.{Version}
 use Rattle.certificate.specs.declared.CertificateFault.{CertificateFault}
@@ -177,6 +177,16 @@ rest_of kept text line bytes long p h = record {
   feed = h.feed;
 }
 
+-- What was seen once a line was taken.
+pub then_seen : {A U : Type 0} (p : Parser A) (text bytes : List ℕ) (r : Result U CertificateFault) → p.line.items ≡ [] → p.is_long ≡ false →
+    MatchResult r (λ u. Parts text p.kept p.progress [] false bytes) (Refuses bytes) → MatchResult r (λ u. Seen p bytes) (Refuses bytes)
+then_seen p text bytes (Ok u) e f h = record { text = text; parts = rw (e, f) h }
+then_seen p text bytes (Err g) e f h = h
+
+pub few_more : (n m : ℕ) (o : Option Progress) → n ≤ m → IfSome o (λ g. g.number ≤ n) → IfSome o (λ g. g.number ≤ m)
+few_more n m None le h = tt
+few_more n m (Some g) le h = omega arith
+
 -- Bytes more of which none is a line feed.
 pub added : (kept : Packed) (text line new_line bytes piece : List ℕ) (progress : Option Progress) (long : Bool) → Parts text kept progress line long bytes →
     NoFeed piece → new_line ≡ line ++ piece → Parts text kept progress new_line long (bytes ++ piece)
@@ -188,6 +198,11 @@ added kept text line new_line bytes piece progress long h n e = record {
   same = λ q. e ∙ ap (λ (x : List ℕ). x ++ piece) (h.same q);
   long = λ q. let z : 32768 < length h.tail = h.long q in omega (arith, length-append h.tail piece);
 }
+
+-- A line of which nothing was taken before.
+pub whole_line : (kept : Packed) (text line bytes piece : List ℕ) (progress : Option Progress) (long : Bool) → Parts text kept progress line long bytes →
+    line ≡ [] → long ≡ false → NoFeed piece → Parts text kept progress piece false (bytes ++ piece)
+whole_line kept text line bytes piece progress long h e f n = rw f at (added kept text line piece bytes piece progress long h n (rw e refl))
 
 -- More than are kept.
 pub passed : (kept : Packed) (text line new_line bytes piece : List ℕ) (progress : Option Progress) (long : Bool) → Parts text kept progress line long bytes →

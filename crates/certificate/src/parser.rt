@@ -1,11 +1,12 @@
 //! The text of a certificate, a line at a time.
 
 ghost use Rattle.std.specs.Prelude.{ℕ, ◌≡◌, ◌+◌, ◌<◌, ◌≤◌, ◌⊎◌, ◌^◌, List, [], ◌∷◌, ◌++◌, length, take, get_or, IfOk, IfErr, MatchResult, Some, None};
-ghost use Rattle.std.specs.Prelude.{IfSome, false};
+ghost use Rattle.std.specs.Prelude.{IfSome, false, true};
 ghost use Rattle.certificate.specs.declared.Version.{Version as Spelled};
 ghost use Rattle.certificate.specs.Spelling.{version_text};
 ghost use Rattle.certificate.specs.Faults.{most_bytes, NoFeed, HasFault};
-ghost use Rattle.certificate.specs.Parser.{WasRead, Seen, IsSmall, Refuses, IsParsed};
+ghost use Rattle.certificate.specs.Packed.{Packed};
+ghost use Rattle.certificate.specs.Parser.{WasRead, Parts, Seen, IsSmall, Refuses, IsParsed};
 
 use crate::packed::{PackedLines, Runs};
 use crate::progress::Progress;
@@ -77,63 +78,86 @@ impl<A: Allocator + Copy> Parser<A> {
     }
 }
 
+/// Takes the first line of a text.
+fn take_first(
+    line: &[u8],
+    progress: &mut Option<Progress>,
+) -> Result<(), CertificateFault>
+    requires first { progress.old ≡ None }
+    ensures number { IfSome progress.new (λ g. g.number ≤ 2) }
+    ensures taken { (kept : Packed) (text bytes : List ℕ) →
+        Parts text kept None line.now false bytes → length bytes < most_bytes →
+        MatchResult result (λ u. Parts (text ++ line.now ++ 10 ∷ []) kept progress.new [] false (bytes ++ 10 ∷ []))
+        (Refuses (bytes ++ 10 ∷ [])) }
+{
+    match version_of(line) {
+        Some(version) => {
+            *progress = Some(Progress::start(version));
+            Ok(())
+        }
+        None => Err(CertificateFault::Version),
+    }
+}
+
+/// Takes a line after the first one, with room for its runs.
+fn take_next<A: Allocator>(
+    line: &[u8],
+    kept: &mut PackedLines<A>,
+    progress: &mut Progress,
+    runs: &mut Runs,
+) -> Result<(), CertificateFault>
+    requires number { progress.old.number < 2 ^ 32 }
+    ensures number { progress.new.number ≤ progress.old.number + 1 }
+    ensures taken { (text bytes : List ℕ) →
+        Parts text kept.old (Some progress.old) line.now false bytes → length bytes < most_bytes →
+        MatchResult result
+        (λ u. Parts (text ++ line.now ++ 10 ∷ []) kept.new (Some progress.new) [] false (bytes ++ 10 ∷ []))
+        (Refuses (bytes ++ 10 ∷ [])) }
+{
+    runs.clear();
+    match progress.accept(line, runs) {
+        Ok(read) => {
+            let Ok(()) = kept.keep(&read, runs) else {
+                return Err(CertificateFault::NoMemory);
+            };
+            Ok(())
+        }
+        Err(fault) => Err(fault),
+    }
+}
+
+/// Takes a line of a text, with room for its runs.
+fn take_line<A: Allocator>(
+    line: &[u8],
+    kept: &mut PackedLines<A>,
+    progress: &mut Option<Progress>,
+    runs: &mut Runs,
+) -> Result<(), CertificateFault>
+    requires number { IfSome progress.old (λ g. g.number < 2 ^ 32) }
+    ensures number { (n : ℕ) → IfSome progress.old (λ g. g.number ≤ n + 2) →
+        IfSome progress.new (λ g. g.number ≤ n + 3) }
+    ensures taken { (text bytes : List ℕ) →
+        Parts text kept.old progress.old line.now false bytes → length bytes < most_bytes →
+        MatchResult result
+        (λ u. Parts (text ++ line.now ++ 10 ∷ []) kept.new progress.new [] false (bytes ++ 10 ∷ []))
+        (Refuses (bytes ++ 10 ∷ [])) }
+{
+    match progress {
+        None => take_first(line, progress),
+        Some(progress) => take_next(line, kept, progress, runs),
+    }
+}
+
 impl<A: Allocator> Parser<A> {
-    /// Goes on to the next line, after one that is followed by this.
-    fn keep(&mut self, progress: Progress)
-        ensures same { self.new.count ≡ self.old.count }
-        ensures lines { self.new.kept ≡ self.old.kept }
-        ensures kept { (self.new.line.items ≡ []) × (self.new.progress ≡ Some progress) ×
-            (self.new.is_long ≡ false) }
+    /// The fault of a line with too many bytes.
+    fn long_line(&self) -> CertificateFault
+        requires long { self.now.is_long ≡ true }
+        ensures { (bytes : List ℕ) → Seen self.now bytes → length bytes < most_bytes →
+            Refuses (bytes ++ 10 ∷ []) result }
     {
-        self.line.clear();
-        self.is_long = false;
-        self.progress = Some(progress);
-    }
-
-    /// Ends the first line.
-    fn end_first(&mut self) -> Result<(), CertificateFault>
-        requires first { self.old.progress ≡ None }
-        requires count { self.old.count ≤ most_bytes }
-        ensures count { self.new.count ≡ self.old.count }
-        ensures number { IfSome self.new.progress (λ g. g.number ≤ self.new.count + 2) }
-        ensures seen { (bytes : List ℕ) → Seen self.old bytes → length bytes < most_bytes →
-            MatchResult result (λ u. Seen self.new (bytes ++ 10 ∷ []))
-            (Refuses (bytes ++ 10 ∷ [])) }
-    {
-        match version_of(&self.line) {
-            Some(version) if !self.is_long => {
-                self.keep(Progress::start(version));
-                Ok(())
-            }
-            _ => Err(CertificateFault::Version),
-        }
-    }
-
-    /// Ends a further line.
-    fn end_next(&mut self, progress: Progress) -> Result<(), CertificateFault>
-        requires next { self.old.progress ≡ Some progress }
-        requires count { self.old.count ≤ most_bytes }
-        requires number { progress.number ≤ self.old.count + 1 }
-        ensures count { self.new.count ≡ self.old.count }
-        ensures number { IfSome self.new.progress (λ g. g.number ≤ self.new.count + 2) }
-        ensures seen { (bytes : List ℕ) → Seen self.old bytes → length bytes < most_bytes →
-            MatchResult result (λ u. Seen self.new (bytes ++ 10 ∷ []))
-            (Refuses (bytes ++ 10 ∷ [])) }
-    {
-        if self.is_long {
-            return Err(CertificateFault::BadLine(progress.number));
-        }
-        let mut next = progress;
-        self.runs.clear();
-        match next.accept(&self.line, &mut self.runs) {
-            Ok(line) => {
-                let Ok(()) = self.kept.keep(&line, &self.runs) else {
-                    return Err(CertificateFault::NoMemory);
-                };
-                self.keep(next);
-                Ok(())
-            }
-            Err(fault) => Err(fault),
+        match self.progress {
+            None => CertificateFault::Version,
+            Some(progress) => CertificateFault::BadLine(progress.number),
         }
     }
 
@@ -172,11 +196,64 @@ impl<A: Allocator> Parser<A> {
         if self.count == MOST_BYTES {
             return Err(CertificateFault::TooMany);
         }
-        self.count += 1;
-        match self.progress {
-            None => self.end_first(),
-            Some(progress) => self.end_next(progress),
+        if self.is_long {
+            return Err(self.long_line());
         }
+        self.count += 1;
+        let Parser {
+            kept,
+            progress,
+            line,
+            runs,
+            ..
+        } = self;
+        let taken = take_line(line, kept, progress, runs);
+        line.clear();
+        taken
+    }
+
+    /// Takes a line of which nothing was taken, with its line feed.
+    fn take_whole(&mut self, line: &[u8]) -> Result<(), CertificateFault>
+        requires small { IsSmall self.old }
+        requires feed { NoFeed line.now }
+        requires empty { self.old.line.items ≡ [] }
+        requires short { self.old.is_long ≡ false }
+        ensures small { IsSmall self.new }
+        ensures count { IfOk result (λ u. self.new.count ≡ self.old.count + (length line.now + 1)) }
+        ensures seen { (before : List ℕ) → Seen self.old before → self.old.count ≡ length before →
+            MatchResult result (λ u. Seen self.new (before ++ line.now ++ 10 ∷ []))
+            (Refuses (before ++ line.now ++ 10 ∷ [])) }
+    {
+        if line.len() >= MOST_BYTES - self.count {
+            return Err(CertificateFault::TooMany);
+        }
+        self.count += line.len() + 1;
+        let Parser {
+            kept,
+            progress,
+            runs,
+            ..
+        } = self;
+        take_line(line, kept, progress, runs)
+    }
+
+    /// Takes the rest of a line and its line feed. A line that lies whole in what was given isn't copied.
+    fn take_end(&mut self, rest: &[u8]) -> Result<(), CertificateFault>
+        requires small { IsSmall self.old }
+        requires feed { NoFeed rest.now }
+        ensures small { IsSmall self.new }
+        ensures count { IfOk result (λ u. self.new.count ≡ self.old.count + (length rest.now + 1)) }
+        ensures seen { (before : List ℕ) → Seen self.old before → self.old.count ≡ length before →
+            MatchResult result (λ u. Seen self.new (before ++ rest.now ++ 10 ∷ []))
+            (Refuses (before ++ rest.now ++ 10 ∷ [])) }
+    {
+        if self.line.is_empty() && !self.is_long {
+            return self.take_whole(rest);
+        }
+        if let Err(fault) = self.add(rest) {
+            return Err(fault);
+        }
+        self.end()
     }
 
     /// Takes the bytes up to a line feed and with it, or else all of them, and tells how many.
@@ -191,16 +268,16 @@ impl<A: Allocator> Parser<A> {
             (Refuses (before ++ bytes.now)) }
     {
         let end = line_len(bytes);
-        if let Err(fault) = self.add(&bytes[..end]) {
-            return Err(fault);
+        if end < bytes.len() {
+            match self.take_end(&bytes[..end]) {
+                Ok(()) => return Ok(end + 1),
+                Err(fault) => return Err(fault),
+            }
         }
-        if end == bytes.len() {
-            return Ok(end);
+        match self.add(bytes) {
+            Ok(()) => Ok(end),
+            Err(fault) => Err(fault),
         }
-        if let Err(fault) = self.end() {
-            return Err(fault);
-        }
-        Ok(end + 1)
     }
 
     /// Takes these bytes, up to the one that brings a fault.

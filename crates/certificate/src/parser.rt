@@ -79,10 +79,7 @@ impl<A: Allocator + Copy> Parser<A> {
 }
 
 /// Takes the first line of a text.
-fn take_first(
-    line: &[u8],
-    progress: &mut Option<Progress>,
-) -> Result<(), CertificateFault>
+fn take_first(line: &[u8], progress: &mut Option<Progress>) -> Result<(), CertificateFault>
     requires first { progress.old ≡ None }
     ensures number { IfSome progress.new (λ g. g.number ≤ 2) }
     ensures taken { (kept : Packed) (text bytes : List ℕ) →

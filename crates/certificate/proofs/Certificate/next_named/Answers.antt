@@ -1,4 +1,4 @@
-use Rattle.std.proofs.Common.{◌≡◌, ◌<◌, ◌≤◌, ◌+◌, ◌-◌, ◌*◌, ◌/◌, arith}
+use Rattle.std.proofs.Common.{◌≡◌, ◌≤◌, ◌+◌, ◌-◌, ◌*◌, ◌/◌, arith}
 use Rattle.certificate.proofs.ReaderLemmas.{next_is_named, none_is_named}
 use Rattle.certificate.proofs.Certificate.next_named.Goals as goal
 

@@ -34,6 +34,11 @@ const DECLARATION: Argument = Argument {
     help: "the declaration, or - for standard input",
 };
 
+const TAPE_BESIDE_KEYS: Argument = Argument {
+    help: "the tape; standard input is the keyboard",
+    ..TAPE
+};
+
 const TAPE_OR_SOURCE: Argument = Argument {
     name: "TAPE",
     short: None,
@@ -244,6 +249,11 @@ const READER: Argument = Argument {
     help: "the frames in the reader, or - for standard input",
 };
 
+const READER_BESIDE_KEYS: Argument = Argument {
+    help: "the frames in the reader; standard input is the keyboard",
+    ..READER
+};
+
 const PUNCH: Argument = Argument {
     name: "punch",
     short: None,
@@ -393,7 +403,16 @@ const RUN_ARGUMENTS: [Argument; 14] = [
 ];
 
 const TELETYPE_ARGUMENTS: [Argument; 10] = [
-    TAPE, START, PROFILE, READER, PUNCH, SWITCHES, MARK, RAW, SHOW, WHY_INPUT,
+    TAPE_BESIDE_KEYS,
+    START,
+    PROFILE,
+    READER_BESIDE_KEYS,
+    PUNCH,
+    SWITCHES,
+    MARK,
+    RAW,
+    SHOW,
+    WHY_INPUT,
 ];
 
 const DUMP_ARGUMENTS: [Argument; 3] = [TAPE, PROFILE, WHY_INPUT];
@@ -531,49 +550,49 @@ const WATCH: Entry = Entry {
     name: "watch",
     usage: Some("pdp8 watch [OPTIONS] <TAPE> <DECLARATION> [EVENTS]"),
     about: "Writes whether a run keeps its declaration, or where it first breaks which rule",
-    after_help: "Examples:\n  pdp8 watch hello.bin hello.declaration hello.events\n  pdp8 watch --source hello.pal hello.events",
+    after_help: "Examples:\n  pdp8 watch hello.bin hello.declaration hello.events\n  pdp8 watch --source hello.pal hello.declaration hello.events",
 };
 
 const CHECK: Entry = Entry {
     name: "check",
     usage: Some("pdp8 check [OPTIONS] <TAPE> <DECLARATION> <CERTIFICATE>"),
     about: "Writes whether a certificate shows that no run breaks its declaration",
-    after_help: "Examples:\n  pdp8 check hello.bin hello.declaration hello.certificate --why\n  pdp8 check --source hello.pal hello.certificate --why",
+    after_help: "Examples:\n  pdp8 check hello.bin hello.declaration hello.certificate --why\n  pdp8 check --source hello.pal hello.declaration hello.certificate --why",
 };
 
 const REPORT: Entry = Entry {
     name: "report",
     usage: Some("pdp8 report [OPTIONS] <TAPE> <DECLARATION> <CERTIFICATE> [-o] <OUT>"),
     about: "Writes what a certificate says as a page of HTML: verdict, memory, routines, listing",
-    after_help: "The operand OUT is emptied before an input is read. The verdict and the status are check's.\n\nExamples:\n  pdp8 report hello.bin hello.declaration hello.certificate -o hello.html\n  pdp8 report --source hello.pal hello.certificate -o hello.html",
+    after_help: "The operand OUT is emptied before an input is read, but beside --source after the source and the declaration. The verdict and the status are check's.\n\nExamples:\n  pdp8 report hello.bin hello.declaration hello.certificate -o hello.html\n  pdp8 report --source hello.pal hello.declaration hello.certificate -o hello.html",
 };
 
 const DECLARE: Entry = Entry {
     name: "declare",
     usage: Some("pdp8 declare [OPTIONS] <TAPE> [-o] <OUT>"),
     about: "Proposes a declaration: what the program of a tape may do",
-    after_help: "The operand OUT is emptied before the tape is read. Where no certificate is found the declaration is written all the same, behind comments that say why if there is room for them, and the status is 1.\n\nExamples:\n  pdp8 declare hello.bin -o hello.declaration\n  pdp8 declare --source hello.pal -o hello.declaration",
+    after_help: "The operand OUT is emptied before the tape is read, but beside --source after the source. Where no certificate is found the declaration is written all the same, with comments in front that say why if there is room for them, and the status is 1.\n\nExamples:\n  pdp8 declare hello.bin -o hello.declaration\n  pdp8 declare --source hello.pal -o hello.declaration",
 };
 
 const GUESS: Entry = Entry {
     name: "guess",
     usage: Some("pdp8 guess [OPTIONS] <TAPE> <DECLARATION> [-o] <OUT>"),
     about: "Looks for a certificate that shows that no run breaks a declaration",
-    after_help: "The operand OUT is emptied before an input is read, and stays empty where nothing is found. check says yes to what is found: that is proved.\n\nExamples:\n  pdp8 guess hello.bin hello.declaration -o hello.certificate\n  pdp8 guess --source hello.pal -o hello.certificate",
+    after_help: "The operand OUT is emptied before an input is read, but beside --source after the source and the declaration. It stays empty where nothing is found. check says yes to what is found: that is proved.\n\nExamples:\n  pdp8 guess hello.bin hello.declaration -o hello.certificate\n  pdp8 guess --source hello.pal hello.declaration -o hello.certificate",
 };
 
 const REFUTE: Entry = Entry {
     name: "refute",
     usage: Some("pdp8 refute [OPTIONS] <TAPE> <DECLARATION> [-o] <OUT>"),
     about: "Looks for a run that breaks a declaration, and writes its events",
-    after_help: "The operand OUT is emptied before an input is read, and stays empty where nothing is found. The same seed gives the same answer.\n\nExamples:\n  pdp8 refute hello.bin hello.declaration -o found.events --why\n  pdp8 refute --source hello.pal -o found.events --why",
+    after_help: "The operand OUT is emptied before an input is read, but beside --source after the source and the declaration. It stays empty where nothing is found. The same seed gives the same answer.\n\nExamples:\n  pdp8 refute hello.bin hello.declaration -o found.events --why\n  pdp8 refute --source hello.pal hello.declaration -o found.events --why",
 };
 
 const PLACE: Entry = Entry {
     name: "place",
     usage: Some("pdp8 place [OPTIONS] [-o] <OUT> <SOURCE>..."),
     about: "Writes a declaration in numbers, whose addresses are symbols of a source",
-    after_help: "Without -o OUT comes first, and is emptied before the declaration is written: where an input is refused it stays as it was.\n\nExample:\n  pdp8 place -o hello.declaration hello.pal",
+    after_help: "Without -o OUT comes first, and is emptied before the declaration is written: where an input is refused it stays as it was.\n\nExample:\n  pdp8 place -o numbers.declaration --declaration symbols.declaration my.pal",
 };
 
 const MIGRATE: Entry = Entry {

@@ -1,7 +1,7 @@
 #!/bin/bash
-# Times judging certificates in one process, over and over: `speed judge` with many rounds and with one, whose
-# difference is what judging costs. Each is the least processor time of nine runs. Then `pdp8 check` on the same, from
-# start to end, as the least of eleven calls.
+# Times reading and judging certificates in one process, over and over: `speed read` and `speed judge` with many rounds and
+# with one, whose difference is what they cost. Each is the least processor time of nine runs. Then `pdp8 check` on the same,
+# from start to end, as the least of eleven calls.
 # usage: bench/judge.sh [FOLDER..]
 # A folder has the files t, d and c: a tape, a declaration and a certificate that the program accepts. Without folders two
 # are made by certificate/make.py.
@@ -32,11 +32,17 @@ TIMEFORMAT='%U %S'
 seconds() { { time "${@:2}" <"$1" >"$work/answer" 2>&1; } 2>&1 | awk '{ print $1 + $2 }'; }
 # The least of so many numbers, one a line.
 least() { sort -g | head -1; }
-rounds=40
+rounds=200
+# What a round takes, of the times of many and of one.
+a_round() {
+    echo "$(least <"$work/$1many") $(least <"$work/$1one") $rounds" | awk '{ printf "%.5f", ($1 - $2) / $3 }'
+}
 for folder in "${folders[@]}"; do
     cat "$folder/t" "$folder/d" "$folder/c" >"$work/whole"
     words=("$(wc -c <"$folder/t")" "$(wc -c <"$folder/d")")
     for _ in 1 2 3 4 5 6 7 8 9; do
+        seconds "$folder/c" "$speed" read 1 >>"$work/read-one"
+        seconds "$folder/c" "$speed" read $((rounds + 1)) >>"$work/read-many"
         seconds "$work/whole" "$speed" judge 1 "${words[@]}" >>"$work/one"
         seconds "$work/whole" "$speed" judge $((rounds + 1)) "${words[@]}" >>"$work/many"
         [ -z "${PLAIN:-}" ] || "$work/plain" bench-check "$folder/t" "$folder/d" "$folder/c" $rounds >"$work/said"
@@ -45,8 +51,7 @@ for folder in "${folders[@]}"; do
     for _ in 1 2 3 4 5 6 7 8 9 10 11; do
         seconds /dev/null "$program" check "$folder/t" "$folder/d" "$folder/c" >>"$work/check"
     done
-    echo "$(wc -c <"$folder/c") bytes: $(echo "$(least <"$work/many") $(least <"$work/one") $rounds" |
-        awk '{ printf "%.5f", ($1 - $2) / $3 }') seconds to judge, $(least <"$work/check") from start to end"
+    echo "$(wc -c <"$folder/c") bytes: $(a_round read-) seconds to read, $(a_round "") to judge, $(least <"$work/check") from start to end"
     [ -z "${PLAIN:-}" ] || tail -1 "$work/said"
-    rm "$work/one" "$work/many" "$work/check"
+    rm "$work"/*one "$work"/*many "$work/check"
 done

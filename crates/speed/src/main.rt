@@ -5,13 +5,15 @@
 //! reads it back; `facts TIMES` works out the outcome of a TAD a thousand times so often, and asks whether
 //! it entails a fact, with two tracked cells, and `facts64 TIMES` with 64 and 32 equations; `judge TIMES
 //! TAPE DECLARATION` reads a tape and a declaration of so many bytes and a certificate, one after
-//! another from standard input, and judges them so often; these print what came out, and no times.
+//! another from standard input, and judges them so often; `read TIMES` reads a certificate from standard
+//! input so often; these print what came out, and no times.
 //! `tape` writes the tape of that image to standard output. Without words
 //! it does a little of the first three.
 #![tactic(auto)]
 
 mod judging;
 mod knowing;
+mod reading;
 
 use bin_tape::{Image, read_tape, write_tape};
 use declaration::Declaration;
@@ -190,6 +192,15 @@ fn time_judge(rt: &HostRuntime, times: u16, words: &[String]) -> anyhow::Result<
     Ok(())
 }
 
+/// Reads the certificate on standard input so many times, and prints how often it is one.
+fn time_read(rt: &HostRuntime, times: u16) -> anyhow::Result<()> {
+    let mut source = Reads::new(rt.reader());
+    let bytes = read_at_most(rt.alloc(), &mut source, MOST_INPUT)?;
+    let read = reading::read(rt.alloc(), &bytes, times);
+    println!(rt; "read times {times} certificates {read}")?;
+    Ok(())
+}
+
 fn main(rt: HostRuntime) -> anyhow::Result<()> {
     let words = env::args(&rt)?.collect::<Vec<String>>(rt.alloc())?;
     let number = match words.get(2) {
@@ -203,6 +214,7 @@ fn main(rt: HostRuntime) -> anyhow::Result<()> {
         Some("facts") => time_facts(&rt, 1, number),
         Some("facts64") => time_facts(&rt, 32, number),
         Some("judge") => time_judge(&rt, number, &words),
+        Some("read") => time_read(&rt, number),
         Some("tape") => put_tape(&rt),
         _ => {
             time_processor(&rt, number)?;

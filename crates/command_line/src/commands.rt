@@ -127,7 +127,7 @@ const DECLARATION_OUT: Argument = Argument {
     name: "OUT",
     short: None,
     form: Form::ResultOrSource,
-    help: "where the declaration goes, or - for standard output; it is emptied first",
+    help: "where the declaration goes, or - for standard output; it is emptied first, beside --source later",
 };
 
 const COMPLETED: Argument = Argument {
@@ -162,14 +162,14 @@ const GUESSED_OUT: Argument = Argument {
     name: "OUT",
     short: None,
     form: Form::ResultOrSource,
-    help: "where the certificate goes, or - for standard output; it is emptied first",
+    help: "where the certificate goes, or - for standard output; it is emptied first, beside --source later",
 };
 
 const REPORT_OUT: Argument = Argument {
     name: "OUT",
     short: None,
     form: Form::ResultOrSource,
-    help: "where the report goes, or - for standard output; it is emptied first",
+    help: "where the report goes, or - for standard output; it is emptied first, beside --source later",
 };
 
 const REPORT_STUCK: Argument = Argument {
@@ -190,7 +190,7 @@ const EVENTS_OUT: Argument = Argument {
     name: "OUT",
     short: None,
     form: Form::ResultOrSource,
-    help: "where the events go, or - for standard output; it is emptied first",
+    help: "where the events go, or - for standard output; it is emptied first, beside --source later",
 };
 
 const OUTPUT: Argument = Argument {

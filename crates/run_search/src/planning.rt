@@ -19,7 +19,7 @@ impl<A: Allocator + Copy> RunSearch<A> {
         }
         self.begun = self.clock;
         self.record.begins();
-        if self.roamed / 3 <= self.clock.saturating_sub(self.roamed) {
+        if self.roamed <= self.clock / 4 {
             return self.plan_roaming();
         }
         if self.clock > self.lesson {

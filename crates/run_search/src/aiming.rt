@@ -5,7 +5,7 @@ use crate::alphabet::Alphabet;
 use crate::asking::Ask;
 use crate::hints::{Goal, Hint, Hints};
 use crate::random::Random;
-use crate::running::{Input, Run};
+use crate::running::Run;
 use crate::tree::{Tail, Tree};
 use crate::votes::{Interest, MOST_BACK, Pointer, Votes};
 use peripherals::NoMemory;
@@ -58,11 +58,7 @@ impl<A: Allocator + Copy> Last<A> {
         let own = run.inputs.len().saturating_sub(run.before_base);
         let mut far = tree.tail(run.base, least.saturating_sub(own))?;
         let before = far.inputs.len();
-        for index in run.before_base..run.inputs.len() {
-            if let Some(input) = run.inputs.get(index) {
-                far.inputs.push(*input).map_err(|_| NoMemory)?;
-            }
-        }
+        run.add_inputs(&mut far.inputs)?;
         Ok(Last {
             far,
             before,
@@ -167,7 +163,7 @@ impl<A: Allocator + Copy> Aims<A> {
             1
         };
         let last = Last::of(tree, run, most)?;
-        let mut aim = Aim {
+        let aim = Aim {
             miss,
             is_full,
             goal,
@@ -201,7 +197,7 @@ fn greatest(ask: Ask) -> u16 {
 impl<A: Allocator + Copy> Aim<A> {
     /// Takes the hints at the input so many back.
     fn look_back(
-        &mut self,
+        &self,
         back: usize,
         aims: &mut Aims<A>,
         alphabet: &mut Alphabet<A>,
@@ -231,7 +227,7 @@ impl<A: Allocator + Copy> Aim<A> {
                 self.follow(place, &pointer, aims, random)?;
             }
         }
-        self.follow_digits(place, input.value, aims, random)
+        self.follow_digits(place, input.value, aims)
     }
 
     /// Counts a hint.
@@ -258,7 +254,7 @@ impl<A: Allocator + Copy> Aim<A> {
 
     /// Lets a hint wait: where it isn't known to be a good one, once in sixteen times.
     fn follow(
-        &mut self,
+        &self,
         place: usize,
         pointer: &Pointer,
         aims: &mut Aims<A>,
@@ -276,14 +272,7 @@ impl<A: Allocator + Copy> Aim<A> {
 
     /// Where the input was a digit of a number, lets the digits wait that are off by the distance in eights
     /// or tens.
-    fn follow_digits(
-        &mut self,
-        place: usize,
-        digit: u16,
-        aims: &mut Aims<A>,
-        random: &mut Random,
-    ) -> Result<(), NoMemory> {
-        let _ = random;
+    fn follow_digits(&self, place: usize, digit: u16, aims: &mut Aims<A>) -> Result<(), NoMemory> {
         if !self.miss.is_for_zero || !is_digit(digit) {
             return Ok(());
         }
@@ -291,19 +280,24 @@ impl<A: Allocator + Copy> Aim<A> {
         for weight in [8u16, 64, 512, 10, 100] {
             let off = distance / weight;
             if off != 0 && off < 10 {
-                for value in [digit.wrapping_sub(off), digit.wrapping_add(off)] {
-                    if is_digit(value) {
-                        self.push(place, value, aims)?;
-                    }
-                }
+                self.follow_digit(place, digit.wrapping_sub(off), aims)?;
+                self.follow_digit(place, digit.wrapping_add(off), aims)?;
             }
+        }
+        Ok(())
+    }
+
+    /// Lets the hint at a value in a place wait, if it is a digit.
+    fn follow_digit(&self, place: usize, value: u16, aims: &mut Aims<A>) -> Result<(), NoMemory> {
+        if is_digit(value) {
+            self.push(place, value, aims)?;
         }
         Ok(())
     }
 
     /// Lets the hint at a value in a place wait, if it is new: where the run came nearer to its goal, before
     /// all others.
-    fn push(&mut self, place: usize, value: u16, aims: &mut Aims<A>) -> Result<(), NoMemory> {
+    fn push(&self, place: usize, value: u16, aims: &mut Aims<A>) -> Result<(), NoMemory> {
         if !aims.hints.is_new(self.last.mark(place, value)) {
             return Ok(());
         }

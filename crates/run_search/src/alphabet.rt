@@ -101,10 +101,13 @@ impl<A: Allocator + Copy> Alphabet<A> {
         }
     }
 
-    /// A word for the switches.
+    /// A word for the switches: one that was learned, one of the tape, or another.
     fn word(&self, random: &mut Random) -> u16 {
         match random.below(8) {
-            0 | 1 => random.pick(&self.learned_words).unwrap_or(0),
+            0 | 1 => match random.pick(&self.learned_words) {
+                Some(word) => word,
+                None => random.pick(&self.words).unwrap_or(0),
+            },
             2 | 3 => any_word(random),
             4 | 5 => random.pick(&self.words).unwrap_or(0),
             6 => self.byte(random),

@@ -7,13 +7,13 @@ use peripherals::NoMemory;
 use std::alloc::Allocator;
 use word12::Word;
 
-/// The most hints that wait at one place.
+/// The most hints that wait in one queue.
 const MOST_WAITING: usize = 512;
 
 /// The most hints that wait because they came nearer.
 const MOST_NEARER: usize = 256;
 
-/// The most places.
+/// The most queues.
 const MOST_QUEUES: usize = 1000;
 
 /// Words of 64 bits for the hints that were made.

@@ -13,6 +13,8 @@ pub(crate) enum Look {
     Asks(Ask),
     /// The address that an indirect reference uses.
     Address,
+    /// The same, of a DCA or an ISZ.
+    StoredIndirectly,
     /// The word that a DCA or an ISZ leaves in the cell that it names.
     Stored,
     /// How far the accumulator is from 0 at a test of it for 0.
@@ -27,6 +29,11 @@ const ZERO_BIT: u16 = 0o40;
 const SIGN_BIT: u16 = 0o100;
 
 impl Look {
+    /// Whether a DCA or an ISZ is carried out.
+    pub(crate) fn is_store(self) -> bool {
+        matches!(self, Look::Stored | Look::StoredIndirectly)
+    }
+
     /// What is worth a look at a word.
     fn at(word: Word, profile: Profile) -> Look {
         if let Some(ask) = Ask::by(word, profile) {
@@ -42,11 +49,11 @@ impl Look {
 
 /// What is worth a look at a memory reference.
 fn look_at_reference(word: Word) -> Look {
-    if refers_indirectly(word) {
-        return Look::Address;
-    }
+    let is_indirect = refers_indirectly(word);
     match Operation::of(word) {
+        Operation::Isz | Operation::Dca if is_indirect => Look::StoredIndirectly,
         Operation::Isz | Operation::Dca => Look::Stored,
+        _ if is_indirect => Look::Address,
         _ => Look::Nothing,
     }
 }

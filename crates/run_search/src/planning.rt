@@ -59,17 +59,16 @@ impl<A: Allocator + Copy> RunSearch<A> {
     /// A run from a kept state.
     fn plan_growing(&mut self) -> Result<Plan<A>, NoMemory> {
         let state = self.tree.pick(&mut self.random);
-        let mut plan = if state != 0 && self.random.once_in(3) {
-            self.plan_changed(state)?
-        } else {
-            self.plan_next(state)?
+        let mut plan = match self.random.below(8) {
+            0 => self.plan_again(state)?,
+            1 => self.plan_repeated(state)?,
+            2 | 3 => self.plan_few(state)?,
+            _ => self.plan_other(state)?,
         };
-        match self.random.below(4) {
-            0 => plan.few = self.alphabet.few(self.alloc, &mut self.random)?,
-            1 => self.repeat(&mut plan, state)?,
-            _ => {}
-        }
         plan.more = self.how_many_more(plan.in_turn);
+        if plan.given.is_empty() {
+            plan.more = plan.more.max(1);
+        }
         Ok(plan)
     }
 
@@ -82,6 +81,22 @@ impl<A: Allocator + Copy> RunSearch<A> {
             _ if in_turn => self.random.below(600),
             _ => self.random.below(100),
         }
+    }
+
+    /// A run with one more input than led to a kept state, or with some of the last ones changed.
+    fn plan_other(&mut self, state: usize) -> Result<Plan<A>, NoMemory> {
+        if state != 0 && self.random.once_in(3) {
+            self.plan_changed(state)
+        } else {
+            self.plan_next(state)
+        }
+    }
+
+    /// The same, and what follows are a few values.
+    fn plan_few(&mut self, state: usize) -> Result<Plan<A>, NoMemory> {
+        let mut plan = self.plan_other(state)?;
+        plan.few = self.alphabet.few(self.alloc, &mut self.random)?;
+        Ok(plan)
     }
 
     /// A run from a kept state with one input: each byte in turn, and every other time one by chance.
@@ -147,34 +162,31 @@ impl<A: Allocator + Copy> RunSearch<A> {
         Ok(())
     }
 
-    /// Lets a run repeat one input, or the last few inputs before a kept state.
-    fn repeat(&mut self, plan: &mut Plan<A>, state: usize) -> Result<(), NoMemory> {
+    /// The same as another run, and what follows is one value again and again.
+    fn plan_repeated(&mut self, state: usize) -> Result<Plan<A>, NoMemory> {
+        let mut plan = self.plan_other(state)?;
+        let ask = self.tree.ask(state);
+        let any = self.alphabet.value(&mut self.random, ask);
+        let last = plan.given.last().copied();
+        let value = if self.random.once_in(2) {
+            any
+        } else {
+            last.unwrap_or(any)
+        };
+        plan.few.push(value).map_err(|_| NoMemory)?;
         plan.in_turn = true;
-        if self.random.once_in(2) {
-            let count = 1 + self.random.below(5);
-            let tail = self.tree.tail(state, count)?;
-            plan.base = state;
-            plan.given.clear();
-            for input in tail
-                .inputs
-                .iter()
-                .skip(tail.inputs.len().saturating_sub(count))
-            {
-                plan.few.push(input.value).map_err(|_| NoMemory)?;
-            }
-        }
-        if plan.few.is_empty() {
-            let ask = self.tree.ask(state);
-            let any = self.alphabet.value(&mut self.random, ask);
-            let last = plan.given.last().copied();
-            let value = if self.random.once_in(2) {
-                any
-            } else {
-                last.unwrap_or(any)
-            };
-            plan.few.push(value).map_err(|_| NoMemory)?;
-        }
-        Ok(())
+        Ok(plan)
+    }
+
+    /// A run from a kept state with the last few inputs before it again and again; any where none led to it.
+    fn plan_again(&mut self, state: usize) -> Result<Plan<A>, NoMemory> {
+        let count = 1 + self.random.below(5);
+        let tail = self.tree.tail(state, count)?;
+        let skipped = tail.inputs.len().saturating_sub(count);
+        let mut plan = Plan::of(self.alloc, Purpose::Grow, state, Vec::new(self.alloc));
+        plan.few = values(self.alloc, tail.inputs.get(skipped..).unwrap_or(&[]))?;
+        plan.in_turn = true;
+        Ok(plan)
     }
 }
 

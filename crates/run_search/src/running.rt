@@ -17,7 +17,8 @@ use std::alloc::Allocator;
 use turns::{Stepped, Turns, take_step};
 use word12::Word;
 
-/// After so many events without an input, a completion or a store a run is over: it waits.
+/// After so many events without an input, a completion or a store a run is over, if it is no long run from
+/// the start: it waits.
 const MOST_IDLE: u32 = 400;
 
 /// After so many events without an input and without anything new a run is over.
@@ -77,7 +78,7 @@ pub(crate) struct Run<A: Allocator> {
     pub(crate) before_base: usize,
     pub(crate) pace: Pace,
     pub(crate) news: News,
-    /// Whether the program has asked for an input yet.
+    /// Whether the state in which the program asks next may be kept: not that from which the run goes on.
     pub(crate) has_asked: bool,
     /// How many events there were when something last happened, when something was last new or asked for,
     /// and when something was last new.
@@ -150,6 +151,14 @@ impl<A: Allocator + Copy> Run<A> {
         std::mem::replace(&mut self.script, Script::new(alloc))
     }
 
+    /// Adds the inputs that were given behind the kept state to others.
+    pub(crate) fn add_inputs(&self, inputs: &mut Vec<Input, A>) -> Result<(), NoMemory> {
+        for input in self.inputs.iter().skip(self.before_base) {
+            inputs.push(*input).map_err(|_| NoMemory)?;
+        }
+        Ok(())
+    }
+
     /// Something happened.
     pub(crate) fn stirs(&mut self) {
         self.stirred = self.extent.events;
@@ -181,9 +190,10 @@ impl<A: Allocator + Copy> Run<A> {
         requires profile { profile_of watcher.old.world ≡ (meaning declaration.now).profile }
         ensures profile { profile_of watcher.new.world ≡ (meaning declaration.now).profile }
     {
+        let steps = self.since(self.written);
         self.write_steps();
         self.script.add(&event)?;
-        self.extent.add();
+        self.extent.add(steps, &event);
         self.written = self.extent.events;
         self.stirs();
         watcher.next(declaration, event)?;

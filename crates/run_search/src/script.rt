@@ -24,7 +24,7 @@ pub(crate) struct Script<A: Allocator> {
 pub(crate) struct Extent {
     /// Its events.
     pub(crate) events: u32,
-    /// The bytes of its text, at most.
+    /// The bytes of its text without the steps behind the last other event, or a few more.
     pub(crate) bytes: u32,
 }
 
@@ -40,10 +40,11 @@ impl Extent {
         self.events = self.events.saturating_add(1);
     }
 
-    /// One more event that is no step.
-    pub(crate) fn add(&mut self) {
+    /// One more event that is no step, behind so many steps, which were counted.
+    pub(crate) fn add(&mut self, steps: u32, event: &Event) {
         self.events = self.events.saturating_add(1);
-        self.bytes = self.bytes.saturating_add(MOST_BYTES_OF_PART);
+        let bytes = bytes_of_steps(steps).saturating_add(bytes_of(event));
+        self.bytes = self.bytes.saturating_add(bytes);
     }
 
     /// Whether a script that is no longer than this has a text that is read again.
@@ -52,14 +53,34 @@ impl Extent {
     }
 }
 
-/// The most bytes of the two lines of a part: `step 1000000` and `switches 7777`.
-const MOST_BYTES_OF_PART: u32 = 27;
-
 /// Fewer bytes than are read of a text of events.
 const MOST_BYTES: u32 = 65_000;
 
 /// Fewer events than are read of a text.
 const MOST_EVENTS: u32 = 990_000;
+
+/// The bytes of the line of so many steps, or a few more.
+fn bytes_of_steps(steps: u32) -> u32 {
+    match steps {
+        0 => 0,
+        1..=9 => 7,
+        10..=99 => 8,
+        100..=999 => 9,
+        _ => 13,
+    }
+}
+
+/// The bytes of the line of an event.
+fn bytes_of(event: &Event) -> u32 {
+    match event {
+        Event::Step => 5,
+        Event::PunchDone => 6,
+        Event::Key(_) | Event::PrinterDone => 8,
+        Event::Continue => 9,
+        Event::ReaderDone(_) => 11,
+        Event::Switches(_) => 14,
+    }
+}
 
 impl<A: Allocator> Script<A> {
     /// No event.

@@ -56,7 +56,7 @@ pub struct RunSearch<A: Allocator> {
     pub(crate) clock: u32,
     /// What it was when the last run began.
     pub(crate) begun: u32,
-    /// The steps of runs from the start.
+    /// The steps of long runs from the start.
     pub(crate) roamed: u32,
     /// The step from which on the next lesson is due.
     pub(crate) lesson: u32,
@@ -237,7 +237,7 @@ impl<A: Allocator + Copy> RunSearch<A> {
         if !self.go_on(program, trial, turns)? {
             return Ok(None);
         }
-        self.found(&mut trial.run)
+        Ok(Some(self.found(&mut trial.run)?))
     }
 
     /// Makes the steps of a run. True where the next one breaks a rule: it is not made, and where the run
@@ -322,15 +322,13 @@ impl<A: Allocator + Copy> RunSearch<A> {
     }
 
     /// The whole of a run that broke a rule, from the start.
-    fn found(&self, run: &mut Run<A>) -> Result<Option<Found<A>>, NoMemory> {
+    fn found(&self, run: &mut Run<A>) -> Result<Found<A>, NoMemory> {
         run.write_steps();
         let mut script = self.tree.script(run.base)?;
         script.append(&run.script)?;
         script.add_step();
         let Tail { mut inputs, .. } = self.tree.tail(run.base, usize::MAX)?;
-        for input in run.inputs.iter().skip(run.before_base) {
-            inputs.push(*input).map_err(|_| NoMemory)?;
-        }
-        Ok(Some(Found { script, inputs }))
+        run.add_inputs(&mut inputs)?;
+        Ok(Found { script, inputs })
     }
 }

@@ -139,14 +139,11 @@ impl<A: Allocator + Copy> RunSearch<A> {
         } else {
             Some(run.news.place)
         };
-        let mut inputs = Vec::new(self.alloc);
-        for input in run.inputs.iter().skip(run.before_base) {
-            inputs.push(*input).map_err(|_| NoMemory)?;
-        }
-        let tail = Tail {
+        let mut tail = Tail {
             base: run.base,
-            inputs,
+            inputs: Vec::new(self.alloc),
         };
+        run.add_inputs(&mut tail.inputs)?;
         let script = run.take_script(self.alloc);
         run.before_base = run.inputs.len();
         run.base = self
@@ -162,7 +159,9 @@ impl<A: Allocator + Copy> RunSearch<A> {
         let word = cpu.memory.get(cpu.pc);
         let look = self.looks[word.index()];
         let place = match look {
-            Look::Address => effective_address(&cpu.memory, word, cpu.pc),
+            Look::Address | Look::StoredIndirectly => {
+                effective_address(&cpu.memory, word, cpu.pc)
+            }
             Look::Stored => target(word, cpu.pc),
             _ => Word::ZERO,
         };
@@ -194,7 +193,13 @@ impl<A: Allocator + Copy> RunSearch<A> {
         let progress = trial
             .run
             .step(&mut trial.watcher, program.declaration, turns)?;
-        if progress == Progress::GoesOn && trial.plan.purpose != Purpose::Repeat {
+        if progress != Progress::GoesOn {
+            return Ok(progress);
+        }
+        if glance.look.is_store() {
+            trial.run.stirs();
+        }
+        if trial.plan.purpose != Purpose::Repeat {
             self.note(&trial.watcher, &mut trial.run, &trial.plan, glance)?;
         }
         Ok(progress)
@@ -244,11 +249,10 @@ impl<A: Allocator + Copy> RunSearch<A> {
         }
         match glance.look {
             Look::Nothing | Look::Asks(_) => {}
-            Look::Address => self.note_value(run, glance.at, glance.place),
-            Look::Stored => {
-                self.note_value(run, glance.at, cpu.memory.get(glance.place));
-                run.stirs();
+            Look::Address | Look::StoredIndirectly => {
+                self.note_value(run, glance.at, glance.place);
             }
+            Look::Stored => self.note_value(run, glance.at, cpu.memory.get(glance.place)),
             Look::Zero | Look::Sign => {
                 if glance.ac != Word::ZERO {
                     let miss = Miss {

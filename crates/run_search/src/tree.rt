@@ -53,7 +53,7 @@ struct Kept<A: Allocator> {
     machine: Snapshot<A>,
     /// What the program asks for.
     ask: Ask,
-    /// How often runs began here.
+    /// How often a run began here with the value whose turn it was.
     tries: usize,
 }
 

@@ -28,13 +28,13 @@ const MOST_WORDS: usize = 100_000;
 /// All kinds of hints.
 const ALL_KINDS: u16 = 0x3ff;
 
-/// From so many hints on that were counted a test teaches.
+/// A test that failed so many times teaches.
 const ENOUGH: u32 = 64;
 
-/// A byte is learned at which one of so many hints points.
+/// A byte is learned at which one of so many failures of a test hints.
 const PART: u32 = 24;
 
-/// Of more hints than that half are forgotten.
+/// Of more failures than that half are forgotten.
 const MANY: u32 = 1000;
 
 /// How often a test is looked at before it is looked at less and less.
@@ -70,7 +70,7 @@ impl Vote {
 struct Ballot<A: Allocator> {
     /// How often it failed.
     met: u32,
-    /// How often its hints were counted.
+    /// How often it failed, of the times that were counted.
     counted: u32,
     /// The kinds of hints that agree, a bit for each; all of them until it is known.
     good: u16,

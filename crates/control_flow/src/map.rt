@@ -28,8 +28,7 @@ pub struct Map {
     pub(crate) returns: [WordSet; 8],
     /// The cells that ISZ or DCA name, and pointers that are stepped.
     pub(crate) stored: WordSet,
-    /// The words of tables to which a JMS goes of which it isn't known where it goes; and to which a
-    /// JMP.
+    /// The words of tables that a JMS whose target isn't known is taken to reach; and those that a JMP is.
     pub(crate) called: WordSet,
     pub(crate) jumped: WordSet,
     /// The cells in which runs were seen to halt, where another word may stand there.

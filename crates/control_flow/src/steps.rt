@@ -4,12 +4,8 @@ use crate::map::Map;
 use crate::tape::Tape;
 use crate::walk::{Spot, Walk};
 use instruct::{DeviceOperation, Instruction, Operation, decode, halts, refers_indirectly, target};
+use processor::is_auto_index;
 use word12::Word;
-
-/// Whether a cell is one of 0010 to 0017, which an indirect reference steps.
-fn is_auto_index(cell: Word) -> bool {
-    cell.index() / 8 == 1
-}
 
 impl Map {
     /// Goes on at a cell, if it may be in the body: it is on the tape or is stored in, no entry, and in

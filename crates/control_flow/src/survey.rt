@@ -22,11 +22,8 @@ use turns::Turns;
 use word12::Word;
 use wordset::WordSet;
 
-/// How many steps runs make in all.
-const STEPS: u32 = 3_000_000;
-
-/// How many steps are tried at most, with those that break a declaration.
-const MOST_STEPS: u32 = STEPS + MOST_LESSONS;
+/// How many steps are tried at most in all runs, with those that break a declaration.
+const MOST_STEPS: u32 = 3_000_000;
 
 /// How many runs are made at most: a tape on which each is short has shown by then what it does.
 const MOST_RUNS: u32 = 20_000;
@@ -34,7 +31,7 @@ const MOST_RUNS: u32 = 20_000;
 /// How often the declaration is widened at most.
 const MOST_LESSONS: u32 = 1024;
 
-/// How often it is widened at most for one step.
+/// How often a step is tried again at most for which it was widened.
 const MOST_STALLS: u32 = 4;
 
 /// With which seed runs are made: that of `refute`.
@@ -113,10 +110,7 @@ pub fn surveyed<A: Allocator + Copy>(
     image: &Image,
     map: &Map,
 ) -> Result<Option<Findings<A>>, NoMemory> {
-    let tape = Tape {
-        image,
-        visits: None,
-    };
+    let tape = Tape::of(image);
     let Some(declaration) = declared(alloc, &tape, map)? else {
         return Ok(None);
     };
@@ -192,7 +186,7 @@ impl<A: Allocator + Copy> Survey<A> {
         let mut last = before;
         let mut stalls = 0u32;
         for _lesson in 0..MOST_LESSONS {
-            if !self.goes_on(image, search, &mut trial, turns)? || stalls > MOST_STALLS {
+            if stalls >= MOST_STALLS || !self.goes_on(image, search, &mut trial, turns)? {
                 break;
             }
             let is_stalled = turns.spent() <= last.saturating_add(1);
@@ -248,12 +242,12 @@ impl<A: Allocator + Copy> Survey<A> {
         if self.lessons >= MOST_LESSONS {
             return Ok(false);
         }
-        self.lessons = self.lessons.saturating_add(1);
         let sight = Sight::of(watcher);
         self.collect(search.record())?;
         if self.lesson(image, search.record(), watcher, &sight) != Lesson::New {
             return Ok(false);
         }
+        self.lessons = self.lessons.saturating_add(1);
         search.sees(&sight);
         self.collect(search.record())?;
         self.widen(image, search.record())

@@ -15,7 +15,7 @@ ghost use Rattle.peripherals.specs.Loading.{image_of};
 ghost use Rattle.proposer.specs.Proposals.{IsTold};
 ghost use Rattle.policy.specs.Runs.{IsSafe};
 
-use crate::declaring::{copy_of, proposal_for, push_seen, push_unfollowed};
+use crate::declaring::{MOST_TURNS, copy_of, proposal_for, push_lack, push_seen, push_unfollowed};
 use crate::extending::extends;
 use crate::merging::merged;
 use crate::verifying::{Lack, lack_of};
@@ -23,16 +23,13 @@ use analyser::guess;
 use bin_tape::Image;
 use command_parts::inputs::tape_from;
 use command_parts::status::{Fault, Status};
-use command_parts::text::push_place;
 use declaration::{Declaration, DeclarationFault};
 use options::DeclareOptions;
-use proposer::Proposal;
+use proposer::{ObservedRuns, Proposal};
 use std::alloc::{AllocError, Allocator};
 use streams::{ByteSink, ByteSource, put, read_at_most};
 use turns::{ProposeFault, Turns};
-
-/// How many turns a proposal has at most.
-const MOST_TURNS: u32 = 300_000;
+use wordset::WordSet;
 
 /// One byte more than the text of a declaration may have, so that a longer one is seen to be too
 /// long.
@@ -147,17 +144,6 @@ fn tried<A: Allocator + Copy, D: Allocator>(
     }
 }
 
-/// Adds a comment that says why no certificate is found.
-fn push_lack<A: Allocator>(text: &mut Vec<u8, A>, lack: Lack) -> Result<(), AllocError> {
-    match lack {
-        Lack::Stuck(at) => push_place(text, b"/ No certificate is found: stuck at ", at)?,
-        Lack::TurnsSpent => {
-            text.extend_from_slice(b"/ No certificate is found within the turns that there are")?
-        }
-    }
-    text.extend_from_slice(b".\n")
-}
-
 /// Ends the last line of a text, if it lacks its end.
 fn end_text<A: Allocator>(text: &mut Vec<u8, A>) -> Result<(), AllocError> {
     match text.last() {
@@ -166,18 +152,20 @@ fn end_text<A: Allocator>(text: &mut Vec<u8, A>) -> Result<(), AllocError> {
     }
 }
 
-/// A text, and behind it comments that say what is missing.
+/// A text, and behind it comments that say what is missing, and in which runs it was seen what the program
+/// does, if what is written is by them.
 fn with_remarks<A: Allocator + Copy>(
     alloc: A,
     text: &[u8],
     lack: Lack,
-    proposal: &Proposal<A>,
+    seen: Option<ObservedRuns>,
+    unfollowed: &WordSet,
 ) -> Result<Vec<u8, A>, AllocError> {
     let mut more = copy_of(alloc, text)?;
     end_text(&mut more)?;
     push_lack(&mut more, lack)?;
-    push_seen(&mut more, proposal.seen)?;
-    push_unfollowed(&mut more, &proposal.unfollowed)?;
+    push_seen(&mut more, seen)?;
+    push_unfollowed(&mut more, unfollowed)?;
     Ok(more)
 }
 
@@ -187,13 +175,14 @@ fn remarked<A: Allocator + Copy, D: Allocator>(
     given: &Declaration<D>,
     text: &[u8],
     lack: Lack,
-    proposal: &Proposal<A>,
+    seen: Option<ObservedRuns>,
+    unfollowed: &WordSet,
 ) -> Result<Vec<u8, A>, Fault>
     requires { IsExtension (meaning given.now) text.now }
     ensures extends { IfOk result (λ more. IsExtension (meaning given.now) more.items) }
     ensures faults { IfErr result IsMemoryFault }
 {
-    let more = with_remarks(alloc, text, lack, proposal)?;
+    let more = with_remarks(alloc, text, lack, seen, unfollowed)?;
     match extension(alloc, given, &more)? {
         Some(_found) => Ok(more),
         None => Ok(copy_of(alloc, text)?),
@@ -255,8 +244,15 @@ fn completed<A: Allocator + Copy>(
             text,
             status: Status::Done,
         }),
-        Trial::Lacking(lack) => refused(remarked(alloc, promised, &text, lack, proposal)),
-        Trial::Unfit => refused(remarked(alloc, promised, &given.text, lack, proposal)),
+        Trial::Lacking(lack) => {
+            let seen = proposal.seen;
+            refused(remarked(alloc, promised, &text, lack, seen, &proposal.unfollowed))
+        }
+        // Nothing is added, so nothing is by what runs did.
+        Trial::Unfit => {
+            let text = &given.text;
+            refused(remarked(alloc, promised, text, lack, None, &proposal.unfollowed))
+        }
     }
 }
 

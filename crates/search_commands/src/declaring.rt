@@ -11,52 +11,56 @@ ghost use Rattle.declaration.specs.Kept.{meaning};
 ghost use Rattle.declaration.specs.Text.{Declares};
 ghost use Rattle.proposer.specs.Proposals.{AreNeeded, Fits, IsListed, IsShown, IsTold};
 
+use crate::verifying::Lack;
 use bin_tape::Image;
 use command_parts::inputs::tape_from;
 use command_parts::status::{Fault, Status};
 use command_parts::text::push_place;
 use declaration::{Declaration, DeclarationFault};
-use instruct::Profile;
 use itoa::Buffer;
 pub use options::DeclareOptions;
 use proposer::{ObservedRuns, Proposal, Verdict, propose, propose_with_reads};
 use std::alloc::{AllocError, Allocator};
 use streams::{ByteSink, ByteSource, put};
 use turns::{ProposeFault, Turns};
-use word12::Word;
 use wordset::WordSet;
 
-/// How many turns there are at most.
-const MOST_TURNS: u32 = 300_000;
+/// How many turns a proposal has at most.
+pub(crate) const MOST_TURNS: u32 = 300_000;
 
 /// Adds a comment for each address at which control isn't followed.
 pub(crate) fn push_unfollowed<A: Allocator>(
     text: &mut Vec<u8, A>,
     addresses: &WordSet,
 ) -> Result<(), AllocError> {
-    for index in 0..4096usize {
-        let at = Word::from_index(index);
-        if addresses.contains(at) {
-            push_place(text, b"/ It isn't known where the program goes on at ", at)?;
-            text.extend_from_slice(b".\n")?;
-        }
+    for at in addresses.iter() {
+        push_place(text, b"/ It isn't known where the program goes on at ", at)?;
+        text.extend_from_slice(b".\n")?;
     }
     Ok(())
 }
 
-/// Adds a comment that says why no certificate is found, if none is.
+/// Adds a comment that says why no certificate is found.
+pub(crate) fn push_lack<A: Allocator>(text: &mut Vec<u8, A>, lack: Lack) -> Result<(), AllocError> {
+    match lack {
+        Lack::Stuck(at) => push_place(text, b"/ No certificate is found: stuck at ", at)?,
+        Lack::TurnsSpent => {
+            text.extend_from_slice(b"/ No certificate is found within the turns that there are")?
+        }
+    }
+    text.extend_from_slice(b".\n")
+}
+
+/// The same, if none is.
 fn push_verdict<A: Allocator, B: Allocator>(
     text: &mut Vec<u8, A>,
     verdict: &Verdict<B>,
 ) -> Result<(), AllocError> {
     match verdict {
-        Verdict::Safe(_) => return Ok(()),
-        Verdict::Stuck(at) => push_place(text, b"/ No certificate is found: stuck at ", *at)?,
-        Verdict::TurnsSpent => {
-            text.extend_from_slice(b"/ No certificate is found within the turns that there are")?
-        }
+        Verdict::Safe(_) => Ok(()),
+        Verdict::Stuck(at) => push_lack(text, Lack::Stuck(*at)),
+        Verdict::TurnsSpent => push_lack(text, Lack::TurnsSpent),
     }
-    text.extend_from_slice(b".\n")
 }
 
 /// Adds a comment that says in which runs it was seen what the program does, if it was.

@@ -202,8 +202,10 @@ fn lacking_lines<A: Allocator + Copy, D: Allocator>(
     image: &Image,
     declaration: &Declaration<D>,
 ) -> Result<Vec<u8, A>, AllocError> {
-    let Ok(attempt) = guess_or_draft(alloc, image, declaration) else {
-        return Ok(Vec::new(alloc));
+    let attempt = match guess_or_draft(alloc, image, declaration) {
+        Ok(attempt) => attempt,
+        Err(GuessFault::NoMemory) => return Err(AllocError),
+        Err(_) => return Ok(Vec::new(alloc)),
     };
     match &attempt {
         Attempt::Found(_) => Ok(Vec::new(alloc)),

@@ -1,4 +1,4 @@
-use Rattle.std.proofs.Common.{◌≡◌, refl}
+use Rattle.std.proofs.Common.{refl}
 use Rattle.declaration.specs.Kept.{meaning}
 use Rattle.certificate.specs.Spelling.{text as spelled}
 use Rattle.certificate.specs.Kept.{meaning as lines_of}

@@ -135,50 +135,14 @@ pub(crate) fn advance<A: Allocator, W: ByteSink>(
     ensures wants { OnErr result (W.mark out.new ≡ false →
         puts_out (view world.old) event ≡ true) }
 {
+    if !trace {
+        return Ok(world.apply(event)?);
+    }
     let at = world.cpu().pc;
     let word = world.cpu().memory.get(at);
     let seen = world.apply(event)?;
-    if !trace {
-        return Ok(seen);
-    }
     put_trace(out, &seen, at, word, world.cpu())?;
     Ok(seen)
-}
-
-/// As `advance`, and looks at nothing but the event where no trace is asked for.
-#[inline(always)]
-pub(crate) fn apply_event<A: Allocator, W: ByteSink>(
-    world: &mut World<A>,
-    out: &mut W,
-    trace: bool,
-    event: Event,
-) -> Result<Seen, Fault>
-    requires unmarked { W.mark out.old ≡ false }
-    ensures happens { OnOk result
-        (Happens (profile_of world.old) (view world.old) event (view world.new)) }
-    ensures seen { IfOk result (λ seen.
-        seen ≡ seen_of (profile_of world.old) (view world.old) event) }
-    ensures wrote { OnOk result (Appends (W.taken out.old) (W.taken out.new)
-        (traced trace (trace_of (profile_of world.old) (view world.old) event (view world.new)))) }
-    ensures profile { profile_of world.new ≡ profile_of world.old }
-    ensures faults { IfErr result IsRunFault }
-    ensures marks { W.mark out.new ≡ fails_to_write result }
-    ensures asked { W.mark out.new ≡ true → trace ≡ true }
-    ensures broke { W.mark out.new ≡ true →
-        Happens (profile_of world.old) (view world.old) event (view world.new) }
-    ensures front { W.mark out.new ≡ true → AppendsFront (W.taken out.old) (W.taken out.new)
-        (trace_of (profile_of world.old) (view world.old) event (view world.new)) }
-    ensures silent { trace ≡ false → out.new ≡ out.old }
-    ensures kept { OnErr result (W.mark out.new ≡ false → W.taken out.new ≡ W.taken out.old) }
-    ensures unchanged { OnErr result (W.mark out.new ≡ false → view world.new ≡ view world.old) }
-    // Memory is refused only for what is printed or punched.
-    ensures wants { OnErr result (W.mark out.new ≡ false →
-        puts_out (view world.old) event ≡ true) }
-{
-    if trace {
-        return advance(world, out, true, event);
-    }
-    Ok(world.apply(event)?)
 }
 
 /// Lets a world go through a course. The run ends early at an unsupported word, and at a halt where

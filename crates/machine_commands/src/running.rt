@@ -21,7 +21,6 @@ pub use options::RunOptions;
 use peripherals::{Start, World};
 use std::alloc::Allocator;
 use streams::{ByteSink, ByteSource, put};
-use word12::Word;
 
 /// A run that is stuck at an unsupported word is refused.
 pub(crate) fn status_of(end: End) -> Status

@@ -11,7 +11,7 @@ ghost use Rattle.machine_commands.specs.Schedule.{Whole};
 ghost use Rattle.machine_commands.specs.Session.{BrokeOff, FrontsOf, IsHeld, IsHeldFault, IsSession, NothingOrFronts, Operated, SessionFronts, WritesAll, character, failures, taken};
 ghost use Rattle.machine_commands.specs.SessionParts.{IsPartOf, Played, PlayedFront, is_step};
 
-use crate::follow::{End, Outcome, apply_event, end_of};
+use crate::follow::{End, Outcome, advance, end_of};
 use crate::running::status_of;
 use crate::schedule::Scheduler;
 use crate::summary::closing_of;
@@ -23,7 +23,6 @@ pub use options::SessionOptions;
 use peripherals::{Event, Operator, Seen, Start, World};
 use std::alloc::Allocator;
 use streams::{ByteSink, ByteSource, Failed, put};
-use word12::Word;
 
 /// Where a session writes to.
 #[derive(Drop)]
@@ -117,7 +116,7 @@ fn play<A: Allocator, W: ByteSink, T: ByteSink>(
     ensures marks { W.mark report.new || T.mark teletype.new ≡ fails_to_write result }
 {
     let before = world.printed().len();
-    let seen = apply_event(world, report, trace, event)?;
+    let seen = advance(world, report, trace, event)?;
     type_printed(&event, world.printed(), before, teletype)?;
     Ok(seen)
 }

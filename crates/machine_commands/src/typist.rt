@@ -36,7 +36,7 @@ pub struct Typist<F, K> {
     asked: bool,
 }
 
-/// The next byte of a source, which is asked for no more.
+/// The next byte of a source, which is asked for one byte alone.
 fn next_byte<S: ByteSource>(source: &mut S) -> Result<Option<u8>, Fault>
     requires { S.mark source.old ≡ false }
     ensures some { IfOk result (λ next. IfSome next (λ byte. (rest : List ℕ) →

@@ -11,9 +11,9 @@ pub returns-in_err-put_trace-clause-front : goal.returns-in_err-put_trace-clause
 returns-in_err-put_trace-clause-front g c = λ marked.
     let there : c.cpu.result.now.pc ≡ (view c.args.world.now).state.pc = search rules in
     let reads = word_there (view c.args.world.now) (state_of c.cpu-2.result.now) c.cpu.result.now.pc c.get-word.result c.cpu-2.ensures.state there c.get-word.ensures in
-    let after : state_of c.cpu-3.result.now ≡ (view c.apply.new.self).state = search rules in
+    let after : state_of c.cpu-3.result.now ≡ (view c.apply-2.new.self).state = search rules in
     let profile : c.cpu-3.result.now.profile ≡ profile_of c.args.world.now = search rules in
-    let same = same_line (profile_of c.args.world.now) c.cpu-3.result.now.profile (view c.args.world.now) c.args.event (view c.apply.new.self) c.in_ok-seen.seen c.cpu.result.now.pc c.get-word.result (state_of c.cpu-3.result.now)
+    let same = same_line (profile_of c.args.world.now) c.cpu-3.result.now.profile (view c.args.world.now) c.args.event (view c.apply-2.new.self) c.in_ok-seen.seen c.cpu.result.now.pc c.get-word.result (state_of c.cpu-3.result.now)
     c.in_ok-seen.ensures.seen there reads after profile in
     subst (AppendsFront (g.W.ByteSink.taken c.args.out.now) (g.W.ByteSink.taken c.put_trace.new.out)) same c.in_err-put_trace.ensures.front
 
@@ -21,10 +21,10 @@ pub returns-clause-wrote : goal.returns-clause-wrote
 returns-clause-wrote g c =
     let there : c.cpu.result.now.pc ≡ (view c.args.world.now).state.pc = search rules in
     let reads = word_there (view c.args.world.now) (state_of c.cpu-2.result.now) c.cpu.result.now.pc c.get-word.result c.cpu-2.ensures.state there c.get-word.ensures in
-    let after : state_of c.cpu-3.result.now ≡ (view c.apply.new.self).state = search rules in
+    let after : state_of c.cpu-3.result.now ≡ (view c.apply-2.new.self).state = search rules in
     let profile : c.cpu-3.result.now.profile ≡ profile_of c.args.world.now = search rules in
-    let same = same_line (profile_of c.args.world.now) c.cpu-3.result.now.profile (view c.args.world.now) c.args.event (view c.apply.new.self) c.in_ok-seen.seen c.cpu.result.now.pc c.get-word.result (state_of c.cpu-3.result.now)
+    let same = same_line (profile_of c.args.world.now) c.cpu-3.result.now.profile (view c.args.world.now) c.args.event (view c.apply-2.new.self) c.in_ok-seen.seen c.cpu.result.now.pc c.get-word.result (state_of c.cpu-3.result.now)
     c.in_ok-seen.ensures.seen there reads after profile in
-    let wrote : Appends (g.W.ByteSink.taken c.args.out.now) (g.W.ByteSink.taken c.put_trace.new.out) (trace_of (profile_of c.args.world.now) (view c.args.world.now) c.args.event (view c.apply.new.self)) =
+    let wrote : Appends (g.W.ByteSink.taken c.args.out.now) (g.W.ByteSink.taken c.put_trace.new.out) (trace_of (profile_of c.args.world.now) (view c.args.world.now) c.args.event (view c.apply-2.new.self)) =
     subst (Appends (g.W.ByteSink.taken c.args.out.now) (g.W.ByteSink.taken c.put_trace.new.out)) same c.in_ok-put_trace.ensures.whole in
     where_traced c.args.trace _ _ _ (search rules) wrote

@@ -63,7 +63,8 @@ install: run
 	    echo "Another $(PROGRAM) is on the path: $$other. make install PROGRAM=name gives this one another name."
 	install -D -m 755 $(BUILT) $(PREFIX)/bin/$(PROGRAM)
 	install -D -m 644 share/pdp8.1 $(PREFIX)/share/man/man1/$(PROGRAM).1
-	install -D -m 644 share/pdp8.bash $(PREFIX)/share/bash-completion/completions/$(PROGRAM)
+	sed '$$s/pdp8$$/$(PROGRAM)/' share/pdp8.bash | \
+	    install -D -m 644 /dev/stdin $(PREFIX)/share/bash-completion/completions/$(PROGRAM)
 
 # A tarball with what a user needs.
 dist: run

@@ -102,7 +102,8 @@ def noise(chance):
 def job(chance, programs):
     """What is run: the words, the files, which of them is changed, and what may be said."""
     one, other = chance.choice(programs.all), chance.choice(programs.all)
-    command = chance.choice(['dump', 'run', 'events', 'watch', 'check', 'check', 'check', 'list', 'assemble', *EXTRA])
+    command = chance.choice(['dump', 'run', 'events', 'watch', 'check', 'check', 'check', 'list', 'assemble',
+                             'guess', 'declare', 'refute', 'migrate'])
     uses = {'dump': ['tape'], 'run': ['tape'], 'events': ['tape', 'events'], 'watch': ['tape', 'declaration', 'events'],
             'check': ['tape', 'declaration', 'certificate'], 'list': ['pal'], 'assemble': ['pal'],
             'guess': ['tape', 'declaration'], 'refute': ['tape', 'declaration'], 'declare': ['tape'], 'migrate': ['certificate']}[command]
@@ -193,14 +194,12 @@ def part(task):
 
 
 def main():
-    global PROGRAMS, EXTRA
+    global PROGRAMS
     if len(sys.argv) < 2:
         sys.exit(__doc__)
     pdp8 = os.path.abspath(sys.argv[1])
     count = int(sys.argv[2]) if len(sys.argv) > 2 else 10_000
     seed = int(sys.argv[3]) if len(sys.argv) > 3 else 1
-    told = subprocess.run([pdp8, '--help'], stdout=subprocess.PIPE, check=True).stdout.decode()
-    EXTRA = [name for name in ('guess', 'declare', 'refute', 'migrate') if re.search(rf'^\s*{name}\b', told, re.MULTILINE)]
     PROGRAMS = Programs(pdp8)
     tasks = [(pdp8, seed * 1_000_003 + n, min(500, count - 500 * n)) for n in range((count + 499) // 500)]
     with multiprocessing.Pool() as pool:

@@ -150,14 +150,12 @@ class Reader:
 
     def read_struct(self, is_public):
         kind, name = self.now(), self.now(1)
-        start = self.at
         self.until(";", "{")
         if self.now() == "{":
             self.skip_group()
         else:
             self.at += 1
-        shape = folded(self.text[self.tokens[start].start() : self.tokens[self.at - 1].end()])
-        return Item(kind, name, is_public, shape=shape)
+        return Item(kind, name, is_public)
 
     read_enum = read_struct
 
@@ -320,10 +318,10 @@ def crates_of(root):
 
 
 class Definition:
-    """A definition of specs/: its module, its name, its text, the comment right above it and the names that come with it."""
+    """A definition of specs/: its name, its text, the comment right above it and the names that come with it."""
 
-    def __init__(self, module, name, text, comment, parts):
-        self.module, self.name, self.text, self.comment, self.parts = module, name, text, comment, parts
+    def __init__(self, name, text, comment, parts):
+        self.name, self.text, self.comment, self.parts = name, text, comment, parts
 
 
 class Module:
@@ -346,7 +344,7 @@ class Module:
                 comment.append(line.strip()[2:].strip())
             else:
                 if begins:
-                    now = Definition(name, begins[1], "", " ".join(comment), set())
+                    now = Definition(begins[1], "", " ".join(comment), set())
                     self.definitions[now.name] = now
                 comment = []
             if now and not is_comment and not line.startswith("use "):

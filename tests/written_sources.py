@@ -27,7 +27,7 @@ DEVICES = [0o6011, 0o6012, 0o6014, 0o6016, 0o6021, 0o6022, 0o6024, 0o6026, 0o603
 
 def tape_of(image):
     """The tape of an image, as docs/FORMATS.md says that it is written."""
-    frames, total = bytearray(), 0
+    frames = bytearray()
     for at in sorted(image):
         if at == 0 or at - 1 not in image:
             frames += bytes([0o100 + (at >> 6), at & 0o77])

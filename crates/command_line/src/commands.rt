@@ -10,7 +10,7 @@ const VERSION: &str = "1.0";
 /// What stands below the list of commands.
 const STATUSES: &str = "Exit status:
   0  done
-  1  an input was refused, a run got stuck or broke a rule, a condition failed, no certificate was found, or verify's answer is no or not known
+  1  an input was refused, a run broke a rule or met an unsupported word, a condition failed, no certificate was found, or verify's answer is no or not known
   2  a bad command line
   3  a file or a stream failed
   4  memory was refused
@@ -46,14 +46,14 @@ const TAPE_OR_SOURCE: Argument = Argument {
     help: "the tape, or - for standard input; left out beside --source",
 };
 
-const DECLARED: Argument = Argument {
+const DECLARATION_OR_SOURCE: Argument = Argument {
     name: "DECLARATION",
     short: None,
     form: Form::OperandOrSource,
-    help: "the declaration, or - for standard input; beside --source it may be left out",
+    help: "the declaration, or - for standard input; beside --source it may be left out: the /: lines of the source count then",
 };
 
-const CLAIMED: Argument = Argument {
+const CERTIFICATE_OR_SOURCE: Argument = Argument {
     name: "CERTIFICATE",
     short: None,
     form: Form::OperandOrSource,
@@ -70,11 +70,11 @@ const PARTS: Argument = Argument {
 const PLACED_OUT: Argument = Argument {
     name: "OUT",
     short: None,
-    form: Form::Operand,
+    form: Form::OutBeforeSources,
     help: "where the declaration goes, or - for standard output; it is emptied when the inputs are read. With -o it is the first part of the source",
 };
 
-const LABELLED: Argument = Argument {
+const DECLARATION_WITH_SYMBOLS: Argument = Argument {
     name: "declaration",
     short: None,
     form: Form::Value("FILE"),
@@ -91,7 +91,7 @@ const CERTIFICATE: Argument = Argument {
 const EVENTS: Argument = Argument {
     name: "EVENTS",
     short: None,
-    form: Form::EventsOperand,
+    form: Form::OptionalOperand,
     help: "the events that happen, or - for standard input; the options for an operator stand in its place",
 };
 
@@ -102,17 +102,17 @@ const SOURCE: Argument = Argument {
     help: "the parts of the source, in order; - for standard input in one place",
 };
 
-const PROPOSED: Argument = Argument {
+const OPTIONAL_DECLARATION: Argument = Argument {
     name: "DECLARATION",
     short: None,
     form: Form::OptionalOperand,
-    help: "the declaration, or - for standard input; without it the /: lines of the source are, and where there are none one is proposed",
+    help: "the declaration, or - for standard input; without it the /: lines of the source count, and where there are none one is proposed",
 };
 
 const TAPE_OUT: Argument = Argument {
     name: "OUT",
     short: None,
-    form: Form::Operand,
+    form: Form::OutBeforeSources,
     help: "where the tape goes, or - for standard output; it is emptied first. With -o it is the first part of the source",
 };
 
@@ -127,10 +127,10 @@ const DECLARATION_OUT: Argument = Argument {
     name: "OUT",
     short: None,
     form: Form::ResultOrSource,
-    help: "where the declaration goes, or - for standard output; it is emptied first, beside --source later",
+    help: "where the declaration goes, or - for standard output; it is emptied first. Beside --source there is -o alone",
 };
 
-const COMPLETED: Argument = Argument {
+const FROM: Argument = Argument {
     name: "from",
     short: None,
     form: Form::Value("FILE"),
@@ -169,7 +169,7 @@ const REPORT_OUT: Argument = Argument {
     name: "OUT",
     short: None,
     form: Form::ResultOrSource,
-    help: "where the report goes, or - for standard output; it is emptied first, beside --source later",
+    help: "where the report goes, or - for standard output; it is emptied first. Beside --source there is -o alone",
 };
 
 const REPORT_STUCK: Argument = Argument {
@@ -359,6 +359,11 @@ const WHY_BROKEN: Argument = Argument {
     help: "where a rule is broken, writes what the step is about to do",
 };
 
+const WHY_WATCH: Argument = Argument {
+    help: "where a rule is broken, writes what the step is about to do; below clean, how far the run came",
+    ..WHY_BROKEN
+};
+
 const WHY_SOURCE: Argument = Argument {
     name: "why",
     short: Some('w'),
@@ -375,7 +380,7 @@ const WHY_INPUT: Argument = Argument {
 
 const VERIFY_ARGUMENTS: [Argument; 9] = [
     TAPE_OR_SOURCE,
-    PROPOSED,
+    OPTIONAL_DECLARATION,
     PARTS,
     START,
     PROFILE,
@@ -433,7 +438,7 @@ const SOURCE_ARGUMENTS: [Argument; 7] = [
 
 const WATCH_ARGUMENTS: [Argument; 11] = [
     TAPE_OR_SOURCE,
-    DECLARED,
+    DECLARATION_OR_SOURCE,
     EVENTS,
     PARTS,
     READER,
@@ -442,15 +447,21 @@ const WATCH_ARGUMENTS: [Argument; 11] = [
     SWITCHES,
     ROUNDS,
     SHOW,
-    WHY_BROKEN,
+    WHY_WATCH,
 ];
 
-const CHECK_ARGUMENTS: [Argument; 5] = [TAPE_OR_SOURCE, DECLARED, CLAIMED, PARTS, WHY_CHECK];
+const CHECK_ARGUMENTS: [Argument; 5] = [
+    TAPE_OR_SOURCE,
+    DECLARATION_OR_SOURCE,
+    CERTIFICATE_OR_SOURCE,
+    PARTS,
+    WHY_CHECK,
+];
 
 const REPORT_ARGUMENTS: [Argument; 8] = [
     TAPE_OR_SOURCE,
-    DECLARED,
-    CLAIMED,
+    DECLARATION_OR_SOURCE,
+    CERTIFICATE_OR_SOURCE,
     REPORT_OUT,
     OUTPUT,
     PARTS,
@@ -463,7 +474,7 @@ const DECLARE_ARGUMENTS: [Argument; 9] = [
     DECLARATION_OUT,
     OUTPUT,
     PARTS,
-    COMPLETED,
+    FROM,
     START,
     READS,
     PROFILE,
@@ -472,7 +483,7 @@ const DECLARE_ARGUMENTS: [Argument; 9] = [
 
 const GUESS_ARGUMENTS: [Argument; 7] = [
     TAPE_OR_SOURCE,
-    DECLARED,
+    DECLARATION_OR_SOURCE,
     GUESSED_OUT,
     OUTPUT,
     PARTS,
@@ -482,7 +493,7 @@ const GUESS_ARGUMENTS: [Argument; 7] = [
 
 const REFUTE_ARGUMENTS: [Argument; 8] = [
     TAPE_OR_SOURCE,
-    DECLARED,
+    DECLARATION_OR_SOURCE,
     EVENTS_OUT,
     OUTPUT,
     PARTS,
@@ -491,7 +502,13 @@ const REFUTE_ARGUMENTS: [Argument; 8] = [
     WHY_BROKEN,
 ];
 
-const PLACE_ARGUMENTS: [Argument; 5] = [PLACED_OUT, OTHER_SOURCES, OUTPUT, LABELLED, WHY_SOURCE];
+const PLACE_ARGUMENTS: [Argument; 5] = [
+    PLACED_OUT,
+    OTHER_SOURCES,
+    OUTPUT,
+    DECLARATION_WITH_SYMBOLS,
+    WHY_SOURCE,
+];
 
 const MIGRATE_ARGUMENTS: [Argument; 4] = [CERTIFICATE, CERTIFICATE_OUT, OUTPUT, WHY_INPUT];
 
@@ -501,7 +518,7 @@ const VERIFY: Entry = Entry {
     name: "verify",
     usage: Some("pdp8 verify [OPTIONS] <TAPE> [DECLARATION]"),
     about: "Says whether a program keeps its declaration: yes, no or not known",
-    after_help: "Without DECLARATION, and without /: lines in the source, one is proposed for the start and the machine that --start and --profile name; with one they are its own.\n\nExamples:\n  pdp8 verify hello.bin hello.declaration\n  pdp8 verify --source hello.pal --save hello",
+    after_help: "Without DECLARATION, and without /: lines in the source, one is proposed for the start and the machine that --start and --profile name; with one they are its own.\n\nExamples:\n  pdp8 verify hello.bin hello.declaration\n  pdp8 verify --source hello.pal --save new",
 };
 
 const RUN: Entry = Entry {
@@ -564,28 +581,28 @@ const REPORT: Entry = Entry {
     name: "report",
     usage: Some("pdp8 report [OPTIONS] <TAPE> <DECLARATION> <CERTIFICATE> [-o] <OUT>"),
     about: "Writes what a certificate says as a page of HTML: verdict, memory, routines, listing",
-    after_help: "The operand OUT is emptied before an input is read, but beside --source after the source and the declaration. The verdict and the status are check's.\n\nExamples:\n  pdp8 report hello.bin hello.declaration hello.certificate -o hello.html\n  pdp8 report --source hello.pal hello.declaration hello.certificate -o hello.html",
+    after_help: "The operand OUT is emptied before an input is read; beside --source there is -o alone. The verdict and the status are check's.\n\nExamples:\n  pdp8 report hello.bin hello.declaration hello.certificate -o hello.html\n  pdp8 report --source hello.pal hello.declaration hello.certificate -o hello.html",
 };
 
 const DECLARE: Entry = Entry {
     name: "declare",
     usage: Some("pdp8 declare [OPTIONS] <TAPE> [-o] <OUT>"),
     about: "Proposes a declaration: what the program of a tape may do",
-    after_help: "The operand OUT is emptied before the tape is read, but beside --source after the source. Where no certificate is found the declaration is written all the same, with comments in front that say why if there is room for them, and the status is 1.\n\nExamples:\n  pdp8 declare hello.bin -o hello.declaration\n  pdp8 declare --source hello.pal -o hello.declaration",
+    after_help: "The operand OUT is emptied before the tape is read; beside --source there is -o alone. Where no certificate is found the declaration is written all the same, with comments that say why if there is room for them, and the status is 1.\n\nExamples:\n  pdp8 declare hello.bin -o new.declaration\n  pdp8 declare --source hello.pal -o new.declaration",
 };
 
 const GUESS: Entry = Entry {
     name: "guess",
     usage: Some("pdp8 guess [OPTIONS] <TAPE> <DECLARATION> [-o] <OUT>"),
     about: "Looks for a certificate that shows that no run breaks a declaration",
-    after_help: "The operand OUT is emptied before an input is read, but beside --source after the source and the declaration. It stays empty where nothing is found. check says yes to what is found: that is proved.\n\nExamples:\n  pdp8 guess hello.bin hello.declaration -o hello.certificate\n  pdp8 guess --source hello.pal hello.declaration -o hello.certificate",
+    after_help: "The operand OUT is emptied before an input is read, but beside --source after the source and the declaration. It stays empty where nothing is found. Beside --source without DECLARATION there is -o alone. What is found shows the program safe: that is proved.\n\nExamples:\n  pdp8 guess hello.bin hello.declaration -o new.certificate\n  pdp8 guess --source hello.pal hello.declaration -o new.certificate",
 };
 
 const REFUTE: Entry = Entry {
     name: "refute",
     usage: Some("pdp8 refute [OPTIONS] <TAPE> <DECLARATION> [-o] <OUT>"),
     about: "Looks for a run that breaks a declaration, and writes its events",
-    after_help: "The operand OUT is emptied before an input is read, but beside --source after the source and the declaration. It stays empty where nothing is found. The same seed gives the same answer.\n\nExamples:\n  pdp8 refute hello.bin hello.declaration -o found.events --why\n  pdp8 refute --source hello.pal hello.declaration -o found.events --why",
+    after_help: "The operand OUT is emptied before an input is read, but beside --source after the source and the declaration. It stays empty where nothing is found. Beside --source without DECLARATION there is -o alone. The same seed gives the same answer.\n\nExamples:\n  pdp8 refute hello.bin hello.declaration -o found.events --why\n  pdp8 refute --source hello.pal hello.declaration -o found.events --why",
 };
 
 const PLACE: Entry = Entry {
@@ -635,6 +652,7 @@ pub(crate) fn command<'a>(alloc: Global) -> Result<Command<'a>, AllocError> {
         .bin_name("pdp8")?
         .about("A workbench for PDP-8 paper tapes")
         .version(VERSION)
+        .override_usage("pdp8 [COMMAND]")
         .after_help(STATUSES)
         .subcommand_required(true);
     for (entry, arguments) in &COMMANDS {

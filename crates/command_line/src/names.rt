@@ -2,7 +2,8 @@
 
 use crate::requests::Request;
 
-/// The names of the files of a request; `-` stands for a standard stream.
+/// The names of a request's inputs and of its result, without those of `--punch`, `--report` and `--save`; `-`
+/// stands for a standard stream.
 #[derive(Clone, Copy)]
 pub struct FileNames<'a> {
     /// The tape's.
@@ -47,7 +48,7 @@ impl<'a> FileNames<'a> {
 }
 
 impl<'a> Request<'a> {
-    /// The names of its files, apart from the parts of a source.
+    /// The names of its inputs and of its result, apart from the parts of a source.
     pub fn names(&self) -> FileNames<'a> {
         match self {
             Request::Run(run) => run.names(),

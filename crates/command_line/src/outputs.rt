@@ -29,6 +29,11 @@ pub fn is_same_file(left: &str, right: &str) -> bool {
     *left == *right
 }
 
+/// Whether the file that an output goes to is one of these; standard output is none.
+pub fn is_taken(name: &str, others: &[&str]) -> bool {
+    name != "-" && others.iter().any(|other| is_same_file(other, name))
+}
+
 /// Whether the result goes to the value of `-o`.
 pub fn has_output(found: &ArgMatches<'_>) -> bool {
     found.get_str("output").is_some()
@@ -44,12 +49,19 @@ pub fn report_of<'a>(
     let Some(name) = found.get_str("report") else {
         return Ok(None);
     };
-    let result = out.name();
-    let taken = is_same_file(name, result) || others.iter().any(|other| is_same_file(other, name));
-    if name != "-" && taken {
+    if is_taken(name, others) || is_taken(name, &[out.name()]) {
         return Err(Refused::Misuse(Misuse::ReportIsTaken));
     }
     Ok(Some(name))
+}
+
+/// The name of the file of a result, where it is the only output: there is no report.
+pub(crate) fn only_output<'a>(out: &Destination<'a>, report: Option<&str>) -> Option<&'a str> {
+    if report.is_some() {
+        None
+    } else {
+        Some(out.name())
+    }
 }
 
 /// Where the result goes: the value of `-o`, else the operand OUT. It is no input.
@@ -61,8 +73,7 @@ pub fn destination_of<'a>(
         Some(name) => Destination::MadeLast(name),
         None => Destination::EmptiedFirst(found.get_str("OUT").unwrap_or("-")),
     };
-    let out = destination.name();
-    if out != "-" && inputs.iter().any(|name| is_same_file(name, out)) {
+    if is_taken(destination.name(), inputs) {
         return Err(Refused::Misuse(Misuse::OutputIsInput));
     }
     Ok(destination)

@@ -2,7 +2,7 @@
 
 use crate::names::FileNames;
 use crate::operator::{WatchedSession, watched_session_of};
-use crate::outputs::{Destination, destination_of, report_of};
+use crate::outputs::{Destination, destination_of, only_output, report_of};
 use crate::refused::{Misuse, Refused};
 use crate::shown::shown_cells;
 use crate::values::{is_start_named, read_standard_input_once, refute_options, verify_options};
@@ -148,9 +148,12 @@ impl<'a> WatchRequest<'a> {
 
 /// The watched run that is asked for.
 pub(crate) fn watch_request<'a>(found: &ArgMatches<'a>) -> Result<WatchRequest<'a>, Refused> {
-    let inputs = ["TAPE", "DECLARATION", "EVENTS"].map(|name| found.get_str(name).unwrap_or("-"));
-    let [tape, declaration, events] = inputs;
-    read_standard_input_once(&inputs)?;
+    let Some(events) = found.get_str("EVENTS") else {
+        return Err(Refused::Misuse(Misuse::NoEvents));
+    };
+    let tape = found.get_str("TAPE").unwrap_or("-");
+    let declaration = found.get_str("DECLARATION").unwrap_or("-");
+    read_standard_input_once(&[tape, declaration, events])?;
     Ok(WatchRequest {
         tape,
         declaration,
@@ -189,7 +192,7 @@ impl<'a> GuessRequest<'a> {
         FileNames {
             tape: Some(self.tape),
             declaration: Some(self.declaration),
-            output: Some(self.out.name()),
+            output: only_output(&self.out, self.report),
             ..FileNames::NONE
         }
     }

@@ -41,6 +41,8 @@ pub enum Misuse {
     TapeAndSource,
     /// There is no `-o`, and each operand is an input.
     NoOutput,
+    /// A run is to be watched, and there are neither events nor an operator.
+    NoEvents,
     /// The punch is to go to standard output.
     PunchToOutput,
     /// The value of `--seed` is no number from 0 to 99,999,999.
@@ -75,7 +77,9 @@ impl Misuse {
             Misuse::TapeAndSource =>
                 "'--source' stands in place of TAPE: there is an operand too many",
             Misuse::NoOutput =>
-                "'-o OUT' is missing: beside '--source' a lone operand is taken for an input",
+                "'-o OUT' is missing: beside '--source' each operand here is taken for an input",
+            Misuse::NoEvents =>
+                "EVENTS is missing, or an option in its place, such as '--steps 1000'",
             Misuse::PunchToOutput => "'--punch' takes the name of a file",
             Misuse::Seed => "bad value for '--seed': it is a number from 0 to 99999999",
             Misuse::Profile => "bad value for '--profile': it is 8i or 8e",

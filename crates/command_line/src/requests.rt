@@ -152,6 +152,7 @@ pub fn parse_arguments<'a, S: AsStr>(
             request: request_of(alloc, name, found)?,
             explained: found.get_flag("why"),
         }),
+        // clap refuses a line without a command, so this isn't reached.
         None => Err(Refused::Memory),
     }
 }

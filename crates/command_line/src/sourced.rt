@@ -2,7 +2,7 @@
 
 use crate::names::FileNames;
 use crate::operator::{WatchedSession, is_watched_with_operator, watched_session_of};
-use crate::outputs::{Destination, destination_of, has_output, is_same_file, report_of};
+use crate::outputs::{Destination, destination_of, has_output, is_taken, only_output, report_of};
 use crate::refused::{Misuse, Refused};
 use crate::shown::shown_cells;
 use crate::sources::source_names;
@@ -133,11 +133,14 @@ impl<'a> Sourced<'a> {
                 keys: session.keys,
                 ..none
             },
-            Task::Guess { out, .. } | Task::Declare { out, .. } | Task::Place { out, .. } =>
-                FileNames {
-                    output: Some(out.name()),
-                    ..none
-                },
+            Task::Guess { out, report, .. } => FileNames {
+                output: only_output(out, *report),
+                ..none
+            },
+            Task::Declare { out, .. } | Task::Place { out, .. } => FileNames {
+                output: Some(out.name()),
+                ..none
+            },
             Task::Verify { .. } | Task::Refute { .. } => none,
         }
     }
@@ -234,8 +237,7 @@ fn result_of<'a>(
         Some(name) => Destination::EmptiedFirst(name),
         None => Destination::MadeLast(found.get_str("output").unwrap_or("-")),
     };
-    let name = out.name();
-    if name != "-" && inputs.iter().any(|input| is_same_file(input, name)) {
+    if is_taken(out.name(), inputs) {
         return Err(Refused::Misuse(Misuse::OutputIsInput));
     }
     Ok(out)
@@ -350,7 +352,7 @@ pub fn sourced_guess<'a>(alloc: Global, found: &ArgMatches<'a>) -> Result<Source
     let sources = parts_of(alloc, found, &[declaration.unwrap_or("")])?;
     let out = search_output(alloc, found, operands.last, declaration, &sources)?;
     let report = report_of(found, &[declaration.unwrap_or("-")], &out)?;
-    if report.is_some_and(|name| sources.iter().any(|part| is_same_file(part, name))) {
+    if report.is_some_and(|name| is_taken(name, &sources)) {
         return Err(Refused::Misuse(Misuse::ReportIsTaken));
     }
     Ok(Sourced {

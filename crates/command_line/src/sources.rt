@@ -41,7 +41,7 @@ pub struct ListRequest<'a> {
     pub explained: bool,
 }
 
-/// The names of a source's parts.
+/// The names of a source's parts, of which there is one at least.
 pub(crate) fn source_names<'a>(
     alloc: Global,
     found: &ArgMatches<'a>,
@@ -52,6 +52,9 @@ pub(crate) fn source_names<'a>(
         names.extend_from_slice(found.get_strs("OUT").unwrap_or(&[]))?;
     }
     names.extend_from_slice(found.get_strs("SOURCE").unwrap_or(&[]))?;
+    if names.is_empty() {
+        return Err(Refused::NoOperand("SOURCE"));
+    }
     read_standard_input_once(&names)?;
     Ok(names)
 }

@@ -3,10 +3,6 @@
 use clap::{Arg, ArgAction, Command};
 use std::alloc::{AllocError, Global};
 
-/// The options for an operator, which stand in place of a list of events where a run is watched,
-/// and `--source`, beside which the operands are counted later.
-const NO_EVENTS: [&str; 6] = ["reader", "keys", "mark", "switches", "steps", "source"];
-
 /// How an argument is given.
 #[derive(Clone, Copy)]
 pub(crate) enum Form {
@@ -20,11 +16,11 @@ pub(crate) enum Form {
     ResultOperand,
     /// The operand OUT of a command that has `--source`.
     ResultOrSource,
-    /// The operand EVENTS, which is left out where an option for an operator is used.
-    EventsOperand,
+    /// The operand OUT before the parts of a source: where `-o` is used it is the first of them.
+    OutBeforeSources,
     /// One operand or more.
     Operands,
-    /// One operand or more, none of which is needed where `-o` is used.
+    /// One operand or more behind OUT, none of which is needed where `-o` is used.
     OtherOperands,
     /// An option without a value.
     Flag,
@@ -87,7 +83,7 @@ impl Argument {
                     .required_unless_present_any(&["output", "source"])?
                     .conflicts_with("output")?
             }
-            Form::EventsOperand => operand.required_unless_present_any(&NO_EVENTS)?,
+            Form::OutBeforeSources => operand.required_unless_present("output")?,
             Form::Operands => operand.required(true).num_args(1..),
             Form::OtherOperands => operand.required_unless_present("output")?.num_args(1..),
             Form::Flag => self.option(alloc).action(ArgAction::SetTrue),

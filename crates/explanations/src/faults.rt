@@ -62,7 +62,7 @@ static FAULTS: [Explanation; 43] = [
         code: "IC",
         subject: Subject::Fault("source: IC 1 2"),
         meaning: "part 1, line 2: a character or a form that the language lacks",
-        advice: "in part p, line l, what the language (docs/PAL.md) lacks: macros,\nparentheses, texts in quotes, small letters",
+        advice: "in part p, line l, leave out or spell otherwise what the language\n(docs/PAL.md) lacks: macros, parentheses, texts in quotes, small letters",
     },
     Explanation {
         code: "RD",
@@ -80,7 +80,7 @@ static FAULTS: [Explanation; 43] = [
         code: "UA",
         subject: Subject::Fault("source: UA 1 2"),
         meaning: "a symbol without a value",
-        advice: "define the symbol, before a line that uses it for a value or an\norigin; or the source needs what is left out (docs/PAL.md); of MQL and the\nlike: `--profile 8e`, or a declaration's line `profile 8e`",
+        advice: "define the symbol, before a line that uses it for a value or an\norigin; or the source needs what is left out (docs/PAL.md); of MQL and the\nlike: `--profile 8e`; beside a declaration its line `profile 8e`",
     },
     Explanation {
         code: "IR",
@@ -152,13 +152,13 @@ static FAULTS: [Explanation; 43] = [
         code: "StartNotInMain",
         subject: Subject::Fault("declaration: StartNotInMain"),
         meaning: "the start isn't in main's body",
-        advice: "put the address into `main`, or into the body that it belongs to",
+        advice: "put the start into `main`",
     },
     Explanation {
         code: "HaltNotInBody",
         subject: Subject::Fault("declaration: HaltNotInBody 0204"),
         meaning: "the stop or pause is in no body",
-        advice: "put the address into `main`, or into the body that it belongs to",
+        advice: "put the address into `main`, or into the body of its routine",
     },
     Explanation {
         code: "TooMany",
@@ -170,19 +170,19 @@ static FAULTS: [Explanation; 43] = [
         code: "NoSymbol",
         subject: Subject::Fault("declaration: NoSymbol 2"),
         meaning: "the source gives a symbol on the line no value",
-        advice: "use a symbol of the source; a range rises, within 0000 to 7777",
+        advice: "use a symbol of the source, or octal digits",
     },
     Explanation {
         code: "PastMemory",
         subject: Subject::Fault("declaration: PastMemory 2"),
         meaning: "an address on the line is below 0000 or above 7777",
-        advice: "use a symbol of the source; a range rises, within 0000 to 7777",
+        advice: "name a cell from 0000 to 7777",
     },
     Explanation {
         code: "Backwards",
         subject: Subject::Fault("declaration: Backwards 2"),
         meaning: "a range on the line, with a symbol, ends below its first address",
-        advice: "use a symbol of the source; a range rises, within 0000 to 7777",
+        advice: "put the lower address of the range first",
     },
     Explanation {
         code: "BadLine",
@@ -248,13 +248,13 @@ static FAULTS: [Explanation; 43] = [
         code: "ReadFault",
         subject: Subject::Fault("device: ReadFault"),
         meaning: "an input can't be opened or read",
-        advice: "a file can't be opened, read, made or written: its name, its\nrights, room on the disk",
+        advice: "a file can't be opened, read, made or written: its name, its\nrights, room on the disk; `--why` names it unless there are two outputs",
     },
     Explanation {
         code: "WriteFault",
         subject: Subject::Fault("device: WriteFault"),
         meaning: "an output can't be made or written, or a pipe was closed, as by `head`",
-        advice: "a file can't be opened, read, made or written: its name, its\nrights, room on the disk",
+        advice: "a file can't be opened, read, made or written: its name, its\nrights, room on the disk; `--why` names it unless there are two outputs",
     },
     Explanation {
         code: "NoMemory",

@@ -8,10 +8,10 @@ mod omissions;
 mod tapes;
 
 use crate::forms::{certificate_form, declaration_form, event_form};
-use crate::lines::push_numbered;
 use certificate::CertificateFault;
 use command_parts::status::Fault;
 use declaration::DeclarationFault;
+pub use lines::push_numbered;
 pub use omissions::push_omissions;
 use peripherals::{EventsFault, NoMemory};
 use std::alloc::Allocator;
@@ -88,7 +88,7 @@ fn push_declaration<A: Allocator>(
         DeclarationFault::NoStart => push_said(
             text,
             file,
-            "no line says where the program starts, as `start 0200` does",
+            "a line such as `start 0200` is missing; in a source it is `/: start 0200`",
         ),
         DeclarationFault::Overlap(at) => {
             let name = file.name;

@@ -25,7 +25,11 @@ pub(crate) fn first_word(line: &[u8]) -> &[u8] {
 }
 
 /// Adds a line of a file, with the file's name and its number before it, and gives the line.
-pub(crate) fn push_numbered<'a, A: Allocator>(
+///
+/// # Errors
+///
+/// `NoMemory` where a growth was refused.
+pub fn push_numbered<'a, A: Allocator>(
     text: &mut String<A>,
     file: &FaultyFile<'a>,
     number: usize,

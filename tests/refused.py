@@ -3,9 +3,9 @@
 
 A library is laid over malloc and realloc (by cc and LD_PRELOAD), which refuses the request of a given number once. Where one
 was refused the status must be 4, `pdp8: memory: NoMemory` must stand on standard error, alone but for what a session reports
-there, and nothing may be in OUT or on standard output but the punch's bytes and the front of a trace or of what was typed.
-Where none was, the run must end as without the library; so it may where a refusal changes nothing, which is counted: the
-system's own start asks for memory too.
+there and, under `--why`, the two lines that say what to do; and nothing may be in OUT or on standard output but the punch's
+bytes and the front of a trace or of what was typed. Where none was, the run must end as without the library; so it may where a
+refusal changes nothing, which is counted: the system's own start asks for memory too.
 
 usage: tests/refused.py PDP8    PDP8 is the built program, as crates/pdp8/out/pdp8
 """
@@ -39,12 +39,23 @@ static int refused(void) {
 void *malloc(size_t size) { return next_malloc ? (refused() ? 0 : next_malloc(size)) : 0; }
 void *realloc(void *old, size_t size) { return refused() ? 0 : next_realloc(old, size); }
 '''
+ADVICE = b'memory was refused\nwhat to do: give the program more memory\n'
 COMMANDS = ['assemble OUT hello.pal', 'list hello.pal', 'list faults.pal --why', 'source TAPE OUT', 'source TAPE OUT --declaration hello.declaration',
             'dump TAPE', 'run TAPE', 'run TAPE --trace --steps 20', 'run TAPE --events hello.events',
             'run TAPE --teletype --punch OUT', 'watch TAPE hello.declaration hello.events', 'watch TAPE halts.declaration hello.events --why',
             'refute TAPE halts.declaration OUT --steps 2000', 'refute TAPE hello.declaration OUT --steps 100', 'check TAPE hello.declaration hello.certificate',
             'check TAPE rim.declaration hello.certificate --why', 'declare TAPE OUT', 'guess TAPE hello.declaration OUT',
-            'guess TAPE halts.declaration OUT --why', 'migrate hello.certificate OUT', '--help', '--version', 'run', 'run TAPE --steps 0']
+            'guess TAPE halts.declaration OUT --why', 'verify TAPE hello.declaration --steps 2000',
+            'verify TAPE halts.declaration --steps 2000 --why', 'verify TAPE unset.declaration --steps 100 --why', 'verify TAPE --steps 2000',
+            'report TAPE hello.declaration hello.certificate OUT', 'report TAPE hello.declaration hello.certificate OUT --text',
+            'declare TAPE OUT --from halts.declaration', 'verify --source hello.pal hello.declaration --steps 2000',
+            'verify --source hello.pal halts.declaration --steps 2000 --why', 'verify --source hello.pal unset.declaration --steps 100 --why',
+            'verify --source hello.pal --steps 2000 --why', 'watch --source hello.pal halts.declaration hello.events --why',
+            'watch --source hello.pal halts.declaration --steps 20 --why', 'check --source hello.pal hello.declaration hello.certificate',
+            'check --source hello.pal rim.declaration hello.certificate --why', 'guess --source hello.pal halts.declaration -o OUT --why',
+            'refute --source hello.pal halts.declaration -o OUT --steps 2000 --why', 'declare --source hello.pal -o OUT',
+            'declare --source hello.pal -o OUT --from halts.declaration', 'report --source hello.pal hello.declaration hello.certificate -o OUT',
+            'place -o OUT hello.pal --declaration hello.declaration', 'explain', 'explain NoMemory', 'migrate hello.certificate OUT', '--help', '--version', 'run', 'run TAPE --steps 0']
 
 
 def run(pdp8, words, folder, extra):
@@ -64,11 +75,13 @@ def run(pdp8, words, folder, extra):
 def is_told(answer, words, whole):
     """Whether an answer is that of a run to which memory was refused."""
     status, printed, told, written = answer
-    line = b'pdp8: memory: NoMemory\n'
-    if status != 4 or not told.endswith(line) or written and '--punch' not in words:
+    before, line, behind = told.rpartition(b'pdp8: memory: NoMemory\n')
+    if status != 4 or not line or written and '--punch' not in words:
+        return False
+    if behind and ('--why' not in words or behind != ADVICE):
         return False
     fronts = printed == b'' or '--t' in words and whole[1].startswith(printed)
-    return fronts and (told == line or '--teletype' in words)
+    return fronts and (not before or '--teletype' in words)
 
 
 def in_turn(pdp8, words, folder, shim):
@@ -106,6 +119,8 @@ def main():
             file.write('start 0200\nmain 0200-0213\nsub 0214 body 0215-0221 returns 0\nvar 0010 0224\n')
         with open(os.path.join(folder, 'faults.pal'), 'w', encoding='utf-8') as file:
             file.write('TAD 8\nJMP Q\nX,1;X,2\n?\n')
+        with open(os.path.join(folder, 'unset.declaration'), 'w', encoding='utf-8') as file:
+            file.write('start 0200\nmain 0200-0213\nsub 0214 body 0215-0221 returns 0\nvar 0010\npause 0212\n')
         subprocess.run([pdp8, 'assemble', 'TAPE', 'hello.pal'], cwd=folder, check=True)
         for words in COMMANDS:
             count, spared, answer = in_turn(pdp8, words, folder, shim)

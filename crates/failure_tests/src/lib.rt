@@ -1,5 +1,6 @@
-//! What each command answers where memory, a read or a write fails: each request, each read and each write in turn. The
-//! same of the program, over a runtime whose files and streams fail.
+//! What commands answer where memory, a read or a write fails: each request, each read and each write in turn. The
+//! same of the program, over a runtime whose files and streams fail. Which commands are left out is said in
+//! crates/README.md.
 #![tactic(auto)]
 
 #[cfg(test)]

@@ -1,7 +1,5 @@
 //! Commands that work on a tape and its declaration, or on a certificate.
 
-ghost use Rattle.std.specs.Prelude.{◌≡◌, false};
-
 use command_line::{
     CheckRequest, GuessRequest, MigrateRequest, RefuteRequest, ReportRequest, VerifyRequest,
     WatchRequest,
@@ -9,7 +7,7 @@ use command_line::{
 use command_parts::status::{Fault, Status};
 use machine_commands::refuting::refute;
 use machine_commands::watching::watch;
-use program_files::drafted::{is_stuck, report_stuck_files};
+use program_files::drafted::{is_stuck, need_rereading, report_stuck_files};
 use program_files::faults::{bound_lines, omissions, stuck_address, with_omissions};
 use program_files::files::{open_input, open_output};
 use program_files::saving::{save_answer, save_proposed};
@@ -21,8 +19,8 @@ use search_commands::verifying::{Answer, Lack, answer_status, verify, verify_pro
 use std::alloc::Global;
 use std::io;
 use std::rt::Files;
-use streams::put;
 use streams::standard::Writes;
+use streams::{ByteSink, put};
 use verdict_commands::checking::check;
 use verdict_commands::explaining::explain;
 use verdict_commands::migrating::migrate;
@@ -106,13 +104,16 @@ pub fn report_from<R: Files + Input + Print>(
 }
 
 /// Guesses a certificate for the tape of a file, and where the search is stuck writes a report, if one is
-/// asked for.
+/// asked for: then the files are read twice.
 #[inline(never)]
 pub fn guess_from<R: Files + Input + Print + Eprint>(
     rt: &R,
     alloc: Global,
     asked: &GuessRequest<'_>,
 ) -> Result<Status, Fault> {
+    if asked.report.is_some() {
+        need_rereading(rt, asked.tape, asked.declaration)?;
+    }
     let answer = if asked.explained {
         guess_with_reasons(rt, alloc, asked)
     } else {
@@ -151,20 +152,31 @@ fn guess_with_reasons<R: Files + Input + Print + Eprint>(
     let mut certificate = open_output(rt, asked.out)?;
     let mut report = Vec::new(alloc);
     let mut lines = Writes::new(&mut report);
-    let status = guess_or_explain(alloc, &mut frames, &mut text, &mut certificate, &mut lines)?;
+    let answer = guess_or_explain(alloc, &mut frames, &mut text, &mut certificate, &mut lines);
+    if lines.failed() {
+        return Err(Fault::NoMemory);
+    }
+    let status = answer?;
     if status == Status::Refused {
-        let others = omissions(
-            rt,
-            alloc,
-            asked.tape,
-            asked.declaration,
-            stuck_address(&report),
-        );
-        let mut told = with_omissions(alloc, &report, &others)?;
-        told.extend_from_slice(&bound_lines(rt, alloc, asked.tape, asked.declaration))?;
-        let _ = put(&mut tell_to(rt), &told);
+        tell_reasons(rt, alloc, asked.tape, asked.declaration, &report)?;
     }
     Ok(status)
+}
+
+/// Tells on standard error the lines of a search that is stuck, with what the tape and the declaration of these
+/// files show by themselves, and what the draft tells of the pointer there.
+fn tell_reasons<R: Files + Input + Eprint>(
+    rt: &R,
+    alloc: Global,
+    tape: &str,
+    declaration: &str,
+    report: &[u8],
+) -> Result<(), Fault> {
+    let others = omissions(rt, alloc, tape, declaration, stuck_address(report))?;
+    let mut told = with_omissions(alloc, report, &others)?;
+    told.extend_from_slice(&bound_lines(rt, alloc, tape, declaration)?)?;
+    let _ = put(&mut tell_to(rt), &told);
+    Ok(())
 }
 
 /// Says whether the program of a file's tape keeps its declaration, or the one that is proposed for it.
@@ -212,13 +224,17 @@ fn verify_declared<R: Files + Input + Print>(
     let search = asked.options.search;
     let mut report = Vec::new(alloc);
     let mut lines = Writes::new(&mut report);
-    let answer = verify(alloc, &mut frames, &mut text, search, &mut lines)?;
+    let found = verify(alloc, &mut frames, &mut text, search, &mut lines);
+    if lines.failed() {
+        return Err(Fault::NoMemory);
+    }
+    let answer = found?;
     let mut others = Vec::new(alloc);
     let mut bound = Vec::new(alloc);
     if let Answer::NotKnown(Lack::Stuck(at)) = &answer {
         if search.explained {
-            others = omissions(rt, alloc, asked.tape, declaration, Some(*at));
-            bound = bound_lines(rt, alloc, asked.tape, declaration);
+            others = omissions(rt, alloc, asked.tape, declaration, Some(*at))?;
+            bound = bound_lines(rt, alloc, asked.tape, declaration)?;
         }
     }
     let mut told = with_omissions(alloc, &report, &others)?;

@@ -4,7 +4,9 @@ use command_line::{AssembleRequest, ListRequest};
 use command_parts::status::{DeviceFault, Fault, Status};
 use instruct::Profile;
 use program_files::files::{open_inputs, open_output, open_parts};
-use program_files::source_faults::{input_name, output_name, tell_of, tell_size, unopened};
+use program_files::source_faults::{
+    NO_WORD, input_name, output_name, tell_of, tell_size, unopened,
+};
 use program_files::telling::{tell, tell_with};
 use source_commands::assembling::{assemble, list};
 use std::alloc::Global;
@@ -38,11 +40,7 @@ fn tell_all<R: Eprint, S: ByteSource>(
     match fault {
         Fault::Source(fault) if fault.line == 0 => tell_size(rt, fault, names),
         Fault::Source(_) => tell_with(rt, fault, told),
-        Fault::EmptyImage => tell_with(
-            rt,
-            fault,
-            "no statement is a word: list shows what the source has\n",
-        ),
+        Fault::EmptyImage => tell_with(rt, fault, NO_WORD),
         Fault::Device(DeviceFault::Read) => tell_of(
             rt,
             fault,

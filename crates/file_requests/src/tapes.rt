@@ -1,7 +1,5 @@
 //! Commands that work on a tape alone.
 
-ghost use Rattle.std.specs.Prelude.{◌≡◌, false};
-
 use command_line::{DeclareRequest, DumpRequest, RunRequest, SourceRequest};
 use command_parts::status::{Fault, Status};
 use machine_commands::running::{dump, run, run_events};

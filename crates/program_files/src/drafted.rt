@@ -2,9 +2,9 @@
 
 ghost use Rattle.std.specs.Prelude.{◌≡◌, false};
 
-use crate::files::{open_input, open_output};
+use crate::files::{is_read_once, open_input, open_output};
 use command_line::Destination;
-use command_parts::status::{Fault, Status};
+use command_parts::status::{DeviceFault, Fault, Status};
 use report_commands::drafting::report_draft;
 use report_commands::reporting::{ReportForm, SourceNotes};
 use std::alloc::Global;
@@ -41,6 +41,18 @@ pub fn report_stuck<R: Files + Print, T: ByteSource, D: ByteSource>(
 {
     let mut page = open_output(rt, Destination::MadeLast(name))?;
     report_draft(alloc, tape, declaration, &mut page, ReportForm::Page, notes)
+}
+
+/// Sees to it that these files can be read twice, as a search with a report does.
+///
+/// # Errors
+///
+/// `Device` where one of them is read once: a pipe gives nothing to the second reader.
+pub fn need_rereading<R: Files>(rt: &R, tape: &str, declaration: &str) -> Result<(), Fault> {
+    if is_read_once(rt, tape) || is_read_once(rt, declaration) {
+        return Err(Fault::Device(DeviceFault::Read));
+    }
+    Ok(())
 }
 
 /// Writes to a file what a search for the program of these files had found when it was stuck.

@@ -1,7 +1,8 @@
-//! What is said below the line of a fault under `--why`. The file is looked at once more for it; it is
-//! tested and not proved.
+//! What is said below the line of a fault under `--why`. The file is looked at once more for it, if it can be
+//! read twice; it is tested and not proved.
 
-use crate::files::open_input;
+use crate::files::{is_read_once, open_input};
+use crate::source_faults::NO_WORD;
 use analyser::{Attempt, guess_or_draft};
 use bin_tape::Image;
 use bound_texts::push_bound;
@@ -38,7 +39,16 @@ fn bytes_of<R: Files + Input>(rt: &R, alloc: Global, name: &str) -> Result<Vec<u
     Ok(read_at_most(alloc, &mut input, MOST)?)
 }
 
-/// The first of the inputs that can't be opened or read.
+/// Lines that are left out where an input has a fault, but not where memory was refused.
+fn if_found(alloc: Global, found: Result<Vec<u8>, Fault>) -> Result<Vec<u8>, Fault> {
+    match found {
+        Ok(text) => Ok(text),
+        Err(Fault::NoMemory) => Err(Fault::NoMemory),
+        Err(_) => Ok(Vec::new(alloc)),
+    }
+}
+
+/// The first of the inputs that can't be opened or read, of those that can be read twice.
 fn unread_input<'a, R: Files + Input>(
     rt: &R,
     alloc: Global,
@@ -48,7 +58,7 @@ fn unread_input<'a, R: Files + Input>(
         let Some(name) = name else {
             continue;
         };
-        if name == "-" {
+        if is_read_once(rt, name) {
             continue;
         }
         if let Err(Fault::Device(_)) = bytes_of(rt, alloc, name) {
@@ -85,21 +95,22 @@ fn bound_of<R: Files + Input>(
 }
 
 /// What the draft of a search that is stuck tells of the pointer there, as lines for people. The search is
-/// made once more for it. Of standard input, which can't be read twice, and of a file with a fault it says
-/// nothing.
+/// made once more for it. Of standard input or a pipe, which can't be read twice, and of a file with a fault it
+/// says nothing.
+///
+/// # Errors
+///
+/// `NoMemory`.
 pub fn bound_lines<R: Files + Input>(
     rt: &R,
     alloc: Global,
     tape: &str,
     declaration: &str,
-) -> Vec<u8> {
-    if tape == "-" || declaration == "-" {
-        return Vec::new(alloc);
+) -> Result<Vec<u8>, Fault> {
+    if is_read_once(rt, tape) || is_read_once(rt, declaration) {
+        return Ok(Vec::new(alloc));
     }
-    match bound_of(rt, alloc, tape, declaration) {
-        Ok(text) => text,
-        Err(_) => Vec::new(alloc),
-    }
+    if_found(alloc, bound_of(rt, alloc, tape, declaration))
 }
 
 /// What the tape and the declaration of these files show by themselves.
@@ -118,22 +129,23 @@ fn omissions_of<R: Files + Input>(
 }
 
 /// What the tape and the declaration of these files show by themselves, as lines for people, apart from
-/// what is said of the address where a search is stuck. Of standard input, which can't be read twice, and
-/// of a file with a fault it says nothing.
+/// what is said of the address where a search is stuck. Of standard input or a pipe, which can't be read twice,
+/// and of a file with a fault it says nothing.
+///
+/// # Errors
+///
+/// `NoMemory`.
 pub fn omissions<R: Files + Input>(
     rt: &R,
     alloc: Global,
     tape: &str,
     declaration: &str,
     stuck: Option<Word>,
-) -> Vec<u8> {
-    if tape == "-" || declaration == "-" {
-        return Vec::new(alloc);
+) -> Result<Vec<u8>, Fault> {
+    if is_read_once(rt, tape) || is_read_once(rt, declaration) {
+        return Ok(Vec::new(alloc));
     }
-    match omissions_of(rt, alloc, tape, declaration, stuck) {
-        Ok(text) => text,
-        Err(_) => Vec::new(alloc),
-    }
+    if_found(alloc, omissions_of(rt, alloc, tape, declaration, stuck))
 }
 
 /// The lines of a search that is stuck, with these behind the first one: what the tape and the declaration show
@@ -180,7 +192,7 @@ fn push_source_hint(text: &mut String, fault: &Fault, file: &FaultyFile<'_>) {
     }
 }
 
-/// The lines on an input that has a fault. Of standard input, which can't be read twice, there are none.
+/// The lines on an input that has a fault. Of standard input or a pipe, which can't be read twice, there are none.
 fn input_lines<R: Files + Input>(
     rt: &R,
     alloc: Global,
@@ -189,7 +201,7 @@ fn input_lines<R: Files + Input>(
 ) -> String {
     let mut text = String::new(alloc);
     let name = faulty_input(fault, names).unwrap_or("-");
-    if name == "-" {
+    if is_read_once(rt, name) {
         return text;
     }
     if let Ok(bytes) = bytes_of(rt, alloc, name) {
@@ -231,6 +243,13 @@ fn undeclarable_lines(alloc: Global, fault: DeclarationFault) -> String {
     text
 }
 
+/// The line on a source that is assembled to no word.
+fn empty_lines(alloc: Global) -> String {
+    let mut text = String::new(alloc);
+    let _ = text.push_str(NO_WORD);
+    text
+}
+
 /// What is said below the line of a fault: which file has it, where, and what may stand there; or what the
 /// fault means and what to do.
 pub fn fault_lines<R: Files + Input>(
@@ -250,6 +269,7 @@ pub fn fault_lines<R: Files + Input>(
         Fault::Guess(GuessFault::TurnsSpent) => advice(alloc, "TurnsSpent"),
         Fault::Declare(ProposeFault::Undeclarable(fault)) => undeclarable_lines(alloc, *fault),
         Fault::Declare(ProposeFault::Mismatch) => advice(alloc, "Mismatch"),
+        Fault::EmptyImage => empty_lines(alloc),
         Fault::NoMemory => advice(alloc, "NoMemory"),
         _ => input_lines(rt, alloc, fault, names),
     }

@@ -40,6 +40,18 @@ pub fn open_input<R: Files + Input>(
     Ok(Reads::new(input_of(rt, name)?))
 }
 
+/// Whether an input can be read only once: standard input, a pipe, or another file that is neither plain nor a
+/// folder. One that isn't there is none.
+pub fn is_read_once<R: Files>(rt: &R, name: &str) -> bool {
+    if name == "-" {
+        return true;
+    }
+    match fs::metadata(rt, name) {
+        Ok(found) => !found.is_file() && !found.is_dir(),
+        Err(_) => false,
+    }
+}
+
 /// Opens the parts of a source in order, up to the first that can't be opened, and puts them behind those
 /// that are open.
 ///

@@ -7,6 +7,9 @@ use pal_asm::PalFault;
 use source_texts::push_faults;
 use std::alloc::Global;
 
+/// What is said of a source that is assembled to no word.
+pub const NO_WORD: &str = "no statement is a word: list shows what the source has\n";
+
 /// An input as it is named in a sentence.
 pub fn input_name<'n>(name: &'n str) -> &'n str {
     if name == "-" { "standard input" } else { name }

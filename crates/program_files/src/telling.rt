@@ -1,25 +1,39 @@
 //! What is told on standard error of a fault.
 
+ghost use Rattle.std.specs.Prelude.{◌≡◌};
+ghost use Rattle.command_parts.specs.Statuses.{status_of_fault};
+ghost use Rattle.command_parts.specs.declared.status.Status.TheVariants.{Usage};
+
 use command_line::Misuse;
 use command_parts::status::{Fault, Status};
 
 /// Writes the line of a fault to standard error.
-pub fn tell<R: Eprint>(rt: &R, fault: Fault) -> Status {
+pub fn tell<R: Eprint>(rt: &R, fault: Fault) -> Status
+    ensures { result ≡ status_of_fault fault }
+{
     match eprintln!(rt; "{fault}") {
         Ok(()) | Err(_) => fault.status(),
     }
 }
 
 /// Writes the line of a fault to standard error, and these lines below it.
-pub fn tell_with<R: Eprint>(rt: &R, fault: Fault, lines: &str) -> Status {
+pub fn tell_with<R: Eprint>(rt: &R, fault: Fault, lines: &str) -> Status
+    ensures { result ≡ status_of_fault fault }
+{
     let status = tell(rt, fault);
-    match rt.eprint(lines) {
-        Ok(()) | Err(_) => status,
-    }
+    tell_lines(rt, lines);
+    status
+}
+
+/// Writes these lines to standard error, if it takes them.
+pub fn tell_lines<R: Eprint>(rt: &R, lines: &str) {
+    let _ = rt.eprint(lines);
 }
 
 /// Says what is wrong with the command line.
-pub fn tell_misuse<R: Eprint>(rt: &R, misuse: &Misuse) -> Status {
+pub fn tell_misuse<R: Eprint>(rt: &R, misuse: &Misuse) -> Status
+    ensures { result ≡ Usage }
+{
     let text = misuse.text();
     match eprintln!(rt; "error: {text}") {
         Ok(()) | Err(_) => Status::Usage,

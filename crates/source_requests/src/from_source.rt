@@ -14,30 +14,57 @@ use fault_texts::{FaultyFile, push_fault};
 use labels::{Numbered, number};
 use pal_text::{Ending, statements};
 use program_files::telling::tell_with;
+use search_commands::verifying::VerifyOptions;
 use source_verdicts::SourcedFault;
 use std::alloc::Global;
 use std::rt::Files;
 
-/// Does what is asked for with a program and its declaration, which are also there in numbers. What is said
-/// of a source and isn't proved by itself is said of the numbers.
+/// Says whether a program keeps its declaration, or the one that is proposed.
+fn verified<R: Files + Print + Eprint>(
+    rt: &R,
+    alloc: Global,
+    source: &SourceText<'_>,
+    numbered: &Numbered<Global>,
+    save: Option<&str>,
+    options: &VerifyOptions,
+) -> Result<Status, SourcedFault> {
+    match source.promise {
+        Promise::Proposed => Ok(verify_alone(rt, alloc, source, numbered, save, options)?),
+        _ => verify_program(rt, alloc, source, numbered, save, options),
+    }
+}
+
+/// Checks the certificate of a file, and says why the verdict is no where that is asked for.
+fn checked<R: Files + Input + Print>(
+    rt: &R,
+    alloc: Global,
+    source: &SourceText<'_>,
+    numbered: &Numbered<Global>,
+    certificate: &str,
+    explained: bool,
+) -> Result<Status, SourcedFault> {
+    if explained {
+        return Ok(explain_program(rt, alloc, source, numbered, certificate)?);
+    }
+    check_program(rt, alloc, source, certificate)
+}
+
+/// Does what is asked for with a program and its declaration, which are also there in numbers. The commands
+/// whose answers on a source are proved work on the source: `check` without reasons, `watch` with the events of a
+/// file, `guess`, `refute`, and `verify` of a declaration that is given. The others work on the numbers.
 fn done_with_numbers<R: Files + Input + Print + Eprint>(
     rt: &R,
     alloc: Global,
     source: &SourceText<'_>,
     numbered: &Numbered<Global>,
-    promise: Promise,
     task: &Task<'_>,
 ) -> Result<Status, SourcedFault> {
     match task {
-        Task::Verify { save, options, .. } => match promise {
-            Promise::Proposed => Ok(verify_alone(rt, alloc, numbered, *save, options)?),
-            _ => verify_program(rt, alloc, source, numbered, *save, options),
-        },
+        Task::Verify { save, options, .. } => verified(rt, alloc, source, numbered, *save, options),
         Task::Check {
             certificate,
-            explained: true,
-        } => Ok(explain_program(rt, alloc, source, numbered, certificate)?),
-        Task::Check { certificate, .. } => check_program(rt, alloc, source, certificate),
+            explained,
+        } => { checked(rt, alloc, source, numbered, certificate, *explained) }
         Task::Report {
             certificate,
             out,
@@ -59,9 +86,9 @@ fn done_with_numbers<R: Files + Input + Print + Eprint>(
         } => guess_program(rt, alloc, source, numbered, *out, *explained, *report),
         Task::Refute { out, options } => refute_program(rt, alloc, source, *out, *options),
         Task::Declare { out, options, .. } => {
-            declare_program(rt, alloc, source, numbered, promise, *out, *options)
+            declare_program(rt, alloc, source, numbered, *out, *options)
         }
-        Task::Place { out, .. } => Ok(write_numbered(rt, alloc, numbered, promise, *out)?),
+        Task::Place { out, .. } => Ok(write_numbered(rt, alloc, numbered, source.promise, *out)?),
     }
 }
 
@@ -79,8 +106,9 @@ fn done_with<R: Files + Input + Print + Eprint>(
         parts,
         declaration: &given.text,
         names: &sourced.sources,
+        promise: given.promise,
     };
-    done_with_numbers(rt, alloc, &source, &numbered, given.promise, &sourced.task)
+    done_with_numbers(rt, alloc, &source, &numbered, &sourced.task)
 }
 
 /// The lines on a fault of a declaration within a source, of which the line stands there.
@@ -149,15 +177,22 @@ fn answer_given<R: Files + Input + Print + Eprint>(
     given: &Given,
 ) -> Result<Status, Fault> {
     let slices = lend(alloc, &given.parts)?;
-    tell_unread(rt, alloc, &sourced.sources, &slices);
     match done_with(rt, alloc, &slices, given, sourced) {
-        Ok(status) => Ok(status),
-        Err(SourcedFault::Numbering(fault)) => {
-            Ok(tell_refused(rt, alloc, fault, sourced, &slices, &given.text))
+        Ok(status) => {
+            tell_unread(rt, alloc, &sourced.sources, &slices);
+            Ok(status)
         }
-        Err(SourcedFault::Command(fault)) => {
-            tell_command(rt, alloc, &fault, sourced, given, &slices)
-        }
+        Err(SourcedFault::Numbering(fault)) => tell_refused(
+            rt,
+            alloc,
+            fault,
+            sourced,
+            &slices,
+            &given.text,
+        ),
+        Err(SourcedFault::Command(fault)) => tell_command(
+            rt, alloc, &fault, sourced, given, &slices,
+        ),
     }
 }
 
@@ -173,17 +208,25 @@ fn ending_part(alloc: Global, parts: &[&[u8]]) -> Option<usize> {
     None
 }
 
-/// Says on standard error that a part isn't read, since the program ends before it.
+/// Says on standard error which parts aren't read, since the program ends before them.
 fn tell_unread<R: Eprint>(rt: &R, alloc: Global, names: &[&str], parts: &[&[u8]]) {
+    if names.len() < 2 {
+        return;
+    }
     let Some(index) = ending_part(alloc, parts) else {
         return;
     };
     let Some(name) = names.get(index) else {
         return;
     };
-    if let Some(unread) = names.get(index.saturating_add(1)) {
-        let _ = eprintln!(rt; "{name} ends the program by $: {unread} isn't read");
-    }
+    let Some(unread) = names.get(index.saturating_add(1)) else {
+        return;
+    };
+    let _ = if names.len() > index.saturating_add(2) {
+        eprintln!(rt; "{name} ends the program by $: {unread} and what follows aren't read")
+    } else {
+        eprintln!(rt; "{name} ends the program by $: {unread} isn't read")
+    };
 }
 
 /// Carries out a command that works on a source. The parts are opened and read in order, then the

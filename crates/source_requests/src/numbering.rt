@@ -1,14 +1,16 @@
 //! Sources and their declarations, read and written in numbers, and what is told of their faults.
 
-use crate::spots::{Spot, line_counts, spot_of};
+use crate::spots::{Spot, behind_lines, line_counts, spot_of};
 use command_line::{Misuse, Sourced, Task};
 use command_parts::status::{Fault, Status};
+use fault_texts::{FaultyFile, push_numbered};
 use instruct::Profile;
 use labels::{NumberingFault, PlaceFault, declared_lines};
 use program_files::files::open_input;
 use program_files::source_faults::{tell_of, tell_source, unopened};
-use program_files::telling::{tell, tell_misuse};
+use program_files::telling::{tell_lines, tell_misuse};
 use std::alloc::{AllocError, Global};
+use std::fmt::Write;
 use std::rt::Files;
 use streams::read_at_most;
 use streams::text::{Lines, Words};
@@ -173,21 +175,31 @@ fn line_of(fault: PlaceFault) -> usize {
     }
 }
 
-/// The line of this number of a declaration, if it is text; else nothing.
-fn shown_line(text: &[u8], number: usize) -> &str {
-    let mut left = number;
-    for line in Lines::of(text) {
-        if left <= 1 {
-            return str::from_utf8(line).unwrap_or("");
-        }
-        left = left.saturating_sub(1);
+/// Adds the line of a declaration that has a fault, and what is wrong.
+fn push_placing(
+    told: &mut String,
+    fault: PlaceFault,
+    spot: &Spot<'_>,
+    text: &[u8],
+) -> Result<(), AllocError> {
+    let (name, said) = (spot.name, said_of(fault));
+    if spot.line == 0 {
+        return writeln!(told, "{name}: {said}").map_err(|_| AllocError);
     }
-    ""
+    let file = FaultyFile {
+        name,
+        bytes: behind_lines(text, line_of(fault).saturating_sub(spot.line)),
+    };
+    if push_numbered(told, &file, spot.line).is_err() {
+        return Err(AllocError);
+    }
+    writeln!(told, "{said}").map_err(|_| AllocError)
 }
 
 /// Tells the fault of a declaration with symbols, and below it the line and what is wrong, if that is asked for.
 fn tell_placing<R: Eprint>(
     rt: &R,
+    alloc: Global,
     fault: PlaceFault,
     spot: &Spot<'_>,
     text: &[u8],
@@ -197,16 +209,10 @@ fn tell_placing<R: Eprint>(
     if !explained || told.is_err() {
         return Status::Refused;
     }
-    let (name, line, said) = (spot.name, spot.line, said_of(fault));
-    let told = if line == 0 {
-        eprintln!(rt; "{name}: {said}")
-    } else {
-        let shown = shown_line(text, line_of(fault));
-        eprintln!(rt; "{name}:{line}: {shown}\n{said}")
-    };
-    match told {
-        Ok(()) | Err(_) => Status::Refused,
-    }
+    let mut lines = String::new(alloc);
+    let _ = push_placing(&mut lines, fault, spot, text);
+    tell_lines(rt, &lines);
+    Status::Refused
 }
 
 /// Where the fault of a declaration with symbols stands: in its file, or in a part of the source.
@@ -224,7 +230,11 @@ fn placing_spot<'n>(
     Ok(spot_of(&sourced.sources, &counts, line))
 }
 
-/// Tells that a source or its declaration is refused.
+/// Tells that a source or its declaration is refused. A fault that lies in no line of them is given on.
+///
+/// # Errors
+///
+/// `EmptyImage` and `NoMemory`.
 pub fn tell_refused<R: Eprint>(
     rt: &R,
     alloc: Global,
@@ -232,29 +242,24 @@ pub fn tell_refused<R: Eprint>(
     sourced: &Sourced<'_>,
     parts: &[&[u8]],
     text: &[u8],
-) -> Status {
+) -> Result<Status, Fault> {
     let explained = sourced.task.is_explained();
     match fault {
-        NumberingFault::Source(fault) => {
-            let profile = labels::machine_of(text);
-            tell_source(
-                rt,
-                alloc,
-                fault,
-                &sourced.sources,
-                parts,
-                profile,
-                explained,
-            )
-        }
-        NumberingFault::EmptyImage => tell(rt, Fault::EmptyImage),
+        NumberingFault::Source(fault) => Ok(tell_source(
+            rt,
+            alloc,
+            fault,
+            &sourced.sources,
+            parts,
+            labels::machine_of(text),
+            explained,
+        )),
+        NumberingFault::EmptyImage => Err(Fault::EmptyImage),
         NumberingFault::Placing(fault) => {
-            match placing_spot(alloc, fault, sourced, parts) {
-                Ok(spot) => tell_placing(rt, fault, &spot, text, explained),
-                Err(_) => tell(rt, Fault::NoMemory),
-            }
+            let spot = placing_spot(alloc, fault, sourced, parts)?;
+            Ok(tell_placing(rt, alloc, fault, &spot, text, explained))
         }
-        NumberingFault::NoMemory => tell(rt, Fault::NoMemory),
+        NumberingFault::NoMemory => Err(Fault::NoMemory),
     }
 }
 

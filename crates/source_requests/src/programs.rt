@@ -7,7 +7,7 @@ use crate::numbering::Promise;
 use crate::source_lines::{source_notes, with_source_lines};
 use command_line::{Destination, WatchedSession};
 use command_parts::inputs::{declaration_from, tape_from};
-use command_parts::status::{Fault, Status};
+use command_parts::status::{DeviceFault, Fault, Status};
 use fault_texts::push_omissions;
 use labels::{Numbered, name_declaration};
 use machine_commands::refuting::RefuteOptions;
@@ -45,6 +45,8 @@ pub struct SourceText<'a> {
     pub declaration: &'a [u8],
     /// The names of the files of the parts.
     pub names: &'a [&'a str],
+    /// Where the declaration comes from.
+    pub promise: Promise,
 }
 
 /// Bytes in memory as an input.
@@ -124,13 +126,17 @@ pub fn verify_program<R: Files + Print>(
 ) -> Result<Status, SourcedFault> {
     let mut text = Vec::new(alloc);
     let mut lines = Writes::new(&mut text);
-    let answer = verify_source(
+    let found = verify_source(
         alloc,
         given.parts,
         given.declaration,
         options.search,
         &mut lines,
-    )?;
+    );
+    if lines.failed() {
+        return Err(SourcedFault::Command(Fault::NoMemory));
+    }
+    let answer = found?;
     let explained = options.search.explained;
     Ok(tell_answer(rt, alloc, given, numbered, &answer, &text, save, explained)?)
 }
@@ -142,18 +148,43 @@ fn tell_proposed<R: Eprint>(rt: &R) {
     );
 }
 
+/// Tells the lines of an answer on a proposed declaration, where that is asked for with what the source says of their
+/// addresses, and on standard error that it is proposed.
+fn tell_proposed_answer<R: Print + Eprint>(
+    rt: &R,
+    alloc: Global,
+    given: &SourceText<'_>,
+    lines: &[u8],
+    explained: bool,
+) -> Result<(), Fault> {
+    let mut told = Vec::new(alloc);
+    told.extend_from_slice(lines)?;
+    if explained {
+        told = with_source_lines(alloc, given, &told)?;
+    }
+    tell_proposed(rt);
+    put(&mut Writes::new(io::writer(rt)), &told)?;
+    Ok(())
+}
+
 /// Says whether the program keeps the declaration that is proposed for it, and on standard error that it is.
 #[inline(never)]
 pub fn verify_alone<R: Files + Print + Eprint>(
     rt: &R,
     alloc: Global,
+    given: &SourceText<'_>,
     numbered: &Numbered<Global>,
     save: Option<&str>,
     options: &VerifyOptions,
 ) -> Result<Status, Fault> {
-    tell_proposed(rt);
-    let mut out = Writes::new(io::writer(rt));
-    let proposed = verify_proposed(alloc, &mut frames_of(numbered), *options, &mut out)?;
+    let mut text = Vec::new(alloc);
+    let mut lines = Writes::new(&mut text);
+    let found = verify_proposed(alloc, &mut frames_of(numbered), *options, &mut lines);
+    if lines.failed() {
+        return Err(Fault::NoMemory);
+    }
+    let proposed = found?;
+    tell_proposed_answer(rt, alloc, given, &text, options.search.explained)?;
     save_proposed(rt, alloc, save, &proposed)?;
     Ok(answer_status(&proposed.answer))
 }
@@ -193,13 +224,18 @@ pub fn explain_program<R: Files + Input + Print>(
 ) -> Result<Status, Fault> {
     let mut claims = open_input(rt, certificate)?;
     let mut told = Vec::new(alloc);
-    let status = explain(
+    let mut lines = Writes::new(&mut told);
+    let answer = explain(
         alloc,
         &mut frames_of(numbered),
         &mut promise_of(numbered),
         &mut claims,
-        &mut Writes::new(&mut told),
-    )?;
+        &mut lines,
+    );
+    if lines.failed() {
+        return Err(Fault::NoMemory);
+    }
+    let status = answer?;
     tell_sourced(rt, alloc, given, &told)?;
     Ok(status)
 }
@@ -274,7 +310,11 @@ pub fn watch_program<R: Files + Input + Print>(
     }
     let mut told = Vec::new(alloc);
     let mut lines = Writes::new(&mut told);
-    let status = watch_to(rt, alloc, given, events, true, show, &mut lines)?;
+    let answer = watch_to(rt, alloc, given, events, true, show, &mut lines);
+    if lines.failed() {
+        return Err(SourcedFault::Command(Fault::NoMemory));
+    }
+    let status = answer?;
     tell_sourced(rt, alloc, given, &told)?;
     Ok(status)
 }
@@ -289,7 +329,8 @@ fn watch_session_lines<R: Files + Input>(
 ) -> Result<Status, Fault> {
     let mut reader = open_input_if(rt, session.reader)?;
     let mut keys = open_input_if(rt, session.keys)?;
-    watch_session(
+    let mut lines = Writes::new(told);
+    let answer = watch_session(
         alloc,
         &mut frames_of(numbered),
         &mut promise_of(numbered),
@@ -297,8 +338,12 @@ fn watch_session_lines<R: Files + Input>(
         &mut keys,
         session.options,
         session.explained,
-        &mut Writes::new(told),
-    )
+        &mut lines,
+    );
+    if lines.failed() {
+        return Err(Fault::NoMemory);
+    }
+    answer
 }
 
 /// Watches a run with an operator.
@@ -341,13 +386,18 @@ fn guess_with_lines<R: Files + Print>(
     lines: &mut Vec<u8>,
 ) -> Result<Status, SourcedFault> {
     let mut certificate = open_output(rt, out)?;
-    explain_source(
+    let mut report = Writes::new(lines);
+    let answer = explain_source(
         alloc,
         given.parts,
         given.declaration,
         &mut certificate,
-        &mut Writes::new(lines),
-    )
+        &mut report,
+    );
+    if report.failed() {
+        return Err(SourcedFault::Command(Fault::NoMemory));
+    }
+    answer
 }
 
 /// Guesses a certificate, and says on standard error why the search is stuck.
@@ -421,26 +471,50 @@ pub fn guess_program<R: Files + Print + Eprint>(
     answer
 }
 
-/// Looks for a run that breaks the declaration, and writes what is told of it to a sink.
-fn refute_to<R: Files + Print, W: ByteSink>(
+/// Looks for a run that breaks the declaration, and gives its events and what is told of it.
+fn refute_lines(
+    alloc: Global,
+    given: &SourceText<'_>,
+    options: RefuteOptions,
+    events: &mut Vec<u8>,
+    told: &mut Vec<u8>,
+) -> Result<Status, SourcedFault> {
+    let mut run = Writes::new(events);
+    let mut lines = Writes::new(told);
+    let answer = refute_source(
+        alloc,
+        given.parts,
+        given.declaration,
+        options,
+        &mut run,
+        &mut lines,
+    );
+    if run.failed() || lines.failed() {
+        return Err(SourcedFault::Command(Fault::NoMemory));
+    }
+    answer
+}
+
+/// Looks for a run that breaks the declaration, and tells why it does. Nothing is written before all is there.
+fn refute_with_reasons<R: Files + Print + Eprint>(
     rt: &R,
     alloc: Global,
     given: &SourceText<'_>,
     out: Destination<'_>,
     options: RefuteOptions,
-    report: &mut W,
-) -> Result<Status, SourcedFault>
-    requires reportable { W.mark report.old ≡ false }
-{
-    let mut events = open_output(rt, out)?;
-    refute_source(
-        alloc,
-        given.parts,
-        given.declaration,
-        options,
-        &mut events,
-        report,
-    )
+) -> Result<Status, SourcedFault> {
+    let mut output = open_output(rt, out)?;
+    let mut events = Vec::new(alloc);
+    let mut told = Vec::new(alloc);
+    let status = refute_lines(alloc, given, options, &mut events, &mut told)?;
+    let text = with_source_lines(alloc, given, &told)?;
+    if put(&mut output, &events).is_err() {
+        return Err(SourcedFault::Command(Fault::Device(DeviceFault::Write)));
+    }
+    match put(&mut report_to(rt, out.name() == "-"), &text) {
+        Ok(()) => Ok(status),
+        Err(failed) => Err(SourcedFault::Command(Fault::from(failed))),
+    }
 }
 
 /// Looks for a run that breaks the declaration.
@@ -452,18 +526,19 @@ pub fn refute_program<R: Files + Print + Eprint>(
     out: Destination<'_>,
     options: RefuteOptions,
 ) -> Result<Status, SourcedFault> {
+    if options.explained {
+        return refute_with_reasons(rt, alloc, given, out, options);
+    }
     let mut report = report_to(rt, out.name() == "-");
-    if !options.explained {
-        return refute_to(rt, alloc, given, out, options, &mut report);
-    }
-    let mut told = Vec::new(alloc);
-    let mut lines = Writes::new(&mut told);
-    let status = refute_to(rt, alloc, given, out, options, &mut lines)?;
-    let text = with_source_lines(alloc, given, &told)?;
-    match put(&mut report, &text) {
-        Ok(()) => Ok(status),
-        Err(failed) => Err(SourcedFault::Command(Fault::from(failed))),
-    }
+    let mut events = open_output(rt, out)?;
+    refute_source(
+        alloc,
+        given.parts,
+        given.declaration,
+        options,
+        &mut events,
+        &mut report,
+    )
 }
 
 /// Adds a declaration that is proposed, or these numbers completed.
@@ -476,13 +551,17 @@ fn push_proposal(
 ) -> Result<Status, Fault> {
     let mut frames = frames_of(numbered);
     let mut text = Writes::new(found);
-    match numbers {
+    let answer = match numbers {
         None => declare(alloc, &mut frames, options, &mut text),
         Some(numbers) => {
             let mut promised = lent_input(numbers);
             complete(alloc, &mut frames, &mut promised, options.reads, &mut text)
         }
+    };
+    if text.failed() {
+        return Err(Fault::NoMemory);
     }
+    answer
 }
 
 /// A text without its empty lines, and without blanks around the others.
@@ -514,13 +593,12 @@ fn declared_with_symbols(
     alloc: Global,
     given: &SourceText<'_>,
     numbered: &Numbered<Global>,
-    promise: Promise,
     options: DeclareOptions,
     found: &mut Vec<u8>,
 ) -> Result<Status, SourcedFault> {
-    let written = as_written(alloc, given.declaration, promise)?;
-    let numbers = as_written(alloc, &numbered.declaration, promise)?;
-    let is_given = promise != Promise::Proposed;
+    let written = as_written(alloc, given.declaration, given.promise)?;
+    let numbers = as_written(alloc, &numbered.declaration, given.promise)?;
+    let is_given = given.promise != Promise::Proposed;
     let asked = if is_given {
         Some(numbers.as_slice())
     } else {
@@ -541,13 +619,12 @@ pub fn declare_program<R: Files + Print>(
     alloc: Global,
     given: &SourceText<'_>,
     numbered: &Numbered<Global>,
-    promise: Promise,
     out: Destination<'_>,
     options: DeclareOptions,
 ) -> Result<Status, SourcedFault> {
     let mut text = open_output(rt, out)?;
     let mut found = Vec::new(alloc);
-    let status = declared_with_symbols(alloc, given, numbered, promise, options, &mut found)?;
+    let status = declared_with_symbols(alloc, given, numbered, options, &mut found)?;
     match put(&mut text, &found) {
         Ok(()) => Ok(status),
         Err(failed) => Err(SourcedFault::Command(Fault::from(failed))),

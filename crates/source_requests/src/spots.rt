@@ -7,7 +7,7 @@ use std::alloc::{AllocError, Global};
 /// A part of a source, by its name, and a line of it.
 #[derive(Clone, Copy)]
 pub struct Spot<'n> {
-    /// The part's name.
+    /// The part's name, or words for all parts.
     pub name: &'n str,
     /// The line's number, from 1; 0 where no line is meant.
     pub line: usize,
@@ -23,8 +23,18 @@ pub fn line_counts(alloc: Global, parts: &[&[u8]]) -> Result<Vec<usize>, AllocEr
     Ok(counts)
 }
 
-/// Where the line of this number stands, by the names of the parts and their counts of lines.
+/// What is named where no line is meant, and so no part of several.
+const ALL_PARTS: &str = "the source";
+
+/// Where the line of this number stands, by the names of the parts and their counts of lines. Number 0 is of no
+/// line, and of the whole source.
 pub fn spot_of<'n>(names: &[&'n str], counts: &[usize], number: usize) -> Spot<'n> {
+    if number == 0 && names.len() > 1 {
+        return Spot {
+            name: ALL_PARTS,
+            line: 0,
+        };
+    }
     let mut line = number;
     for (name, count) in names.iter().zip(counts) {
         if line <= *count {

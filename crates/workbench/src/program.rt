@@ -13,7 +13,7 @@ use file_requests::promises::{
 use file_requests::sources::{assemble_to, list_from};
 use file_requests::tapes::{declare_from, dump_from, run_from, source_from};
 use program_files::faults::fault_lines;
-use program_files::telling::{tell, tell_misuse, tell_with};
+use program_files::telling::{tell, tell_lines, tell_misuse};
 use source_requests::answer_sourced;
 use std::alloc::Global;
 use std::io::ErrorKind;
@@ -28,8 +28,9 @@ static RUN_STANDARD_INPUT: [&str; 3] = ["pdp8", "run", "-"];
 /// Does what the program's arguments ask for, and says with which status it ends: 0 done, 1 refused, 2
 /// a bad command line, 3 a device's fault, 4 want of memory. Without arguments it runs the tape on
 /// standard input. Faults and what is wrong with a command line go to standard error, help to standard
-/// output; where standard error fails, the status is the same. Under `--teletype` the summary goes
-/// there too, and where that fails the status is 3.
+/// output; where standard error fails, the status is the same. But the summary of `--teletype` and of
+/// `teletype`, and the line of `refute` whose events go to standard output, go to standard error too, and
+/// where that fails the status is 3.
 ///
 /// That the status is at most 4 is proved; all else said here is tested.
 pub fn exit_status<R: Env + Files + Input + Print + Eprint + AllocGlobal>(rt: &R) -> u8
@@ -54,7 +55,8 @@ pub fn exit_status<R: Env + Files + Input + Print + Eprint + AllocGlobal>(rt: &R
     }
 }
 
-/// Carries out a command line, and tells the fault that stops it.
+/// Carries out a command line, and tells the fault that stops it: first its line, since the file that has it is
+/// looked at once more for those below.
 fn carry_out<R: Files + Input + Print + Eprint>(
     rt: &R,
     alloc: Global,
@@ -63,12 +65,11 @@ fn carry_out<R: Files + Input + Print + Eprint>(
     match answer(rt, alloc, &line.request) {
         Ok(status) => status,
         Err(fault) => {
-            let lines = if line.explained {
-                fault_lines(rt, alloc, &fault, &line.request.names())
-            } else {
-                String::new(alloc)
-            };
-            tell_with(rt, fault, &lines)
+            let status = tell(rt, fault);
+            if line.explained {
+                tell_lines(rt, &fault_lines(rt, alloc, &fault, &line.request.names()));
+            }
+            status
         }
     }
 }

@@ -16,7 +16,7 @@ use Rattle.peripherals.specs.Events.{Happens}
 use Rattle.peripherals.specs.Seen.{puts_out, seen_of}
 use Rattle.machine_commands.specs.declared.follow.End.{End}
 use Rattle.machine_commands.specs.declared.follow.End.TheVariants.{Unsupported}
-use Rattle.machine_commands.specs.declared.follow.Outcome.{Outcome}
+use Rattle.machine_commands.specs.declared.follow.RunOutcome.{RunOutcome}
 use Rattle.machine_commands.specs.Course.{Ran, RanIntoLine, RanToOutput, event_of_round}
 use Rattle.machine_commands.specs.Follows.{Follows, Ended, Stuck, Stopped, Went, IsReached, IsTraceOfSome, IsTraceUpToOutput, end_of, goes_on, counted, rounds}
 use Rattle.processor.specs.Machine.{State}
@@ -72,7 +72,7 @@ came_more p ends trace es i e w x y n what old mid new came within is sees goes 
 }
 
 -- there is nothing more
-pub came_all : (p : Profile) (ends trace : Bool) (es : List Event) (w x : WorldState) (outcome : Outcome) (old new : Option (List ℕ)) →
+pub came_all : (p : Profile) (ends trace : Bool) (es : List Event) (w x : WorldState) (outcome : RunOutcome) (old new : Option (List ℕ)) →
     Came p ends trace es w outcome.steps x old new → outcome.end ≡ end_of x → Ran p ends trace es w outcome x old new
 came_all p ends trace es w x outcome old new came ends_so = record {
   lines = came.lines;
@@ -90,7 +90,7 @@ ended p ends es i e w x y a b n k end leads within is last =
     let whole : take i es ++ (e ∷ drop (i + 1) es) ≡ es = sym (append_assoc (take i es) (e ∷ []) (drop (i + 1) es)) ∙ front in
     subst (λ (l : List Event). Follows p ends l w (a ++ b) (n + k) end y) whole done
 
-pub came_to_halt : (p : Profile) (ends trace : Bool) (es : List Event) (i : ℕ) (e : Event) (w x y : WorldState) (n : ℕ) (outcome : Outcome) (old mid new : Option (List ℕ)) →
+pub came_to_halt : (p : Profile) (ends trace : Bool) (es : List Event) (i : ℕ) (e : Event) (w x y : WorldState) (n : ℕ) (outcome : RunOutcome) (old mid new : Option (List ℕ)) →
     Came p ends trace (take i es) w n x old mid → i < length es → e ≡ get_or es i Step → ends ≡ true → seen_of p x e ≡ seen.Halted → Happens p x e y →
     Appends mid new (traced trace (trace_of p x e y)) → outcome.steps ≡ n + 1 → outcome.end ≡ end_of y → Ran p ends trace es w outcome y old new
 came_to_halt p ends trace es i e w x y n outcome old mid new came within is stops sees happens wrote steps ends_so = record {
@@ -103,7 +103,7 @@ came_to_halt p ends trace es i e w x y n outcome old mid new came within is stop
 pub no_line : (p : Profile) (e : Event) (x y : WorldState) (word : ℕ) → seen_of p x e ≡ seen.Unsupported word → trace_of p x e y ≡ []
 no_line p e x y word sees = rw sees refl
 
-pub came_to_stuck : (p : Profile) (ends trace : Bool) (es : List Event) (i : ℕ) (e : Event) (w x y : WorldState) (n word : ℕ) (outcome : Outcome) (old mid new : Option (List ℕ)) →
+pub came_to_stuck : (p : Profile) (ends trace : Bool) (es : List Event) (i : ℕ) (e : Event) (w x y : WorldState) (n word : ℕ) (outcome : RunOutcome) (old mid new : Option (List ℕ)) →
     Came p ends trace (take i es) w n x old mid → i < length es → e ≡ get_or es i Step → seen_of p x e ≡ seen.Unsupported word → Happens p x e y →
     Appends mid new (traced trace (trace_of p x e y)) → outcome.steps ≡ n → outcome.end ≡ Unsupported y.state.pc → Ran p ends trace es w outcome y old new
 came_to_stuck p ends trace es i e w x y n word outcome old mid new came within is sees happens wrote steps ends_so =
@@ -231,7 +231,7 @@ came_to_world p ends trace es i e w x y n old mid false came within is happens s
     rw (same refl) here
 
 -- all events
-pub ran_whole : (p : Profile) (ends trace : Bool) (es : List Event) (w x : WorldState) (outcome : Outcome) (old new : Option (List ℕ)) →
+pub ran_whole : (p : Profile) (ends trace : Bool) (es : List Event) (w x : WorldState) (outcome : RunOutcome) (old new : Option (List ℕ)) →
     Ran p ends trace es w outcome x old new → trace ≡ true → Writes (IsTraceUpToOutput p ends es w) old new
 ran_whole p ends trace es w x outcome old new ran asked =
     let wrote : Appends old new ran.lines = rw asked at ran.wrote in

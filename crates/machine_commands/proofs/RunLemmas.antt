@@ -7,7 +7,7 @@ use Rattle.streams.specs.Bytes.{AppendsFront}
 use Rattle.instruct.specs.declared.Profile.{Profile}
 use Rattle.peripherals.specs.declared.Event.{Event}
 use Rattle.peripherals.specs.Devices.{WorldState}
-use Rattle.machine_commands.specs.declared.follow.Outcome.{Outcome}
+use Rattle.machine_commands.specs.declared.follow.RunOutcome.{RunOutcome}
 use Rattle.wordset.specs.Lanes.{words}
 use Rattle.options.specs.declared.RunOptions.{RunOptions}
 use Rattle.command_parts.specs.declared.status.Fault.{Fault}
@@ -23,7 +23,7 @@ use Rattle.machine_commands.specs.Trace.{traced}
 use Rattle.command_parts.specs.Writes.{FrontOf, Writes}
 use Rattle.machine_commands.proofs.FollowLemmas.{front_after, output_traced, ran_whole}
 
-run_of : (options : RunOptions) (ends : Bool) (events : List Event) (image : List (Option ℕ)) (p : Profile) (w x : WorldState) (outcome : Outcome) (old mid : Option (List ℕ)) →
+run_of : (options : RunOptions) (ends : Bool) (events : List Event) (image : List (Option ℕ)) (p : Profile) (w x : WorldState) (outcome : RunOutcome) (old mid : Option (List ℕ)) →
     p ≡ options.profile → w ≡ fresh image options.start → (ran : Ran p ends options.trace events w outcome x old mid) → (status : Status) → status ≡ status_of outcome.end →
     IsRunOf options ends events image (traced options.trace ran.lines ++ closing (words options.show) outcome.end x outcome.steps) status
 run_of options ends events image p w x outcome old mid profile begins ran status is = record {
@@ -36,7 +36,7 @@ run_of options ends events image p w x outcome old mid profile begins ran status
   status_is = is;
 }
 
-pub run_whole : (options : RunOptions) (ends : Bool) (events : List Event) (image : List (Option ℕ)) (p : Profile) (w x : WorldState) (outcome : Outcome) (status : Status) (old mid new : Option (List ℕ)) →
+pub run_whole : (options : RunOptions) (ends : Bool) (events : List Event) (image : List (Option ℕ)) (p : Profile) (w x : WorldState) (outcome : RunOutcome) (status : Status) (old mid new : Option (List ℕ)) →
     p ≡ options.profile → w ≡ fresh image options.start → Ran p ends options.trace events w outcome x old mid → Appends mid new (closing (words options.show) outcome.end x outcome.steps) → status ≡ status_of outcome.end →
     Writes (λ text. IsRunOf options ends events image text status) old new
 run_whole options ends events image p w x outcome status old mid new profile begins ran written is = record {
@@ -45,7 +45,7 @@ run_whole options ends events image p w x outcome status old mid new profile beg
   written = Appends-trans old mid new (traced options.trace ran.lines) (closing (words options.show) outcome.end x outcome.steps) ran.wrote written;
 }
 
-pub run_front : (options : RunOptions) (ends : Bool) (events : List Event) (image : List (Option ℕ)) (p : Profile) (w x : WorldState) (outcome : Outcome) (old mid new : Option (List ℕ)) →
+pub run_front : (options : RunOptions) (ends : Bool) (events : List Event) (image : List (Option ℕ)) (p : Profile) (w x : WorldState) (outcome : RunOutcome) (old mid new : Option (List ℕ)) →
     p ≡ options.profile → w ≡ fresh image options.start → Ran p ends options.trace events w outcome x old mid → AppendsFront mid new (closing (words options.show) outcome.end x outcome.steps) →
     FrontOf (IsPartOf options ends events image) old new
 run_front options ends events image p w x outcome old mid new profile begins ran front = record {
@@ -71,7 +71,7 @@ trace_refused options ends events image p w x old new profile begins asked ran =
     trace_only options ends events image p w old new profile begins asked (output_traced p ends options.trace events w x old new ran asked)
 
 -- the lines of the whole run, and no summary
-pub trace_whole : (options : RunOptions) (ends : Bool) (events : List Event) (image : List (Option ℕ)) (p : Profile) (w x : WorldState) (outcome : Outcome) (old new : Option (List ℕ)) →
+pub trace_whole : (options : RunOptions) (ends : Bool) (events : List Event) (image : List (Option ℕ)) (p : Profile) (w x : WorldState) (outcome : RunOutcome) (old new : Option (List ℕ)) →
     p ≡ options.profile → w ≡ fresh image options.start → options.trace ≡ true → Ran p ends options.trace events w outcome x old new →
     Writes (IsTraceToOutput options ends events image) old new
 trace_whole options ends events image p w x outcome old new profile begins asked ran =

@@ -22,7 +22,7 @@ use Rattle.peripherals.specs.Operator.{Plan, due, first_due, frame_due, key_due,
 use Rattle.peripherals.specs.Seen.{puts_out, seen_of}
 use Rattle.machine_commands.specs.declared.follow.End.{End}
 use Rattle.machine_commands.specs.declared.follow.End.TheVariants.{Unsupported}
-use Rattle.machine_commands.specs.declared.follow.Outcome.{Outcome}
+use Rattle.machine_commands.specs.declared.follow.RunOutcome.{RunOutcome}
 use Rattle.machine_commands.specs.Follows.{Follows, Ended, Stuck, Stopped, end_of, goes_on, counted}
 use Rattle.wordset.specs.Lanes.{words}
 use Rattle.options.specs.declared.RunOptions.{RunOptions}
@@ -233,7 +233,7 @@ sat_more brings p trace first now after e w x y n what old mid new told tmid tel
 }
 
 -- nothing is due any more
-pub sat_all : {S : Type 0} (brings : S → Profile → WorldState → Extent → List Event → Type 0) (p : Profile) (trace : Bool) (first now : S) (w x : WorldState) (outcome : Outcome) (old new told tells : Option (List ℕ)) →
+pub sat_all : {S : Type 0} (brings : S → Profile → WorldState → Extent → List Event → Type 0) (p : Profile) (trace : Bool) (first now : S) (w x : WorldState) (outcome : RunOutcome) (old new told tells : Option (List ℕ)) →
     Sat brings p trace first now w x outcome.steps old new told tells → ((extent : Extent) → brings now p x extent []) → outcome.end ≡ end_of x → Operated (brings first p w) p trace w outcome x old new told tells
 sat_all brings p trace first now w x outcome old new told tells sat over ends = record {
   events = sat.events;
@@ -246,7 +246,7 @@ sat_all brings p trace first now w x outcome old new told tells sat over ends = 
 last_comes : {S : Type 0} (brings : S → Profile → WorldState → Extent → List Event → Type 0) (p : Profile) (s t : S) (x : WorldState) (e : Event) (what : Seen) (extent : Extent) → IsNext brings s t x e → what ≡ seen_of p x e → goes_on true what ≡ false → brings s p x extent (e ∷ [])
 last_comes brings p s t x e what extent next sees ends = next.last p extent (rw (← sees) ends)
 
-pub sat_to_halt : {S : Type 0} (brings : S → Profile → WorldState → Extent → List Event → Type 0) (p : Profile) (trace : Bool) (first now after : S) (e : Event) (w x y : WorldState) (n : ℕ) (outcome : Outcome) (old mid new told tmid tells : Option (List ℕ)) →
+pub sat_to_halt : {S : Type 0} (brings : S → Profile → WorldState → Extent → List Event → Type 0) (p : Profile) (trace : Bool) (first now after : S) (e : Event) (w x y : WorldState) (n : ℕ) (outcome : RunOutcome) (old mid new told tmid tells : Option (List ℕ)) →
     Sat brings p trace first now w x n old mid told tmid → IsNext brings now after x e → Played p trace x e seen.Halted y mid new tmid tells → outcome.steps ≡ n + 1 → outcome.end ≡ end_of y →
     Operated (brings first p w) p trace w outcome y old new told tells
 sat_to_halt brings p trace first now after e w x y n outcome old mid new told tmid tells sat next played steps ends = record {
@@ -260,7 +260,7 @@ sat_to_halt brings p trace first now after e w x y n outcome old mid new told tm
   printed = printed_next p x y e told tmid tells played.happens sat.printed played.printed;
 }
 
-pub sat_to_stuck : {S : Type 0} (brings : S → Profile → WorldState → Extent → List Event → Type 0) (p : Profile) (trace : Bool) (first now after : S) (e : Event) (w x y : WorldState) (n word : ℕ) (outcome : Outcome) (old mid new told tmid tells : Option (List ℕ)) →
+pub sat_to_stuck : {S : Type 0} (brings : S → Profile → WorldState → Extent → List Event → Type 0) (p : Profile) (trace : Bool) (first now after : S) (e : Event) (w x y : WorldState) (n word : ℕ) (outcome : RunOutcome) (old mid new told tmid tells : Option (List ℕ)) →
     Sat brings p trace first now w x n old mid told tmid → IsNext brings now after x e → Played p trace x e (seen.Unsupported word) y mid new tmid tells → outcome.steps ≡ n → outcome.end ≡ Unsupported y.state.pc →
     Operated (brings first p w) p trace w outcome y old new told tells
 sat_to_stuck brings p trace first now after e w x y n word outcome old mid new told tmid tells sat next played steps ends =
@@ -352,7 +352,7 @@ sat_to_fault brings p trace first now after e w x y n reported typed unread old 
 sat_to_fault brings p trace first now after e w x y n reported typed unread old mid new told tmid tells sat next anywhere readable (inr faltered) = broke_after brings p trace first now after e w x y n reported typed unread old mid new told tmid tells sat next anywhere faltered
 
 -- a whole run, of which no more is told
-pub operated_broke : (comes : Extent → List Event → Type 0) (p : Profile) (trace : Bool) (w : WorldState) (outcome : Outcome) (x : WorldState) (reported typed unread : Bool) (old new told tells : Option (List ℕ)) →
+pub operated_broke : (comes : Extent → List Event → Type 0) (p : Profile) (trace : Bool) (w : WorldState) (outcome : RunOutcome) (x : WorldState) (reported typed unread : Bool) (old new told tells : Option (List ℕ)) →
     Operated comes p trace w outcome x old new told tells → (reported || typed) ≡ false → BrokeOff comes p trace w x reported typed unread old new told tells
 unfolding whole_front
 operated_broke comes p trace w outcome x reported typed unread old new told tells done unfailed = record {
@@ -644,7 +644,7 @@ typed_front told now new bytes from index byte typed within is front =
     rw (← typed_rest bytes typed.sent from index within typed.rest) (cut_of_more told new (typed.sent ++ (get_or bytes index 0 % 128) ∷ []) (map character (drop (suc index) bytes)) cut)
 
 -- What a run that came to its end leaves.
-held_whole : (comes : Profile → WorldState → Extent → List Event → Type 0) (options : RunOptions) (apart : Bool) (image : List (Option ℕ)) (p : Profile) (w x : WorldState) (outcome : Outcome) (status : Status) (old mid told tells : Option (List ℕ)) →
+held_whole : (comes : Profile → WorldState → Extent → List Event → Type 0) (options : RunOptions) (apart : Bool) (image : List (Option ℕ)) (p : Profile) (w x : WorldState) (outcome : RunOutcome) (status : Status) (old mid told tells : Option (List ℕ)) →
     p ≡ options.profile → w ≡ fresh image options.start → (done : Operated (comes p w) p options.trace w outcome x old mid told tells) → status ≡ status_of outcome.end →
     IsHeld comes options apart Whole image (traced options.trace done.ran.lines ++ summary_where (words options.show) apart Whole outcome.end x outcome.steps) (printed_in x) x.devices.punch.output status
 held_whole comes options apart image p w x outcome status old mid told tells profile begins done is = record {
@@ -661,7 +661,7 @@ held_whole comes options apart image p w x outcome status old mid told tells pro
   status_is = is;
 }
 
-pub attended : (comes : Profile → WorldState → Extent → List Event → Type 0) (options : RunOptions) (apart : Bool) (image : List (Option ℕ)) (p : Profile) (w x : WorldState) (outcome : Outcome) (status : Status) (old mid new told tells held holds : Option (List ℕ)) →
+pub attended : (comes : Profile → WorldState → Extent → List Event → Type 0) (options : RunOptions) (apart : Bool) (image : List (Option ℕ)) (p : Profile) (w x : WorldState) (outcome : RunOutcome) (status : Status) (old mid new told tells held holds : Option (List ℕ)) →
     p ≡ options.profile → w ≡ fresh image options.start → Operated (comes p w) p options.trace w outcome x old mid told tells → Appends held holds x.devices.punch.output →
     Appends mid new (summary_where (words options.show) apart Whole outcome.end x outcome.steps) → status ≡ status_of outcome.end →
     WritesAll (λ text printed punched. IsHeld comes options apart Whole image text printed punched status) (taken old told held) (taken new tells holds)
@@ -676,7 +676,7 @@ attended comes options apart image p w x outcome status old mid new told tells h
 }
 
 -- the summary failed
-pub attended_front : (comes : Profile → WorldState → Extent → List Event → Type 0) (options : RunOptions) (apart : Bool) (image : List (Option ℕ)) (p : Profile) (w x : WorldState) (outcome : Outcome) (reported typed unread unpunched : Bool) (old mid new told tells held holds : Option (List ℕ)) →
+pub attended_front : (comes : Profile → WorldState → Extent → List Event → Type 0) (options : RunOptions) (apart : Bool) (image : List (Option ℕ)) (p : Profile) (w x : WorldState) (outcome : RunOutcome) (reported typed unread unpunched : Bool) (old mid new told tells held holds : Option (List ℕ)) →
     p ≡ options.profile → w ≡ fresh image options.start → Operated (comes p w) p options.trace w outcome x old mid told tells → Appends held holds x.devices.punch.output →
     AppendsFront mid new (summary_where (words options.show) apart Whole outcome.end x outcome.steps) → reported ≡ true → typed ≡ false → unpunched ≡ false →
     FrontsOf (IsPartOf comes options apart reported typed unread image) (failures reported typed unpunched) (taken old told held) (taken new tells holds)
@@ -753,7 +753,7 @@ broke_front comes options apart image p w x reported typed unread unpunched old 
 }
 
 -- memory was refused for the summary
-pub summary_wanting : (comes : Profile → WorldState → Extent → List Event → Type 0) (options : RunOptions) (apart : Bool) (image : List (Option ℕ)) (p : Profile) (w x : WorldState) (outcome : Outcome) (reported typed unread unpunched : Bool) (old new told tells held holds : Option (List ℕ)) →
+pub summary_wanting : (comes : Profile → WorldState → Extent → List Event → Type 0) (options : RunOptions) (apart : Bool) (image : List (Option ℕ)) (p : Profile) (w x : WorldState) (outcome : RunOutcome) (reported typed unread unpunched : Bool) (old new told tells held holds : Option (List ℕ)) →
     p ≡ options.profile → w ≡ fresh image options.start → Operated (comes p w) p options.trace w outcome x old new told tells → Appends held holds x.devices.punch.output → (reported || typed) ≡ false → unpunched ≡ false →
     FrontsOf (IsPartOf comes options apart reported typed unread image) (failures reported typed unpunched) (taken old told held) (taken new tells holds)
 summary_wanting comes options apart image p w x outcome reported typed unread unpunched old new told tells held holds profile begins done punched unfailed is_punched =
@@ -761,7 +761,7 @@ summary_wanting comes options apart image p w x outcome reported typed unread un
     (whole_front held holds x.devices.punch.output punched) (λ no. punched) (λ yes. absurd (true≢false (sym yes ∙ is_punched)))
 
 -- the punch failed, whatever the run brought
-pub failed_punch : (comes : Profile → WorldState → Extent → List Event → Type 0) (options : RunOptions) (apart : Bool) (image : List (Option ℕ)) (p : Profile) (w x : WorldState) (ran : Result Outcome Fault) (reported typed unread unpunched : Bool) (old new told tells held holds : Option (List ℕ)) →
+pub failed_punch : (comes : Profile → WorldState → Extent → List Event → Type 0) (options : RunOptions) (apart : Bool) (image : List (Option ℕ)) (p : Profile) (w x : WorldState) (ran : Result RunOutcome Fault) (reported typed unread unpunched : Bool) (old new told tells held holds : Option (List ℕ)) →
     p ≡ options.profile → w ≡ fresh image options.start → IfOk ran (λ outcome. Operated (comes p w) p options.trace w outcome x old new told tells) → OnErr ran (BrokeOff (comes p w) p options.trace w x reported typed unread old new told tells) →
     (reported || typed) ≡ fails_to_write ran → AppendsFront held holds x.devices.punch.output → unpunched ≡ true → FrontsOf (IsPartOf comes options apart reported typed unread image) (failures reported typed unpunched) (taken old told held) (taken new tells holds)
 failed_punch comes options apart image p w x (Ok outcome) reported typed unread unpunched old new told tells held holds profile begins done broke marks punched failed =

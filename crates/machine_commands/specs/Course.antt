@@ -9,7 +9,7 @@ use Rattle.peripherals.specs.Seen.{puts_out}
 use Rattle.machine_commands.specs.declared.follow.End.{End}
 use Rattle.machine_commands.specs.declared.follow.Course.{Course}
 use Rattle.machine_commands.specs.declared.follow.Course.TheVariants.{Rounds, Listed}
-use Rattle.machine_commands.specs.declared.follow.Outcome.{Outcome}
+use Rattle.machine_commands.specs.declared.follow.RunOutcome.{RunOutcome}
 use Rattle.machine_commands.specs.Follows.{Follows, rounds}
 use Rattle.machine_commands.specs.Trace.{trace_of, traced}
 
@@ -28,7 +28,7 @@ abbrev pub event_of_round : ℕ → Event
 event_of_round index = if index == 0 then Step else (if index == 1 then PrinterDone else PunchDone)
 
 -- From w these events led to x, so far and to this end; the trace, if one was asked for, was appended.
-pub record Ran (profile : Profile) (ends_at_halt trace : Bool) (events : List Event) (w : WorldState) (outcome : Outcome) (x : WorldState) (old new : Option (List ℕ)) : Type 0 where
+pub record Ran (profile : Profile) (ends_at_halt trace : Bool) (events : List Event) (w : WorldState) (outcome : RunOutcome) (x : WorldState) (old new : Option (List ℕ)) : Type 0 where
   pub lines : List ℕ
   pub follows : Follows profile ends_at_halt events w lines outcome.steps outcome.end x
   pub wrote : Appends old new (traced trace lines)

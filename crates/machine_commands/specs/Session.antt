@@ -7,7 +7,7 @@ use Rattle.peripherals.specs.declared.Event.{Event}
 use Rattle.peripherals.specs.Devices.{WorldState}
 use Rattle.peripherals.specs.Operator.{Plan, struck_as}
 use Rattle.machine_commands.specs.declared.follow.End.{End}
-use Rattle.machine_commands.specs.declared.follow.Outcome.{Outcome}
+use Rattle.machine_commands.specs.declared.follow.RunOutcome.{RunOutcome}
 use Rattle.wordset.specs.Lanes.{words}
 use Rattle.options.specs.declared.RunOptions.{RunOptions}
 use Rattle.options.specs.declared.SessionOptions.{SessionOptions}
@@ -33,7 +33,7 @@ abbrev pub printed_in : WorldState → List ℕ
 printed_in w = map character w.devices.printer.output
 
 -- A run came to its end in x, which is told to any extent: the trace, if one was asked for, and the characters that were printed were appended.
-pub record Operated (comes : Extent → List Event → Type 0) (profile : Profile) (trace : Bool) (w : WorldState) (outcome : Outcome) (x : WorldState) (old new told tells : Option (List ℕ)) : Type 0 where
+pub record Operated (comes : Extent → List Event → Type 0) (profile : Profile) (trace : Bool) (w : WorldState) (outcome : RunOutcome) (x : WorldState) (old new told tells : Option (List ℕ)) : Type 0 where
   pub events : List Event
   pub come : (extent : Extent) → comes extent events
   pub ran : Ran profile true trace events w outcome x old new

@@ -32,7 +32,7 @@ pub enum End {
 
 /// How far a run came.
 #[derive(Clone, Copy, PartialEq, Eq, Debug)]
-pub struct Outcome {
+pub struct RunOutcome {
     /// How many instructions were carried out.
     pub steps: u64,
     /// How the run ended.
@@ -152,7 +152,7 @@ pub fn follow<A: Allocator, W: ByteSink>(
     out: &mut W,
     trace: bool,
     course: &Course<'_>,
-) -> Result<Outcome, Fault>
+) -> Result<RunOutcome, Fault>
     requires unmarked { W.mark out.old ≡ false }
     ensures ran { IfOk result (λ outcome. Ran (profile_of world.old) (ends_at_halt course.now) trace
         (events_in course.now) (view world.old) outcome (view world.new)
@@ -185,14 +185,14 @@ pub fn follow<A: Allocator, W: ByteSink>(
         match advance(world, out, trace, course.event(index))? {
             Seen::Ran => steps += 1,
             Seen::Halted if course.ends_at_halt() => {
-                return Ok(Outcome {
+                return Ok(RunOutcome {
                     steps: steps + 1,
                     end: end_of(world),
                 });
             }
             Seen::Halted => steps += 1,
             Seen::Unsupported(_) => {
-                return Ok(Outcome {
+                return Ok(RunOutcome {
                     steps,
                     end: End::Unsupported(world.cpu().pc),
                 });
@@ -201,7 +201,7 @@ pub fn follow<A: Allocator, W: ByteSink>(
             Seen::Changed => {}
         }
     }
-    Ok(Outcome {
+    Ok(RunOutcome {
         steps,
         end: end_of(world),
     })

@@ -11,7 +11,7 @@ ghost use Rattle.machine_commands.specs.Schedule.{Whole};
 ghost use Rattle.machine_commands.specs.Session.{BrokeOff, FrontsOf, IsHeld, IsHeldFault, IsSession, NothingOrFronts, Operated, SessionFronts, WritesAll, character, failures, taken};
 ghost use Rattle.machine_commands.specs.SessionParts.{IsPartOf, Played, PlayedFront, is_step};
 
-use crate::follow::{End, Outcome, advance, end_of};
+use crate::follow::{End, RunOutcome, advance, end_of};
 use crate::running::status_of;
 use crate::schedule::Scheduler;
 use crate::summary::closing_of;
@@ -128,7 +128,7 @@ pub(crate) fn operate<A: Allocator, S: Scheduler, W: ByteSink, T: ByteSink>(
     trace: bool,
     report: &mut W,
     teletype: &mut T,
-) -> Result<Outcome, Fault>
+) -> Result<RunOutcome, Fault>
     requires writable { W.mark report.old ≡ false }
     requires typable { T.mark teletype.old ≡ false }
     requires readable { S.unread schedule.old ≡ false }
@@ -157,13 +157,13 @@ pub(crate) fn operate<A: Allocator, S: Scheduler, W: ByteSink, T: ByteSink>(
                 schedule.complete_devices(world);
             }
             Seen::Halted => {
-                return Ok(Outcome {
+                return Ok(RunOutcome {
                     steps: steps + 1,
                     end: end_of(world),
                 });
             }
             Seen::Unsupported(_) => {
-                return Ok(Outcome {
+                return Ok(RunOutcome {
                     steps,
                     end: End::Unsupported(world.cpu().pc),
                 });
@@ -172,7 +172,7 @@ pub(crate) fn operate<A: Allocator, S: Scheduler, W: ByteSink, T: ByteSink>(
             Seen::Changed => {}
         }
     }
-    Ok(Outcome {
+    Ok(RunOutcome {
         steps,
         end: end_of(world),
     })

@@ -10,7 +10,7 @@ ghost use Rattle.machine_commands.specs.Schedule.{Whole};
 ghost use Rattle.machine_commands.specs.Session.{character, leaves_open, parting, summary_where};
 ghost use Rattle.machine_commands.specs.Summary.{end_text, registers_text, state_line, byte_text, bytes_text, output_line, summary, cell_line, cells_below, cells_text, closing};
 
-use crate::follow::{End, Outcome};
+use crate::follow::{End, RunOutcome};
 use command_parts::text::{push_place, push_word};
 use itoa::Buffer;
 use peripherals::World;
@@ -62,7 +62,7 @@ fn push_steps<A: Allocator>(text: &mut Vec<u8, A>, steps: u64) -> Result<(), All
 /// Adds the first line of a summary.
 fn push_state<A: Allocator, B: Allocator>(
     text: &mut Vec<u8, A>,
-    outcome: &Outcome,
+    outcome: &RunOutcome,
     world: &World<B>,
 ) -> Result<(), AllocError>
     ensures { OnOk result
@@ -116,7 +116,7 @@ fn push_output<A: Allocator>(
 /// Adds the summary of a run.
 fn push_summary<A: Allocator, B: Allocator>(
     text: &mut Vec<u8, A>,
-    outcome: &Outcome,
+    outcome: &RunOutcome,
     world: &World<B>,
 ) -> Result<(), AllocError>
     ensures { OnOk result (text.new.items ≡ text.old.items
@@ -184,7 +184,7 @@ pub(crate) fn push_shown<A: Allocator, B: Allocator>(
 /// Adds the summary of a run, and behind it the cells that are to be shown.
 fn push_closing<A: Allocator, B: Allocator>(
     text: &mut Vec<u8, A>,
-    outcome: &Outcome,
+    outcome: &RunOutcome,
     world: &World<B>,
     show: &WordSet,
 ) -> Result<(), AllocError>
@@ -198,7 +198,7 @@ fn push_closing<A: Allocator, B: Allocator>(
 /// The summary of a run, and behind it the cells that are to be shown.
 pub fn summary_of<A: Allocator, B: Allocator>(
     alloc: A,
-    outcome: &Outcome,
+    outcome: &RunOutcome,
     world: &World<B>,
     show: &WordSet,
 ) -> Result<Vec<u8, A>, AllocError>
@@ -235,7 +235,7 @@ fn parting(apart: bool, printed: &[u8]) -> &'static [u8]
 /// are to be shown.
 pub(crate) fn closing_of<A: Allocator, B: Allocator>(
     alloc: A,
-    outcome: &Outcome,
+    outcome: &RunOutcome,
     world: &World<B>,
     apart: bool,
     show: &WordSet,

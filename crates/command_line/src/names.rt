@@ -2,8 +2,8 @@
 
 use crate::requests::Request;
 
-/// The names of a request's inputs and of its result, without those of `--punch`, `--report` and `--save`; `-`
-/// stands for a standard stream.
+/// The names of a request's inputs and of its outputs; `-` stands for a standard stream, and the value of `--save`
+/// for the files that begin with it.
 #[derive(Clone, Copy)]
 pub struct FileNames<'a> {
     /// The tape's.
@@ -18,8 +18,10 @@ pub struct FileNames<'a> {
     pub reader: Option<&'a str>,
     /// That of the keys.
     pub keys: Option<&'a str>,
-    /// That of the result, where it is the only output.
+    /// That of the result.
     pub output: Option<&'a str>,
+    /// That of another output.
+    pub second_output: Option<&'a str>,
 }
 
 impl<'a> FileNames<'a> {
@@ -32,6 +34,7 @@ impl<'a> FileNames<'a> {
         reader: None,
         keys: None,
         output: None,
+        second_output: None,
     };
 
     /// The names of the inputs, in the order in which they are read.
@@ -48,7 +51,7 @@ impl<'a> FileNames<'a> {
 }
 
 impl<'a> Request<'a> {
-    /// The names of its inputs and of its result, apart from the parts of a source.
+    /// The names of its inputs and of its outputs, apart from the parts of a source.
     pub fn names(&self) -> FileNames<'a> {
         match self {
             Request::Run(run) => run.names(),

@@ -25,6 +25,8 @@ impl<'a> Session<'a> {
             tape: Some(self.tape),
             reader: self.joined.reader,
             keys: self.joined.keys,
+            output: Some("-"),
+            second_output: self.joined.punch,
             ..FileNames::NONE
         }
     }
@@ -54,6 +56,7 @@ impl<'a> WatchedSession<'a> {
             declaration: Some(self.declaration),
             reader: self.reader,
             keys: self.keys,
+            output: Some("-"),
             ..FileNames::NONE
         }
     }
@@ -77,6 +80,8 @@ impl<'a> TeletypeSession<'a> {
         FileNames {
             tape: Some(self.tape),
             reader: self.reader,
+            output: Some("-"),
+            second_output: self.punch,
             ..FileNames::NONE
         }
     }

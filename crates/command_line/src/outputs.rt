@@ -55,15 +55,6 @@ pub fn report_of<'a>(
     Ok(Some(name))
 }
 
-/// The name of the file of a result, where it is the only output: there is no report.
-pub(crate) fn only_output<'a>(out: &Destination<'a>, report: Option<&str>) -> Option<&'a str> {
-    if report.is_some() {
-        None
-    } else {
-        Some(out.name())
-    }
-}
-
 /// Where the result goes: the value of `-o`, else the operand OUT. It is no input.
 pub fn destination_of<'a>(
     found: &ArgMatches<'a>,

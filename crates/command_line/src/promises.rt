@@ -2,7 +2,7 @@
 
 use crate::names::FileNames;
 use crate::operator::{WatchedSession, watched_session_of};
-use crate::outputs::{Destination, destination_of, only_output, report_of};
+use crate::outputs::{Destination, destination_of, report_of};
 use crate::refused::{Misuse, Refused};
 use crate::shown::shown_cells;
 use crate::values::{is_start_named, read_standard_input_once, refute_options, verify_options};
@@ -29,6 +29,7 @@ impl<'a> CheckRequest<'a> {
             tape: Some(self.tape),
             declaration: Some(self.declaration),
             certificate: Some(self.certificate),
+            output: Some("-"),
             ..FileNames::NONE
         }
     }
@@ -141,6 +142,7 @@ impl<'a> WatchRequest<'a> {
             tape: Some(self.tape),
             declaration: Some(self.declaration),
             events: Some(self.events),
+            output: Some("-"),
             ..FileNames::NONE
         }
     }
@@ -192,7 +194,8 @@ impl<'a> GuessRequest<'a> {
         FileNames {
             tape: Some(self.tape),
             declaration: Some(self.declaration),
-            output: only_output(&self.out, self.report),
+            output: Some(self.out.name()),
+            second_output: self.report,
             ..FileNames::NONE
         }
     }
@@ -235,6 +238,8 @@ impl<'a> RefuteRequest<'a> {
         FileNames {
             tape: Some(self.tape),
             declaration: Some(self.declaration),
+            output: Some(self.out.name()),
+            second_output: Some("-"),
             ..FileNames::NONE
         }
     }
@@ -271,6 +276,8 @@ impl<'a> VerifyRequest<'a> {
         FileNames {
             tape: Some(self.tape),
             declaration: self.declaration,
+            output: Some("-"),
+            second_output: self.save,
             ..FileNames::NONE
         }
     }

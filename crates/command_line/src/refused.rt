@@ -10,7 +10,7 @@ use word12::OctalFault;
 pub enum Refused {
     /// The command line is bad, or asks for help.
     CommandLine(Error),
-    /// Its words are those of a command, but can't stand so.
+    /// Its arguments are those of a command, but can't stand so.
     Misuse(Misuse),
     /// The value of `--start` is no address.
     Start(OctalFault),
@@ -24,7 +24,7 @@ pub enum Refused {
     Memory,
 }
 
-/// What is wrong with the words of a command line, where that is the same in each.
+/// What is wrong with the arguments of a command line.
 #[derive(Clone, Copy)]
 pub enum Misuse {
     /// An argument is no text.

@@ -2,7 +2,7 @@
 
 use crate::names::FileNames;
 use crate::operator::{WatchedSession, is_watched_with_operator, watched_session_of};
-use crate::outputs::{Destination, destination_of, has_output, is_taken, only_output, report_of};
+use crate::outputs::{Destination, destination_of, has_output, is_taken, report_of};
 use crate::refused::{Misuse, Refused};
 use crate::shown::shown_cells;
 use crate::sources::source_names;
@@ -113,6 +113,7 @@ impl<'a> Sourced<'a> {
         match &self.task {
             Task::Check { certificate, .. } => FileNames {
                 certificate: Some(certificate),
+                output: Some("-"),
                 ..none
             },
             Task::Report {
@@ -126,22 +127,34 @@ impl<'a> Sourced<'a> {
             },
             Task::Watch { events, .. } => FileNames {
                 events: Some(events),
+                output: Some("-"),
                 ..none
             },
             Task::WatchSession(session) => FileNames {
                 reader: session.reader,
                 keys: session.keys,
+                output: Some("-"),
                 ..none
             },
             Task::Guess { out, report, .. } => FileNames {
-                output: only_output(out, *report),
+                output: Some(out.name()),
+                second_output: *report,
                 ..none
             },
             Task::Declare { out, .. } | Task::Place { out, .. } => FileNames {
                 output: Some(out.name()),
                 ..none
             },
-            Task::Verify { .. } | Task::Refute { .. } => none,
+            Task::Refute { out, .. } => FileNames {
+                output: Some(out.name()),
+                second_output: Some("-"),
+                ..none
+            },
+            Task::Verify { save, .. } => FileNames {
+                output: Some("-"),
+                second_output: *save,
+                ..none
+            },
         }
     }
 }

@@ -27,6 +27,7 @@ impl<'a> RunRequest<'a> {
         FileNames {
             tape: Some(self.tape),
             events: self.events,
+            output: Some("-"),
             ..FileNames::NONE
         }
     }
@@ -57,6 +58,7 @@ impl<'a> DumpRequest<'a> {
     pub(crate) fn names(&self) -> FileNames<'a> {
         FileNames {
             tape: Some(self.tape),
+            output: Some("-"),
             ..FileNames::NONE
         }
     }

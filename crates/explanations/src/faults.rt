@@ -248,13 +248,13 @@ static FAULTS: [Explanation; 43] = [
         code: "ReadFault",
         subject: Subject::Fault("device: ReadFault"),
         meaning: "an input can't be opened or read",
-        advice: "a file can't be opened, read, made or written: its name, its\nrights, room on the disk; `--why` names it unless there are two outputs",
+        advice: "a file can't be opened, read, made or written: its name, its\nrights, room on the disk; `--why` names it, or both of two outputs",
     },
     Explanation {
         code: "WriteFault",
         subject: Subject::Fault("device: WriteFault"),
         meaning: "an output can't be made or written, or a pipe was closed, as by `head`",
-        advice: "a file can't be opened, read, made or written: its name, its\nrights, room on the disk; `--why` names it unless there are two outputs",
+        advice: "a file can't be opened, read, made or written: its name, its\nrights, room on the disk; `--why` names it, or both of two outputs",
     },
     Explanation {
         code: "NoMemory",

@@ -12,7 +12,7 @@ use certificate::CertificateFault;
 use command_parts::status::Fault;
 use declaration::DeclarationFault;
 pub use lines::push_numbered;
-pub use omissions::push_omissions;
+pub use omissions::{push_omissions, push_stuck_remedy};
 use peripherals::{EventsFault, NoMemory};
 use std::alloc::Allocator;
 use std::fmt::Write;
@@ -138,6 +138,9 @@ fn push_certificate<A: Allocator>(
     file: &FaultyFile<'_>,
 ) -> Result<(), NoMemory> {
     match fault {
+        CertificateFault::Version if file.bytes.is_empty() => {
+            push_said(text, file, "it is empty: is it a certificate?")
+        }
         CertificateFault::Version => {
             push_said(
                 text,

@@ -12,7 +12,7 @@ use word12::Word;
 /// The most instructions that are named.
 const MOST: usize = 8;
 
-/// What an instruction would break, and what to add.
+/// What an instruction would break.
 #[derive(Clone, Copy, PartialEq, Eq)]
 enum Omission {
     /// Nothing stands there on the tape.
@@ -21,16 +21,43 @@ enum Omission {
     Unsupported,
     /// It is one of the PDP-8/E alone.
     OfThe8e,
-    /// It stores into this cell, which is no variable.
+    /// It stores into this cell, which is neither a variable nor an entry.
     Stores(Word),
+    /// It stores into this entry, and is no ISZ of the routine itself.
+    StoresInEntry(Word),
     /// It steps this pointer, which is no variable.
     Steps(Word),
     /// It calls this address, which is no entry.
     Calls(Word),
-    /// It jumps to this address, which is in another body or in none.
+    /// It jumps to this address, which is in no body, and no entry.
     Jumps(Word),
+    /// It jumps to this address, which is in another body, or an entry.
+    JumpsAcross(Word),
     /// It halts, and no halt is declared there.
     Halts,
+    /// It halts at a pause, and this address, at which the operator goes on, isn't in the same body.
+    GoesOn(Word),
+}
+
+/// The bits by which a HLT skips.
+const TESTS: u16 = 0o170;
+
+/// What a store into a cell that is no variable would break.
+fn omitted_by_store<D: Allocator>(declaration: &Declaration<D>, cell: Word) -> Omission {
+    if declaration.is_entry(cell) {
+        Omission::StoresInEntry(cell)
+    } else {
+        Omission::Stores(cell)
+    }
+}
+
+/// What a jump to an address that isn't in the same body would break.
+fn omitted_by_jump<D: Allocator>(declaration: &Declaration<D>, place: Word) -> Omission {
+    if declaration.is_entry(place) || declaration.owner_of(place).is_some() {
+        Omission::JumpsAcross(place)
+    } else {
+        Omission::Jumps(place)
+    }
 }
 
 /// What a memory reference of a body would break.
@@ -47,16 +74,36 @@ fn omitted_by_reference<D: Allocator>(
     }
     let is_own = owner == Owner::Routine(named);
     match Operation::of(word) {
-        Operation::Dca if !declaration.is_variable(named) => Some(Omission::Stores(named)),
+        Operation::Dca if !declaration.is_variable(named) => {
+            Some(omitted_by_store(declaration, named))
+        }
         Operation::Isz if !declaration.is_variable(named) && !is_own => {
-            Some(Omission::Stores(named))
+            Some(omitted_by_store(declaration, named))
         }
         Operation::Jms if !declaration.is_entry(named) => Some(Omission::Calls(named)),
         Operation::Jmp if declaration.owner_of(named) != Some(owner) => {
-            Some(Omission::Jumps(named))
+            Some(omitted_by_jump(declaration, named))
         }
         _ => None,
     }
+}
+
+/// What a HLT of a body would break. Behind a pause a HLT that tests nothing goes on at the next address.
+fn omitted_by_halt<D: Allocator>(
+    declaration: &Declaration<D>,
+    owner: Owner,
+    at: Word,
+    word: Word,
+) -> Option<Omission> {
+    if declaration.is_stop(at) {
+        return None;
+    }
+    if !declaration.is_pause(at) {
+        return Some(Omission::Halts);
+    }
+    let next = at.increment();
+    let goes_on = word.value() & TESTS == 0 && declaration.owner_of(next) != Some(owner);
+    goes_on.then_some(Omission::GoesOn(next))
 }
 
 /// What a word that the declared machine doesn't have would break.
@@ -83,70 +130,159 @@ fn omitted_at<D: Allocator>(
     match decode(word, declaration.profile()) {
         Instruction::Memory => omitted_by_reference(declaration, owner, at, word),
         Instruction::Unsupported => Some(unsupported(word)),
-        Instruction::Operate2 if halts(word) => {
-            let is_declared = declaration.is_stop(at) || declaration.is_pause(at);
-            (!is_declared).then_some(Omission::Halts)
-        }
+        Instruction::Operate2 if halts(word) => omitted_by_halt(declaration, owner, at, word),
         _ => None,
     }
 }
 
-/// Adds what is omitted at an address, and what to add to the declaration.
-fn push_omission<A: Allocator>(
+/// Adds an address with what stands before it and behind it.
+fn push_around<A: Allocator>(
+    text: &mut Vec<u8, A>,
+    before: &[u8],
+    place: Word,
+    after: &[u8],
+) -> Result<(), AllocError> {
+    push_place(text, before, place)?;
+    text.extend_from_slice(after)
+}
+
+/// Adds what the instruction at an address would break.
+fn push_breach<A: Allocator>(
     text: &mut Vec<u8, A>,
     at: Word,
-    omission: Omission,
+    omission: &Omission,
 ) -> Result<(), AllocError> {
     match omission {
         Omission::NoWord => {
-            push_place(text, b"", at)?;
-            text.extend_from_slice(b" is in a body, and the tape has no word there")?;
+            push_around(
+                text,
+                b"",
+                at,
+                b" is in a body, and the tape has no word there",
+            )
         }
-        Omission::Unsupported => {
-            text.extend_from_slice(
-                b"it is no word that the machine has: is it data? Then take it out of the body",
-            )?;
-        }
-        Omission::OfThe8e => {
-            text.extend_from_slice(
-                b"the PDP-8/E alone has this word: add `profile 8e` if the program is for one",
-            )?;
-        }
+        Omission::Unsupported => text.extend_from_slice(b"it is no word that the machine has"),
+        Omission::OfThe8e => text.extend_from_slice(b"the PDP-8/E alone has this word"),
         Omission::Stores(cell) => {
-            push_place(text, b"it stores into ", cell)?;
-            push_place(text, b", which is no variable: add `var ", cell)?;
-            text.extend_from_slice(b"`")?;
+            push_around(text, b"it stores into ", *cell, b", which is no variable")
+        }
+        Omission::StoresInEntry(entry) => {
+            push_around(text, b"it stores into ", *entry, b", which is an entry")
         }
         Omission::Steps(cell) => {
-            push_place(text, b"it steps the pointer ", cell)?;
-            push_place(text, b", which is no variable: add `var ", cell)?;
-            text.extend_from_slice(b"`")?;
+            push_around(
+                text,
+                b"it steps the pointer ",
+                *cell,
+                b", which is no variable",
+            )
         }
-        Omission::Calls(entry) => {
-            push_place(text, b"it calls ", entry)?;
-            push_place(text, b", which is no entry: add `sub ", entry)?;
-            text.extend_from_slice(b" body .. returns ..`")?;
+        Omission::Calls(entry) => push_around(text, b"it calls ", *entry, b", which is no entry"),
+        Omission::Jumps(place) | Omission::JumpsAcross(place) => {
+            push_around(
+                text,
+                b"it jumps to ",
+                *place,
+                b", which isn't in the same body",
+            )
         }
-        Omission::Jumps(place) => {
-            push_place(text, b"it jumps to ", place)?;
-            text.extend_from_slice(b", which isn't in the same body: add it there")?;
+        Omission::Halts => text.extend_from_slice(b"it halts, and no halt is declared there"),
+        Omission::GoesOn(next) => push_around(
+            text,
+            b"the operator may go on at ",
+            *next,
+            b", which isn't in the same body",
+        ),
+    }
+}
+
+/// Adds what to do about it.
+fn push_remedy<A: Allocator>(
+    text: &mut Vec<u8, A>,
+    at: Word,
+    omission: &Omission,
+) -> Result<(), AllocError> {
+    match omission {
+        Omission::NoWord => text.extend_from_slice(b"take it out, or end the program before it"),
+        Omission::Unsupported => {
+            text.extend_from_slice(b"is it data? Then take it out of the body")
+        }
+        Omission::OfThe8e => {
+            text.extend_from_slice(b"add `profile 8e` if the program is for one")
+        }
+        Omission::Stores(cell) | Omission::Steps(cell) => {
+            push_around(text, b"add `var ", *cell, b"`")
+        }
+        Omission::StoresInEntry(_) => {
+            text.extend_from_slice(b"let only a JMS write there, and an ISZ of its own routine")
+        }
+        Omission::Calls(entry) => push_around(text, b"add `sub ", *entry, b" body .. returns ..`"),
+        Omission::Jumps(_) => text.extend_from_slice(b"add it there"),
+        Omission::JumpsAcross(_) => {
+            text.extend_from_slice(b"call a routine by JMS, and leave it by a return")
         }
         Omission::Halts => {
-            push_place(
+            push_around(text, b"add `stop ", at, b"`, or `pause ")?;
+            push_around(text, b"", at, b"` if the operator may go on")
+        }
+        Omission::GoesOn(_) => {
+            push_around(
                 text,
-                b"it halts, and no halt is declared there: add `stop ",
+                b"add it there, or declare `stop ",
                 at,
+                b"` in place of `pause ",
             )?;
-            push_place(text, b"`, or `pause ", at)?;
-            text.extend_from_slice(b"` if the operator may go on")?;
+            push_around(text, b"", at, b"`")
         }
     }
+}
+
+/// Adds the line of what the instruction at an address would break, and what to do about it.
+fn push_omission<A: Allocator>(
+    text: &mut Vec<u8, A>,
+    at: Word,
+    omission: &Omission,
+) -> Result<(), AllocError> {
+    push_breach(text, at, omission)?;
+    text.extend_from_slice(b": ")?;
+    push_remedy(text, at, omission)?;
+    text.extend_from_slice(b"\n")
+}
+
+/// Adds the line of what to do about the instruction at which a search is stuck, behind those on what a condition
+/// asks of it, if the tape and the declaration show by themselves what it breaks.
+///
+/// # Errors
+///
+/// `AllocError` where a growth was refused.
+pub fn push_stuck_remedy<A: Allocator, D: Allocator>(
+    text: &mut Vec<u8, A>,
+    image: &Image,
+    declaration: &Declaration<D>,
+    at: Word,
+) -> Result<(), AllocError> {
+    let Some(omission) = omitted_at(image, declaration, at) else {
+        return Ok(());
+    };
+    match &omission {
+        Omission::NoWord | Omission::Unsupported | Omission::OfThe8e => {
+            return push_omission(text, at, &omission);
+        }
+        Omission::StoresInEntry(_) | Omission::JumpsAcross(_) => {}
+        Omission::Stores(_)
+        | Omission::Steps(_)
+        | Omission::Calls(_)
+        | Omission::Jumps(_)
+        | Omission::Halts
+        | Omission::GoesOn(_) => text.extend_from_slice(b"if that is meant, ")?,
+    }
+    push_remedy(text, at, &omission)?;
     text.extend_from_slice(b"\n")
 }
 
 /// Adds what the tape and the declaration show by themselves, of at most eight instructions in the order of
 /// their addresses: each instruction, what it would break if a run came there, and what to add. One address
-/// is left out, of which all is said elsewhere.
+/// is left out, of which [`push_stuck_remedy`] says it.
 ///
 /// # Errors
 ///
@@ -174,7 +310,7 @@ pub fn push_omissions<A: Allocator, D: Allocator>(
             return text.extend_from_slice(b"and more\n");
         }
         push_dump_line(text, at, image.get(at), declaration.profile())?;
-        push_omission(text, at, omission)?;
+        push_omission(text, at, &omission)?;
     }
     Ok(())
 }

@@ -8,7 +8,7 @@ use command_parts::status::{Fault, Status};
 use machine_commands::refuting::refute;
 use machine_commands::watching::watch;
 use program_files::drafted::{is_stuck, need_rereading, report_stuck_files};
-use program_files::faults::{bound_lines, omissions, stuck_address, with_omissions};
+use program_files::faults::{omissions, stuck_address, stuck_lines, with_omissions};
 use program_files::files::{open_input, open_output};
 use program_files::saving::{save_answer, save_proposed};
 use program_files::tellers::{report_to, tell_to};
@@ -164,7 +164,7 @@ fn guess_with_reasons<R: Files + Input + Print + Eprint>(
 }
 
 /// Tells on standard error the lines of a search that is stuck, with what the tape and the declaration of these
-/// files show by themselves, and what the draft tells of the pointer there.
+/// files show by themselves, what to do, and what the draft tells of the pointer there.
 fn tell_reasons<R: Files + Input + Eprint>(
     rt: &R,
     alloc: Global,
@@ -174,7 +174,7 @@ fn tell_reasons<R: Files + Input + Eprint>(
 ) -> Result<(), Fault> {
     let others = omissions(rt, alloc, tape, declaration, stuck_address(report))?;
     let mut told = with_omissions(alloc, report, &others)?;
-    told.extend_from_slice(&bound_lines(rt, alloc, tape, declaration)?)?;
+    told.extend_from_slice(&stuck_lines(rt, alloc, tape, declaration)?)?;
     let _ = put(&mut tell_to(rt), &told);
     Ok(())
 }
@@ -230,15 +230,15 @@ fn verify_declared<R: Files + Input + Print>(
     }
     let answer = found?;
     let mut others = Vec::new(alloc);
-    let mut bound = Vec::new(alloc);
+    let mut remedies = Vec::new(alloc);
     if let Answer::NotKnown(Lack::Stuck(at)) = &answer {
         if search.explained {
             others = omissions(rt, alloc, asked.tape, declaration, Some(*at))?;
-            bound = bound_lines(rt, alloc, asked.tape, declaration)?;
+            remedies = stuck_lines(rt, alloc, asked.tape, declaration)?;
         }
     }
     let mut told = with_omissions(alloc, &report, &others)?;
-    told.extend_from_slice(&bound)?;
+    told.extend_from_slice(&remedies)?;
     put(&mut Writes::new(io::writer(rt)), &told)?;
     save_answer(rt, alloc, asked.save, &answer)?;
     Ok(answer_status(&answer))

@@ -2,22 +2,26 @@
 //! read twice; it is tested and not proved.
 
 use crate::files::{is_read_once, open_input};
-use crate::source_faults::NO_WORD;
+use crate::source_faults::{NO_WORD, output_name};
 use analyser::{Attempt, guess_or_draft};
 use bin_tape::Image;
 use bound_texts::push_bound;
-use command_line::FileNames;
+use command_line::{FileNames, Request};
 use command_parts::inputs::{declaration_from, tape_from};
 use command_parts::status::{DeviceFault, Fault};
 use declaration::{Declaration, DeclarationFault};
 use explanations::push_advice;
-use fault_texts::{FaultyFile, push_fault, push_omissions};
+use fault_texts::{FaultyFile, push_fault, push_omissions, push_stuck_remedy};
 use std::alloc::{AllocError, Global};
 use std::fmt::Write;
 use std::rt::Files;
 use streams::read_at_most;
 use turns::{GuessFault, ProposeFault};
 use word12::Word;
+
+/// What is said of a run that ends at a word that the machine doesn't have.
+const UNSUPPORTED: &str =
+    "the word there is none of the machine's\nwhat to do: see it by `pdp8 dump`; one of the PDP-8/E wants --profile 8e; else the run came to data\n";
 
 /// How much of a file is looked at: a byte more than any input may have.
 const MOST: usize = 1_048_577;
@@ -68,22 +72,23 @@ fn unread_input<'a, R: Files + Input>(
     None
 }
 
-/// What the draft of a search for this program that is stuck tells of the pointer there. The search is made
-/// once more for it.
-pub fn bound_text(
+/// What to do where a search for this program is stuck, if the tape and the declaration show it, and what its
+/// draft tells of the pointer there. The search is made once more for it.
+pub fn stuck_text(
     alloc: Global,
     image: &Image,
     promised: &Declaration<Global>,
 ) -> Result<Vec<u8>, Fault> {
     let mut text = Vec::new(alloc);
     if let Attempt::Stuck(at, draft) = guess_or_draft(alloc, image, promised)? {
+        push_stuck_remedy(&mut text, image, promised, at)?;
         push_bound(alloc, &mut text, image, promised, &draft, at)?;
     }
     Ok(text)
 }
 
-/// What the draft of a search that is stuck tells of the pointer there.
-fn bound_of<R: Files + Input>(
+/// The same of the program of these files.
+fn stuck_of<R: Files + Input>(
     rt: &R,
     alloc: Global,
     tape: &str,
@@ -91,17 +96,17 @@ fn bound_of<R: Files + Input>(
 ) -> Result<Vec<u8>, Fault> {
     let image = tape_from(&mut open_input(rt, tape)?)?;
     let promised = declaration_from(alloc, &mut open_input(rt, declaration)?)?;
-    bound_text(alloc, &image, &promised)
+    stuck_text(alloc, &image, &promised)
 }
 
-/// What the draft of a search that is stuck tells of the pointer there, as lines for people. The search is
-/// made once more for it. Of standard input or a pipe, which can't be read twice, and of a file with a fault it
-/// says nothing.
+/// What to do where a search for the program of these files is stuck, and what its draft tells of the pointer
+/// there, as lines for people. The search is made once more for it. Of standard input or a pipe, which can't be read
+/// twice, and of a file with a fault it says nothing.
 ///
 /// # Errors
 ///
 /// `NoMemory`.
-pub fn bound_lines<R: Files + Input>(
+pub fn stuck_lines<R: Files + Input>(
     rt: &R,
     alloc: Global,
     tape: &str,
@@ -110,7 +115,7 @@ pub fn bound_lines<R: Files + Input>(
     if is_read_once(rt, tape) || is_read_once(rt, declaration) {
         return Ok(Vec::new(alloc));
     }
-    if_found(alloc, bound_of(rt, alloc, tape, declaration))
+    if_found(alloc, stuck_of(rt, alloc, tape, declaration))
 }
 
 /// What the tape and the declaration of these files show by themselves.
@@ -224,6 +229,23 @@ fn line_of(alloc: Global, name: Option<&str>, said: &str) -> String {
     text
 }
 
+/// The line on an output that can't be made or written; where there are two it is one of them.
+fn unwritten_line(alloc: Global, names: &FileNames<'_>) -> String {
+    let mut text = String::new(alloc);
+    let Some(output) = names.output else {
+        return text;
+    };
+    let first = output_name(output);
+    let _ = match names.second_output {
+        Some(other) if other != output => {
+            let second = output_name(other);
+            writeln!(text, "{first} or {second} can't be made or written")
+        }
+        _ => writeln!(text, "{first} can't be made or written"),
+    };
+    text
+}
+
 /// The lines on a fault that lies in no line of a file: what it means and what to do.
 fn advice(alloc: Global, code: &str) -> String {
     let mut text = String::new(alloc);
@@ -263,14 +285,21 @@ pub fn fault_lines<R: Files + Input>(
             let name = unread_input(rt, alloc, names);
             line_of(alloc, name, "can't be opened or read")
         }
-        Fault::Device(DeviceFault::Write) => {
-            line_of(alloc, names.output, "can't be made or written")
-        }
+        Fault::Device(DeviceFault::Write) => unwritten_line(alloc, names),
         Fault::Guess(GuessFault::TurnsSpent) => advice(alloc, "TurnsSpent"),
         Fault::Declare(ProposeFault::Undeclarable(fault)) => undeclarable_lines(alloc, *fault),
         Fault::Declare(ProposeFault::Mismatch) => advice(alloc, "Mismatch"),
         Fault::EmptyImage => empty_lines(alloc),
         Fault::NoMemory => advice(alloc, "NoMemory"),
         _ => input_lines(rt, alloc, fault, names),
+    }
+}
+
+/// What is said below the answer of a command that is refused without a fault, where the command itself doesn't say
+/// why: of a run that ends at a word that the machine doesn't have.
+pub fn refusal_lines(request: &Request<'_>) -> &'static str {
+    match request {
+        Request::Run(_) | Request::Session(_) | Request::Teletype(_) => UNSUPPORTED,
+        _ => "",
     }
 }

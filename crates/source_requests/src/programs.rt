@@ -13,7 +13,7 @@ use labels::{Numbered, name_declaration};
 use machine_commands::refuting::RefuteOptions;
 use machine_commands::watched_session::watch_session;
 use program_files::drafted::{is_stuck_fault, report_stuck};
-use program_files::faults::{bound_text, stuck_address, with_omissions};
+use program_files::faults::{stuck_address, stuck_text, with_omissions};
 use program_files::files::{open_input, open_output};
 use program_files::saving::{save_answer, save_proposed};
 use program_files::tellers::{open_input_if, report_to, tell_to};
@@ -70,8 +70,8 @@ fn promise_of(numbered: &Numbered<Global>) -> Reads<&[u8]>
     lent_input(&numbered.declaration)
 }
 
-/// The lines of a search that is stuck at this address, with what the program shows by itself before them,
-/// and what the draft tells of the pointer there behind them.
+/// The lines of a search that is stuck at this address, with what the program shows by itself before them, and
+/// behind them what to do, and what the draft tells of the pointer there.
 fn with_reasons(
     alloc: Global,
     numbered: &Numbered<Global>,
@@ -83,7 +83,7 @@ fn with_reasons(
     let mut others = Vec::new(alloc);
     push_omissions(&mut others, &image, &promised, stuck)?;
     let mut told = with_omissions(alloc, report, &others)?;
-    told.extend_from_slice(&bound_text(alloc, &image, &promised)?)?;
+    told.extend_from_slice(&stuck_text(alloc, &image, &promised)?)?;
     Ok(told)
 }
 

@@ -13,8 +13,17 @@ use word12::Word;
 
 /// Behind each of these words four digits are an address, in the lines that the crates watch_texts, verdict_texts,
 /// bound_texts and fault_texts write.
-const BEFORE_ADDRESSES: [&[u8]; 10] = [
+const BEFORE_ADDRESSES: [&[u8]; 11] = [
     b"into", b"write", b"read", b"reads", b"pointer", b"calls", b"through", b"at", b"to", b"of",
+    b"or",
+];
+
+/// Behind these words together they are an address too. A line of a certificate has none of them.
+const PHRASES_BEFORE_ADDRESSES: [&[u8]; 4] = [
+    b"the routine",
+    b"the entry",
+    b"the cell",
+    b"the address after it is",
 ];
 
 /// Each of these words begins a line of a declaration that is advised: four digits behind it are an address.
@@ -79,11 +88,18 @@ fn is_one_of(word: &[u8], words: &[&[u8]]) -> bool {
     words.iter().any(|before| *before == word)
 }
 
-/// What a word may be behind this one.
-fn role_behind(word: &[u8]) -> Role {
+/// Whether a text ends with one of these.
+fn ends_with_one_of(text: &[u8], ends: &[&[u8]]) -> bool {
+    ends.iter().any(|end| text.ends_with(end))
+}
+
+/// What a word may be behind this one, with which the front of a line ends.
+fn role_behind(word: &[u8], front: &[u8]) -> Role {
     if is_one_of(word, &ADVISED) {
         Role::Advice
-    } else if is_one_of(word, &BEFORE_ADDRESSES) {
+    } else if is_one_of(word, &BEFORE_ADDRESSES)
+        || ends_with_one_of(front, &PHRASES_BEFORE_ADDRESSES)
+    {
         Role::Address
     } else {
         Role::Text
@@ -144,8 +160,9 @@ fn push_label_in_brackets(
 }
 
 /// What a line tells of the address in its front, of which people want the name.
-const BEHIND_ADDRESSES: [&[u8]; 3] = [
+const BEHIND_ADDRESSES: [&[u8]; 4] = [
     b" holds ",
+    b" is in a body",
     b" is no declared halt",
     b" isn't in the running",
 ];
@@ -175,7 +192,7 @@ fn push_named(
             let word = line.get(start..end).unwrap_or(b"");
             push_part(text, word, role, notes)?;
             text.push(b' ')?;
-            role = role_behind(word);
+            role = role_behind(word, line.get(..end).unwrap_or(b""));
             start = end.saturating_add(1);
         }
     }

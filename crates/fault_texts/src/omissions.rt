@@ -27,16 +27,22 @@ enum Omission {
     StoresInEntry(Word),
     /// It steps this pointer, which is no variable.
     Steps(Word),
-    /// It calls this address, which is no entry.
+    /// It calls this address, which is no entry, in no body and no variable.
     Calls(Word),
+    /// It calls this address, which is in a body or a variable.
+    CallsIntoBody(Word),
+    /// It calls this address, which is from 0010 to 0017.
+    CallsAutoIndex(Word),
     /// It jumps to this address, which is in no body, and no entry.
     Jumps(Word),
     /// It jumps to this address, which is in another body, or an entry.
     JumpsAcross(Word),
     /// It halts, and no halt is declared there.
     Halts,
-    /// It halts at a pause, and this address, at which the operator goes on, isn't in the same body.
+    /// It halts at a pause, and this address, at which the operator goes on, is in no body, and no entry.
     GoesOn(Word),
+    /// It halts at a pause, and this address, at which the operator goes on, is in another body, or an entry.
+    GoesAcross(Word),
 }
 
 /// The bits by which a HLT skips.
@@ -51,9 +57,25 @@ fn omitted_by_store<D: Allocator>(declaration: &Declaration<D>, cell: Word) -> O
     }
 }
 
+/// What a call of an address that is no entry would break.
+fn omitted_by_call<D: Allocator>(declaration: &Declaration<D>, place: Word) -> Omission {
+    if is_auto_index(place) {
+        Omission::CallsAutoIndex(place)
+    } else if declaration.owner_of(place).is_some() || declaration.is_variable(place) {
+        Omission::CallsIntoBody(place)
+    } else {
+        Omission::Calls(place)
+    }
+}
+
+/// Whether an address that isn't in the same body belongs to another one, or is an entry.
+fn is_elsewhere<D: Allocator>(declaration: &Declaration<D>, place: Word) -> bool {
+    declaration.is_entry(place) || declaration.owner_of(place).is_some()
+}
+
 /// What a jump to an address that isn't in the same body would break.
 fn omitted_by_jump<D: Allocator>(declaration: &Declaration<D>, place: Word) -> Omission {
-    if declaration.is_entry(place) || declaration.owner_of(place).is_some() {
+    if is_elsewhere(declaration, place) {
         Omission::JumpsAcross(place)
     } else {
         Omission::Jumps(place)
@@ -80,7 +102,9 @@ fn omitted_by_reference<D: Allocator>(
         Operation::Isz if !declaration.is_variable(named) && !is_own => {
             Some(omitted_by_store(declaration, named))
         }
-        Operation::Jms if !declaration.is_entry(named) => Some(Omission::Calls(named)),
+        Operation::Jms if !declaration.is_entry(named) => {
+            Some(omitted_by_call(declaration, named))
+        }
         Operation::Jmp if declaration.owner_of(named) != Some(owner) => {
             Some(omitted_by_jump(declaration, named))
         }
@@ -102,8 +126,14 @@ fn omitted_by_halt<D: Allocator>(
         return Some(Omission::Halts);
     }
     let next = at.increment();
-    let goes_on = word.value() & TESTS == 0 && declaration.owner_of(next) != Some(owner);
-    goes_on.then_some(Omission::GoesOn(next))
+    if word.value() & TESTS != 0 || declaration.owner_of(next) == Some(owner) {
+        return None;
+    }
+    if is_elsewhere(declaration, next) {
+        Some(Omission::GoesAcross(next))
+    } else {
+        Some(Omission::GoesOn(next))
+    }
 }
 
 /// What a word that the declared machine doesn't have would break.
@@ -177,7 +207,8 @@ fn push_breach<A: Allocator>(
                 b", which is no variable",
             )
         }
-        Omission::Calls(entry) => push_around(text, b"it calls ", *entry, b", which is no entry"),
+        Omission::Calls(place) | Omission::CallsIntoBody(place) | Omission::CallsAutoIndex(place) =>
+            { push_around(text, b"it calls ", *place, b", which is no entry") }
         Omission::Jumps(place) | Omission::JumpsAcross(place) => {
             push_around(
                 text,
@@ -187,7 +218,7 @@ fn push_breach<A: Allocator>(
             )
         }
         Omission::Halts => text.extend_from_slice(b"it halts, and no halt is declared there"),
-        Omission::GoesOn(next) => push_around(
+        Omission::GoesOn(next) | Omission::GoesAcross(next) => push_around(
             text,
             b"the operator may go on at ",
             *next,
@@ -196,31 +227,39 @@ fn push_breach<A: Allocator>(
     }
 }
 
-/// Adds what to do about it.
+/// What to do about what is omitted, where that names no address.
+fn fixed_remedy(omission: &Omission) -> Option<&'static [u8]> {
+    match omission {
+        Omission::NoWord => Some(b"take it out, or end the program before it"),
+        Omission::Unsupported => Some(b"is it data? Then take it out of the body"),
+        Omission::OfThe8e => Some(b"add `profile 8e` if the program is for one"),
+        Omission::StoresInEntry(_) => {
+            Some(b"let only a JMS write there, and an ISZ of its own routine")
+        }
+        Omission::CallsAutoIndex(_) => Some(b"no routine can begin in 0010 to 0017"),
+        Omission::Jumps(_) => Some(b"add it there"),
+        Omission::JumpsAcross(_) => Some(b"call a routine by JMS, and leave it by a return"),
+        _ => None,
+    }
+}
+
+/// Adds what to do about what is omitted at an address.
 fn push_remedy<A: Allocator>(
     text: &mut Vec<u8, A>,
     at: Word,
     omission: &Omission,
 ) -> Result<(), AllocError> {
     match omission {
-        Omission::NoWord => text.extend_from_slice(b"take it out, or end the program before it"),
-        Omission::Unsupported => {
-            text.extend_from_slice(b"is it data? Then take it out of the body")
-        }
-        Omission::OfThe8e => {
-            text.extend_from_slice(b"add `profile 8e` if the program is for one")
-        }
         Omission::Stores(cell) | Omission::Steps(cell) => {
             push_around(text, b"add `var ", *cell, b"`")
         }
-        Omission::StoresInEntry(_) => {
-            text.extend_from_slice(b"let only a JMS write there, and an ISZ of its own routine")
-        }
         Omission::Calls(entry) => push_around(text, b"add `sub ", *entry, b" body .. returns ..`"),
-        Omission::Jumps(_) => text.extend_from_slice(b"add it there"),
-        Omission::JumpsAcross(_) => {
-            text.extend_from_slice(b"call a routine by JMS, and leave it by a return")
-        }
+        Omission::CallsIntoBody(entry) => push_around(
+            text,
+            b"add `sub ",
+            *entry,
+            b" body .. returns ..`, and take it out of the body and the variables",
+        ),
         Omission::Halts => {
             push_around(text, b"add `stop ", at, b"`, or `pause ")?;
             push_around(text, b"", at, b"` if the operator may go on")
@@ -234,6 +273,11 @@ fn push_remedy<A: Allocator>(
             )?;
             push_around(text, b"", at, b"`")
         }
+        Omission::GoesAcross(_) => {
+            push_around(text, b"declare `stop ", at, b"` in place of `pause ")?;
+            push_around(text, b"", at, b"`")
+        }
+        _ => text.extend_from_slice(fixed_remedy(omission).unwrap_or(b"")),
     }
 }
 
@@ -268,10 +312,14 @@ pub fn push_stuck_remedy<A: Allocator, D: Allocator>(
         Omission::NoWord | Omission::Unsupported | Omission::OfThe8e => {
             return push_omission(text, at, &omission);
         }
-        Omission::StoresInEntry(_) | Omission::JumpsAcross(_) => {}
+        Omission::StoresInEntry(_)
+        | Omission::CallsAutoIndex(_)
+        | Omission::JumpsAcross(_)
+        | Omission::GoesAcross(_) => {}
         Omission::Stores(_)
         | Omission::Steps(_)
         | Omission::Calls(_)
+        | Omission::CallsIntoBody(_)
         | Omission::Jumps(_)
         | Omission::Halts
         | Omission::GoesOn(_) => text.extend_from_slice(b"if that is meant, ")?,

@@ -106,60 +106,68 @@ pub enum Task<'a> {
 impl<'a> Sourced<'a> {
     /// The names of the files, apart from the parts of the source.
     pub(crate) fn names(&self) -> FileNames<'a> {
-        let none = FileNames {
+        FileNames {
             declaration: self.declaration,
-            ..FileNames::NONE
-        };
-        match &self.task {
-            Task::Check { certificate, .. } => FileNames {
-                certificate: Some(certificate),
-                output: Some("-"),
-                ..none
-            },
-            Task::Report {
-                certificate,
-                out,
-                ..
-            } => FileNames {
-                certificate: Some(certificate),
-                output: Some(out.name()),
-                ..none
-            },
-            Task::Watch { events, .. } => FileNames {
-                events: Some(events),
-                output: Some("-"),
-                ..none
-            },
-            Task::WatchSession(session) => FileNames {
-                reader: session.reader,
-                keys: session.keys,
-                output: Some("-"),
-                ..none
-            },
-            Task::Guess { out, report, .. } => FileNames {
-                output: Some(out.name()),
-                second_output: *report,
-                ..none
-            },
-            Task::Declare { out, .. } | Task::Place { out, .. } => FileNames {
-                output: Some(out.name()),
-                ..none
-            },
-            Task::Refute { out, .. } => FileNames {
-                output: Some(out.name()),
-                second_output: Some("-"),
-                ..none
-            },
-            Task::Verify { save, .. } => FileNames {
-                output: Some("-"),
-                second_output: *save,
-                ..none
-            },
+            output: Some(self.task.output()),
+            second_output: self.task.second_output(),
+            ..self.task.inputs()
         }
     }
 }
 
 impl<'a> Task<'a> {
+    /// The names of its inputs, apart from the source and the declaration.
+    fn inputs(&self) -> FileNames<'a> {
+        match self {
+            Task::Check { certificate, .. } | Task::Report { certificate, .. } => FileNames {
+                certificate: Some(certificate),
+                ..FileNames::NONE
+            },
+            Task::Watch { events, .. } => FileNames {
+                events: Some(events),
+                ..FileNames::NONE
+            },
+            Task::WatchSession(session) => FileNames {
+                reader: session.reader,
+                keys: session.keys,
+                ..FileNames::NONE
+            },
+            Task::Verify { .. }
+            | Task::Guess { .. }
+            | Task::Refute { .. }
+            | Task::Declare { .. }
+            | Task::Place { .. } => FileNames::NONE,
+        }
+    }
+
+    /// The name of its output, or of the first one.
+    fn output(&self) -> &'a str {
+        match self {
+            Task::Report { out, .. }
+            | Task::Guess { out, .. }
+            | Task::Refute { out, .. }
+            | Task::Declare { out, .. }
+            | Task::Place { out, .. } => out.name(),
+            Task::Verify { .. } | Task::Check { .. } | Task::Watch { .. } | Task::WatchSession(_) =>
+                "-",
+        }
+    }
+
+    /// The name of another output, if it has one.
+    fn second_output(&self) -> Option<&'a str> {
+        match self {
+            Task::Verify { save, .. } => *save,
+            Task::Guess { report, .. } => *report,
+            Task::Refute { .. } => Some("-"),
+            Task::Check { .. }
+            | Task::Report { .. }
+            | Task::Watch { .. }
+            | Task::WatchSession(_)
+            | Task::Declare { .. }
+            | Task::Place { .. } => None,
+        }
+    }
+
     /// Whether more is said than the line of a fault.
     pub fn is_explained(&self) -> bool {
         match self {

@@ -61,6 +61,31 @@ fn finding_by<A: Allocator + Copy>(
     })
 }
 
+/// A byte order mark, which some editors put in front of a text.
+const ORDER_MARK: &[u8] = b"\xef\xbb\xbf";
+
+/// How many bytes a byte order mark in front of a statement has, if the statement begins a part that has one; else 0.
+pub(crate) fn count_order_mark(bytes: &[u8], start: usize) -> usize {
+    if start == 0 && bytes.starts_with(ORDER_MARK) {
+        ORDER_MARK.len()
+    } else {
+        0
+    }
+}
+
+/// What is told of a byte order mark in front of a part, which has so many bytes.
+fn about_order_mark<A: Allocator + Copy>(alloc: A, count: usize) -> Result<Finding<A>, AllocError> {
+    Ok(Finding {
+        start: 0,
+        end: count,
+        wrong: String::from_str(alloc, "a byte order mark stands in front of the source")?,
+        advice: String::from_str(
+            alloc,
+            "save the file as ASCII, or as UTF-8 without a byte order mark",
+        )?,
+    })
+}
+
 /// What is told of a statement that has no form: of the token at this place among its own, or of the last
 /// one where that wants another behind it.
 fn about_form<A: Allocator + Copy>(
@@ -70,6 +95,10 @@ fn about_form<A: Allocator + Copy>(
     at: usize,
 ) -> Result<Option<Finding<A>>, AllocError> {
     if let Some(token) = tokens.get(at) {
+        let mark = count_order_mark(bytes, token.start);
+        if mark > 0 {
+            return Ok(Some(about_order_mark(alloc, mark)?));
+        }
         let words = about(told_kind(bytes, *token), code_at(bytes, token.start));
         let end = end_of_small(bytes, tokens_from(tokens, at), token.end);
         return Ok(Some(finding_by(alloc, bytes, token.start, end, words)?));

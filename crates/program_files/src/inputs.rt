@@ -38,11 +38,19 @@ fn parts_of<'q>(request: &'q Request<'_>) -> &'q [&'q str] {
     }
 }
 
+/// Whether a request reads keys from standard input, though that isn't among its names.
+fn reads_keys(request: &Request<'_>) -> bool {
+    matches!(request, Request::Teletype(_))
+}
+
 /// Whether a name that no stream has is that of one of the request's inputs.
 fn is_input<R: Files>(rt: &R, request: &Request<'_>, name: &str) -> bool {
     let Some(output) = identity_of(rt, name) else {
         return false;
     };
+    if reads_keys(request) && identity_of(rt, "-") == Some(output) {
+        return true;
+    }
     for input in request.names().inputs() {
         if let Some(input) = input {
             if identity_of(rt, input) == Some(output) {

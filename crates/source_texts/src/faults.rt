@@ -1,7 +1,7 @@
 //! All faults of a source that can be found, one after another.
 
 use crate::copies::{copies_of, first_fault, replace};
-use crate::findings::{Finding, about_text, count_order_mark};
+use crate::findings::{Finding, about_text, has_order_mark};
 use crate::given::{about_assignment, about_room, about_tags};
 use crate::lines::{bytes_between, count_characters, line_at, push_marked};
 use crate::meanings::{Meanings, NOWHERE, meanings_before};
@@ -158,9 +158,9 @@ fn leave_out<A: Allocator>(bytes: &mut [u8], faulty: &Faulty<A>, marked: usize, 
         let end = end_of_tag(faulty, marked);
         return replace(bytes, marked, end, b' ');
     }
-    let mark = count_order_mark(bytes, faulty.start);
-    if mark > 0 {
-        return replace(bytes, 0, mark, b' ');
+    if faulty.start == 0 && has_order_mark(bytes) {
+        replace(bytes, 0, 1, b' ');
+        return replace(bytes, 2, 3, b' ');
     }
     let filler = if is_again {
         b' '

@@ -61,23 +61,17 @@ fn finding_by<A: Allocator + Copy>(
     })
 }
 
-/// A byte order mark, which some editors put in front of a text.
-const ORDER_MARK: &[u8] = b"\xef\xbb\xbf";
-
-/// How many bytes a byte order mark in front of a statement has, if the statement begins a part that has one; else 0.
-pub(crate) fn count_order_mark(bytes: &[u8], start: usize) -> usize {
-    if start == 0 && bytes.starts_with(ORDER_MARK) {
-        ORDER_MARK.len()
-    } else {
-        0
-    }
+/// Whether a part, or its copy, in which the second of the three bytes ends a line, begins with a byte order mark, which
+/// some editors put in front of a text.
+pub(crate) fn has_order_mark(bytes: &[u8]) -> bool {
+    matches!(bytes, [0o357, 0o273 | b'\r', 0o277, ..])
 }
 
-/// What is told of a byte order mark in front of a part, which has so many bytes.
-fn about_order_mark<A: Allocator + Copy>(alloc: A, count: usize) -> Result<Finding<A>, AllocError> {
+/// What is told of a byte order mark in front of a part.
+fn about_order_mark<A: Allocator + Copy>(alloc: A) -> Result<Finding<A>, AllocError> {
     Ok(Finding {
         start: 0,
-        end: count,
+        end: 3,
         wrong: String::from_str(alloc, "a byte order mark stands in front of the source")?,
         advice: String::from_str(
             alloc,
@@ -95,9 +89,8 @@ fn about_form<A: Allocator + Copy>(
     at: usize,
 ) -> Result<Option<Finding<A>>, AllocError> {
     if let Some(token) = tokens.get(at) {
-        let mark = count_order_mark(bytes, token.start);
-        if mark > 0 {
-            return Ok(Some(about_order_mark(alloc, mark)?));
+        if token.start == 0 && has_order_mark(bytes) {
+            return Ok(Some(about_order_mark(alloc)?));
         }
         let words = about(told_kind(bytes, *token), code_at(bytes, token.start));
         let end = end_of_small(bytes, tokens_from(tokens, at), token.end);

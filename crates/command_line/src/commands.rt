@@ -576,7 +576,7 @@ const SOURCE_OF_TAPE: Entry = Entry {
     name: "source",
     usage: Some("pdp8 source [OPTIONS] <TAPE> [-o] <OUT>"),
     about: "Writes a PAL III source of a tape, from which assemble makes the same words",
-    after_help: "A file stays as it was if there is nothing to write, and one that ends in .pal and isn't of this command's making stays too. Without a declaration control is followed from the start, for the machine of --profile; with one they are its own.\n\nExample:\n  pdp8 source hello.bin -o found.pal",
+    after_help: "A file stays as it was if there is nothing to write, and so does a source that this command didn't write, but for --force. Without a declaration control is followed from the start, for the machine of --profile; with one they are its own.\n\nExample:\n  pdp8 source hello.bin -o found.pal",
 };
 
 const WATCH: Entry = Entry {

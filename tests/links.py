@@ -12,7 +12,7 @@ import sys
 TOP = os.path.join(os.path.dirname(os.path.abspath(__file__)), '..')
 # How many bytes a page may have; the page of definitions is made by a script and has no limit.
 MOST = {'README.md': 10_000, 'docs/TUTORIAL.md': 10_500, 'docs/COMMANDS.md': 24_500, 'docs/PAL.md': 16_000, 'docs/DECLARATIONS.md': 16_000,
-        'docs/NO.md': 24_500, 'docs/FORMATS.md': 10_000, 'docs/MACHINE.md': 6_500, 'docs/ARCHIVE.md': 4_500, 'docs/THEOREM.md': 16_500,
+        'docs/NO.md': 24_500, 'docs/FORMATS.md': 10_000, 'docs/MACHINE.md': 7_200, 'docs/ARCHIVE.md': 4_500, 'docs/THEOREM.md': 16_500,
         'docs/TRANSFER.md': 8_000, 'docs/FILES.md': 4_500, 'docs/TELETYPE.md': 5_000,
         'docs/PROVED.md': 24_500, 'docs/ARCHITECTURE.md': 10_000, 'CONTRIBUTING.md': 17_000, 'docs/DECISIONS.md': 16_600,
         'docs/PERFORMANCE.md': 4_500, 'docs/SEARCH.md': 6_000, 'docs/REPORT.md': 5_000, 'docs/DEFINITIONS.md': None}

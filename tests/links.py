@@ -15,7 +15,7 @@ MOST = {'README.md': 10_000, 'docs/TUTORIAL.md': 9_600, 'docs/COMMANDS.md': 24_5
         'docs/NO.md': 24_500, 'docs/FORMATS.md': 10_000, 'docs/MACHINE.md': 6_500, 'docs/ARCHIVE.md': 4_000, 'docs/THEOREM.md': 16_500,
         'docs/TRANSFER.md': 8_000, 'docs/FILES.md': 4_500, 'docs/TELETYPE.md': 5_000,
         'docs/PROVED.md': 24_500, 'docs/ARCHITECTURE.md': 10_000, 'CONTRIBUTING.md': 17_000, 'docs/DECISIONS.md': 16_600,
-        'docs/PERFORMANCE.md': 4_500, 'docs/SEARCH.md': 6_000, 'docs/REPORT.md': 4_500, 'docs/DEFINITIONS.md': None}
+        'docs/PERFORMANCE.md': 8_000, 'docs/PROOF_FORMS.md': 40_000, 'docs/SEARCH.md': 6_000, 'docs/REPORT.md': 4_500, 'docs/DEFINITIONS.md': None}
 NAMED = re.compile(r'\b(?:docs|tests|bench|crates|examples|share)/[\w./-]*\w\.(?:md|py|sh|txt|rt|antt|pal)\b')
 
 

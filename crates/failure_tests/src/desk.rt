@@ -221,7 +221,7 @@ impl<'d> Files for Desk<'d> {
 
     fn open_file(&self, how: &OpenOptions, path: &str) -> io::Result<Sheet<'d>> {
         how.check()?;
-        let found = if how.asks_create() {
+        let found = if how.asks_create() || how.asks_create_new() {
             Some(b"".as_slice())
         } else {
             content(path)
@@ -253,11 +253,11 @@ impl<'d> Files for Desk<'d> {
     }
 
     fn rename(&self, _from: &str, _to: &str) -> io::Result<()> {
-        Err(unsupported())
+        Ok(())
     }
 
     fn remove_file(&self, _path: &str) -> io::Result<()> {
-        Err(unsupported())
+        Ok(())
     }
 
     fn create_dir(&self, _path: &str) -> io::Result<()> {

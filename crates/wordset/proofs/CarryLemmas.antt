@@ -89,7 +89,6 @@ false_unless false f = refl
 pub carries_past : (a b : Words) (k : ℕ) → 2 ≤ k → carries a b k ≡ false
 carries_past a b k h = sym (false_unless (carries a b k) (λ e. let s : IsSum a b k = from_carries a b k e in let x : s.x < 4096 = s.x_small in let y : s.y < 4096 = s.y_small in let is : (s.x + s.y) / 4096 ≡ k = s.is in omega arith))
 
-
 pub no_left : (a b : Words) (k : ℕ) → a ≡ nothing → false ≡ carries a b k
 no_left a b k none = false_unless (carries a b k) (λ e. let s : IsSum a b k = from_carries a b k e in true_false (sym s.x_in ∙ ap (λ t. t s.x) none))
 

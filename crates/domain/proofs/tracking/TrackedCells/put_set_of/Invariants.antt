@@ -1,4 +1,4 @@
-use Rattle.std.proofs.Common.{◌≡◌, ◌<◌, ℕ, drop, map}
+use Rattle.std.proofs.Common.{◌≡◌, ℕ, drop, map}
 use Rattle.std.specs.Prelude.{◌&&◌}
 use Rattle.wordset.specs.Lanes.{words}
 use Rattle.domain.specs.Statements.{tracked}

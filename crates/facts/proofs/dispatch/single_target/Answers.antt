@@ -4,4 +4,4 @@ use Rattle.facts.proofs.OneTarget.{direct_only}
 use Rattle.facts.proofs.dispatch.single_target.Goals as goal
 
 pub returns : goal.returns
-returns c = direct_only (words c.args.targets.now) c.args.named (subst (λ n. n < 4096) c.index-index.ensures.same c.index-index.ensures.small) (c.requires c.if-indirect.false)
+returns c = rw (c.requires c.if-indirect.false) (direct_only c.args.named (subst (λ n. n < 4096) c.index-index.ensures.same c.index-index.ensures.small))

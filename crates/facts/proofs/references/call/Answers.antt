@@ -6,10 +6,7 @@ use Rattle.facts.proofs.OutcomeLemmas.{alive_same, given_some, given_none, has_s
 use Rattle.facts.proofs.references.call.Goals as goal
 
 pub returns : goal.returns
-returns c = λ f p h e.
-    let after = agree_trans c.same-after.ensures.same h in
-    given_some (CallsTo _ _) (CallsTo p f) c.if-not-is_alive.false (c.is_alive.ensures ∙ alive_same p _ f (has_same e) (λ v lt. c.left_in-held.ensures v lt ∙ narrowed_agree h Ac v lt) after) (e, after)
+returns c = given_some c.if-not-is_alive.false (alive_is _ _ _ _ c.is_alive.ensures refl c.left_in-held.ensures ∙ ap (λ (x : Fact). alive (words c.args.targets.now) (fact_of_state c.args.state.now) all_words x) c.same-after.ensures.same) (ap (CallsTo (words c.args.targets.now)) c.same-after.ensures.same)
 
 pub returns-then-not-is_alive : goal.returns-then-not-is_alive
-returns-then-not-is_alive c = λ f p h e.
-    given_none _ c.if-not-is_alive.true (c.is_alive.ensures ∙ alive_same p _ f (has_same e) (λ v lt. c.left_in-held.ensures v lt ∙ narrowed_agree h Ac v lt) (agree_trans c.same-after.ensures.same h))
+returns-then-not-is_alive c = given_none _ c.if-not-is_alive.true (alive_is _ _ _ _ c.is_alive.ensures refl c.left_in-held.ensures ∙ ap (λ (x : Fact). alive (words c.args.targets.now) (fact_of_state c.args.state.now) all_words x) c.same-after.ensures.same)

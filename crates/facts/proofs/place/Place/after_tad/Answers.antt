@@ -5,7 +5,4 @@ use Rattle.facts.proofs.ChangingLemmas.{assigned_agree, told_agree}
 use Rattle.facts.proofs.place.Place.after_tad.Goals as goal
 
 pub returns-then-is_variable : goal.returns-then-is_variable
-returns-then-is_variable g c = λ f v h e.
-    let first : List Equation = record { left = Ac; right = Cell c.in-Some.cell; more = c.in-Some-ac.word } ∷ [] in
-    rw (c.in-Some.is, c.in-Some-ac.is, sym c.is_variable.ensures ∙ c.if-is_variable.true)
-    (agree_trans c.summed.ensures (told_agree first (assigned_agree Ac h e)))
+returns-then-is_variable g c = λ v e. rw (c.in-Some.is, c.in-Some-ac.is, sym c.is_variable.ensures ∙ c.if-is_variable.true, ← e) c.summed.ensures

@@ -1,5 +1,4 @@
 use Rattle.std.proofs.Common.{◌<◌, subst}
-use Rattle.wordset.specs.Lanes.{words}
 use Rattle.facts.proofs.OneTarget.{direct_only}
 use Rattle.facts.proofs.dispatch.single_target.Goals as goal
 

@@ -1,5 +1,5 @@
 -- What happens to what is known.
-use Rattle.std.proofs.Common.{◌≡◌, ℕ, ◌==◌, Bool, true, false, List, ◌++◌, map, refl, sym, ap, ◌∙◌}
+use Rattle.std.proofs.Common.{◌≡◌, ℕ, Bool, true, false, List, ◌++◌, map, refl, ap, ◌∙◌}
 use Rattle.std.proofs.Math.Path.{fun_ext}
 use Rattle.std.specs.Prelude.{if◌then◌else◌}
 use Rattle.std.specs.Borrow.{Bor}
@@ -11,7 +11,7 @@ use Rattle.facts.specs.declared.state.AbstractState.{AbstractState}
 use Rattle.domain.specs.declared.location.Equation.{Equation as CodeEquation}
 use Rattle.facts.specs.declared.state.Update.TheVariants.{Unchanged, Strong, WeakIncrement, WeakStore}
 use Rattle.domain.specs.Meaning.{equation_of}
-use Rattle.facts.specs.Knowing.{fact_of_state, sets_of_state, changed, IsUnchanged, source_words}
+use Rattle.facts.specs.Knowing.{fact_of_state, sets_of_state, IsUnchanged}
 
 -- A fact by its sets and its equations, beside what else it says.
 abbrev pub fact_with : (Location → Words) → List Equation → Fact → Fact

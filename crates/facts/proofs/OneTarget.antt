@@ -1,12 +1,12 @@
 -- The one target of a reference.
-use Rattle.std.proofs.Common.{◌≡◌, ℕ, ◌<◌, Bool, true, false, ◌&&◌, Some, refl, ap, ◌∙◌, subst, arith}
+use Rattle.std.proofs.Common.{◌≡◌, ℕ, ◌<◌, true, ◌&&◌, Some, refl, subst, arith}
 use Rattle.std.proofs.lemmas.Bool.{eq-eqb, ne_eqb}
 use Rattle.wordset.specs.Words.{Words, one, only}
 use Rattle.std.proofs.Math.Path.{fun_ext}
 use Rattle.wordset.proofs.Tests.{both_ways, some_from, IsSome, some_to, and_both, and_first, and_second}
 use Rattle.wordset.proofs.Firsts.{IsOnly, only_word, only_next}
 use Rattle.domain.specs.Facts.{Place, Fact, words_in}
-use Rattle.facts.specs.Outcomes.{words_at, targets}
+use Rattle.facts.specs.Outcomes.{words_at}
 
 -- the words that the one target may hold
 pub words_of_only : (pl : Place) (f : Fact) (p : Words) (y : ℕ) → only p ≡ Some y → words_in pl f y ≡ words_at pl f p

@@ -1,5 +1,5 @@
 -- Outcomes by what can come about.
-use Rattle.std.proofs.Common.{◌≡◌, ℕ, ◌+◌, ◌<◌, ◌%◌, ◌==◌, Bool, true, false, not, ◌&&◌, List, [], ◌∷◌, ◌++◌, refl, sym, ap, ◌∙◌, arith, lit<}
+use Rattle.std.proofs.Common.{◌≡◌, ℕ, ◌+◌, ◌<◌, ◌%◌, Bool, true, false, not, ◌&&◌, List, [], ◌∷◌, ◌++◌, refl, sym, ap, ◌∙◌, arith, lit<}
 use Rattle.wordset.specs.Words.{plus, Words, one, all_words, has_some, has_link}
 use Rattle.domain.specs.Facts.{Ac, Fact, narrowed}
 use Rattle.facts.specs.Outcomes.{Successor, Goes, alive, given}

@@ -1,7 +1,7 @@
 //! The outcomes of the words that refer to memory.
 
 ghost use Rattle.std.specs.Prelude.{◌≡◌, ◌≤◌, ◌++◌, ◌&&◌, true, false, length, Some, None};
-ghost use Rattle.wordset.specs.Words.{Words, SameWords, everything, only, sums, some_below};
+ghost use Rattle.wordset.specs.Words.{Words, all_words, only, sums, some_below};
 ghost use Rattle.wordset.specs.Lanes.{words};
 ghost use Rattle.processor.specs.Machine.{steps_pointer};
 ghost use Rattle.domain.specs.Facts as said;

@@ -1,5 +1,6 @@
-use Rattle.facts.proofs.OutcomeLemmas.{append_agree, keeps_agreeing}
 use Rattle.facts.proofs.dispatch.branches.Goals as goal
+use Rattle.facts.proofs.OutcomeLemmas.{append_none}
+use Rattle.std.proofs.Common.{◌∙◌}
 
 pub returns : goal.returns
 returns c = append_both c.branch-first.ensures (append_both c.branch-second.ensures (append_both c.branch-third.ensures (append_none _ ∙ c.branch-fourth.ensures)))

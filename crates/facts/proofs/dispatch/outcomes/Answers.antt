@@ -3,8 +3,8 @@ use Rattle.instruct.proofs.KindLemmas.{reference_meaning, group1_meaning, group2
 use Rattle.domain.specs.Meaning.{meaning}
 use Rattle.facts.specs.Places.{place_of}
 use Rattle.facts.proofs.DispatchLemmas.{by_meaning, by_group3, first_group_8e, kind_here}
-use Rattle.facts.proofs.OutcomeLemmas.{keeps_agreeing}
 use Rattle.facts.proofs.dispatch.outcomes.Goals as goal
+use Rattle.facts.proofs.OutcomeLemmas.{append_none}
 
 pub operate-requires-clause-word : goal.operate-requires-clause-word
 operate-requires-clause-word g c = first_group_8e _ _ (sym c.decode.ensures.kind ∙ c.in-Operate1.is)

@@ -1,4 +1,4 @@
-use Rattle.std.proofs.Common.{◌≡◌, subst}
+use Rattle.std.proofs.Common.{subst}
 use Rattle.std.specs.Prelude.{IsTrue, ◌↔◌}
 use Rattle.domain.specs.Facts.{Fact, joined, Entails, EntailsOffsets}
 use Rattle.domain.specs.Meaning.{meaning}

@@ -1,6 +1,3 @@
-use Rattle.domain.specs.Facts.{Ac}
-use Rattle.facts.proofs.AgreeLemmas.{agree_trans}
-use Rattle.facts.proofs.ChangingLemmas.{name_agree, moved_agree, assigned_agree}
 use Rattle.facts.proofs.references.after_sum.Goals as goal
 
 pub returns-in-Some : goal.returns-in-Some

@@ -1,9 +1,9 @@
-use Rattle.std.proofs.Common.{◌∙◌}
-use Rattle.domain.specs.Facts.{Ac}
-use Rattle.facts.specs.Outcomes.{CallsTo}
-use Rattle.facts.proofs.AgreeLemmas.{agree_trans, narrowed_agree}
-use Rattle.facts.proofs.OutcomeLemmas.{alive_same, given_some, given_none, has_same}
+use Rattle.std.proofs.Common.{◌∙◌, ap, refl}
+use Rattle.facts.specs.Outcomes.{CallsTo, alive}
+use Rattle.facts.proofs.OutcomeLemmas.{given_some, given_none}
 use Rattle.facts.proofs.references.call.Goals as goal
+use Rattle.domain.specs.Facts.{Fact}
+use Rattle.wordset.specs.Words.{all_words}
 
 pub returns : goal.returns
 returns c = given_some c.if-not-is_alive.false (alive_is _ _ _ _ c.is_alive.ensures refl c.left_in-held.ensures ∙ ap (λ (x : Fact). alive (words c.args.targets.now) (fact_of_state c.args.state.now) all_words x) c.same-after.ensures.same) (ap (CallsTo (words c.args.targets.now)) c.same-after.ensures.same)

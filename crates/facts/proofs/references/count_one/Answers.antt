@@ -1,15 +1,14 @@
-use Rattle.std.proofs.Common.{◌≡◌, ◌∙◌, true, refl, sym, ap, lit<}
-use Rattle.wordset.specs.Words.{Words, SameWords, one, plus, without, shifted}
+use Rattle.std.proofs.Common.{◌≡◌, ◌∙◌, true, refl, sym, ap, ◌&&◌, lit<}
+use Rattle.wordset.specs.Words.{Words, one, plus, without, shifted, all_words, has_some}
 use Rattle.wordset.specs.Lanes.{words}
-use Rattle.domain.specs.Facts.{Fact, narrowed, Ac, Cell, has_cell}
+use Rattle.domain.specs.Facts.{Fact, narrowed, Cell, has_cell, Location}
 use Rattle.domain.specs.Changes.{moved, with_name}
-use Rattle.facts.proofs.AgreeLemmas.{agree_trans, narrowed_agree}
-use Rattle.facts.proofs.ChangeLemmas.{has_cell_words, shifts_same}
-use Rattle.facts.proofs.PlaceLemmas.{and_both, without_agree}
-use Rattle.facts.proofs.ChangingLemmas.{name_agree, moved_agree}
-use Rattle.facts.proofs.OutcomeLemmas.{alive_changed, append_agree, chosen_agrees, has_same}
+use Rattle.facts.proofs.ChangeLemmas.{has_cell_words}
+use Rattle.facts.proofs.OutcomeLemmas.{alive_changed, append_both, chosen_is}
 use Rattle.facts.proofs.Numbers.{some_from}
 use Rattle.facts.proofs.references.count_one.Goals as goal
+use Rattle.facts.specs.Outcomes.{alive}
+use Rattle.facts.specs.Knowing.{fact_of_state}
 
 pub returns : goal.returns
 returns c = λ pl var.

@@ -1,14 +1,10 @@
-use Rattle.std.proofs.Common.{◌∙◌, map, sym, arith}
-use Rattle.wordset.specs.Words.{SameWords, one, plus}
+use Rattle.std.proofs.Common.{◌∙◌, sym, arith, ap, refl, ℕ, ◌≡◌}
+use Rattle.wordset.specs.Words.{one, Words, has_some}
 use Rattle.wordset.specs.Lanes.{words}
 use Rattle.domain.specs.Facts.{Fact, narrowed, Ac, Cell}
-use Rattle.domain.specs.Changes.{strongly_updated, with_equations, copied}
-use Rattle.domain.specs.Meaning.{equation_of}
+use Rattle.domain.specs.Changes.{strongly_updated, with_equations, copied, weakly_updated}
 use Rattle.facts.specs.Knowing.{fact_of_state}
-use Rattle.facts.proofs.Alike.{only_same}
-use Rattle.facts.proofs.AgreeLemmas.{agree_trans, narrowed_agree}
-use Rattle.facts.proofs.ChangingLemmas.{deposited_agree, deposited_words, stored_words}
-use Rattle.facts.proofs.OutcomeLemmas.{alive_changed, chosen_agrees, has_same}
+use Rattle.facts.proofs.OutcomeLemmas.{alive_changed, chosen_is}
 use Rattle.facts.proofs.references.deposit.Goals as goal
 
 pub returns-in-Some : goal.returns-in-Some

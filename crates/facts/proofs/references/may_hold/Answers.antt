@@ -1,8 +1,6 @@
-use Rattle.std.proofs.Common.{◌∙◌, ap, lit<}
-use Rattle.wordset.specs.Words.{Words, without}
+use Rattle.std.proofs.Common.{◌∙◌, ap}
+use Rattle.wordset.specs.Words.{without, has_some}
 use Rattle.wordset.specs.Lanes.{words}
-use Rattle.facts.proofs.OutcomeLemmas.{has_same}
-use Rattle.facts.proofs.PlaceLemmas.{without_agree}
 use Rattle.facts.proofs.references.may_hold.Goals as goal
 
 pub returns-then-last : goal.returns-then-last

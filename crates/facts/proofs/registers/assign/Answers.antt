@@ -2,8 +2,6 @@ use Rattle.std.proofs.Common.{◌∙◌, ap}
 use Rattle.wordset.specs.Words.{Words}
 use Rattle.domain.specs.Facts.{Ac}
 use Rattle.domain.specs.Changes.{strongly_updated}
-use Rattle.facts.proofs.AgreeLemmas.{agree_trans, narrowed_agree}
-use Rattle.facts.proofs.ChangingLemmas.{assigned_agree}
 use Rattle.facts.proofs.registers.assign.Goals as goal
 
 pub returns : goal.returns

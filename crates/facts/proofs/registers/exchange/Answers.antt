@@ -1,12 +1,12 @@
 use Rattle.std.proofs.Common.{refl, ap, sym, ◌∙◌}
-use Rattle.wordset.specs.Words.{Words, SameWords, one, ors}
+use Rattle.wordset.specs.Words.{Words, one, ors, all_words}
 use Rattle.wordset.specs.Lanes.{words}
 use Rattle.instruct.specs.Operates.{Mql, Mqa, Swp, ClaMqa}
-use Rattle.domain.specs.Facts.{Ac, narrowed}
-use Rattle.facts.proofs.PlaceLemmas.{ors_same}
-use Rattle.facts.proofs.AgreeLemmas.{narrowed_agree}
-use Rattle.facts.proofs.RegisterLemmas.{exchange_is, kept_mq}
+use Rattle.domain.specs.Facts.{Ac, Fact}
+use Rattle.facts.proofs.RegisterLemmas.{exchange_is, same_mq}
 use Rattle.facts.proofs.registers.exchange.Goals as goal
+use Rattle.facts.specs.Outcomes.{goes}
+use Rattle.domain.specs.Changes.{strongly_updated, with_mq}
 
 pub returns-in-3857 : goal.returns-in-3857
 returns-in-3857 c = λ o is. exchange_is c.args.at c.args.word 3857 Mql o (fact_of_state c.args.state.now) (sym c.value.ensures.same ∙ c.in-3857.is) refl is (rw (← c.one-zero.ensures, ← c.narrowed-ac.ensures) c.take.ensures)

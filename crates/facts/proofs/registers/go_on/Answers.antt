@@ -1,4 +1,4 @@
-use Rattle.wordset.specs.Words.{everything, one, plus}
+use Rattle.wordset.specs.Words.{one, plus, all_words}
 use Rattle.facts.proofs.Numbers.{plus_lt}
 use Rattle.facts.proofs.OutcomeLemmas.{has_one}
 use Rattle.facts.proofs.registers.go_on.Goals as goal

@@ -1,6 +1,3 @@
-use Rattle.std.proofs.Common.{◌∙◌}
-use Rattle.domain.specs.Facts.{Ac}
-use Rattle.facts.proofs.AgreeLemmas.{agree_trans, narrowed_agree}
 use Rattle.facts.proofs.registers.leave.Goals as goal
 
 pub returns : goal.returns

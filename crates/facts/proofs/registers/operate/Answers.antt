@@ -1,12 +1,11 @@
-use Rattle.std.proofs.Common.{ap, ◌∙◌}
-use Rattle.wordset.specs.Words.{Words, SameWords, images}
+use Rattle.std.proofs.Common.{ap, ◌∙◌, ◌≡◌}
+use Rattle.wordset.specs.Words.{Words, images}
 use Rattle.wordset.specs.Lanes.{words}
-use Rattle.domain.specs.Facts.{narrowed, Ac}
+use Rattle.domain.specs.Facts.{narrowed, Ac, Fact}
 use Rattle.facts.specs.Outcomes.{operated1, ac_after, link_after}
-use Rattle.facts.proofs.PlaceLemmas.{images_same}
-use Rattle.facts.proofs.AgreeLemmas.{agree_trans, narrowed_agree}
-use Rattle.facts.proofs.ChangingLemmas.{link_agree}
 use Rattle.facts.proofs.registers.operate.Goals as goal
+use Rattle.wordset.specs.Links.{links_of}
+use Rattle.domain.specs.Changes.{with_link, with_name}
 
 pub returns : goal.returns
 unfolding ac_after link_after

@@ -1,11 +1,8 @@
-use Rattle.std.proofs.Common.{◌∙◌, sym, subst}
+use Rattle.std.proofs.Common.{◌∙◌, sym, ap}
 use Rattle.wordset.specs.Lanes.{words}
 use Rattle.domain.specs.Facts.{Ac}
 use Rattle.domain.specs.Changes.{moved, with_name}
-use Rattle.domain.specs.Same.{Agree}
 use Rattle.facts.specs.Knowing.{fact_of_state}
-use Rattle.facts.proofs.AgreeLemmas.{agree_trans}
-use Rattle.facts.proofs.ChangingLemmas.{assigned_agree, moved_agree, name_agree}
 use Rattle.facts.proofs.RegisterLemmas.{related_none}
 use Rattle.facts.proofs.registers.related.Goals as goal
 

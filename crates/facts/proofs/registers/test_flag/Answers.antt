@@ -1,11 +1,7 @@
-use Rattle.std.proofs.Common.{◌∙◌}
-use Rattle.wordset.specs.Words.{SameWords, everything, one, plus}
-use Rattle.wordset.specs.Lanes.{words}
-use Rattle.domain.specs.Facts.{Ac, narrowed}
 use Rattle.facts.proofs.Numbers.{plus_lt}
-use Rattle.facts.proofs.AgreeLemmas.{agree_trans, narrowed_agree}
-use Rattle.facts.proofs.OutcomeLemmas.{append_agree, has_one}
+use Rattle.facts.proofs.OutcomeLemmas.{has_one, append_both}
 use Rattle.facts.proofs.registers.test_flag.Goals as goal
+use Rattle.wordset.specs.Words.{all_words, one}
 
 pub returns : goal.returns
 returns c = append_both

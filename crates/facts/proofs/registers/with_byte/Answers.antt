@@ -1,9 +1,6 @@
 use Rattle.std.proofs.Common.{◌∙◌, ap}
 use Rattle.wordset.specs.Words.{or_any}
 use Rattle.wordset.specs.Lanes.{words}
-use Rattle.domain.specs.Facts.{Ac}
-use Rattle.facts.proofs.AgreeLemmas.{narrowed_agree}
-use Rattle.facts.proofs.PlaceLemmas.{or_any_same}
 use Rattle.facts.proofs.registers.with_byte.Goals as goal
 
 pub returns : goal.returns

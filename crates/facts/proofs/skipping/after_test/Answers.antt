@@ -1,11 +1,8 @@
 use Rattle.std.proofs.Common.{◌∙◌, sym, ap}
 use Rattle.wordset.specs.Words.{Words}
 use Rattle.domain.specs.Facts.{Ac}
-use Rattle.facts.proofs.PlaceLemmas.{or_any_same}
-use Rattle.facts.proofs.AgreeLemmas.{agree_trans}
-use Rattle.facts.proofs.ChangingLemmas.{assigned_agree, name_agree}
-use Rattle.facts.proofs.SkipLemmas.{kept_same}
 use Rattle.facts.proofs.skipping.after_test.Goals as goal
+use Rattle.domain.specs.Changes.{strongly_updated, with_name}
 
 pub returns-then-reads_switches : goal.returns-then-reads_switches
 returns-then-reads_switches c = rw (sym c.reads_switches.ensures ∙ c.if-reads_switches.true) (c.with_ac.ensures.same ∙ ap (λ (x : Words). strongly_updated Ac x (fact_of_state c.args.state.now)) c.put_switched.ensures)

@@ -1,17 +1,15 @@
-use Rattle.std.proofs.Common.{◌≡◌, ◌∙◌, sym, ap, true, false}
+use Rattle.std.proofs.Common.{◌≡◌, ◌∙◌, sym, ap, true, false, refl, ℕ}
 use Rattle.std.specs.Prelude.{◌&&◌, not, if◌then◌else◌}
 use Rattle.instruct.specs.Operates.{skips_of}
-use Rattle.wordset.specs.Words.{SameWords, everything, one}
+use Rattle.wordset.specs.Words.{one, Words, all_words, has_some}
 use Rattle.wordset.specs.Lanes.{words}
-use Rattle.processor.specs.Machine.{next_pc}
-use Rattle.domain.specs.Facts.{Ac, Fact, narrowed}
+use Rattle.domain.specs.Facts.{Fact}
 use Rattle.domain.specs.Changes.{with_link}
 use Rattle.facts.specs.Outcomes.{alive, part2, related2}
-use Rattle.facts.proofs.AgreeLemmas.{agree_trans, narrowed_agree}
-use Rattle.facts.proofs.ChangingLemmas.{link_agree}
 use Rattle.facts.proofs.Covers.{next_word}
-use Rattle.facts.proofs.OutcomeLemmas.{chosen_agrees, has_one, has_same}
+use Rattle.facts.proofs.OutcomeLemmas.{has_one, chosen_is}
 use Rattle.facts.proofs.skipping.branch.Goals as goal
+use Rattle.facts.proofs.SkipLemmas.{part_is}
 
 pub returns-then-not-contains : goal.returns-then-not-contains
 returns-then-not-contains c = let off : (fact_of_state c.args.state.now).link c.args.link ≡ false = sym c.contains.ensures ∙ c.if-not-contains.true in rw off refl

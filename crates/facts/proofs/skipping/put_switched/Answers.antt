@@ -1,7 +1,6 @@
 use Rattle.std.proofs.Common.{◌∙◌, ap, sym}
-use Rattle.wordset.specs.Words.{Words, or_any}
+use Rattle.wordset.specs.Words.{or_any}
 use Rattle.wordset.specs.Lanes.{words}
-use Rattle.facts.proofs.PlaceLemmas.{or_any_same}
 use Rattle.facts.proofs.skipping.put_switched.Goals as goal
 
 pub returns-then-clears : goal.returns-then-clears

@@ -1,18 +1,13 @@
-use Rattle.std.proofs.Common.{◌≡◌, ap, ◌∙◌}
-use Rattle.wordset.specs.Words.{Words, SameWords, SameLinks, one, plus, sums, carries, toggled, only}
+use Rattle.std.proofs.Common.{◌≡◌, ap, ◌∙◌, refl}
+use Rattle.wordset.specs.Words.{Words, sums, carries, toggled, only}
 use Rattle.wordset.specs.Lanes.{words}
 use Rattle.wordset.specs.Links.{links_of}
-use Rattle.domain.specs.Facts.{narrowed, Ac}
+use Rattle.domain.specs.Facts.{narrowed, Ac, Fact, Place}
 use Rattle.facts.specs.Outcomes.{words_at, tad_case, tad_fact}
-use Rattle.domain.specs.Same.{Agree}
 use Rattle.facts.specs.Knowing.{fact_of_state}
 use Rattle.facts.specs.Places.{place_of}
-use Rattle.facts.proofs.Alike.{only_same}
-use Rattle.facts.proofs.PlaceLemmas.{at_agree, sums_same, carries_same, toggled_same}
-use Rattle.facts.proofs.AgreeLemmas.{narrowed_agree}
-use Rattle.facts.proofs.OutcomeLemmas.{has_same}
-use Rattle.facts.proofs.TadLemmas.{tad_agrees}
 use Rattle.facts.proofs.place.Place.add.Goals as goal
+use Rattle.facts.proofs.TadLemmas.{tad_is}
 
 pub returns : goal.returns
 returns g c =

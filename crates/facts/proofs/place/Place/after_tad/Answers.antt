@@ -1,7 +1,4 @@
-use Rattle.std.proofs.Common.{◌∙◌, sym, List, [], ◌∷◌}
-use Rattle.domain.specs.Facts.{Ac, Cell, Equation}
-use Rattle.facts.proofs.AgreeLemmas.{agree_trans}
-use Rattle.facts.proofs.ChangingLemmas.{assigned_agree, told_agree}
+use Rattle.std.proofs.Common.{◌∙◌, sym}
 use Rattle.facts.proofs.place.Place.after_tad.Goals as goal
 
 pub returns-then-is_variable : goal.returns-then-is_variable

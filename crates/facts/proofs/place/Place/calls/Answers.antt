@@ -1,5 +1,4 @@
-use Rattle.std.proofs.Common.{◌∙◌, sym, subst}
-use Rattle.wordset.specs.Words.{SameWords}
+use Rattle.std.proofs.Common.{◌∙◌, sym, subst, ◌≡◌}
 use Rattle.wordset.specs.Lanes.{words}
 use Rattle.facts.specs.Conditions.{called}
 use Rattle.domain.specs.Meaning.{meaning}

@@ -1,8 +1,7 @@
 use Rattle.std.proofs.Common.{◌∙◌, sym}
 use Rattle.facts.specs.Places.{place_of}
-use Rattle.facts.proofs.Alike.{only_same}
-use Rattle.facts.proofs.OutcomeLemmas.{keeps_agreeing}
 use Rattle.facts.proofs.place.Place.count.Goals as goal
+use Rattle.facts.proofs.OutcomeLemmas.{append_none}
 
 pub returns-in-None : goal.returns-in-None
 returns-in-None g c = rw (sym c.requires.single ∙ c.in-None.is) (c.count_several.ensures (place_of c.args.self.now))

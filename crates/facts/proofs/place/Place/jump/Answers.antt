@@ -1,10 +1,10 @@
-use Rattle.std.proofs.Common.{◌∙◌, sym}
-use Rattle.domain.specs.Facts.{Ac}
-use Rattle.facts.specs.Outcomes.{Returns}
+use Rattle.std.proofs.Common.{◌∙◌, sym, ap, refl}
+use Rattle.facts.specs.Outcomes.{Returns, alive}
 use Rattle.facts.specs.Knowing.{fact_of_state}
-use Rattle.facts.proofs.AgreeLemmas.{agree_trans, narrowed_agree}
-use Rattle.facts.proofs.OutcomeLemmas.{alive_same, given_none, has_same, given_some}
+use Rattle.facts.proofs.OutcomeLemmas.{given_none, given_some}
 use Rattle.facts.proofs.place.Place.jump.Goals as goal
+use Rattle.domain.specs.Facts.{Fact}
+use Rattle.wordset.specs.Words.{all_words}
 
 pub returns-then-not-is_returning : goal.returns-then-not-is_returning
 returns-then-not-is_returning g c = rw (sym c.is_returning.ensures ∙ c.if-not-is_returning.true)

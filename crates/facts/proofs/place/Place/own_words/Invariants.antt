@@ -1,4 +1,4 @@
-use Rattle.std.proofs.Common.{◌≡◌, ◌+◌, ◌<◌, ℕ}
+use Rattle.std.proofs.Common.{◌≡◌, ◌+◌, ℕ}
 use Rattle.std.specs.Prelude.{◌&&◌}
 use Rattle.wordset.specs.Words.{some_below, shifted}
 use Rattle.wordset.specs.Lanes.{words}

@@ -1,7 +1,5 @@
-use Rattle.std.proofs.Common.{◌∙◌, sym, ap}
-use Rattle.wordset.specs.Words.{Words}
+use Rattle.std.proofs.Common.{◌∙◌, sym}
 use Rattle.domain.specs.Facts.{possible}
-use Rattle.facts.proofs.PlaceLemmas.{all_same}
 use Rattle.facts.proofs.place.Place.possible_words.Goals as goal
 
 pub returns-then-is_variable : goal.returns-then-is_variable

@@ -1,12 +1,7 @@
-use Rattle.std.proofs.Common.{◌∙◌, ap, sym, subst}
-use Rattle.wordset.specs.Words.{Words, SameWords, shifted}
-use Rattle.wordset.specs.Lanes.{words}
+use Rattle.std.proofs.Common.{◌∙◌, ap, sym}
+use Rattle.wordset.specs.Words.{shifted}
 use Rattle.domain.specs.Facts.{Cell, narrowed}
 use Rattle.facts.specs.Knowing.{fact_of_state}
-use Rattle.facts.specs.Places.{place_of}
-use Rattle.facts.proofs.AgreeLemmas.{narrowed_agree}
-use Rattle.facts.proofs.ChangeLemmas.{shifts_same}
-use Rattle.facts.proofs.PlaceLemmas.{in_agree}
 use Rattle.facts.proofs.ReachLemmas.{moved_here}
 use Rattle.facts.proofs.place.Place.reached.Goals as goal
 

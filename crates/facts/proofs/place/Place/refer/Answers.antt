@@ -1,12 +1,8 @@
-use Rattle.std.proofs.Common.{◌∙◌, sym}
-use Rattle.domain.specs.Facts.{Cell}
-use Rattle.wordset.specs.Lanes.{words}
+use Rattle.std.proofs.Common.{◌∙◌, sym, Bool, ap, refl}
 use Rattle.facts.specs.Knowing.{fact_of_state}
 use Rattle.facts.specs.Places.{place_of}
-use Rattle.facts.proofs.AgreeLemmas.{agree_trans, agree_refl}
-use Rattle.facts.proofs.OneTarget.{direct_target}
-use Rattle.facts.proofs.ChangingLemmas.{moved_agree}
 use Rattle.facts.proofs.place.Place.refer.Goals as goal
+use Rattle.facts.specs.Outcomes.{targets}
 
 pub returns-then-steps_pointer : goal.returns-then-steps_pointer
 returns-then-steps_pointer g c = c.refer_to.ensures (fact_of_state c.args.state.now)

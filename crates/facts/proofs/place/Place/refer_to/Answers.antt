@@ -1,8 +1,7 @@
 use Rattle.std.proofs.Common.{◌∙◌, sym}
-use Rattle.facts.specs.Outcomes.{stepped, targets}
 use Rattle.facts.specs.Places.{place_of}
-use Rattle.facts.proofs.OutcomeLemmas.{keeps_agreeing}
 use Rattle.facts.proofs.place.Place.refer_to.Goals as goal
+use Rattle.facts.proofs.OutcomeLemmas.{append_none}
 
 pub returns-in-And : goal.returns-in-And
 returns-in-And g c = λ f h e. rw (sym c.of.ensures.code ∙ c.in-And.is, ← h, ← e) (c.two.ensures ∙ append_none _ ∙ c.combine.ensures)

@@ -1,6 +1,5 @@
 use Rattle.std.proofs.Common.{◌∙◌, sym}
 use Rattle.domain.specs.Facts.{words_in}
-use Rattle.facts.proofs.PlaceLemmas.{all_same}
 use Rattle.facts.proofs.place.Place.words_in.Goals as goal
 
 pub returns-then-is_variable : goal.returns-then-is_variable

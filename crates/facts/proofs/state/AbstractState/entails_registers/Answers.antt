@@ -1,6 +1,6 @@
 use Rattle.std.proofs.Common.{◌∙◌, ap, sym, refl}
 use Rattle.wordset.specs.Words.{Words}
-use Rattle.facts.proofs.EntailLemmas.{narrowed_inside, not_true, not_both, within_same, within_set, same_flip}
+use Rattle.facts.proofs.EntailLemmas.{narrowed_inside, not_true, not_both}
 use Rattle.facts.proofs.state.AbstractState.entails_registers.Goals as goal
 
 pub returns-then-not-is_subset : goal.returns-then-not-is_subset

@@ -1,9 +1,9 @@
-use Rattle.std.proofs.Common.{◌∙◌}
+use Rattle.std.proofs.Common.{◌∙◌, ap}
 use Rattle.domain.specs.Meaning.{equation_of}
 use Rattle.facts.specs.Knowing.{fact_of_state}
-use Rattle.facts.proofs.Alike.{only_same}
 use Rattle.facts.proofs.EntailLemmas.{not_true, none_is, shows_some}
 use Rattle.facts.proofs.state.AbstractState.shows.Goals as goal
+use Rattle.wordset.specs.Words.{only}
 
 pub returns-in-None : goal.returns-in-None
 returns-in-None c = not_true (λ w. none_is (rw c.in-None.is at (c.only.ensures ∙ ap only c.narrowed-left.ensures) ∙ w.2))

@@ -1,8 +1,7 @@
-use Rattle.std.proofs.Common.{◌∙◌, ap, map, subst}
+use Rattle.std.proofs.Common.{◌∙◌, ap, map}
 use Rattle.domain.specs.Facts.{Cell, narrowed}
 use Rattle.domain.specs.Changes.{moved_equations}
-use Rattle.wordset.specs.Words.{SameWords, shifted}
-use Rattle.wordset.specs.Lanes.{words}
+use Rattle.wordset.specs.Words.{shifted}
 use Rattle.domain.specs.Meaning.{equation_of}
 use Rattle.facts.specs.Knowing.{fact_of_state}
 use Rattle.facts.proofs.ChangingLemmas.{moved_pointer}

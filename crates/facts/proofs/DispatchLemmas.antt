@@ -17,14 +17,14 @@ use Rattle.domain.specs.Facts.{Fact, Place}
 use Rattle.facts.specs.Outcomes.{Successor, goes, operated3, device_outcomes, outcomes_of, outcomes_at}
 use Rattle.facts.proofs.EntailLemmas.{none_is, some_is}
 
-pub by_meaning : {os : List Successor} (pl : Place) (f : Fact) (at w : ℕ) {m : Meaning} → meaning_of pl.declaration.profile at w ≡ m → os ≡ outcomes_of pl f at m → os ≡ outcomes_at pl f at w
-by_meaning pl f at w e h = h ∙ ap (outcomes_of pl f at) (sym e)
+pub by_meaning : {os : List Successor} {f g : Fact} (pl : Place) (at w : ℕ) {m : Meaning} → f ≡ g → meaning_of pl.declaration.profile at w ≡ m → os ≡ outcomes_of pl f at m → os ≡ outcomes_at pl g at w
+by_meaning {g = g} pl at w {m} same e h = h ∙ ap (λ (x : Fact). outcomes_of pl x at m) same ∙ ap (outcomes_of pl g at) (sym e)
 
-pub by_group3 : {os : List Successor} (pl : Place) (f : Fact) (at w : ℕ) → kind_of (meaning_of pl.declaration.profile at w) ≡ Operate3 →
-    ((o : MqOperate) → mq_operate_of w ≡ Some o → os ≡ goes all_words f all_words (one (plus at 1)) (operated3 o f)) → os ≡ outcomes_at pl f at w
-by_group3 pl f at w k h =
+pub by_group3 : {os : List Successor} {f g : Fact} (pl : Place) (at w : ℕ) → f ≡ g → kind_of (meaning_of pl.declaration.profile at w) ≡ Operate3 →
+    ((o : MqOperate) → mq_operate_of w ≡ Some o → os ≡ goes all_words f all_words (one (plus at 1)) (operated3 o f)) → os ≡ outcomes_at pl g at w
+by_group3 pl at w same k h =
     let told = group3_meaning_of pl.declaration.profile at w k in
-    h told.0 told.1 ∙ ap (outcomes_of pl f at) (sym told.2)
+    by_meaning pl at w same told.2 (h told.0 told.1)
 
 pub by_device : {os : List Successor} (pl : Place) (f : Fact) (at w : ℕ) (o : DeviceOperation) → kind_of (meaning_of pl.declaration.profile at w) ≡ Iot → Some o ≡ device_operation pl.declaration.profile w →
     os ≡ device_outcomes at f (processor_action o) → os ≡ outcomes_at pl f at w

@@ -23,6 +23,6 @@ or_both {a} {b} {c} {d} e f = ap (λ x. x || b) e ∙ ap (λ y. c || y) f
 
 pub own_end : (sites : Words) (f : Fact) (code offsets set : Words) (n : ℕ) → n ≡ 8 → code ≡ sites → offsets ≡ f.offsets →
     ((v : ℕ) → set v ≡ some_below n (λ o. offsets o && shifted code (o + 1) v)) → set ≡ own_words sites f
-own_end sites f code offsets set n e s o h = fun_ext h
-    ∙ ap (λ (m v : ℕ). some_below m (λ k. offsets k && shifted code (k + 1) v)) e ∙ ap (λ (x : Words) (v : ℕ). some_below 8 (λ k. offsets k && shifted x (k + 1) v)) s ∙
-    ap (λ (x : Words) (v : ℕ). some_below 8 (λ k. x k && shifted sites (k + 1) v)) o
+own_end sites f code offsets set n e s o h = fun_ext (λ v. h v
+    ∙ ap (λ m. some_below m (λ k. offsets k && shifted code (k + 1) v)) e ∙ ap (λ (x : Words). some_below 8 (λ k. offsets k && shifted x (k + 1) v)) s
+    ∙ ap (λ (x : Words). some_below 8 (λ k. x k && shifted sites (k + 1) v)) o)

@@ -1,5 +1,5 @@
 use Rattle.facts.proofs.dispatch.branches.Goals as goal
-use Rattle.facts.proofs.OutcomeLemmas.{append_none}
+use Rattle.facts.proofs.OutcomeLemmas.{append_none, append_both}
 use Rattle.std.proofs.Common.{◌∙◌}
 
 pub returns : goal.returns

@@ -2,10 +2,11 @@ use Rattle.std.proofs.Common.{ap, ◌∙◌, ◌≡◌}
 use Rattle.wordset.specs.Words.{Words, images}
 use Rattle.wordset.specs.Lanes.{words}
 use Rattle.domain.specs.Facts.{narrowed, Ac, Fact}
-use Rattle.facts.specs.Outcomes.{operated1, ac_after, link_after}
+use Rattle.facts.specs.Outcomes.{operated1, ac_after, link_after, related1}
 use Rattle.facts.proofs.registers.operate.Goals as goal
 use Rattle.wordset.specs.Links.{links_of}
 use Rattle.domain.specs.Changes.{with_link, with_name}
+use Rattle.facts.specs.Knowing.{fact_of_state}
 
 pub returns : goal.returns
 unfolding ac_after link_after

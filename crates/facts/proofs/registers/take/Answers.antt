@@ -3,6 +3,8 @@ use Rattle.wordset.specs.Words.{Words}
 use Rattle.domain.specs.Facts.{Ac}
 use Rattle.domain.specs.Changes.{strongly_updated, with_mq}
 use Rattle.facts.proofs.registers.take.Goals as goal
+use Rattle.facts.specs.Knowing.{fact_of_state}
+use Rattle.wordset.specs.Lanes.{words}
 
 pub returns : goal.returns
 returns c = c.go_on.ensures (fact_of_state c.args.state.now) _ c.left_in-held.ensures

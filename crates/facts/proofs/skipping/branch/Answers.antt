@@ -10,6 +10,7 @@ use Rattle.facts.proofs.Covers.{next_word}
 use Rattle.facts.proofs.OutcomeLemmas.{has_one, chosen_is}
 use Rattle.facts.proofs.skipping.branch.Goals as goal
 use Rattle.facts.proofs.SkipLemmas.{part_is}
+use Rattle.facts.specs.Knowing.{fact_of_state}
 
 pub returns-then-not-contains : goal.returns-then-not-contains
 returns-then-not-contains c = let off : (fact_of_state c.args.state.now).link c.args.link ≡ false = sym c.contains.ensures ∙ c.if-not-contains.true in rw off refl
@@ -19,7 +20,7 @@ returns c =
     let f : Fact = fact_of_state c.args.state.now in
     let part : words c.put_part-part.result.now ≡ part2 c.args.word f c.args.link c.args.skip =
     part_is _ _ (λ v. if skips_of c.args.word v c.args.link then c.args.skip else not c.args.skip) c.put_part-part.ensures
-    ∙ ap (λ (x : Words) (v : ℕ). x v && (if skips_of c.args.word v c.args.link then c.args.skip else not c.args.skip)) c.left_in-held.ensures in
+    ∙ ap {B = Words} (λ (x : Words) (v : ℕ). x v && (if skips_of c.args.word v c.args.link then c.args.skip else not c.args.skip)) c.left_in-held.ensures in
     let made : Fact = with_link (one c.args.link) (related2 c.args.word (part2 c.args.word f c.args.link c.args.skip) f) in
     let after : fact_of_state c.with_link-linked.result ≡ made = c.with_link-linked.ensures ∙ ap (λ (x : Words). with_link x (fact_of_state c.after_test-after.result)) c.one.ensures
     ∙ ap (with_link (one c.args.link)) (c.after_test-after.ensures ∙ ap (λ (x : Words). related2 c.args.word x f) part) in

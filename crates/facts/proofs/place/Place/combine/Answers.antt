@@ -4,6 +4,7 @@ use Rattle.wordset.specs.Lanes.{words}
 use Rattle.domain.specs.Facts.{narrowed, Ac}
 use Rattle.facts.proofs.place.Place.combine.Goals as goal
 use Rattle.domain.specs.Changes.{strongly_updated}
+use Rattle.facts.specs.Knowing.{fact_of_state}
 
 pub returns : goal.returns
 returns g c = c.going.ensures (words c.args.targets.now) _ (fact_of_state c.args.state.now) _ refl c.left_in-held.ensures c.address_after-next.ensures

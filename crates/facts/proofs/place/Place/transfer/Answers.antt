@@ -3,6 +3,7 @@ use Rattle.instruct.specs.Devices.{device_operation}
 use Rattle.facts.specs.Places.{place_of}
 use Rattle.facts.proofs.DispatchLemmas.{by_device, by_no_device}
 use Rattle.facts.proofs.place.Place.transfer.Goals as goal
+use Rattle.facts.specs.Knowing.{fact_of_state}
 
 pub returns-in-Some : goal.returns-in-Some
 returns-in-Some g c =

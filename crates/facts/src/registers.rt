@@ -202,7 +202,6 @@ pub(crate) fn exchange<'a>(
 
 /// A device word: a flag may be set or not, and a byte may be any.
 #[inline(never)]
-#[tactic(auto, using(crate::proofs::RegisterLemmas::byte_in, crate::proofs::RegisterLemmas::zero_in, crate::proofs::RegisterLemmas::byte_taken))]
 pub(crate) fn transfer<'a>(
     at: Word,
     operation: DeviceOperation,

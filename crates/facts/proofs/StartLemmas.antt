@@ -4,7 +4,7 @@ use Rattle.std.specs.Prelude.{if◌then◌else◌, IsTrue, ◌↔◌, nat_lt}
 use Rattle.std.specs.Option.{ForSome}
 use Rattle.std.proofs.lemmas.Bool.{and_from, and_parts, cond_both, eqb-true, eq-eqb, true≢false, ne_eqb}
 use Rattle.std.proofs.Math.ListN.{drop_of_length-le}
-use Rattle.wordset.specs.Words.{Words, all_words, some_below, one}
+use Rattle.wordset.specs.Words.{Words, all_words, some_below}
 use Rattle.wordset.proofs.Tests.{both_ways}
 use Rattle.wordset.specs.Links.{links_of}
 use Rattle.wordset.specs.declared.links.Links.{Links}

@@ -6,7 +6,6 @@ use Rattle.domain.specs.Meaning.{meaning}
 use Rattle.facts.specs.Places.{place_of}
 use Rattle.facts.proofs.AskedLemmas.{no_reference, no_words, refers_to, reads_none, reads_reference}
 use Rattle.facts.proofs.conditions.reads.Goals as goal
-use Rattle.wordset.specs.Words.{one}
 
 pub returns-then-not-is_reference : goal.returns-then-not-is_reference
 returns-then-not-is_reference g c = no_words _ _ c.empty.ensures (reads_none (place_of c.args.place.now) (meaning c.args.fact.now) _ (no_reference c.if-not-is_reference.true (c.is_reference.ensures c.args.at)))

@@ -1,5 +1,5 @@
 use Rattle.std.proofs.Common.{refl, sym, ap, subst, ◌≡◌}
-use Rattle.wordset.specs.Words.{Words, one}
+use Rattle.wordset.specs.Words.{Words}
 use Rattle.wordset.specs.Lanes.{words}
 use Rattle.wordset.proofs.LaneBits.{or_false}
 use Rattle.instruct.specs.Instructions.{operation_of}

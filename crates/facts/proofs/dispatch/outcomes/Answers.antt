@@ -1,6 +1,5 @@
 use Rattle.std.proofs.Common.{◌∙◌, sym, ap}
 use Rattle.instruct.proofs.KindLemmas.{reference_meaning, group1_meaning, group2_meaning, undefined_meaning}
-use Rattle.domain.specs.Meaning.{meaning}
 use Rattle.facts.specs.Places.{place_of}
 use Rattle.facts.proofs.DispatchLemmas.{by_meaning, by_group3, first_group_8e, kind_here}
 use Rattle.facts.proofs.dispatch.outcomes.Goals as goal

@@ -10,7 +10,7 @@ use Rattle.domain.specs.Changes.{strongly_updated, with_mq}
 use Rattle.facts.specs.Knowing.{fact_of_state}
 
 pub returns-in-3857 : goal.returns-in-3857
-returns-in-3857 c = λ o is. exchange_is c.args.at c.args.word 3857 Mql o (fact_of_state c.args.state.now) (sym c.value.ensures.same ∙ c.in-3857.is) refl is 
+returns-in-3857 c = λ o is. exchange_is c.args.at c.args.word 3857 Mql o (fact_of_state c.args.state.now) (sym c.value.ensures.same ∙ c.in-3857.is) refl is
     (c.take.ensures ∙ ap (λ (x : Words). goes all_words (fact_of_state c.args.state.now) all_words (one (plus c.args.at 1)) (with_mq x (strongly_updated Ac (words c.one-zero.result) (fact_of_state c.args.state.now)))) c.narrowed-ac.ensures
     ∙ ap (λ (x : Words). goes all_words (fact_of_state c.args.state.now) all_words (one (plus c.args.at 1)) (with_mq (narrowed (fact_of_state c.args.state.now) Ac) (strongly_updated Ac x (fact_of_state c.args.state.now)))) c.one-zero.ensures)
 

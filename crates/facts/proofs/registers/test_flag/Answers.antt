@@ -1,7 +1,7 @@
 use Rattle.facts.proofs.Numbers.{plus_lt}
 use Rattle.facts.proofs.OutcomeLemmas.{has_one, append_both}
 use Rattle.facts.proofs.registers.test_flag.Goals as goal
-use Rattle.wordset.specs.Words.{all_words, one}
+use Rattle.wordset.specs.Words.{all_words}
 use Rattle.facts.specs.Knowing.{fact_of_state}
 
 pub returns : goal.returns

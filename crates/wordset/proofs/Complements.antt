@@ -8,8 +8,10 @@ use Rattle.std.proofs.lemmas.Nat.Bits.{bit_at-suc, bit_at_lowest, bit_at-lt, bit
 use Rattle.std.proofs.Math.Nat.{pow-succ'}
 use Rattle.wordset.specs.Words.{Words, SameWords, some_below, ands, ors, or_any, all_words}
 use Rattle.wordset.specs.Lanes.{words}
-use Rattle.wordset.proofs.SetLemmas.{words_bit, lt_to, equal_words}
+use Rattle.wordset.proofs.SetLemmas.{words_bit, lt_to}
 use Rattle.wordset.proofs.Tests.{both_ways, some_from, some_to, IsSome, and_both, and_first, and_second}
+use Rattle.std.proofs.Math.Path.{fun_ext}
+use Rattle.wordset.proofs.Ors.{or_swap}
 
 -- ---- one lane
 
@@ -154,9 +156,6 @@ or_small x y h g = or_lt 12 x y h g
 pub ands_past : (a b : Words) (v : ℕ) → 4096 ≤ v → ands a b v ≡ false
 ands_past a b = pairs_past bit_and a b (λ x y h g. omega (arith, and_le_l x y))
 
-pub ors_past : (a b : Words) (v : ℕ) → 4096 ≤ v → ors a b v ≡ false
-ors_past a b = pairs_past bit_or a b or_small
-
 pub any_past : (mask : ℕ) (a : Words) (v : ℕ) → 4096 ≤ v → or_any mask a v ≡ false
 any_past mask a = pairs_past bit_or a (λ m. bit_and m mask == m) or_small
 
@@ -170,14 +169,11 @@ pairs_swap f a b v turns t =
 and_swap : (x y : ℕ) → bit_and x y ≡ bit_and y x
 and_swap x y = same_from_bits _ _ (λ j. omega (arith, bit_at_and x y j, bit_at_and y x j))
 
-or_swap : (x y : ℕ) → bit_or x y ≡ bit_or y x
-or_swap x y = same_from_bits _ _ (λ j. omega (arith, bit_at_or x y j, bit_at_or y x j))
-
 pub ands_swap : (a b : Words) → ands a b ≡ ands b a
-ands_swap a b = equal_words (ands a b) (ands b a) (ands_past a b) (ands_past b a) (λ v h. both_ways _ _ (pairs_swap bit_and a b v and_swap) (pairs_swap bit_and b a v and_swap))
+ands_swap a b = fun_ext (λ v. both_ways _ _ (pairs_swap bit_and a b v and_swap) (pairs_swap bit_and b a v and_swap))
 
 pub ors_swap : (a b : Words) → ors a b ≡ ors b a
-ors_swap a b = equal_words (ors a b) (ors b a) (ors_past a b) (ors_past b a) (λ v h. both_ways _ _ (pairs_swap bit_or a b v or_swap) (pairs_swap bit_or b a v or_swap))
+ors_swap a b = fun_ext (λ v. both_ways _ _ (pairs_swap bit_or a b v or_swap) (pairs_swap bit_or b a v or_swap))
 
 -- ---- all words as the one set: every word is a part of the mask of all bits
 
@@ -190,5 +186,4 @@ whole_part : (m : ℕ) → m < 4096 → (bit_and m 4095 == m) ≡ all_words m
 whole_part m h = eq-eqb _ _ (same_from_bits_below 12 (bit_and m 4095) m (omega (arith, and_le_l m 4095)) h (λ j g. omega (arith, bit_at_and m 4095 j, bit_at_ones 12 j g, bit_at-lt m j))) ∙ sym (lt_to m h)
 
 pub ors_all : (a : Words) → or_any 4095 a ≡ ors a all_words
-ors_all a = equal_words (or_any 4095 a) (ors a all_words) (any_past 4095 a) (ors_past a all_words)
-    (λ v h. both_ways _ _ (pairs_to bit_or a (λ m. bit_and m 4095 == m) all_words v whole_part) (pairs_to bit_or a all_words (λ m. bit_and m 4095 == m) v (λ m g. sym (whole_part m g))))
+ors_all a = fun_ext (λ v. both_ways _ _ (pairs_to bit_or a (λ m. bit_and m 4095 == m) all_words v whole_part) (pairs_to bit_or a all_words (λ m. bit_and m 4095 == m) v (λ m g. sym (whole_part m g))))

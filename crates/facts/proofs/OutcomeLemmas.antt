@@ -2,7 +2,7 @@
 use Rattle.std.proofs.Common.{◌≡◌, ℕ, ◌+◌, ◌<◌, ◌%◌, Bool, true, false, not, ◌&&◌, List, [], ◌∷◌, ◌++◌, refl, sym, ap, ◌∙◌, arith, lit<}
 use Rattle.wordset.specs.Words.{plus, Words, one, all_words, has_some, has_link}
 use Rattle.domain.specs.Facts.{Ac, Fact, narrowed}
-use Rattle.facts.specs.Outcomes.{Successor, Goes, alive, given}
+use Rattle.facts.specs.Outcomes.{Successor, alive, given}
 use Rattle.std.proofs.lemmas.Bool.{and_right, eq-eqb, not-false, not-true}
 use Rattle.facts.proofs.Numbers.{both_ways, some_from}
 
@@ -42,10 +42,6 @@ given_some {a} {b} t e h = let y : b ≡ true = sym e ∙ t in rw y (ap (λ x. x
 
 pub given_none : {a b : Bool} (p : Successor) → a ≡ false → a ≡ b → [] ≡ given b p
 given_none {a} {b} p t e = let y : b ≡ false = sym e ∙ t in rw y refl
-
--- an outcome at the same addresses with the same fact
-pub goes_same : {n m : Words} {f g : Fact} → n ≡ m → f ≡ g → Goes n f ≡ Goes m g
-goes_same {n} {m} {f} {g} e h = ap (λ (x : Words). Goes x f) e ∙ ap (Goes m) h
 
 pub chosen_is : {r x : Bool} {os : List Successor} (o : Successor) → r ≡ x → os ≡ given r o → os ≡ given x o
 chosen_is o e h = h ∙ ap (λ b. given b o) e

@@ -19,7 +19,6 @@ use Rattle.facts.proofs.Starting.{each_from, each_at, start_law}
 use Rattle.facts.proofs.EntailLemmas.{not_true, cell_dropped}
 use Rattle.domain.specs.declared.fact.Fact.{Fact as CodeFact}
 use Rattle.domain.specs.Meaning.{statement_of, meaning}
-use Rattle.std.proofs.Math.Path.{fun_ext}
 use Rattle.wordset.proofs.SetLemmas.{lt_to, words_are, all_past}
 use Rattle.wordset.specs.Lanes.{words}
 
@@ -75,11 +74,11 @@ pub start_fails : (image : Image) (cells : List TrackedCell) (i : ℕ) → i < l
 start_fails image cells i lt small w h =
     not_true (λ a. true≢false (sym (start_here image (cell_at cells i) (drop (i + 1) cells) small (subst (MayStart image) (cell_dropped cells i lt) (h.1 a))) ∙ w))
 
-pub cells_tracked : (cells : List TrackedCell) → AreCells cells → (a : ℕ) → 4096 ≤ a → tracked a cells ≡ all_words
-cells_tracked [] h a lt = refl
-cells_tracked (t ∷ ts) h a lt =
+pub cells_tracked : (cells : List TrackedCell) → AreCells cells → (a v : ℕ) → 4096 ≤ a → v < 4096 → tracked a cells v ≡ true
+cells_tracked [] h a v lt small = lt_to v small
+cells_tracked (t ∷ ts) h a v lt small =
     let other : (t.address == a) ≡ false = ne_eqb t.address a (λ q. let s : t.address < 4096 = h.0 in omega arith) in
-    fun_ext (λ v. rw other (ap (λ (s : Words). s v) (cells_tracked ts h.1 a lt)))
+    rw other (cells_tracked ts h.1 a v lt small)
 
 pub tape_words : (cells : List (Option ℕ)) → HoldsWords cells → AreTapeWords (image_of cells)
 tape_words cells h a w = cond_both (nat_lt a 4096) (word_at cells a) None (λ o. o ≡ Some w → w < 4096) (λ q. some (word_at cells a) (h.words a)) (λ q e. absurd (cc))

@@ -1,7 +1,7 @@
 -- The test of a fact against every start is exact.
 use Rattle.std.proofs.Common.{◌≡◌, ℕ, ◌%◌, ◌<◌, ◌==◌, Bool, true, false, not, Option, Some, None, List, [], ◌∷◌, refl, sym, ap, ◌∙◌, subst, inl, inr, arith, lit<}
 use Rattle.std.specs.Prelude.{if◌then◌else◌, nat_lt}
-use Rattle.std.proofs.lemmas.Bool.{and_parts, and_from, cases_Bool, cond_both, eqb-true, eq-eqb, ne_eqb, not-true, not-false, true≢false, false≢true, ltb-true, ltb-false, lt-ltb}
+use Rattle.std.proofs.lemmas.Bool.{and_parts, and_from, cases_Bool, cond_both, eqb-true, eq-eqb, ne_eqb, not-true, not-false, true≢false, false≢true, ltb-true, ltb-false}
 use Rattle.wordset.specs.Words.{plus, Words, some_below}
 use Rattle.processor.specs.Cells.{Cells}
 use Rattle.processor.specs.Machine.{State}
@@ -178,7 +178,7 @@ module _ (pl : Place) (tape : AreTapeWords pl.image) (begin : pl.declaration.sta
       cell_set : each_below 4096 (λ x. has_each (pl.image x) (f.set (Cell x))) ≡ true → (x : ℕ) → f.set (Cell x) (s.memory x) ≡ true
       cell_set q x = elim (cases_Bool (nat_lt x 4096)) [
         | inl t ↦ on_tape (pl.image x) (f.set (Cell x)) (s.memory x) (each_at 4096 (λ y. has_each (pl.image y) (f.set (Cell y))) x (ltb-true x 4096 t) q) (st.words x) (λ w g. st.loaded x w g)
-        | inr t ↦ ap (λ (set : Words). set (s.memory x)) (tracks x (ltb-false x 4096 t)) ∙ lt-ltb (s.memory x) 4096 (st.words x)
+        | inr t ↦ tracks x (s.memory x) (ltb-false x 4096 t) (st.words x)
       ]
 
       sets : each_below 4096 (f.set Ac) ≡ true → each_below 4096 (λ x. has_each (pl.image x) (f.set (Cell x))) ≡ true → (n : Location) → f.set n (begun s n) ≡ true

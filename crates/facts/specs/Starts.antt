@@ -1,6 +1,6 @@
 -- Which facts hold of every start, as a statement and as a test.
 use Rattle.std.specs.Prelude.{◌≡◌, ℕ, ◌%◌, ◌<◌, ◌≤◌, ◌==◌, Bool, true, false, not, ◌&&◌, if◌then◌else◌, Option, Some, None, List, [], ◌∷◌, ◌↔◌}
-use Rattle.wordset.specs.Words.{plus, Words, all_words, some_below}
+use Rattle.wordset.specs.Words.{plus, Words, some_below}
 use Rattle.processor.specs.Machine.{State}
 use Rattle.processor.specs.Runs.{Image, IsStart}
 use Rattle.domain.specs.Facts.{Location, Ac, Cell, same, Equation, Fact, Place, Means}
@@ -52,9 +52,9 @@ holds_before image f =
 abbrev pub AreTapeWords : Image → Type 0
 AreTapeWords image = (a w : ℕ) → image a ≡ Some w → w < 4096
 
--- The fact tracks no cell past the last: there it allows all words.
+-- The fact tracks no cell past the last: there it allows every word.
 abbrev pub TracksWords : Fact → Type 0
-TracksWords f = (a : ℕ) → 4096 ≤ a → f.set (Cell a) ≡ all_words
+TracksWords f = (a v : ℕ) → 4096 ≤ a → v < 4096 → f.set (Cell a) v ≡ true
 
 -- The test is true exactly where the fact holds of every start.
 abbrev pub StartLaw : Type 0

@@ -9,8 +9,7 @@ use Rattle.certificate.specs.Reading.{RiseFrom, place_of_equation, Each, IsTrack
 use Rattle.certificate.specs.Line.{TextLaw}
 use Rattle.certificate.specs.Order.{is_end, has_details, any, how_many, is_routine, is_cell, is_equation, heads, details_of_last, next_place, IsNext, AreInOrder}
 use Rattle.certificate.specs.Found.{newest_first}
-use Rattle.certificate.specs.Faults.{most_bytes, IsText}
-use Rattle.certificate.proofs.TextLemmas.{registers_form, newest_both, front_newest}
+use Rattle.certificate.proofs.TextLemmas.{registers_form, newest_both}
 use Rattle.certificate.proofs.GatherLemmas.{body_of, follows, each_formed}
 
 -- Lines in order with no end, so that a line of this place may come next.
@@ -135,19 +134,10 @@ body_after c h =
 pub body_order : (c : Lines) → AreLines c → AreInOrder c.version (newest_first [] (body_of c)) × (any is_end (newest_first [] (body_of c)) ≡ false)
 body_order c h = let s = body_after c h in (s.order, s.no_end)
 
-all_after : (c : Lines) → AreLines c → AreInOrder c.version (newest_first [] (lines_of c))
+pub all_after : (c : Lines) → AreLines c → AreInOrder c.version (newest_first [] (lines_of c)) × (any is_end (newest_first [] (lines_of c)) ≡ true)
 all_after c h =
     let s : Sofar c.version 40960 (newest_first [] (body_of c)) = body_after c h in
-    rw (newest_both [] (body_of c) (End ∷ [])) (tt, record { stands = rw s.no_end refl; order = s.next; room = tt }, s.order)
+    rw (newest_both [] (body_of c) (End ∷ [])) ((tt, record { stands = rw s.no_end refl; order = s.next; room = tt }, s.order), refl)
 
 pub text_law : TextLaw
-text_law = record { lines = λ c. refl; form = λ c h. each_formed c.version [] (lines_of c) (follows c.version [] (lines_of c) (all_after c h)) }
-
-pub text_of_lines : (c : Lines) → AreLines c → length (text c) ≤ most_bytes → IsText c.version (text c)
-text_of_lines c h few = record {
-  lines = newest_first [] (lines_of c);
-  order = all_after c h;
-  ended = rw (newest_both [] (body_of c) (End ∷ [])) refl;
-  text = sym (front_newest c.version [] (lines_of c));
-  few = few;
-}
+text_law = record { lines = λ c. refl; form = λ c h. each_formed c.version [] (lines_of c) (follows c.version [] (lines_of c) (all_after c h).0) }

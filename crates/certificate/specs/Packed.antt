@@ -10,6 +10,7 @@ use Rattle.certificate.specs.declared.packed.PackedRegisters.{PackedRegisters}
 use Rattle.certificate.specs.declared.packed.PackedLine.{PackedLine}
 use Rattle.certificate.specs.declared.packed.PackedLine.TheVariants as packed
 use Rattle.certificate.specs.declared.packed.KeptLine.{KeptLine}
+use Rattle.certificate.specs.Line.{EndsBefore}
 use Rattle.certificate.specs.Spelling.{RoutineLine, Line, Registers, RoutineIs, FactIs, ExitIs, CellIs, EquationIs, End}
 
 -- The list begins with another.
@@ -94,6 +95,11 @@ LiesWithin n (packed.Exit e o r) = AreWithin n r.sets
 LiesWithin n (packed.Cell a count) = count ≤ n
 LiesWithin n (packed.Equation e) = Unit {0}
 LiesWithin n packed.End = Unit {0}
+
+-- The offsets of a packed fact are among eight.
+abbrev pub HasEight : PackedLine → Type 0
+HasEight (packed.Fact a r offsets) = EndsBefore 8 (offsets_of offsets)
+HasEight _ = Unit {0}
 
 -- So do those of a line that is kept, of which the first one is told.
 pub record IsKept (n : ℕ) (k : KeptLine) : Type 0 where

@@ -7,9 +7,9 @@ use Rattle.std.proofs.lemmas.List.{get_or_past}
 use Rattle.std.proofs.Math.Bool.{and-true, and-false, or-false}
 use Rattle.domain.specs.Meaning.{offsets_of}
 use Rattle.domain.specs.declared.offsets.CountedOffsets.{CountedOffsets}
-use Rattle.certificate.specs.Line.{EndsBefore}
 use Rattle.wordset.specs.Words.{Words, some_below}
 use Rattle.wordset.proofs.Tests.{some_none_of, none_of_some}
+use Rattle.certificate.specs.Reading.{EndsBefore}
 use Rattle.certificate.specs.Spelling.{digits, offsets_text}
 use Rattle.certificate.specs.Fields.{EndsField}
 

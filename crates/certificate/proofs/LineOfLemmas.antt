@@ -20,8 +20,8 @@ use Rattle.certificate.specs.declared.Version.{Version}
 use Rattle.certificate.specs.declared.Version.TheVariants.{One, Two}
 use Rattle.certificate.specs.declared.packed.Run.{Run}
 use Rattle.certificate.specs.Spelling.{RoutineLine, Registers, Line, RoutineIs, FactIs, ExitIs, CellIs, EquationIs, End, digits, set_text, offsets_text, name_text, rank_text, mq_text, words_text, routine_line, cell_line, equation_line, line_text}
-use Rattle.certificate.specs.Reading.{Each, FitsVersion, place_of_name, IsEquation}
-use Rattle.certificate.specs.Line.{IsLine, IsRegisters, EndsBefore, IsOfLinks, RegistersEnd, SetsEnd}
+use Rattle.certificate.specs.Reading.{Each, FitsVersion, place_of_name, IsEquation, EndsBefore, IsOfLinks, RegistersEnd, SetsEnd}
+use Rattle.certificate.specs.Line.{IsLine, IsRegisters}
 use Rattle.certificate.specs.Order.{Spells}
 use Rattle.certificate.specs.Fields.{run_text}
 use Rattle.certificate.specs.Packed.{joined, StandApart}

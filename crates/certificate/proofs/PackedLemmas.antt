@@ -12,6 +12,8 @@ use Rattle.wordset.specs.Lanes.{words}
 use Rattle.wordset.proofs.SetLemmas.{words_are, all_past, all_everything}
 use Rattle.domain.specs.Statements.{TrackedCell, cell_at}
 use Rattle.domain.specs.Meaning.{offsets_of}
+use Rattle.certificate.specs.Reading.{Each, RegistersEnd, SetsEnd}
+use Rattle.certificate.specs.Found.{OffsetsEnd}
 use Rattle.certificate.specs.declared.packed.Run.{Run}
 use Rattle.certificate.specs.declared.packed.Counts.{Counts}
 use Rattle.certificate.specs.declared.packed.PackedRegisters.{PackedRegisters}
@@ -19,7 +21,6 @@ use Rattle.certificate.specs.declared.packed.PackedLine.{PackedLine}
 use Rattle.certificate.specs.declared.packed.PackedLine.TheVariants as packed
 use Rattle.certificate.specs.declared.packed.KeptLine.{KeptLine}
 use Rattle.certificate.specs.Spelling.{Line, Registers as SaidRegisters, RoutineIs, FactIs, ExitIs, CellIs}
-use Rattle.certificate.specs.Line.{RegistersEnd, SetsEnd}
 use Rattle.certificate.specs.Packed.{Begins, joined, set_of_runs, added, set_at, one_at, other_at, registers_at, said_at, kept_at, lines_in, AreWithin, LiesWithin, IsKept, AreLaid, IsPacked, HasEight}
 
 -- A run more.
@@ -81,6 +82,18 @@ said_end runs (packed.Exit e o r) h = registers_end runs r
 said_end runs (packed.Cell a n) h = λ v h. runs_past _ v h
 said_end runs (packed.Equation e) h = tt
 said_end runs packed.End h = tt
+
+eight_of : (runs : List Run) (l : PackedLine) → OffsetsEnd (said_at runs l) → HasEight l
+eight_of runs (packed.Routine r) h = tt
+eight_of runs (packed.Fact a r o) h = h
+eight_of runs (packed.Exit e o r) h = tt
+eight_of runs (packed.Cell a n) h = tt
+eight_of runs (packed.Equation e) h = tt
+eight_of runs packed.End h = tt
+
+pub sets_end : (runs : List Run) (ls : List KeptLine) → Each OffsetsEnd (lines_in runs ls) → Each SetsEnd (lines_in runs ls)
+sets_end runs [] h = tt
+sets_end runs (k ∷ ls) h = (said_end (drop k.first runs) k.line (eight_of (drop k.first runs) k.line h.0), sets_end runs ls h.1)
 
 pub runs_within : (rs : List Run) (v : ℕ) → v < 4096 → joined nothing rs v ≡ set_of_runs rs v
 unfolding set_of_runs

@@ -8,13 +8,14 @@ use Rattle.certificate.specs.declared.CertificateFault.{CertificateFault}
 use Rattle.certificate.specs.declared.CertificateFault.TheVariants as faults
 use Rattle.certificate.specs.declared.progress.Progress.{Progress}
 use Rattle.certificate.specs.declared.parser.Parser.{Parser}
-use Rattle.certificate.specs.Spelling.{Lines, version_text, Line, End, line_text}
+use Rattle.certificate.specs.Spelling.{Lines, version_text, Line, FactIs, End, line_text}
+use Rattle.certificate.specs.Reading.{Each, SetsEnd}
 use Rattle.certificate.specs.LineOf.{line_of}
 use Rattle.certificate.specs.Order.{any, is_end, may_stand, AreInOrder, front, oldest}
 use Rattle.certificate.specs.Progress.{Tracks, Continues}
 use Rattle.certificate.specs.Gathered.{gathered}
 use Rattle.certificate.specs.Packed.{Packed, said_lines}
-use Rattle.certificate.specs.Found.{newest_first, Keeps, IsWhole, unended}
+use Rattle.certificate.specs.Found.{newest_first, Keeps, OffsetsEnd, IsWhole, unended}
 use Rattle.certificate.specs.Faults.{most_bytes, Place, Start, After, Failed, taken, at_last, answer_from, pieces, reading, AsksForMemory}
 use Rattle.certificate.specs.Serving.{Settles}
 use Rattle.certificate.specs.Kept.{Kept as KeptCertificate}
@@ -22,7 +23,7 @@ use Rattle.certificate.specs.Parser.{NoFeed, Reached, HasRead, WasRead, Parts, S
 use Rattle.certificate.proofs.LengthLemmas.{line_short, no_feed_both}
 use Rattle.certificate.proofs.LineOfLemmas.{no_line_of}
 use Rattle.certificate.proofs.TextAnswerLemmas as answer
-use Rattle.certificate.proofs.TextAnswerLemmas.{bad_line, no_version, front_on, end_on, few_read, end_read, oldest_newest, fault_of_bytes, asks}
+use Rattle.certificate.proofs.TextAnswerLemmas.{bad_line, no_version, front_on, end_on, few_read, end_read, each_oldest, oldest_newest, fault_of_bytes, asks}
 use Rattle.certificate.proofs.FoundLemmas.{not_end, whole}
 use Rattle.certificate.proofs.MakerLemmas.{gathered_end}
 
@@ -293,6 +294,17 @@ cut kept text line bytes long o p n is h few number lacks =
 pub not_empty : (line : List ℕ) → false ≡ (length line == 0) → line ≡ [] → ⊥
 not_empty line e f = true≢false (sym (eq-eqb (length line) 0 (ap length f)) ∙ sym e)
 
+-- The lines before the end have no larger numbers in their sets, and so none in their offsets.
+open_ends : (before : List Line) → Each SetsEnd before → Each SetsEnd (unended before)
+open_ends [] h = tt
+open_ends (End ∷ ls) h = h.1
+open_ends (l ∷ ls) h = h
+
+offsets_end : (ls : List Line) → Each SetsEnd ls → Each OffsetsEnd ls
+offsets_end [] h = tt
+offsets_end (FactIs a r o ∷ ls) h = (h.0.1, offsets_end ls h.1)
+offsets_end (l ∷ ls) h = (tt, offsets_end ls h.1)
+
 -- The certificate that is kept.
 pub whole_kept : (kept : Packed) (text : List ℕ) (o : Option Progress) (p : Progress) → o ≡ Some p → HasRead o text kept → p.ended ≡ true →
     IsWhole p.version kept
@@ -300,6 +312,8 @@ whole_kept kept text o p is h done =
     let g : Reached p text kept = let z : HasRead (Some p) text kept = rw is at h in z in
     let e : Ended p.version g.before = ended_last p.version g.before g.order (sym g.tracks.others.ended ∙ done) in
     whole p.version kept (rw g.keeps e.order) (rw g.keeps e.no_end)
+    (subst (λ (x : List Line). Each OffsetsEnd x) (ap oldest (sym g.keeps) ∙ oldest_newest [] (said_lines kept))
+    (offsets_end (oldest (unended g.before)) (each_oldest (unended g.before) (open_ends g.before g.end))))
 
 pub whole_parsed : (kept : Packed) (text line bytes : List ℕ) (o : Option Progress) (p : Progress) (long : Bool) → o ≡ Some p → p.ended ≡ true →
     IsWhole p.version kept → Parts text kept o line long bytes → long ≡ false → line ≡ [] → length bytes ≤ most_bytes →

@@ -14,8 +14,8 @@ use Rattle.certificate.specs.declared.Version.TheVariants.{One, Two}
 use Rattle.certificate.specs.declared.CertificateFault.{CertificateFault}
 use Rattle.certificate.specs.declared.CertificateFault.TheVariants as faults
 use Rattle.certificate.specs.Spelling.{Lines, version_text, text, Line, RoutineIs, FactIs, ExitIs, CellIs, EquationIs, End, line_text, lines_of, ended}
-use Rattle.certificate.specs.Reading.{Each, AreLines}
-use Rattle.certificate.specs.Line.{IsLine, SetsEnd, AllSetsEnd}
+use Rattle.certificate.specs.Reading.{Each, AreLines, SetsEnd}
+use Rattle.certificate.specs.Line.{IsLine}
 use Rattle.certificate.specs.Order.{any, is_end, may_stand, comes_in_order, has_room, next_place, fellows, place, InOrder, HasRoom, IsNext, Spells, AreInOrder, front, oldest}
 use Rattle.certificate.specs.Gathered.{gathered}
 use Rattle.certificate.specs.Found.{newest_first}
@@ -25,7 +25,7 @@ use Rattle.certificate.specs.Serving.{Settles, is_of_bytes}
 use Rattle.certificate.specs.Parser.{NoFeed}
 use Rattle.certificate.specs.Exact.{SpellingLaw, ReadingLaw, IsTextOf}
 use Rattle.certificate.proofs.TextLemmas.{front_newest, seam, each_append}
-use Rattle.certificate.proofs.TextOrderLemmas.{all_after}
+use Rattle.certificate.proofs.TextOrderLemmas.{with_ends, all_after}
 use Rattle.certificate.proofs.GatherLemmas.{newest_oldest, gathered_lines, lines_set_out, text_of_gathered}
 use Rattle.certificate.proofs.FormLemmas.{gathered_formed}
 use Rattle.certificate.proofs.LengthLemmas.{line_feed, version_feed}
@@ -167,13 +167,13 @@ oldest_newest before (l ∷ ls) = oldest_newest (l ∷ before) ls ∙ append_ass
 pub end_read : (v : Version) (before : List Line) → any is_end before ≡ true → at_last false (After v before) [] ≡ Ok (gathered v (oldest before))
 end_read v before e = rw e refl
 
-text_read : (c : Lines) → AreLines c → AllSetsEnd c → answer_from false Start (pieces (text c)) ≡ Ok c
-text_read c h ends =
+text_read : (c : Lines) → AreLines c → answer_from false Start (pieces (text c)) ≡ Ok c
+text_read c h =
     let before : List Line = newest_first [] (lines_of c) in
     let o = all_after c h in
     let is : text c ≡ front c.version before ++ [] = sym (front_newest c.version [] (lines_of c)) ∙ sym (append-nil (front c.version before)) in
     ap (λ (x : List ℕ). answer_from false Start (pieces x)) is ∙
-    (front_on false c.version before [] o.0 (each_newest [] (lines_of c) tt ends) ∙
+    (front_on false c.version before [] o.0 (each_newest [] (lines_of c) tt h.ends) ∙
     (end_read c.version before o.1 ∙ ap (λ (x : Lines). Ok x) (ap (gathered c.version) (oldest_newest [] (lines_of c)) ∙ gathered_lines c)))
 
 -- What is read as a certificate is its text.
@@ -297,7 +297,7 @@ none_long p (x ∷ []) c e = last p e
     last (Failed f) e = absurd (cc)
 none_long p (x ∷ y ∷ ps) c e = none_long (taken p x) (y ∷ ps) c e
 
-each_oldest : (ls : List Line) → Each SetsEnd ls → Each SetsEnd (oldest ls)
+pub each_oldest : (ls : List Line) → Each SetsEnd ls → Each SetsEnd (oldest ls)
 each_oldest [] h = tt
 each_oldest (l ∷ ls) h = each_append SetsEnd (oldest ls) (l ∷ []) (each_oldest ls h.1) (h.0, tt)
 
@@ -306,8 +306,8 @@ read_text bytes c few r =
     let back : newest_first [] (oldest r.all) ≡ r.all = newest_oldest r.all in
     let lines : oldest r.all ≡ lines_of (gathered r.version (oldest r.all)) = lines_set_out r.version (oldest r.all) (rw back r.order) (rw back r.has_end) in
     subst (λ (x : Lines). IsTextOf bytes x) r.is (record {
-      form = gathered_formed r.version (oldest r.all) (rw back r.order);
-      end = subst (λ (x : List Line). Each SetsEnd x) lines (each_oldest r.all r.ends);
+      form = with_ends (gathered r.version (oldest r.all)) (gathered_formed r.version (oldest r.all) (rw back r.order))
+          (subst (λ (x : List Line). Each SetsEnd x) lines (each_oldest r.all r.ends));
       text = r.text ∙ (ap (front r.version) (sym back) ∙ sym (text_of_gathered r.version (oldest r.all) (rw back r.order) (rw back r.has_end)));
       few = few;
     })
@@ -425,9 +425,9 @@ asks v l before bytes rest h e grows is few = record {
 }
 
 -- The laws.
-lines_one : (c d : Lines) → AreLines c → AllSetsEnd c → AreLines d → AllSetsEnd d → text c ≡ text d → c ≡ d
-lines_one c d f g h k e =
-    let z : Ok c ≡ Ok d = sym (text_read c f g) ∙ (ap (λ (x : List ℕ). answer_from false Start (pieces x)) e ∙ text_read d h k) in cc
+lines_one : (c d : Lines) → AreLines c → AreLines d → text c ≡ text d → c ≡ d
+lines_one c d f g e =
+    let z : Ok c ≡ Ok d = sym (text_read c f) ∙ (ap (λ (x : List ℕ). answer_from false Start (pieces x)) e ∙ text_read d g) in cc
 
 pub spelling_law : SpellingLaw
 spelling_law = record {
@@ -438,7 +438,7 @@ spelling_law = record {
 
 pub reading_law : ReadingLaw
 reading_law = record {
-  text = λ c h e few. few_read (text c) few ∙ text_read c h e;
+  text = λ c h few. few_read (text c) few ∙ text_read c h;
   lines = text_of_read;
   fault = fault_of_bytes;
 }

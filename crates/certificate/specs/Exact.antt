@@ -6,8 +6,8 @@ use Rattle.certificate.specs.declared.Version.{Version}
 use Rattle.certificate.specs.declared.CertificateFault.{CertificateFault}
 use Rattle.certificate.specs.Spelling.{Lines, text, Line, line_text}
 use Rattle.certificate.specs.Certificate.{Certificate}
-use Rattle.certificate.specs.Reading.{AreLines}
-use Rattle.certificate.specs.Line.{IsLine, SetsEnd, AllSetsEnd}
+use Rattle.certificate.specs.Reading.{AreLines, SetsEnd}
+use Rattle.certificate.specs.Line.{IsLine}
 use Rattle.certificate.specs.LineOf.{line_of}
 use Rattle.certificate.specs.Faults.{most_bytes, reading}
 use Rattle.certificate.specs.Serving.{is_of_bytes}
@@ -34,18 +34,17 @@ pub record IsLineOf (v : Version) (bytes : List ℕ) (l : Line) : Type 0 where
 pub record SpellingLaw : Type 0 where
   pub line : (v : Version) (l : Line) → IsLine v l → SetsEnd l → line_of v (line_text v l) ≡ Some l
   pub spelled : (v : Version) (bytes : List ℕ) (l : Line) → line_of v bytes ≡ Some l → IsLineOf v bytes l
-  pub lines : (c d : Lines) → AreLines c → AllSetsEnd c → AreLines d → AllSetsEnd d → text c ≡ text d → c ≡ d
+  pub lines : (c d : Lines) → AreLines c → AreLines d → text c ≡ text d → c ≡ d
 
 -- The bytes are the text of this certificate, whose lines are of their form, and there aren't more than are read.
 pub record IsTextOf (bytes : List ℕ) (c : Lines) : Type 0 where
   pub form : AreLines c
-  pub end : AllSetsEnd c
   pub text : bytes ≡ text c
   pub few : length bytes ≤ most_bytes
 
 -- The text of a certificate is read as the certificate, unless it's longer than what is read; a text that is read as a certificate is
 -- its text; and no text has a fault that isn't of its bytes.
 pub record ReadingLaw : Type 0 where
-  pub text : (c : Lines) → AreLines c → AllSetsEnd c → length (text c) ≤ most_bytes → reading (text c) ≡ Ok c
+  pub text : (c : Lines) → AreLines c → length (text c) ≤ most_bytes → reading (text c) ≡ Ok c
   pub lines : (bytes : List ℕ) (c : Lines) → reading bytes ≡ Ok c → IsTextOf bytes c
   pub fault : (bytes : List ℕ) (f : CertificateFault) → reading bytes ≡ Err f → is_of_bytes f ≡ true

@@ -3,6 +3,7 @@ use Rattle.std.specs.Prelude.{◌≡◌, ℕ, ◌+◌, ◌-◌, ◌<◌, ◌≤�
 use Rattle.wordset.specs.Words.{Words, all_words, nothing, between, union, meet}
 use Rattle.wordset.specs.Links.{links_of}
 use Rattle.domain.specs.Meaning.{offsets_of, equation_of}
+use Rattle.certificate.specs.Reading.{EndsBefore}
 use Rattle.certificate.specs.declared.packed.Run.{Run}
 use Rattle.certificate.specs.declared.packed.Counts.{Counts}
 use Rattle.certificate.specs.declared.packed.PackedRoutine.{PackedRoutine}
@@ -10,7 +11,6 @@ use Rattle.certificate.specs.declared.packed.PackedRegisters.{PackedRegisters}
 use Rattle.certificate.specs.declared.packed.PackedLine.{PackedLine}
 use Rattle.certificate.specs.declared.packed.PackedLine.TheVariants as packed
 use Rattle.certificate.specs.declared.packed.KeptLine.{KeptLine}
-use Rattle.certificate.specs.Line.{EndsBefore}
 use Rattle.certificate.specs.Spelling.{RoutineLine, Line, Registers, RoutineIs, FactIs, ExitIs, CellIs, EquationIs, End}
 
 -- The list begins with another.

@@ -6,8 +6,7 @@ use Rattle.certificate.specs.declared.CertificateFault.TheVariants.{NoMemory, Re
 use Rattle.certificate.specs.declared.progress.Progress.{Progress}
 use Rattle.certificate.specs.declared.parser.Parser.{Parser}
 use Rattle.certificate.specs.Spelling.{Line}
-use Rattle.certificate.specs.Reading.{Each}
-use Rattle.certificate.specs.Line.{SetsEnd}
+use Rattle.certificate.specs.Reading.{Each, SetsEnd}
 use Rattle.certificate.specs.Order.{AreInOrder, front}
 use Rattle.certificate.specs.Progress.{Tracks}
 use Rattle.certificate.specs.Faults.{reading, AsksForMemory, most_bytes}

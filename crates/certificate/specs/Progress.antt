@@ -1,5 +1,6 @@
 -- What is kept of the lines that were read; it serves private contracts.
 use Rattle.std.specs.Prelude.{◌≡◌, ℕ, ◌+◌, ◌<◌, List, ◌∷◌, length, Result, Ok, Err}
+use Rattle.certificate.specs.Reading.{SetsEnd}
 use Rattle.certificate.specs.declared.CertificateFault.{CertificateFault}
 use Rattle.certificate.specs.declared.Version.{Version}
 use Rattle.certificate.specs.declared.packed.Run.{Run}
@@ -8,7 +9,6 @@ use Rattle.certificate.specs.declared.progress.Progress.{Progress}
 use Rattle.certificate.specs.Spelling.{Line, RoutineIs, FactIs, ExitIs, CellIs, EquationIs, End}
 use Rattle.certificate.specs.Order.{any, how_many, is_end, has_details, is_routine, is_cell, is_equation, heads, details_of_last, next_place, Spells, IsNext}
 use Rattle.certificate.specs.Faults.{After, Failed, taken}
-use Rattle.certificate.specs.Line.{SetsEnd}
 use Rattle.certificate.specs.Packed.{said_at}
 
 -- What is kept is that of these lines; their number apart.

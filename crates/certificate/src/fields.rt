@@ -8,8 +8,7 @@ ghost use Rattle.wordset.specs.Links.{links_of};
 ghost use Rattle.domain.specs.Facts.{Location as Named};
 ghost use Rattle.domain.specs.Meaning.{location_of, offsets_of};
 ghost use Rattle.certificate.specs.Spelling.{marks, set_text, digits, offsets_text, name_text, rank_text};
-ghost use Rattle.certificate.specs.Reading.{place_of_name};
-ghost use Rattle.certificate.specs.Line.{EndsBefore};
+ghost use Rattle.certificate.specs.Reading.{place_of_name, EndsBefore};
 ghost use Rattle.certificate.specs.Packed.{Begins, added};
 ghost use Rattle.certificate.specs.Fields.{left, WasFirst, run_text, NoDash, EndsField};
 

@@ -105,7 +105,7 @@ module _ (i i' : Image) (d d' : Declaration) (c e : Certificate) (at : i ≡ i')
 
 -- ---- so whatever parts the bytes have, the same holds of them
 
-claims_itself : (c : Certificate) → SameCertificate c c
+pub claims_itself : (c : Certificate) → SameCertificate c c
 claims_itself c = record {
   listed = λ e. refl;
   rank = λ e. refl;

@@ -10,6 +10,7 @@ pub mod fault;
 mod front;
 pub mod laws;
 mod listing;
+pub mod map;
 pub mod number;
 pub mod program;
 mod reading;
@@ -19,5 +20,6 @@ pub mod translation;
 
 pub use fault::{AssembleFault, PalFault, WriteFault};
 pub use pal_acts::{Code, SymbolTable};
+pub use map::{MappedLine, SourceMap, map_source};
 pub use program::{Program, assemble};
 pub use translation::{Translation, translate};

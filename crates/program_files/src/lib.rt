@@ -7,5 +7,6 @@ pub mod faults;
 pub mod files;
 pub mod saving;
 pub mod source_faults;
+pub mod stuck;
 pub mod tellers;
 pub mod telling;

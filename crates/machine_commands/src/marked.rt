@@ -50,6 +50,7 @@ pub fn watch_marked<A: Allocator + Copy, D: Allocator>(
 }
 
 /// What is told of a list of events, explained, by what there was to come.
+#[inline(never)]
 fn watch_offered<A: Allocator + Copy, D: Allocator>(
     alloc: A,
     image: &Image,
@@ -76,6 +77,7 @@ fn watch_offered<A: Allocator + Copy, D: Allocator>(
 }
 
 /// What `watch` tells of a run with an operator, explained, by the frames in the reader and the keys to strike.
+#[inline(never)]
 pub fn watch_session_marked<A: Allocator + Copy, D: Allocator>(
     alloc: A,
     image: &Image,
@@ -114,6 +116,7 @@ pub fn watch_session_marked<A: Allocator + Copy, D: Allocator>(
 }
 
 /// What `refute` finds and tells, explained.
+#[inline(never)]
 pub fn refute_marked<A: Allocator + Copy, D: Allocator>(
     alloc: A,
     image: &Image,

@@ -127,6 +127,7 @@ fn map_of<A: Allocator + Copy>(
 }
 
 /// What a source means that was read.
+#[inline(never)]
 fn map_reading<A: Allocator + Copy>(
     alloc: A,
     reading: &Reading<'_, A>,
@@ -164,6 +165,7 @@ fn map_parts<A: Allocator + Copy>(
 /// # Errors
 ///
 /// As of `assemble`.
+#[inline(never)]
 pub fn map_source<A: Allocator + Copy>(
     alloc: A,
     parts: &[&[u8]],

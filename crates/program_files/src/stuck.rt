@@ -1,12 +1,8 @@
 //! What is told of a search for a certificate that is stuck. It is tested and not proved.
 
-ghost use Rattle.std.specs.Prelude.{◌≡◌, false};
-
-use analyser::{Attempt, guess_or_draft};
 use bin_tape::Image;
 use bound_texts::push_bound;
 use certificate::Certificate;
-use command_parts::inputs::{declaration_from, tape_from};
 use command_parts::message::{Lines, Message};
 use command_parts::status::Fault;
 use declaration::Declaration;
@@ -15,43 +11,8 @@ use search_commands::marked::MarkedAnswer;
 use search_commands::verifying::{Answer, Lack, draft_lines};
 use std::alloc::{AllocError, Global};
 use std::fmt::Write;
-use streams::ByteSource;
 use turns::GuessFault;
 use word12::Word;
-
-/// A program and its declaration, and what a search for a certificate came to.
-#[derive(Drop)]
-pub struct Sought {
-    /// The words of the program.
-    pub image: Image,
-    /// Its declaration.
-    pub declaration: Declaration<Global>,
-    /// What the search came to.
-    pub attempt: Attempt<Global>,
-}
-
-/// Reads a tape and then a declaration, and looks for a certificate.
-///
-/// # Errors
-///
-/// The fault of the tape or of the declaration; `Guess` where there is neither a certificate nor a draft; `NoMemory`.
-pub fn seek<T: ByteSource, D: ByteSource>(
-    alloc: Global,
-    tape: &mut T,
-    declaration: &mut D,
-) -> Result<Sought, Fault>
-    requires readable { T.mark tape.old ≡ false }
-    requires declaration_readable { D.mark declaration.old ≡ false }
-{
-    let image = tape_from(tape)?;
-    let declaration = declaration_from(alloc, declaration)?;
-    let attempt = guess_or_draft(alloc, &image, &declaration)?;
-    Ok(Sought {
-        image,
-        declaration,
-        attempt,
-    })
-}
 
 /// A search that is stuck: the program, where it is stuck, and what it had found.
 #[derive(Clone, Copy)]
@@ -68,6 +29,7 @@ pub struct Stuck<'x> {
 
 /// Adds the lines that say why a search is stuck, between what the tape and the declaration show by themselves,
 /// and what to do and what the draft tells of the pointer there.
+#[inline(never)]
 pub fn push_stuck(
     alloc: Global,
     told: &mut Message<Global>,
@@ -95,6 +57,7 @@ fn stuck_line(alloc: Global, at: Word) -> Result<Message<Global>, AllocError> {
 }
 
 /// What is told of a search that is stuck; of standard input and of pipes its line, and why it is stuck, are all.
+#[inline(never)]
 pub fn stuck_message(
     alloc: Global,
     stuck: &Stuck<'_>,
@@ -111,6 +74,7 @@ pub fn stuck_message(
 }
 
 /// What is told of an answer: its line, and why; where the search is stuck with all that is known of that.
+#[inline(never)]
 pub fn answer_message(
     alloc: Global,
     image: &Image,

@@ -1,7 +1,9 @@
 //! Whether a program keeps its declaration, and why, with the addresses of what is told marked, for whoever has the
 //! program's source. The answers are proved as those of `verify` are; the lines that say why are tested.
 
-ghost use Rattle.std.specs.Prelude.{◌≡◌, IfOk};
+ghost use Rattle.std.specs.Prelude.{◌≡◌, false, IfOk};
+ghost use Rattle.analyser.specs.Attempts.{IsAcceptedIfFound};
+ghost use Rattle.command_parts.specs.Inputs.{HasDeclaration, HasImage};
 ghost use Rattle.declaration.specs.Kept.{meaning};
 ghost use Rattle.search_commands.specs.VerifyText.{IsAnswer, answer_text};
 
@@ -12,12 +14,55 @@ use crate::verifying::{
 use analyser::{Attempt, guess_or_draft};
 use bin_tape::Image;
 use certificate::Certificate;
+use command_parts::inputs::{declaration_from, tape_from};
 use command_parts::message::Message;
 use command_parts::status::Fault;
 use declaration::Declaration;
 use proposer::{Proposal, propose};
 use std::alloc::Allocator;
+use streams::ByteSource;
 use turns::Turns;
+
+/// A program and its declaration, and what a search for a certificate came to.
+#[derive(Drop)]
+pub struct Sought<A: Allocator> {
+    /// The words of the program.
+    pub image: Image,
+    /// Its declaration.
+    pub declaration: Declaration<A>,
+    /// What the search came to.
+    pub attempt: Attempt<A>,
+}
+
+/// Reads a tape and then a declaration, and looks for a certificate as `guess` does.
+///
+/// # Errors
+///
+/// The fault of the tape or of the declaration; `Guess` where there is neither a certificate nor a draft; `NoMemory`.
+#[inline(never)]
+pub fn seek<A: Allocator + Copy, T: ByteSource, D: ByteSource>(
+    alloc: A,
+    tape: &mut T,
+    declaration: &mut D,
+) -> Result<Sought<A>, Fault>
+    requires readable { T.mark tape.old ≡ false }
+    requires declaration_readable { D.mark declaration.old ≡ false }
+    // The judge accepts what is found, for the words of the tape and the declaration that were read.
+    ensures tape { IfOk result (λ sought. HasImage (T.remaining tape.old) sought.image) }
+    ensures declares { IfOk result (λ sought.
+        HasDeclaration (D.remaining declaration.old) (meaning sought.declaration)) }
+    ensures accepted { IfOk result (λ sought.
+        IsAcceptedIfFound sought.image sought.declaration sought.attempt) }
+{
+    let image = tape_from(tape)?;
+    let promised = declaration_from(alloc, declaration)?;
+    let attempt = guess_or_draft(alloc, &image, &promised)?;
+    Ok(Sought {
+        image,
+        declaration: promised,
+        attempt,
+    })
+}
 
 /// An answer, its line, and why.
 #[derive(Drop)]
@@ -61,6 +106,7 @@ fn why_of<A: Allocator + Copy, D: Allocator>(
 }
 
 /// An answer with its line, and why.
+#[inline(never)]
 fn marked<A: Allocator + Copy, D: Allocator>(
     alloc: A,
     image: &Image,
@@ -87,6 +133,7 @@ fn marked<A: Allocator + Copy, D: Allocator>(
 /// # Errors
 ///
 /// `NoMemory`.
+#[inline(never)]
 pub fn verify_marked<A: Allocator + Copy, D: Allocator>(
     alloc: A,
     image: &Image,
@@ -119,6 +166,7 @@ pub fn verify_marked<A: Allocator + Copy, D: Allocator>(
 /// # Errors
 ///
 /// `Declare` where what is found can't be declared; `NoMemory`.
+#[inline(never)]
 pub fn verify_proposed_marked<A: Allocator + Copy>(
     alloc: A,
     image: &Image,

@@ -40,6 +40,7 @@ impl AssembledSource<'_> {
 }
 
 /// What a source means, or its fault.
+#[inline(never)]
 fn map_of(
     alloc: Global,
     parts: &[&[u8]],
@@ -102,6 +103,7 @@ fn numbers_of(
 /// # Errors
 ///
 /// `Numbering` as of `number`; `Command` where memory was refused.
+#[inline(never)]
 pub fn assembled<'x>(
     alloc: Global,
     given: &SourceText<'x>,

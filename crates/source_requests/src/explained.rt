@@ -29,6 +29,7 @@ use verdict_texts::marked::check_marked;
 use wordset::WordSet;
 
 /// Writes to standard output what is told, with what the source says of its addresses.
+#[inline(never)]
 fn tell_sourced<R: Print>(
     rt: &R,
     alloc: Global,
@@ -164,6 +165,7 @@ pub fn guess_with_draft<R: Files + Print + Eprint>(
 }
 
 /// Tells on standard error why a search is stuck, and writes a report of its draft, each if it is asked for.
+#[inline(never)]
 fn tell_stuck<R: Files + Print + Eprint>(
     rt: &R,
     alloc: Global,

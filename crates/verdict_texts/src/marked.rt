@@ -61,6 +61,7 @@ fn push_refusal<A: Allocator + Copy, D: Allocator, C: Allocator>(
 /// # Errors
 ///
 /// Memory was refused.
+#[inline(never)]
 pub fn check_marked<A: Allocator + Copy, D: Allocator, C: Allocator>(
     alloc: A,
     image: &Image,

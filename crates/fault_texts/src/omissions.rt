@@ -188,11 +188,7 @@ fn push_advice<L: Lines>(
 }
 
 /// Adds what the instruction at an address would break.
-fn push_breach<L: Lines>(
-    text: &mut L,
-    at: Word,
-    omission: &Omission,
-) -> Result<(), AllocError> {
+fn push_breach<L: Lines>(text: &mut L, at: Word, omission: &Omission) -> Result<(), AllocError> {
     match omission {
         Omission::NoWord => {
             push_around(
@@ -255,11 +251,7 @@ fn fixed_remedy(omission: &Omission) -> Option<&'static [u8]> {
 }
 
 /// Adds what to do about what is omitted at an address.
-fn push_remedy<L: Lines>(
-    text: &mut L,
-    at: Word,
-    omission: &Omission,
-) -> Result<(), AllocError> {
+fn push_remedy<L: Lines>(text: &mut L, at: Word, omission: &Omission) -> Result<(), AllocError> {
     match omission {
         Omission::Stores(cell) | Omission::Steps(cell) => {
             push_advice(text, b"add `var ", *cell, b"`")
@@ -293,11 +285,7 @@ fn push_remedy<L: Lines>(
 }
 
 /// Adds the line of what the instruction at an address would break, and what to do about it.
-fn push_omission<L: Lines>(
-    text: &mut L,
-    at: Word,
-    omission: &Omission,
-) -> Result<(), AllocError> {
+fn push_omission<L: Lines>(text: &mut L, at: Word, omission: &Omission) -> Result<(), AllocError> {
     push_breach(text, at, omission)?;
     text.push_text(b": ")?;
     push_remedy(text, at, omission)?;

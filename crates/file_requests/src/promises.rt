@@ -1,10 +1,10 @@
 //! Commands that work on a tape and its declaration, or on a certificate.
 
+use analyser::Attempt;
 use command_line::{
     CheckRequest, GuessRequest, MigrateRequest, RefuteRequest, ReportRequest, VerifyRequest,
     WatchRequest,
 };
-use analyser::Attempt;
 use command_parts::inputs::{declaration_from, tape_from};
 use command_parts::status::{Fault, Status};
 use machine_commands::refuting::refute;
@@ -21,8 +21,8 @@ use search_commands::verifying::{answer_status, verify, verify_proposed};
 use std::alloc::Global;
 use std::io;
 use std::rt::Files;
-use streams::standard::Writes;
 use streams::put;
+use streams::standard::Writes;
 use turns::GuessFault;
 use verdict_commands::checking::check;
 use verdict_commands::explaining::explain;

@@ -82,10 +82,7 @@ fn awaited(panel: &Panel, word: Word) -> &'static [u8] {
 }
 
 /// Adds where a run stands: at which HLT, or where it waits and for which device, or at which address.
-fn push_standing<L: Lines, B: Allocator>(
-    text: &mut L,
-    world: &World<B>,
-) -> Result<(), AllocError> {
+fn push_standing<L: Lines, B: Allocator>(text: &mut L, world: &World<B>) -> Result<(), AllocError> {
     if let Some(at) = world.halted_at() {
         push_text_and_address(text, b"halted at ", at)?;
         return text.push_text(b"\n");
@@ -107,11 +104,7 @@ fn push_standing<L: Lines, B: Allocator>(
 }
 
 /// Adds a name and a count.
-fn push_count<L: Lines>(
-    text: &mut L,
-    name: &[u8],
-    count: usize,
-) -> Result<(), AllocError> {
+fn push_count<L: Lines>(text: &mut L, name: &[u8], count: usize) -> Result<(), AllocError> {
     text.push_text(name)?;
     text.push_text(Buffer::new().format(count).as_bytes())
 }

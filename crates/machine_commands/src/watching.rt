@@ -13,8 +13,8 @@ ghost use Rattle.command_parts.specs.declared.status.Fault.TheVariants.{NoMemory
 use crate::progress::{Offered, offered_by, progress_lines};
 use crate::shown::shown_of;
 use bin_tape::Image;
-use command_parts::message::{Lines, Message};
 use command_parts::inputs::{declaration_from, events_from, tape_from};
+use command_parts::message::{Lines, Message};
 use command_parts::status::{Fault, Status};
 use declaration::Declaration;
 use itoa::Buffer;

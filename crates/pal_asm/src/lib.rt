@@ -19,7 +19,7 @@ mod statement;
 pub mod translation;
 
 pub use fault::{AssembleFault, PalFault, WriteFault};
-pub use pal_acts::{Code, SymbolTable};
 pub use map::{MappedLine, SourceMap, map_source};
+pub use pal_acts::{Code, SymbolTable};
 pub use program::{Program, assemble};
 pub use translation::{Translation, translate};

@@ -130,10 +130,7 @@ impl<A: Allocator> SourceNotes<A> {
         let from = self.bytes.len();
         if !self.label.is_empty() && label_at <= at {
             self.bytes.extend_from_slice(&self.label)?;
-            push_offset(
-                &mut self.bytes,
-                at.add(label_at.complement().increment()),
-            )?;
+            push_offset(&mut self.bytes, at.add(label_at.complement().increment()))?;
         }
         let found = Entry {
             label: Span {

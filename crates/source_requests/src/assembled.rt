@@ -6,8 +6,8 @@ use command_parts::inputs::declaration_from;
 use command_parts::status::Fault;
 use declaration::Declaration;
 use labels::{NumberingFault, PlaceFault, machine_of, place};
-use pal_asm::{AssembleFault, SourceMap, map_source};
 use pal_acts::{PlacedWord, SourcePlace};
+use pal_asm::{AssembleFault, SourceMap, map_source};
 use report_commands::reporting::SourceNotes;
 use source_verdicts::SourcedFault;
 use std::alloc::{AllocError, Global};
@@ -72,10 +72,7 @@ fn note_words<'w>(
 }
 
 /// What a source says of its addresses.
-fn notes_of(
-    alloc: Global,
-    map: &SourceMap<Global>,
-) -> Result<SourceNotes<Global>, AllocError> {
+fn notes_of(alloc: Global, map: &SourceMap<Global>) -> Result<SourceNotes<Global>, AllocError> {
     let mut notes = SourceNotes::new(alloc)?;
     let mut rest = map.words();
     for line in map.lines() {

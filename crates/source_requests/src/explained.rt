@@ -206,4 +206,3 @@ pub fn refute_with_reasons<R: Files + Print + Eprint>(
     put(&mut report_to(rt, out.name() == "-"), &text)?;
     Ok(found.status)
 }
-

@@ -46,13 +46,7 @@ fn push_refusal<A: Allocator + Copy, D: Allocator, C: Allocator>(
     refusal: &Refusal,
 ) -> Result<(), AllocError> {
     let reason = why(image, declaration, certificate, refusal);
-    push_why(
-        told,
-        declaration.profile(),
-        image,
-        &Err(*refusal),
-        &reason,
-    )?;
+    push_why(told, declaration.profile(), image, &Err(*refusal), &reason)?;
     told.push_text(&fact_lines(alloc, certificate, refusal.address)?)
 }
 

@@ -165,11 +165,7 @@ fn push_enters<L: Lines>(text: &mut L, landing: &Landing) -> Result<(), AllocErr
 }
 
 /// Adds why a run doesn't land after a return by an offset.
-fn push_returns<L: Lines>(
-    text: &mut L,
-    offset: usize,
-    landing: &Landing,
-) -> Result<(), AllocError>
+fn push_returns<L: Lines>(text: &mut L, offset: usize, landing: &Landing) -> Result<(), AllocError>
     ensures { OnOk result (L.text text.new ≡ L.text text.old
         ++ (around_number (codes ", which returns by offset ") offset (codes ": ")
         ++ landing_text landing.now)) }
@@ -204,12 +200,8 @@ fn push_call<L: Lines>(text: &mut L, breach: &CallBreach) -> Result<(), AllocErr
         CallBreach::EntryNotWritten => {
             text.push_text(b", which the caller's written set doesn't have")
         }
-        CallBreach::WritesCaller => {
-            text.push_text(b", which may write the caller's entry")
-        }
-        CallBreach::NoSite => {
-            text.push_text(b", and the address isn't one of its sites")
-        }
+        CallBreach::WritesCaller => { text.push_text(b", which may write the caller's entry") }
+        CallBreach::NoSite => { text.push_text(b", and the address isn't one of its sites") }
         CallBreach::TooHigh => text.push_text(b", from an address past 7767"),
         CallBreach::Enters(landing) => push_enters(text, landing),
         CallBreach::Returns(offset, landing) => push_returns(text, *offset, landing),
@@ -237,11 +229,7 @@ fn push_return<L: Lines>(text: &mut L, breach: &ReturnBreach) -> Result<(), Allo
 }
 
 /// Adds a cell that may be written, and what is wrong with that.
-fn push_write<L: Lines>(
-    text: &mut L,
-    cell: Word,
-    wrong: &[u8],
-) -> Result<(), AllocError>
+fn push_write<L: Lines>(text: &mut L, cell: Word, wrong: &[u8]) -> Result<(), AllocError>
     ensures { OnOk result
         (L.text text.new ≡ L.text text.old ++ around (codes "it may write ") cell wrong.now) }
 {
@@ -261,12 +249,8 @@ fn push_breach<L: Lines>(text: &mut L, breach: &Breach) -> Result<(), AllocError
         Breach::WritesUnlisted(cell) => {
             push_write(text, *cell, b", which isn't in the routine's written set")
         }
-        Breach::HaltsUndeclared => {
-            text.push_text(b"it halts, and no halt is declared there")
-        }
-        Breach::CallsThroughIndex => {
-            text.push_text(b"it calls through an auto-index cell")
-        }
+        Breach::HaltsUndeclared => { text.push_text(b"it halts, and no halt is declared there") }
+        Breach::CallsThroughIndex => { text.push_text(b"it calls through an auto-index cell") }
         Breach::Calls(entry, call) => {
             push_text_and_address(text, b"it calls ", *entry)?;
             push_call(text, call)
@@ -302,9 +286,7 @@ fn push_reason<L: Lines>(text: &mut L, reason: &Reason) -> Result<(), AllocError
         Reason::LineAtNoEntry => text.push_text(
             b"a routine or exit line names the address, which isn't an entry",
         ),
-        Reason::InNoBody => {
-            text.push_text(b"a fact is there, and the address is in no body")
-        }
+        Reason::InNoBody => { text.push_text(b"a fact is there, and the address is in no body") }
         Reason::OffsetInMain(offset) => push_around_number(
             text,
             b"the fact is in main's body, and has the offset ",
@@ -331,10 +313,7 @@ fn push_reason<L: Lines>(text: &mut L, reason: &Reason) -> Result<(), AllocError
 }
 
 /// Adds the line of a reason, if there is one.
-fn push_reason_line<L: Lines>(
-    text: &mut L,
-    reason: &Option<Reason>,
-) -> Result<(), AllocError>
+fn push_reason_line<L: Lines>(text: &mut L, reason: &Option<Reason>) -> Result<(), AllocError>
     ensures { OnOk result (L.text text.new ≡ L.text text.old ++ reason_line reason.now) }
 {
     let Some(reason) = reason else {

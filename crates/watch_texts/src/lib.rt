@@ -105,10 +105,7 @@ fn push_variable_advice<L: Lines, D: Allocator>(
 }
 
 /// Adds the line of the pointer from which an address comes, if the reference is indirect.
-fn push_pointer<L: Lines>(
-    text: &mut L,
-    reference: &Reference,
-) -> Result<(), AllocError> {
+fn push_pointer<L: Lines>(text: &mut L, reference: &Reference) -> Result<(), AllocError> {
     if !reference.indirect {
         return Ok(());
     }
@@ -278,11 +275,7 @@ fn push_outside<L: Lines, D: Allocator>(
 }
 
 /// Adds what to declare of an address that is in no body, if it is code of the running routine.
-fn push_body_advice<L: Lines>(
-    text: &mut L,
-    calls: &[Call],
-    at: Word,
-) -> Result<(), AllocError> {
+fn push_body_advice<L: Lines>(text: &mut L, calls: &[Call], at: Word) -> Result<(), AllocError> {
     text.push_text(b"; if it belongs there, add ")?;
     match calls.last() {
         None => push_advice(text, b"`main ", at, b"`"),

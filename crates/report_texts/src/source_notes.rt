@@ -15,8 +15,18 @@ struct Span {
 struct Entry {
     label: Span,
     line: usize,
+    place: LinePlace,
     text: Span,
     is_first: bool,
+}
+
+/// Where a line of a source stands: its part, and the line in it, each from 1.
+#[derive(Clone, Copy, PartialEq, Eq, Debug)]
+pub struct LinePlace {
+    /// The number of the part.
+    pub part: usize,
+    /// The number of the line in the part.
+    pub line: usize,
 }
 
 /// What a source says of an address.
@@ -27,6 +37,8 @@ pub struct SourceNote<'n> {
     pub label: &'n [u8],
     /// The number of the line, from 1, counted over all parts.
     pub line: usize,
+    /// Its part, and its number there.
+    pub place: LinePlace,
     /// The line's text.
     pub text: &'n [u8],
     /// Whether the word is the first one of its line.
@@ -39,8 +51,9 @@ pub struct SourceNotes<A: Allocator> {
     bytes: Vec<u8, A>,
     /// One for each address.
     entries: Vec<Option<Entry>, A>,
-    /// The last line: its number, its text, and whether a word of it was noted.
+    /// The last line: its number, its place, its text, and whether a word of it was noted.
     line: usize,
+    place: LinePlace,
     text: Span,
     has_word: bool,
     /// The last label, and its address as soon as a word stands there.
@@ -87,6 +100,7 @@ impl<A: Allocator + Copy> SourceNotes<A> {
             bytes: Vec::new(alloc),
             entries: Vec::from_elem(alloc, None, 4096)?,
             line: 0,
+            place: LinePlace { part: 1, line: 0 },
             text: Span { from: 0, to: 0 },
             has_word: false,
             label: Vec::new(alloc),
@@ -96,15 +110,16 @@ impl<A: Allocator + Copy> SourceNotes<A> {
 }
 
 impl<A: Allocator> SourceNotes<A> {
-    /// Goes on to the next line, with its text.
+    /// Goes on to the next line, with its place and its text.
     ///
     /// # Errors
     ///
     /// Memory was refused.
-    pub fn next_line(&mut self, text: &[u8]) -> Result<(), AllocError> {
+    pub fn next_line(&mut self, place: LinePlace, text: &[u8]) -> Result<(), AllocError> {
         let from = self.bytes.len();
         self.bytes.extend_from_slice(text)?;
         self.line = self.line.saturating_add(1);
+        self.place = place;
         self.text = Span {
             from,
             to: self.bytes.len(),
@@ -138,6 +153,7 @@ impl<A: Allocator> SourceNotes<A> {
                 to: self.bytes.len(),
             },
             line: self.line,
+            place: self.place,
             text: self.text,
             is_first: !self.has_word,
         };
@@ -157,6 +173,7 @@ impl<A: Allocator> SourceNotes<A> {
                 .get(entry.label.from..entry.label.to)
                 .unwrap_or(b""),
             line: entry.line,
+            place: entry.place,
             text: self
                 .bytes
                 .get(entry.text.from..entry.text.to)

@@ -1,14 +1,13 @@
 //! A source that was assembled, and its declaration in numbers. What the source says of its addresses comes with it.
 
 use crate::programs::SourceText;
-use crate::spots::line_counts;
 use command_parts::inputs::declaration_from;
 use command_parts::status::Fault;
 use declaration::Declaration;
 use labels::{NumberingFault, PlaceFault, machine_of, place};
 use pal_acts::{PlacedWord, SourcePlace};
 use pal_asm::{AssembleFault, SourceMap, map_source};
-use report_commands::reporting::SourceNotes;
+use report_commands::reporting::{LinePlace, SourceNotes};
 use source_verdicts::SourcedFault;
 use std::alloc::{AllocError, Global};
 use streams::standard::Reads;
@@ -22,8 +21,6 @@ pub struct AssembledSource<'x> {
     pub notes: SourceNotes<Global>,
     /// The names of its parts.
     pub names: &'x [&'x str],
-    /// How many lines each part has.
-    pub counts: Vec<usize>,
     /// The declaration's text in numbers.
     pub numbers: Vec<u8>,
 }
@@ -76,7 +73,9 @@ fn notes_of(alloc: Global, map: &SourceMap<Global>) -> Result<SourceNotes<Global
     let mut notes = SourceNotes::new(alloc)?;
     let mut rest = map.words();
     for line in map.lines() {
-        notes.next_line(map.text(line))?;
+        let SourcePlace { part, line: number } = line.place;
+        let place = LinePlace { part, line: number };
+        notes.next_line(place, map.text(line))?;
         rest = note_words(&mut notes, line.place, rest)?;
     }
     Ok(notes)
@@ -110,14 +109,10 @@ pub fn assembled<'x>(
     let Ok(notes) = notes_of(alloc, &map) else {
         return Err(SourcedFault::Command(Fault::NoMemory));
     };
-    let Ok(counts) = line_counts(alloc, given.parts) else {
-        return Err(SourcedFault::Command(Fault::NoMemory));
-    };
     Ok(AssembledSource {
         map,
         notes,
         names: given.names,
-        counts,
         numbers,
     })
 }

@@ -1,10 +1,9 @@
 //! Where a source has what is named to people. It is tested and not proved.
 
 use crate::assembled::AssembledSource;
-use crate::spots::spot_of;
 use command_parts::message::{Mark, Message};
 use itoa::Buffer;
-use report_commands::reporting::SourceNote;
+use report_commands::reporting::{LinePlace, SourceNote};
 use std::alloc::{AllocError, Global};
 use word12::Word;
 
@@ -45,11 +44,16 @@ fn push_source_line(
     let Some(note) = source.notes.at(at) else {
         return Ok(());
     };
-    let spot = spot_of(source.names, &source.counts, note.line);
+    let LinePlace { part, line } = note.place;
+    let name = source
+        .names
+        .get(part.saturating_sub(1))
+        .copied()
+        .unwrap_or("-");
     text.extend_from_slice(b"    ")?;
-    text.extend_from_slice(spot.name.as_bytes())?;
+    text.extend_from_slice(name.as_bytes())?;
     text.push(b':')?;
-    text.extend_from_slice(Buffer::new().format(spot.line).as_bytes())?;
+    text.extend_from_slice(Buffer::new().format(line).as_bytes())?;
     text.extend_from_slice(b": ")?;
     if !note.label.is_empty() && !begins_with_tag(note) {
         text.extend_from_slice(note.label)?;

@@ -94,7 +94,8 @@ fn push_link<L: Lines>(text: &mut L, link: Link) -> Result<(), AllocError>
         (L.text text.new ≡ L.text text.old ++ (codes "the link may be " ++ link_text link)) }
 {
     text.push_text(b"the link may be ")?;
-    push_link_digit(text, link)
+    push_link_digit(text, link)?;
+    Ok(())
 }
 
 /// Adds AC, or the address of a cell.
@@ -126,11 +127,13 @@ fn push_gap<L: Lines>(text: &mut L, gap: &Counterexample) -> Result<(), AllocErr
         Counterexample::Link(link) => push_link(text, *link),
         Counterexample::Cell(cell, word) => {
             push_text_and_address(text, b"the cell ", *cell)?;
-            push_text_and_word(text, b" may be ", *word)
+            push_text_and_word(text, b" may be ", *word)?;
+            Ok(())
         }
         Counterexample::Equation(equation) => {
             push_equation(text, equation)?;
-            text.push_text(b" may be wrong as far as is known")
+            text.push_text(b" may be wrong as far as is known")?;
+            Ok(())
         }
         Counterexample::Offset(offset) => push_around_number(
             text,
@@ -150,7 +153,8 @@ fn push_landing<L: Lines>(text: &mut L, landing: &Landing) -> Result<(), AllocEr
         Landing::OtherBody => text.push_text(b"that isn't in the body"),
         Landing::Excluded(gap) => {
             push_gap(text, gap)?;
-            text.push_text(b", which the fact there excludes")
+            text.push_text(b", which the fact there excludes")?;
+            Ok(())
         }
     }
 }
@@ -161,7 +165,8 @@ fn push_enters<L: Lines>(text: &mut L, landing: &Landing) -> Result<(), AllocErr
         (L.text text.new ≡ L.text text.old ++ (codes " and enters it: " ++ landing_text landing.now)) }
 {
     text.push_text(b" and enters it: ")?;
-    push_landing(text, landing)
+    push_landing(text, landing)?;
+    Ok(())
 }
 
 /// Adds why a run doesn't land after a return by an offset.
@@ -171,7 +176,8 @@ fn push_returns<L: Lines>(text: &mut L, offset: usize, landing: &Landing) -> Res
         ++ landing_text landing.now)) }
 {
     push_around_number(text, b", which returns by offset ", offset, b": ")?;
-    push_landing(text, landing)
+    push_landing(text, landing)?;
+    Ok(())
 }
 
 /// Adds what a call breaks.

@@ -2,5 +2,6 @@
 #![tactic(auto)]
 
 pub mod inputs;
+pub mod message;
 pub mod status;
 pub mod text;

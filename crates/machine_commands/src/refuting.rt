@@ -20,7 +20,7 @@ use streams::{ByteSink, ByteSource, put};
 use turns::Turns;
 
 /// The line that says in how many steps nothing was found.
-fn unbroken_line<A: Allocator>(alloc: A, steps: u32) -> Result<Vec<u8, A>, AllocError>
+pub(crate) fn unbroken_line<A: Allocator>(alloc: A, steps: u32) -> Result<Vec<u8, A>, AllocError>
     ensures { IfOk result (λ text. text.items ≡ unbroken_text steps) }
 {
     let mut text = Vec::new(alloc);

@@ -6,6 +6,7 @@ ghost use Rattle.declaration.specs.Kept.{meaning};
 ghost use Rattle.command_parts.specs.Faults.{IsWatchFault, is_fault_of_declaration, is_fault_of_tape, fails_to_read, fails_to_write};
 ghost use Rattle.command_parts.specs.Inputs.{HasCome, IsGoodDeclaration, IsGoodEvents, IsGoodTape, TakesAtMost, TakesTape, input};
 ghost use Rattle.machine_commands.specs.WatchText.{IsTold, IsToldWithCells, IsWatched, IsWatchedSo, broken_text, watched_status, watched_text};
+ghost use Rattle.command_parts.specs.Messages.{plain};
 ghost use Rattle.command_parts.specs.Writes.{FrontOf, Writes};
 ghost use Rattle.command_parts.specs.declared.status.Fault.TheVariants.{NoMemory as Wanted};
 
@@ -13,6 +14,7 @@ use crate::progress::{Offered, offered_by, progress_lines};
 use crate::shown::shown_of;
 use bin_tape::Image;
 use command_parts::inputs::{declaration_from, events_from, tape_from};
+use command_parts::message::{Lines, Message};
 use command_parts::status::{Fault, Status};
 use declaration::Declaration;
 use itoa::Buffer;
@@ -60,8 +62,8 @@ fn why_of<A: Allocator + Copy, D: Allocator>(
     offered: Offered,
     watched: Watched,
     explained: bool,
-) -> Result<Vec<u8, A>, NoMemory>
-    ensures { IfOk result (λ text. explained ≡ false → text.items ≡ []) }
+) -> Result<Message<A>, NoMemory>
+    ensures { IfOk result (λ text. explained ≡ false → plain text ≡ []) }
 {
     match watched {
         Watched::Clean if explained => progress_lines(alloc, image, declaration, events, offered),
@@ -69,8 +71,34 @@ fn why_of<A: Allocator + Copy, D: Allocator>(
     }
 }
 
-/// What is told of a watched run: the line that says what was seen, and behind it, if it is to be
-/// explained, how far the run came, or what the step is about to do that breaks a rule.
+/// What is told of a watched run, with its addresses marked: the line that says what was seen, and behind it, if
+/// it is to be explained, how far the run came, or what the step is about to do that breaks a rule.
+pub(crate) fn message_of<A: Allocator + Copy, D: Allocator>(
+    alloc: A,
+    image: &Image,
+    declaration: &Declaration<D>,
+    events: &[Event],
+    offered: Offered,
+    watched: Watched,
+    explained: bool,
+) -> Result<Message<A>, NoMemory>
+    ensures { IfOk result (λ text. IsTold watched explained (plain text)) }
+{
+    let mut text = Message::of(alloc, watched_line(alloc, watched)?);
+    let why = why_of(
+        alloc,
+        image,
+        declaration,
+        events,
+        offered,
+        watched,
+        explained,
+    )?;
+    text.push_message(&why)?;
+    Ok(text)
+}
+
+/// The same as it reads without a source.
 pub(crate) fn told_of<A: Allocator + Copy, D: Allocator>(
     alloc: A,
     image: &Image,
@@ -82,8 +110,7 @@ pub(crate) fn told_of<A: Allocator + Copy, D: Allocator>(
 ) -> Result<Vec<u8, A>, NoMemory>
     ensures { IfOk result (λ text. IsTold watched explained text.items) }
 {
-    let mut text = watched_line(alloc, watched)?;
-    let why = why_of(
+    let message = message_of(
         alloc,
         image,
         declaration,
@@ -92,11 +119,38 @@ pub(crate) fn told_of<A: Allocator + Copy, D: Allocator>(
         watched,
         explained,
     )?;
-    text.extend_from_slice(&why)?;
+    Ok(message.into_bytes())
+}
+
+/// What is told of a watched run, with its addresses marked, and behind it the cells that are to be shown.
+pub(crate) fn message_with_cells<A: Allocator + Copy, D: Allocator>(
+    alloc: A,
+    image: &Image,
+    declaration: &Declaration<D>,
+    events: &[Event],
+    offered: Offered,
+    watched: Watched,
+    explained: bool,
+    show: &WordSet,
+) -> Result<Message<A>, NoMemory>
+    ensures { IfOk result (λ text. IsToldWithCells image.now (meaning declaration.now) events.now
+        watched explained (words show.now) (plain text)) }
+{
+    let mut text = message_of(
+        alloc,
+        image,
+        declaration,
+        events,
+        offered,
+        watched,
+        explained,
+    )?;
+    let shown = shown_of(alloc, image, declaration, events, watched, show)?;
+    text.push_text(&shown)?;
     Ok(text)
 }
 
-/// What is told of a watched run, and behind it the cells that are to be shown.
+/// The same as it reads without a source.
 pub(crate) fn told_with_cells<A: Allocator + Copy, D: Allocator>(
     alloc: A,
     image: &Image,
@@ -110,7 +164,7 @@ pub(crate) fn told_with_cells<A: Allocator + Copy, D: Allocator>(
     ensures { IfOk result (λ text. IsToldWithCells image.now (meaning declaration.now) events.now
         watched explained (words show.now) text.items) }
 {
-    let mut text = told_of(
+    let message = message_with_cells(
         alloc,
         image,
         declaration,
@@ -118,10 +172,9 @@ pub(crate) fn told_with_cells<A: Allocator + Copy, D: Allocator>(
         offered,
         watched,
         explained,
+        show,
     )?;
-    let shown = shown_of(alloc, image, declaration, events, watched, show)?;
-    text.extend_from_slice(&shown)?;
-    Ok(text)
+    Ok(message.into_bytes())
 }
 
 /// A run that breaks a rule is refused.

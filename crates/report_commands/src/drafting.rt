@@ -101,7 +101,11 @@ fn joined<A: Allocator>(
 }
 
 /// The report of a draft.
-fn draft_page<A: Allocator + Copy, D: Allocator, C: Allocator>(
+///
+/// # Errors
+///
+/// Memory was refused.
+pub fn draft_page<A: Allocator + Copy, D: Allocator, C: Allocator>(
     alloc: A,
     image: &Image,
     declaration: &Declaration<D>,

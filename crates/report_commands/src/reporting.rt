@@ -20,7 +20,7 @@ use declaration::Declaration;
 use judge::{Refusal, judge};
 use reasons::why;
 use report_texts::{Finding, Report, head_of, listing_below, opening, page_below};
-pub use report_texts::{ReportForm, SourceNote, SourceNotes, notes_of};
+pub use report_texts::{LinePlace, ReportForm, SourceNote, SourceNotes};
 use std::alloc::{AllocError, Allocator};
 use streams::{ByteSink, ByteSource, put};
 use verdict_texts::certificates::certificate_from;

@@ -4,6 +4,7 @@ ghost use Rattle.std.specs.Prelude.{◌≡◌, ◌||◌, ◌⊎◌, false, true,
 ghost use Rattle.declaration.specs.Kept.{meaning};
 ghost use Rattle.command_parts.specs.Faults.{IsRefuteFault, is_fault_of_tape, fails_to_read, fails_to_write};
 ghost use Rattle.command_parts.specs.Inputs.{IsGoodTape, TakesAtMost, TakesTape, input};
+ghost use Rattle.command_parts.specs.Messages.{plain};
 ghost use Rattle.command_parts.specs.Writes.{FrontOf, Writes};
 ghost use Rattle.search_commands.specs.SearchFaults.{IsDeclareFault};
 ghost use Rattle.search_commands.specs.VerifyText.{IsAnswer, IsMemoryFault, IsProposedAnswer, IsSomeAnswer, IsSomeProposedAnswer, IsTold, IsVerified, answer_status, answer_text, lack_text, no_text};
@@ -13,6 +14,7 @@ use analyser::{Attempt, GuessFault, guess, guess_or_draft};
 use bin_tape::Image;
 use certificate::Certificate;
 use command_parts::inputs::{declaration_from, tape_from};
+use command_parts::message::Message;
 use command_parts::status::{Fault, Status};
 use command_parts::text::push_place;
 use declaration::Declaration;
@@ -31,7 +33,7 @@ use watch_texts::breach_lines;
 use word12::Word;
 
 /// How many turns a proposal has at most.
-const MOST_TURNS: u32 = 2_000_000;
+pub(crate) const MOST_TURNS: u32 = 2_000_000;
 
 /// Why it isn't known whether a program keeps its declaration.
 #[derive(Clone, Copy, PartialEq, Eq, Debug)]
@@ -73,7 +75,7 @@ pub fn answer_status<A: Allocator>(answer: &Answer<A>) -> Status
 }
 
 /// Looks for a run that breaks a declaration, for which no certificate was found.
-fn refuted<A: Allocator + Copy, D: Allocator>(
+pub(crate) fn refuted<A: Allocator + Copy, D: Allocator>(
     alloc: A,
     image: &Image,
     declaration: &Declaration<D>,
@@ -155,7 +157,7 @@ fn no_line<A: Allocator>(alloc: A, event: usize, rule: Rule) -> Result<Vec<u8, A
 }
 
 /// The line of an answer.
-fn answer_line<A: Allocator + Copy, D: Allocator>(
+pub(crate) fn answer_line<A: Allocator + Copy, D: Allocator>(
     alloc: A,
     declaration: &Declaration<D>,
     answer: &Answer<A>,
@@ -171,15 +173,15 @@ fn answer_line<A: Allocator + Copy, D: Allocator>(
 }
 
 /// What a draft lacks at the address where the search is stuck.
-fn draft_lines<A: Allocator, D: Allocator, C: Allocator>(
+pub fn draft_lines<A: Allocator + Copy, D: Allocator, C: Allocator>(
     alloc: A,
     image: &Image,
     declaration: &Declaration<D>,
     draft: &Certificate<C>,
     at: Word,
-) -> Result<Vec<u8, A>, AllocError> {
+) -> Result<Message<A>, AllocError> {
     let told = why_stuck(image, declaration, draft, at);
-    let mut text = Vec::new(alloc);
+    let mut text = Message::new(alloc);
     match &told {
         None => {}
         Some((refusal, reason)) => {
@@ -201,35 +203,35 @@ fn lacking_lines<A: Allocator + Copy, D: Allocator>(
     alloc: A,
     image: &Image,
     declaration: &Declaration<D>,
-) -> Result<Vec<u8, A>, AllocError> {
+) -> Result<Message<A>, AllocError> {
     let attempt = match guess_or_draft(alloc, image, declaration) {
         Ok(attempt) => attempt,
         Err(GuessFault::NoMemory) => return Err(AllocError),
-        Err(_) => return Ok(Vec::new(alloc)),
+        Err(_) => return Ok(Message::new(alloc)),
     };
     match &attempt {
-        Attempt::Found(_) => Ok(Vec::new(alloc)),
+        Attempt::Found(_) => Ok(Message::new(alloc)),
         Attempt::Stuck(at, draft) => draft_lines(alloc, image, declaration, draft, *at),
     }
 }
 
 /// The lines behind an answer that say why: what the step is about to do that breaks a rule, or what the
 /// search for a certificate lacks. There are none where they aren't asked for, or behind a yes.
-fn answer_why<A: Allocator + Copy, D: Allocator>(
+pub(crate) fn answer_why<A: Allocator + Copy, D: Allocator>(
     alloc: A,
     image: &Image,
     declaration: &Declaration<D>,
     answer: &Answer<A>,
     explained: bool,
-) -> Result<Vec<u8, A>, Fault>
-    ensures plain { IfOk result (λ text. explained ≡ false → text.items ≡ []) }
+) -> Result<Message<A>, Fault>
+    ensures plain { IfOk result (λ text. explained ≡ false → plain text ≡ []) }
     ensures faults { IfErr result IsMemoryFault }
 {
     if !explained {
-        return Ok(Vec::new(alloc));
+        return Ok(Message::new(alloc));
     }
     match answer {
-        Answer::Yes(_) | Answer::NotKnown(Lack::TurnsSpent) => Ok(Vec::new(alloc)),
+        Answer::Yes(_) | Answer::NotKnown(Lack::TurnsSpent) => Ok(Message::new(alloc)),
         Answer::NotKnown(Lack::Stuck(_)) => Ok(lacking_lines(alloc, image, declaration)?),
         Answer::No(found) => {
             let (event, rule) = (found.event, found.rule);
@@ -254,7 +256,7 @@ fn told_of<A: Allocator + Copy, D: Allocator>(
 {
     let mut text = answer_line(alloc, declaration, answer)?;
     let why = answer_why(alloc, image, declaration, answer, explained)?;
-    text.extend_from_slice(&why)?;
+    text.extend_from_slice(why.as_bytes())?;
     Ok(text)
 }
 
@@ -318,7 +320,7 @@ pub fn verify<A: Allocator + Copy, R: ByteSource, D: ByteSource, W: ByteSink>(
 }
 
 /// The answer for a declaration that was proposed with this verdict.
-fn answer_by<A: Allocator + Copy>(
+pub(crate) fn answer_by<A: Allocator + Copy>(
     alloc: A,
     image: &Image,
     declaration: &Declaration<A>,

@@ -4,3 +4,4 @@ pub mod Faults
 pub mod Statuses
 pub mod LinkText
 pub mod Dumping
+pub mod Answers

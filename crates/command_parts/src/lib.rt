@@ -2,5 +2,7 @@
 #![tactic(auto)]
 
 pub mod inputs;
+pub mod outcome;
+pub mod programs;
 pub mod status;
 pub mod text;

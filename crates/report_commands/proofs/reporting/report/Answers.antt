@@ -1,66 +1,52 @@
-use Rattle.std.proofs.Common.{rules, refl, ◌++◌}
-use Rattle.std.specs.Io.KnownBytes.{Appends}
-use Rattle.streams.specs.Bytes.{AppendsFront}
+use Rattle.std.proofs.Common.{ℕ, ◌≡◌, rules, refl, Err, inl}
 use Rattle.declaration.specs.Kept.{meaning}
 use Rattle.certificate.specs.Kept.{meaning as lines_of}
-use Rattle.report_texts.specs.Head.{head_of, opening}
-use Rattle.verdict_texts.specs.CheckText.{checked_case, verdict_status, verdict_text}
-use Rattle.verdict_texts.proofs.CheckLemmas.{verdict_is}
+use Rattle.command_parts.specs.declared.status.Fault.TheVariants.{NoMemory}
+use Rattle.command_parts.proofs.AnswerLemmas.{memory_is_later, nothing_written, outcome_written, three_answered, three_refused, write_follows}
 use Rattle.report_commands.proofs.reporting.report.Goals as goal
 
-pub returns-in_err-put-clause-front : goal.returns-in_err-put-clause-front
-returns-in_err-put-clause-front g c = λ marked.
-    let d = meaning c.in_ok-promised.promised in
-    let page = head_of c.args.form ++ (verdict_text d c.judge-verdict.result ++ (opening c.args.form c.judge-verdict.result ++ c.in_ok-rest.rest.items)) in
-    let front : AppendsFront (g.W.ByteSink.taken c.args.out.now) (g.W.ByteSink.taken c.put.new.sink) page = search rules in
-    record {
-      text = page;
-      is = (
-        verdict_status c.judge-verdict.result,
-        record {
-          line = verdict_text d c.judge-verdict.result;
-          checked = record {
-            image = c.in_ok-image.image;
-            tape = c.in_ok-image.ensures.tape;
-            declaration = d;
-            declares = c.in_ok-promised.ensures.declares;
-            lines = lines_of c.in_ok-claims.claims;
-            claims = c.in_ok-claims.ensures.claims;
-            verdict = c.judge-verdict.result;
-            is = verdict_is (checked_case c.in_ok-image.image d (lines_of c.in_ok-claims.claims)) c.judge-verdict.result c.judge-verdict.ensures.exact c.judge-verdict.ensures.safe;
-            line_is = refl;
-            status_is = refl;
-          };
-          rest = c.in_ok-rest.rest.items;
-          page_is = refl;
-        },
-      );
-      front = front;
-    }
+pub returns-in_err-certified-clause-reads : goal.returns-in_err-certified-clause-reads
+returns-in_err-certified-clause-reads g c =
+    let told : c.from_residual.result ≡ Err c.in_err-certified.field-0.0 = search rules in
+    rw told (three_refused c.in_err-certified.ensures.reads)
 
-pub returns-clause-reported : goal.returns-clause-reported
-returns-clause-reported g c =
-    let d = meaning c.in_ok-promised.promised in
-    let page = head_of c.args.form ++ (verdict_text d c.judge-verdict.result ++ (opening c.args.form c.judge-verdict.result ++ c.in_ok-rest.rest.items)) in
-    let written : Appends (g.W.ByteSink.taken c.args.out.now) (g.W.ByteSink.taken c.put.new.sink) page = search rules in
-    record {
-      text = page;
-      is = record {
-        line = verdict_text d c.judge-verdict.result;
-        checked = record {
-          image = c.in_ok-image.image;
-          tape = c.in_ok-image.ensures.tape;
-          declaration = d;
-          declares = c.in_ok-promised.ensures.declares;
-          lines = lines_of c.in_ok-claims.claims;
-          claims = c.in_ok-claims.ensures.claims;
-          verdict = c.judge-verdict.result;
-          is = verdict_is (checked_case c.in_ok-image.image d (lines_of c.in_ok-claims.claims)) c.judge-verdict.result c.judge-verdict.ensures.exact c.judge-verdict.ensures.safe;
-          line_is = refl;
-          status_is = c.verdict_status.ensures;
-        };
-        rest = c.in_ok-rest.rest.items;
-        page_is = refl;
-      };
-      written = written;
-    }
+pub returns-in_err-certified-clause-writes : goal.returns-in_err-certified-clause-writes
+returns-in_err-certified-clause-writes g c =
+    let told : c.from_residual.result ≡ Err c.in_err-certified.field-0.0 = search rules in
+    rw told (nothing_written _ c.in_err-certified.field-0.0 c.requires.writable c.in_err-certified.ensures.unwritten)
+
+pub returns-in_err-outcome-clause-reads : goal.returns-in_err-outcome-clause-reads
+returns-in_err-outcome-clause-reads g c =
+    let told : c.from_residual-in_err-outcome.result ≡ Err NoMemory = search rules in
+    rw told (three_answered c.in_ok-certified.ensures.reads
+    (record { image = c.in_ok-certified.certified.program.image; tape = c.in_ok-certified.ensures.image })
+    (record { declaration = meaning c.in_ok-certified.certified.program.declaration; declares = c.in_ok-certified.ensures.declares })
+    (record { lines = lines_of c.in_ok-certified.certified.certificate; claims = c.in_ok-certified.ensures.claims })
+    memory_is_later (Err NoMemory) (inl refl))
+
+pub returns-in_err-outcome-clause-writes : goal.returns-in_err-outcome-clause-writes
+returns-in_err-outcome-clause-writes g c =
+    let told : c.from_residual-in_err-outcome.result ≡ Err NoMemory = search rules in
+    rw told (nothing_written ℕ NoMemory c.requires.writable refl)
+
+pub returns-clause-reads : goal.returns-clause-reads
+returns-clause-reads g c =
+    three_answered c.in_ok-certified.ensures.reads
+    (record { image = c.in_ok-certified.certified.program.image; tape = c.in_ok-certified.ensures.image })
+    (record { declaration = meaning c.in_ok-certified.certified.program.declaration; declares = c.in_ok-certified.ensures.declares })
+    (record { lines = lines_of c.in_ok-certified.certified.certificate; claims = c.in_ok-certified.ensures.claims })
+    memory_is_later c.write.result (write_follows _ c.write.result c.write.ensures.faults)
+
+pub returns-clause-writes : goal.returns-clause-writes
+returns-clause-writes g c =
+    outcome_written c.in_ok-outcome.outcome.status c.in_ok-outcome.outcome.text.items
+    (record {
+      image = c.in_ok-certified.certified.program.image;
+      tape = c.in_ok-certified.ensures.image;
+      declaration = meaning c.in_ok-certified.certified.program.declaration;
+      declares = c.in_ok-certified.ensures.declares;
+      lines = lines_of c.in_ok-certified.certified.certificate;
+      claims = c.in_ok-certified.ensures.claims;
+      is = c.in_ok-outcome.ensures;
+    })
+    c.write.ensures.writes

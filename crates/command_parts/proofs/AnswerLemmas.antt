@@ -4,14 +4,13 @@ use Rattle.std.specs.Prelude.{Option, Result, Ok, Err, IfOk, IfErr}
 use Rattle.std.specs.Io.KnownBytes.{Appends}
 use Rattle.std.proofs.lemmas.Bool.{true≢false}
 use Rattle.streams.specs.Bytes.{AppendsFront}
-use Rattle.declaration.specs.Declaration.{Declaration}
 use Rattle.command_parts.specs.declared.status.Fault.{Fault}
-use Rattle.command_parts.specs.declared.status.Fault.TheVariants.{Tape, EmptyImage, Source, Declared, Certificate, Events, Guess, Declare, Device, NoMemory}
+use Rattle.command_parts.specs.declared.status.Fault.TheVariants.{Tape, Declared, Guess, Declare, Device, NoMemory}
 use Rattle.command_parts.specs.declared.status.DeviceFault.TheVariants.{Read, Write}
 use Rattle.command_parts.specs.Answers.{IsLaterFault, IsMemoryFault, NeverFails, Output, ReadsOne, ReadsProgram, ReadsProgramAnd, WritesAnswer, output}
 use Rattle.command_parts.specs.Faults.{IsDeclarationInputFault, IsEventsInputFault, IsTapeInputFault, IsWriteFault, fails_to_read, fails_to_write, is_fault_of_declaration, is_fault_of_tape}
-use Rattle.command_parts.specs.Inputs.{HasDeclaration, HasImage, Input, IsGoodDeclaration, IsGoodTape}
-use Rattle.command_parts.specs.Writes.{FrontOf, Writes}
+use Rattle.command_parts.specs.Inputs.{Input, IsGoodDeclaration, IsGoodTape}
+use Rattle.command_parts.specs.Writes.{Writes}
 
 -- the fault is neither that of an input nor a read that failed
 abbrev pub is_later : Fault → Bool

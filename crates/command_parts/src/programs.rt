@@ -2,9 +2,9 @@
 
 ghost use Rattle.std.specs.Prelude.{◌≡◌, false, IfOk};
 ghost use Rattle.declaration.specs.Kept.{meaning};
-ghost use Rattle.command_parts.specs.Answers.{NeverFails, ReadsProgram, ReadsProgramAnd, TakesEvents};
-ghost use Rattle.command_parts.specs.Faults.{IsEventsInputFault, fails_to_write};
-ghost use Rattle.command_parts.specs.Inputs.{HasDeclaration, HasEvents, HasImage, IsGoodEvents, input};
+ghost use Rattle.command_parts.specs.Answers.{NeverFails, ReadsProgram, ReadsRun};
+ghost use Rattle.command_parts.specs.Faults.{fails_to_write};
+ghost use Rattle.command_parts.specs.Inputs.{HasDeclaration, HasEvents, HasImage, input};
 
 use crate::inputs::{declaration_from, events_from, tape_from};
 use crate::status::Fault;
@@ -69,7 +69,7 @@ pub fn program_run_from<A: Allocator + Copy, R: ByteSource, D: ByteSource, E: By
     ensures declares { IfOk result (λ run.
         HasDeclaration (D.remaining declaration.old) (meaning run.program.declaration)) }
     ensures spells { IfOk result (λ run. HasEvents (E.remaining list.old) run.events.items) }
-    ensures reads { ReadsProgramAnd IsEventsInputFault IsGoodEvents TakesEvents NeverFails
+    ensures reads { ReadsRun NeverFails
         (input (R.mark tape.new) (R.remaining tape.old) (R.remaining tape.new))
         (input (D.mark declaration.new) (D.remaining declaration.old) (D.remaining declaration.new))
         (input (E.mark list.new) (E.remaining list.old) (E.remaining list.new))

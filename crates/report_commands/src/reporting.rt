@@ -164,7 +164,7 @@ pub fn report<A: Allocator + Copy, R: ByteSource, D: ByteSource, C: ByteSource, 
     requires writable { W.mark out.old ≡ false }
     // What is written begins with the verdict; in a page its fixed head stands before that, and behind
     // it stands what a yes shows, or that a no shows nothing.
-    ensures writes { WritesAnswer
+    ensures reported { WritesAnswer
         (OfCertified (R.remaining tape.old) (D.remaining declaration.old)
         (C.remaining certificate.old) (IsReportOf form))
         (output (W.mark out.new) (W.taken out.old) (W.taken out.new)) result }

@@ -3,8 +3,9 @@ use Rattle.std.proofs.Common.{ℕ, ◌≡◌, ◌∙◌, ap, sym, subst, List, O
 use Rattle.std.specs.Prelude.{◌⊎◌}
 use Rattle.labels.specs.Lines.{placed_text}
 use Rattle.labels.specs.Programs.{IsNumbered, NumberedIsMeant, NumberedIsTape}
-use Rattle.command_parts.specs.Faults.{IsDeclarationInputFault, IsEventsInputFault, IsRefuteFault, IsRunFault, IsTapeInputFault, IsWatchFault}
-use Rattle.command_parts.specs.Inputs.{Input, IsGoodDeclaration, TakesAtMost, input}
+use Rattle.command_parts.specs.Faults.{IsDeclarationInputFault, IsEventsInputFault, IsRefuteFault, IsRunFault, IsTapeInputFault}
+use Rattle.command_parts.specs.Answers.{IsLaterFault, IsMemoryFault}
+use Rattle.command_parts.specs.Inputs.{Input, IsGoodDeclaration, IsGoodEvents, IsGoodTape, TakesAtMost, input}
 use Rattle.command_parts.proofs.InputLemmas as inputs
 use Rattle.command_parts.specs.Writes.{FrontOf, Writes, WritesNothingOr}
 use Rattle.command_parts.specs.declared.status.Fault.{Fault}
@@ -12,16 +13,16 @@ use Rattle.command_parts.specs.declared.status.Fault.TheVariants as fault
 use Rattle.command_parts.specs.declared.status.DeviceFault.TheVariants as device
 use Rattle.command_parts.specs.declared.status.Status.{Status}
 use Rattle.machine_commands.specs.RefuteText.{IsToldOfWitness, IsWitness, IsWitnessText, WritesWitness}
-use Rattle.machine_commands.specs.WatchText.{IsWatched, IsWatchedSo}
+use Rattle.machine_commands.specs.WatchText.{IsWatchedSo}
 use Rattle.options.specs.declared.RefuteOptions.{RefuteOptions}
 use Rattle.search_commands.specs.GuessText.{IsGuess}
 use Rattle.search_commands.specs.SearchFaults.{IsGuessFault, IsSearchFault}
 use Rattle.search_commands.specs.StuckText.{IsStuck}
 use Rattle.search_commands.specs.VerifyText.{IsSomeAnswer, IsVerified}
 use Rattle.search_commands.specs.declared.verifying.Answer.{Answer}
-use Rattle.verdict_texts.specs.CertificateFaults.{IsCertificateInputFault, IsCheckFault}
-use Rattle.verdict_texts.specs.CertificateInputs.{TakesCertificate}
-use Rattle.verdict_texts.specs.CheckText.{IsChecked, IsCheckedSo}
+use Rattle.verdict_texts.specs.CertificateFaults.{IsCertificateInputFault}
+use Rattle.verdict_texts.specs.CertificateInputs.{IsGoodCertificate, TakesCertificate}
+use Rattle.verdict_texts.specs.CheckText.{IsCheckedSo}
 use Rattle.verdict_texts.proofs.CertificateLemmas as certificates
 use Rattle.source_verdicts.specs.Faults.{IsGoodProgram, IsProgramFault}
 use Rattle.source_verdicts.specs.Verdicts.{IsSomeSourceAnswer, IsSourceChecked, IsSourceCheckedSo, IsSourceGuess, IsSourceStuck, IsSourceVerified, IsSourceWatched, IsSourceWatchedSo, IsSourceWitness, IsSourceWitnessText, IsToldOfSourceWitness, WritesSourceWitness}
@@ -81,7 +82,7 @@ module _ (parts : List (List ℕ)) (text tape numbers : List ℕ) (h : IsNumbere
       program = meant parts text tape numbers v.image v.declaration h v.tape v.declares;
     }
 
-    pub some_checked_so : (certificate : Option (List ℕ)) (line : List ℕ) → IsChecked (Some tape) (Some numbers) certificate line → IsSourceChecked parts text certificate line
+    pub some_checked_so : (certificate : Option (List ℕ)) (line : List ℕ) → (status : Status) × IsCheckedSo (Some tape) (Some numbers) certificate line status → IsSourceChecked parts text certificate line
     some_checked_so certificate line (status, v) = (status, checked_so certificate line status v)
 
     pub watched_so : (list : Option (List ℕ)) (explained : Bool) (named : ℕ → Bool) (told : List ℕ) (status : Status) → IsWatchedSo (Some tape) (Some numbers) list explained named told status → IsSourceWatchedSo parts text list explained named told status
@@ -92,7 +93,7 @@ module _ (parts : List (List ℕ)) (text tape numbers : List ℕ) (h : IsNumbere
       program = meant parts text tape numbers v.image v.declaration h v.tape v.declares;
     }
 
-    pub some_watched_so : (list : Option (List ℕ)) (explained : Bool) (named : ℕ → Bool) (told : List ℕ) → IsWatched (Some tape) (Some numbers) list explained named told → IsSourceWatched parts text list explained named told
+    pub some_watched_so : (list : Option (List ℕ)) (explained : Bool) (named : ℕ → Bool) (told : List ℕ) → (status : Status) × IsWatchedSo (Some tape) (Some numbers) list explained named told status → IsSourceWatched parts text list explained named told
     some_watched_so list explained named told (status, v) = (status, watched_so list explained named told status v)
 
     pub guess_so : (guess : List ℕ) → IsGuess (Some tape) (Some numbers) guess → IsSourceGuess parts text guess
@@ -193,19 +194,30 @@ module _ (parts : List (List ℕ)) (text tape numbers : List ℕ) (h : IsNumbere
   verify_fault is_tape left more f (inr (good, inl is)) = declared_fault more f is
   verify_fault is_tape left more f (inr (good, inr (declared, is))) = work_fault f is
 
-  pub check_fault : NumberedIsTape → (left more : Option (List ℕ)) (certificate : Input) (f : Fault) → IsCheckFault (input false (Some tape) left) (input false (Some numbers) more) certificate f →
+  -- what follows good inputs is a fault of the work
+  later_fault : (f : Fault) → IsLaterFault IsMemoryFault f → IsProgramFault parts text f
+  later_fault f (inl is) = subst (λ (x : Fault). IsProgramFault parts text x) (sym is) tt
+  later_fault (fault.Device device.Write) (inr is) = tt
+  later_fault (fault.Device device.Read) (inr is) = absurd is
+  later_fault _ (inr is) = absurd is
+
+  pub check_fault : NumberedIsTape → (left more : Option (List ℕ)) (certificate : Input) (f : Fault) →
+      IsTapeInputFault (input false (Some tape) left) f ⊎ (IsGoodTape (Some tape) × (IsDeclarationInputFault (input false (Some numbers) more) f
+      ⊎ (IsGoodDeclaration (Some numbers) × (IsCertificateInputFault certificate f ⊎ (IsGoodCertificate certificate.had × IsLaterFault IsMemoryFault f))))) →
       IsProgramFault parts text f ⊎ (IsGoodProgram parts text × IsCertificateInputFault certificate f)
   check_fault is_tape left more certificate f (inl is) = absurd (no_tape_fault is_tape left f is)
   check_fault is_tape left more certificate f (inr (good, inl is)) = inl (declared_fault more f is)
   check_fault is_tape left more certificate f (inr (good, inr (declared, inl is))) = inr (good_program declared, is)
-  check_fault is_tape left more certificate f (inr (good, inr (declared, inr (claims, is)))) = inl (work_fault f is)
+  check_fault is_tape left more certificate f (inr (good, inr (declared, inr (claims, is)))) = inl (later_fault f is)
 
-  pub watch_fault : NumberedIsTape → (left more : Option (List ℕ)) (list : Input) (f : Fault) → IsWatchFault (input false (Some tape) left) (input false (Some numbers) more) list f →
+  pub watch_fault : NumberedIsTape → (left more : Option (List ℕ)) (list : Input) (f : Fault) →
+      IsTapeInputFault (input false (Some tape) left) f ⊎ (IsGoodTape (Some tape) × (IsDeclarationInputFault (input false (Some numbers) more) f
+      ⊎ (IsGoodDeclaration (Some numbers) × (IsEventsInputFault list f ⊎ (IsGoodEvents list.had × IsLaterFault IsMemoryFault f))))) →
       IsProgramFault parts text f ⊎ (IsGoodProgram parts text × IsEventsInputFault list f)
   watch_fault is_tape left more list f (inl is) = absurd (no_tape_fault is_tape left f is)
   watch_fault is_tape left more list f (inr (good, inl is)) = inl (declared_fault more f is)
   watch_fault is_tape left more list f (inr (good, inr (declared, inl is))) = inr (good_program declared, is)
-  watch_fault is_tape left more list f (inr (good, inr (declared, inr (events, is)))) = inl (work_fault f is)
+  watch_fault is_tape left more list f (inr (good, inr (declared, inr (events, is)))) = inl (later_fault f is)
 
   pub guess_fault : NumberedIsTape → (left more : Option (List ℕ)) (f : Fault) → IsGuessFault (input false (Some tape) left) (input false (Some numbers) more) f →
       IsProgramFault parts text f ⊎ (IsGoodProgram parts text × IsSearchFault f)

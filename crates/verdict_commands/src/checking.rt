@@ -55,7 +55,7 @@ pub fn check<A: Allocator + Copy, R: ByteSource, D: ByteSource, C: ByteSource, W
     requires certificate_readable { C.mark certificate.old ≡ false }
     requires writable { W.mark out.old ≡ false }
     // What is written is the verdict.
-    ensures writes { WritesAnswer
+    ensures checked { WritesAnswer
         (OfCertified (R.remaining tape.old) (D.remaining declaration.old)
         (C.remaining certificate.old) IsVerdictOf)
         (output (W.mark out.new) (W.taken out.old) (W.taken out.new)) result }

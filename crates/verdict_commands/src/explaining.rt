@@ -122,7 +122,7 @@ pub fn explain<A: Allocator + Copy, R: ByteSource, D: ByteSource, C: ByteSource,
     requires certificate_readable { C.mark certificate.old ≡ false }
     requires writable { W.mark out.old ≡ false }
     // What is written is the verdict, and why it is no.
-    ensures writes { WritesAnswer
+    ensures explained { WritesAnswer
         (OfCertified (R.remaining tape.old) (D.remaining declaration.old)
         (C.remaining certificate.old) IsExplanationOf)
         (output (W.mark out.new) (W.taken out.old) (W.taken out.new)) result }

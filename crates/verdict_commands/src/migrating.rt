@@ -28,7 +28,7 @@ pub fn migrate<A: Allocator + Copy, C: ByteSource, W: ByteSink>(
     requires readable { C.mark certificate.old ≡ false }
     requires writable { W.mark out.old ≡ false }
     // What is written is the text of the migrated certificate, and then the command is done.
-    ensures writes { WritesAnswer
+    ensures migrated { WritesAnswer
         (λ status text. (status ≡ Done) × IsMigrated (C.remaining certificate.old) text)
         (output (W.mark out.new) (W.taken out.old) (W.taken out.new)) result }
     // The certificate is read, and after a good one a write may fail.

@@ -11,14 +11,14 @@ returns-in_err-program-clause-reads g c =
 
 pub returns-in_err-events-clause-reads : goal.returns-in_err-events-clause-reads
 returns-in_err-events-clause-reads g c =
-    third_read c.in_ok-program.ensures.reads 
+    third_read c.in_ok-program.ensures.reads
     (record { image = c.in_ok-program.program.image; tape = c.in_ok-program.ensures.image }) (record { declaration = meaning c.in_ok-program.program.declaration; declares = c.in_ok-program.ensures.declares })
     (λ f is. events_are_third _ f is)
     c.from_residual-in_err-events.result (search rules) (search rules) c.in_err-events.ensures.takes
 
 pub returns-clause-reads : goal.returns-clause-reads
 returns-clause-reads g c =
-    third_read c.in_ok-program.ensures.reads 
+    third_read c.in_ok-program.ensures.reads
     (record { image = c.in_ok-program.program.image; tape = c.in_ok-program.ensures.image }) (record { declaration = meaning c.in_ok-program.program.declaration; declares = c.in_ok-program.ensures.declares })
     (λ f is. events_are_third _ f is)
     (Ok _) tt c.in_ok-events.ensures.marks c.in_ok-events.ensures.takes

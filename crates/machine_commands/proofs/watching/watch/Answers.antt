@@ -1,60 +1,51 @@
-use Rattle.std.proofs.Common.{rules, ◌≡◌, refl}
-use Rattle.std.specs.Io.KnownBytes.{Appends}
-use Rattle.streams.specs.Bytes.{AppendsFront}
-use Rattle.peripherals.specs.Loading.{image_of, loaded}
+use Rattle.std.proofs.Common.{ℕ, ◌≡◌, rules, refl, Err, inl}
 use Rattle.declaration.specs.Kept.{meaning}
-use Rattle.machine_commands.specs.Running.{fresh}
-use Rattle.machine_commands.specs.WatchText.{IsSeen, watched_status}
-use Rattle.machine_commands.proofs.WatchLemmas.{is_seen}
+use Rattle.command_parts.specs.declared.status.Fault.TheVariants.{NoMemory}
+use Rattle.command_parts.proofs.AnswerLemmas.{memory_is_later, nothing_written, outcome_written, three_answered, three_refused, write_follows}
 use Rattle.machine_commands.proofs.watching.watch.Goals as goal
 
-pub returns-in_err-put-clause-front : goal.returns-in_err-put-clause-front
-returns-in_err-put-clause-front g c = λ marked.
-    let d = meaning c.in_ok-promised.promised in
-    let begins : loaded (image_of c.in_ok-image.image) d.start c.zero.result ≡ fresh c.in_ok-image.image d.start = search rules in
-    let front : AppendsFront (g.W.ByteSink.taken c.args.out.now) (g.W.ByteSink.taken c.put.new.sink) c.in_ok-text.text.items = search rules in
-    let sees : IsSeen c.in_ok-image.image d c.in_ok-happened.happened.items c.in_ok-watched.watched = is_seen c.in_ok-image.image d c.in_ok-happened.happened.items c.in_ok-watched.watched (loaded (image_of c.in_ok-image.image) d.start c.zero.result) begins
-    (rw c.deref.ensures.value at c.in_ok-watched.ensures.clean) (rw c.deref.ensures.value at c.in_ok-watched.ensures.broken) in
-    record {
-      text = c.in_ok-text.text.items;
-      is = (
-        watched_status c.in_ok-watched.watched,
-        record {
-          image = c.in_ok-image.image;
-          tape = c.in_ok-image.ensures.tape;
-          declaration = d;
-          declares = c.in_ok-promised.ensures.declares;
-          events = c.in_ok-happened.happened.items;
-          spells = c.in_ok-happened.ensures.spells;
-          watched = c.in_ok-watched.watched;
-          sees = sees;
-          is = rw c.deref-2.ensures.value at c.in_ok-text.ensures;
-          status_is = refl;
-        },
-      );
-      front = front;
-    }
+pub returns-in_err-run-clause-reads : goal.returns-in_err-run-clause-reads
+returns-in_err-run-clause-reads g c =
+    let told : c.from_residual.result ≡ Err c.in_err-run.field-0.0 = search rules in
+    rw told (three_refused c.in_err-run.ensures.reads)
+
+pub returns-in_err-run-clause-watched : goal.returns-in_err-run-clause-watched
+returns-in_err-run-clause-watched g c =
+    let told : c.from_residual.result ≡ Err c.in_err-run.field-0.0 = search rules in
+    rw told (nothing_written _ c.in_err-run.field-0.0 c.requires.writable c.in_err-run.ensures.unwritten)
+
+pub returns-in_err-outcome-clause-reads : goal.returns-in_err-outcome-clause-reads
+returns-in_err-outcome-clause-reads g c =
+    let told : c.from_residual-in_err-outcome.result ≡ Err NoMemory = search rules in
+    rw told (three_answered c.in_ok-run.ensures.reads
+    (record { image = c.in_ok-run.run.program.image; tape = c.in_ok-run.ensures.image })
+    (record { declaration = meaning c.in_ok-run.run.program.declaration; declares = c.in_ok-run.ensures.declares })
+    (record { events = c.in_ok-run.run.events.items; spelled = c.in_ok-run.ensures.spells })
+    memory_is_later (Err NoMemory) (inl refl))
+
+pub returns-in_err-outcome-clause-watched : goal.returns-in_err-outcome-clause-watched
+returns-in_err-outcome-clause-watched g c =
+    let told : c.from_residual-in_err-outcome.result ≡ Err NoMemory = search rules in
+    rw told (nothing_written ℕ NoMemory c.requires.writable refl)
+
+pub returns-clause-reads : goal.returns-clause-reads
+returns-clause-reads g c =
+    three_answered c.in_ok-run.ensures.reads
+    (record { image = c.in_ok-run.run.program.image; tape = c.in_ok-run.ensures.image })
+    (record { declaration = meaning c.in_ok-run.run.program.declaration; declares = c.in_ok-run.ensures.declares })
+    (record { events = c.in_ok-run.run.events.items; spelled = c.in_ok-run.ensures.spells })
+    memory_is_later c.write.result (write_follows _ c.write.result c.write.ensures.faults)
 
 pub returns-clause-watched : goal.returns-clause-watched
 returns-clause-watched g c =
-    let d = meaning c.in_ok-promised.promised in
-    let begins : loaded (image_of c.in_ok-image.image) d.start c.zero.result ≡ fresh c.in_ok-image.image d.start = search rules in
-    let written : Appends (g.W.ByteSink.taken c.args.out.now) (g.W.ByteSink.taken c.put.new.sink) c.in_ok-text.text.items = search rules in
-    let sees : IsSeen c.in_ok-image.image d c.in_ok-happened.happened.items c.in_ok-watched.watched = is_seen c.in_ok-image.image d c.in_ok-happened.happened.items c.in_ok-watched.watched (loaded (image_of c.in_ok-image.image) d.start c.zero.result) begins
-    (rw c.deref.ensures.value at c.in_ok-watched.ensures.clean) (rw c.deref.ensures.value at c.in_ok-watched.ensures.broken) in
-    record {
-      text = c.in_ok-text.text.items;
-      is = record {
-        image = c.in_ok-image.image;
-        tape = c.in_ok-image.ensures.tape;
-        declaration = d;
-        declares = c.in_ok-promised.ensures.declares;
-        events = c.in_ok-happened.happened.items;
-        spells = c.in_ok-happened.ensures.spells;
-        watched = c.in_ok-watched.watched;
-        sees = sees;
-        is = rw c.deref-2.ensures.value at c.in_ok-text.ensures;
-        status_is = c.watched_status.ensures;
-      };
-      written = written;
-    }
+    outcome_written c.in_ok-outcome.outcome.status c.in_ok-outcome.outcome.text.items
+    (record {
+      image = c.in_ok-run.run.program.image;
+      tape = c.in_ok-run.ensures.image;
+      declaration = meaning c.in_ok-run.run.program.declaration;
+      declares = c.in_ok-run.ensures.declares;
+      events = c.in_ok-run.run.events.items;
+      spells = c.in_ok-run.ensures.spells;
+      is = c.in_ok-outcome.ensures;
+    })
+    c.write.ensures.writes

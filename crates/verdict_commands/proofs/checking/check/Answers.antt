@@ -10,8 +10,8 @@ returns-in_err-certified-clause-reads g c =
     let told : c.from_residual.result ≡ Err c.in_err-certified.field-0.0 = search rules in
     rw told (three_refused c.in_err-certified.ensures.reads)
 
-pub returns-in_err-certified-clause-writes : goal.returns-in_err-certified-clause-writes
-returns-in_err-certified-clause-writes g c =
+pub returns-in_err-certified-clause-checked : goal.returns-in_err-certified-clause-checked
+returns-in_err-certified-clause-checked g c =
     let told : c.from_residual.result ≡ Err c.in_err-certified.field-0.0 = search rules in
     rw told (nothing_written _ c.in_err-certified.field-0.0 c.requires.writable c.in_err-certified.ensures.unwritten)
 
@@ -24,8 +24,8 @@ returns-in_err-outcome-clause-reads g c =
     (record { lines = lines_of c.in_ok-certified.certified.certificate; claims = c.in_ok-certified.ensures.claims })
     memory_is_later (Err NoMemory) (inl refl))
 
-pub returns-in_err-outcome-clause-writes : goal.returns-in_err-outcome-clause-writes
-returns-in_err-outcome-clause-writes g c =
+pub returns-in_err-outcome-clause-checked : goal.returns-in_err-outcome-clause-checked
+returns-in_err-outcome-clause-checked g c =
     let told : c.from_residual-in_err-outcome.result ≡ Err NoMemory = search rules in
     rw told (nothing_written ℕ NoMemory c.requires.writable refl)
 
@@ -37,8 +37,8 @@ returns-clause-reads g c =
     (record { lines = lines_of c.in_ok-certified.certified.certificate; claims = c.in_ok-certified.ensures.claims })
     memory_is_later c.write.result (write_follows _ c.write.result c.write.ensures.faults)
 
-pub returns-clause-writes : goal.returns-clause-writes
-returns-clause-writes g c =
+pub returns-clause-checked : goal.returns-clause-checked
+returns-clause-checked g c =
     outcome_written c.in_ok-outcome.outcome.status c.in_ok-outcome.outcome.text.items
     (record {
       image = c.in_ok-certified.certified.program.image;

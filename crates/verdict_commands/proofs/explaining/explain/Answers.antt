@@ -13,8 +13,8 @@ returns-in_err-certified-clause-reads g c =
     let told : c.from_residual.result ≡ Err c.in_err-certified.field-0.0 = search rules in
     rw told (three_refused c.in_err-certified.ensures.reads)
 
-pub returns-in_err-certified-clause-writes : goal.returns-in_err-certified-clause-writes
-returns-in_err-certified-clause-writes g c =
+pub returns-in_err-certified-clause-explained : goal.returns-in_err-certified-clause-explained
+returns-in_err-certified-clause-explained g c =
     let told : c.from_residual.result ≡ Err c.in_err-certified.field-0.0 = search rules in
     rw told (nothing_written _ c.in_err-certified.field-0.0 c.requires.writable c.in_err-certified.ensures.unwritten)
 
@@ -27,8 +27,8 @@ returns-in_err-told-clause-reads g c =
     (record { lines = lines_of c.in_ok-certified.certified.certificate; claims = c.in_ok-certified.ensures.claims })
     memory_is_later (Err NoMemory) (inl refl))
 
-pub returns-in_err-told-clause-writes : goal.returns-in_err-told-clause-writes
-returns-in_err-told-clause-writes g c =
+pub returns-in_err-told-clause-explained : goal.returns-in_err-told-clause-explained
+returns-in_err-told-clause-explained g c =
     let told : c.from_residual-in_err-told.result ≡ Err NoMemory = search rules in
     rw told (nothing_written ℕ NoMemory c.requires.writable refl)
 
@@ -40,8 +40,8 @@ returns-clause-reads g c =
     (record { lines = lines_of c.in_ok-certified.certified.certificate; claims = c.in_ok-certified.ensures.claims })
     memory_is_later c.write_with_fact.result (write_follows _ c.write_with_fact.result c.write_with_fact.ensures.faults)
 
-pub returns-clause-writes : goal.returns-clause-writes
-returns-clause-writes g c =
+pub returns-clause-explained : goal.returns-clause-explained
+returns-clause-explained g c =
     let d = meaning c.in_ok-certified.certified.program.declaration in
     let lines = lines_of c.in_ok-certified.certified.certificate in
     let told = c.in_ok-told.ensures in

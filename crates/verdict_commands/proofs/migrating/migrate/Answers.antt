@@ -8,8 +8,8 @@ use Rattle.verdict_commands.proofs.migrating.migrate.Goals as goal
 pub returns-in_err-claims-clause-reads : goal.returns-in_err-claims-clause-reads
 returns-in_err-claims-clause-reads g c = one_read c.from_residual.result (search rules) (search rules) c.in_err-claims.ensures.takes
 
-pub returns-in_err-claims-clause-writes : goal.returns-in_err-claims-clause-writes
-returns-in_err-claims-clause-writes g c =
+pub returns-in_err-claims-clause-migrated : goal.returns-in_err-claims-clause-migrated
+returns-in_err-claims-clause-migrated g c =
     let told : c.from_residual.result ≡ Err c.in_err-claims.field-0.0 = search rules in
     let unwritten : fails_to_write c.from_residual.result ≡ false = search rules in
     rw told (nothing_written _ c.in_err-claims.field-0.0 c.requires.writable (rw told at unwritten))
@@ -20,7 +20,7 @@ returns-clause-reads g c =
     (record { lines = lines_of c.in_ok-claims.claims; claims = c.in_ok-claims.ensures.claims }) never_is_later
     c.write_certificate.result (write_follows _ c.write_certificate.result c.write_certificate.ensures.faults)
 
-pub returns-clause-writes : goal.returns-clause-writes
-returns-clause-writes g c =
+pub returns-clause-migrated : goal.returns-clause-migrated
+returns-clause-migrated g c =
     written_so (λ status text same. (same.0, record { lines = lines_of c.in_ok-claims.claims; claims = c.in_ok-claims.ensures.claims; text_is = search rules }))
     c.write_certificate.ensures.writes

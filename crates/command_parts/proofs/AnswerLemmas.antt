@@ -97,7 +97,7 @@ two_refused {S = S} {T = T} {f = f} h = record {
   takes_declaration = h.takes_declaration;
 }
 
--- behind a good tape and a good declaration
+-- after a good tape and a good declaration
 pub two_answered : {S T : Type 0} {W : Fault → Type 0} {tape text : Input} {untouched : Type 0} {s : S} →
     ReadsProgram {T = S} NeverFails false tape text untouched (Ok s) → IsGoodTape tape.had → IsGoodDeclaration text.had →
     ((f : Fault) → W f → is_later f ≡ true) → (result : Result T Fault) → IfErr result (IsLaterFault W) →
@@ -180,7 +180,7 @@ events_are_third i (Tape f) is = absurd is
 events_are_third i (Declared f) is = absurd is
 events_are_third i _ is = refl
 
--- a third input that is read behind a good tape and a good declaration
+-- a third input that is read after a good tape and a good declaration
 pub third_read : {S T : Type 0} {F : Input → Fault → Type 0} {G : Option (List ℕ) → Type 0} {K : Option (List ℕ) → Option (List ℕ) → Type 0}
     {tape text third : Input} {untouched Same : Type 0} {s : S} →
     ReadsProgram {T = S} NeverFails false tape text untouched (Ok s) → IsGoodTape tape.had → IsGoodDeclaration text.had →
@@ -248,7 +248,7 @@ three_refused {S = S} {T = T} {F = F} {G = G} {M = M} {third = third} {Same = Sa
     again : refused T f ≡ refused T NoMemory → refused S f ≡ refused S NoMemory
     again e = let is : f ≡ NoMemory = cc in ap (λ (x : Fault). refused S x) is
 
--- behind three good inputs
+-- after three good inputs
 pub three_answered : {S T : Type 0} {F : Input → Fault → Type 0} {G : Option (List ℕ) → Type 0} {K : Option (List ℕ) → Option (List ℕ) → Type 0} {W : Fault → Type 0}
     {tape text third : Input} {untouched Same : Type 0} {s : S} →
     ReadsProgramAnd {T = S} F G K NeverFails tape text third untouched Same (Ok s) → IsGoodTape tape.had → IsGoodDeclaration text.had → G third.had →
@@ -338,7 +338,26 @@ pub outcome_written : {T : Type 0} {P : T → List ℕ → Type 0} {out : Output
     WritesAnswer (λ a t. (a ≡ answer) × (t ≡ text)) out result → WritesAnswer P out result
 outcome_written {P = P} answer text is w = written_so (λ a t same. rw (same.0, same.1) is) w
 
--- behind the work only a write fails
+-- a text that is written, and the answer that it is right for
+pub text_put : {S T : Type 0} {P : T → List ℕ → Type 0} {out : Output} {s : S} (answer : T) (text : List ℕ) → P answer text →
+    WritesAnswer {T = S} (λ done t. t ≡ text) out (Ok s) → WritesAnswer {T = T} P out (Ok answer)
+text_put {P = P} answer text is w = record {
+  written = record { text = text; is = is; written = rw w.written.is at w.written.written };
+  front = λ marked. let told = w.front marked in record { text = text; is = (answer, is); front = rw told.is.1 at told.front };
+  nothing = tt;
+  marks = w.marks;
+}
+
+pub text_failed : {S T : Type 0} {P : T → List ℕ → Type 0} {out : Output} {f : Fault} (answer : T) (text : List ℕ) → P answer text →
+    WritesAnswer {T = S} (λ done t. t ≡ text) out (Err f) → WritesAnswer {T = T} P out (Err f)
+text_failed {S = S} {T = T} {f = f} answer text is w = record {
+  written = tt;
+  front = λ marked. let told = w.front marked in record { text = text; is = (answer, is); front = rw told.is.1 at told.front };
+  nothing = w.nothing;
+  marks = w.marks ∙ writes_alike S T f;
+}
+
+-- after the work only a write fails
 pub write_follows : {T : Type 0} (W : Fault → Type 0) (result : Result T Fault) → IfErr result IsWriteFault → IfErr result (IsLaterFault W)
 write_follows W (Ok x) is = tt
 write_follows W (Err f) is = inr is

@@ -94,9 +94,9 @@ guess_checked t d guess g few = record {
   tape = g.tape;
   declaration = g.declaration;
   declares = g.declares;
-  lines = g.lines;
-  claims = record { lines_are = g.lines_are; of_words = g.of_words; text_is = g.guess_is; few = few };
-  is = record { verdict = Ok tt; is = g.accepted; line_is = refl; status_is = refl };
+  lines = g.is.lines;
+  claims = record { lines_are = g.is.lines_are; of_words = g.is.of_words; text_is = g.is.guess_is; few = few };
+  is = record { verdict = Ok tt; is = g.is.accepted; line_is = refl; status_is = refl };
 }
 
 pub guess_is_accepted : GuessIsAccepted

@@ -1,24 +1,46 @@
-use Rattle.std.proofs.Common.{◌≡◌, None, rules}
+use Rattle.std.proofs.Common.{◌≡◌, rules, Err}
 use Rattle.declaration.specs.Kept.{meaning}
-use Rattle.command_parts.specs.declared.status.Status.TheVariants.{Done}
-use Rattle.search_commands.specs.CompleteText.{IsCompletion}
-use Rattle.search_commands.proofs.CompleteLemmas.{completion, own_completes}
+use Rattle.command_parts.proofs.AnswerLemmas.{nothing_written, outcome_written, two_answered, two_refused, write_follows}
+use Rattle.search_commands.proofs.FaultLemmas.{proposal_is_later}
 use Rattle.search_commands.proofs.completing.complete.Goals as goal
 
-pub returns-in_err-put-clause-front : goal.returns-in_err-put-clause-front
-returns-in_err-put-clause-front g c =
-    let none : c.in_ok-lack.field-0 ≡ None = search rules in
-    let is : IsCompletion (g.R.ByteSource.remaining c.args.tape.now) (g.D.ByteSource.remaining c.args.declaration.now) Done c.in_ok-given.given.text.items =
-    completion _ _ c.in_ok-image.image (meaning c.in_ok-given.given.declaration) Done c.in_ok-given.given.text.items c.in_ok-image.ensures.tape c.in_ok-given.ensures.declares
-    (own_completes c.in_ok-image.image (meaning c.in_ok-given.given.declaration) c.in_ok-given.given.text.items c.in_ok-given.ensures.text (c.in_ok-lack.ensures.shown none)) in
-    λ marked. record { text = c.in_ok-given.given.text.items; is = (Done, is); front = search rules }
+pub returns-in_err-program-clause-reads : goal.returns-in_err-program-clause-reads
+returns-in_err-program-clause-reads g c =
+    let told : c.from_residual.result ≡ Err c.in_err-program.field-0.0 = search rules in
+    rw told (two_refused c.in_err-program.ensures.reads)
 
-pub returns-in_default-clause-completed : goal.returns-in_default-clause-completed
-returns-in_default-clause-completed g c =
-    let none : c.in_ok-lack.field-0 ≡ None = search rules in
-    record {
-      text = c.in_ok-given.given.text.items;
-      is = completion _ _ c.in_ok-image.image (meaning c.in_ok-given.given.declaration) Done c.in_ok-given.given.text.items c.in_ok-image.ensures.tape c.in_ok-given.ensures.declares
-          (own_completes c.in_ok-image.image (meaning c.in_ok-given.given.declaration) c.in_ok-given.given.text.items c.in_ok-given.ensures.text (c.in_ok-lack.ensures.shown none));
-      written = search rules;
-    }
+pub returns-in_err-program-clause-completed : goal.returns-in_err-program-clause-completed
+returns-in_err-program-clause-completed g c =
+    let told : c.from_residual.result ≡ Err c.in_err-program.field-0.0 = search rules in
+    rw told (nothing_written _ c.in_err-program.field-0.0 c.requires.writable c.in_err-program.ensures.unwritten)
+
+pub returns-in_err-outcome-clause-reads : goal.returns-in_err-outcome-clause-reads
+returns-in_err-outcome-clause-reads g c =
+    two_answered c.in_ok-program.ensures.reads
+    (record { image = c.in_ok-program.program.image; tape = c.in_ok-program.ensures.image })
+    (record { declaration = meaning c.in_ok-program.program.given.declaration; declares = c.in_ok-program.ensures.declares })
+    proposal_is_later c.from_residual-in_err-outcome.result (search rules)
+
+pub returns-in_err-outcome-clause-completed : goal.returns-in_err-outcome-clause-completed
+returns-in_err-outcome-clause-completed g c =
+    let told : c.from_residual-in_err-outcome.result ≡ Err c.in_err-outcome.field-0.0 = search rules in
+    rw told (nothing_written _ c.in_err-outcome.field-0.0 c.requires.writable c.in_err-outcome.ensures.wrote)
+
+pub returns-clause-reads : goal.returns-clause-reads
+returns-clause-reads g c =
+    two_answered c.in_ok-program.ensures.reads
+    (record { image = c.in_ok-program.program.image; tape = c.in_ok-program.ensures.image })
+    (record { declaration = meaning c.in_ok-program.program.given.declaration; declares = c.in_ok-program.ensures.declares })
+    proposal_is_later c.write.result (write_follows _ c.write.result c.write.ensures.faults)
+
+pub returns-clause-completed : goal.returns-clause-completed
+returns-clause-completed g c =
+    outcome_written c.in_ok-outcome.outcome.status c.in_ok-outcome.outcome.text.items
+    (record {
+      image = c.in_ok-program.program.image;
+      tape = c.in_ok-program.ensures.image;
+      declaration = meaning c.in_ok-program.program.given.declaration;
+      declares = c.in_ok-program.ensures.declares;
+      is = c.in_ok-outcome.ensures.completes;
+    })
+    c.write.ensures.writes

@@ -1,31 +1,35 @@
-use Rattle.std.proofs.Common.{rules}
-use Rattle.search_commands.specs.DeclareText.{IsProposal}
-use Rattle.command_parts.specs.declared.status.Status.TheVariants.{Done, Refused}
-use Rattle.search_commands.proofs.DeclareLemmas.{remarked_proposal, shown_proposal}
+use Rattle.std.proofs.Common.{◌≡◌, false, rules, Err, Ok}
+use Rattle.command_parts.specs.Faults.{fails_to_write}
+use Rattle.command_parts.proofs.AnswerLemmas.{nothing_written, one_answered, one_read, outcome_written, write_follows}
+use Rattle.search_commands.proofs.FaultLemmas.{proposal_is_later}
 use Rattle.search_commands.proofs.declaring.declare.Goals as goal
 
-pub returns-in_err-put-clause-front : goal.returns-in_err-put-clause-front
-returns-in_err-put-clause-front g c =
-    let is : IsProposal c.args.options (g.R.ByteSource.remaining c.args.tape.now) Done c.in_ok-proposal.proposal.text.items =
-    shown_proposal c.args.options (g.R.ByteSource.remaining c.args.tape.now) c.in_ok-image.image c.in_ok-proposal.proposal c.in-Safe.field-0 c.in_ok-image.ensures.tape c.in_ok-proposal.ensures.fits c.in_ok-proposal.ensures.shown c.in_ok-proposal.ensures.listed c.in_ok-proposal.ensures.needed c.in_ok-proposal.ensures.unlisted c.in-Safe.is in
-    λ marked. record { text = c.in_ok-proposal.proposal.text.items; is = (Done, is); front = search rules }
+pub returns-in_err-image-clause-reads : goal.returns-in_err-image-clause-reads
+returns-in_err-image-clause-reads g c = one_read c.from_residual.result (search rules) (search rules) c.in_err-image.ensures.takes
 
-pub returns-in-Safe-clause-declared : goal.returns-in-Safe-clause-declared
-returns-in-Safe-clause-declared g c = record {
-  text = c.in_ok-proposal.proposal.text.items;
-  is = shown_proposal c.args.options (g.R.ByteSource.remaining c.args.tape.now) c.in_ok-image.image c.in_ok-proposal.proposal c.in-Safe.field-0 c.in_ok-image.ensures.tape c.in_ok-proposal.ensures.fits c.in_ok-proposal.ensures.shown c.in_ok-proposal.ensures.listed c.in_ok-proposal.ensures.needed c.in_ok-proposal.ensures.unlisted c.in-Safe.is;
-  written = search rules;
-}
+pub returns-in_err-image-clause-declared : goal.returns-in_err-image-clause-declared
+returns-in_err-image-clause-declared g c =
+    let told : c.from_residual.result ≡ Err c.in_err-image.field-0.0 = search rules in
+    let unwritten : fails_to_write c.from_residual.result ≡ false = search rules in
+    rw told (nothing_written _ c.in_err-image.field-0.0 c.requires.writable (rw told at unwritten))
 
-pub returns-in_err-put-2-clause-front : goal.returns-in_err-put-2-clause-front
-returns-in_err-put-2-clause-front g c =
-    let is : IsProposal c.args.options (g.R.ByteSource.remaining c.args.tape.now) Refused c.in_ok-text.text.items =
-    remarked_proposal c.args.options (g.R.ByteSource.remaining c.args.tape.now) c.in_ok-image.image c.in_ok-text.text.items c.in_ok-image.ensures.tape c.in_ok-text.ensures.declares in
-    λ marked. record { text = c.in_ok-text.text.items; is = (Refused, is); front = search rules }
+pub returns-in_err-outcome-clause-reads : goal.returns-in_err-outcome-clause-reads
+returns-in_err-outcome-clause-reads g c =
+    one_answered (one_read (Ok c.in_ok-image.image) tt c.in_ok-image.ensures.marks c.in_ok-image.ensures.takes)
+    (record { image = c.in_ok-image.image; tape = c.in_ok-image.ensures.tape }) proposal_is_later c.from_residual-in_err-outcome.result (search rules)
+
+pub returns-in_err-outcome-clause-declared : goal.returns-in_err-outcome-clause-declared
+returns-in_err-outcome-clause-declared g c =
+    let told : c.from_residual-in_err-outcome.result ≡ Err c.in_err-outcome.field-0.0 = search rules in
+    rw told (nothing_written _ c.in_err-outcome.field-0.0 c.requires.writable c.in_err-outcome.ensures.wrote)
+
+pub returns-clause-reads : goal.returns-clause-reads
+returns-clause-reads g c =
+    one_answered (one_read (Ok c.in_ok-image.image) tt c.in_ok-image.ensures.marks c.in_ok-image.ensures.takes)
+    (record { image = c.in_ok-image.image; tape = c.in_ok-image.ensures.tape }) proposal_is_later
+    c.write.result (write_follows _ c.write.result c.write.ensures.faults)
 
 pub returns-clause-declared : goal.returns-clause-declared
-returns-clause-declared g c = record {
-  text = c.in_ok-text.text.items;
-  is = remarked_proposal c.args.options (g.R.ByteSource.remaining c.args.tape.now) c.in_ok-image.image c.in_ok-text.text.items c.in_ok-image.ensures.tape c.in_ok-text.ensures.declares;
-  written = search rules;
-}
+returns-clause-declared g c =
+    outcome_written c.in_ok-outcome.outcome.status c.in_ok-outcome.outcome.text.items
+    (record { image = c.in_ok-image.image; tape = c.in_ok-image.ensures.tape; is = c.in_ok-outcome.ensures.proposal }) c.write.ensures.writes

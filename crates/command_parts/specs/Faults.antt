@@ -143,12 +143,6 @@ abbrev pub IsEventRunFault : Input → Input → Fault → Type 0
 IsEventRunFault tape text fault =
     IsTapeInputFault tape fault ⊎ (IsGoodTape tape.had × (IsEventsInputFault text fault ⊎ (IsGoodEvents text.had × IsRunFault fault)))
 
--- Why a search for a run that breaks a declaration has no result: the tape's fault; after a good tape the declaration's; and
--- after a good declaration that of the work.
-abbrev pub IsRefuteFault : Input → Input → Fault → Type 0
-IsRefuteFault tape text fault =
-    IsTapeInputFault tape fault ⊎ (IsGoodTape tape.had × (IsDeclarationInputFault text fault ⊎ (IsGoodDeclaration text.had × IsRunFault fault)))
-
 -- Why a session has no result: each input is looked at where those before it are good, and so many frames and keys at most.
 abbrev pub IsSessionFault : ℕ → Input → Input → Input → Fault → Type 0
 IsSessionFault most tape reader keys fault =

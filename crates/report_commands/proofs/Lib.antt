@@ -1,1 +1,1 @@
-pub mod UnreadLemmas
+pub mod FaultLemmas

@@ -1,5 +1,4 @@
 pub mod FaultLemmas
-pub mod UnreadLemmas
 pub mod DeclareLemmas
 pub mod CompleteLemmas
 pub mod StuckLemmas

@@ -3,8 +3,8 @@ use Rattle.std.proofs.Common.{ℕ, ◌≡◌, ◌∙◌, ap, sym, subst, List, O
 use Rattle.std.specs.Prelude.{◌⊎◌}
 use Rattle.labels.specs.Lines.{placed_text}
 use Rattle.labels.specs.Programs.{IsNumbered, NumberedIsMeant, NumberedIsTape}
-use Rattle.command_parts.specs.Faults.{IsDeclarationInputFault, IsEventsInputFault, IsRefuteFault, IsRunFault, IsTapeInputFault}
-use Rattle.command_parts.specs.Answers.{IsLaterFault, IsMemoryFault}
+use Rattle.command_parts.specs.Faults.{IsDeclarationInputFault, IsEventsInputFault, IsTapeInputFault}
+use Rattle.command_parts.specs.Answers.{IsLaterFault, IsMemoryFault, OfProgram}
 use Rattle.command_parts.specs.Inputs.{Input, IsGoodDeclaration, IsGoodEvents, IsGoodTape, TakesAtMost, input}
 use Rattle.command_parts.proofs.InputLemmas as inputs
 use Rattle.command_parts.specs.Writes.{FrontOf, Writes, WritesNothingOr}
@@ -15,10 +15,10 @@ use Rattle.command_parts.specs.declared.status.Status.{Status}
 use Rattle.machine_commands.specs.RefuteText.{IsToldOfWitness, IsWitness, IsWitnessText, WritesWitness}
 use Rattle.machine_commands.specs.WatchText.{IsWatchedSo}
 use Rattle.options.specs.declared.RefuteOptions.{RefuteOptions}
-use Rattle.search_commands.specs.GuessText.{IsGuess}
-use Rattle.search_commands.specs.SearchFaults.{IsGuessFault, IsSearchFault}
+use Rattle.search_commands.specs.GuessText.{IsGuessOf}
+use Rattle.search_commands.specs.SearchFaults.{IsSearchFault}
 use Rattle.search_commands.specs.StuckText.{IsStuck}
-use Rattle.search_commands.specs.VerifyText.{IsSomeAnswer, IsVerified}
+use Rattle.search_commands.specs.VerifyText.{IsVerified}
 use Rattle.search_commands.specs.declared.verifying.Answer.{Answer}
 use Rattle.verdict_texts.specs.CertificateFaults.{IsCertificateInputFault}
 use Rattle.verdict_texts.specs.CertificateInputs.{IsGoodCertificate, TakesCertificate}
@@ -71,7 +71,7 @@ module _ (parts : List (List ℕ)) (text tape numbers : List ℕ) (h : IsNumbere
       program = meant parts text tape numbers v.image v.declaration h v.tape v.declares;
     }
 
-    pub some_verified_so : (A : Type 0) (explained : Bool) (told : List ℕ) → IsSomeAnswer A (Some tape) (Some numbers) explained told → IsSomeSourceAnswer A parts text explained told
+    pub some_verified_so : (A : Type 0) (explained : Bool) (told : List ℕ) → (answer : Answer A) × IsVerified (Some tape) (Some numbers) explained answer told → IsSomeSourceAnswer A parts text explained told
     some_verified_so A explained told (answer, v) = (answer, verified_so explained answer told v)
 
     pub checked_so : (certificate : Option (List ℕ)) (line : List ℕ) (status : Status) → IsCheckedSo (Some tape) (Some numbers) certificate line status → IsSourceCheckedSo parts text certificate line status
@@ -96,13 +96,16 @@ module _ (parts : List (List ℕ)) (text tape numbers : List ℕ) (h : IsNumbere
     pub some_watched_so : (list : Option (List ℕ)) (explained : Bool) (named : ℕ → Bool) (told : List ℕ) → (status : Status) × IsWatchedSo (Some tape) (Some numbers) list explained named told status → IsSourceWatched parts text list explained named told
     some_watched_so list explained named told (status, v) = (status, watched_so list explained named told status v)
 
-    pub guess_so : (guess : List ℕ) → IsGuess (Some tape) (Some numbers) guess → IsSourceGuess parts text guess
-    guess_so guess v = record {
+    pub guess_so : (status : Status) (guess : List ℕ) → OfProgram (Some tape) (Some numbers) IsGuessOf status guess → IsSourceGuess parts text guess
+    guess_so status guess v = record {
       tape = tape;
       numbers = numbers;
-      guessed = v;
+      guessed = record { image = v.image; tape = v.tape; declaration = v.declaration; declares = v.declares; is = subst (λ (s : Status). IsGuessOf v.image v.declaration s guess) v.is.status_is v.is };
       program = meant parts text tape numbers v.image v.declaration h v.tape v.declares;
     }
+
+    pub some_guess_so : (guess : List ℕ) → (status : Status) × OfProgram (Some tape) (Some numbers) IsGuessOf status guess → IsSourceGuess parts text guess
+    some_guess_so guess (status, v) = guess_so status guess v
 
     pub stuck_so : (report : List ℕ) → IsStuck (Some tape) (Some numbers) report → IsSourceStuck parts text report
     stuck_so report v = record {
@@ -176,30 +179,20 @@ module _ (parts : List (List ℕ)) (text tape numbers : List ℕ) (h : IsNumbere
   declared_fault more (fault.Device device.Write) is = absurd is
   declared_fault more fault.NoMemory is = tt
 
-  work_fault : (f : Fault) → IsRunFault f → IsProgramFault parts text f
-  work_fault (fault.Tape e) is = is
-  work_fault fault.EmptyImage is = is
-  work_fault (fault.Source e) is = is
-  work_fault (fault.Declared e) is = absurd is
-  work_fault (fault.Certificate e) is = is
-  work_fault (fault.Events e) is = is
-  work_fault (fault.Guess e) is = is
-  work_fault (fault.Declare e) is = is
-  work_fault (fault.Device device.Read) is = is
-  work_fault (fault.Device device.Write) is = is
-  work_fault fault.NoMemory is = is
-
-  pub verify_fault : NumberedIsTape → (left more : Option (List ℕ)) (f : Fault) → IsRefuteFault (input false (Some tape) left) (input false (Some numbers) more) f → IsProgramFault parts text f
-  verify_fault is_tape left more f (inl is) = absurd (no_tape_fault is_tape left f is)
-  verify_fault is_tape left more f (inr (good, inl is)) = declared_fault more f is
-  verify_fault is_tape left more f (inr (good, inr (declared, is))) = work_fault f is
-
   -- what follows good inputs is a fault of the work
   later_fault : (f : Fault) → IsLaterFault IsMemoryFault f → IsProgramFault parts text f
   later_fault f (inl is) = subst (λ (x : Fault). IsProgramFault parts text x) (sym is) tt
   later_fault (fault.Device device.Write) (inr is) = tt
   later_fault (fault.Device device.Read) (inr is) = absurd is
   later_fault _ (inr is) = absurd is
+
+  pub verify_fault : NumberedIsTape → (left more : Option (List ℕ)) (f : Fault) →
+      IsTapeInputFault (input false (Some tape) left) f ⊎ (IsGoodTape (Some tape) × (IsDeclarationInputFault (input false (Some numbers) more) f
+      ⊎ (IsGoodDeclaration (Some numbers) × IsLaterFault IsMemoryFault f))) →
+      IsProgramFault parts text f
+  verify_fault is_tape left more f (inl is) = absurd (no_tape_fault is_tape left f is)
+  verify_fault is_tape left more f (inr (good, inl is)) = declared_fault more f is
+  verify_fault is_tape left more f (inr (good, inr (declared, is))) = later_fault f is
 
   pub check_fault : NumberedIsTape → (left more : Option (List ℕ)) (certificate : Input) (f : Fault) →
       IsTapeInputFault (input false (Some tape) left) f ⊎ (IsGoodTape (Some tape) × (IsDeclarationInputFault (input false (Some numbers) more) f
@@ -219,8 +212,11 @@ module _ (parts : List (List ℕ)) (text tape numbers : List ℕ) (h : IsNumbere
   watch_fault is_tape left more list f (inr (good, inr (declared, inl is))) = inr (good_program declared, is)
   watch_fault is_tape left more list f (inr (good, inr (declared, inr (events, is)))) = inl (later_fault f is)
 
-  pub guess_fault : NumberedIsTape → (left more : Option (List ℕ)) (f : Fault) → IsGuessFault (input false (Some tape) left) (input false (Some numbers) more) f →
+  pub guess_fault : NumberedIsTape → (left more : Option (List ℕ)) (f : Fault) →
+      IsTapeInputFault (input false (Some tape) left) f ⊎ (IsGoodTape (Some tape) × (IsDeclarationInputFault (input false (Some numbers) more) f
+      ⊎ (IsGoodDeclaration (Some numbers) × IsLaterFault IsSearchFault f))) →
       IsProgramFault parts text f ⊎ (IsGoodProgram parts text × IsSearchFault f)
   guess_fault is_tape left more f (inl is) = absurd (no_tape_fault is_tape left f is)
   guess_fault is_tape left more f (inr (good, inl is)) = inl (declared_fault more f is)
-  guess_fault is_tape left more f (inr (good, inr (declared, is))) = inr (good_program declared, is)
+  guess_fault is_tape left more f (inr (good, inr (declared, inl is))) = inr (good_program declared, is)
+  guess_fault is_tape left more f (inr (good, inr (declared, inr is))) = inl (later_fault f (inr is))

@@ -1,11 +1,11 @@
 -- What a command does with its inputs and its output: which inputs it reads, in which order and how far, which fault it tells,
 -- what it writes, and what a fault leaves.
-use Rattle.std.specs.Prelude.{ℕ, ◌≡◌, ◌||◌, ◌⊎◌, Bool, true, false, Result, Err, IfOk, IfErr, OnErr, List, Option}
+use Rattle.std.specs.Prelude.{ℕ, ◌≡◌, ◌⊎◌, Bool, true, false, Result, Err, IfOk, IfErr, OnErr, List, Option, ⊤}
 use Rattle.peripherals.specs.declared.Event.{Event}
 use Rattle.declaration.specs.Declaration.{Declaration}
 use Rattle.command_parts.specs.declared.status.Fault.{Fault}
 use Rattle.command_parts.specs.declared.status.Fault.TheVariants as fault
-use Rattle.command_parts.specs.Faults.{IsDeclarationInputFault, IsEventsInputFault, IsTapeInputFault, IsWriteFault, fails_to_read, fails_to_write, is_fault_of_declaration, is_fault_of_tape}
+use Rattle.command_parts.specs.Faults.{IsDeclarationInputFault, IsEventsInputFault, IsTapeInputFault, IsWriteFault, fails_to_read, fails_to_write}
 use Rattle.command_parts.specs.Inputs.{HasDeclaration, HasEvents, HasImage, Input, IsGoodDeclaration, IsGoodEvents, IsGoodTape, TakesAtMost, TakesTape}
 use Rattle.command_parts.specs.Writes.{FrontOf, Writes}
 
@@ -60,61 +60,65 @@ NeverFails fault = ⊥
 abbrev pub IsMemoryFault : Fault → Type 0
 IsMemoryFault f = f ≡ fault.NoMemory
 
--- How a command reads its one input, where it is given which faults such an input has, when it is good, how much of it is taken at
--- most, and which faults may follow a good one.
-pub record ReadsOne {T : Type 0} (IsFault : Input → Fault → Type 0) (IsGood : Option (List ℕ) → Type 0) (Takes : Option (List ℕ) → Option (List ℕ) → Type 0)
-    (Follows : Fault → Type 0) (one : Input) (result : Result T Fault) : Type 0 where
-  -- a fault is that of the input, or follows a good one
-  pub faults : IfErr result (λ fault. IsFault one fault ⊎ (IsGood one.had × Follows fault))
-  -- a read failed exactly where the fault says so
-  pub reads : one.failed ≡ fails_to_read result
-  -- the input is not read past its limit
-  pub takes : Takes one.had one.left
+-- The command ends at an input: it has this fault, a read of it failed exactly where the fault says so, and nothing after it is
+-- touched.
+pub record EndsAt {T : Type 0} (IsFault : Input → Fault → Type 0) (one : Input) (untouched : Type 0) (result : Result T Fault) : Type 0 where
+  pub fault : Fault
+  pub is : result ≡ Err fault
+  pub has : IsFault one fault
+  pub marks : one.failed ≡ fails_to_read result
+  pub rest : untouched
 
--- How a command reads a tape and then a declaration, and after them whatever else it reads. It is given which faults may follow
--- good ones, whether a read of something else failed, and, as `untouched`, that the declaration and whatever is read after it are
--- as they were.
-pub record ReadsProgram {T : Type 0} (Follows : Fault → Type 0) (rest_failed : Bool) (tape text : Input) (untouched : Type 0) (result : Result T Fault) : Type 0 where
-  -- a fault is that of the tape, that of the declaration after a good tape, or one that follows a good declaration
-  pub faults : IfErr result (λ fault. IsTapeInputFault tape fault ⊎ (IsGoodTape tape.had × (IsDeclarationInputFault text fault ⊎ (IsGoodDeclaration text.had × Follows fault))))
-  -- a read failed exactly where the fault says so
-  pub reads : (rest_failed || (tape.failed || text.failed)) ≡ fails_to_read result
-  -- nothing after the tape is touched where the tape is refused,
-  pub unread : IfErr result (λ fault. is_fault_of_tape fault ≡ true → untouched)
-  -- nor where a read of the tape failed,
-  pub unread_after_failure : tape.failed ≡ true → untouched
-  -- but only after a good tape
-  pub after_tape : untouched ⊎ IsGoodTape tape.had
-  -- neither input is read past its limit
-  pub takes_tape : TakesTape tape.had tape.left
-  pub takes_declaration : TakesAtMost 16385 text.had text.left
+-- The command goes on after an input: it is good, no read of it failed, and of the rest this is true.
+pub record GoesOn {T : Type 0} (IsGood : Option (List ℕ) → Type 0) (one : Input) (Rest : Result T Fault → Type 0) (result : Result T Fault) : Type 0 where
+  pub good : IsGood one.had
+  pub marks : one.failed ≡ false
+  pub rest : Rest result
 
--- How a command reads a tape, a declaration and then a third input, where it is given which faults the third has, when it is
--- good, and how much of it is taken at most.
-pub record ReadsProgramAnd {T : Type 0} (IsFault : Input → Fault → Type 0) (IsGood : Option (List ℕ) → Type 0) (Takes : Option (List ℕ) → Option (List ℕ) → Type 0)
-    (Follows : Fault → Type 0) (tape text third : Input) (text_untouched third_untouched : Type 0) (result : Result T Fault) : Type 0 where
-  -- the tape and the declaration are read as by any command
-  pub program : ReadsProgram (λ fault. IsFault third fault ⊎ (IsGood third.had × Follows fault)) third.failed tape text (text_untouched × third_untouched) result
-  -- the third input is not touched where the declaration is refused,
-  pub unread : IfErr result (λ fault. is_fault_of_declaration fault ≡ true → third_untouched)
-  -- nor where a read of the declaration failed,
-  pub unread_after_failure : text.failed ≡ true → third_untouched
-  -- but only after a good declaration
-  pub after_declaration : third_untouched ⊎ IsGoodDeclaration text.had
-  -- memory that is refused once the third input was begun is wanted for it, or after it
-  pub wanted : result ≡ Err fault.NoMemory → third_untouched ⊎ (IsFault third fault.NoMemory ⊎ IsGood third.had)
+-- How a command reads an input and then goes on, where it is given which faults such an input has, when it is good, how much of it
+-- is taken at most, that nothing after it is touched, and what the command does after a good one. It ends at the input or goes on
+-- after it, so its fault is that of the first input that has one, no input is touched after one that is refused or whose read
+-- failed, and memory that is refused is wanted for an input only while it is read, or after all.
+pub record Reads {T : Type 0} (IsFault : Input → Fault → Type 0) (IsGood : Option (List ℕ) → Type 0) (Takes : Option (List ℕ) → Option (List ℕ) → Type 0)
+    (one : Input) (untouched : Type 0) (Rest : Result T Fault → Type 0) (result : Result T Fault) : Type 0 where
   -- it is not read past its limit
-  pub takes : Takes third.had third.left
+  pub takes : Takes one.had one.left
+  -- the command ends here, or goes on
+  pub ends : EndsAt IsFault one untouched result ⊎ GoesOn IsGood one Rest result
 
--- How a command reads a tape alone.
-abbrev pub ReadsTape : {T : Type 0} → (Fault → Type 0) → Input → Result T Fault → Type 0
-ReadsTape Follows tape result = ReadsOne IsTapeInputFault IsGoodTape TakesTape Follows tape result
+-- All inputs are good: a fault is one of these.
+abbrev pub FailsBy : {T : Type 0} → (Fault → Type 0) → Result T Fault → Type 0
+FailsBy IsLater result = IfErr result IsLater
+
+-- How a command reads a tape, with what comes after it.
+abbrev pub ReadsTape : {T : Type 0} → Input → Type 0 → (Result T Fault → Type 0) → Result T Fault → Type 0
+ReadsTape tape untouched Rest result = Reads IsTapeInputFault IsGoodTape TakesTape tape untouched Rest result
+
+-- Of a declaration's text no more is taken than it may have and one byte more.
+abbrev pub TakesDeclaration : Option (List ℕ) → Option (List ℕ) → Type 0
+TakesDeclaration had left = TakesAtMost 16385 had left
+
+-- How a command reads a declaration, with what comes after it.
+abbrev pub ReadsDeclaration : {T : Type 0} → Input → Type 0 → (Result T Fault → Type 0) → Result T Fault → Type 0
+ReadsDeclaration text untouched Rest result = Reads IsDeclarationInputFault IsGoodDeclaration TakesDeclaration text untouched Rest result
 
 -- Of a text of events no more is taken than it may have and one byte more.
 abbrev pub TakesEvents : Option (List ℕ) → Option (List ℕ) → Type 0
 TakesEvents had left = TakesAtMost 65537 had left
 
+-- How a command reads a text of events, with what comes after it.
+abbrev pub ReadsEvents : {T : Type 0} → Input → Type 0 → (Result T Fault → Type 0) → Result T Fault → Type 0
+ReadsEvents list untouched Rest result = Reads IsEventsInputFault IsGoodEvents TakesEvents list untouched Rest result
+
+-- How a command reads a tape alone.
+abbrev pub ReadsOne : {T : Type 0} → (Fault → Type 0) → Input → Result T Fault → Type 0
+ReadsOne IsLater tape result = ReadsTape tape ⊤ (FailsBy IsLater) result
+
+-- How a command reads a tape and a declaration.
+abbrev pub ReadsTwo : {T : Type 0} → (Fault → Type 0) → Input → Input → Type 0 → Result T Fault → Type 0
+ReadsTwo IsLater tape text untouched result = ReadsTape tape untouched (ReadsDeclaration text ⊤ (FailsBy IsLater)) result
+
 -- How a command reads a tape, a declaration and a text of events.
 abbrev pub ReadsRun : {T : Type 0} → (Fault → Type 0) → Input → Input → Input → Type 0 → Type 0 → Result T Fault → Type 0
-ReadsRun Follows tape text list text_untouched list_untouched result =
-    ReadsProgramAnd IsEventsInputFault IsGoodEvents TakesEvents Follows tape text list text_untouched list_untouched result
+ReadsRun IsLater tape text list text_untouched list_untouched result =
+    ReadsTape tape (text_untouched × list_untouched) (ReadsDeclaration text list_untouched (ReadsEvents list ⊤ (FailsBy IsLater))) result

@@ -2,7 +2,7 @@
 
 ghost use Rattle.std.specs.Prelude.{◌≡◌, false, IfOk};
 ghost use Rattle.declaration.specs.Kept.{meaning};
-ghost use Rattle.command_parts.specs.Answers.{NeverFails, ReadsProgram, ReadsRun};
+ghost use Rattle.command_parts.specs.Answers.{NeverFails, ReadsRun, ReadsTwo};
 ghost use Rattle.command_parts.specs.Faults.{fails_to_write};
 ghost use Rattle.command_parts.specs.Inputs.{HasDeclaration, HasEvents, HasImage, input};
 
@@ -43,7 +43,7 @@ pub fn program_from<A: Allocator + Copy, R: ByteSource, D: ByteSource>(
     ensures image { IfOk result (λ program. HasImage (R.remaining tape.old) program.image) }
     ensures declares { IfOk result (λ program.
         HasDeclaration (D.remaining declaration.old) (meaning program.declaration)) }
-    ensures reads { ReadsProgram NeverFails false
+    ensures reads { ReadsTwo NeverFails
         (input (R.mark tape.new) (R.remaining tape.old) (R.remaining tape.new))
         (input (D.mark declaration.new) (D.remaining declaration.old) (D.remaining declaration.new))
         (declaration.new ≡ declaration.old) result }

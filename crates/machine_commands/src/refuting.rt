@@ -1,7 +1,7 @@
 //! The command that looks for a run that breaks a declaration.
 
 ghost use Rattle.std.specs.Prelude.{◌≡◌, ◌||◌, ◌⊎◌, false, true, IfOk, OnErr};
-ghost use Rattle.command_parts.specs.Answers.{IsLaterFault, IsMemoryFault, ReadsProgram};
+ghost use Rattle.command_parts.specs.Answers.{IsLaterFault, IsMemoryFault, ReadsTwo};
 ghost use Rattle.command_parts.specs.Faults.{fails_to_write};
 ghost use Rattle.command_parts.specs.Inputs.{input};
 ghost use Rattle.command_parts.specs.Writes.{FrontOf, Writes, WritesNothingOr};
@@ -85,7 +85,7 @@ pub fn refute<A: Allocator + Copy, R: ByteSource, D: ByteSource, W: ByteSink, P:
     // A write failed exactly where the answer says so.
     ensures marks { W.mark out.new || P.mark report.new ≡ fails_to_write result }
     // The inputs are read in order; after good ones a write may fail, or memory be refused.
-    ensures reads { ReadsProgram (IsLaterFault IsMemoryFault) false
+    ensures reads { ReadsTwo (IsLaterFault IsMemoryFault)
         (input (R.mark tape.new) (R.remaining tape.old) (R.remaining tape.new))
         (input (D.mark declaration.new) (D.remaining declaration.old) (D.remaining declaration.new))
         (declaration.new ≡ declaration.old) result }

@@ -4,7 +4,7 @@ ghost use Rattle.std.specs.Prelude.{◌≡◌, ◌++◌, ◌⊎◌, false, true,
 ghost use Rattle.declaration.specs.Kept.{meaning};
 ghost use Rattle.analyser.specs.Attempts.{IsDraft};
 ghost use Rattle.certificate.specs.Kept.{claims};
-ghost use Rattle.command_parts.specs.Answers.{IsLaterFault, ReadsProgram};
+ghost use Rattle.command_parts.specs.Answers.{IsLaterFault, ReadsTwo};
 ghost use Rattle.command_parts.specs.Faults.{fails_to_write};
 ghost use Rattle.command_parts.specs.Inputs.{input};
 ghost use Rattle.command_parts.specs.Writes.{FrontOf, Writes};
@@ -158,7 +158,7 @@ pub fn report_draft<A: Allocator + Copy, R: ByteSource, D: ByteSource, W: ByteSi
     // A write failed exactly where the answer says so.
     ensures marks { W.mark out.new ≡ fails_to_write result }
     // The inputs are read in order; after good ones nothing may be found, or a write may fail.
-    ensures reads { ReadsProgram (IsLaterFault IsDraftWorkFault) false
+    ensures reads { ReadsTwo (IsLaterFault IsDraftWorkFault)
         (input (R.mark tape.new) (R.remaining tape.old) (R.remaining tape.new))
         (input (D.mark declaration.new) (D.remaining declaration.old) (D.remaining declaration.new))
         (declaration.new ≡ declaration.old) result }

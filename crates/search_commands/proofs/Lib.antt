@@ -1,4 +1,3 @@
-pub mod FaultLemmas
 pub mod DeclareLemmas
 pub mod CompleteLemmas
 pub mod StuckLemmas

@@ -1,7 +1,7 @@
 //! The command that adds to a declaration what is missing there.
 
 ghost use Rattle.std.specs.Prelude.{◌≡◌, ◌⊎◌, false, Ok, Err, None, IfSome, IfOk, IfErr};
-ghost use Rattle.command_parts.specs.Answers.{IsLaterFault, IsMemoryFault, NeverFails, OfProgram, ReadsProgram, WritesAnswer, output};
+ghost use Rattle.command_parts.specs.Answers.{IsLaterFault, IsMemoryFault, NeverFails, OfProgram, ReadsTwo, WritesAnswer, output};
 ghost use Rattle.command_parts.specs.Faults.{IsDeclarationInputFault, fails_to_read, fails_to_write};
 ghost use Rattle.command_parts.specs.Inputs.{HasDeclaration, HasImage, TakesAtMost, input};
 ghost use Rattle.command_parts.specs.declared.status.Status.TheVariants.{Done, Refused};
@@ -95,7 +95,7 @@ fn given_program_from<A: Allocator + Copy, R: ByteSource, D: ByteSource>(
         HasDeclaration (D.remaining declaration.old) (meaning program.given.declaration)) }
     ensures text { IfOk result (λ program.
         Declares program.given.text.items (meaning program.given.declaration)) }
-    ensures reads { ReadsProgram NeverFails false
+    ensures reads { ReadsTwo NeverFails
         (input (R.mark tape.new) (R.remaining tape.old) (R.remaining tape.new))
         (input (D.mark declaration.new) (D.remaining declaration.old) (D.remaining declaration.new))
         (declaration.new ≡ declaration.old) result }
@@ -332,7 +332,7 @@ pub fn complete<A: Allocator + Copy, R: ByteSource, D: ByteSource, W: ByteSink>(
         (OfProgram (R.remaining tape.old) (D.remaining declaration.old) Completes)
         (output (W.mark out.new) (W.taken out.old) (W.taken out.new)) result }
     // The inputs are read in order; after good ones what was found may be undeclarable, or a write fail.
-    ensures reads { ReadsProgram (IsLaterFault IsProposeFault) false
+    ensures reads { ReadsTwo (IsLaterFault IsProposeFault)
         (input (R.mark tape.new) (R.remaining tape.old) (R.remaining tape.new))
         (input (D.mark declaration.new) (D.remaining declaration.old) (D.remaining declaration.new))
         (declaration.new ≡ declaration.old) result }

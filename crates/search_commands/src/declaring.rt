@@ -1,7 +1,7 @@
 //! The command that proposes a declaration.
 
 ghost use Rattle.std.specs.Prelude.{◌≡◌, None, false, true, IfOk, IfErr};
-ghost use Rattle.command_parts.specs.Answers.{IsLaterFault, ReadsTape, WritesAnswer, output};
+ghost use Rattle.command_parts.specs.Answers.{IsLaterFault, ReadsOne, WritesAnswer, output};
 ghost use Rattle.command_parts.specs.Faults.{fails_to_read, fails_to_write};
 ghost use Rattle.command_parts.specs.Inputs.{input};
 ghost use Rattle.search_commands.specs.DeclareText.{IsBare, IsProposal, IsProposalOf};
@@ -224,7 +224,7 @@ pub fn declare<A: Allocator + Copy, R: ByteSource, W: ByteSink>(
     ensures declared { WritesAnswer (IsProposal options (R.remaining tape.old))
         (output (W.mark out.new) (W.taken out.old) (W.taken out.new)) result }
     // The tape is read; after a good one what was found may be undeclarable, or a write fail.
-    ensures reads { ReadsTape (IsLaterFault IsProposeFault)
+    ensures reads { ReadsOne (IsLaterFault IsProposeFault)
         (input (R.mark tape.new) (R.remaining tape.old) (R.remaining tape.new)) result }
 {
     let image = tape_from(tape)?;

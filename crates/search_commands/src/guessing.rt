@@ -1,7 +1,7 @@
 //! The command that guesses a certificate.
 
 ghost use Rattle.std.specs.Prelude.{◌≡◌, false};
-ghost use Rattle.command_parts.specs.Answers.{IsLaterFault, OfProgram, ReadsProgram, WritesAnswer, output};
+ghost use Rattle.command_parts.specs.Answers.{IsLaterFault, OfProgram, ReadsTwo, WritesAnswer, output};
 ghost use Rattle.command_parts.specs.Inputs.{input};
 ghost use Rattle.search_commands.specs.GuessText.{IsGuessOf};
 ghost use Rattle.search_commands.specs.SearchFaults.{IsSearchFault};
@@ -36,7 +36,7 @@ pub fn guess<A: Allocator + Copy, R: ByteSource, D: ByteSource, W: ByteSink>(
         (OfProgram (R.remaining tape.old) (D.remaining declaration.old) IsGuessOf)
         (output (W.mark out.new) (W.taken out.old) (W.taken out.new)) result }
     // The inputs are read in order; after good ones nothing may be found, or a write may fail.
-    ensures reads { ReadsProgram (IsLaterFault IsSearchFault) false
+    ensures reads { ReadsTwo (IsLaterFault IsSearchFault)
         (input (R.mark tape.new) (R.remaining tape.old) (R.remaining tape.new))
         (input (D.mark declaration.new) (D.remaining declaration.old) (D.remaining declaration.new))
         (declaration.new ≡ declaration.old) result }

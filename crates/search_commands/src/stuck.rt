@@ -6,7 +6,7 @@ ghost use Rattle.analyser.specs.Attempts.{IsDraft};
 ghost use Rattle.certificate.specs.Kept.{claims, meaning as lines_of};
 ghost use Rattle.search_commands.specs.GuessText.{IsGuess};
 ghost use Rattle.search_commands.specs.SearchFaults.{IsSearchFault};
-ghost use Rattle.command_parts.specs.Answers.{IsLaterFault, ReadsProgram};
+ghost use Rattle.command_parts.specs.Answers.{IsLaterFault, ReadsTwo};
 ghost use Rattle.command_parts.specs.Faults.{fails_to_write};
 ghost use Rattle.command_parts.specs.Inputs.{input};
 ghost use Rattle.search_commands.specs.StuckText.{IsReport, IsStuck, stuck_text};
@@ -144,7 +144,7 @@ pub fn guess_or_explain<
     // A write to the output failed exactly where the answer says so.
     ensures marks { W.mark out.new ≡ fails_to_write result }
     // The inputs are read in order; after good ones nothing may be found, or a write may fail.
-    ensures reads { ReadsProgram (IsLaterFault IsSearchFault) false
+    ensures reads { ReadsTwo (IsLaterFault IsSearchFault)
         (input (R.mark tape.new) (R.remaining tape.old) (R.remaining tape.new))
         (input (D.mark declaration.new) (D.remaining declaration.old) (D.remaining declaration.new))
         (declaration.new ≡ declaration.old) result }

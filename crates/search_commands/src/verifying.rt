@@ -2,7 +2,7 @@
 
 ghost use Rattle.std.specs.Prelude.{◌≡◌, false, [], IfOk, IfErr};
 ghost use Rattle.declaration.specs.Kept.{meaning};
-ghost use Rattle.command_parts.specs.Answers.{IsLaterFault, IsMemoryFault, OfProgram, ReadsProgram, ReadsTape, WritesAnswer, output};
+ghost use Rattle.command_parts.specs.Answers.{IsLaterFault, IsMemoryFault, OfProgram, ReadsOne, ReadsTwo, WritesAnswer, output};
 ghost use Rattle.command_parts.specs.Inputs.{input};
 ghost use Rattle.search_commands.specs.SearchFaults.{IsProposeFault};
 ghost use Rattle.search_commands.specs.VerifyText.{IsAnswer, IsProposedAnswer, IsTold, IsVerifiedOf, answer_status, answer_text, lack_text, no_text};
@@ -285,7 +285,7 @@ pub fn verify<A: Allocator + Copy, R: ByteSource, D: ByteSource, W: ByteSink>(
         (IsVerifiedOf options.explained))
         (output (W.mark out.new) (W.taken out.old) (W.taken out.new)) result }
     // The inputs are read in order; after good ones a write may fail, or memory be refused.
-    ensures reads { ReadsProgram (IsLaterFault IsMemoryFault) false
+    ensures reads { ReadsTwo (IsLaterFault IsMemoryFault)
         (input (R.mark tape.new) (R.remaining tape.old) (R.remaining tape.new))
         (input (D.mark declaration.new) (D.remaining declaration.old) (D.remaining declaration.new))
         (declaration.new ≡ declaration.old) result }
@@ -337,7 +337,7 @@ pub fn verify_proposed<A: Allocator + Copy, R: ByteSource, W: ByteSink>(
     ensures verified { WritesAnswer (IsProposedAnswer options (R.remaining tape.old))
         (output (W.mark out.new) (W.taken out.old) (W.taken out.new)) result }
     // The tape is read; after a good one what was found may be undeclarable, or a write fail.
-    ensures reads { ReadsTape (IsLaterFault IsProposeFault)
+    ensures reads { ReadsOne (IsLaterFault IsProposeFault)
         (input (R.mark tape.new) (R.remaining tape.old) (R.remaining tape.new)) result }
 {
     let image = tape_from(tape)?;

@@ -1,7 +1,7 @@
 //! The command that migrates a certificate.
 
-ghost use Rattle.std.specs.Prelude.{◌≡◌, false};
-ghost use Rattle.command_parts.specs.Answers.{IsLaterFault, NeverFails, WritesAnswer, output};
+ghost use Rattle.std.specs.Prelude.{◌≡◌, false, ⊤};
+ghost use Rattle.command_parts.specs.Answers.{FailsBy, IsLaterFault, NeverFails, WritesAnswer, output};
 ghost use Rattle.command_parts.specs.Inputs.{input};
 ghost use Rattle.command_parts.specs.declared.status.Status.TheVariants.{Done};
 ghost use Rattle.verdict_texts.specs.CertificateFaults.{ReadsCertificate};
@@ -32,9 +32,9 @@ pub fn migrate<A: Allocator + Copy, C: ByteSource, W: ByteSink>(
         (λ status text. (status ≡ Done) × IsMigrated (C.remaining certificate.old) text)
         (output (W.mark out.new) (W.taken out.old) (W.taken out.new)) result }
     // The certificate is read, and after a good one a write may fail.
-    ensures reads { ReadsCertificate (IsLaterFault NeverFails)
-        (input (C.mark certificate.new) (C.remaining certificate.old)
-        (C.remaining certificate.new)) result }
+    ensures reads { ReadsCertificate
+        (input (C.mark certificate.new) (C.remaining certificate.old) (C.remaining certificate.new))
+        ⊤ (FailsBy (IsLaterFault NeverFails)) result }
 {
     let claims = certificate_from(alloc, certificate)?;
     let migrated = claims.migrated();

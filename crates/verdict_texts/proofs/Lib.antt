@@ -1,2 +1,1 @@
-pub mod CertificateLemmas
 pub mod CheckLemmas

@@ -1,5 +1,5 @@
 use Rattle.std.proofs.Common.{◌≡◌, rules, inl, inr, Err, Ok}
-use Rattle.command_parts.proofs.AnswerLemmas.{memory_is_later, two_answered, two_refused}
+use Rattle.command_parts.proofs.AnswerLemmas.{two_good, two_refused}
 use Rattle.std.specs.Io.KnownBytes.{Appends}
 use Rattle.streams.specs.Bytes.{AppendsFront}
 use Rattle.declaration.specs.Kept.{meaning}
@@ -60,56 +60,32 @@ returns-in_err-program-clause-reads g c =
 
 pub returns-in_err-found-clause-reads : goal.returns-in_err-found-clause-reads
 returns-in_err-found-clause-reads g c =
-    two_answered c.in_ok-program.ensures.reads
-    (record { image = c.in_ok-program.program.image; tape = c.in_ok-program.ensures.image })
-    (record { declaration = meaning c.in_ok-program.program.declaration; declares = c.in_ok-program.ensures.declares })
-    memory_is_later c.from_residual-in_err-found.result (search rules)
+    two_good c.from_residual-in_err-found.result (search rules) c.in_ok-program.ensures.reads
 
 pub returns-in_err-line-clause-reads : goal.returns-in_err-line-clause-reads
 returns-in_err-line-clause-reads g c =
-    two_answered c.in_ok-program.ensures.reads
-    (record { image = c.in_ok-program.program.image; tape = c.in_ok-program.ensures.image })
-    (record { declaration = meaning c.in_ok-program.program.declaration; declares = c.in_ok-program.ensures.declares })
-    memory_is_later c.from_residual-in_err-line.result (search rules)
+    two_good c.from_residual-in_err-line.result (search rules) c.in_ok-program.ensures.reads
 
 pub returns-in_err-put-clause-reads : goal.returns-in_err-put-clause-reads
 returns-in_err-put-clause-reads g c =
-    two_answered c.in_ok-program.ensures.reads
-    (record { image = c.in_ok-program.program.image; tape = c.in_ok-program.ensures.image })
-    (record { declaration = meaning c.in_ok-program.program.declaration; declares = c.in_ok-program.ensures.declares })
-    memory_is_later c.from_residual-in_err-put.result (search rules)
+    two_good c.from_residual-in_err-put.result (search rules) c.in_ok-program.ensures.reads
 
 pub returns-in_default-clause-reads : goal.returns-in_default-clause-reads
 returns-in_default-clause-reads g c =
-    two_answered c.in_ok-program.ensures.reads
-    (record { image = c.in_ok-program.program.image; tape = c.in_ok-program.ensures.image })
-    (record { declaration = meaning c.in_ok-program.program.declaration; declares = c.in_ok-program.ensures.declares })
-    memory_is_later (Ok _) tt
+    two_good (Ok _) tt c.in_ok-program.ensures.reads
 
 pub returns-in_err-told-clause-reads : goal.returns-in_err-told-clause-reads
 returns-in_err-told-clause-reads g c =
-    two_answered c.in_ok-program.ensures.reads
-    (record { image = c.in_ok-program.program.image; tape = c.in_ok-program.ensures.image })
-    (record { declaration = meaning c.in_ok-program.program.declaration; declares = c.in_ok-program.ensures.declares })
-    memory_is_later c.from_residual-in_err-told.result (search rules)
+    two_good c.from_residual-in_err-told.result (search rules) c.in_ok-program.ensures.reads
 
 pub returns-in_err-put-2-clause-reads : goal.returns-in_err-put-2-clause-reads
 returns-in_err-put-2-clause-reads g c =
-    two_answered c.in_ok-program.ensures.reads
-    (record { image = c.in_ok-program.program.image; tape = c.in_ok-program.ensures.image })
-    (record { declaration = meaning c.in_ok-program.program.declaration; declares = c.in_ok-program.ensures.declares })
-    memory_is_later c.from_residual-in_err-put-2.result (search rules)
+    two_good c.from_residual-in_err-put-2.result (search rules) c.in_ok-program.ensures.reads
 
 pub returns-in_err-put-3-clause-reads : goal.returns-in_err-put-3-clause-reads
 returns-in_err-put-3-clause-reads g c =
-    two_answered c.in_ok-program.ensures.reads
-    (record { image = c.in_ok-program.program.image; tape = c.in_ok-program.ensures.image })
-    (record { declaration = meaning c.in_ok-program.program.declaration; declares = c.in_ok-program.ensures.declares })
-    memory_is_later c.from_residual-in_err-put-3.result (search rules)
+    two_good c.from_residual-in_err-put-3.result (search rules) c.in_ok-program.ensures.reads
 
 pub returns-clause-reads : goal.returns-clause-reads
 returns-clause-reads g c =
-    two_answered c.in_ok-program.ensures.reads
-    (record { image = c.in_ok-program.program.image; tape = c.in_ok-program.ensures.image })
-    (record { declaration = meaning c.in_ok-program.program.declaration; declares = c.in_ok-program.ensures.declares })
-    memory_is_later (Ok _) tt
+    two_good (Ok _) tt c.in_ok-program.ensures.reads

@@ -1,7 +1,6 @@
 use Rattle.std.proofs.Common.{◌≡◌, rules, Err}
 use Rattle.declaration.specs.Kept.{meaning}
-use Rattle.command_parts.proofs.AnswerLemmas.{nothing_written, outcome_written, two_answered, two_refused, write_follows}
-use Rattle.search_commands.proofs.FaultLemmas.{proposal_is_later}
+use Rattle.command_parts.proofs.AnswerLemmas.{nothing_written, outcome_written, two_good, two_refused, write_follows}
 use Rattle.search_commands.proofs.completing.complete.Goals as goal
 
 pub returns-in_err-program-clause-reads : goal.returns-in_err-program-clause-reads
@@ -16,10 +15,7 @@ returns-in_err-program-clause-completed g c =
 
 pub returns-in_err-outcome-clause-reads : goal.returns-in_err-outcome-clause-reads
 returns-in_err-outcome-clause-reads g c =
-    two_answered c.in_ok-program.ensures.reads
-    (record { image = c.in_ok-program.program.image; tape = c.in_ok-program.ensures.image })
-    (record { declaration = meaning c.in_ok-program.program.given.declaration; declares = c.in_ok-program.ensures.declares })
-    proposal_is_later c.from_residual-in_err-outcome.result (search rules)
+    two_good c.from_residual-in_err-outcome.result (search rules) c.in_ok-program.ensures.reads
 
 pub returns-in_err-outcome-clause-completed : goal.returns-in_err-outcome-clause-completed
 returns-in_err-outcome-clause-completed g c =
@@ -28,10 +24,7 @@ returns-in_err-outcome-clause-completed g c =
 
 pub returns-clause-reads : goal.returns-clause-reads
 returns-clause-reads g c =
-    two_answered c.in_ok-program.ensures.reads
-    (record { image = c.in_ok-program.program.image; tape = c.in_ok-program.ensures.image })
-    (record { declaration = meaning c.in_ok-program.program.given.declaration; declares = c.in_ok-program.ensures.declares })
-    proposal_is_later c.write.result (write_follows _ c.write.result c.write.ensures.faults)
+    two_good c.write.result (write_follows _ c.write.result c.write.ensures.faults) c.in_ok-program.ensures.reads
 
 pub returns-clause-completed : goal.returns-clause-completed
 returns-clause-completed g c =

@@ -1,11 +1,12 @@
 use Rattle.std.proofs.Common.{◌≡◌, false, rules, Err, Ok}
 use Rattle.command_parts.specs.Faults.{fails_to_write}
-use Rattle.command_parts.proofs.AnswerLemmas.{nothing_written, one_answered, one_read, outcome_written, write_follows}
-use Rattle.search_commands.proofs.FaultLemmas.{proposal_is_later}
+use Rattle.command_parts.proofs.AnswerLemmas.{nothing_written, read_alone, good_alone, outcome_written, write_follows}
 use Rattle.search_commands.proofs.declaring.declare.Goals as goal
 
 pub returns-in_err-image-clause-reads : goal.returns-in_err-image-clause-reads
-returns-in_err-image-clause-reads g c = one_read c.from_residual.result (search rules) (search rules) c.in_err-image.ensures.takes
+returns-in_err-image-clause-reads g c =
+    let told : c.from_residual.result ≡ Err c.in_err-image.field-0.0 = search rules in
+    rw told (read_alone (Err _) c.in_err-image.ensures.faults tt (search rules) c.in_err-image.ensures.takes tt)
 
 pub returns-in_err-image-clause-declared : goal.returns-in_err-image-clause-declared
 returns-in_err-image-clause-declared g c =
@@ -15,8 +16,7 @@ returns-in_err-image-clause-declared g c =
 
 pub returns-in_err-outcome-clause-reads : goal.returns-in_err-outcome-clause-reads
 returns-in_err-outcome-clause-reads g c =
-    one_answered (one_read (Ok c.in_ok-image.image) tt c.in_ok-image.ensures.marks c.in_ok-image.ensures.takes)
-    (record { image = c.in_ok-image.image; tape = c.in_ok-image.ensures.tape }) proposal_is_later c.from_residual-in_err-outcome.result (search rules)
+    good_alone c.from_residual-in_err-outcome.result (search rules) (record { image = c.in_ok-image.image; tape = c.in_ok-image.ensures.tape }) c.in_ok-image.ensures.marks c.in_ok-image.ensures.takes
 
 pub returns-in_err-outcome-clause-declared : goal.returns-in_err-outcome-clause-declared
 returns-in_err-outcome-clause-declared g c =
@@ -25,9 +25,7 @@ returns-in_err-outcome-clause-declared g c =
 
 pub returns-clause-reads : goal.returns-clause-reads
 returns-clause-reads g c =
-    one_answered (one_read (Ok c.in_ok-image.image) tt c.in_ok-image.ensures.marks c.in_ok-image.ensures.takes)
-    (record { image = c.in_ok-image.image; tape = c.in_ok-image.ensures.tape }) proposal_is_later
-    c.write.result (write_follows _ c.write.result c.write.ensures.faults)
+    good_alone c.write.result (write_follows _ c.write.result c.write.ensures.faults) (record { image = c.in_ok-image.image; tape = c.in_ok-image.ensures.tape }) c.in_ok-image.ensures.marks c.in_ok-image.ensures.takes
 
 pub returns-clause-declared : goal.returns-clause-declared
 returns-clause-declared g c =

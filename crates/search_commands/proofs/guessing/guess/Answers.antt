@@ -4,9 +4,8 @@ use Rattle.certificate.specs.Kept.{meaning as lines_of}
 use Rattle.certificate.specs.Spelling.{text as spelled}
 use Rattle.command_parts.specs.Faults.{fault_of_guess}
 use Rattle.command_parts.specs.declared.status.Status.TheVariants.{Done}
-use Rattle.command_parts.proofs.AnswerLemmas.{nothing_written, outcome_written, two_answered, two_refused, write_follows}
+use Rattle.command_parts.proofs.AnswerLemmas.{nothing_written, outcome_written, two_good, two_refused, write_follows}
 use Rattle.verdict_texts.proofs.CheckLemmas.{kept_sets}
-use Rattle.search_commands.proofs.FaultLemmas.{search_is_later}
 use Rattle.search_commands.proofs.guessing.guess.Goals as goal
 
 pub returns-in_err-program-clause-reads : goal.returns-in_err-program-clause-reads
@@ -21,10 +20,7 @@ returns-in_err-program-clause-guessed g c =
 
 pub returns-in_err-claims-clause-reads : goal.returns-in_err-claims-clause-reads
 returns-in_err-claims-clause-reads g c =
-    two_answered c.in_ok-program.ensures.reads
-    (record { image = c.in_ok-program.program.image; tape = c.in_ok-program.ensures.image })
-    (record { declaration = meaning c.in_ok-program.program.declaration; declares = c.in_ok-program.ensures.declares })
-    search_is_later c.from_residual-in_err-claims.result (search rules)
+    two_good c.from_residual-in_err-claims.result (search rules) c.in_ok-program.ensures.reads
 
 pub returns-in_err-claims-clause-guessed : goal.returns-in_err-claims-clause-guessed
 returns-in_err-claims-clause-guessed g c =
@@ -33,10 +29,7 @@ returns-in_err-claims-clause-guessed g c =
 
 pub returns-clause-reads : goal.returns-clause-reads
 returns-clause-reads g c =
-    two_answered c.in_ok-program.ensures.reads
-    (record { image = c.in_ok-program.program.image; tape = c.in_ok-program.ensures.image })
-    (record { declaration = meaning c.in_ok-program.program.declaration; declares = c.in_ok-program.ensures.declares })
-    search_is_later c.write_certificate.result (write_follows _ c.write_certificate.result c.write_certificate.ensures.faults)
+    two_good c.write_certificate.result (write_follows _ c.write_certificate.result c.write_certificate.ensures.faults) c.in_ok-program.ensures.reads
 
 pub returns-clause-guessed : goal.returns-clause-guessed
 returns-clause-guessed g c =

@@ -1,6 +1,5 @@
 use Rattle.std.proofs.Common.{◌≡◌, rules, refl, Err, Ok}
-use Rattle.command_parts.proofs.AnswerLemmas.{two_answered, two_refused}
-use Rattle.search_commands.proofs.FaultLemmas.{search_is_later}
+use Rattle.command_parts.proofs.AnswerLemmas.{two_good, two_refused}
 use Rattle.declaration.specs.Kept.{meaning}
 use Rattle.certificate.specs.Spelling.{text as spelled}
 use Rattle.certificate.specs.Kept.{meaning as lines_of}
@@ -76,35 +75,20 @@ returns-in_err-program-clause-reads g c =
 
 pub returns-in_err-attempt-clause-reads : goal.returns-in_err-attempt-clause-reads
 returns-in_err-attempt-clause-reads g c =
-    two_answered c.in_ok-program.ensures.reads
-    (record { image = c.in_ok-program.program.image; tape = c.in_ok-program.ensures.image })
-    (record { declaration = meaning c.in_ok-program.program.declaration; declares = c.in_ok-program.ensures.declares })
-    search_is_later c.from_residual-in_err-attempt.result (search rules)
+    two_good c.from_residual-in_err-attempt.result (search rules) c.in_ok-program.ensures.reads
 
 pub returns-in_err-write-in-Found-clause-reads : goal.returns-in_err-write-in-Found-clause-reads
 returns-in_err-write-in-Found-clause-reads g c =
-    two_answered c.in_ok-program.ensures.reads
-    (record { image = c.in_ok-program.program.image; tape = c.in_ok-program.ensures.image })
-    (record { declaration = meaning c.in_ok-program.program.declaration; declares = c.in_ok-program.ensures.declares })
-    search_is_later c.from_residual-in_err-write-in-Found.result (search rules)
+    two_good c.from_residual-in_err-write-in-Found.result (search rules) c.in_ok-program.ensures.reads
 
 pub returns-in-Found-clause-reads : goal.returns-in-Found-clause-reads
 returns-in-Found-clause-reads g c =
-    two_answered c.in_ok-program.ensures.reads
-    (record { image = c.in_ok-program.program.image; tape = c.in_ok-program.ensures.image })
-    (record { declaration = meaning c.in_ok-program.program.declaration; declares = c.in_ok-program.ensures.declares })
-    search_is_later (Ok _) tt
+    two_good (Ok _) tt c.in_ok-program.ensures.reads
 
 pub returns-in_err-report_stuck-in-Stuck-clause-reads : goal.returns-in_err-report_stuck-in-Stuck-clause-reads
 returns-in_err-report_stuck-in-Stuck-clause-reads g c =
-    two_answered c.in_ok-program.ensures.reads
-    (record { image = c.in_ok-program.program.image; tape = c.in_ok-program.ensures.image })
-    (record { declaration = meaning c.in_ok-program.program.declaration; declares = c.in_ok-program.ensures.declares })
-    search_is_later c.from_residual-in_err-report_stuck-in-Stuck.result (search rules)
+    two_good c.from_residual-in_err-report_stuck-in-Stuck.result (search rules) c.in_ok-program.ensures.reads
 
 pub returns-clause-reads : goal.returns-clause-reads
 returns-clause-reads g c =
-    two_answered c.in_ok-program.ensures.reads
-    (record { image = c.in_ok-program.program.image; tape = c.in_ok-program.ensures.image })
-    (record { declaration = meaning c.in_ok-program.program.declaration; declares = c.in_ok-program.ensures.declares })
-    search_is_later (Ok _) tt
+    two_good (Ok _) tt c.in_ok-program.ensures.reads

@@ -1,7 +1,7 @@
 use Rattle.std.proofs.Common.{ℕ, ◌≡◌, rules, refl, Err, Ok}
 use Rattle.declaration.specs.Kept.{meaning}
 use Rattle.command_parts.specs.declared.status.Fault.TheVariants.{NoMemory}
-use Rattle.command_parts.proofs.AnswerLemmas.{memory_is_later, nothing_written, text_failed, text_put, two_answered, two_refused}
+use Rattle.command_parts.proofs.AnswerLemmas.{nothing_written, text_failed, text_put, two_good, two_refused}
 use Rattle.search_commands.proofs.verifying.verify.Goals as goal
 
 pub returns-in_err-program-clause-reads : goal.returns-in_err-program-clause-reads
@@ -16,10 +16,7 @@ returns-in_err-program-clause-verified g c =
 
 pub returns-in_err-answer-clause-reads : goal.returns-in_err-answer-clause-reads
 returns-in_err-answer-clause-reads g c =
-    two_answered c.in_ok-program.ensures.reads
-    (record { image = c.in_ok-program.program.image; tape = c.in_ok-program.ensures.image })
-    (record { declaration = meaning c.in_ok-program.program.declaration; declares = c.in_ok-program.ensures.declares })
-    memory_is_later c.from_residual-in_err-answer.result (search rules)
+    two_good c.from_residual-in_err-answer.result (search rules) c.in_ok-program.ensures.reads
 
 pub returns-in_err-answer-clause-verified : goal.returns-in_err-answer-clause-verified
 returns-in_err-answer-clause-verified g c =
@@ -28,10 +25,7 @@ returns-in_err-answer-clause-verified g c =
 
 pub returns-in_err-text-clause-reads : goal.returns-in_err-text-clause-reads
 returns-in_err-text-clause-reads g c =
-    two_answered c.in_ok-program.ensures.reads
-    (record { image = c.in_ok-program.program.image; tape = c.in_ok-program.ensures.image })
-    (record { declaration = meaning c.in_ok-program.program.declaration; declares = c.in_ok-program.ensures.declares })
-    memory_is_later c.from_residual-in_err-text.result (search rules)
+    two_good c.from_residual-in_err-text.result (search rules) c.in_ok-program.ensures.reads
 
 pub returns-in_err-text-clause-verified : goal.returns-in_err-text-clause-verified
 returns-in_err-text-clause-verified g c =
@@ -40,10 +34,7 @@ returns-in_err-text-clause-verified g c =
 
 pub returns-in_err-write_text-clause-reads : goal.returns-in_err-write_text-clause-reads
 returns-in_err-write_text-clause-reads g c =
-    two_answered c.in_ok-program.ensures.reads
-    (record { image = c.in_ok-program.program.image; tape = c.in_ok-program.ensures.image })
-    (record { declaration = meaning c.in_ok-program.program.declaration; declares = c.in_ok-program.ensures.declares })
-    memory_is_later c.from_residual-in_err-write_text.result (search rules)
+    two_good c.from_residual-in_err-write_text.result (search rules) c.in_ok-program.ensures.reads
 
 pub returns-in_err-write_text-clause-verified : goal.returns-in_err-write_text-clause-verified
 returns-in_err-write_text-clause-verified g c =
@@ -60,10 +51,7 @@ returns-in_err-write_text-clause-verified g c =
 
 pub returns-clause-reads : goal.returns-clause-reads
 returns-clause-reads g c =
-    two_answered c.in_ok-program.ensures.reads
-    (record { image = c.in_ok-program.program.image; tape = c.in_ok-program.ensures.image })
-    (record { declaration = meaning c.in_ok-program.program.declaration; declares = c.in_ok-program.ensures.declares })
-    memory_is_later (Ok c.in_ok-answer.answer) tt
+    two_good (Ok c.in_ok-answer.answer) tt c.in_ok-program.ensures.reads
 
 pub returns-clause-verified : goal.returns-clause-verified
 returns-clause-verified g c =

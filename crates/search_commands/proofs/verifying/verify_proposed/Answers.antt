@@ -2,12 +2,13 @@ use Rattle.std.proofs.Common.{ℕ, ◌≡◌, false, rules, refl, Err, Ok}
 use Rattle.declaration.specs.Kept.{meaning}
 use Rattle.command_parts.specs.Faults.{fails_to_write, fault_of_proposal}
 use Rattle.command_parts.specs.declared.status.Fault.TheVariants.{NoMemory}
-use Rattle.command_parts.proofs.AnswerLemmas.{nothing_written, one_answered, one_read, text_failed, text_put}
-use Rattle.search_commands.proofs.FaultLemmas.{proposal_is_later}
+use Rattle.command_parts.proofs.AnswerLemmas.{nothing_written, read_alone, good_alone, text_failed, text_put}
 use Rattle.search_commands.proofs.verifying.verify_proposed.Goals as goal
 
 pub returns-in_err-image-clause-reads : goal.returns-in_err-image-clause-reads
-returns-in_err-image-clause-reads g c = one_read c.from_residual.result (search rules) (search rules) c.in_err-image.ensures.takes
+returns-in_err-image-clause-reads g c =
+    let told : c.from_residual.result ≡ Err c.in_err-image.field-0.0 = search rules in
+    rw told (read_alone (Err _) c.in_err-image.ensures.faults tt (search rules) c.in_err-image.ensures.takes tt)
 
 pub returns-in_err-image-clause-verified : goal.returns-in_err-image-clause-verified
 returns-in_err-image-clause-verified g c =
@@ -17,8 +18,7 @@ returns-in_err-image-clause-verified g c =
 
 pub returns-in_err-proposal-clause-reads : goal.returns-in_err-proposal-clause-reads
 returns-in_err-proposal-clause-reads g c =
-    one_answered (one_read (Ok c.in_ok-image.image) tt c.in_ok-image.ensures.marks c.in_ok-image.ensures.takes)
-    (record { image = c.in_ok-image.image; tape = c.in_ok-image.ensures.tape }) proposal_is_later c.from_residual-in_err-proposal.result (search rules)
+    good_alone c.from_residual-in_err-proposal.result (search rules) (record { image = c.in_ok-image.image; tape = c.in_ok-image.ensures.tape }) c.in_ok-image.ensures.marks c.in_ok-image.ensures.takes
 
 pub returns-in_err-proposal-clause-verified : goal.returns-in_err-proposal-clause-verified
 returns-in_err-proposal-clause-verified g c =
@@ -27,8 +27,7 @@ returns-in_err-proposal-clause-verified g c =
 
 pub returns-in_err-answer-clause-reads : goal.returns-in_err-answer-clause-reads
 returns-in_err-answer-clause-reads g c =
-    one_answered (one_read (Ok c.in_ok-image.image) tt c.in_ok-image.ensures.marks c.in_ok-image.ensures.takes)
-    (record { image = c.in_ok-image.image; tape = c.in_ok-image.ensures.tape }) proposal_is_later c.from_residual-in_err-answer.result (search rules)
+    good_alone c.from_residual-in_err-answer.result (search rules) (record { image = c.in_ok-image.image; tape = c.in_ok-image.ensures.tape }) c.in_ok-image.ensures.marks c.in_ok-image.ensures.takes
 
 pub returns-in_err-answer-clause-verified : goal.returns-in_err-answer-clause-verified
 returns-in_err-answer-clause-verified g c =
@@ -37,8 +36,7 @@ returns-in_err-answer-clause-verified g c =
 
 pub returns-in_err-told-clause-reads : goal.returns-in_err-told-clause-reads
 returns-in_err-told-clause-reads g c =
-    one_answered (one_read (Ok c.in_ok-image.image) tt c.in_ok-image.ensures.marks c.in_ok-image.ensures.takes)
-    (record { image = c.in_ok-image.image; tape = c.in_ok-image.ensures.tape }) proposal_is_later c.from_residual-in_err-told.result (search rules)
+    good_alone c.from_residual-in_err-told.result (search rules) (record { image = c.in_ok-image.image; tape = c.in_ok-image.ensures.tape }) c.in_ok-image.ensures.marks c.in_ok-image.ensures.takes
 
 pub returns-in_err-told-clause-verified : goal.returns-in_err-told-clause-verified
 returns-in_err-told-clause-verified g c =
@@ -47,8 +45,7 @@ returns-in_err-told-clause-verified g c =
 
 pub returns-in_err-write_text-clause-reads : goal.returns-in_err-write_text-clause-reads
 returns-in_err-write_text-clause-reads g c =
-    one_answered (one_read (Ok c.in_ok-image.image) tt c.in_ok-image.ensures.marks c.in_ok-image.ensures.takes)
-    (record { image = c.in_ok-image.image; tape = c.in_ok-image.ensures.tape }) proposal_is_later c.from_residual-in_err-write_text.result (search rules)
+    good_alone c.from_residual-in_err-write_text.result (search rules) (record { image = c.in_ok-image.image; tape = c.in_ok-image.ensures.tape }) c.in_ok-image.ensures.marks c.in_ok-image.ensures.takes
 
 pub returns-in_err-write_text-clause-verified : goal.returns-in_err-write_text-clause-verified
 returns-in_err-write_text-clause-verified g c =
@@ -69,8 +66,7 @@ returns-in_err-write_text-clause-verified g c =
 
 pub returns-clause-reads : goal.returns-clause-reads
 returns-clause-reads g c =
-    one_answered (one_read (Ok c.in_ok-image.image) tt c.in_ok-image.ensures.marks c.in_ok-image.ensures.takes)
-    (record { image = c.in_ok-image.image; tape = c.in_ok-image.ensures.tape }) proposal_is_later (Ok _) tt
+    good_alone (Ok _) tt (record { image = c.in_ok-image.image; tape = c.in_ok-image.ensures.tape }) c.in_ok-image.ensures.marks c.in_ok-image.ensures.takes
 
 pub returns-clause-verified : goal.returns-clause-verified
 returns-clause-verified g c =

@@ -2,7 +2,7 @@ use Rattle.std.proofs.Common.{ℕ, ◌≡◌, rules, refl, Err, inl}
 use Rattle.declaration.specs.Kept.{meaning}
 use Rattle.certificate.specs.Kept.{meaning as lines_of}
 use Rattle.command_parts.specs.declared.status.Fault.TheVariants.{NoMemory}
-use Rattle.command_parts.proofs.AnswerLemmas.{memory_is_later, nothing_written, outcome_written, three_answered, three_refused, write_follows}
+use Rattle.command_parts.proofs.AnswerLemmas.{nothing_written, outcome_written, three_good, three_refused, write_follows}
 use Rattle.verdict_commands.proofs.checking.check.Goals as goal
 
 pub returns-in_err-certified-clause-reads : goal.returns-in_err-certified-clause-reads
@@ -18,11 +18,7 @@ returns-in_err-certified-clause-checked g c =
 pub returns-in_err-outcome-clause-reads : goal.returns-in_err-outcome-clause-reads
 returns-in_err-outcome-clause-reads g c =
     let told : c.from_residual-in_err-outcome.result ≡ Err NoMemory = search rules in
-    rw told (three_answered c.in_ok-certified.ensures.reads
-    (record { image = c.in_ok-certified.certified.program.image; tape = c.in_ok-certified.ensures.image })
-    (record { declaration = meaning c.in_ok-certified.certified.program.declaration; declares = c.in_ok-certified.ensures.declares })
-    (record { lines = lines_of c.in_ok-certified.certified.certificate; claims = c.in_ok-certified.ensures.claims })
-    memory_is_later (Err NoMemory) (inl refl))
+    rw told (three_good (Err NoMemory) (inl refl) c.in_ok-certified.ensures.reads)
 
 pub returns-in_err-outcome-clause-checked : goal.returns-in_err-outcome-clause-checked
 returns-in_err-outcome-clause-checked g c =
@@ -30,12 +26,7 @@ returns-in_err-outcome-clause-checked g c =
     rw told (nothing_written ℕ NoMemory c.requires.writable refl)
 
 pub returns-clause-reads : goal.returns-clause-reads
-returns-clause-reads g c =
-    three_answered c.in_ok-certified.ensures.reads
-    (record { image = c.in_ok-certified.certified.program.image; tape = c.in_ok-certified.ensures.image })
-    (record { declaration = meaning c.in_ok-certified.certified.program.declaration; declares = c.in_ok-certified.ensures.declares })
-    (record { lines = lines_of c.in_ok-certified.certified.certificate; claims = c.in_ok-certified.ensures.claims })
-    memory_is_later c.write.result (write_follows _ c.write.result c.write.ensures.faults)
+returns-clause-reads g c = three_good c.write.result (write_follows _ c.write.result c.write.ensures.faults) c.in_ok-certified.ensures.reads
 
 pub returns-clause-checked : goal.returns-clause-checked
 returns-clause-checked g c =

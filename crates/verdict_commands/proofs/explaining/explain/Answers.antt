@@ -2,7 +2,7 @@ use Rattle.std.proofs.Common.{ℕ, ◌≡◌, ◌++◌, List, rules, refl, ap, E
 use Rattle.declaration.specs.Kept.{meaning}
 use Rattle.certificate.specs.Kept.{meaning as lines_of}
 use Rattle.command_parts.specs.declared.status.Fault.TheVariants.{NoMemory}
-use Rattle.command_parts.proofs.AnswerLemmas.{memory_is_later, nothing_written, outcome_written, three_answered, three_refused, write_follows}
+use Rattle.command_parts.proofs.AnswerLemmas.{nothing_written, outcome_written, three_good, three_refused, write_follows}
 use Rattle.verdict_texts.specs.CheckText.{checked_case}
 use Rattle.verdict_texts.specs.WhyText.{fact_shown}
 use Rattle.verdict_texts.proofs.CheckLemmas.{verdict_is}
@@ -21,11 +21,7 @@ returns-in_err-certified-clause-explained g c =
 pub returns-in_err-told-clause-reads : goal.returns-in_err-told-clause-reads
 returns-in_err-told-clause-reads g c =
     let told : c.from_residual-in_err-told.result ≡ Err NoMemory = search rules in
-    rw told (three_answered c.in_ok-certified.ensures.reads
-    (record { image = c.in_ok-certified.certified.program.image; tape = c.in_ok-certified.ensures.image })
-    (record { declaration = meaning c.in_ok-certified.certified.program.declaration; declares = c.in_ok-certified.ensures.declares })
-    (record { lines = lines_of c.in_ok-certified.certified.certificate; claims = c.in_ok-certified.ensures.claims })
-    memory_is_later (Err NoMemory) (inl refl))
+    rw told (three_good (Err NoMemory) (inl refl) c.in_ok-certified.ensures.reads)
 
 pub returns-in_err-told-clause-explained : goal.returns-in_err-told-clause-explained
 returns-in_err-told-clause-explained g c =
@@ -33,12 +29,7 @@ returns-in_err-told-clause-explained g c =
     rw told (nothing_written ℕ NoMemory c.requires.writable refl)
 
 pub returns-clause-reads : goal.returns-clause-reads
-returns-clause-reads g c =
-    three_answered c.in_ok-certified.ensures.reads
-    (record { image = c.in_ok-certified.certified.program.image; tape = c.in_ok-certified.ensures.image })
-    (record { declaration = meaning c.in_ok-certified.certified.program.declaration; declares = c.in_ok-certified.ensures.declares })
-    (record { lines = lines_of c.in_ok-certified.certified.certificate; claims = c.in_ok-certified.ensures.claims })
-    memory_is_later c.write_with_fact.result (write_follows _ c.write_with_fact.result c.write_with_fact.ensures.faults)
+returns-clause-reads g c = three_good c.write_with_fact.result (write_follows _ c.write_with_fact.result c.write_with_fact.ensures.faults) c.in_ok-certified.ensures.reads
 
 pub returns-clause-explained : goal.returns-clause-explained
 returns-clause-explained g c =

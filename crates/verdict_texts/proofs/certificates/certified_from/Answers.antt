@@ -1,22 +1,20 @@
 use Rattle.std.proofs.Common.{◌≡◌, rules, refl, Err, Ok}
-use Rattle.declaration.specs.Kept.{meaning}
-use Rattle.command_parts.proofs.AnswerLemmas.{third_read, third_unread}
-use Rattle.verdict_texts.proofs.CertificateLemmas.{certificates_are_third, takes_no_certificate}
+use Rattle.certificate.specs.Kept.{meaning as lines_of}
+use Rattle.command_parts.proofs.AnswerLemmas.{goes_on, read_alone, refused_so}
 use Rattle.verdict_texts.proofs.certificates.certified_from.Goals as goal
 
 pub returns-in_err-program-clause-reads : goal.returns-in_err-program-clause-reads
 returns-in_err-program-clause-reads g c =
     let told : c.from_residual.result ≡ Err c.in_err-program.field-0.0 = search rules in
-    rw told (third_unread c.in_err-program.ensures.reads refl c.requires.certificate_readable (takes_no_certificate (g.C.ByteSource.remaining c.args.certificate.now)))
+    rw told (refused_so (λ same. (same, refl)) (λ rest. refused_so (λ none. refl) (λ never. absurd never) rest) c.in_err-program.ensures.reads)
 
 pub returns-in_err-certificate-clause-reads : goal.returns-in_err-certificate-clause-reads
 returns-in_err-certificate-clause-reads g c =
-    third_read c.in_ok-program.ensures.reads
-    (record { image = c.in_ok-program.program.image; tape = c.in_ok-program.ensures.image }) (record { declaration = meaning c.in_ok-program.program.declaration; declares = c.in_ok-program.ensures.declares })
-    (λ f is. certificates_are_third _ f is) c.from_residual-in_err-certificate.result (search rules) (search rules) c.in_err-certificate.ensures.takes
+    let told : c.from_residual-in_err-certificate.result ≡ Err c.in_err-certificate.field-0.0 = search rules in
+    rw told (goes_on (Err _) (λ rest. goes_on (Err _) (λ none. read_alone (Err _) c.in_err-certificate.ensures.faults tt (search rules) c.in_err-certificate.ensures.takes tt) rest) c.in_ok-program.ensures.reads)
 
 pub returns-clause-reads : goal.returns-clause-reads
 returns-clause-reads g c =
-    third_read c.in_ok-program.ensures.reads
-    (record { image = c.in_ok-program.program.image; tape = c.in_ok-program.ensures.image }) (record { declaration = meaning c.in_ok-program.program.declaration; declares = c.in_ok-program.ensures.declares })
-    (λ f is. certificates_are_third _ f is) (Ok _) tt c.in_ok-certificate.ensures.marks c.in_ok-certificate.ensures.takes
+    goes_on (Ok _) (λ rest. goes_on (Ok _) (λ none.
+    read_alone (Ok _) tt (record { lines = lines_of c.in_ok-certificate.certificate; claims = c.in_ok-certificate.ensures.claims }, tt) c.in_ok-certificate.ensures.marks c.in_ok-certificate.ensures.takes tt) rest)
+    c.in_ok-program.ensures.reads

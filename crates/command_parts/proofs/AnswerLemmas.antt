@@ -1,11 +1,13 @@
 -- How the answer of a command follows from what it read, from its work and from what it wrote.
 use Rattle.std.proofs.Common.{ℕ, ◌≡◌, ◌⊎◌, Bool, true, false, List, refl, sym, ◌∙◌, ap, subst, inl, inr}
-use Rattle.std.specs.Prelude.{Option, Result, Ok, Err, IfOk, IfErr}
+use Rattle.std.specs.Prelude.{Option, Result, Ok, Err, IfOk, IfErr, IsOkAnd}
 use Rattle.std.specs.Io.KnownBytes.{Appends}
 use Rattle.std.proofs.lemmas.Bool.{true≢false}
 use Rattle.streams.specs.Bytes.{AppendsFront}
 use Rattle.command_parts.specs.declared.status.Fault.{Fault}
 use Rattle.command_parts.specs.declared.status.Fault.TheVariants.{Device}
+use Rattle.command_parts.specs.declared.outcome.Outcome.{Outcome}
+use Rattle.command_parts.specs.declared.status.Status.{Status}
 use Rattle.command_parts.specs.declared.status.DeviceFault.TheVariants.{Read, Write}
 use Rattle.command_parts.specs.Answers.{EndsAt, FailsBy, GoesOn, IsLaterFault, NeverFails, Output, Reads, ReadsDeclaration, ReadsTape, ReadsTwo, WritesAnswer, output}
 use Rattle.command_parts.specs.Faults.{IsWriteFault, fails_to_read, fails_to_write}
@@ -85,13 +87,13 @@ pub three_good : {S T : Type 0} {F : Input → Fault → Type 0} {G : Option (Li
 three_good result later h = goes_on result (λ rest. goes_on result (λ more. goes_on result (λ none. later) more) rest) h
 
 -- nothing is written before a fault that isn't a write's
-pub nothing_written : {T : Type 0} {P : T → List ℕ → Type 0} {failed : Bool} {tells : Option (List ℕ)} (S : Type 0) (f : Fault) → failed ≡ false →
-    fails_to_write (refused S f) ≡ false → WritesAnswer {T = T} P (output failed tells tells) (Err f)
-nothing_written {T = T} S f fine not_write = record {
+pub nothing_written : {T : Type 0} {P : T → List ℕ → Type 0} {failed : Bool} {tells : Option (List ℕ)} (f : Fault) → failed ≡ false →
+    fails_to_write (refused T f) ≡ false → WritesAnswer {T = T} P (output failed tells tells) (Err f)
+nothing_written f fine not_write = record {
   written = tt;
   front = λ is. absurd (true≢false (sym is ∙ fine));
   nothing = λ is. refl;
-  marks = fine ∙ sym (sym (writes_alike S T f) ∙ not_write);
+  marks = fine ∙ sym not_write;
 }
 
 -- a text that is right for an answer was put out
@@ -132,6 +134,21 @@ written_so {T = T} {P = P} {Q = Q} {out = out} {result = result} on w = record {
 pub outcome_written : {T : Type 0} {P : T → List ℕ → Type 0} {out : Output} {result : Result T Fault} (answer : T) (text : List ℕ) → P answer text →
     WritesAnswer (λ a t. (a ≡ answer) × (t ≡ text)) out result → WritesAnswer P out result
 outcome_written {P = P} answer text is w = written_so (λ a t same. rw (same.0, same.1) is) w
+
+-- what a command delivers is right
+pub delivered : {A : Type 0} {P R : Status → List ℕ → Type 0} {out : Output} {result : Result Status Fault} (told : Result (Outcome A) Fault) →
+    IfOk told (λ o. R o.status o.text.items) → ((status : Status) (text : List ℕ) → R status text → P status text) →
+    WritesAnswer (λ s t. IsOkAnd told (λ o. (s ≡ o.status) × (t ≡ o.text.items))) out result → WritesAnswer P out result
+delivered (Ok o) is on w = written_so (λ s t same. rw (same.0, same.1) (on o.status o.text.items is)) w
+delivered (Err f) is on w = written_so (λ s t none. absurd none) w
+
+-- the faults of what is delivered
+pub delivers_by : {O T : Type 0} (W : Fault → Type 0) (told : Result O Fault) (result : Result T Fault) → IfErr told W →
+    IfErr result (λ f. (told ≡ Err f) ⊎ IsWriteFault f) → FailsBy (IsLaterFault W) result
+delivers_by W told (Ok x) is faults = tt
+delivers_by W (Ok o) (Err f) is (inl same) = absurd (no_fault _ o f same)
+delivers_by W (Err e) (Err f) is (inl same) = inl (subst W (same_fault _ e f same) is)
+delivers_by W told (Err f) is (inr write) = inr write
 
 -- a text that is written, and the answer that it is right for
 pub text_put : {S T : Type 0} {P : T → List ℕ → Type 0} {out : Output} {s : S} (answer : T) (text : List ℕ) → P answer text →

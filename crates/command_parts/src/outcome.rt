@@ -1,8 +1,8 @@
 //! What commands write.
 
-ghost use Rattle.std.specs.Prelude.{◌≡◌, false, IfErr};
+ghost use Rattle.std.specs.Prelude.{◌≡◌, ◌⊎◌, false, Err, IfErr, IsOkAnd};
 ghost use Rattle.command_parts.specs.Answers.{WritesAnswer, output};
-ghost use Rattle.command_parts.specs.Faults.{IsWriteFault};
+ghost use Rattle.command_parts.specs.Faults.{IsWriteFault, fails_to_write};
 
 use crate::status::{Fault, Status};
 use std::alloc::Allocator;
@@ -38,5 +38,23 @@ impl<A: Allocator> Outcome<A> {
     {
         write_text(out, &self.text)?;
         Ok(self.status)
+    }
+}
+
+/// Writes what a command has to tell, if its work had no fault.
+pub fn deliver<A: Allocator, W: ByteSink>(
+    told: Result<Outcome<A>, Fault>,
+    out: &mut W,
+) -> Result<Status, Fault>
+    requires writable { W.mark out.old ≡ false }
+    requires unwritten { fails_to_write told ≡ false }
+    ensures writes { WritesAnswer (λ status written.
+        IsOkAnd told (λ o. (status ≡ o.status) × (written ≡ o.text.items)))
+        (output (W.mark out.new) (W.taken out.old) (W.taken out.new)) result }
+    ensures faults { IfErr result (λ fault. (told ≡ Err fault) ⊎ IsWriteFault fault) }
+{
+    match told {
+        Ok(outcome) => outcome.write(out),
+        Err(fault) => Err(fault),
     }
 }

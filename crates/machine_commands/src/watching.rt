@@ -1,16 +1,17 @@
 //! The command that watches a run.
 
-ghost use Rattle.std.specs.Prelude.{◌≡◌, false, [], IfOk};
+ghost use Rattle.std.specs.Prelude.{◌≡◌, false, [], IfOk, IfErr};
 ghost use Rattle.wordset.specs.Lanes.{words};
 ghost use Rattle.declaration.specs.Kept.{meaning};
 ghost use Rattle.command_parts.specs.Answers.{IsLaterFault, IsMemoryFault, OfRun, ReadsRun, WritesAnswer, output};
+ghost use Rattle.command_parts.specs.Faults.{fails_to_write};
 ghost use Rattle.command_parts.specs.Inputs.{input};
 ghost use Rattle.machine_commands.specs.WatchText.{IsTold, IsToldWithCells, IsWatchOf, broken_text, watched_status, watched_text};
 
 use crate::progress::{Offered, offered_by, progress_lines};
 use crate::shown::shown_of;
 use bin_tape::Image;
-use command_parts::outcome::Outcome;
+use command_parts::outcome::{Outcome, deliver};
 use command_parts::programs::{ProgramRun, program_run_from};
 use command_parts::status::{Fault, Status};
 use declaration::Declaration;
@@ -139,9 +140,11 @@ pub fn watch_of<A: Allocator + Copy>(
     run: &ProgramRun<A>,
     explained: bool,
     show: &WordSet,
-) -> Result<Outcome<A>, NoMemory>
-    ensures { IfOk result (λ told. IsWatchOf explained (words show.now) run.now.program.image
+) -> Result<Outcome<A>, Fault>
+    ensures told { IfOk result (λ told. IsWatchOf explained (words show.now) run.now.program.image
         (meaning run.now.program.declaration) run.now.events.items told.status told.text.items) }
+    ensures faults { IfErr result IsMemoryFault }
+    ensures unwritten { fails_to_write result ≡ false }
 {
     let (image, declaration) = (&run.program.image, &run.program.declaration);
     let events = run.events.as_slice();
@@ -198,7 +201,8 @@ pub fn watch<A: Allocator + Copy, R: ByteSource, D: ByteSource, E: ByteSource, W
         (input (E.mark list.new) (E.remaining list.old) (E.remaining list.new))
         (declaration.new ≡ declaration.old) (list.new ≡ list.old) result }
 {
-    let run = program_run_from(alloc, tape, declaration, list)?;
-    let outcome = watch_of(alloc, &run, explained, show)?;
-    outcome.write(out)
+    match program_run_from(alloc, tape, declaration, list) {
+        Ok(run) => deliver(watch_of(alloc, &run, explained, show), out),
+        Err(fault) => Err(fault),
+    }
 }

@@ -1,9 +1,10 @@
 //! The command that writes what a certificate says.
 
-ghost use Rattle.std.specs.Prelude.{◌≡◌, ◌++◌, false, IfOk};
+ghost use Rattle.std.specs.Prelude.{◌≡◌, ◌++◌, false, IfOk, IfErr};
 ghost use Rattle.certificate.specs.Kept.{meaning as lines_of};
 ghost use Rattle.declaration.specs.Kept.{meaning};
 ghost use Rattle.command_parts.specs.Answers.{IsLaterFault, IsMemoryFault, WritesAnswer, output};
+ghost use Rattle.command_parts.specs.Faults.{fails_to_write};
 ghost use Rattle.command_parts.specs.Inputs.{input};
 ghost use Rattle.verdict_texts.specs.CertificateFaults.{ReadsCertified};
 ghost use Rattle.verdict_texts.specs.CertificateInputs.{OfCertified};
@@ -12,7 +13,7 @@ ghost use Rattle.report_commands.specs.ReportText.{IsReportOf};
 
 use bin_tape::Image;
 use certificate::Certificate;
-use command_parts::outcome::Outcome;
+use command_parts::outcome::{Outcome, deliver};
 use command_parts::status::{Fault, Status};
 use declaration::Declaration;
 use judge::{Refusal, judge};
@@ -115,10 +116,12 @@ pub fn report_of<A: Allocator + Copy>(
     certified: &Certified<A>,
     form: ReportForm,
     notes: Option<&SourceNotes<A>>,
-) -> Result<Outcome<A>, AllocError>
-    ensures { IfOk result (λ page. IsReportOf form certified.now.program.image
+) -> Result<Outcome<A>, Fault>
+    ensures page { IfOk result (λ page. IsReportOf form certified.now.program.image
         (meaning certified.now.program.declaration) (lines_of certified.now.certificate)
         page.status page.text.items) }
+    ensures faults { IfErr result IsMemoryFault }
+    ensures unwritten { fails_to_write result ≡ false }
 {
     let program = &certified.program;
     let (image, declaration) = (&program.image, &program.declaration);
@@ -175,7 +178,8 @@ pub fn report<A: Allocator + Copy, R: ByteSource, D: ByteSource, C: ByteSource, 
         (input (C.mark certificate.new) (C.remaining certificate.old) (C.remaining certificate.new))
         (declaration.new ≡ declaration.old) (certificate.new ≡ certificate.old) result }
 {
-    let certified = certified_from(alloc, tape, declaration, certificate)?;
-    let outcome = report_of(alloc, &certified, form, notes)?;
-    outcome.write(out)
+    match certified_from(alloc, tape, declaration, certificate) {
+        Ok(certified) => deliver(report_of(alloc, &certified, form, notes), out),
+        Err(fault) => Err(fault),
+    }
 }

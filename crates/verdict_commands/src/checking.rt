@@ -1,18 +1,19 @@
 //! The command that checks a certificate.
 
-ghost use Rattle.std.specs.Prelude.{◌≡◌, false, IfOk};
+ghost use Rattle.std.specs.Prelude.{◌≡◌, false, IfOk, IfErr};
 ghost use Rattle.certificate.specs.Kept.{meaning as lines_of};
 ghost use Rattle.declaration.specs.Kept.{meaning};
 ghost use Rattle.command_parts.specs.Answers.{IsLaterFault, IsMemoryFault, WritesAnswer, output};
+ghost use Rattle.command_parts.specs.Faults.{fails_to_write};
 ghost use Rattle.command_parts.specs.Inputs.{input};
 ghost use Rattle.verdict_texts.specs.CertificateFaults.{ReadsCertified};
 ghost use Rattle.verdict_texts.specs.CertificateInputs.{OfCertified};
 ghost use Rattle.verdict_texts.specs.CheckText.{IsVerdictOf};
 
-use command_parts::outcome::Outcome;
+use command_parts::outcome::{Outcome, deliver};
 use command_parts::status::{Fault, Status};
 use judge::judge;
-use std::alloc::{AllocError, Allocator};
+use std::alloc::Allocator;
 use streams::{ByteSink, ByteSource};
 use verdict_texts::certificates::{Certified, certified_from};
 use verdict_texts::verdict::{verdict_line, verdict_status};
@@ -21,10 +22,12 @@ use verdict_texts::verdict::{verdict_line, verdict_status};
 pub fn verdict_of<A: Allocator + Copy>(
     alloc: A,
     certified: &Certified<A>,
-) -> Result<Outcome<A>, AllocError>
-    ensures { IfOk result (λ verdict. IsVerdictOf certified.now.program.image
+) -> Result<Outcome<A>, Fault>
+    ensures verdict { IfOk result (λ verdict. IsVerdictOf certified.now.program.image
         (meaning certified.now.program.declaration) (lines_of certified.now.certificate)
         verdict.status verdict.text.items) }
+    ensures faults { IfErr result IsMemoryFault }
+    ensures unwritten { fails_to_write result ≡ false }
 {
     let program = &certified.program;
     let verdict = judge(&program.image, &program.declaration, &certified.certificate);
@@ -66,7 +69,8 @@ pub fn check<A: Allocator + Copy, R: ByteSource, D: ByteSource, C: ByteSource, W
         (input (C.mark certificate.new) (C.remaining certificate.old) (C.remaining certificate.new))
         (declaration.new ≡ declaration.old) (certificate.new ≡ certificate.old) result }
 {
-    let certified = certified_from(alloc, tape, declaration, certificate)?;
-    let outcome = verdict_of(alloc, &certified)?;
-    outcome.write(out)
+    match certified_from(alloc, tape, declaration, certificate) {
+        Ok(certified) => deliver(verdict_of(alloc, &certified), out),
+        Err(fault) => Err(fault),
+    }
 }

@@ -1,42 +1,26 @@
-use Rattle.std.proofs.Common.{ℕ, ◌≡◌, rules, refl, Err, inl}
 use Rattle.declaration.specs.Kept.{meaning}
-use Rattle.command_parts.specs.declared.status.Fault.TheVariants.{NoMemory}
-use Rattle.command_parts.proofs.AnswerLemmas.{nothing_written, outcome_written, three_good, three_refused, write_follows}
+use Rattle.command_parts.proofs.AnswerLemmas.{delivered, delivers_by, nothing_written, three_good, three_refused}
 use Rattle.machine_commands.proofs.watching.watch.Goals as goal
 
-pub returns-in_err-run-clause-reads : goal.returns-in_err-run-clause-reads
-returns-in_err-run-clause-reads g c =
-    let told : c.from_residual.result ≡ Err c.in_err-run.field-0.0 = search rules in
-    rw told (three_refused c.in_err-run.ensures.reads)
+pub returns-in-Err-clause-reads : goal.returns-in-Err-clause-reads
+returns-in-Err-clause-reads g c = three_refused c.in-Err.ensures.reads
 
-pub returns-in_err-run-clause-watched : goal.returns-in_err-run-clause-watched
-returns-in_err-run-clause-watched g c =
-    let told : c.from_residual.result ≡ Err c.in_err-run.field-0.0 = search rules in
-    rw told (nothing_written _ c.in_err-run.field-0.0 c.requires.writable c.in_err-run.ensures.unwritten)
+pub returns-in-Err-clause-watched : goal.returns-in-Err-clause-watched
+returns-in-Err-clause-watched g c = nothing_written c.in-Err.fault c.requires.writable c.in-Err.ensures.unwritten
 
-pub returns-in_err-outcome-clause-reads : goal.returns-in_err-outcome-clause-reads
-returns-in_err-outcome-clause-reads g c =
-    let told : c.from_residual-in_err-outcome.result ≡ Err NoMemory = search rules in
-    rw told (three_good (Err NoMemory) (inl refl) c.in_ok-run.ensures.reads)
+pub returns-in-Ok-clause-reads : goal.returns-in-Ok-clause-reads
+returns-in-Ok-clause-reads g c = three_good c.deliver.result (delivers_by _ c.watch_of.result c.deliver.result c.watch_of.ensures.faults c.deliver.ensures.faults) c.in-Ok.ensures.reads
 
-pub returns-in_err-outcome-clause-watched : goal.returns-in_err-outcome-clause-watched
-returns-in_err-outcome-clause-watched g c =
-    let told : c.from_residual-in_err-outcome.result ≡ Err NoMemory = search rules in
-    rw told (nothing_written ℕ NoMemory c.requires.writable refl)
-
-pub returns-clause-reads : goal.returns-clause-reads
-returns-clause-reads g c = three_good c.write.result (write_follows _ c.write.result c.write.ensures.faults) c.in_ok-run.ensures.reads
-
-pub returns-clause-watched : goal.returns-clause-watched
-returns-clause-watched g c =
-    outcome_written c.in_ok-outcome.outcome.status c.in_ok-outcome.outcome.text.items
-    (record {
-      image = c.in_ok-run.run.program.image;
-      tape = c.in_ok-run.ensures.image;
-      declaration = meaning c.in_ok-run.run.program.declaration;
-      declares = c.in_ok-run.ensures.declares;
-      events = c.in_ok-run.run.events.items;
-      spells = c.in_ok-run.ensures.spells;
-      is = c.in_ok-outcome.ensures;
+pub returns-in-Ok-clause-watched : goal.returns-in-Ok-clause-watched
+returns-in-Ok-clause-watched g c =
+    delivered c.watch_of.result c.watch_of.ensures.told
+    (λ status text is. record {
+      image = c.in-Ok.run.program.image;
+      tape = c.in-Ok.ensures.image;
+      declaration = meaning c.in-Ok.run.program.declaration;
+      declares = c.in-Ok.ensures.declares;
+      events = c.in-Ok.run.events.items;
+      spells = c.in-Ok.ensures.spells;
+      is = is;
     })
-    c.write.ensures.writes
+    c.deliver.ensures.writes

@@ -6,8 +6,8 @@ use Rattle.machine_commands.specs.WatchText.{IsSeen}
 use Rattle.machine_commands.proofs.WatchLemmas.{is_seen}
 use Rattle.machine_commands.proofs.watching.watch_of.Goals as goal
 
-pub returns : goal.returns
-returns g c =
+pub returns-clause-told : goal.returns-clause-told
+returns-clause-told g c =
     let image = c.args.run.now.program.image in
     let d = meaning c.args.run.now.program.declaration in
     let events = c.args.run.now.events.items in

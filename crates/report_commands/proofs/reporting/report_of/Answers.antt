@@ -5,8 +5,8 @@ use Rattle.verdict_texts.specs.CheckText.{checked_case}
 use Rattle.verdict_texts.proofs.CheckLemmas.{verdict_is}
 use Rattle.report_commands.proofs.reporting.report_of.Goals as goal
 
-pub returns : goal.returns
-returns g c = record {
+pub returns-clause-page : goal.returns-clause-page
+returns-clause-page g c = record {
   line = c.in_ok-line.line.items;
   checked = record {
     verdict = c.judge-verdict.result;

@@ -11,7 +11,7 @@ returns-in_err-program-clause-reads g c =
 pub returns-in_err-program-clause-completed : goal.returns-in_err-program-clause-completed
 returns-in_err-program-clause-completed g c =
     let told : c.from_residual.result ≡ Err c.in_err-program.field-0.0 = search rules in
-    rw told (nothing_written _ c.in_err-program.field-0.0 c.requires.writable c.in_err-program.ensures.unwritten)
+    rw told (nothing_written c.in_err-program.field-0.0 c.requires.writable c.in_err-program.ensures.unwritten)
 
 pub returns-in_err-outcome-clause-reads : goal.returns-in_err-outcome-clause-reads
 returns-in_err-outcome-clause-reads g c =
@@ -20,7 +20,7 @@ returns-in_err-outcome-clause-reads g c =
 pub returns-in_err-outcome-clause-completed : goal.returns-in_err-outcome-clause-completed
 returns-in_err-outcome-clause-completed g c =
     let told : c.from_residual-in_err-outcome.result ≡ Err c.in_err-outcome.field-0.0 = search rules in
-    rw told (nothing_written _ c.in_err-outcome.field-0.0 c.requires.writable c.in_err-outcome.ensures.wrote)
+    rw told (nothing_written c.in_err-outcome.field-0.0 c.requires.writable c.in_err-outcome.ensures.wrote)
 
 pub returns-clause-reads : goal.returns-clause-reads
 returns-clause-reads g c =

@@ -12,7 +12,7 @@ pub returns-in_err-image-clause-declared : goal.returns-in_err-image-clause-decl
 returns-in_err-image-clause-declared g c =
     let told : c.from_residual.result ≡ Err c.in_err-image.field-0.0 = search rules in
     let unwritten : fails_to_write c.from_residual.result ≡ false = search rules in
-    rw told (nothing_written _ c.in_err-image.field-0.0 c.requires.writable (rw told at unwritten))
+    rw told (nothing_written c.in_err-image.field-0.0 c.requires.writable (rw told at unwritten))
 
 pub returns-in_err-outcome-clause-reads : goal.returns-in_err-outcome-clause-reads
 returns-in_err-outcome-clause-reads g c =
@@ -21,7 +21,7 @@ returns-in_err-outcome-clause-reads g c =
 pub returns-in_err-outcome-clause-declared : goal.returns-in_err-outcome-clause-declared
 returns-in_err-outcome-clause-declared g c =
     let told : c.from_residual-in_err-outcome.result ≡ Err c.in_err-outcome.field-0.0 = search rules in
-    rw told (nothing_written _ c.in_err-outcome.field-0.0 c.requires.writable c.in_err-outcome.ensures.wrote)
+    rw told (nothing_written c.in_err-outcome.field-0.0 c.requires.writable c.in_err-outcome.ensures.wrote)
 
 pub returns-clause-reads : goal.returns-clause-reads
 returns-clause-reads g c =

@@ -1,4 +1,4 @@
-use Rattle.std.proofs.Common.{ℕ, ◌≡◌, rules, refl, Err, inl}
+use Rattle.std.proofs.Common.{◌≡◌, rules, refl, Err, inl}
 use Rattle.declaration.specs.Kept.{meaning}
 use Rattle.certificate.specs.Kept.{meaning as lines_of}
 use Rattle.certificate.specs.Spelling.{text as spelled}
@@ -16,7 +16,7 @@ returns-in_err-program-clause-reads g c =
 pub returns-in_err-program-clause-guessed : goal.returns-in_err-program-clause-guessed
 returns-in_err-program-clause-guessed g c =
     let told : c.from_residual.result ≡ Err c.in_err-program.field-0.0 = search rules in
-    rw told (nothing_written _ c.in_err-program.field-0.0 c.requires.writable c.in_err-program.ensures.unwritten)
+    rw told (nothing_written c.in_err-program.field-0.0 c.requires.writable c.in_err-program.ensures.unwritten)
 
 pub returns-in_err-claims-clause-reads : goal.returns-in_err-claims-clause-reads
 returns-in_err-claims-clause-reads g c =
@@ -25,7 +25,7 @@ returns-in_err-claims-clause-reads g c =
 pub returns-in_err-claims-clause-guessed : goal.returns-in_err-claims-clause-guessed
 returns-in_err-claims-clause-guessed g c =
     let told : c.from_residual-in_err-claims.result ≡ Err (fault_of_guess c.in_err-claims.field-0.0) = search rules in
-    rw told (nothing_written ℕ (fault_of_guess c.in_err-claims.field-0.0) c.requires.writable (search rules))
+    rw told (nothing_written (fault_of_guess c.in_err-claims.field-0.0) c.requires.writable (search rules))
 
 pub returns-clause-reads : goal.returns-clause-reads
 returns-clause-reads g c =

@@ -1,4 +1,4 @@
-use Rattle.std.proofs.Common.{ℕ, ◌≡◌, rules, refl, Err, Ok}
+use Rattle.std.proofs.Common.{◌≡◌, rules, refl, Err, Ok}
 use Rattle.declaration.specs.Kept.{meaning}
 use Rattle.command_parts.specs.declared.status.Fault.TheVariants.{NoMemory}
 use Rattle.command_parts.proofs.AnswerLemmas.{nothing_written, text_failed, text_put, two_good, two_refused}
@@ -12,7 +12,7 @@ returns-in_err-program-clause-reads g c =
 pub returns-in_err-program-clause-verified : goal.returns-in_err-program-clause-verified
 returns-in_err-program-clause-verified g c =
     let told : c.from_residual.result ≡ Err c.in_err-program.field-0.0 = search rules in
-    rw told (nothing_written _ c.in_err-program.field-0.0 c.requires.writable c.in_err-program.ensures.unwritten)
+    rw told (nothing_written c.in_err-program.field-0.0 c.requires.writable c.in_err-program.ensures.unwritten)
 
 pub returns-in_err-answer-clause-reads : goal.returns-in_err-answer-clause-reads
 returns-in_err-answer-clause-reads g c =
@@ -21,7 +21,7 @@ returns-in_err-answer-clause-reads g c =
 pub returns-in_err-answer-clause-verified : goal.returns-in_err-answer-clause-verified
 returns-in_err-answer-clause-verified g c =
     let told : c.from_residual-in_err-answer.result ≡ Err NoMemory = search rules in
-    rw told (nothing_written ℕ NoMemory c.requires.writable refl)
+    rw told (nothing_written NoMemory c.requires.writable refl)
 
 pub returns-in_err-text-clause-reads : goal.returns-in_err-text-clause-reads
 returns-in_err-text-clause-reads g c =
@@ -30,7 +30,7 @@ returns-in_err-text-clause-reads g c =
 pub returns-in_err-text-clause-verified : goal.returns-in_err-text-clause-verified
 returns-in_err-text-clause-verified g c =
     let told : c.from_residual-in_err-text.result ≡ Err NoMemory = search rules in
-    rw told (nothing_written ℕ NoMemory c.requires.writable refl)
+    rw told (nothing_written NoMemory c.requires.writable refl)
 
 pub returns-in_err-write_text-clause-reads : goal.returns-in_err-write_text-clause-reads
 returns-in_err-write_text-clause-reads g c =

@@ -1,4 +1,4 @@
-use Rattle.std.proofs.Common.{ℕ, ◌≡◌, false, rules, refl, Err, Ok}
+use Rattle.std.proofs.Common.{◌≡◌, false, rules, refl, Err, Ok}
 use Rattle.declaration.specs.Kept.{meaning}
 use Rattle.command_parts.specs.Faults.{fails_to_write, fault_of_proposal}
 use Rattle.command_parts.specs.declared.status.Fault.TheVariants.{NoMemory}
@@ -14,7 +14,7 @@ pub returns-in_err-image-clause-verified : goal.returns-in_err-image-clause-veri
 returns-in_err-image-clause-verified g c =
     let told : c.from_residual.result ≡ Err c.in_err-image.field-0.0 = search rules in
     let unwritten : fails_to_write c.from_residual.result ≡ false = search rules in
-    rw told (nothing_written _ c.in_err-image.field-0.0 c.requires.writable (rw told at unwritten))
+    rw told (nothing_written c.in_err-image.field-0.0 c.requires.writable (rw told at unwritten))
 
 pub returns-in_err-proposal-clause-reads : goal.returns-in_err-proposal-clause-reads
 returns-in_err-proposal-clause-reads g c =
@@ -23,7 +23,7 @@ returns-in_err-proposal-clause-reads g c =
 pub returns-in_err-proposal-clause-verified : goal.returns-in_err-proposal-clause-verified
 returns-in_err-proposal-clause-verified g c =
     let told : c.from_residual-in_err-proposal.result ≡ Err (fault_of_proposal c.in_err-proposal.field-0.0) = search rules in
-    rw told (nothing_written ℕ (fault_of_proposal c.in_err-proposal.field-0.0) c.requires.writable (search rules))
+    rw told (nothing_written (fault_of_proposal c.in_err-proposal.field-0.0) c.requires.writable (search rules))
 
 pub returns-in_err-answer-clause-reads : goal.returns-in_err-answer-clause-reads
 returns-in_err-answer-clause-reads g c =
@@ -32,7 +32,7 @@ returns-in_err-answer-clause-reads g c =
 pub returns-in_err-answer-clause-verified : goal.returns-in_err-answer-clause-verified
 returns-in_err-answer-clause-verified g c =
     let told : c.from_residual-in_err-answer.result ≡ Err NoMemory = search rules in
-    rw told (nothing_written ℕ NoMemory c.requires.writable refl)
+    rw told (nothing_written NoMemory c.requires.writable refl)
 
 pub returns-in_err-told-clause-reads : goal.returns-in_err-told-clause-reads
 returns-in_err-told-clause-reads g c =
@@ -41,7 +41,7 @@ returns-in_err-told-clause-reads g c =
 pub returns-in_err-told-clause-verified : goal.returns-in_err-told-clause-verified
 returns-in_err-told-clause-verified g c =
     let told : c.from_residual-in_err-told.result ≡ Err NoMemory = search rules in
-    rw told (nothing_written ℕ NoMemory c.requires.writable refl)
+    rw told (nothing_written NoMemory c.requires.writable refl)
 
 pub returns-in_err-write_text-clause-reads : goal.returns-in_err-write_text-clause-reads
 returns-in_err-write_text-clause-reads g c =

@@ -4,8 +4,8 @@ use Rattle.verdict_texts.specs.CheckText.{checked_case}
 use Rattle.verdict_texts.proofs.CheckLemmas.{verdict_is}
 use Rattle.verdict_commands.proofs.checking.verdict_of.Goals as goal
 
-pub returns : goal.returns
-returns g c = record {
+pub returns-clause-verdict : goal.returns-clause-verdict
+returns-clause-verdict g c = record {
   verdict = c.judge-verdict.result;
   is = verdict_is (checked_case c.args.certified.now.program.image (meaning c.args.certified.now.program.declaration) (lines_of c.args.certified.now.certificate))
       c.judge-verdict.result c.judge-verdict.ensures.exact c.judge-verdict.ensures.safe;

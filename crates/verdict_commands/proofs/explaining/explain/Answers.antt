@@ -16,7 +16,7 @@ returns-in_err-certified-clause-reads g c =
 pub returns-in_err-certified-clause-explained : goal.returns-in_err-certified-clause-explained
 returns-in_err-certified-clause-explained g c =
     let told : c.from_residual.result ≡ Err c.in_err-certified.field-0.0 = search rules in
-    rw told (nothing_written _ c.in_err-certified.field-0.0 c.requires.writable c.in_err-certified.ensures.unwritten)
+    rw told (nothing_written c.in_err-certified.field-0.0 c.requires.writable c.in_err-certified.ensures.unwritten)
 
 pub returns-in_err-told-clause-reads : goal.returns-in_err-told-clause-reads
 returns-in_err-told-clause-reads g c =
@@ -26,7 +26,7 @@ returns-in_err-told-clause-reads g c =
 pub returns-in_err-told-clause-explained : goal.returns-in_err-told-clause-explained
 returns-in_err-told-clause-explained g c =
     let told : c.from_residual-in_err-told.result ≡ Err NoMemory = search rules in
-    rw told (nothing_written ℕ NoMemory c.requires.writable refl)
+    rw told (nothing_written NoMemory c.requires.writable refl)
 
 pub returns-clause-reads : goal.returns-clause-reads
 returns-clause-reads g c = three_good c.write_with_fact.result (write_follows _ c.write_with_fact.result c.write_with_fact.ensures.faults) c.in_ok-certified.ensures.reads

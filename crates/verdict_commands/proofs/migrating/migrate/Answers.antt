@@ -13,7 +13,7 @@ pub returns-in_err-claims-clause-migrated : goal.returns-in_err-claims-clause-mi
 returns-in_err-claims-clause-migrated g c =
     let told : c.from_residual.result ≡ Err c.in_err-claims.field-0.0 = search rules in
     let unwritten : fails_to_write c.from_residual.result ≡ false = search rules in
-    rw told (nothing_written _ c.in_err-claims.field-0.0 c.requires.writable (rw told at unwritten))
+    rw told (nothing_written c.in_err-claims.field-0.0 c.requires.writable (rw told at unwritten))
 
 pub returns-clause-reads : goal.returns-clause-reads
 returns-clause-reads g c = record {

@@ -21,7 +21,7 @@ refused T f = Err f
 abbrev answered : (T : Type 0) → T → Result T Fault
 answered T x = Ok x
 
-same_fault : (T : Type 0) (f e : Fault) → refused T f ≡ refused T e → f ≡ e
+pub same_fault : (T : Type 0) (f e : Fault) → refused T f ≡ refused T e → f ≡ e
 same_fault T f e is = cc
 
 no_fault : (T : Type 0) (x : T) (e : Fault) → answered T x ≡ refused T e → ⊥

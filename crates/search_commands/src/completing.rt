@@ -21,7 +21,7 @@ use crate::verifying::{Lack, lack_of};
 use analyser::guess;
 use bin_tape::Image;
 use command_parts::inputs::tape_from;
-use command_parts::outcome::Outcome;
+use command_parts::outcome::{Outcome, deliver};
 use command_parts::status::{Fault, Status};
 use declaration::{Declaration, DeclarationFault};
 use options::DeclareOptions;
@@ -289,7 +289,7 @@ fn completion_of<A: Allocator + Copy>(
     ensures completes { IfOk result (λ told. Completes program.image
         (meaning program.given.declaration) told.status told.text.items) }
     ensures faults { IfErr result IsProposeFault }
-    ensures wrote { fails_to_write result ≡ false }
+    ensures unwritten { fails_to_write result ≡ false }
 {
     let GivenProgram { image, given } = program;
     let Some(lack) = lack_in(alloc, &image, &given.declaration)? else {
@@ -337,7 +337,8 @@ pub fn complete<A: Allocator + Copy, R: ByteSource, D: ByteSource, W: ByteSink>(
         (input (D.mark declaration.new) (D.remaining declaration.old) (D.remaining declaration.new))
         (declaration.new ≡ declaration.old) result }
 {
-    let program = given_program_from(alloc, tape, declaration)?;
-    let outcome = completion_of(alloc, program, reads)?;
-    outcome.write(out)
+    match given_program_from(alloc, tape, declaration) {
+        Ok(program) => deliver(completion_of(alloc, program, reads), out),
+        Err(fault) => Err(fault),
+    }
 }

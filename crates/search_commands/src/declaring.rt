@@ -13,7 +13,7 @@ ghost use Rattle.proposer.specs.Proposals.{AreNeeded, Fits, IsListed, IsShown, I
 use crate::verifying::Lack;
 use bin_tape::Image;
 use command_parts::inputs::tape_from;
-use command_parts::outcome::Outcome;
+use command_parts::outcome::{Outcome, deliver};
 use command_parts::status::{Fault, Status};
 use command_parts::text::push_place;
 use declaration::{Declaration, DeclarationFault};
@@ -186,7 +186,7 @@ pub fn proposed<A: Allocator + Copy>(
     ensures proposal { IfOk result (λ told.
         IsProposalOf options.now image.now told.status told.text.items) }
     ensures faults { IfErr result IsProposeFault }
-    ensures wrote { fails_to_write result ≡ false }
+    ensures unwritten { fails_to_write result ≡ false }
 {
     let mut turns = Turns::new(MOST_TURNS);
     let proposal = proposal_for(alloc, image, options, &mut turns)?;
@@ -227,7 +227,8 @@ pub fn declare<A: Allocator + Copy, R: ByteSource, W: ByteSink>(
     ensures reads { ReadsOne (IsLaterFault IsProposeFault)
         (input (R.mark tape.new) (R.remaining tape.old) (R.remaining tape.new)) result }
 {
-    let image = tape_from(tape)?;
-    let outcome = proposed(alloc, &image, &options)?;
-    outcome.write(out)
+    match tape_from(tape) {
+        Ok(image) => deliver(proposed(alloc, &image, &options), out),
+        Err(fault) => Err(fault),
+    }
 }

@@ -1,10 +1,11 @@
 -- A verdict on the tape and the numbers of a program is one on the program.
-use Rattle.std.proofs.Common.{ℕ, ◌≡◌, ◌∙◌, ap, sym, subst, List, Option, Some, Bool, Bor, true, false, Ok, inl, inr}
-use Rattle.std.specs.Prelude.{◌⊎◌}
+use Rattle.std.proofs.Common.{ℕ, ◌≡◌, ◌∙◌, arith, refl, ap, sym, subst, List, [], Option, Some, None, Bool, Bor, true, false, Ok, inl, inr}
+use Rattle.std.specs.Prelude.{◌⊎◌, Result, Err}
 use Rattle.labels.specs.Lines.{placed_text}
 use Rattle.labels.specs.Programs.{IsNumbered, NumberedIsMeant, NumberedIsTape}
 use Rattle.command_parts.specs.Faults.{IsDeclarationInputFault, IsEventsInputFault, IsTapeInputFault}
-use Rattle.command_parts.specs.Answers.{IsLaterFault, IsMemoryFault, OfProgram}
+use Rattle.command_parts.specs.Answers.{EndsAt, FailsBy, GoesOn, IsLaterFault, IsMemoryFault, OfProgram, Reads, ReadsDeclaration, ReadsTape, ReadsTwo}
+use Rattle.command_parts.proofs.AnswerLemmas.{refused, same_fault}
 use Rattle.command_parts.specs.Inputs.{Input, IsGoodDeclaration, IsGoodEvents, IsGoodTape, TakesAtMost, input}
 use Rattle.command_parts.proofs.InputLemmas as inputs
 use Rattle.command_parts.specs.Writes.{FrontOf, Writes, WritesNothingOr}
@@ -23,7 +24,6 @@ use Rattle.search_commands.specs.declared.verifying.Answer.{Answer}
 use Rattle.verdict_texts.specs.CertificateFaults.{IsCertificateInputFault}
 use Rattle.verdict_texts.specs.CertificateInputs.{IsGoodCertificate, TakesCertificate}
 use Rattle.verdict_texts.specs.CheckText.{IsCheckedSo}
-use Rattle.verdict_texts.proofs.CertificateLemmas as certificates
 use Rattle.source_verdicts.specs.Faults.{IsGoodProgram, IsProgramFault}
 use Rattle.source_verdicts.specs.Verdicts.{IsSomeSourceAnswer, IsSourceChecked, IsSourceCheckedSo, IsSourceGuess, IsSourceStuck, IsSourceVerified, IsSourceWatched, IsSourceWatchedSo, IsSourceWitness, IsSourceWitnessText, IsToldOfSourceWitness, WritesSourceWitness}
 
@@ -38,12 +38,47 @@ pub nothing_or_on : (P Q : List ℕ → Type 0) (old new : Option (List ℕ)) �
 nothing_or_on P Q old new on (inl same) = inl same
 nothing_or_on P Q old new on (inr w) = inr (writes_on P Q old new on w)
 
+-- the fault is that of the first input that has one
+first_fault : {T : Type 0} {F : Input → Fault → Type 0} {G : Option (List ℕ) → Type 0} {K : Option (List ℕ) → Option (List ℕ) → Type 0} {one : Input} {u : Type 0} {R : Result T Fault → Type 0} {f : Fault} →
+    Reads {T = T} F G K one u R (Err f) → F one f ⊎ (G one.had × R (Err f))
+first_fault {T = T} {F = F} {G = G} {one = one} {u = u} {R = R} {f = f} h = told h.ends
+  where
+    told : EndsAt F one u (refused T f) ⊎ GoesOn G one R (refused T f) → F one f ⊎ (G one.had × R (refused T f))
+    told (inl e) = let same : f ≡ e.fault = same_fault T f e.fault e.is in inl (subst (λ (x : Fault). F one x) (sym same) e.has)
+    told (inr e) = inr (e.good, e.rest)
+
+then : {A B C D : Type 0} → A ⊎ (B × C) → (C → D) → A ⊎ (B × D)
+then (inl a) on = inl a
+then (inr (b, c)) on = inr (b, on c)
+
+pub two_faults : {T : Type 0} {tape text : Input} {u : Type 0} {W : Fault → Type 0} {f : Fault} → ReadsTwo {T = T} W tape text u (Err f) →
+    IsTapeInputFault tape f ⊎ (IsGoodTape tape.had × (IsDeclarationInputFault text f ⊎ (IsGoodDeclaration text.had × W f)))
+two_faults h = then (first_fault h) (λ rest. first_fault rest)
+
+pub three_faults : {T : Type 0} {F : Input → Fault → Type 0} {G : Option (List ℕ) → Type 0} {K : Option (List ℕ) → Option (List ℕ) → Type 0} {tape text third : Input} {u v w : Type 0} {W : Fault → Type 0} {f : Fault} →
+    ReadsTape {T = T} tape u (ReadsDeclaration text v (Reads F G K third w (FailsBy W))) (Err f) →
+    IsTapeInputFault tape f ⊎ (IsGoodTape tape.had × (IsDeclarationInputFault text f ⊎ (IsGoodDeclaration text.had × (F third f ⊎ (G third.had × W f)))))
+three_faults h = then (first_fault h) (λ rest. then (first_fault rest) (λ more. first_fault more))
+
+-- the third input is touched only after a good declaration
+pub third_after : {T : Type 0} {tape text : Input} {u v : Type 0} {R : Result T Fault → Type 0} {result : Result T Fault} → ReadsTape {T = T} tape (u × v) (ReadsDeclaration text v R) result → v ⊎ IsGoodDeclaration text.had
+third_after {T = T} {tape = tape} {text = text} {u = u} {v = v} {R = R} {result = result} h = after h.ends
+  where
+    behind : EndsAt IsDeclarationInputFault text v result ⊎ GoesOn IsGoodDeclaration text R result → v ⊎ IsGoodDeclaration text.had
+    behind (inl e) = inl e.rest
+    behind (inr e) = inr e.good
+
+    after : EndsAt IsTapeInputFault tape (u × v) result ⊎ GoesOn IsGoodTape tape (ReadsDeclaration text v R) result → v ⊎ IsGoodDeclaration text.had
+    after (inl e) = inl e.rest.1
+    after (inr e) = behind e.rest.ends
+
 -- of what isn't read nothing is taken
 pub takes_no_text : (most : ℕ) (had : Option (List ℕ)) → TakesAtMost most had had
 takes_no_text most had = inputs.takes_no_text most had
 
 pub takes_no_certificate : (had : Option (List ℕ)) → TakesCertificate had had
-takes_no_certificate had = certificates.takes_no_certificate had
+takes_no_certificate None = record { limit = tt; prompt = tt }
+takes_no_certificate (Some bytes) = record { limit = ([], refl, omega arith); prompt = ([], refl, λ n more. absurd (omega (arith, more))) }
 
 -- the same frames and the same numbers
 pub held : (parts : List (List ℕ)) (text tape numbers frames words : List ℕ) → frames ≡ tape → words ≡ numbers → IsNumbered parts text tape numbers → IsNumbered parts text frames words

@@ -5,7 +5,7 @@ use Rattle.command_parts.specs.Answers.{OfProgram}
 use Rattle.command_parts.specs.declared.status.Status.{Status}
 use Rattle.search_commands.specs.GuessText.{IsGuessOf}
 use Rattle.source_verdicts.specs.Verdicts.{IsSourceGuess}
-use Rattle.source_verdicts.proofs.SourceLemmas.{front_on, guess_fault, guess_so, some_guess_so, held_by, writes_on}
+use Rattle.source_verdicts.proofs.SourceLemmas.{front_on, guess_fault, guess_so, held_by, some_guess_so, two_faults, writes_on}
 use Rattle.source_verdicts.proofs.guessing.guess_source.Goals as goal
 
 pub returns-in-Ok-clause-guessed : goal.returns-in-Ok-clause-guessed
@@ -21,7 +21,7 @@ pub returns-clause-faults : goal.returns-clause-faults
 returns-clause-faults g c =
     let h : IsNumbered (texts c.args.parts.now) c.args.declaration.now c.new-frames.result.rest.now c.new-numbers.result.rest.now =
     held_by (texts c.args.parts.now) c.args.declaration.now c.in_ok-numbered.numbered.tape.items c.in_ok-numbered.numbered.declaration.items _ _ _ _ c.new-frames.ensures.bytes c.deref.ensures.value c.new-numbers.ensures.bytes c.deref-2.ensures.value c.in_ok-numbered.ensures.numbered in
-    guess_fault (texts c.args.parts.now) c.args.declaration.now c.new-frames.result.rest.now c.new-numbers.result.rest.now h c.numbered_programs_are_meant.ensures.tape (Some c.guess.new.tape.rest.now) (Some c.guess.new.declaration.rest.now) c.in-Err.fault c.in-Err.ensures.reads.faults
+    guess_fault (texts c.args.parts.now) c.args.declaration.now c.new-frames.result.rest.now c.new-numbers.result.rest.now h c.numbered_programs_are_meant.ensures.tape (Some c.guess.new.tape.rest.now) (Some c.guess.new.declaration.rest.now) c.in-Err.fault (two_faults c.in-Err.ensures.reads)
 
 pub returns-in-Ok-clause-done : goal.returns-in-Ok-clause-done
 returns-in-Ok-clause-done g c = c.in-Ok.ensures.guessed.written.is.is.status_is

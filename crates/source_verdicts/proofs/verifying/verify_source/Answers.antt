@@ -4,7 +4,7 @@ use Rattle.labels.specs.Programs.{IsNumbered}
 use Rattle.search_commands.specs.VerifyText.{IsVerified}
 use Rattle.search_commands.specs.declared.verifying.Answer.{Answer}
 use Rattle.source_verdicts.specs.Verdicts.{IsSomeSourceAnswer, IsSourceVerified}
-use Rattle.source_verdicts.proofs.SourceLemmas.{front_on, held, some_verified_so, verified_so, verify_fault, writes_on}
+use Rattle.source_verdicts.proofs.SourceLemmas.{front_on, held, some_verified_so, two_faults, verified_so, verify_fault, writes_on}
 use Rattle.source_verdicts.proofs.verifying.verify_source.Goals as goal
 
 pub returns-in-Ok-clause-verified : goal.returns-in-Ok-clause-verified
@@ -25,7 +25,7 @@ returns-clause-faults g c =
     let words : c.new-numbers.result.rest.now ≡ c.in_ok-numbered.numbered.declaration.items = ap (λ (b : Bor (List ℕ)). b.now) c.new-numbers.ensures.bytes ∙ c.deref-2.ensures.value in
     let h : IsNumbered (texts c.args.parts.now) c.args.declaration.now c.new-frames.result.rest.now c.new-numbers.result.rest.now =
     held (texts c.args.parts.now) c.args.declaration.now c.in_ok-numbered.numbered.tape.items c.in_ok-numbered.numbered.declaration.items c.new-frames.result.rest.now c.new-numbers.result.rest.now frames words c.in_ok-numbered.ensures.numbered in
-    verify_fault (texts c.args.parts.now) c.args.declaration.now c.new-frames.result.rest.now c.new-numbers.result.rest.now h c.numbered_programs_are_meant.ensures.tape (Some c.verify.new.tape.rest.now) (Some c.verify.new.declaration.rest.now) c.in-Err.fault c.in-Err.ensures.reads.faults
+    verify_fault (texts c.args.parts.now) c.args.declaration.now c.new-frames.result.rest.now c.new-numbers.result.rest.now h c.numbered_programs_are_meant.ensures.tape (Some c.verify.new.tape.rest.now) (Some c.verify.new.declaration.rest.now) c.in-Err.fault (two_faults c.in-Err.ensures.reads)
 
 pub returns-clause-front : goal.returns-clause-front
 returns-clause-front g c = λ marked.

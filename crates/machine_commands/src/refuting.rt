@@ -93,13 +93,7 @@ pub fn refute<A: Allocator + Copy, R: ByteSource, D: ByteSource, W: ByteSink, P:
     let program = program_from(alloc, tape, declaration)?;
     let (image, promised) = (&program.image, &program.declaration);
     let mut turns = Turns::new(options.steps);
-    let Some(found) = refute_within(
-        alloc,
-        image,
-        promised,
-        u64::from(options.seed),
-        &mut turns,
-    )?
+    let Some(found) = refute_within(alloc, image, promised, u64::from(options.seed), &mut turns)?
     else {
         let line = unbroken_line(alloc, options.steps)?;
         put(report, &line)?;

@@ -5,3 +5,4 @@ pub mod Statuses
 pub mod LinkText
 pub mod Dumping
 pub mod Messages
+pub mod Answers

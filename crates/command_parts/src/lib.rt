@@ -3,5 +3,7 @@
 
 pub mod inputs;
 pub mod message;
+pub mod outcome;
+pub mod programs;
 pub mod status;
 pub mod text;

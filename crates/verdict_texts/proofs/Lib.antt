@@ -1,3 +1,2 @@
-pub mod CertificateLemmas
 pub mod CheckLemmas
 pub mod ReasonLemmas

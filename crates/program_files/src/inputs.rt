@@ -29,12 +29,17 @@ fn identity_of<R: Files>(rt: &R, name: &str) -> Option<Identity> {
     }
 }
 
-/// The parts of a request's source.
-fn parts_of<'q>(request: &'q Request<'_>) -> &'q [&'q str] {
+/// Whether one of these names is that of a file.
+fn names_file<R: Files>(rt: &R, names: &[&str], file: Identity) -> bool {
+    names.iter().any(|name| identity_of(rt, name) == Some(file))
+}
+
+/// Whether a file is a part of the request's source.
+fn is_part<R: Files>(rt: &R, request: &Request<'_>, file: Identity) -> bool {
     match request {
-        Request::Assemble(asked) => &asked.sources,
-        Request::Sourced(asked) => &asked.sources,
-        _ => &[],
+        Request::Assemble(asked) => names_file(rt, &asked.sources, file),
+        Request::Sourced(asked) => names_file(rt, &asked.sources, file),
+        _ => false,
     }
 }
 
@@ -58,9 +63,7 @@ fn is_input<R: Files>(rt: &R, request: &Request<'_>, name: &str) -> bool {
             }
         }
     }
-    parts_of(request)
-        .iter()
-        .any(|part| identity_of(rt, part) == Some(output))
+    is_part(rt, request, output)
 }
 
 /// What is wrong with an output: it is also an input, or the result's file.

@@ -1,0 +1,98 @@
+"""Turns the invariants that a trial of the search finds into certificates of version 3.
+
+The trial is a folder with `richer.py` and `words.py`, whose class `Analysis` finds sets and relations in the same
+language. This is for comparing alone: no program of the workbench calls it.
+"""
+import sys
+from pathlib import Path
+
+import check3
+import facts3
+import sets
+from check import Routine
+
+LETTERS = "SDLTPFCVOB"
+
+
+def trial(folder):
+    """The trial's modules."""
+    sys.path.insert(0, str(folder))
+    import richer
+    import words
+    return richer, words
+
+
+class Chains:
+    """What each table of the trial's functions was made by: a start, a link and steps."""
+
+    def __init__(self, richer):
+        self.made, make = {}, richer.table_of
+
+        def noted(op, before):
+            table = make(op, before)
+            self.made.setdefault(table, self.chain(op, before))
+            return table
+        richer.table_of = noted
+
+    def chain(self, op, before):
+        if op[0] == "start":
+            return op[1] % 4096, op[2], ()
+        k, link, steps = self.made[before]
+        if op[0] == "move":
+            return (k - op[1]) % 4096, link, steps
+        kind = {"and": "AND", "add": "TAD", "operate": "word"}[op[0]]
+        return k, link, steps + ((kind, op[1]),)
+
+    def of(self, table, free):
+        k, link, steps = self.made[table]
+        return k, frozenset((0, 1) if free else (link,)), steps
+
+
+def analysed(richer, chains, image, declaration, letters=LETTERS):
+    """The trial's analysis, and what it says."""
+    found = richer.Analysis(image, declaration, letters)
+    return found, found.run()
+
+
+def facts_of(found, chains, trial_fact, sites, offsets):
+    """The facts that stand for one of the trial: two where the sets of AC differ by the link."""
+    low, high = trial_fact.al & sets.ALL, trial_fact.al >> 4096
+    by_link = [(low, (0, 1))] if low == high else [(low, (0,)), (high, (1,))]
+    sums = {tuple(None if name == -2 else name for name in key): s for key, s in trial_fact.acf.items()}
+    loads = {(z, x, k, sign): j for (z, x), (k, sign, j) in trial_fact.loads.items()}
+    made = {x: chains.of(*chain) for x, chain in trial_fact.fn.items()}
+    for ac, links in by_link:
+        if ac:
+            yield facts3.Fact(ac, trial_fact.mq, frozenset(links), dict(trial_fact.cells), dict(trial_fact.rel), sums,
+                              loads, made, frozenset(offset for offset in range(64) if offsets >> offset & 1), sites)
+
+
+def certificate(found, chains):
+    """The certificate of an analysis."""
+    made, ranks = check3.Certificate(), {}
+
+    def rank(entry):
+        if entry not in ranks:
+            ranks[entry] = max((rank(callee) + 1 for callee in found.callees.get(entry, ())), default=0)
+        return ranks[entry]
+
+    def sites(entry, context):
+        return 0 if entry == "main" else sets.one(context[0][0]) if context else found.sites[entry]
+
+    for entry, _ in found.wset:
+        if entry != "main":
+            made.routines[entry] = Routine(0, 0, 0)
+    for entry, context, _, at, _ in sorted(found.facts, key=str):
+        if entry != "main":
+            made.routines[entry] = Routine(0, 0, 0)
+    for entry, line in made.routines.items():
+        line.rank, line.sites = rank(entry), found.sites[entry]
+        for (routine, _), written in found.wset.items():
+            line.writes |= written if routine == entry else 0
+    for key, fact in sorted(found.facts.items(), key=lambda pair: str(pair[0])):
+        entry, context, _, at, _ = key
+        made.facts.setdefault(at, []).extend(facts_of(found, chains, fact, sites(entry, context), fact.offs))
+    for key, fact in sorted(found.exits.items(), key=lambda pair: str(pair[0])):
+        entry, context, offset, _ = key
+        made.exits.setdefault((entry, offset), []).extend(facts_of(found, chains, fact, sites(entry, context), 0))
+    return made

@@ -48,10 +48,64 @@ class Chains:
         return k, frozenset((0, 1) if free else (link,)), steps
 
 
-def analysed(richer, chains, image, declaration, letters=LETTERS):
-    """The trial's analysis, and what it says."""
-    found = richer.Analysis(image, declaration, letters)
+def analysed(richer, image, declaration, letters=LETTERS):
+    """The trial's analysis with the checker's narrowing, and what it says."""
+    class Analysis(richer.Analysis):
+        """Narrows each set once, by the other sets as they stand."""
+
+        def reduce(self, f):
+            return reduced(richer, self, f)
+
+    found = Analysis(image, declaration, letters)
     return found, found.run()
+
+
+def reduced(richer, found, f):
+    """A trial's fact, narrowed as in facts3; None where no state satisfies it."""
+    g, ac = f.copy(), richer.acs(f.al)
+    met = {facts3.AC: ac}
+
+    def raw(name):
+        return ac if name == facts3.AC else found.raw(f, name)
+
+    def meet(name, members):
+        met[name] = met.get(name, raw(name)) & members
+
+    def put(relations, key, members):
+        relations[key] = relations.get(key, sets.ALL) & members
+
+    for (p, n), s in f.acf.items():
+        low = sets.added(s, raw(p)) if p >= 0 else s
+        meet(facts3.AC, sets.subtracted(low, raw(n)) if n >= 0 else low)
+        if p < 0 or n < 0:
+            meet(n if p < 0 else p, sets.subtracted(s, ac) if p < 0 else sets.subtracted(ac, s))
+        else:
+            known = found.get_rel(f, p, n)
+            meet(facts3.AC, sets.ALL if known is None else sets.added(known, s))
+            x, y = min(p, n), max(p, n)
+            apart = sets.subtracted(ac, s)
+            put(g.rel, (x, y, 1), apart if p < n else sets.negated(apart))
+    for (x, y, c), s in f.rel.items():
+        meet(x, sets.added(sets.times(c, raw(y)), s))
+        meet(y, sets.divided(c, sets.subtracted(raw(x), s), raw(y)))
+    for (z, x), (k, sign, j) in f.loads.items():
+        xs = zs = 0
+        for word in sets.words(raw(x)) if raw(x) != sets.ALL else ():
+            members = found.fixed_set(word + k)
+            fits = sets.added(members if sign > 0 else sets.negated(members), j) & raw(z)
+            xs, zs = xs | (sets.one(word) if fits else 0), zs | fits
+        if raw(x) != sets.ALL:
+            meet(x, xs)
+            meet(z, zs)
+    for x, (table, free) in f.fn.items():
+        xs, fits = found.fit(table, free, raw(x), f.al)
+        meet(x, xs)
+        g.al &= fits
+        put(g.acf, (x, richer.NONE), found.offset_set(table, xs))
+    g.al &= richer.both(met.pop(facts3.AC))
+    g.cells.update(met)
+    every = [g.al, g.mq, *g.cells.values(), *g.rel.values(), *g.acf.values()]
+    return g if all(every) else None
 
 
 def facts_of(found, chains, trial_fact, sites, offsets):

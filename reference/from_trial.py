@@ -48,8 +48,8 @@ class Chains:
         return k, frozenset((0, 1) if free else (link,)), steps
 
 
-def analysed(richer, image, declaration, letters=LETTERS):
-    """The trial's analysis with the checker's narrowing, and what it says."""
+def analysed(richer, image, declaration, letters=LETTERS, split=()):
+    """The trial's analysis with the checker's narrowing, apart by the words of some cells, and what it says."""
     class Analysis(richer.Analysis):
         """Narrows each set once, by the other sets as they stand."""
 
@@ -57,6 +57,7 @@ def analysed(richer, image, declaration, letters=LETTERS):
             return reduced(richer, self, f)
 
     found = Analysis(image, declaration, letters)
+    found.split = list(split)
     return found, found.run()
 
 

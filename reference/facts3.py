@@ -136,8 +136,15 @@ def loaded(place, x, k, sign, j):
 # Narrowing -------------------------------------------------------------------------------------------------------
 
 def narrowed(fact, place):
-    """The fact with each set met with what the relations say of it, by the other sets as they stand; None where no
-    state satisfies it."""
+    """N(F), or None where no state satisfies it."""
+    found = met_once(fact, place)
+    several = [found.ac, found.mq, *found.cells.values(), *found.differences.values(), *found.sums.values(),
+               *found.loads.values()]
+    return found if all(several) and found.link else None
+
+
+def met_once(fact, place):
+    """The fact with each set met with what the relations say of it, by the other sets as they stand."""
     found = replace(fact, cells=dict(fact.cells), differences=dict(fact.differences), sums=dict(fact.sums))
 
     def meet(name, members):
@@ -170,9 +177,7 @@ def narrowed(fact, place):
         meet(z, zs)
     for x, chain in fact.chains.items():
         narrow_by_chain(fact, found, meet, x, chain)
-    several = [found.ac, found.mq, *found.cells.values(), *found.differences.values(), *found.sums.values(),
-               *found.loads.values()]
-    return found if all(several) and found.link else None
+    return found
 
 
 def narrow_by_chain(fact, found, meet, x, chain):
@@ -424,7 +429,12 @@ def post(fact, at, word, place):
         if word < 0o7400:
             return after_group1(fact, word, following)
         return after_group3(fact, word, following) if word & 1 else after_group2(fact, word, at, place)
-    fact, cells = targets(fact, at, word, place)
+    return referred(*targets(fact, at, word, place), at, word, place)
+
+
+def referred(fact, cells, at, word, place):
+    """The outcomes of a memory reference to some cells."""
+    following, operation = (at + 1) % 4096, word >> 9
     pointer = named_cell(word, at) if word & 0o400 and named_cell(word, at) in place.declared.variables else None
     if not cells:
         return []

@@ -111,7 +111,12 @@ def fact_of(chance, world, start, site, offset, place):
         k, steps = r.choice([0, 1, chance.word()]), tuple(r.choice([("AND", r.choice([7, 0o7600, 0o77])), ("TAD", chance.word()),
                                                                     ("word", r.choice([0o7010, 0o7106, 0o7041, 0o7012]))])
                                                           for _ in range(r.randrange(1, 4)))
-        chain = (k, frozenset(r.choice([(0,), (1,), (0, 1)])), steps)
+        links = frozenset(r.choice([(0,), (1,), (0, 1)]))
+        _, ac = min(facts3.results((k, links, steps), speaks(x)))
+        steps += (("TAD", (world.ac - ac) % 4096),)
+        if world.link not in {link for link, ac in facts3.results((k, links, steps), speaks(x)) if ac == world.ac}:
+            steps += (("word", 0o7020),)
+        chain = (k, links, steps)
         if (world.link, world.ac) in facts3.results(chain, speaks(x)):
             found.chains[x] = chain
     return found
@@ -162,6 +167,14 @@ def weaker(chance, a):
                    chains=some(a.chains))
 
 
+def alone(fact, like):
+    """Each relation of a fact by itself."""
+    bare = Fact(offsets=like.offsets, sites=like.sites)
+    for kind in ("cells", "differences", "sums", "loads", "chains"):
+        for key, value_ in getattr(fact, kind).items():
+            yield kind, replace(bare, **{kind: {key: value_}})
+
+
 def case(chance, counts):
     """What went wrong in a case by chance, or None."""
     r, at = chance.r, AT
@@ -184,6 +197,14 @@ def case(chance, counts):
         counts["entailed"] += 1
         if holds(other, world, start, site, offset, place):
             return "entailed", holds(other, world, start, site, offset, place)
+    other = fact_of(chance, chance.state(image) if r.random() < 0.5 else world, start, site, offset, place)
+    for kind, b in alone(other, narrow):
+        if facts3.entails(narrow, b, place):
+            counts["entailed " + kind] += 1
+            if holds(b, world, start, site, offset, place):
+                return "entailed", kind, holds(b, world, start, site, offset, place)
+        else:
+            counts["not entailed " + kind] += 1
     stepped, cells = (narrow, 0) if word >= 0o6000 else facts3.targets(narrow, at, word, place)
     written = cells if word >> 9 in (2, 3) else 0
     if word < 0o6000 and word & 0o400 and facts3.named_cell(word, at) in range(0o10, 0o20):

@@ -151,3 +151,33 @@ def certificate(found, chains):
         entry, context, offset, _ = key
         made.exits.setdefault((entry, offset), []).extend(facts_of(found, chains, fact, sites(entry, context), 0))
     return made
+
+
+def trimmed(image, declared, made):
+    """An accepted certificate without lines below facts and exits that aren't needed: first all those of the same names
+    at once, then one by one, from the last fact to the first, until none goes.
+
+    A fact with less is entailed where it was, so its own address alone is asked again; for an exit its sites are.
+    """
+    asked = check3.Judge(image, declared, made)
+    listed = [(fact, [at]) for at, facts in sorted(made.facts.items(), reverse=True) for fact in facts]
+    listed = [(fact, list(sets.words(fact.sites))) for facts in made.exits.values() for fact in facts] + listed
+    kinds = ("chains", "loads", "differences", "sums", "cells")
+    for kind in kinds:
+        for key in {key for fact, _ in listed for key in getattr(fact, kind)}:
+            without(asked, [entry for entry in listed if key in getattr(entry[0], kind)], kind, key)
+    gone = 1
+    while gone:
+        gone = sum(without(asked, [entry], kind, key) for entry in listed for kind in kinds
+                   for key in sorted(getattr(entry[0], kind), key=str, reverse=True))
+    return made
+
+
+def without(asked, entries, kind, key):
+    """Takes a line from some facts, if the conditions hold without it; says whether they do."""
+    kept = [getattr(fact, kind).pop(key) for fact, _ in entries]
+    if not any(asked.fails_at(at) for at in sorted({at for _, addresses in entries for at in addresses})):
+        return True
+    for (fact, _), members in zip(entries, kept):
+        getattr(fact, kind)[key] = members
+    return False

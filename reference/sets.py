@@ -144,3 +144,10 @@ def divided(factor, members, among):
     if factor in (1, 0o7777):
         return (members if factor == 1 else negated(members)) & among
     return of(word for word in words(among) if members >> factor * word % 4096 & 1)
+
+
+def union(several):
+    found = 0
+    for members in several:
+        found |= members
+    return found

@@ -288,16 +288,12 @@ class Judge:
         return word >> 9 == 5 and bool(word & 0o400) and named_cell(word, at) in self.declared.routines
 
     def holds_2(self, at):
-        lines, exits = self.certificate.routines, {entry for entry, _ in self.certificate.exits}
-        if (at in lines or at in exits) and at not in self.declared.routines:
+        lines, facts, entry = self.certificate.routines, self.certificate.facts.get(at, []), self.owner(at)
+        if at not in self.declared.routines and (at in lines or any(of == at for of, _ in self.certificate.exits)):
             return False
-        if at in exits and any(fact.sites & ~lines[at].sites if at in lines else True
-                               for (entry, _), facts in self.certificate.exits.items() if entry == at for fact in facts):
-            return False
-        entry, facts = self.owner(at), self.certificate.facts.get(at, [])
-        if entry is None or entry is False:
-            return all(entry is None and not fact.offsets and not fact.sites for fact in facts)
-        return all(entry in lines and fact.offsets and fact.sites and not fact.sites & ~lines[entry].sites for fact in facts)
+        if entry is None:
+            return all(not fact.offsets and not fact.sites for fact in facts)
+        return all(entry in lines and fact.offsets and fact.sites for fact in facts)
 
     def holds(self, number, fact, at, word, place):
         """A condition on one possible word, from a narrowed fact."""

@@ -534,12 +534,14 @@ def parts(fact, place):
 
 
 def joined(call, exit_fact, written):
-    """What is known after a return: of written cells what the exit says, of others what the caller knew."""
+    """What is known after a return: what the exit says, and what the caller knew of cells that weren't written."""
     def outside(*names):
         return not any(name == AC or written >> name & 1 for name in names)
 
-    cells = {cell: members for cell, members in call.cells.items() if outside(cell)}
-    cells |= {cell: members for cell, members in exit_fact.cells.items() if not outside(cell)}
+    cells = dict(exit_fact.cells)
+    for cell, members in call.cells.items():
+        if outside(cell):
+            put(cells, cell, members)
     differences, loads = dict(exit_fact.differences), dict(exit_fact.loads)
     for key, s in call.differences.items():
         if outside(*key[:2]):

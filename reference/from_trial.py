@@ -148,7 +148,9 @@ def certificate(found, chains):
         entry, context, _, at, _ = key
         made.facts.setdefault(at, []).extend(facts_of(found, chains, fact, sites(entry, context), fact.offs))
     for key, fact in sorted(found.exits.items(), key=lambda pair: str(pair[0])):
-        entry, context, offset, _ = key
+        entry, context, offset, values = key
+        fact = fact.copy()
+        fact.cells.update({cell: sets.one(word) for cell, word in zip(found.split, values) if word is not None})
         made.exits.setdefault((entry, offset), []).extend(facts_of(found, chains, fact, sites(entry, context), 0))
     return made
 

@@ -12,7 +12,7 @@ import watch  # noqa: E402
 
 # What the certificate of each program says of the twin with one other word.
 TWINS = {"command": "V4 at 0207", "line": "V4 at 0215", "lookup": "V4 at 0210", "modes": "V4 at 0222",
-         "moves": "V4 at 0222", "number": "V4 at 0210", "packed": "V4 at 0214", "ring": "V4 at 0224", "shift": "V4 at 0201",
+         "moves": "V4 at 0222", "number": "V4 at 0210", "packed": "V4 at 0214", "puts": "V4 at 0221", "ring": "V4 at 0224", "shift": "V4 at 0201",
          "states": "V4 at 0225", "tell": "V4 at 0214", "tens": "V4 at 0206"}
 
 # A program, what stands in its certificate, what is put in its place, and what is said then.

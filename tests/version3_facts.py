@@ -17,7 +17,7 @@ from machine import World, is_supported  # noqa: E402
 from watch import Declaration  # noqa: E402
 
 ENTRY, AT = 0o250, 0o255
-VARIABLES = [0o10, 0o11, 0o210, 0o211, 0o300, 0o301, 0o302, 0o303]
+VARIABLES = [0o10, 0o210, 0o300, 0o301, 0o302]
 TABLE = list(range(0o310, 0o330))
 DECLARED = Declaration(0o200, "8e", set(range(0o200, 0o210)),
                        {ENTRY: (set(range(0o251, 0o270)), {0, 1, 2}), 0o400: ({0o401}, {0})}, set(VARIABLES), set(), set())
@@ -37,6 +37,8 @@ class Chance:
         kind, found = self.r.randrange(6), sets.one(word)
         if kind < 2:
             return found
+        if word in VARIABLES and kind < 5:
+            return found | sets.of(self.r.sample(VARIABLES, 2))
         if kind == 2:
             return sets.ALL
         for _ in range(self.r.randrange(1, 5)):
@@ -181,6 +183,8 @@ def case(chance, counts):
     image = {cell: chance.word() for cell in [*TABLE, 0o270, 0o271, 0o300, 0o10]}
     word = image[at] = chance.instruction()
     world = chance.state(image)
+    for cell in VARIABLES:
+        world.memory[cell] = r.choice([*VARIABLES, chance.word(), world.memory[cell]])
     site, offset = r.choice([0o203, 0o206]), r.randrange(3)
     world.memory[ENTRY] = (site + 1 + offset) % 4096
     start = list(world.memory)
@@ -234,7 +238,8 @@ def landed(chance, counts, fact, state):
     if chance.r.random() < 0.5:
         name = chance.r.choice(VARIABLES)
         known = [b.with_set(name, b.set_of(name) & members) for b, members in
-                 zip(known, (sets.span(0, 0o300), sets.span(0o301, 0o315), sets.span(0o314, 0o7777)))]
+                 zip(known, chance.r.choice([(sets.span(0, 0o300), sets.span(0o301, 0o315), sets.span(0o314, 0o7777)),
+                                             (sets.span(0, 0o277), sets.span(0o302, 0o777), sets.span(0o301, 0o314))]))]
     for part in facts3.parts(fact, place):
         if state[0].link in part.link and facts3.lands_by(part, known, place, True):
             counts["landed"] += 1

@@ -2,13 +2,18 @@
 
 The trial is a folder with `richer.py` and `words.py`, whose class `Analysis` finds sets and relations in the same
 language. This is for comparing alone: no program of the workbench calls it.
+
+usage: from_trial.py FOLDER SOURCE OUT [LETTERS [CELL..]], where the source has `/:` lines, the letters say what the trial's
+facts can say, and facts are kept apart by the words of the cells
 """
 import sys
 from pathlib import Path
 
 import check3
 import facts3
+import labels
 import sets
+import watch
 from check import Routine
 
 LETTERS = "SDLTPFCVOB"
@@ -109,7 +114,7 @@ def reduced(richer, found, f):
     return g if all(every) else None
 
 
-def facts_of(found, chains, trial_fact, sites, offsets):
+def facts_of(chains, trial_fact, sites, offsets):
     """The facts that stand for one of the trial: two where the sets of AC differ by the link."""
     low, high = trial_fact.al & sets.ALL, trial_fact.al >> 4096
     by_link = [(low, (0, 1))] if low == high else [(low, (0,)), (high, (1,))]
@@ -134,24 +139,20 @@ def certificate(found, chains):
     def sites(entry, context):
         return 0 if entry == "main" else sets.one(context[0][0]) if context else found.sites[entry]
 
-    for entry, _ in found.wset:
-        if entry != "main":
-            made.routines[entry] = Routine(0, 0, 0)
-    for entry, context, _, at, _ in sorted(found.facts, key=str):
-        if entry != "main":
-            made.routines[entry] = Routine(0, 0, 0)
+    for entry in {key[0] for key in (*found.wset, *found.facts)} - {"main"}:
+        made.routines[entry] = Routine(0, 0, 0)
     for entry, line in made.routines.items():
         line.rank, line.sites = rank(entry), found.sites[entry]
         for (routine, _), written in found.wset.items():
             line.writes |= written if routine == entry else 0
     for key, fact in sorted(found.facts.items(), key=lambda pair: str(pair[0])):
         entry, context, _, at, _ = key
-        made.facts.setdefault(at, []).extend(facts_of(found, chains, fact, sites(entry, context), fact.offs))
+        made.facts.setdefault(at, []).extend(facts_of(chains, fact, sites(entry, context), fact.offs))
     for key, fact in sorted(found.exits.items(), key=lambda pair: str(pair[0])):
         entry, context, offset, values = key
         fact = fact.copy()
         fact.cells.update({cell: sets.one(word) for cell, word in zip(found.split, values) if word is not None})
-        made.exits.setdefault((entry, offset), []).extend(facts_of(found, chains, fact, sites(entry, context), 0))
+        made.exits.setdefault((entry, offset), []).extend(facts_of(chains, fact, sites(entry, context), 0))
     return made
 
 
@@ -183,3 +184,23 @@ def without(asked, entries, kind, key):
     for (fact, _), members in zip(entries, kept):
         getattr(fact, kind)[key] = members
     return False
+
+
+def main(folder, source, out, letters=LETTERS, *split):
+    """Writes the certificate of a source with `/:` lines, or says where the trial is stuck."""
+    richer, words = trial(folder)
+    chains = Chains(richer)
+    image, text = labels.program(Path(source).read_bytes())
+    found, said = analysed(richer, image, words.parse_declaration(text.encode()), letters, [int(cell, 8) for cell in split])
+    if said == "proved":
+        declared = watch.declaration(text.encode())
+        made = certificate(found, chains)
+        failed = check3.judge(image, declared, made)
+        said = "no: V{} at {:04o}".format(*failed) if failed else "yes"
+        Path(out).write_text(check3.text(made if failed else trimmed(image, declared, made)))
+    print(said)
+    return int(said != "yes")
+
+
+if __name__ == "__main__":
+    sys.exit(main(*sys.argv[1:]))

@@ -167,7 +167,7 @@ def trimmed(image, declared, made):
     listed = [(fact, list(sets.words(fact.sites))) for facts in made.exits.values() for fact in facts] + listed
     kinds = ("chains", "loads", "differences", "sums", "cells")
     for kind in kinds:
-        for key in {key for fact, _ in listed for key in getattr(fact, kind)}:
+        for key in sorted({key for fact, _ in listed for key in getattr(fact, kind)}, key=str):
             without(asked, [entry for entry in listed if key in getattr(entry[0], kind)], kind, key)
     gone = 1
     while gone:

@@ -9,12 +9,9 @@ use Rattle.pal_text.specs.declared.tokens.Kind.{Kind}
 use Rattle.pal_text.specs.declared.tokens.Kind.TheVariants.{End}
 use Rattle.pal_text.specs.declared.tokens.Token.{Token}
 use Rattle.pal_text.specs.Characters.{line, in_comment, meaning_after}
-use Rattle.pal_text.specs.Tokens.{is_space, absorbs, longer, token, kind_of, end_token}
-use Rattle.pal_text.specs.Adding.{with_kind, without_space, joined, one_or_both, added, grown, tokens, ended, all_read}
+use Rattle.pal_text.specs.Tokens.{is_space, absorbs, longer, token, kind_of, end_token, with_kind, without_space, joined, one_or_both, added, grown, tokens, ended, all_tokens, is_end}
 use Rattle.pal_text.specs.Names.{named, part_tokens}
-use Rattle.pal_text.specs.Tokens.{is_end}
 use Rattle.pal_text.specs.Statements.{Piece, piece, pieces}
-use Rattle.pal_text.proofs.CountedLemmas.{part_are}
 use Rattle.pal_text.proofs.ByMeaning.{line_by}
 
 -- tokens, the newest first, on lines up to this one
@@ -82,8 +79,8 @@ part_climbing : (source : List ℕ) → Climbing 0 (part_tokens source)
 part_climbing source =
     let before : List ℕ = reverse source in
     let P : List Token → Type 0 = λ l. Climbing 0 l in
-    subst P (sym (part_are source)) (named_climbing source 0 (all_read source) (subst P (append-nil (reverse (ended before)))
-    (turned (ended before) [] (line before) (added_rising (line before) (end_token before) (tokens before) (omega arith, tokens_rising before)) tt)))
+    named_climbing source 0 (all_tokens source) (subst P (append-nil (reverse (ended before)))
+    (turned (ended before) [] (line before) (added_rising (line before) (end_token before) (tokens before) (omega arith, tokens_rising before)) tt))
 
 abbrev pub Marks : ℕ → List Piece → Type 0
 Marks n [] = Unit {0}

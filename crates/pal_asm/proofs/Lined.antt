@@ -12,13 +12,10 @@ use Rattle.pal_text.specs.declared.tokens.Token.{Token}
 use Rattle.pal_text.specs.declared.lines.Line.{Line}
 use Rattle.pal_text.specs.Characters.{line, in_comment, meaning_after}
 use Rattle.pal_text.specs.Lines.{line_start, is_begun, line_of, ended_lines, lines}
-use Rattle.pal_text.specs.Tokens.{is_space, absorbs, longer, token, kind_of, end_token}
-use Rattle.pal_text.specs.Adding.{with_kind, without_space, joined, one_or_both, added, grown, tokens, ended, all_read}
+use Rattle.pal_text.specs.Tokens.{is_space, absorbs, longer, token, kind_of, end_token, with_kind, without_space, joined, one_or_both, added, grown, tokens, ended, all_tokens, is_end}
 use Rattle.pal_text.specs.Names.{with_name, named, part_tokens}
 use Rattle.pal_text.specs.Scan.{front, trimmed}
-use Rattle.pal_text.specs.Tokens.{is_end}
 use Rattle.pal_text.proofs.Apart.{added_end}
-use Rattle.pal_text.proofs.CountedLemmas.{part_are}
 use Rattle.pal_text.proofs.Fronts.{next_front}
 use Rattle.pal_text.proofs.ByMeaning.{begun_by, line_by, lines_by}
 
@@ -238,4 +235,4 @@ part_chain source =
     let f : Fine L (line before) (tokens before) = subst P whole (tokens_fine source (length source) (omega arith)) in
     let e : Fine L (line before) (ended before) = added_fine L (end_token before) (tokens before) (end_fits L (line before) (length before) (length before) (omega (arith, line_is before))) f in
     let Q : List Token → Type 0 = λ l. Chain L l in
-    subst Q (sym (part_are source)) (named_chain L source (all_read source) (subst Q (append-nil (reverse (ended before))) (turned L (line before) (ended before) [] e tt tt)))
+    named_chain L source (all_tokens source) (subst Q (append-nil (reverse (ended before))) (turned L (line before) (ended before) [] e tt tt))

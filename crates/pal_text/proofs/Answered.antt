@@ -12,13 +12,15 @@ use Rattle.pal_text.specs.declared.cut.Ending.{Ending}
 use Rattle.pal_text.specs.declared.cut.Ending.TheVariants as ending
 use Rattle.pal_text.specs.declared.cut.Close.{Close}
 use Rattle.pal_text.specs.declared.lines.Line.{Line}
-use Rattle.pal_text.specs.Tokens.{runs, is_end, counted, end_token}
+use Rattle.pal_text.specs.Tokens.{is_end, tokens, end_token}
 use Rattle.pal_text.specs.Names.{named, part_tokens}
 use Rattle.pal_text.specs.Lines.{all_lines}
 use Rattle.pal_text.specs.Reading.{shape}
+use Rattle.pal_text.specs.Scan.{trimmed}
 use Rattle.pal_text.specs.Statements.{is_dollar, Piece, piece, pieces, own, Fills, closed, closing, Stand, ends, goes_on, Breaks, here, later}
 use Rattle.pal_text.specs.Parts.{IsPart, IsIllegal}
 use Rattle.pal_text.specs.Laws.{EachPartIsAnswered}
+use Rattle.pal_text.proofs.Apart.{added_end}
 use Rattle.pal_text.proofs.Cuts.{made, made_fills}
 use Rattle.pal_text.proofs.Readings.{shape_none}
 
@@ -45,10 +47,10 @@ pieces_closed size first at (t ∷ ts) m e s = elim (cases_Bool (is_end t.kind))
 -- and so do those of a part
 pub part_closed : (source : List ℕ) → IsClosed (length source) (pieces 0 0 (part_tokens source))
 part_closed source =
-    let before : List Token = counted true (runs (reverse source)) in
+    let before : List Token = trimmed (tokens (reverse source)) in
     let last : Token = end_token (reverse source) in
     let is : part_tokens source ≡ map (named source) (reverse before) ++ named source last ∷ [] =
-    ap (map (named source)) (reverse-append (last ∷ []) before) ∙ map-append (named source) (reverse before) (last ∷ []) in
+    ap (λ ts. map (named source) (reverse ts)) (added_end last (tokens (reverse source)) refl) ∙ ap (map (named source)) (reverse-append (last ∷ []) before) ∙ map-append (named source) (reverse before) (last ∷ []) in
     let P : List Token → Type 0 = λ ts. IsClosed (length source) (pieces 0 0 ts) in
     subst P (sym is) (pieces_closed (length source) 0 0 (map (named source) (reverse before)) (named source last) refl (length-reverse source))
 

@@ -8,8 +8,7 @@ use Rattle.pal_text.specs.declared.tokens.Kind.{Kind}
 use Rattle.pal_text.specs.declared.tokens.Kind.TheVariants.{Symbol, Number, Mixed, Space, End, Dollar}
 use Rattle.pal_text.specs.declared.tokens.Token.{Token}
 use Rattle.pal_text.specs.Characters.{line, in_comment, meaning_after}
-use Rattle.pal_text.specs.Tokens.{is_space, absorbs, longer, token, kind_of, end_token, is_end}
-use Rattle.pal_text.specs.Adding.{with_kind, joined, one_or_both, added, grown, tokens, ended}
+use Rattle.pal_text.specs.Tokens.{is_space, absorbs, longer, token, kind_of, end_token, is_end, with_kind, joined, one_or_both, added, grown, tokens, ended}
 use Rattle.pal_text.specs.Scan.{IsCut, trimmed}
 
 longer_end : (k n : Kind) → is_end k ≡ true → longer k n ≡ None

@@ -12,8 +12,7 @@ use Rattle.pal_text.specs.declared.scan.Brings.TheVariants.{Nothing, Feed, End, 
 use Rattle.pal_text.specs.declared.scan.Place.{Place}
 use Rattle.pal_text.specs.declared.scan.Run.{Run}
 use Rattle.pal_text.specs.Characters.{code, returned, in_comment, line}
-use Rattle.pal_text.specs.Tokens.{is_space, absorbs, longer, token, is_end}
-use Rattle.pal_text.specs.Adding.{with_kind, without_space, joined, one_or_both, added, tokens}
+use Rattle.pal_text.specs.Tokens.{is_space, absorbs, longer, token, is_end, with_kind, without_space, joined, one_or_both, added, tokens}
 use Rattle.pal_text.specs.Scan.{brings, is_line_code, front, IsStop, IsQuiet, IsOutside, IsOpen, IsPlaceIn, IsOwn, is_word, spanned, IsRun, IsOnward}
 use Rattle.pal_text.proofs.Apart.{added_apart}
 use Rattle.pal_text.proofs.Rises.{all_reverse}

@@ -4,8 +4,7 @@ use Rattle.std.specs.Prelude.{reverse, Result, Ok, Err, OnOk, OnErr}
 use Rattle.std.proofs.lemmas.List.{reverse-append, take_more}
 use Rattle.std.proofs.Math.Seq.{set-append_seam, get_or-append_seam}
 use Rattle.pal_text.specs.declared.tokens.Token.{Token}
-use Rattle.pal_text.specs.Tokens.{is_space}
-use Rattle.pal_text.specs.Adding.{joined, added, one_or_both}
+use Rattle.pal_text.specs.Tokens.{is_space, joined, added, one_or_both}
 
 pub on_ok_also : {X E : Type 0} (r : Result X E) (P Q : Type 0) → OnOk r P → (P → Q) → OnOk r Q
 on_ok_also (Ok x) P Q h f = f h

@@ -14,7 +14,6 @@ pub mod Told
 pub mod Placed
 pub mod Apart
 pub mod Steps
-pub mod CountedLemmas
 pub mod Fronts
 pub mod Nexts
 pub mod Stays

@@ -21,8 +21,7 @@ use Rattle.pal_text.specs.declared.reader.Found.{Found}
 use Rattle.pal_text.specs.declared.reader.Standing.{Standing}
 use Rattle.pal_text.specs.declared.reader.Standing.TheVariants.{Begins, Ended}
 use Rattle.pal_text.specs.Characters.{code, returned, in_comment, line, meaning_after}
-use Rattle.pal_text.specs.Tokens.{is_space, token, kind_of, end_token, is_end}
-use Rattle.pal_text.specs.Adding.{joined, one_or_both, added, grown, tokens, ended, all_read}
+use Rattle.pal_text.specs.Tokens.{is_space, token, kind_of, end_token, is_end, joined, one_or_both, added, grown, tokens, ended, all_tokens}
 use Rattle.pal_text.specs.Names.{IsWithin, with_name, name, bytes_of, named, part_tokens}
 use Rattle.pal_text.specs.Progress.{ended_at}
 use Rattle.pal_text.specs.Reading.{shape}
@@ -30,7 +29,6 @@ use Rattle.pal_text.specs.Statements.{is_dollar, piece, pieces, own, closing}
 use Rattle.pal_text.specs.Readers.{rest, IsNext, IsBroken}
 use Rattle.pal_text.specs.Scan.{front, mark_kind, line_past, trimmed, mark, next_place, Closes, IsStop, IsCut, IsOpen, IsPlaceIn, stands_by, StandsAt, IsOwn}
 use Rattle.pal_text.proofs.Apart.{added_apart, added_end, Later, ended_later, Ends, ended_on}
-use Rattle.pal_text.proofs.CountedLemmas.{part_are}
 use Rattle.pal_text.proofs.Cuts.{made, made_fills}
 use Rattle.pal_text.proofs.Fronts.{next_front}
 use Rattle.pal_text.proofs.Grows.{turned}
@@ -66,7 +64,7 @@ ended_length : (f : List ℕ) → length (ended f) ≤ length f + 1
 ended_length f = omega (arith, added_length (end_token f) (tokens f), tokens_length f)
 
 part_length : (source : List ℕ) → length (part_tokens source) ≤ length source + 1
-part_length source = omega (arith, ap length (part_are source), length-map (all_read source) (named source), length-reverse (ended (reverse source)), ended_length (reverse source), length-reverse source)
+part_length source = omega (arith, length-map (all_tokens source) (named source), length-reverse (ended (reverse source)), ended_length (reverse source), length-reverse source)
 
 line_by_more : (n : ℕ) (m : Meaning) → line_by n m ≤ n + 1
 line_by_more n Ignored = omega arith
@@ -192,7 +190,7 @@ goes_inside source n at ts m f close is inside closes none =
     inside_of at (length source) (ap (λ k. nat_eq k (length source)) (sym start) ∙ bytes_left (length source) ts m f (sym closes ∙ none)) inside
 
 -- the tokens of the part around those of the statement
-all_around : (source : List ℕ) (place : Place) (raw : List Token) (m : Token) (k : Made source place raw m) → all_read source ≡ reverse (tokens (front source place.at)) ++ (raw ++ m ∷ reverse k.more)
+all_around : (source : List ℕ) (place : Place) (raw : List Token) (m : Token) (k : Made source place raw m) → all_tokens source ≡ reverse (tokens (front source place.at)) ++ (raw ++ m ∷ reverse k.more)
 all_around source place raw m k =
     let b : List Token = tokens (front source place.at) in
     ap reverse k.is
@@ -302,8 +300,7 @@ stands_made source place stop count before raw p o s cut n =
     let k : Made source place raw m = made_at source place stop before raw p o s cut in
     let b : List Token = tokens (front source place.at) in
     let is : part_tokens source ≡ map (named source) (reverse b) ++ (map (named source) raw ++ m ∷ map (named source) (reverse k.more)) =
-    part_are source
-    ∙ ap (map (named source)) (all_around source place raw m k)
+    ap (map (named source)) (all_around source place raw m k)
     ∙ map-append (named source) (reverse b) (raw ++ m ∷ reverse k.more)
     ∙ ap (λ l. map (named source) (reverse b) ++ l) (map-append (named source) raw (m ∷ reverse k.more))
     ∙ ap (λ x. map (named source) (reverse b) ++ (map (named source) raw ++ x ∷ map (named source) (reverse k.more))) (named_mark source m k.is_mark) in
@@ -373,11 +370,10 @@ left_at : (source : List ℕ) (place : Place) (count : ℕ) → IsPlaceIn source
 left_at source place count p n none =
     let b : List Token = tokens (front source place.at) in
     let k : Ends b (ended (reverse (drop place.at source) ++ front source place.at)) = ended_on (reverse (drop place.at source)) (front source place.at) p.cut in
-    let all : all_read source ≡ reverse b ++ (reverse k.more ++ k.mark ∷ []) =
+    let all : all_tokens source ≡ reverse b ++ (reverse k.more ++ k.mark ∷ []) =
     ap (λ f. reverse (ended f)) (split_source source place.at) ∙ ap reverse k.is ∙ reverse-append (k.mark ∷ k.more) b ∙ ap (λ l. reverse b ++ l) (reverse-append (k.mark ∷ []) k.more) in
     let is : part_tokens source ≡ map (named source) (reverse b) ++ (map (named source) (reverse k.more) ++ named source k.mark ∷ []) =
-    part_are source
-    ∙ ap (map (named source)) all
+    ap (map (named source)) all
     ∙ map-append (named source) (reverse b) (reverse k.more ++ k.mark ∷ [])
     ∙ ap (λ l. map (named source) (reverse b) ++ l) (map-append (named source) (reverse k.more) (k.mark ∷ [])) in
     let size : length (map (named source) (reverse b)) ≡ count = length-map (reverse b) (named source) ∙ length-reverse b ∙ sym n in

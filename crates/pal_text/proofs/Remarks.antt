@@ -7,14 +7,12 @@ use Rattle.std.proofs.lemmas.List.{reverse-append, length-reverse, length-append
 use Rattle.pal_text.specs.declared.characters.Meaning.TheVariants.{LineEnd}
 use Rattle.pal_text.specs.declared.tokens.Token.{Token}
 use Rattle.pal_text.specs.Characters.{code, returned, meaning_after, in_comment, line}
-use Rattle.pal_text.specs.Tokens.{is_space, token, end_token}
-use Rattle.pal_text.specs.Adding.{added, tokens, ended, all_read}
+use Rattle.pal_text.specs.Tokens.{is_space, token, end_token, added, tokens, ended, all_tokens}
 use Rattle.pal_text.specs.Names.{IsWithin, name, bytes_of, with_name, named, part_tokens}
 use Rattle.pal_text.specs.Order.{IsOrdered}
 use Rattle.pal_text.specs.Scan.{brings, trimmed, mark_kind, line_past, Closes, IsCut}
 use Rattle.pal_text.specs.Laws.{moved, is_line_byte, CommentsAddNothing}
 use Rattle.pal_text.proofs.Apart.{added_end, Later, ended_later}
-use Rattle.pal_text.proofs.CountedLemmas.{part_are}
 use Rattle.pal_text.proofs.Steps.{Comments, comment_begins, comment_more, line_is_code, line_closes, comment_closes}
 use Rattle.pal_text.proofs.Stays.{range_front, told_alike}
 use Rattle.pal_text.proofs.Moved.{moved_after, moved_before, Same, same_more, put_moved, ended_moved, AllSpan, tokens_span, early, range_back}
@@ -129,11 +127,9 @@ module _ (before text : List ℕ) (slash : ℕ) (outside : in_comment (reverse b
   all_moved : (more : List ℕ) → ended (reverse (before ++ (put ++ more))) ≡ map (moved k n) (ended (reverse (before ++ more))) → AllApart k (ended (reverse (before ++ more)))
       → part_tokens (before ++ (put ++ more)) ≡ map (moved k n) (part_tokens (before ++ more))
   all_moved more e a =
-      part_are (before ++ (put ++ more))
-      ∙ ap (λ ts. map (named (before ++ (put ++ more))) (reverse ts)) e
+      ap (λ ts. map (named (before ++ (put ++ more))) (reverse ts)) e
       ∙ ap (map (named (before ++ (put ++ more)))) (sym (map_reverse (moved k n) (ended (reverse (before ++ more)))))
-      ∙ named_moved more (all_read (before ++ more)) (all_tokens_within (before ++ more)) (all_reverse (Apart k) (ended (reverse (before ++ more))) a)
-      ∙ ap (map (moved k n)) (sym (part_are (before ++ more)))
+      ∙ named_moved more (all_tokens (before ++ more)) (all_tokens_within (before ++ more)) (all_reverse (Apart k) (ended (reverse (before ++ more))) a)
 
   -- the part ends with the comment
   at_end : part_tokens (before ++ (put ++ [])) ≡ map (moved k n) (part_tokens (before ++ []))

@@ -10,13 +10,11 @@ use Rattle.pal_text.specs.declared.tokens.Kind.{Kind}
 use Rattle.pal_text.specs.declared.tokens.Kind.TheVariants.{Symbol, Number, Mixed, Space, End}
 use Rattle.pal_text.specs.declared.tokens.Token.{Token}
 use Rattle.pal_text.specs.Characters.{code, is_ignored, returned, meaning, meaning_after, in_comment, line, characters}
-use Rattle.pal_text.specs.Tokens.{is_space, absorbs, longer, token, kind_of, end_token, is_end}
-use Rattle.pal_text.specs.Adding.{with_kind, without_space, one_or_both, added, grown, tokens, ended, all_read}
+use Rattle.pal_text.specs.Tokens.{is_space, absorbs, longer, token, kind_of, end_token, is_end, with_kind, without_space, one_or_both, added, grown, tokens, ended, all_tokens}
 use Rattle.pal_text.specs.Names.{name, bytes_of, with_name, named, part_tokens}
 use Rattle.pal_text.specs.Scan.{returned_by, trimmed}
 use Rattle.pal_text.specs.Laws.{alone, SpellsAgain, TokensSpellAgain}
 use Rattle.pal_text.proofs.Apart.{added_end}
-use Rattle.pal_text.proofs.CountedLemmas.{part_are}
 use Rattle.pal_text.proofs.Stays.{told_alike}
 use Rattle.pal_text.proofs.Rises.{all_reverse}
 use Rattle.pal_text.proofs.ByMeaning.{comment_by, line_by}
@@ -343,7 +341,6 @@ spells_again source t final a some =
         added_end (end_token s.bytes) (tokens s.bytes) refl ∙ ap (λ ts. end_token s.bytes ∷ trimmed ts) s.tokens_are
         ∙ ap (λ ts. end_token s.bytes ∷ ts) (cond-false (is_space t.kind) [] (sole t.kind n ∷ []) p) in
         ap part_tokens slice
-        ∙ part_are y
         ∙ ap (λ bytes. map (named y) (reverse (ended bytes))) (reverse-reverse s.bytes)
         ∙ ap (λ ts. map (named y) (reverse ts)) ended_is
         ∙ (λ i. record { kind = kind_is i; line = 1; start = 0; end = size_is i } ∷ record { kind = End; line = s.line_is i; start = size_is i; end = size_is i } ∷ [])
@@ -354,4 +351,4 @@ all_again source (t ∷ ts) h = (spells_again source t h.0, all_again source ts 
 
 pub tokens_spell_again : TokensSpellAgain
 tokens_spell_again source =
-    subst (λ ts. AllByRecursion (SpellsAgain source) ts) (sym (part_are source)) (all_again source (all_read source) (all_reverse (Final (reverse source)) (ended (reverse source)) (ended_spell (reverse source))))
+    all_again source (all_tokens source) (all_reverse (Final (reverse source)) (ended (reverse source)) (ended_spell (reverse source)))

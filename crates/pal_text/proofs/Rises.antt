@@ -10,12 +10,10 @@ use Rattle.pal_text.specs.declared.tokens.Kind.{Kind}
 use Rattle.pal_text.specs.declared.tokens.Kind.TheVariants.{End}
 use Rattle.pal_text.specs.declared.tokens.Token.{Token}
 use Rattle.pal_text.specs.Characters.{line, in_comment, meaning_after}
-use Rattle.pal_text.specs.Tokens.{is_space, absorbs, longer, token, kind_of, end_token}
-use Rattle.pal_text.specs.Adding.{with_kind, without_space, joined, one_or_both, added, grown, tokens, ended, all_read}
+use Rattle.pal_text.specs.Tokens.{is_space, absorbs, longer, token, kind_of, end_token, with_kind, without_space, joined, one_or_both, added, grown, tokens, ended, all_tokens}
 use Rattle.pal_text.specs.Names.{IsWithin, named, part_tokens}
 use Rattle.pal_text.specs.Order.{IsOrdered}
 use Rattle.pal_text.proofs.Grows.{turned}
-use Rattle.pal_text.proofs.CountedLemmas.{part_are}
 
 pub later : (ts : List Token) (m n : ℕ) → m ≤ n → IsOrdered m ts → IsOrdered n ts
 later [] m n h r = tt
@@ -84,7 +82,7 @@ map_reverse f (x ∷ xs) = ap (map f) (turned x xs) ∙ map-append f (reverse xs
 
 pub part_tokens_ordered : (source : List ℕ) → IsOrdered (length source) (reverse (part_tokens source))
 part_tokens_ordered source =
-    let e : reverse (part_tokens source) ≡ map (named source) (ended (reverse source)) = ap reverse (part_are source) ∙ ap reverse (map_reverse (named source) (ended (reverse source))) ∙ reverse-reverse (map (named source) (ended (reverse source))) in
+    let e : reverse (part_tokens source) ≡ map (named source) (ended (reverse source)) = ap reverse (map_reverse (named source) (ended (reverse source))) ∙ reverse-reverse (map (named source) (ended (reverse source))) in
     let P : List Token → Type 0 = λ ts. IsOrdered (length source) ts in
     let Q : ℕ → Type 0 = λ n. IsOrdered n (ended (reverse source)) in
     subst P (sym e) (named_ordered source (length source) (ended (reverse source)) (subst Q (length-reverse source) (ended_ordered (reverse source))))
@@ -112,7 +110,7 @@ all_drop P zero xs h = h
 all_drop P (suc n) [] h = tt
 all_drop P (suc n) (x ∷ xs) h = all_drop P n xs h.1
 
-pub all_tokens_within : (source : List ℕ) → AllByRecursion (IsWithin (length source)) (all_read source)
+pub all_tokens_within : (source : List ℕ) → AllByRecursion (IsWithin (length source)) (all_tokens source)
 all_tokens_within source = all_reverse (IsWithin (length source)) (ended (reverse source)) (ordered_within (length source) (length (reverse source)) (ended (reverse source)) (omega (arith, length-reverse source)) (ended_ordered (reverse source)))
 
 named_within : (source : List ℕ) (n : ℕ) (ts : List Token) → AllByRecursion (IsWithin n) ts → AllByRecursion (IsWithin n) (map (named source) ts)
@@ -120,7 +118,7 @@ named_within source n [] h = tt
 named_within source n (t ∷ ts) h = (record { forward = h.0.forward; inside = h.0.inside }, named_within source n ts h.1)
 
 pub part_tokens_within : (source : List ℕ) → AllByRecursion (IsWithin (length source)) (part_tokens source)
-part_tokens_within source = subst (λ ts. AllByRecursion (IsWithin (length source)) ts) (sym (part_are source)) (named_within source (length source) (all_read source) (all_tokens_within source))
+part_tokens_within source = named_within source (length source) (all_tokens source) (all_tokens_within source)
 
 -- a vector whose elements were changed through a slice
 pub written_back : {X : Type 0} (items new : List X) (n : ℕ) → length items ≡ n → length new ≡ n → take n (new ++ drop (length new) items) ≡ new

@@ -12,13 +12,11 @@ use Rattle.pal_text.specs.declared.tokens.Token.{Token}
 use Rattle.pal_text.specs.declared.scan.Brings.TheVariants.{One}
 use Rattle.pal_text.specs.declared.scan.Place.{Place}
 use Rattle.pal_text.specs.Characters.{code, line, in_comment, meaning_after}
-use Rattle.pal_text.specs.Tokens.{is_space, absorbs, longer, token, kind_of, end_token, is_end}
-use Rattle.pal_text.specs.Adding.{with_kind, without_space, joined, one_or_both, added, grown, tokens, ended, all_read}
+use Rattle.pal_text.specs.Tokens.{is_space, absorbs, longer, token, kind_of, end_token, is_end, with_kind, without_space, joined, one_or_both, added, grown, tokens, ended, all_tokens}
 use Rattle.pal_text.specs.Names.{named, part_tokens}
 use Rattle.pal_text.specs.Readers.{HasToken}
 use Rattle.pal_text.specs.Scan.{brings, front, IsCut, IsOpen, IsPlaceIn}
 use Rattle.pal_text.proofs.Apart.{joined_cut, added_apart, grown_apart}
-use Rattle.pal_text.proofs.CountedLemmas.{part_are}
 use Rattle.pal_text.proofs.Fronts.{Reading, reading_added}
 use Rattle.pal_text.proofs.Grows.{turned}
 use Rattle.pal_text.proofs.Nexts.{split_source, with_name_open}
@@ -137,8 +135,8 @@ has_token source at b cut a =
     let k : After b (ended (reverse (drop at source) ++ front source at)) = after_ended (reverse (drop at source)) (front source at) b cut a in
     let f : First k.own = first_of k.own k.begun in
     let own : List Token = map (named source) (reverse b) in
-    let all : all_read source ≡ reverse b ++ (f.first ∷ f.rest) = ap (λ g. reverse (ended g)) (split_source source at) ∙ ap reverse k.is ∙ reverse-append k.own b ∙ ap (λ l. reverse b ++ l) f.is in
-    let is : part_tokens source ≡ own ++ (named source f.first ∷ map (named source) f.rest) = part_are source ∙ ap (map (named source)) all ∙ map-append (named source) (reverse b) (f.first ∷ f.rest) in
+    let all : all_tokens source ≡ reverse b ++ (f.first ∷ f.rest) = ap (λ g. reverse (ended g)) (split_source source at) ∙ ap reverse k.is ∙ reverse-append k.own b ∙ ap (λ l. reverse b ++ l) f.is in
+    let is : part_tokens source ≡ own ++ (named source f.first ∷ map (named source) f.rest) = ap (map (named source)) all ∙ map-append (named source) (reverse b) (f.first ∷ f.rest) in
     let size : length b ≡ length own = sym (length-map (reverse b) (named source) ∙ length-reverse b) in (
       named source f.first,
       (λ i. slice_get (is i) (size i)) ∙ nth_seam own (map (named source) f.rest) (named source f.first),

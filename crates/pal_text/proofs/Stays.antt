@@ -7,15 +7,13 @@ use Rattle.std.proofs.lemmas.List.{reverse-append, map-append, drop-append-le, t
 use Rattle.pal_text.specs.declared.tokens.Kind.{Kind}
 use Rattle.pal_text.specs.declared.tokens.Kind.TheVariants.{Symbol}
 use Rattle.pal_text.specs.declared.tokens.Token.{Token}
-use Rattle.pal_text.specs.Adding.{tokens, ended}
+use Rattle.pal_text.specs.Tokens.{tokens, ended, is_end}
 use Rattle.pal_text.specs.Names.{IsWithin, name, named_kind, bytes_of, with_name, named, part_tokens}
 use Rattle.pal_text.specs.Grammar.{IsStatement}
-use Rattle.pal_text.specs.Tokens.{is_end}
 use Rattle.pal_text.specs.Statements.{Piece, piece, pieces}
 use Rattle.pal_text.specs.Scan.{IsCut}
 use Rattle.pal_text.specs.Laws.{front_tokens, EndsStatement, ReadsSo, StatementsStay}
 use Rattle.pal_text.proofs.Apart.{Later, ended_later}
-use Rattle.pal_text.proofs.CountedLemmas.{tokens_are, part_are}
 use Rattle.pal_text.proofs.Placed.{IsBefore, pieces_before}
 use Rattle.pal_text.proofs.Rises.{tokens_ordered, ordered_within, all_reverse}
 
@@ -71,19 +69,17 @@ cut_of (t ∷ ts) h = h
 pub statements_stay : StatementsStay
 statements_stay front after ends =
     let f : List ℕ = reverse front in
-    let l : Later (tokens f) (ended (reverse after ++ f)) = ended_later (reverse after) f (cut_of (tokens f) (subst (λ ts. EndsStatement ts) (tokens_are f) ends)) in
+    let l : Later (tokens f) (ended (reverse after ++ f)) = ended_later (reverse after) f (cut_of (tokens f) ends) in
     let source : List ℕ = front ++ after in
     let later : List Token = map (named source) (reverse l.more) in
     let inside : AllByRecursion (IsWithin (length front)) (reverse (tokens f)) =
     all_reverse (IsWithin (length front)) (tokens f) (ordered_within (length front) (length f) (tokens f) (omega (arith, length-reverse front)) (tokens_ordered f)) in
     let all_are : part_tokens source ≡ front_tokens front ++ later =
-    part_are source
-    ∙ ap (λ bytes. map (named source) (reverse (ended bytes))) (reverse-append front after)
+    ap (λ bytes. map (named source) (reverse (ended bytes))) (reverse-append front after)
     ∙ ap (λ ts. map (named source) (reverse ts)) l.is
     ∙ ap (map (named source)) (reverse-append l.more (tokens f))
     ∙ map-append (named source) (reverse (tokens f)) (reverse l.more)
-    ∙ ap (λ ts. ts ++ later) (named_front front after (reverse (tokens f)) inside)
-    ∙ ap (λ ts. map (named front) (reverse ts) ++ later) (sym (tokens_are f)) in
+    ∙ ap (λ ts. ts ++ later) (named_front front after (reverse (tokens f)) inside) in
     let n : ℕ = length (front_tokens front) in
     record {
       later = later;

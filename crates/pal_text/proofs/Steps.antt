@@ -10,8 +10,7 @@ use Rattle.pal_text.specs.declared.tokens.Token.{Token}
 use Rattle.pal_text.specs.declared.scan.Brings.{Brings}
 use Rattle.pal_text.specs.declared.scan.Brings.TheVariants.{Nothing, Feed, End, Comment, One}
 use Rattle.pal_text.specs.Characters.{code, is_ignored, returned, meaning, in_comment, line}
-use Rattle.pal_text.specs.Tokens.{kind_of, token, is_end}
-use Rattle.pal_text.specs.Adding.{added, grown, tokens}
+use Rattle.pal_text.specs.Tokens.{kind_of, token, is_end, added, grown, tokens}
 use Rattle.pal_text.specs.Scan.{returned_by, of_kind, brings, is_line_code, mark_kind, Closes}
 use Rattle.pal_text.proofs.ByMeaning.{comment_by, line_by}
 

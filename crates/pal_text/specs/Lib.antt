@@ -1,7 +1,6 @@
 pub mod Characters
 pub mod Tokens
 pub mod Names
-pub mod Adding
 pub mod Grammar
 pub mod Reading
 pub mod Statements

@@ -13,8 +13,7 @@ use Rattle.pal_text.specs.declared.cut.Close.{Close}
 use Rattle.pal_text.specs.declared.reader.Standing.{Standing}
 use Rattle.pal_text.specs.declared.reader.Standing.TheVariants.{Begins, Ended}
 use Rattle.pal_text.specs.Characters.{char, code, is_ignored, returned, in_comment, line}
-use Rattle.pal_text.specs.Tokens.{is_space, kind_of, token, is_end}
-use Rattle.pal_text.specs.Adding.{added, tokens}
+use Rattle.pal_text.specs.Tokens.{is_space, kind_of, token, is_end, added, tokens}
 
 -- Whether a line feed would follow a carriage return after one more byte, by whether it would before that: `returned`
 -- in one step.

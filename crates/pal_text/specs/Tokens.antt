@@ -1,11 +1,12 @@
--- The tokens of a part: its runs of characters, and then these without the spaces that don't count. Lists of bytes and of
--- tokens have the newest first here, but for `all_tokens`.
+-- The tokens of a part: letters and digits that stand together are one token, and so are spaces, of which some don't count.
+-- Lists of bytes and of tokens have the newest first here, but for `all_tokens`.
 use Rattle.std.specs.Prelude.{ℕ, ◌+◌, Bool, true, false, ◌||◌, ◌&&◌, if◌then◌else◌, List, [], ◌∷◌, length, reverse, Option, Some, None, nat_eq, nat_le}
-use Rattle.std.specs.Option.{option_map_or}
+use Rattle.pal_text.specs.declared.characters.Meaning.{Meaning}
+use Rattle.pal_text.specs.declared.characters.Meaning.TheVariants.{Ignored, LineEnd, Character}
 use Rattle.pal_text.specs.declared.tokens.Kind.{Kind}
 use Rattle.pal_text.specs.declared.tokens.Kind.TheVariants.{Symbol, Number, Mixed, Here, Space, Comma, Equals, Plus, Minus, Star, End, Dollar, Other}
 use Rattle.pal_text.specs.declared.tokens.Token.{Token}
-use Rattle.pal_text.specs.Characters.{char, line, in_comment, meaning_after, after}
+use Rattle.pal_text.specs.Characters.{char, line, in_comment, meaning_after}
 
 -- The code is that of a capital letter, A to Z; small letters are no letters here.
 abbrev pub is_letter : ℕ → Bool
@@ -51,19 +52,6 @@ longer _ _ = None
 abbrev pub token : Kind → ℕ → ℕ → Token
 token k n at = record { kind = k; line = n; start = at; end = at + 1 }
 
--- Runs with one more character: it goes onto the last one, or stands after it.
-abbrev pub with_next : Token → List Token → List Token
-with_next next [] = next ∷ []
-with_next next (last ∷ ts) = option_map_or (λ k. record last { kind = k; end = next.end } ∷ ts) (longer last.kind next.kind) (next ∷ last ∷ ts)
-
--- The runs of these bytes, each as long as its characters stand together: a line's end ends a statement, and a comment
--- brings nothing.
-abbrev pub runs : List ℕ → List Token
-runs [] = []
-runs (b ∷ before) =
-    let here : Kind → List Token = λ k. with_next (token k (line before) (length before)) (runs before) in
-    after (runs before) (here End) (λ c. if in_comment before || nat_eq c (char "/") then runs before else here (kind_of c)) (meaning_after before b)
-
 -- A token of this kind is a plus or a minus sign.
 abbrev pub is_sign : Kind → Bool
 is_sign Plus = true
@@ -82,25 +70,53 @@ absorbs Comma = true
 absorbs Equals = true
 absorbs k = is_sign k || is_end k
 
--- A space after these tokens, the newest first, doesn't count: it follows one beside which spaces don't, or it stands
--- at the front of the part.
-abbrev pub absorbs_after : List Token → Bool
-absorbs_after [] = true
-absorbs_after (t ∷ ts) = absorbs t.kind
+-- Of two neighbours of which one is a space that doesn't count, the other; none where both count.
+abbrev pub without_space : Token → Token → Option Token
+without_space last next =
+    if is_space next.kind && absorbs last.kind then Some last else
+    if is_space last.kind && absorbs next.kind then Some next else None
 
--- Runs without the spaces that don't count; the first argument says whether what follows them is one of these.
-abbrev pub counted : Bool → List Token → List Token
-counted followed [] = []
-counted followed (t ∷ ts) = if is_space t.kind && (followed || absorbs_after ts) then counted false ts else t ∷ counted (absorbs t.kind) ts
+-- The one token that two neighbours make: both together, where they are of one kind then, and else without a space that
+-- doesn't count.
+abbrev pub with_kind : Token → Token → Option Kind → Option Token
+with_kind last next (Some k) = Some (record { kind = k; line = last.line; start = last.start; end = next.end })
+with_kind last next None = without_space last next
 
--- The tokens of these bytes.
+-- The one token that two neighbours make, where the second goes onto the first or one of them doesn't count; none where both
+-- stand.
+abbrev pub joined : Token → Token → Option Token
+joined last next = with_kind last next (longer last.kind next.kind)
+
+-- The tokens with a token and its neighbour at the end: the one that they make, or both.
+abbrev pub one_or_both : Token → Token → List Token → Option Token → List Token
+one_or_both next t ts (Some one) = one ∷ ts
+one_or_both next t ts None = next ∷ t ∷ ts
+
+-- The tokens with one more at the end. A space at the front of the part doesn't count.
+abbrev pub added : Token → List Token → List Token
+added next [] = if is_space next.kind then [] else next ∷ []
+added next (t ∷ ts) = one_or_both next t ts (joined t next)
+
+-- The tokens with what a byte at a place on a line brings, within a comment or outside: a line's end ends a statement, and a
+-- comment brings nothing.
+abbrev pub grown : ℕ → ℕ → Bool → Meaning → List Token → List Token
+grown at n comment Ignored ts = ts
+grown at n comment LineEnd ts = added (token End n at) ts
+grown at n comment (Character c) ts = if comment || nat_eq c (char "/") then ts else added (token (kind_of c) n at) ts
+
+-- The tokens of these bytes, each of which brings what it is after those before it.
 abbrev pub tokens : List ℕ → List Token
-tokens before = counted false (runs before)
+tokens [] = []
+tokens (b ∷ before) = grown (length before) (line before) (in_comment before) (meaning_after before b) (tokens before)
 
 -- The end of the part, which ends a statement too.
 abbrev pub end_token : List ℕ → Token
 end_token before = record { kind = End; line = line before; start = length before; end = length before }
 
+-- The tokens of all bytes of a part, up to its end.
+abbrev pub ended : List ℕ → List Token
+ended before = added (end_token before) (tokens before)
+
 -- The tokens of a part, whose bytes and tokens are in order, up to its end.
 abbrev pub all_tokens : List ℕ → List Token
-all_tokens source = reverse (counted false (end_token (reverse source) ∷ runs (reverse source)))
+all_tokens source = reverse (ended (reverse source))

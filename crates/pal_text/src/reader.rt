@@ -3,7 +3,7 @@
 ghost use Rattle.std.specs.Prelude.{◌≡◌, ◌≢◌, ◌≤◌, ◌<◌, ◌+◌, length, Ok, Some, None, IfOk, OnOk, IfErr, []};
 ghost use Rattle.std.specs.List.{AllByRecursion};
 ghost use Rattle.pal_text.specs.Names.{IsWithin};
-ghost use Rattle.pal_text.specs.Adding.{tokens};
+ghost use Rattle.pal_text.specs.Tokens.{tokens};
 ghost use Rattle.pal_text.specs.Scan.{front, next_place, IsPlaceIn, stands_by, StandsAt};
 ghost use Rattle.pal_text.specs.Progress.{ended_at};
 ghost use Rattle.pal_text.specs.Readers.{rest, IsNext, Finds, StopsAt, BreaksNext};

@@ -1,8 +1,7 @@
 //! The tokens of a part.
 
 ghost use Rattle.std.specs.Prelude.{◌≡◌, false, List, [], ◌∷◌, ◌++◌, reverse, OnOk, OnErr};
-ghost use Rattle.pal_text.specs.Tokens.{kind_of, is_space, absorbs, longer};
-ghost use Rattle.pal_text.specs.Adding.{joined, added};
+ghost use Rattle.pal_text.specs.Tokens.{kind_of, is_space, absorbs, longer, joined, added};
 ghost use Rattle.pal_text.specs.declared.tokens.Token.{Token as Tokened};
 
 use std::alloc::{AllocError, Allocator};

@@ -8,12 +8,9 @@ use Rattle.bin_tape.specs.declared.word.TapeWord.TheVariants.{Origin, Data}
 use Rattle.pal_text.specs.declared.tokens.Kind.TheVariants as kind
 use Rattle.pal_text.specs.declared.tokens.Token.{Token}
 use Rattle.pal_text.specs.Characters.{line}
-use Rattle.pal_text.specs.Tokens.{is_end}
-use Rattle.pal_text.specs.Tokens.{tokens as counted_tokens}
-use Rattle.pal_text.specs.Adding.{tokens}
+use Rattle.pal_text.specs.Tokens.{is_end, tokens}
 use Rattle.pal_text.specs.Names.{named, part_tokens}
 use Rattle.pal_text.specs.Laws.{front_tokens, EndsStatement, Stays}
-use Rattle.pal_text.proofs.CountedLemmas.{tokens_are}
 use Rattle.pal_text.proofs.Stays.{statements_stay}
 use Rattle.source_writer.specs.Plain.{plain_line, plain_lines}
 use Rattle.source_writer.proofs.LineTokens.{Begins, IsSmall, line_tokens, Lines, lines, Dollars, dollars}
@@ -81,9 +78,8 @@ pub record Splits (source : List ℕ) (ts : List Token) : Type 0 where
 
 split_at : (front after : List ℕ) (ts : List Token) → tokens (reverse front) ≡ ts → EndsStatement ts → map (named front) (reverse ts) ≡ reverse ts → Splits (front ++ after) (reverse ts)
 split_at front after ts e ends own =
-    let all : counted_tokens (reverse front) ≡ ts = tokens_are (reverse front) ∙ e in
-    let stays : Stays front after = statements_stay front after (subst (λ l. EndsStatement l) (sym all) ends) in
-    record { later = stays.later; is = stays.tokens_are ∙ ap (λ l. map (named front) (reverse l) ++ stays.later) all ∙ ap (λ l. l ++ stays.later) own }
+    let stays : Stays front after = statements_stay front after (subst (λ l. EndsStatement l) (sym e) ends) in
+    record { later = stays.later; is = stays.tokens_are ∙ ap (λ l. map (named front) (reverse l) ++ stays.later) e ∙ ap (λ l. l ++ stays.later) own }
 
 -- those of the lines come first
 pub lines_split : (ws : List TapeWord) (after : List ℕ) → AreSmall ws → Splits (plain_lines ws ++ after) (reverse (marks ws))

@@ -8,8 +8,7 @@ use Rattle.pal_text.specs.declared.tokens.Kind.{Kind}
 use Rattle.pal_text.specs.declared.tokens.Kind.TheVariants as kind
 use Rattle.pal_text.specs.declared.tokens.Token.{Token}
 use Rattle.pal_text.specs.Characters.{code, returned, in_comment, line}
-use Rattle.pal_text.specs.Tokens.{token, is_end}
-use Rattle.pal_text.specs.Adding.{added, tokens}
+use Rattle.pal_text.specs.Tokens.{token, is_end, added, tokens}
 use Rattle.pal_text.specs.Scan.{brings, of_kind, mark_kind, Closes, IsCut}
 use Rattle.pal_text.proofs.Apart.{added_apart}
 use Rattle.pal_text.proofs.Steps.{Grows, one_grows, feed_closes, end_closes}

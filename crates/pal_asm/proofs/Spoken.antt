@@ -1,14 +1,15 @@
 -- The tags of a statement and what stands after them, by how many tags there are.
-use Rattle.std.proofs.Common.{◌≡◌, ◌∙◌, sym, ap, refl, ℕ, ◌-◌, ◌≤◌, List, [], ◌∷◌, ◌++◌, append_assoc, Bool, true, false, if◌then◌else◌, arith, length, take, drop, get_or, Result, Ok, Err}
-use Rattle.std.specs.Prelude.{nat_eq, map, OnOk}
+use Rattle.std.proofs.Common.{◌≡◌, ◌∙◌, sym, ap, refl, subst, ℕ, ◌-◌, ◌≤◌, List, [], ◌∷◌, ◌++◌, append_assoc, Bool, false, ◌&&◌, if◌then◌else◌, arith, length, take, drop, get_or, Result, Ok, Err}
+use Rattle.std.specs.Prelude.{nat_eq, map, OnOk, IfSome, Option, Some, None}
 use Rattle.std.specs.List.{AllByRecursion}
-use Rattle.std.proofs.lemmas.Bool.{ne_eqb}
+use Rattle.std.proofs.lemmas.Bool.{ne_eqb, cond_both}
 use Rattle.std.proofs.lemmas.List.{take_all}
 use Rattle.pal_text.specs.declared.tokens.Kind.{Kind}
 use Rattle.pal_text.specs.declared.tokens.Kind.TheVariants as kind
 use Rattle.pal_text.specs.declared.tokens.Token.{Token}
 use Rattle.pal_text.specs.declared.cut.Statement.{Statement}
-use Rattle.pal_text.specs.Grammar.{is_direction, Said, IsStatement, nothing, origin, assign, assign_direction, decimal, octal, pause, word, tagged}
+use Rattle.pal_text.specs.declared.grammar.Form.TheVariants as form
+use Rattle.pal_text.specs.Grammar.{is_star, is_equals, is_name, is_tag, is_expression, Said, says, where_expression, assignment, said_alone, said_by, Tagged, untagged, with_tag, statement, IsStatement}
 use Rattle.pal_text.proofs.Rises.{all_take, all_drop}
 use Rattle.pal_acts.specs.declared.act.Join.{Join}
 use Rattle.pal_acts.specs.declared.act.Act.{Act}
@@ -35,17 +36,47 @@ no_tags [] = refl
 no_tags (t ∷ []) = refl
 no_tags (t ∷ u ∷ ts) = refl
 
-direction_by : (k : Kind) (p : SourcePlace) (source : List ℕ) (t : Token) (js : List Join) → is_direction k ≡ true → assign_by p source t js k ≡ placed p js act.AssignDirection ∷ []
-direction_by kind.Symbol p source t js h = cc
-direction_by _ p source t js h = refl
+-- what is said after the tags
+record Bare (ts : List Token) (said : Said) : Type 0 where
+  operand_is : operand_by said.form ts ≡ said.operand
+  body_is : (p : SourcePlace) (last : Bool) (source : List ℕ) (js : List Join) → body_by p last source ts said.form js ≡ said_acts p last source said.name js said.form
 
--- a statement without a tag
-bare : (ts : List Token) (said : Said) → operand_by said.form ts ≡ said.operand → ((p : SourcePlace) (last : Bool) (source : List ℕ) (js : List Join) → body_by p last source ts said.form js ≡ said_acts p last source said.name js said.form) → Apart ts [] said
-bare ts said h k = record {
+bare : (ts : List Token) (o : Option Said) → IfSome o (Bare ts) → IfSome (untagged o) (λ s. Apart ts s.tags s.said)
+bare ts None b = tt
+bare ts (Some said) b = record {
   names_are = no_names ts;
-  operand_is = ap (operand_by said.form) (no_tags ts) ∙ h;
-  body_is = λ p last source js. ap (λ l. body_by p last source l said.form js) (no_tags ts) ∙ k p last source js;
+  operand_is = ap (operand_by said.form) (no_tags ts) ∙ b.operand_is;
+  body_is = λ p last source js. ap (λ l. body_by p last source l said.form js) (no_tags ts) ∙ b.body_is p last source js;
 }
+
+alone : (t : Token) (k : Kind) → IfSome (said_alone k t) (Bare (t ∷ []))
+alone t kind.Symbol = record { operand_is = refl; body_is = λ p last source js. refl }
+alone t kind.Number = record { operand_is = refl; body_is = λ p last source js. refl }
+alone t kind.Here = record { operand_is = refl; body_is = λ p last source js. refl }
+alone t kind.Decimal = record { operand_is = refl; body_is = λ p last source js. refl }
+alone t kind.Octal = record { operand_is = refl; body_is = λ p last source js. refl }
+alone t kind.Pause = record { operand_is = refl; body_is = λ p last source js. refl }
+alone t _ = tt
+
+assigned_bare : (t u : Token) (e : List Token) (k : Kind) → t.kind ≡ k → Bare (t ∷ u ∷ e) (assignment k t e)
+assigned_bare t u e kind.Symbol is = record { operand_is = refl; body_is = λ p last source js. ap (assign_by p source t js) is }
+assigned_bare t u e _ is = record { operand_is = refl; body_is = λ p last source js. ap (assign_by p source t js) is }
+
+where_bare : (ts e : List Token) (said : Said) → Bare ts said → IfSome (where_expression e said) (Bare ts)
+where_bare ts e said b = cond_both (is_expression e) (Some said) None (λ o. IfSome o (Bare ts)) (λ is. b) (λ is. tt)
+
+said_bare : (ts : List Token) → IfSome (said_by ts) (Bare ts)
+said_bare [] = record { operand_is = refl; body_is = λ p last source js. refl }
+said_bare (t ∷ []) = alone t t.kind
+said_bare (t ∷ u ∷ ts) =
+    let B : Option Said → Type 0 = λ o. IfSome o (Bare (t ∷ u ∷ ts)) in
+    let whole : List Token = t ∷ u ∷ ts in
+    let word : Option Said = where_expression whole (says form.Word None whole) in
+    let assign : Option Said = where_expression ts (assignment t.kind t ts) in
+    cond_both (is_star t.kind) (where_expression (u ∷ ts) (says form.Origin None (u ∷ ts))) (if is_name t.kind && is_equals u.kind then assign else word) B
+    (λ is. where_bare whole (u ∷ ts) (says form.Origin None (u ∷ ts)) (record { operand_is = refl; body_is = λ p last source js. refl }))
+    (λ is. cond_both (is_name t.kind && is_equals u.kind) assign word B (λ too. where_bare whole ts (assignment t.kind t ts) (assigned_bare t u ts t.kind refl))
+    (λ too. where_bare whole whole (says form.Word None whole) (record { operand_is = refl; body_is = λ p last source js. refl })))
 
 more_is : (t : Token) (tags : List Token) → nat_eq (length (t ∷ tags)) 0 ≡ false
 more_is t tags = ne_eqb (length (t ∷ tags)) 0 (λ e. omega (arith, e))
@@ -53,24 +84,26 @@ more_is t tags = ne_eqb (length (t ∷ tags)) 0 (λ e. omega (arith, e))
 less_is : (t : Token) (tags : List Token) → length (t ∷ tags) - 1 ≡ length tags
 less_is t tags = omega arith
 
-apart : (ts names : List Token) (said : Said) → IsStatement ts names said → Apart ts names said
-apart ts names said nothing = bare ts said refl (λ p last source js. refl)
-apart ts names said (origin t e is h) = bare (t ∷ e) said refl (λ p last source js. refl)
-apart ts names said (assign t u e is equals h) = bare (t ∷ u ∷ e) said refl (λ p last source js. ap (assign_by p source t js) is)
-apart ts names said (assign_direction t u e is equals h) = bare (t ∷ u ∷ e) said refl (λ p last source js. direction_by t.kind p source t js is)
-apart ts names said (decimal t is) = bare (t ∷ []) said refl (λ p last source js. refl)
-apart ts names said (octal t is) = bare (t ∷ []) said refl (λ p last source js. refl)
-apart ts names said (pause t is) = bare (t ∷ []) said refl (λ p last source js. refl)
-apart ts names said (word e h) = bare e said refl (λ p last source js. refl)
-apart ts names said (tagged t u own tags q name comma s) =
-    let k : Apart own tags q = apart own tags q s in
-    let off : after_tags (length (t ∷ tags)) (t ∷ u ∷ own) ≡ after_tags (length tags) own =
-    ap (λ b. if b then t ∷ u ∷ own else after_tags (length (t ∷ tags) - 1) own) (more_is t tags) ∙ ap (λ n. after_tags n own) (less_is t tags) in
+tag_apart : (t u : Token) (own : List Token) (o : Option Tagged) → IfSome o (λ s. Apart own s.tags s.said) → IfSome (with_tag t o) (λ s. Apart (t ∷ u ∷ own) s.tags s.said)
+tag_apart t u own None k = tt
+tag_apart t u own (Some s) k =
+    let off : after_tags (length (t ∷ s.tags)) (t ∷ u ∷ own) ≡ after_tags (length s.tags) own =
+    ap (λ b. if b then t ∷ u ∷ own else after_tags (length (t ∷ s.tags) - 1) own) (more_is t s.tags) ∙ ap (λ n. after_tags n own) (less_is t s.tags) in
     record {
-      names_are = ap (λ b. if b then [] else t ∷ names_in (length (t ∷ tags) - 1) own) (more_is t tags) ∙ ap (λ n. t ∷ names_in n own) (less_is t tags) ∙ ap (λ l. t ∷ l) k.names_are;
-      operand_is = ap (operand_by q.form) off ∙ k.operand_is;
-      body_is = λ p last source js. ap (λ l. body_by p last source l q.form js) off ∙ k.body_is p last source js;
+      names_are = ap (λ b. if b then [] else t ∷ names_in (length (t ∷ s.tags) - 1) own) (more_is t s.tags) ∙ ap (λ n. t ∷ names_in n own) (less_is t s.tags) ∙ ap (λ l. t ∷ l) k.names_are;
+      operand_is = ap (operand_by s.said.form) off ∙ k.operand_is;
+      body_is = λ p last source js. ap (λ l. body_by p last source l s.said.form js) off ∙ k.body_is p last source js;
     }
+
+all_apart : (ts : List Token) → IfSome (statement ts) (λ s. Apart ts s.tags s.said)
+all_apart [] = bare [] (said_by []) (said_bare [])
+all_apart (t ∷ []) = bare (t ∷ []) (said_by (t ∷ [])) (said_bare (t ∷ []))
+all_apart (t ∷ u ∷ ts) =
+    cond_both (is_tag t.kind u.kind) (with_tag t (statement ts)) (untagged (said_by (t ∷ u ∷ ts))) (λ o. IfSome o (λ s. Apart (t ∷ u ∷ ts) s.tags s.said))
+    (λ is. tag_apart t u ts (statement ts) (all_apart ts)) (λ is. bare (t ∷ u ∷ ts) (said_by (t ∷ u ∷ ts)) (said_bare (t ∷ u ∷ ts)))
+
+apart : (ts names : List Token) (said : Said) → IsStatement ts names said → Apart ts names said
+apart ts names said e = subst (λ o. IfSome o (λ s. Apart ts s.tags s.said)) e (all_apart ts)
 
 module _ (ts : List Token) (s : Statement) (says : Says ts s) where
   parts : Apart ts says.names says.said

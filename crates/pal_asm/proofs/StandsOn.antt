@@ -12,7 +12,7 @@ use Rattle.pal_text.specs.declared.grammar.Form.{Form}
 use Rattle.pal_text.specs.declared.grammar.Form.TheVariants as form
 use Rattle.pal_text.specs.declared.cut.Close.{Close}
 use Rattle.pal_text.specs.declared.cut.Ending.TheVariants as ending
-use Rattle.pal_text.specs.Grammar.{is_expression, Said, IsStatement, nothing, origin, assign, assign_direction, decimal, octal, pause, word, tagged}
+use Rattle.pal_text.specs.Grammar.{Said, says, Tagged, tagged, statement, IsStatement}
 use Rattle.pal_text.specs.Names.{part_tokens}
 use Rattle.pal_text.specs.Tokens.{is_end}
 use Rattle.pal_text.specs.Statements.{is_dollar, Piece, piece, pieces, own, last_end, closed, closing}
@@ -27,16 +27,17 @@ use Rattle.pal_asm.proofs.Lined.{lined, lined_all, is_stop, Chain, part_chain}
 
 -- a word and PAUSE have tokens
 has_tokens : (ts tags : List Token) (said : Said) → IsStatement ts tags said → (said.form ≡ form.Word) ⊎ (said.form ≡ form.Pause) → ts ≢ []
-has_tokens ts tags said nothing (inl e) none = let both : form.Empty ≡ form.Word = e in cc
-has_tokens ts tags said nothing (inr e) none = let both : form.Empty ≡ form.Pause = e in cc
-has_tokens ts tags said (origin t e' is h) e none = cc
-has_tokens ts tags said (assign t u e' is equals h) e none = cc
-has_tokens ts tags said (assign_direction t u e' is equals h) e none = cc
-has_tokens ts tags said (decimal t is) e none = cc
-has_tokens ts tags said (octal t is) e none = cc
-has_tokens ts tags said (pause t is) e none = cc
-has_tokens ts tags said (word e' h) e none = let bad : false ≡ true = sym (ap is_expression none) ∙ h in cc
-has_tokens ts tags said (tagged t u own_tokens more q name comma s) e none = cc
+has_tokens ts tags said s e none =
+    let same : Some (tagged [] (says form.Empty None [])) ≡ Some (tagged tags said) = sym (ap statement none) ∙ s in
+    let empty : form.Empty ≡ said.form = form_same same in
+    elim e [ inl is ↦ (let both : form.Empty ≡ form.Word = empty ∙ is in cc) | inr is ↦ (let both : form.Empty ≡ form.Pause = empty ∙ is in cc) ]
+  where
+    form_of : Option Tagged → Form
+    form_of None = form.Word
+    form_of (Some t) = t.said.form
+
+    form_same : Some (tagged [] (says form.Empty None [])) ≡ Some (tagged tags said) → form.Empty ≡ said.form
+    form_same k = ap form_of k
 
 -- the last of some tokens is on this line, and the line is there
 abbrev pub Lasts : (ℕ → ℕ) → ℕ → List Token → Type 0

@@ -5,8 +5,8 @@ use Rattle.pal_text.specs.declared.tokens.Token.{Token}
 use Rattle.std.proofs.lemmas.Bool.{cond-true, cond-false}
 use Rattle.pal_text.specs.declared.grammar.Form.TheVariants as form
 use Rattle.pal_text.specs.Tokens.{is_sign}
-use Rattle.pal_text.specs.Grammar.{is_term, is_joiner, is_name, is_terms, is_expression}
-use Rattle.pal_text.specs.Reading.{is_star, is_equals, if_expression, single, body}
+use Rattle.pal_text.specs.Grammar.{is_term, is_joiner, is_star, is_equals, is_name, is_terms, is_expression}
+use Rattle.pal_text.specs.Reading.{if_expression, single, body}
 
 pub terms_on : (ts : List Token) (d e : Token) → 2 ≤ length ts → is_term (get_or ts 0 d).kind ≡ true → is_joiner (get_or ts 1 e).kind ≡ true → is_terms ts ≡ is_terms (take (length ts - 2) (drop 2 ts))
 terms_on [] d e h a b = absurd (omega arith)

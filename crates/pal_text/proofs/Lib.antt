@@ -1,7 +1,6 @@
 pub mod ByMeaning
 pub mod Alternate
 pub mod Grows
-pub mod Sayings
 pub mod Readings
 pub mod NamesLemmas
 pub mod InPlace

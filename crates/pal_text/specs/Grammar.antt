@@ -31,6 +31,25 @@ abbrev pub is_name : Kind → Bool
 is_name kind.Symbol = true
 is_name k = is_direction k
 
+-- A token of this kind is a star, which begins an origin.
+abbrev pub is_star : Kind → Bool
+is_star kind.Star = true
+is_star _ = false
+
+-- A token of this kind is an equals sign, which stands in an assignment.
+abbrev pub is_equals : Kind → Bool
+is_equals kind.Equals = true
+is_equals _ = false
+
+-- A token of this kind is a comma, which stands after a tag.
+abbrev pub is_comma : Kind → Bool
+is_comma kind.Comma = true
+is_comma _ = false
+
+-- Two tokens of these kinds are a tag and its comma.
+abbrev pub is_tag : Kind → Kind → Bool
+is_tag n k = is_name n && is_comma k
+
 -- Terms with a joiner between each two.
 abbrev pub is_terms : List Token → Bool
 is_terms [] = false
@@ -54,15 +73,56 @@ pub record Said : Type 0 where
 abbrev pub says : Form → Option Token → List Token → Said
 says f name e = record { form = f; name = name; operand = e }
 
+-- What these tokens say where they are an expression; nothing where they aren't.
+abbrev pub where_expression : List Token → Said → Option Said
+where_expression e s = if is_expression e then Some s else None
+
+-- An assignment by the kind of its first token: a symbol is given the value of the expression, and a direction is given none.
+abbrev pub assignment : Kind → Token → List Token → Said
+assignment kind.Symbol t e = says form.Assign (Some t) e
+assignment _ t e = says form.Assign None e
+
+-- What one token says alone, by its kind: a direction, or the word of an expression that is one term.
+abbrev pub said_alone : Kind → Token → Option Said
+said_alone kind.Decimal t = Some (says form.Decimal None [])
+said_alone kind.Octal t = Some (says form.Octal None [])
+said_alone kind.Pause t = Some (says form.Pause None [])
+said_alone k t = if is_term k then Some (says form.Word None (t ∷ [])) else None
+
+-- What these tokens say after the tags, if anything: nothing is the empty statement, one token says what it says alone, a star
+-- and an expression are an origin, a name, an equals sign and an expression an assignment, and any other expression a word.
+abbrev pub said_by : List Token → Option Said
+said_by [] = Some (says form.Empty None [])
+said_by (t ∷ []) = said_alone t.kind t
+said_by (t ∷ u ∷ ts) =
+    if is_star t.kind then where_expression (u ∷ ts) (says form.Origin None (u ∷ ts)) else
+    if is_name t.kind && is_equals u.kind then where_expression ts (assignment t.kind t ts) else where_expression (t ∷ u ∷ ts) (says form.Word None (t ∷ u ∷ ts))
+
+-- A statement: its tags in order, and what it says after them.
+pub record Tagged : Type 0 where
+  pub tags : List Token
+  pub said : Said
+
+-- The statement with these tags, which says this.
+abbrev pub tagged : List Token → Said → Tagged
+tagged tags said = record { tags = tags; said = said }
+
+-- What is said without a tag, as a statement.
+abbrev pub untagged : Option Said → Option Tagged
+untagged None = None
+untagged (Some s) = Some (tagged [] s)
+
+-- A statement with one more tag in front.
+abbrev pub with_tag : Token → Option Tagged → Option Tagged
+with_tag t None = None
+with_tag t (Some r) = Some (tagged (t ∷ r.tags) r.said)
+
+-- The statement that these tokens are: tags, each a name and a comma, and what is said after them. None where they are none.
+abbrev pub statement : List Token → Option Tagged
+statement [] = untagged (said_by [])
+statement (t ∷ []) = untagged (said_by (t ∷ []))
+statement (t ∷ u ∷ ts) = if is_tag t.kind u.kind then with_tag t (statement ts) else untagged (said_by (t ∷ u ∷ ts))
+
 -- These tokens are a statement with these tags, which says this.
-pub data IsStatement : List Token → List Token → Said → Type 0 where
-  nothing : IsStatement [] [] (says form.Empty None [])
-  origin : (star : Token) (e : List Token) → star.kind ≡ kind.Star → is_expression e ≡ true → IsStatement (star ∷ e) [] (says form.Origin None e)
-  assign : (name equals : Token) (e : List Token) → name.kind ≡ kind.Symbol → equals.kind ≡ kind.Equals → is_expression e ≡ true → IsStatement (name ∷ equals ∷ e) [] (says form.Assign (Some name) e)
-  assign_direction : (name equals : Token) (e : List Token) → is_direction name.kind ≡ true → equals.kind ≡ kind.Equals → is_expression e ≡ true → IsStatement (name ∷ equals ∷ e) [] (says form.Assign None e)
-  decimal : (t : Token) → t.kind ≡ kind.Decimal → IsStatement (t ∷ []) [] (says form.Decimal None [])
-  octal : (t : Token) → t.kind ≡ kind.Octal → IsStatement (t ∷ []) [] (says form.Octal None [])
-  pause : (t : Token) → t.kind ≡ kind.Pause → IsStatement (t ∷ []) [] (says form.Pause None [])
-  word : (e : List Token) → is_expression e ≡ true → IsStatement e [] (says form.Word None e)
-  -- a tag, and a statement after it
-  tagged : (name comma : Token) (own tags : List Token) (said : Said) → is_name name.kind ≡ true → comma.kind ≡ kind.Comma → IsStatement own tags said → IsStatement (name ∷ comma ∷ own) (name ∷ tags) said
+abbrev pub IsStatement : List Token → List Token → Said → Type 0
+IsStatement ts tags said = statement ts ≡ Some (tagged tags said)

@@ -2,8 +2,8 @@
 
 ghost use Rattle.std.specs.Prelude.{◌≡◌};
 ghost use Rattle.pal_text.specs.Tokens.{is_sign};
-ghost use Rattle.pal_text.specs.Grammar.{is_term, is_joiner, is_name, is_terms, is_expression};
-ghost use Rattle.pal_text.specs.Reading.{is_tag, is_star, is_equals, single, if_expression, body, shape};
+ghost use Rattle.pal_text.specs.Grammar.{is_term, is_joiner, is_star, is_equals, is_name, is_tag, is_terms, is_expression};
+ghost use Rattle.pal_text.specs.Reading.{single, if_expression, body, shape};
 
 use crate::tokens::{Kind, Token};
 

@@ -13,7 +13,7 @@ use Rattle.pal_text.specs.declared.grammar.Form.TheVariants as form
 use Rattle.pal_text.specs.declared.cut.Close.{Close}
 use Rattle.pal_text.specs.declared.cut.Ending.TheVariants as ending
 use Rattle.pal_text.specs.Characters.{line, characters}
-use Rattle.pal_text.specs.Grammar.{Said, says, IsStatement, origin, word, nothing}
+use Rattle.pal_text.specs.Grammar.{Said, says, IsStatement}
 use Rattle.pal_text.specs.Names.{bytes_of, part_tokens}
 use Rattle.pal_text.specs.Statements.{Piece, piece, pieces, own, closed, closing}
 use Rattle.pal_text.specs.Readers.{rest}
@@ -105,7 +105,7 @@ data_does source c v before after more e small does =
     let bytes : source ≡ plain_lines before ++ (octal_text v ++ (10 ∷ after)) = e ∙ append_assoc (plain_lines before) (plain_line (Data v)) after in
     let text : bytes_of source t ≡ octal_text v = middle_is source (plain_lines before) (octal_text v) (10 ∷ after) at (at + 4) bytes refl refl in
     let long : at + 4 < length source = omega (arith, ap length bytes, length-append (plain_lines before) (octal_text v ++ (10 ∷ after))) in
-    let reads : IsStatement (slice_range (part_tokens source) k (k + 1)) [] (says form.Word None (t ∷ [])) = subst (λ l. IsStatement l [] (says form.Word None (t ∷ []))) (sym own_is) (word (t ∷ []) refl) in
+    let reads : IsStatement (slice_range (part_tokens source) k (k + 1)) [] (says form.Word None (t ∷ [])) = subst (λ l. IsStatement l [] (says form.Word None (t ∷ []))) (sym own_is) refl in
     let open' : closing (length source) (slice_range (part_tokens source) k (k + 1)) m form.Word ≡ None = no_close (length source) (at + 4) (slice_range (part_tokens source) k (k + 1)) n long in
     does_one source c k (k + 1 + 1) (piece k (k + 1) m) (says form.Word None (t ∷ [])) (line_act (Data v) n) more is reads open' (data_acts source v n at (at + 4) small.0 text)
     (λ later so. goes_on Octal Octal (piece k (k + 1) m) (rest source (k + 1 + 1)) [] (says form.Word None (t ∷ [])) later c reads open' so)
@@ -141,7 +141,7 @@ origin_does source c a before after more e small does =
     (sym (length-append (plain_lines before) (42 ∷ []))) (omega arith) in
     let long : at + 5 < length source = omega (arith, ap length bytes, length-append (plain_lines before) (42 ∷ octal_text a ++ (10 ∷ after))) in
     let said : Said = says form.Origin None (t ∷ []) in
-    let reads : IsStatement (slice_range (part_tokens source) k (k + 1 + 1)) [] said = subst (λ l. IsStatement l [] said) (sym own_is) (origin star (t ∷ []) refl refl) in
+    let reads : IsStatement (slice_range (part_tokens source) k (k + 1 + 1)) [] said = subst (λ l. IsStatement l [] said) (sym own_is) refl in
     let open' : closing (length source) (slice_range (part_tokens source) k (k + 1 + 1)) m form.Origin ≡ None = no_close_origin (length source) (at + 5) (slice_range (part_tokens source) k (k + 1 + 1)) n long in
     does_one source c k (k + 1 + 1 + 1) (piece k (k + 1 + 1) m) said (line_act (Origin a) n) more is reads open' (origin_acts source a n (at + 1) (at + 5) small.0 text)
     (λ later so. goes_on Octal Octal (piece k (k + 1 + 1) m) (rest source (k + 1 + 1 + 1)) [] said later c reads open' so)
@@ -181,7 +181,7 @@ dollar_does ws after small =
     let own_is : slice_range (part_tokens source) k k ≡ [] = middle_is (part_tokens source) (reverse (marks ws)) [] (m ∷ s.later) k k all size (omega arith) in
     let is : rest source k ≡ piece k k m ∷ pieces (k + 1) (k + 1) s.later = ap (pieces k k) (left_is (part_tokens source) (reverse (marks ws)) (m ∷ s.later) k all size) in
     let said : Said = says form.Empty None [] in
-    let reads : IsStatement (slice_range (part_tokens source) k k) [] said = subst (λ l. IsStatement l [] said) (sym own_is) nothing in
+    let reads : IsStatement (slice_range (part_tokens source) k k) [] said = subst (λ l. IsStatement l [] said) (sym own_is) refl in
     subst (λ ps. Does 1 true source Octal ps [] Octal (close_of ws)) (sym is) (ends Octal (piece k k m) (pieces (k + 1) (k + 1) s.later) [] said (close_of ws) reads refl)
 
 -- a plain source does what its lines say

@@ -1,17 +1,17 @@
 -- The pieces of a part stand on lines that never fall.
-use Rattle.std.proofs.Common.{◌∙◌, sym, ap, subst, ℕ, ◌+◌, ◌≤◌, List, [], ◌∷◌, ◌++◌, append_assoc, Bool, Option, Some, None, arith, ◌||◌, ◌&&◌, length}
-use Rattle.std.specs.Prelude.{reverse, map, nat_eq, if◌then◌else◌}
+use Rattle.std.proofs.Common.{◌∙◌, sym, ap, subst, ℕ, ◌+◌, ◌≤◌, List, [], ◌∷◌, ◌++◌, append_assoc, Bool, arith, ◌||◌, length}
+use Rattle.std.specs.Prelude.{reverse, map, nat_eq}
 use Rattle.std.proofs.lemmas.Bool.{cond_both}
 use Rattle.std.proofs.lemmas.List.{reverse-append, append-nil}
 use Rattle.pal_text.specs.declared.characters.Meaning.{Meaning}
 use Rattle.pal_text.specs.declared.characters.Meaning.TheVariants.{Ignored, LineEnd, Character}
-use Rattle.pal_text.specs.declared.tokens.Kind.{Kind}
 use Rattle.pal_text.specs.declared.tokens.Kind.TheVariants.{End}
 use Rattle.pal_text.specs.declared.tokens.Token.{Token}
 use Rattle.pal_text.specs.Characters.{line, in_comment, meaning_after}
-use Rattle.pal_text.specs.Tokens.{is_space, absorbs, longer, token, kind_of, end_token, with_kind, without_space, joined, one_or_both, added, grown, tokens, ended, all_tokens, is_end}
+use Rattle.pal_text.specs.Tokens.{token, kind_of, end_token, added, grown, tokens, ended, all_tokens}
 use Rattle.pal_text.specs.Names.{named, part_tokens}
-use Rattle.pal_text.specs.Statements.{Piece, piece, pieces}
+use Rattle.pal_text.specs.Statements.{Piece, pieces}
+use Rattle.pal_text.proofs.Growing.{pieces_hold, more_holds, first_holds}
 use Rattle.pal_text.proofs.ByMeaning.{line_by}
 
 -- tokens, the newest first, on lines up to this one
@@ -23,27 +23,11 @@ higher : (ts : List Token) (m n : ℕ) → m ≤ n → Rising m ts → Rising n 
 higher [] m n h r = tt
 higher (t ∷ ts) m n h r = (omega (arith, r.0), r.1)
 
-abbrev Joins : ℕ → List Token → Option Token → Type 0
-Joins n ts None = Unit {0}
-Joins n ts (Some one) = Rising n (one ∷ ts)
-
-one_or_both_rising : (n : ℕ) (next t : Token) (ts : List Token) (o : Option Token) → Joins n ts o → Rising n (next ∷ t ∷ ts) → Rising n (one_or_both next t ts o)
-one_or_both_rising n next t ts None j r = r
-one_or_both_rising n next t ts (Some one) j r = j
-
-without_space_joins : (n : ℕ) (next t : Token) (ts : List Token) → Rising n (next ∷ t ∷ ts) → Joins n ts (without_space t next)
-without_space_joins n next t ts r =
-    cond_both (is_space next.kind && absorbs t.kind) (Some t) (if is_space t.kind && absorbs next.kind then Some next else None) (λ o. Joins n ts o)
-    (λ is. (omega (arith, r.0, r.1.0), r.1.1))
-    (λ is. cond_both (is_space t.kind && absorbs next.kind) (Some next) None (λ o. Joins n ts o) (λ too. (r.0, higher ts t.line next.line r.1.0 r.1.1)) (λ too. tt))
-
-with_kind_joins : (n : ℕ) (next t : Token) (ts : List Token) (o : Option Kind) → Rising n (next ∷ t ∷ ts) → Joins n ts (with_kind t next o)
-with_kind_joins n next t ts None r = without_space_joins n next t ts r
-with_kind_joins n next t ts (Some k) r = (omega (arith, r.0, r.1.0), r.1.1)
-
 added_rising : (n : ℕ) (next : Token) (ts : List Token) → Rising n (next ∷ ts) → Rising n (added next ts)
-added_rising n next [] r = cond_both (is_space next.kind) [] (next ∷ []) (λ l. Rising n l) (λ is. tt) (λ is. r)
-added_rising n next (t ∷ ts) r = one_or_both_rising n next t ts (joined t next) (with_kind_joins n next t ts (longer t.kind next.kind) r) r
+added_rising n next [] r = first_holds (λ us. Rising n us) next tt r
+added_rising n next (t ∷ ts) r =
+    let last : Rising n (t ∷ ts) = (omega (arith, r.0, r.1.0), r.1.1) in
+    more_holds (λ us. Rising n us) next t ts (λ none is. last) (λ is. (r.0, higher ts t.line next.line r.1.0 r.1.1)) r (λ k is. last)
 
 grown_rising : (at n : ℕ) (comment : Bool) (m : Meaning) (ts : List Token) → Rising n ts → Rising (line_by n m) (grown at n comment m ts)
 grown_rising at n comment Ignored ts r = r
@@ -93,8 +77,7 @@ lower_marks (p ∷ ps) m n h c = (omega (arith, c.0), c.1)
 marks_climb : (n first at : ℕ) (ts : List Token) → Climbing n ts → Marks n (pieces first at ts)
 marks_climb n first at [] c = tt
 marks_climb n first at (t ∷ ts) c =
-    cond_both (is_end t.kind) (piece first at t ∷ pieces (at + 1) (at + 1) ts) (pieces first (at + 1) ts) (λ l. Marks n l)
-    (λ is. (c.0, marks_climb t.line (at + 1) (at + 1) ts c.1)) (λ is. lower_marks (pieces first (at + 1) ts) n t.line c.0 (marks_climb t.line first (at + 1) ts c.1))
+    pieces_hold (λ ps. Marks n ps) first at t ts (λ is. (c.0, marks_climb t.line (at + 1) (at + 1) ts c.1)) (λ is. lower_marks (pieces first (at + 1) ts) n t.line c.0 (marks_climb t.line first (at + 1) ts c.1))
 
 pub part_marks : (source : List ℕ) → Marks 0 (pieces 0 0 (part_tokens source))
 part_marks source = marks_climb 0 0 0 (part_tokens source) (part_climbing source)

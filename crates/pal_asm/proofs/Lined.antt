@@ -12,9 +12,10 @@ use Rattle.pal_text.specs.declared.tokens.Token.{Token}
 use Rattle.pal_text.specs.declared.lines.Line.{Line}
 use Rattle.pal_text.specs.Characters.{line, in_comment, meaning_after}
 use Rattle.pal_text.specs.Lines.{line_start, is_begun, line_of, ended_lines, lines}
-use Rattle.pal_text.specs.Tokens.{is_space, absorbs, longer, token, kind_of, end_token, with_kind, without_space, joined, one_or_both, added, grown, tokens, ended, all_tokens, is_end}
+use Rattle.pal_text.specs.Tokens.{is_space, absorbs, longer, token, kind_of, end_token, added, grown, tokens, ended, all_tokens, is_end}
 use Rattle.pal_text.specs.Names.{with_name, named, part_tokens}
 use Rattle.pal_text.specs.Scan.{front, trimmed}
+use Rattle.pal_text.proofs.Growing.{more_holds, first_holds}
 use Rattle.pal_text.proofs.Apart.{added_end}
 use Rattle.pal_text.proofs.Fronts.{next_front}
 use Rattle.pal_text.proofs.ByMeaning.{begun_by, line_by, lines_by}
@@ -126,31 +127,15 @@ space_no_end : (k : Kind) (b : Bool) → (is_space k && b) ≡ true → is_end k
 space_no_end Space b h = refl
 space_no_end _ b h = cc
 
-abbrev Joins : (ℕ → ℕ) → ℕ → List Token → Option Token → Type 0
-Joins L n ts None = Unit {0}
-Joins L n ts (Some one) = Fine L n (one ∷ ts)
-
 module _ (L : ℕ → ℕ) where
-  one_or_both_fine : (n : ℕ) (next t : Token) (ts : List Token) (o : Option Token) → Joins L n ts o → Fine L n (next ∷ t ∷ ts) → Fine L n (one_or_both next t ts o)
-  one_or_both_fine n next t ts None j f = f
-  one_or_both_fine n next t ts (Some one) j f = j
-
-  without_space_joins : (next t : Token) (ts : List Token) → Fits L next.line next → Fine L next.line (t ∷ ts) → Joins L next.line ts (without_space t next)
-  without_space_joins next t ts h f =
-      cond_both (is_space next.kind && absorbs t.kind) (Some t) (if is_space t.kind && absorbs next.kind then Some next else None) (λ o. Joins L next.line ts o)
-      (λ is. f)
-      (λ is. cond_both (is_space t.kind && absorbs next.kind) (Some next) None (λ o. Joins L next.line ts o)
-      (λ too. (h, let P : ℕ → Type 0 = λ k. Fine L k ts in subst P (f.0.linked (space_no_end t.kind (absorbs next.kind) too)) f.1)) (λ too. tt))
-
-  with_kind_joins : (next t : Token) (ts : List Token) (o : Option Kind) → longer t.kind next.kind ≡ o → Fits L next.line next → Fine L next.line (t ∷ ts) → Joins L next.line ts (with_kind t next o)
-  with_kind_joins next t ts None e h f = without_space_joins next t ts h f
-  with_kind_joins next t ts (Some k) e h f =
-      let link : t.line ≡ next.line = f.0.linked (not_end t.kind next.kind k e) in
-      (record { positive = f.0.positive; counts = λ _. omega (arith, link, h.counts (not_stop t.kind next.kind k e)); linked = λ _. link }, f.1)
-
   added_fine : (next : Token) (ts : List Token) → Fits L next.line next → Fine L next.line ts → Fine L next.line (added next ts)
-  added_fine next [] h f = cond_both (is_space next.kind) [] (next ∷ []) (λ l. Fine L next.line l) (λ is. tt) (λ is. (h, tt))
-  added_fine next (t ∷ ts) h f = one_or_both_fine next.line next t ts (joined t next) (with_kind_joins next t ts (longer t.kind next.kind) refl h f) (h, f)
+  added_fine next [] h f = first_holds (λ us. Fine L next.line us) next tt (h, tt)
+  added_fine next (t ∷ ts) h f =
+      more_holds (λ us. Fine L next.line us) next t ts (λ none is. f)
+      (λ is. (h, let P : ℕ → Type 0 = λ k. Fine L k ts in subst P (f.0.linked (space_no_end t.kind (absorbs next.kind) is)) f.1)) (h, f)
+      (λ k e.
+      (let link : t.line ≡ next.line = f.0.linked (not_end t.kind next.kind k e) in
+      (record { positive = f.0.positive; counts = λ _. omega (arith, link, h.counts (not_stop t.kind next.kind k e)); linked = λ _. link }, f.1)))
 
   -- what ends a statement may stand before any line
   turned_end : (n m : ℕ) (next : Token) (ts : List Token) → is_end next.kind ≡ true → Fine L n (added next ts) → Fine L m (added next ts)

@@ -1,7 +1,7 @@
 -- Each part has a reading, or a first line with a statement that has no form.
 use Rattle.std.proofs.Common.{◌≡◌, ◌∙◌, sym, ap, refl, subst, ℕ, ◌+◌, List, [], ◌∷◌, ◌++◌, Bool, true, false, if◌then◌else◌, Option, Some, None, inl, inr, ◌⊎◌, length, take}
 use Rattle.std.specs.Prelude.{reverse, map, nat_eq}
-use Rattle.std.proofs.lemmas.Bool.{cases_Bool, eq-eqb}
+use Rattle.std.proofs.lemmas.Bool.{eq-eqb}
 use Rattle.std.proofs.lemmas.List.{reverse-append, length-reverse, map-append}
 use Rattle.pal_text.specs.declared.tokens.Token.{Token}
 use Rattle.pal_text.specs.declared.grammar.Form.{Form}
@@ -20,6 +20,7 @@ use Rattle.pal_text.specs.Scan.{trimmed}
 use Rattle.pal_text.specs.Statements.{is_dollar, Piece, piece, pieces, own, Fills, closed, closing, Stand, ends, goes_on, Breaks, here, later}
 use Rattle.pal_text.specs.Parts.{IsPart, IsIllegal}
 use Rattle.pal_text.specs.Laws.{EachPartIsAnswered}
+use Rattle.pal_text.proofs.Growing.{pieces_hold}
 use Rattle.pal_text.proofs.Apart.{added_end}
 use Rattle.pal_text.proofs.Cuts.{made, made_fills}
 use Rattle.pal_text.proofs.Readings.{shape_none}
@@ -37,12 +38,9 @@ closed_more size p (q ∷ ps) h = h
 -- tokens whose last one ends a statement there make such pieces
 pieces_closed : (size first at : ℕ) (ts : List Token) (m : Token) → is_end m.kind ≡ true → m.start ≡ size → IsClosed size (pieces first at (ts ++ m ∷ []))
 pieces_closed size first at [] m e s = let P : Bool → Type 0 = λ b. IsClosed size (if b then piece first at m ∷ [] else []) in subst P (sym e) s
-pieces_closed size first at (t ∷ ts) m e s = elim (cases_Bool (is_end t.kind)) [
-  | inl stop ↦ (let P : Bool → Type 0 = λ b. IsClosed size (if b then piece first at t ∷ pieces (at + 1) (at + 1) (ts ++ m ∷ []) else pieces first (at + 1) (ts ++ m ∷ [])) in
-      subst P (sym stop) (closed_more size (piece first at t) (pieces (at + 1) (at + 1) (ts ++ m ∷ [])) (pieces_closed size (at + 1) (at + 1) ts m e s)))
-  | inr other ↦ (let P : Bool → Type 0 = λ b. IsClosed size (if b then piece first at t ∷ pieces (at + 1) (at + 1) (ts ++ m ∷ []) else pieces first (at + 1) (ts ++ m ∷ [])) in
-      subst P (sym other) (pieces_closed size first (at + 1) ts m e s))
-]
+pieces_closed size first at (t ∷ ts) m e s =
+    pieces_hold (λ ps. IsClosed size ps) first at t (ts ++ m ∷ []) (λ stop. closed_more size (piece first at t) (pieces (at + 1) (at + 1) (ts ++ m ∷ [])) (pieces_closed size (at + 1) (at + 1) ts m e s))
+    (λ other. pieces_closed size first (at + 1) ts m e s)
 
 -- and so do those of a part
 pub part_closed : (source : List ℕ) → IsClosed (length source) (pieces 0 0 (part_tokens source))

@@ -1,5 +1,5 @@
 -- What ends a statement is never changed by what follows it, so the tokens of a statement grow by themselves.
-use Rattle.std.proofs.Common.{◌≡◌, ◌∙◌, sym, ap, refl, ℕ, List, [], ◌∷◌, ◌++◌, Bool, true, false, ◌||◌, ◌&&◌, if◌then◌else◌, Option, Some, None, inl, inr, length}
+use Rattle.std.proofs.Common.{◌≡◌, ◌∙◌, sym, ap, refl, ℕ, List, [], ◌∷◌, ◌++◌, append-nil, Bool, true, false, ◌||◌, ◌&&◌, if◌then◌else◌, Option, Some, None, inl, inr, length}
 use Rattle.std.specs.Prelude.{nat_eq}
 use Rattle.std.proofs.lemmas.Bool.{cases_Bool}
 use Rattle.pal_text.specs.declared.characters.Meaning.{Meaning}
@@ -9,6 +9,7 @@ use Rattle.pal_text.specs.declared.tokens.Kind.TheVariants.{Symbol, Number, Mixe
 use Rattle.pal_text.specs.declared.tokens.Token.{Token}
 use Rattle.pal_text.specs.Characters.{line, in_comment, meaning_after}
 use Rattle.pal_text.specs.Tokens.{is_space, absorbs, longer, token, kind_of, end_token, is_end, with_kind, joined, one_or_both, added, grown, tokens, ended}
+use Rattle.pal_text.proofs.Growing.{chosen}
 use Rattle.pal_text.specs.Scan.{IsCut, trimmed}
 
 longer_end : (k n : Kind) → is_end k ≡ true → longer k n ≡ None
@@ -53,10 +54,7 @@ added_cut next e b h = ap (one_or_both next e b) (joined_cut e next h) ∙ elim 
 ]
 
 added_none : (next : Token) (b : List Token) → IsCut b → added next b ≡ added next [] ++ b
-added_none next [] h = elim (cases_Bool (is_space next.kind)) [
-  | inl space ↦ ap (λ s. if s then [] else next ∷ []) space ∙ sym (ap (λ s. (if s then [] else next ∷ []) ++ []) space)
-  | inr other ↦ ap (λ s. if s then [] else next ∷ []) other ∙ sym (ap (λ s. (if s then [] else next ∷ []) ++ []) other)
-]
+added_none next [] h = sym (append-nil (added next []))
 added_none next (e ∷ b) h = added_cut next e b h
 
 one_or_both_apart : (next t : Token) (s b : List Token) (o : Option Token) → one_or_both next t (s ++ b) o ≡ one_or_both next t s o ++ b
@@ -70,10 +68,8 @@ added_apart next (t ∷ s) b h = one_or_both_apart next t s b (joined t next)
 pub grown_apart : (at n : ℕ) (comment : Bool) (m : Meaning) (s b : List Token) → IsCut b → grown at n comment m (s ++ b) ≡ grown at n comment m s ++ b
 grown_apart at n comment Ignored s b h = refl
 grown_apart at n comment LineEnd s b h = added_apart (token End n at) s b h
-grown_apart at n comment (Character c) s b h = elim (cases_Bool (comment || nat_eq c 47)) [
-  | inl inside ↦ ap (λ x. if x then s ++ b else added (token (kind_of c) n at) (s ++ b)) inside ∙ sym (ap (λ x. (if x then s else added (token (kind_of c) n at) s) ++ b) inside)
-  | inr outside ↦ ap (λ x. if x then s ++ b else added (token (kind_of c) n at) (s ++ b)) outside ∙ added_apart (token (kind_of c) n at) s b h ∙ sym (ap (λ x. (if x then s else added (token (kind_of c) n at) s) ++ b) outside)
-]
+grown_apart at n comment (Character c) s b h =
+    ap (λ us. if comment || nat_eq c 47 then s ++ b else us) (added_apart (token (kind_of c) n at) s b h) ∙ chosen (λ us. us ++ b) (comment || nat_eq c 47) s (added (token (kind_of c) n at) s)
 
 -- tokens that were there before are there later
 pub record Later (before after : List Token) : Type 0 where

@@ -1,10 +1,9 @@
 -- One more byte of a part, by what its code brings.
-use Rattle.std.proofs.Common.{◌≡◌, ◌∙◌, sym, ap, refl, subst, ℕ, ◌+◌, ◌-◌, ◌<◌, ◌≤◌, List, [], ◌∷◌, ◌++◌, Bool, true, false, ◌&&◌, if◌then◌else◌, Option, Some, None, inl, inr, arith, length, take, get_or, set}
+use Rattle.std.proofs.Common.{◌≡◌, ◌∙◌, sym, ap, refl, subst, ℕ, ◌+◌, ◌-◌, ◌<◌, ◌≤◌, List, [], ◌∷◌, ◌++◌, Bool, true, false, Some, arith, length, take, get_or, set}
 use Rattle.std.specs.Prelude.{reverse}
 use Rattle.std.specs.List.{AllByRecursion}
 use Rattle.std.proofs.lemmas.List.{take_more, reverse-append, reverse-reverse, length-reverse, length-take-le}
 use Rattle.std.proofs.Math.Seq.{set-append_seam}
-use Rattle.std.proofs.lemmas.Bool.{cases_Bool}
 use Rattle.pal_text.specs.declared.tokens.Kind.{Kind}
 use Rattle.pal_text.specs.declared.tokens.Kind.TheVariants as kind
 use Rattle.pal_text.specs.declared.tokens.Token.{Token}
@@ -12,8 +11,9 @@ use Rattle.pal_text.specs.declared.scan.Brings.TheVariants.{Nothing, Feed, End, 
 use Rattle.pal_text.specs.declared.scan.Place.{Place}
 use Rattle.pal_text.specs.declared.scan.Run.{Run}
 use Rattle.pal_text.specs.Characters.{code, returned, in_comment, line}
-use Rattle.pal_text.specs.Tokens.{is_space, absorbs, longer, token, is_end, with_kind, without_space, joined, one_or_both, added, tokens}
+use Rattle.pal_text.specs.Tokens.{longer, token, is_end, with_kind, one_or_both, added, tokens}
 use Rattle.pal_text.specs.Scan.{brings, is_line_code, front, IsStop, IsQuiet, IsOutside, IsOpen, IsPlaceIn, IsOwn, is_word, spanned, IsRun, IsOnward}
+use Rattle.pal_text.proofs.Growing.{more_holds, first_holds}
 use Rattle.pal_text.proofs.Apart.{added_apart}
 use Rattle.pal_text.proofs.Rises.{all_reverse}
 use Rattle.pal_text.proofs.Grows.{turned, before_last, last_is}
@@ -210,10 +210,6 @@ own_comment source place at to was own h b r q =
     }
 
 -- a character is added
-abbrev OpenOne : Option Token → Type 0
-OpenOne None = Unit {0}
-OpenOne (Some t) = IsOpen t
-
 longer_open : (k n k' : Kind) → longer k n ≡ Some k' → is_end k' ≡ false
 longer_open kind.Symbol kind.Symbol k' h = cc
 longer_open kind.Symbol kind.Number k' h = cc
@@ -224,30 +220,9 @@ longer_open kind.Mixed kind.Number k' h = cc
 longer_open kind.Space kind.Space k' h = cc
 longer_open _ _ k' h = cc
 
-open_space : (t next : Token) → IsOpen t → IsOpen next → OpenOne (without_space t next)
-open_space t next o n = elim (cases_Bool (is_space next.kind && absorbs t.kind)) [
-  | inl first ↦ (let P : Bool → Type 0 = λ b. OpenOne (if b then Some t else (if is_space t.kind && absorbs next.kind then Some next else None)) in subst P (sym first) o)
-  | inr other ↦ (let P : Bool → Type 0 = λ b. OpenOne (if b then Some t else (if is_space t.kind && absorbs next.kind then Some next else None)) in
-      subst P (sym other) (elim (cases_Bool (is_space t.kind && absorbs next.kind)) [
-        | inl second ↦ (let Q : Bool → Type 0 = λ b. OpenOne (if b then Some next else None) in subst Q (sym second) n)
-        | inr neither ↦ (let Q : Bool → Type 0 = λ b. OpenOne (if b then Some next else None) in subst Q (sym neither) tt)
-      ]))
-]
-
-open_kind : (t next : Token) (o : Option Kind) → longer t.kind next.kind ≡ o → IsOpen t → IsOpen next → OpenOne (with_kind t next o)
-open_kind t next None e a b = open_space t next a b
-open_kind t next (Some k) e a b = longer_open t.kind next.kind k e
-
-open_both : (next t : Token) (ts : List Token) (o : Option Token) → OpenOne o → IsOpen next → AllByRecursion IsOpen (t ∷ ts) → AllByRecursion IsOpen (one_or_both next t ts o)
-open_both next t ts None o n h = (n, h)
-open_both next t ts (Some one) o n h = (o, h.1)
-
 added_open : (next : Token) (ts : List Token) → IsOpen next → AllByRecursion IsOpen ts → AllByRecursion IsOpen (added next ts)
-added_open next [] n h = elim (cases_Bool (is_space next.kind)) [
-  | inl space ↦ (let P : Bool → Type 0 = λ b. AllByRecursion IsOpen (if b then [] else next ∷ []) in subst P (sym space) tt)
-  | inr other ↦ (let P : Bool → Type 0 = λ b. AllByRecursion IsOpen (if b then [] else next ∷ []) in subst P (sym other) (n, tt))
-]
-added_open next (t ∷ ts) n h = open_both next t ts (joined t next) (open_kind t next (longer t.kind next.kind) refl h.0 n) n h
+added_open next [] n h = first_holds (λ us. AllByRecursion IsOpen us) next tt (n, tt)
+added_open next (t ∷ ts) n h = more_holds (λ us. AllByRecursion IsOpen us) next t ts (λ none is. h) (λ is. (n, h.1)) (n, h) (λ k is. (longer_open t.kind next.kind k is, h.1))
 
 pub reading_added : (source : List ℕ) (place : Place) (at : ℕ) (was : Bool) (own more : List Token) (k : Kind) → IsPlaceIn source place → at < length source → brings (code (get_or source at 0)) ≡ One k
     → Reading source place at was own → reverse more ≡ added (token k place.line at) (reverse own) → tokens (front source (at + 1)) ≡ reverse more ++ tokens (front source place.at)

@@ -1,4 +1,5 @@
 pub mod ByMeaning
+pub mod Growing
 pub mod Alternate
 pub mod Grows
 pub mod Readings

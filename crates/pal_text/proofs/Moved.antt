@@ -2,7 +2,7 @@
 use Rattle.std.proofs.Common.{◌≡◌, ◌∙◌, sym, ap, refl, subst, ℕ, ◌+◌, ◌-◌, ◌<◌, ◌≤◌, List, [], ◌∷◌, ◌++◌, Bool, true, false, ◌||◌, ◌&&◌, if◌then◌else◌, Option, Some, None, inl, inr, arith, length, take, drop, append_assoc, suc}
 use Rattle.std.specs.Prelude.{map, reverse, slice_range, nat_eq, nat_lt, nat_le, not}
 use Rattle.std.specs.List.{AllByRecursion}
-use Rattle.std.proofs.lemmas.Bool.{cases_Bool, cases_lt, lt-ltb, le-ltb, cond_both, cond-true}
+use Rattle.std.proofs.lemmas.Bool.{cases_Bool, cases_lt, lt-ltb, le-ltb, cond-true}
 use Rattle.std.proofs.lemmas.Bool.Decides.{nat_tests}
 use Rattle.std.proofs.lemmas.List.{reverse-append, length-reverse, length-drop, drop-drop, drop_at, drop-append-le}
 use Rattle.std.proofs.Math.Seq.{take-append-add}
@@ -19,6 +19,7 @@ use Rattle.pal_text.specs.Names.{IsWithin, name, bytes_of, with_name, named, par
 use Rattle.pal_text.specs.Scan.{returned_by, trimmed}
 use Rattle.pal_text.specs.Laws.{moved, IgnoredAddNothing}
 use Rattle.pal_text.proofs.Apart.{added_end}
+use Rattle.pal_text.proofs.Growing.{chosen, more_holds, first_holds, grown_holds}
 use Rattle.pal_text.proofs.Steps.{Kept, nothing_kept}
 use Rattle.pal_text.proofs.Stays.{range_front, told_alike}
 use Rattle.pal_text.proofs.Rises.{map_reverse, all_tokens_within}
@@ -66,15 +67,9 @@ module _ (k n : ℕ) where
   mv_token j l at h = ap (λ e. at_places (token j l at) (at + n) e) (let e : at + n + 1 ≡ at + 1 + n = omega arith in e) ∙ sym (moved_after k n (token j l at) h)
 
   without_moved : (t next : Token) → without_space (mv t) (mv next) ≡ maybe mv (without_space t next)
-  without_moved t next = elim (cases_Bool (is_space next.kind && absorbs t.kind)) [
-    | inl first ↦ (let P : Bool → Type 0 = λ b. (if b then Some (mv t) else (if is_space t.kind && absorbs next.kind then Some (mv next) else None)) ≡ maybe mv (if b then Some t else (if is_space t.kind && absorbs next.kind then Some next else None)) in
-        subst P (sym first) refl)
-    | inr other ↦ (let P : Bool → Type 0 = λ b. (if b then Some (mv t) else (if is_space t.kind && absorbs next.kind then Some (mv next) else None)) ≡ maybe mv (if b then Some t else (if is_space t.kind && absorbs next.kind then Some next else None)) in
-        subst P (sym other) (elim (cases_Bool (is_space t.kind && absorbs next.kind)) [
-          | inl second ↦ (let Q : Bool → Type 0 = λ b. (if b then Some (mv next) else None) ≡ maybe mv (if b then Some next else None) in subst Q (sym second) refl)
-          | inr neither ↦ (let Q : Bool → Type 0 = λ b. (if b then Some (mv next) else None) ≡ maybe mv (if b then Some next else None) in subst Q (sym neither) refl)
-        ]))
-  ]
+  without_moved t next =
+      let last : Option Token = if is_space t.kind && absorbs next.kind then Some next else None in
+      ap (λ o. if is_space next.kind && absorbs t.kind then Some (mv t) else o) (chosen (maybe mv) (is_space t.kind && absorbs next.kind) (Some next) None) ∙ chosen (maybe mv) (is_space next.kind && absorbs t.kind) (Some t) last
 
   -- the end of a token that goes on after the place
   mv_end : (t : Token) (at : ℕ) → k ≤ at → (if nat_lt t.start k && nat_le (at + 1) k then at + 1 else at + 1 + n) ≡ at + 1 + n
@@ -95,10 +90,7 @@ module _ (k n : ℕ) where
   both_moved next t ts (Some one) = refl
 
   added_moved : (j : Kind) (l at : ℕ) (ts : List Token) → k ≤ at → added (mv (token j l at)) (map mv ts) ≡ map mv (added (token j l at) ts)
-  added_moved j l at [] h = elim (cases_Bool (is_space j)) [
-    | inl space ↦ (let P : Bool → Type 0 = λ b. (if b then [] else mv (token j l at) ∷ []) ≡ map mv (if b then [] else token j l at ∷ []) in subst P (sym space) refl)
-    | inr other ↦ (let P : Bool → Type 0 = λ b. (if b then [] else mv (token j l at) ∷ []) ≡ map mv (if b then [] else token j l at ∷ []) in subst P (sym other) refl)
-  ]
+  added_moved j l at [] h = chosen (map mv) (is_space j) [] (token j l at ∷ [])
   added_moved j l at (t ∷ ts) h =
       ap (one_or_both (mv (token j l at)) (mv t) (map mv ts)) (joined_moved t j l at (longer t.kind j) h) ∙ both_moved (token j l at) t ts (joined t (token j l at))
 
@@ -108,11 +100,8 @@ module _ (k n : ℕ) where
   grown_moved : (at l : ℕ) (c : Bool) (m : Meaning) (ts : List Token) → k ≤ at → grown (at + n) l c m (map mv ts) ≡ map mv (grown at l c m ts)
   grown_moved at l c Ignored ts h = refl
   grown_moved at l c LineEnd ts h = put_moved End l at ts h
-  grown_moved at l c (Character x) ts h = elim (cases_Bool (c || nat_eq x 47)) [
-    | inl inside ↦ (let P : Bool → Type 0 = λ b. (if b then map mv ts else added (token (kind_of x) l (at + n)) (map mv ts)) ≡ map mv (if b then ts else added (token (kind_of x) l at) ts) in subst P (sym inside) refl)
-    | inr outside ↦ (let P : Bool → Type 0 = λ b. (if b then map mv ts else added (token (kind_of x) l (at + n)) (map mv ts)) ≡ map mv (if b then ts else added (token (kind_of x) l at) ts) in
-        subst P (sym outside) (put_moved (kind_of x) l at ts h))
-  ]
+  grown_moved at l c (Character x) ts h =
+      ap (λ us. if c || nat_eq x 47 then map mv ts else us) (put_moved (kind_of x) l at ts h) ∙ chosen (map mv) (c || nat_eq x 47) ts (added (token (kind_of x) l at) ts)
 
   -- the same bytes, the newest first, with n more of them at the place
   pub record Same (f g : List ℕ) : Type 0 where
@@ -141,10 +130,7 @@ module _ (k n : ℕ) where
 
   pub trimmed_moved : (ts : List Token) → trimmed (map mv ts) ≡ map mv (trimmed ts)
   trimmed_moved [] = refl
-  trimmed_moved (t ∷ ts) = elim (cases_Bool (is_space t.kind)) [
-    | inl space ↦ (let P : Bool → Type 0 = λ b. (if b then map mv ts else mv t ∷ map mv ts) ≡ map mv (if b then ts else t ∷ ts) in subst P (sym space) refl)
-    | inr other ↦ (let P : Bool → Type 0 = λ b. (if b then map mv ts else mv t ∷ map mv ts) ≡ map mv (if b then ts else t ∷ ts) in subst P (sym other) refl)
-  ]
+  trimmed_moved (t ∷ ts) = chosen (map mv) (is_space t.kind) ts (t ∷ ts)
 
   pub ended_moved : (f g : List ℕ) → length g ≡ length f + n → k ≤ length f → line g ≡ line f → tokens g ≡ map mv (tokens f) → ended g ≡ map mv (ended f)
   ended_moved f g size past line_is tokens_are =
@@ -165,32 +151,15 @@ span_more : (n : ℕ) (ts : List Token) → AllSpan n ts → AllSpan (n + 1) ts
 span_more n [] h = tt
 span_more n (t ∷ ts) h = ((h.0.0, omega (arith, h.0.1)), span_more n ts h.1)
 
-abbrev OneSpans : ℕ → Option Token → Type 0
-OneSpans n None = Unit {0}
-OneSpans n (Some t) = Spans n t
-
-without_spans : (n : ℕ) (t next : Token) → Spans n t → Spans n next → OneSpans n (without_space t next)
-without_spans n t next h g =
-    cond_both (is_space next.kind && absorbs t.kind) (Some t) (if is_space t.kind && absorbs next.kind then Some next else None) (λ o. OneSpans n o) (λ is. h)
-    (λ is. cond_both (is_space t.kind && absorbs next.kind) (Some next) None (λ o. OneSpans n o) (λ too. g) (λ too. tt))
-
-kind_spans : (at l : ℕ) (t : Token) (j : Kind) (o : Option Kind) → Spans at t → OneSpans (at + 1) (with_kind t (token j l at) o)
-kind_spans at l t j None h = without_spans (at + 1) t (token j l at) (h.0, omega (arith, h.1)) (omega arith, omega arith)
-kind_spans at l t j (Some k') h = (omega (arith, h.0, h.1), omega arith)
-
-both_span : (n : ℕ) (next t : Token) (ts : List Token) (o : Option Token) → Spans n next → Spans n t → AllSpan n ts → OneSpans n o → AllSpan n (one_or_both next t ts o)
-both_span n next t ts None g h all o = (g, (h, all))
-both_span n next t ts (Some one) g h all o = (o, all)
-
 added_span : (at l : ℕ) (j : Kind) (ts : List Token) → AllSpan at ts → AllSpan (at + 1) (added (token j l at) ts)
-added_span at l j [] h = cond_both (is_space j) [] (token j l at ∷ []) (λ ts. AllSpan (at + 1) ts) (λ is. tt) (λ is. ((omega arith, omega arith), tt))
+added_span at l j [] h = first_holds (λ us. AllSpan (at + 1) us) (token j l at) tt ((omega arith, omega arith), tt)
 added_span at l j (t ∷ ts) h =
-    both_span (at + 1) (token j l at) t ts (joined t (token j l at)) (omega arith, omega arith) (h.0.0, omega (arith, h.0.1)) (span_more at ts h.1) (kind_spans at l t j (longer t.kind j) h.0)
+    let rest : AllSpan (at + 1) ts = span_more at ts h.1 in
+    let old : AllSpan (at + 1) (t ∷ ts) = ((h.0.0, omega (arith, h.0.1)), rest) in
+    more_holds (λ us. AllSpan (at + 1) us) (token j l at) t ts (λ none is. old) (λ is. ((omega arith, omega arith), rest)) ((omega arith, omega arith), old) (λ k is. ((omega (arith, h.0.0, h.0.1), omega arith), rest))
 
 grown_span : (at l : ℕ) (c : Bool) (m : Meaning) (ts : List Token) → AllSpan at ts → AllSpan (at + 1) (grown at l c m ts)
-grown_span at l c Ignored ts h = span_more at ts h
-grown_span at l c LineEnd ts h = added_span at l End ts h
-grown_span at l c (Character x) ts h = cond_both (c || nat_eq x 47) ts (added (token (kind_of x) l at) ts) (λ us. AllSpan (at + 1) us) (λ is. span_more at ts h) (λ is. added_span at l (kind_of x) ts h)
+grown_span at l c m ts h = grown_holds (λ us. AllSpan (at + 1) us) at l c m ts (span_more at ts h) (λ k. added_span at l k ts h)
 
 pub tokens_span : (f : List ℕ) → AllSpan (length f) (tokens f)
 tokens_span [] = tt

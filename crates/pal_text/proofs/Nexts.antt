@@ -1,9 +1,9 @@
 -- The next statement of a part, by its tokens as they were read.
-use Rattle.std.proofs.Common.{◌≡◌, ◌≢◌, ◌∙◌, sym, ap, refl, subst, ℕ, ◌+◌, ◌-◌, ◌<◌, ◌≤◌, zero, List, [], ◌∷◌, ◌++◌, Bool, true, false, ◌||◌, if◌then◌else◌, Option, Some, None, inl, inr, arith, length, take, drop, get_or, append_assoc, length-append}
+use Rattle.std.proofs.Common.{◌≡◌, ◌≢◌, ◌∙◌, sym, ap, refl, subst, ℕ, ◌+◌, ◌-◌, ◌<◌, ◌≤◌, zero, List, [], ◌∷◌, ◌++◌, Bool, true, false, if◌then◌else◌, Option, Some, None, inl, inr, arith, length, take, drop, get_or, append_assoc, length-append}
 use Rattle.std.specs.Prelude.{reverse, map, slice_range, nat_eq, codes}
 use Rattle.std.specs.List.{AllByRecursion}
 use Rattle.std.specs.Cmp.Lexicographic.{pointwise}
-use Rattle.std.proofs.lemmas.Bool.{cases_Bool, eqb-true}
+use Rattle.std.proofs.lemmas.Bool.{cond_both, cases_Bool, eqb-true}
 use Rattle.std.proofs.lemmas.Bool.Decides.{nat_tests}
 use Rattle.std.proofs.lemmas.List.{reverse-append, reverse-reverse, length-reverse, length-map, map-append, take_all, take-append-drop, length-take-le}
 use Rattle.std.proofs.Math.Seq.{drop-append_seam, take-append_seam}
@@ -21,13 +21,14 @@ use Rattle.pal_text.specs.declared.reader.Found.{Found}
 use Rattle.pal_text.specs.declared.reader.Standing.{Standing}
 use Rattle.pal_text.specs.declared.reader.Standing.TheVariants.{Begins, Ended}
 use Rattle.pal_text.specs.Characters.{code, returned, in_comment, line, meaning_after}
-use Rattle.pal_text.specs.Tokens.{is_space, token, kind_of, end_token, is_end, joined, one_or_both, added, grown, tokens, ended, all_tokens}
+use Rattle.pal_text.specs.Tokens.{is_space, token, end_token, is_end, added, grown, tokens, ended, all_tokens}
 use Rattle.pal_text.specs.Names.{IsWithin, with_name, name, bytes_of, named, part_tokens}
 use Rattle.pal_text.specs.Progress.{ended_at}
 use Rattle.pal_text.specs.Reading.{shape}
 use Rattle.pal_text.specs.Statements.{is_dollar, piece, pieces, own, closing}
 use Rattle.pal_text.specs.Readers.{rest, IsNext, IsBroken}
 use Rattle.pal_text.specs.Scan.{front, mark_kind, line_past, trimmed, mark, next_place, Closes, IsStop, IsCut, IsOpen, IsPlaceIn, stands_by, StandsAt, IsOwn}
+use Rattle.pal_text.proofs.Growing.{more_holds, first_holds, grown_holds}
 use Rattle.pal_text.proofs.Apart.{added_apart, added_end, Later, ended_later, Ends, ended_on}
 use Rattle.pal_text.proofs.Cuts.{made, made_fills}
 use Rattle.pal_text.proofs.Fronts.{next_front}
@@ -37,24 +38,12 @@ use Rattle.pal_text.proofs.Rises.{all_reverse, all_tokens_within, part_tokens_wi
 use Rattle.pal_text.proofs.ByMeaning.{line_by}
 
 -- no byte brings more than one token, or ends more than one line
-both_length : (next t : Token) (ts : List Token) (o : Option Token) → length (one_or_both next t ts o) ≤ length ts + 2
-both_length next t ts None = omega arith
-both_length next t ts (Some one) = omega arith
-
 added_length : (next : Token) (ts : List Token) → length (added next ts) ≤ length ts + 1
-added_length next [] = elim (cases_Bool (is_space next.kind)) [
-  | inl space ↦ (let P : Bool → Type 0 = λ b. length (if b then [] else next ∷ []) ≤ 1 in subst P (sym space) (omega arith))
-  | inr other ↦ (let P : Bool → Type 0 = λ b. length (if b then [] else next ∷ []) ≤ 1 in subst P (sym other) (omega arith))
-]
-added_length next (t ∷ ts) = omega (arith, both_length next t ts (joined t next))
+added_length next [] = first_holds (λ us. length us ≤ 1) next (omega arith) (omega arith)
+added_length next (t ∷ ts) = more_holds (λ us. length us ≤ length (t ∷ ts) + 1) next t ts (λ none is. omega arith) (λ is. omega arith) (omega arith) (λ k is. omega arith)
 
 grown_length : (at n : ℕ) (comment : Bool) (m : Meaning) (ts : List Token) → length (grown at n comment m ts) ≤ length ts + 1
-grown_length at n comment Ignored ts = omega arith
-grown_length at n comment LineEnd ts = added_length (token kind.End n at) ts
-grown_length at n comment (Character c) ts = elim (cases_Bool (comment || nat_eq c 47)) [
-  | inl inside ↦ (let P : Bool → Type 0 = λ b. length (if b then ts else added (token (kind_of c) n at) ts) ≤ length ts + 1 in subst P (sym inside) (omega arith))
-  | inr outside ↦ (let P : Bool → Type 0 = λ b. length (if b then ts else added (token (kind_of c) n at) ts) ≤ length ts + 1 in subst P (sym outside) (added_length (token (kind_of c) n at) ts))
-]
+grown_length at n comment m ts = grown_holds (λ us. length us ≤ length ts + 1) at n comment m ts (omega arith) (λ k. added_length (token k n at) ts)
 
 tokens_length : (f : List ℕ) → length (tokens f) ≤ length f
 tokens_length [] = omega arith
@@ -138,12 +127,10 @@ inside_of a b e h = grind (arith, nat_tests)
 pub made_at : (source : List ℕ) (place : Place) (stop : ℕ) (before raw : List Token) → IsPlaceIn source place → IsOwn source place stop before → IsStop source stop → reverse raw ≡ trimmed (reverse before)
     → Made source place raw (mark source place.line stop)
 unfolding end_mark
-made_at source place stop before raw p o s cut = elim (cases_Bool (nat_eq stop (length source))) [
-  | inl last ↦ (let P : Bool → Type 0 = λ b. Made source place raw (if b then end_mark source place.line stop else token (mark_kind (code (get_or source stop 0))) place.line stop) in
-      subst P (sym last) (record { more = []; is = ended_all source place stop before raw p o cut (eqb-true stop (length source) last); is_mark = refl }))
-  | inr other ↦ (let P : Bool → Type 0 = λ b. Made source place raw (if b then end_mark source place.line stop else token (mark_kind (code (get_or source stop 0))) place.line stop) in
-      subst P (sym other) (made_middle source place stop before raw p o s cut (inside_of stop (length source) other s.inside)))
-]
+made_at source place stop before raw p o s cut =
+    cond_both (nat_eq stop (length source)) (end_mark source place.line stop) (token (mark_kind (code (get_or source stop 0))) place.line stop) (λ m. Made source place raw m)
+    (λ last. record { more = []; is = ended_all source place stop before raw p o cut (eqb-true stop (length source) last); is_mark = refl })
+    (λ other. made_middle source place stop before raw p o s cut (inside_of stop (length source) other s.inside))
 
 counted : (source : List ℕ) (place : Place) (count : ℕ) (raw : List Token) (m : Token) (ts : List Token) → count ≡ length (tokens (front source place.at)) → ts ≡ m ∷ reverse raw ++ tokens (front source place.at) → count + length raw + 1 ≡ length ts
 counted source place count raw m ts n e = omega (arith, ap length e, length-append (reverse raw) (tokens (front source place.at)), length-reverse raw)
@@ -242,10 +229,7 @@ named_open source (t ∷ ts) h = (with_name_open source t t.kind h.0, named_open
 
 trimmed_open : (ts : List Token) → AllByRecursion IsOpen ts → AllByRecursion IsOpen (trimmed ts)
 trimmed_open [] h = tt
-trimmed_open (t ∷ ts) h = elim (cases_Bool (is_space t.kind)) [
-  | inl space ↦ (let P : Bool → Type 0 = λ b. AllByRecursion IsOpen (if b then ts else t ∷ ts) in subst P (sym space) h.1)
-  | inr other ↦ (let P : Bool → Type 0 = λ b. AllByRecursion IsOpen (if b then ts else t ∷ ts) in subst P (sym other) h)
-]
+trimmed_open (t ∷ ts) h = cond_both (is_space t.kind) ts (t ∷ ts) (λ us. AllByRecursion IsOpen us) (λ is. h.1) (λ is. h)
 
 raw_open : (before raw : List Token) → reverse raw ≡ trimmed (reverse before) → AllByRecursion IsOpen before → AllByRecursion IsOpen raw
 raw_open before raw e h =

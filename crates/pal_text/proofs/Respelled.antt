@@ -1,8 +1,8 @@
 -- The bytes of a token, read as a part of their own, are that token again. Lists have the newest first.
-use Rattle.std.proofs.Common.{◌≡◌, ◌∙◌, sym, ap, refl, subst, ℕ, ◌+◌, ◌-◌, List, [], ◌∷◌, ◌++◌, Bool, true, false, ◌||◌, ◌&&◌, if◌then◌else◌, Option, Some, None, inl, inr, arith, length, take, append_assoc, length-append}
+use Rattle.std.proofs.Common.{◌≡◌, ◌∙◌, sym, ap, refl, subst, ℕ, ◌+◌, ◌-◌, List, [], ◌∷◌, ◌++◌, Bool, true, false, ◌||◌, ◌&&◌, if◌then◌else◌, Some, None, inl, inr, arith, length, take, append_assoc, length-append}
 use Rattle.std.specs.Prelude.{map, reverse, slice_range, nat_eq, not, ◌⊎◌}
 use Rattle.std.specs.List.{AllByRecursion}
-use Rattle.std.proofs.lemmas.Bool.{cases_Bool, cond_both, cond-true, cond-false}
+use Rattle.std.proofs.lemmas.Bool.{cond_both, cond-true, cond-false}
 use Rattle.std.proofs.lemmas.List.{reverse-append, reverse-reverse, length-reverse, take_all, take_at, drop_at}
 use Rattle.pal_text.specs.declared.characters.Meaning.{Meaning}
 use Rattle.pal_text.specs.declared.characters.Meaning.TheVariants.{Ignored, LineEnd, Character}
@@ -10,10 +10,11 @@ use Rattle.pal_text.specs.declared.tokens.Kind.{Kind}
 use Rattle.pal_text.specs.declared.tokens.Kind.TheVariants.{Symbol, Number, Mixed, Space, End}
 use Rattle.pal_text.specs.declared.tokens.Token.{Token}
 use Rattle.pal_text.specs.Characters.{code, is_ignored, returned, meaning, meaning_after, in_comment, line, characters}
-use Rattle.pal_text.specs.Tokens.{is_space, absorbs, longer, token, kind_of, end_token, is_end, with_kind, without_space, one_or_both, added, grown, tokens, ended, all_tokens}
+use Rattle.pal_text.specs.Tokens.{is_space, absorbs, longer, token, kind_of, end_token, is_end, with_kind, one_or_both, added, grown, tokens, ended, all_tokens}
 use Rattle.pal_text.specs.Names.{name, bytes_of, with_name, named, part_tokens}
 use Rattle.pal_text.specs.Scan.{returned_by, trimmed}
 use Rattle.pal_text.specs.Laws.{alone, SpellsAgain, TokensSpellAgain}
+use Rattle.pal_text.proofs.Growing.{more_holds, first_holds}
 use Rattle.pal_text.proofs.Apart.{added_end}
 use Rattle.pal_text.proofs.Stays.{told_alike}
 use Rattle.pal_text.proofs.Rises.{all_reverse}
@@ -255,27 +256,20 @@ module _ (f : List ℕ) (b : ℕ) where
     starts : is_space (kind_of x) ≡ false → Live (b ∷ f) next ⊎ Silent (b ∷ f) next
     starts a = inl (fresh f b x e plain a)
 
-    spell_without : (t : Token) (ts : List Token) → longer t.kind (kind_of x) ≡ None → Spell f (t ∷ ts) → Spell (b ∷ f) (one_or_both next t ts (without_space t next))
-    spell_without t ts none h =
-        cond_both (is_space (kind_of x) && absorbs t.kind) (Some t) (if is_space t.kind && absorbs (kind_of x) then Some next else None) (λ o. Spell (b ∷ f) (one_or_both next t ts o))
-        (λ is. ((λ a. elim (h.0 a) [ inl l ↦ inl (live_absorbs f b t l x e plain none is) | inr s ↦ inr (silent_on f b t s) ]), all_on f b ts h.1))
-        (λ is. cond_both (is_space t.kind && absorbs (kind_of x)) (Some next) None (λ o. Spell (b ∷ f) (one_or_both next t ts o))
-        (λ too. (starts, all_on f b ts h.1))
-        (λ too. (starts, ((λ a. final_on f b t (stays f t (h.0 a))), all_on f b ts h.1))))
-
-    spell_kind : (t : Token) (ts : List Token) (o : Option Kind) → longer t.kind (kind_of x) ≡ o → Spell f (t ∷ ts) → Spell (b ∷ f) (one_or_both next t ts (with_kind t next o))
-    spell_kind t ts None is h = spell_without t ts is h
-    spell_kind t ts (Some k') is h = (
-      (λ a. elim (h.0 (longer_no_space t.kind (kind_of x) k' is a)) [
-        | inl l ↦ inl (live_grows f b t l x k' e plain is)
-        | inr s ↦ absurd (longer_open t.kind (kind_of x) k' is s.ends)
-      ]),
-      all_on f b ts h.1,
-    )
-
     spell_added : (ts : List Token) → Spell f ts → Spell (b ∷ f) (added next ts)
-    spell_added [] h = cond_both (is_space (kind_of x)) [] (next ∷ []) (λ us. Spell (b ∷ f) us) (λ is. tt) (λ is. (starts, tt))
-    spell_added (t ∷ ts) h = spell_kind t ts (longer t.kind (kind_of x)) refl h
+    spell_added [] h = first_holds (λ us. Spell (b ∷ f) us) next tt (starts, tt)
+    spell_added (t ∷ ts) h =
+        more_holds (λ us. Spell (b ∷ f) us) next t ts
+        (λ none is. ((λ a. elim (h.0 a) [ inl l ↦ inl (live_absorbs f b t l x e plain none is) | inr s ↦ inr (silent_on f b t s) ]), all_on f b ts h.1))
+        (λ is. (starts, all_on f b ts h.1))
+        (starts, ((λ a. final_on f b t (stays f t (h.0 a))), all_on f b ts h.1))
+        (λ k' is. (
+          (λ a. elim (h.0 (longer_no_space t.kind (kind_of x) k' is a)) [
+            | inl l ↦ inl (live_grows f b t l x k' e plain is)
+            | inr s ↦ absurd (longer_open t.kind (kind_of x) k' is s.ends)
+          ]),
+          all_on f b ts h.1,
+        ))
 
   spell_grown : (m : Meaning) (ts : List Token) → meaning_after f b ≡ m → Spell f ts → Spell (b ∷ f) (grown (length f) (line f) (in_comment f) m ts)
   spell_grown Ignored ts e h = spell_kept Ignored ts e (λ at l us. refl) refl h
@@ -283,11 +277,9 @@ module _ (f : List ℕ) (b : ℕ) where
     where
       line_silent : meaning_after f b ≡ LineEnd → Silent (b ∷ f) (token End (line f) (length f))
       line_silent q = record { bytes = b ∷ []; later = []; earlier = f; is = refl; before = refl; size = refl; silent = no_character (returned f) b q; ends = refl }
-  spell_grown (Character x) ts e h = elim (cases_Bool (in_comment f || nat_eq x 47)) [
-    | inl inside ↦ (let P : Bool → Type 0 = λ c. Spell (b ∷ f) (if c then ts else added (token (kind_of x) (line f) (length f)) ts) in
-        subst P (sym inside) (spell_kept (Character x) ts e (λ at l us. cond-true (in_comment f || nat_eq x 47) us (added (token (kind_of x) l at) us) inside) refl h))
-    | inr outside ↦ (let P : Bool → Type 0 = λ c. Spell (b ∷ f) (if c then ts else added (token (kind_of x) (line f) (length f)) ts) in subst P (sym outside) (spell_added x e outside ts h))
-  ]
+  spell_grown (Character x) ts e h =
+      cond_both (in_comment f || nat_eq x 47) ts (added (token (kind_of x) (line f) (length f)) ts) (λ us. Spell (b ∷ f) us)
+      (λ inside. spell_kept (Character x) ts e (λ at l us. cond-true (in_comment f || nat_eq x 47) us (added (token (kind_of x) l at) us) inside) refl h) (λ outside. spell_added x e outside ts h)
 
 tokens_spell : (f : List ℕ) → Spell f (tokens f)
 tokens_spell [] = tt

@@ -1,21 +1,21 @@
 -- A statement's first token is no space, and stays the first: so where one was read, the statement has a token.
-use Rattle.std.proofs.Common.{◌≡◌, ◌∙◌, sym, ap, refl, subst, ℕ, ◌+◌, ◌<◌, List, [], ◌∷◌, ◌++◌, Bool, true, false, ◌||◌, ◌&&◌, if◌then◌else◌, Option, Some, None, inl, inr, ◌⊎◌, length, drop, get_or}
-use Rattle.std.specs.Prelude.{reverse, map, nat_eq, slice_get}
+use Rattle.std.proofs.Common.{◌≡◌, ◌∙◌, sym, ap, refl, subst, ℕ, ◌+◌, ◌<◌, List, [], ◌∷◌, ◌++◌, Bool, true, false, ◌&&◌, if◌then◌else◌, Option, Some, None, inl, inr, ◌⊎◌, length, drop, get_or}
+use Rattle.std.specs.Prelude.{reverse, map, slice_get}
 use Rattle.std.specs.List.{AllByRecursion}
 use Rattle.std.proofs.lemmas.Bool.{cond_both}
 use Rattle.std.proofs.lemmas.List.{reverse-append, reverse-reverse, length-reverse, length-map, map-append}
 use Rattle.pal_text.specs.declared.characters.Meaning.{Meaning}
-use Rattle.pal_text.specs.declared.characters.Meaning.TheVariants.{Ignored, LineEnd, Character}
 use Rattle.pal_text.specs.declared.tokens.Kind.{Kind}
 use Rattle.pal_text.specs.declared.tokens.Kind.TheVariants as kind
 use Rattle.pal_text.specs.declared.tokens.Token.{Token}
 use Rattle.pal_text.specs.declared.scan.Brings.TheVariants.{One}
 use Rattle.pal_text.specs.declared.scan.Place.{Place}
 use Rattle.pal_text.specs.Characters.{code, line, in_comment, meaning_after}
-use Rattle.pal_text.specs.Tokens.{is_space, absorbs, longer, token, kind_of, end_token, is_end, with_kind, without_space, joined, one_or_both, added, grown, tokens, ended, all_tokens}
+use Rattle.pal_text.specs.Tokens.{is_space, absorbs, longer, token, end_token, is_end, with_kind, without_space, joined, one_or_both, added, grown, tokens, ended, all_tokens}
 use Rattle.pal_text.specs.Names.{named, part_tokens}
 use Rattle.pal_text.specs.Readers.{HasToken}
 use Rattle.pal_text.specs.Scan.{brings, front, IsCut, IsOpen, IsPlaceIn}
+use Rattle.pal_text.proofs.Growing.{grown_holds}
 use Rattle.pal_text.proofs.Apart.{joined_cut, added_apart, grown_apart}
 use Rattle.pal_text.proofs.Fronts.{Reading, reading_added}
 use Rattle.pal_text.proofs.Grows.{turned}
@@ -82,10 +82,7 @@ added_begun next (t ∷ []) h = both_begun next t [] (joined t next) (joined_beg
 added_begun next (t ∷ u ∷ ts) h = any_begun next t u ts (joined t next) h
 
 grown_begun : (at n : ℕ) (comment : Bool) (m : Meaning) (ts : List Token) → Begun ts → Begun (grown at n comment m ts)
-grown_begun at n comment Ignored ts h = h
-grown_begun at n comment LineEnd ts h = added_begun (token kind.End n at) ts h
-grown_begun at n comment (Character c) ts h =
-    cond_both (comment || nat_eq c 47) ts (added (token (kind_of c) n at) ts) (λ us. Begun us) (λ is. h) (λ is. added_begun (token (kind_of c) n at) ts h)
+grown_begun at n comment m ts h = grown_holds (λ us. Begun us) at n comment m ts h (λ k. added_begun (token k n at) ts h)
 
 -- tokens that begin so after others, of which the newest ends a statement
 record After (before ts : List Token) : Type 0 where
@@ -184,10 +181,7 @@ added_spaced next (t ∷ []) h = alone_spaced next t (joined t next) refl (joine
 added_spaced next (t ∷ u ∷ ts) h = more_spaced next t u ts (joined t next) refl (λ ends. joined_no_space t next (h.0 ends)) h
 
 grown_spaced : (at n : ℕ) (comment : Bool) (m : Meaning) (ts : List Token) → Spaced ts → Spaced (grown at n comment m ts)
-grown_spaced at n comment Ignored ts h = h
-grown_spaced at n comment LineEnd ts h = added_spaced (token kind.End n at) ts h
-grown_spaced at n comment (Character c) ts h =
-    cond_both (comment || nat_eq c 47) ts (added (token (kind_of c) n at) ts) (λ us. Spaced us) (λ is. h) (λ is. added_spaced (token (kind_of c) n at) ts h)
+grown_spaced at n comment m ts h = grown_holds (λ us. Spaced us) at n comment m ts h (λ k. added_spaced (token k n at) ts h)
 
 tokens_spaced : (f : List ℕ) → Spaced (tokens f)
 tokens_spaced [] = tt

@@ -1,7 +1,7 @@
 -- What one more byte does to the tokens, by what its code brings.
-use Rattle.std.proofs.Common.{◌≡◌, ◌∙◌, sym, ap, refl, ℕ, ◌+◌, List, ◌∷◌, Bool, true, false, ◌||◌, ◌&&◌, if◌then◌else◌, inl, inr, length}
+use Rattle.std.proofs.Common.{◌≡◌, ◌∙◌, sym, ap, refl, ℕ, ◌+◌, List, ◌∷◌, Bool, true, false, ◌||◌, ◌&&◌, if◌then◌else◌, length}
 use Rattle.std.specs.Prelude.{nat_eq}
-use Rattle.std.proofs.lemmas.Bool.{cases_Bool, eqb-true}
+use Rattle.std.proofs.lemmas.Bool.{cond_both, eqb-true}
 use Rattle.pal_text.specs.declared.characters.Meaning.{Meaning}
 use Rattle.pal_text.specs.declared.characters.Meaning.TheVariants.{Ignored, LineEnd, Character}
 use Rattle.pal_text.specs.declared.tokens.Kind.{Kind}
@@ -32,34 +32,20 @@ past_by cr lf n = if cr || lf then n + 1 else n
 
 -- the kind that ends no statement
 one_is : (k k' : Kind) → of_kind k ≡ One k' → (k ≡ k') × (is_end k ≡ false)
-one_is k k' h = elim (cases_Bool (is_end k)) [
-  | inl ends ↦ cc (sym (ap (λ b. if b then End else One k) ends) ∙ h)
-  | inr other ↦ (cc (sym (ap (λ b. if b then End else One k) other) ∙ h), other)
-]
+one_is k k' h = cond_both (is_end k) End (One k) (λ r. r ≡ One k' → (k ≡ k') × (is_end k ≡ false)) (λ ends e. cc) (λ other e. (cc, other)) h
 
 end_is : (k : Kind) → of_kind k ≡ End → is_end k ≡ true
-end_is k h = elim (cases_Bool (is_end k)) [
-  | inl ends ↦ ends
-  | inr other ↦ cc (sym (ap (λ b. if b then End else One k) other) ∙ h)
-]
+end_is k h = cond_both (is_end k) End (One k) (λ r. r ≡ End → is_end k ≡ true) (λ ends e. ends) (λ other e. cc) h
 
+-- and what it brings is nothing else
 no_slash : (k : Kind) → of_kind k ≡ Comment → ⊥
-no_slash k h = elim (cases_Bool (is_end k)) [
-  | inl ends ↦ cc (sym (ap (λ b. if b then End else One k) ends) ∙ h)
-  | inr other ↦ cc (sym (ap (λ b. if b then End else One k) other) ∙ h)
-]
+no_slash k h = cond_both (is_end k) End (One k) (λ r. r ≡ Comment → ⊥) (λ ends e. cc) (λ other e. cc) h
 
 no_nothing : (k : Kind) → of_kind k ≡ Nothing → ⊥
-no_nothing k h = elim (cases_Bool (is_end k)) [
-  | inl ends ↦ cc (sym (ap (λ b. if b then End else One k) ends) ∙ h)
-  | inr other ↦ cc (sym (ap (λ b. if b then End else One k) other) ∙ h)
-]
+no_nothing k h = cond_both (is_end k) End (One k) (λ r. r ≡ Nothing → ⊥) (λ ends e. cc) (λ other e. cc) h
 
 no_feed : (k : Kind) → of_kind k ≡ Feed → ⊥
-no_feed k h = elim (cases_Bool (is_end k)) [
-  | inl ends ↦ cc (sym (ap (λ b. if b then End else One k) ends) ∙ h)
-  | inr other ↦ cc (sym (ap (λ b. if b then End else One k) other) ∙ h)
-]
+no_feed k h = cond_both (is_end k) End (One k) (λ r. r ≡ Feed → ⊥) (λ ends e. cc) (λ other e. cc) h
 
 record Quiets (m : Meaning) (before after : Bool) : Type 0 where
   meaning_is : m ≡ Ignored

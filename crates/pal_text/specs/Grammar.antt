@@ -89,8 +89,9 @@ said_alone kind.Octal t = Some (says form.Octal None [])
 said_alone kind.Pause t = Some (says form.Pause None [])
 said_alone k t = if is_term k then Some (says form.Word None (t ∷ [])) else None
 
--- What these tokens say after the tags, if anything: nothing is the empty statement, one token says what it says alone, a star
--- and an expression are an origin, a name, an equals sign and an expression an assignment, and any other expression a word.
+-- What the tokens after the tags say, if they say anything. No tokens are the empty statement, and one token says what it says
+-- alone. A star before an expression is an origin, a name and an equals sign before an expression are an assignment, and any
+-- other expression is a word.
 abbrev pub said_by : List Token → Option Said
 said_by [] = Some (says form.Empty None [])
 said_by (t ∷ []) = said_alone t.kind t
@@ -117,7 +118,8 @@ abbrev pub with_tag : Token → Option Tagged → Option Tagged
 with_tag t None = None
 with_tag t (Some r) = Some (tagged (t ∷ r.tags) r.said)
 
--- The statement that these tokens are: tags, each a name and a comma, and what is said after them. None where they are none.
+-- The statement that these tokens are: tags, each a name with a comma after it, and what is said after the tags. There is none
+-- where what stands after the tags says nothing.
 abbrev pub statement : List Token → Option Tagged
 statement [] = untagged (said_by [])
 statement (t ∷ []) = untagged (said_by (t ∷ []))

@@ -76,8 +76,8 @@ without_space last next =
     if is_space next.kind && absorbs last.kind then Some last else
     if is_space last.kind && absorbs next.kind then Some next else None
 
--- The one token that two neighbours make: both together, where they are of one kind then, and else without a space that
--- doesn't count.
+-- The one token that two neighbours make, by the kind that they have together. Where they have one, both are one token, and
+-- otherwise a space that doesn't count is left out.
 abbrev pub with_kind : Token → Token → Option Kind → Option Token
 with_kind last next (Some k) = Some (record { kind = k; line = last.line; start = last.start; end = next.end })
 with_kind last next None = without_space last next
@@ -97,14 +97,14 @@ abbrev pub added : Token → List Token → List Token
 added next [] = if is_space next.kind then [] else next ∷ []
 added next (t ∷ ts) = one_or_both next t ts (joined t next)
 
--- The tokens with what a byte at a place on a line brings, within a comment or outside: a line's end ends a statement, and a
--- comment brings nothing.
+-- What the tokens become by a byte at this place on this line, inside a comment or outside one. An ignored byte leaves them as
+-- they are, a line's end ends a statement, and neither a slash nor what stands in a comment brings a token.
 abbrev pub grown : ℕ → ℕ → Bool → Meaning → List Token → List Token
 grown at n comment Ignored ts = ts
 grown at n comment LineEnd ts = added (token End n at) ts
 grown at n comment (Character c) ts = if comment || nat_eq c (char "/") then ts else added (token (kind_of c) n at) ts
 
--- The tokens of these bytes, each of which brings what it is after those before it.
+-- The tokens of these bytes: each byte counts as what it means after those before it.
 abbrev pub tokens : List ℕ → List Token
 tokens [] = []
 tokens (b ∷ before) = grown (length before) (line before) (in_comment before) (meaning_after before b) (tokens before)

@@ -36,7 +36,7 @@ run:
 	@echo "Proving pdp8 and all below it. From nothing this takes about an hour, and a second where nothing has changed since."
 	python3 tests/prove.py
 
-# The gate: the page of definitions, the links and lengths of pages, whether each edit applies and that there aren't too many;
+# The gate: the page of definitions, the links of pages and the length of README, whether each edit applies and that there aren't too many;
 # every proof from nothing, the edits in must-fail/, every test and the program; and then, with the program that was proved,
 # whether pages, help, man page and completions agree, and all cases.
 test:

@@ -26,10 +26,10 @@ _pdp8() {
             COMPREPLY=($(compgen -W "$commands" -- "$word"))
             return
             ;;
-        verify) options='--source --start --profile --steps --seed --save --why --help' ;;
+        verify) options='--source --start --profile --steps --seed --save --force --why --help' ;;
         assemble) options='--output --profile --why --help' ;;
         list) options='--profile --why --help' ;;
-        source) options='--output --start --declaration --profile --why --help' ;;
+        source) options='--output --start --declaration --profile --force --why --help' ;;
         dump) options='--profile --why --help' ;;
         run) options='--start --steps --trace --profile --events --reader --punch --keys --mark --teletype --switches --show --why --help' ;;
         teletype) options='--start --profile --reader --punch --switches --mark --raw --show --why --help' ;;

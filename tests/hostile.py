@@ -6,8 +6,12 @@ bytes are changed, left out, doubled, put in or exchanged with another file's, o
 signal, takes more than a minute of processor time, or says something that isn't named is a failure. Where the answer is yes, the run by the
 program's events is watched, and must be clean. The same seed gives the same runs.
 
+Before that each command that has inputs and outputs is run with files in every order, and each output in every spelling of its
+file's name, a hard link and symbolic links among them: no input changes, no source, and no file that --save didn't write.
+
 usage: tests/hostile.py PDP8 [COUNT [SEED]]    PDP8 is the built program, as crates/pdp8/out/pdp8
 """
+import itertools
 import multiprocessing
 import os
 import random
@@ -193,6 +197,88 @@ def part(task):
     return yes, refused, wrong
 
 
+# Commands with inputs and outputs: <N is an input, >N an output, =N the value of --save. Each N is each of the files.
+FORMS = [
+    'assemble >0 <1', 'assemble >0 <1 <2', 'assemble -o >0 <1', 'source <0 >1', 'source <0 -o >1', 'source <0 >1 --declaration <2',
+    'declare <0 >1', 'declare <0 -o >1', 'declare <0 >1 --from <2', 'declare --source <0 -o >1', 'declare --source <0 -o >1 --from <2',
+    'guess <0 <1 >2', 'guess <0 <1 -o >2', 'guess --source <0 <1 >2', 'guess --source <0 -o >1', 'guess <0 <1 -o new --report >2',
+    'guess --source <0 <1 -o new --report >2', 'refute <0 <1 >2 --steps 9', 'refute <0 <1 -o >2 --steps 9', 'refute --source <0 <1 >2 --steps 9',
+    'place >0 <1', 'place -o >0 <1', 'place >0 <1 --declaration <2', 'place -o >0 <1 --declaration <2', 'migrate <0 >1', 'migrate <0 -o >1',
+    'report <0 <1 data.certificate >2', 'report data.bin <0 <1 >2', 'report --source <0 <1 -o >2', 'run <0 --punch >1', 'run <0 --reader <1 --punch >2',
+    'run <0 --keys <1 --punch >2', 'run <0 --keys <1 --teletype --punch >2', 'teletype <0 --punch >1', 'teletype <0 --reader <1 --punch >2',
+    'verify <0 --save =1 --steps 9', 'verify <0 <1 --save =2 --steps 9', 'verify --source <0 --save =1 --steps 9',
+    'verify --source <0 <1 --save =2 --steps 9',
+]
+ENDINGS = ('.bin', '.pal', '.declaration', '.certificate', '.events')
+
+
+def spellings(folder, name):
+    """Other spellings of a file's name, some of them links that are made for it."""
+    os.link(os.path.join(folder, name), os.path.join(folder, 'hard' + name))
+    os.symlink(name, os.path.join(folder, 'soft' + name))
+    os.symlink('soft' + name, os.path.join(folder, 'far' + name))
+    os.symlink(os.path.join('..', name), os.path.join(folder, 'sub', name))
+    return [name, './' + name, './/' + name, 'sub/../' + name, os.path.join(folder, name), 'hard' + name, 'soft' + name, 'far' + name, 'sub/' + name]
+
+
+def filled(folder, files):
+    """Fills an empty folder with the files, and gives the spellings of each."""
+    os.mkdir(os.path.join(folder, 'sub'))
+    for name, data in files.items():
+        with open(os.path.join(folder, name), 'wb') as file:
+            file.write(data)
+    return {name: spellings(folder, name) for name in files}
+
+
+def lost(folder, files, form, names):
+    """The files that a run changed and had to keep: its inputs, sources, and what --save didn't write."""
+    kept = {names[int(word[1])] for word in form.split() if word[0] == '<'} | {'data.pal'}
+    if '=' in form:
+        kept |= {'data.declaration', 'data.events'}
+    found = []
+    for name in sorted(kept):
+        path = os.path.join(folder, name)
+        with open(path, 'rb') as file:
+            if file.read() != files[name]:
+                found.append(name)
+    left = [name for name in os.listdir(folder) if name.startswith('.pdp8')]
+    return found + left
+
+
+def words_of(form, names, spelled):
+    """The words of a form: inputs as they are named, an output as it is spelled, and the value of --save without its ending."""
+    kinds = {'<': lambda at: names[at], '>': lambda at: spelled, '=': lambda at: os.path.splitext(spelled)[0]}
+    return [kinds[word[0]](int(word[1:])) if word[0] in kinds else word for word in form.split()]
+
+
+def try_form(task):
+    """Runs a command with files in every order and spelling; gives how many runs there were, and which lost a file."""
+    pdp8, form, files = task
+    wrong, count = [], 0
+    for names in itertools.product(files, repeat=sum(word[0] in '<>=' for word in form.split())):
+        output = names[next(int(word[1]) for word in form.split() if word[0] in '>=')]
+        for index in range(9):
+            with tempfile.TemporaryDirectory(dir='/dev/shm' if os.path.isdir('/dev/shm') else None) as folder:
+                spelled = filled(folder, files)[output][index]
+                words = words_of(form, names, spelled)
+                done = ended(pdp8, words, folder)
+                count += 1
+                changed = lost(folder, files, form, names)
+                if done is None or not 0 <= done.returncode <= 4:
+                    wrong.append(f'{" ".join(words)}: it ended by a signal, or took too long')
+                if changed:
+                    wrong.append(f'{" ".join(words)}: it lost {", ".join(changed)}')
+    return count, wrong
+
+
+def try_forms(pdp8, pool):
+    """Runs all forms; gives how many runs there were, and which lost a file."""
+    one = next(it for it in PROGRAMS.all if not it['profile'])
+    files = {'data' + ending: one['tape' if ending == '.bin' else ending[1:]] for ending in ENDINGS}
+    results = pool.map(try_form, [(pdp8, form, files) for form in FORMS], chunksize=1)
+    return sum(count for count, _ in results), [line for _, lines in results for line in lines]
+
+
 def main():
     global PROGRAMS
     if len(sys.argv) < 2:
@@ -203,8 +289,10 @@ def main():
     PROGRAMS = Programs(pdp8)
     tasks = [(pdp8, seed * 1_000_003 + n, min(500, count - 500 * n)) for n in range((count + 499) // 500)]
     with multiprocessing.Pool() as pool:
+        forms, wrong = try_forms(pdp8, pool)
+        print(f'{forms} runs with outputs in every order and spelling: {len(wrong)} failed')
         results = pool.map(part, tasks, chunksize=1)
-    wrong = [line for _, _, lines in results for line in lines]
+    wrong += [line for _, _, lines in results for line in lines]
     for line in wrong[:50]:
         print(line)
     print(f'{count} runs with seed {seed}: {sum(r[1] for r in results)} told a fault, {sum(r[0] for r in results)} got a yes, {len(wrong)} failed')

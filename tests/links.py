@@ -1,6 +1,6 @@
 #!/usr/bin/env python3
-"""Looks at the pages: each link to a file leads to one, each file or page that is named in a page is there, no page is too long,
-and no line of one has more than 600 characters.
+"""Looks at the pages: each link to a file leads to one, each file or page that is named in a page is there, README.md isn't too
+long, and no line of a page has more than 600 characters.
 
 usage: tests/links.py    names each page and what is wrong with it; exit status 1 where anything is
 """
@@ -10,12 +10,8 @@ import subprocess
 import sys
 
 TOP = os.path.join(os.path.dirname(os.path.abspath(__file__)), '..')
-# How many bytes a page may have; the page of definitions is made by a script and has no limit.
-MOST = {'README.md': 10_000, 'docs/TUTORIAL.md': 9_600, 'docs/COMMANDS.md': 24_500, 'docs/PAL.md': 16_000, 'docs/DECLARATIONS.md': 16_000,
-        'docs/NO.md': 24_500, 'docs/FORMATS.md': 10_000, 'docs/MACHINE.md': 6_500, 'docs/ARCHIVE.md': 4_000, 'docs/THEOREM.md': 16_500,
-        'docs/TRANSFER.md': 8_000, 'docs/TELETYPE.md': 5_000,
-        'docs/PROVED.md': 24_500, 'docs/ARCHITECTURE.md': 10_000, 'CONTRIBUTING.md': 17_000, 'docs/DECISIONS.md': 16_600,
-        'docs/PERFORMANCE.md': 4_500, 'docs/SEARCH.md': 5_000, 'docs/REPORT.md': 4_500, 'docs/DEFINITIONS.md': None}
+# How many bytes README.md may have; no other page has a limit.
+MOST = {'README.md': 10_000}
 NAMED = re.compile(r'\b(?:docs|tests|bench|crates|examples|share)/[\w./-]*\w\.(?:md|py|sh|txt|rt|antt|pal)\b')
 
 
@@ -37,9 +33,7 @@ def faults(path):
         if not os.path.exists(os.path.join(TOP, name)):
             yield f'names {name}, which is not there'
     yield from (f'line {number} has {len(line)} characters' for number, line in enumerate(text.splitlines(), 1) if len(line) > 600)
-    if path.startswith('docs/') and path not in MOST:
-        yield 'is a page with no limit on its length: put it into the table of this script'
-    if MOST.get(path) and len(text.encode()) > MOST[path]:
+    if path in MOST and len(text.encode()) > MOST[path]:
         yield f'has {len(text.encode())} bytes, at most {MOST[path]}'
 
 

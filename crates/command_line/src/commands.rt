@@ -71,7 +71,7 @@ const PLACED_OUT: Argument = Argument {
     name: "OUT",
     short: None,
     form: Form::OutBeforeSources,
-    help: "where the declaration goes, or - for standard output; it is emptied when the inputs are read. With -o it is the first part of the source",
+    help: "where the declaration goes, or - for standard output. With -o it is the first part of the source",
 };
 
 const DECLARATION_WITH_SYMBOLS: Argument = Argument {
@@ -127,7 +127,7 @@ const DECLARATION_OUT: Argument = Argument {
     name: "OUT",
     short: None,
     form: Form::ResultOrSource,
-    help: "where the declaration goes, or - for standard output; it is emptied first. Beside --source there is -o alone",
+    help: "where the declaration goes, or - for standard output. Beside --source there is -o alone",
 };
 
 const FROM: Argument = Argument {
@@ -141,7 +141,7 @@ const SOURCE_OUT: Argument = Argument {
     name: "OUT",
     short: None,
     form: Form::ResultOperand,
-    help: "where the source goes, or - for standard output; it is emptied first",
+    help: "where the source goes, or - for standard output",
 };
 
 const DECLARATION_FILE: Argument = Argument {
@@ -169,7 +169,7 @@ const REPORT_OUT: Argument = Argument {
     name: "OUT",
     short: None,
     form: Form::ResultOrSource,
-    help: "where the report goes, or - for standard output; it is emptied first. Beside --source there is -o alone",
+    help: "where the report goes, or - for standard output. Beside --source there is -o alone",
 };
 
 const REPORT_STUCK: Argument = Argument {
@@ -190,7 +190,7 @@ const EVENTS_OUT: Argument = Argument {
     name: "OUT",
     short: None,
     form: Form::ResultOrSource,
-    help: "where the events go, or - for standard output; it is emptied first, beside --source later",
+    help: "where the events go, or - for standard output",
 };
 
 const OUTPUT: Argument = Argument {
@@ -258,7 +258,7 @@ const PUNCH: Argument = Argument {
     name: "punch",
     short: None,
     form: Form::Value("FILE"),
-    help: "where the punched bytes go; it is emptied first",
+    help: "where the punched bytes go when the run is over",
 };
 
 const KEYS: Argument = Argument {
@@ -331,6 +331,20 @@ const SAVE: Argument = Argument {
     help: "writes what is found to NAME.declaration, NAME.certificate or NAME.events",
 };
 
+const FORCE_SAVE: Argument = Argument {
+    name: "force",
+    short: None,
+    form: Form::Flag,
+    help: "--save also replaces files that this command didn't write",
+};
+
+const FORCE_SOURCE: Argument = Argument {
+    name: "force",
+    short: None,
+    form: Form::Flag,
+    help: "also replaces a source that this command didn't write",
+};
+
 const WHY_VERIFY: Argument = Argument {
     name: "why",
     short: Some('w'),
@@ -378,7 +392,7 @@ const WHY_INPUT: Argument = Argument {
     help: "where an input is refused, writes what is wrong with it",
 };
 
-const VERIFY_ARGUMENTS: [Argument; 9] = [
+const VERIFY_ARGUMENTS: [Argument; 10] = [
     TAPE_OR_SOURCE,
     OPTIONAL_DECLARATION,
     PARTS,
@@ -387,6 +401,7 @@ const VERIFY_ARGUMENTS: [Argument; 9] = [
     SEARCH_STEPS,
     SEED,
     SAVE,
+    FORCE_SAVE,
     WHY_VERIFY,
 ];
 
@@ -426,13 +441,14 @@ const ASSEMBLE_ARGUMENTS: [Argument; 5] = [TAPE_OUT, OTHER_SOURCES, OUTPUT, PROF
 
 const LIST_ARGUMENTS: [Argument; 3] = [SOURCE, PROFILE, WHY_SOURCE];
 
-const SOURCE_ARGUMENTS: [Argument; 7] = [
+const SOURCE_ARGUMENTS: [Argument; 8] = [
     TAPE,
     SOURCE_OUT,
     OUTPUT,
     START,
     DECLARATION_FILE,
     PROFILE,
+    FORCE_SOURCE,
     WHY_INPUT,
 ];
 
@@ -560,7 +576,7 @@ const SOURCE_OF_TAPE: Entry = Entry {
     name: "source",
     usage: Some("pdp8 source [OPTIONS] <TAPE> [-o] <OUT>"),
     about: "Writes a PAL III source of a tape, from which assemble makes the same words",
-    after_help: "The operand OUT is emptied before the tape is read. Without a declaration control is followed from the start, for the machine of --profile; with one they are its own.\n\nExample:\n  pdp8 source hello.bin -o found.pal",
+    after_help: "A file stays as it was if there is nothing to write, and so does a source that this command didn't write, but for --force. Without a declaration control is followed from the start, for the machine of --profile; with one they are its own.\n\nExample:\n  pdp8 source hello.bin -o found.pal",
 };
 
 const WATCH: Entry = Entry {
@@ -581,14 +597,14 @@ const REPORT: Entry = Entry {
     name: "report",
     usage: Some("pdp8 report [OPTIONS] <TAPE> <DECLARATION> <CERTIFICATE> [-o] <OUT>"),
     about: "Writes what a certificate says as a page of HTML: verdict, memory, routines, listing",
-    after_help: "The operand OUT is emptied before an input is read; beside --source there is -o alone. The verdict and the status are check's.\n\nExamples:\n  pdp8 report hello.bin hello.declaration hello.certificate -o hello.html\n  pdp8 report --source hello.pal hello.declaration hello.certificate -o hello.html",
+    after_help: "A file stays as it was if there is nothing to write; beside --source there is -o alone. The verdict and the status are check's.\n\nExamples:\n  pdp8 report hello.bin hello.declaration hello.certificate -o hello.html\n  pdp8 report --source hello.pal hello.declaration hello.certificate -o hello.html",
 };
 
 const DECLARE: Entry = Entry {
     name: "declare",
     usage: Some("pdp8 declare [OPTIONS] <TAPE> [-o] <OUT>"),
     about: "Proposes a declaration: what the program of a tape may do",
-    after_help: "The operand OUT is emptied before the tape is read; beside --source there is -o alone. Where no certificate is found the declaration is written all the same, with comments that say why if there is room for them, and the status is 1.\n\nExamples:\n  pdp8 declare hello.bin -o new.declaration\n  pdp8 declare --source hello.pal -o new.declaration",
+    after_help: "A file stays as it was if there is nothing to write; beside --source there is -o alone. Where no certificate is found the declaration is written all the same, with comments that say why if there is room for them, and the status is 1.\n\nExamples:\n  pdp8 declare hello.bin -o new.declaration\n  pdp8 declare --source hello.pal -o new.declaration",
 };
 
 const GUESS: Entry = Entry {
@@ -602,14 +618,14 @@ const REFUTE: Entry = Entry {
     name: "refute",
     usage: Some("pdp8 refute [OPTIONS] <TAPE> <DECLARATION> [-o] <OUT>"),
     about: "Looks for a run that breaks a declaration, and writes its events",
-    after_help: "The operand OUT is emptied before an input is read, but beside --source after the source and the declaration. It stays empty where nothing is found. Beside --source without DECLARATION there is -o alone. The same seed gives the same answer.\n\nExamples:\n  pdp8 refute hello.bin hello.declaration -o found.events --why\n  pdp8 refute --source hello.pal hello.declaration -o found.events --why",
+    after_help: "A file stays as it was where nothing is found. Beside --source without DECLARATION there is -o alone. The same seed gives the same answer.\n\nExamples:\n  pdp8 refute hello.bin hello.declaration -o found.events --why\n  pdp8 refute --source hello.pal hello.declaration -o found.events --why",
 };
 
 const PLACE: Entry = Entry {
     name: "place",
     usage: Some("pdp8 place [OPTIONS] [-o] <OUT> <SOURCE>..."),
     about: "Writes a declaration in numbers, whose addresses are symbols of a source",
-    after_help: "Without -o OUT comes first, and is emptied before the declaration is written: where an input is refused it stays as it was.\n\nExample:\n  pdp8 place -o numbers.declaration --declaration symbols.declaration my.pal",
+    after_help: "Without -o OUT comes first. It stays as it was where an input is refused, or there is no declaration.\n\nExample:\n  pdp8 place -o numbers.declaration --declaration symbols.declaration my.pal",
 };
 
 const MIGRATE: Entry = Entry {

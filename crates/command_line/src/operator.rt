@@ -1,6 +1,7 @@
 //! The options of a run with an operator.
 
 use crate::names::FileNames;
+use crate::outputs::punch_of;
 use crate::refused::{Misuse, Refused};
 use crate::shown::shown_cells;
 use crate::values::{profile_of, read_standard_input_once, run_options, start_of};
@@ -133,14 +134,11 @@ pub fn session_of<'a>(found: &ArgMatches<'a>) -> Result<Session<'a>, Refused> {
     let tape = found.get_str("TAPE").unwrap_or("-");
     let reader = found.get_str("reader");
     let keys = found.get_str("keys");
-    let punch = found.get_str("punch");
     if found.get_str("events").is_some() {
         return Err(Refused::Misuse(Misuse::EventsAndOperator));
     }
     read_standard_input_once(&[tape, reader.unwrap_or(""), keys.unwrap_or("")])?;
-    if punch == Some("-") {
-        return Err(Refused::Misuse(Misuse::PunchToOutput));
-    }
+    let punch = punch_of(found, &[tape, reader.unwrap_or("-"), keys.unwrap_or("-")])?;
     Ok(Session {
         tape,
         joined: Joined {
@@ -189,11 +187,8 @@ pub fn watched_session_of<'a>(
 pub fn teletype_of<'a>(found: &ArgMatches<'a>) -> Result<TeletypeSession<'a>, Refused> {
     let tape = found.get_str("TAPE").unwrap_or("-");
     let reader = found.get_str("reader");
-    let punch = found.get_str("punch");
     read_standard_input_once(&[tape, reader.unwrap_or(""), "-"])?;
-    if punch == Some("-") {
-        return Err(Refused::Misuse(Misuse::PunchToOutput));
-    }
+    let punch = punch_of(found, &[tape, reader.unwrap_or("-")])?;
     Ok(TeletypeSession {
         tape,
         reader,

@@ -6,8 +6,11 @@ use clap::ArgMatches;
 /// Where a result goes: the name of a file, or `-` for standard output.
 #[derive(Clone, Copy)]
 pub enum Destination<'a> {
-    /// The operand OUT: the file is emptied before an input is read.
+    /// The operand OUT of `assemble`, `guess` and `migrate`: the file is emptied before an input is read.
     EmptiedFirst(&'a str),
+    /// The operand OUT of another command: that the file can be made or written is seen before an input is read, and
+    /// it stays as it was if there is nothing to write.
+    CheckedFirst(&'a str),
     /// The value of `-o`: the file is made when there is something to write, and stays as it was if
     /// there is nothing.
     MadeLast(&'a str),
@@ -17,7 +20,9 @@ impl<'a> Destination<'a> {
     /// The name of the file, or `-`.
     pub fn name(&self) -> &'a str {
         match self {
-            Destination::EmptiedFirst(name) | Destination::MadeLast(name) => name,
+            Destination::EmptiedFirst(name)
+            | Destination::CheckedFirst(name)
+            | Destination::MadeLast(name) => name,
         }
     }
 }
@@ -32,6 +37,16 @@ pub fn is_same_file(left: &str, right: &str) -> bool {
 /// Whether the file that an output goes to is one of these; standard output is none.
 pub fn is_taken(name: &str, others: &[&str]) -> bool {
     name != "-" && others.iter().any(|other| is_same_file(other, name))
+}
+
+/// What the name of a source ends in.
+const SOURCE_ENDINGS: [&str; 10] = [
+    ".pal", ".PAL", ".pa", ".PA", ".pal8", ".PAL8", ".asm", ".ASM", ".src", ".SRC",
+];
+
+/// Whether a name ends as that of a source does.
+pub fn is_source_name(name: &str) -> bool {
+    SOURCE_ENDINGS.iter().any(|ending| name.ends_with(*ending))
 }
 
 /// Whether the result goes to the value of `-o`.
@@ -52,20 +67,128 @@ pub fn report_of<'a>(
     if is_taken(name, others) || is_taken(name, &[out.name()]) {
         return Err(Refused::Misuse(Misuse::ReportIsTaken));
     }
+    if is_source_name(name) {
+        return Err(Refused::Misuse(Misuse::ReportIsSource));
+    }
     Ok(Some(name))
 }
 
-/// Where the result goes: the value of `-o`, else the operand OUT. It is no input.
-pub fn destination_of<'a>(
-    found: &ArgMatches<'a>,
+/// Where the punched bytes go, if they go to a file: it is none of these inputs, and isn't named as a source.
+pub fn punch_of<'a>(found: &ArgMatches<'a>, inputs: &[&str]) -> Result<Option<&'a str>, Refused> {
+    let Some(name) = found.get_str("punch") else {
+        return Ok(None);
+    };
+    if name == "-" {
+        return Err(Refused::Misuse(Misuse::PunchToOutput));
+    }
+    if is_taken(name, inputs) {
+        return Err(Refused::Misuse(Misuse::PunchIsTaken));
+    }
+    if is_source_name(name) {
+        return Err(Refused::Misuse(Misuse::PunchIsSource));
+    }
+    Ok(Some(name))
+}
+
+/// Sees to it that the result goes to none of these inputs.
+pub fn no_input<'a>(
+    destination: Destination<'a>,
     inputs: &[&str],
 ) -> Result<Destination<'a>, Refused> {
-    let destination = match found.get_str("output") {
-        Some(name) => Destination::MadeLast(name),
-        None => Destination::EmptiedFirst(found.get_str("OUT").unwrap_or("-")),
-    };
     if is_taken(destination.name(), inputs) {
         return Err(Refused::Misuse(Misuse::OutputIsInput));
     }
     Ok(destination)
+}
+
+/// Sees to it that the result goes to none of these inputs, nor to a file that is named as a source.
+pub fn no_source<'a>(
+    destination: Destination<'a>,
+    inputs: &[&str],
+) -> Result<Destination<'a>, Refused> {
+    let destination = no_input(destination, inputs)?;
+    if is_source_name(destination.name()) {
+        return Err(Refused::Misuse(Misuse::ResultIsSource));
+    }
+    Ok(destination)
+}
+
+/// Where the result goes: the value of `-o`, else the operand OUT, which is emptied first.
+pub fn emptied_destination<'a>(found: &ArgMatches<'a>) -> Destination<'a> {
+    match found.get_str("output") {
+        Some(name) => Destination::MadeLast(name),
+        None => Destination::EmptiedFirst(found.get_str("OUT").unwrap_or("-")),
+    }
+}
+
+/// Where the result goes: the value of `-o`, else the operand OUT, which stays as it was if there is nothing to write.
+pub fn kept_destination<'a>(found: &ArgMatches<'a>) -> Destination<'a> {
+    match found.get_str("output") {
+        Some(name) => Destination::MadeLast(name),
+        None => Destination::CheckedFirst(found.get_str("OUT").unwrap_or("-")),
+    }
+}
+
+/// What the names of the files that `verify` writes begin with, and which of them it may replace.
+#[derive(Clone, Copy)]
+pub struct Save<'a> {
+    /// What their names begin with.
+    pub name: &'a str,
+    /// Whether the declaration may be one of them, since none is given.
+    pub proposed: bool,
+    /// Whether a file that isn't of the command's making is replaced too.
+    pub forced: bool,
+}
+
+/// The endings of a declaration's, a certificate's and a list of events' name, as `verify --save` gives them.
+pub const SAVED_ENDINGS: [&str; 3] = [".declaration", ".certificate", ".events"];
+
+impl<'a> Save<'a> {
+    /// The endings of the files that may be written.
+    pub fn endings(&self) -> &'static [&'static str] {
+        if self.proposed {
+            &SAVED_ENDINGS
+        } else {
+            &SAVED_ENDINGS[1..]
+        }
+    }
+
+    /// Whether one of these inputs, as far as the names tell, may be replaced.
+    fn takes(&self, inputs: &[&str]) -> bool {
+        self.endings().iter().any(|ending| inputs.iter().any(|input| match input.strip_suffix(
+            *ending,
+        ) {
+            Some(front) => is_same_file(front, self.name),
+            None => false,
+        }))
+    }
+}
+
+/// Whether a name is that of a folder, or of nothing.
+fn is_folder_name(name: &str) -> bool {
+    name.is_empty() || name.ends_with('/')
+}
+
+/// What the names of the files begin with to which goes what `verify` finds, if they are asked for. None of these
+/// inputs is one of them.
+pub fn save_of<'a>(
+    found: &ArgMatches<'a>,
+    inputs: &[&str],
+    proposed: bool,
+) -> Result<Option<Save<'a>>, Refused> {
+    let Some(name) = found.get_str("save") else {
+        return Ok(None);
+    };
+    if is_folder_name(name) {
+        return Err(Refused::Misuse(Misuse::SaveIsFolder));
+    }
+    let save = Save {
+        name,
+        proposed,
+        forced: found.get_flag("force"),
+    };
+    if save.takes(inputs) {
+        return Err(Refused::Misuse(Misuse::SaveIsTaken));
+    }
+    Ok(Some(save))
 }

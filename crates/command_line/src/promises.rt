@@ -2,7 +2,9 @@
 
 use crate::names::FileNames;
 use crate::operator::{WatchedSession, watched_session_of};
-use crate::outputs::{Destination, destination_of, report_of};
+use crate::outputs::{
+    Destination, Save, emptied_destination, kept_destination, no_source, report_of, save_of,
+};
 use crate::refused::{Misuse, Refused};
 use crate::shown::shown_cells;
 use crate::values::{is_start_named, read_standard_input_once, refute_options, verify_options};
@@ -88,7 +90,7 @@ pub(crate) fn report_request<'a>(found: &ArgMatches<'a>) -> Result<ReportRequest
         tape,
         declaration,
         certificate,
-        out: destination_of(found, &inputs)?,
+        out: no_source(kept_destination(found), &inputs)?,
         text: found.get_flag("text"),
     })
 }
@@ -117,7 +119,7 @@ pub(crate) fn migrate_request<'a>(found: &ArgMatches<'a>) -> Result<MigrateReque
     let certificate = found.get_str("CERTIFICATE").unwrap_or("-");
     Ok(MigrateRequest {
         certificate,
-        out: destination_of(found, &[certificate])?,
+        out: no_source(emptied_destination(found), &[certificate])?,
     })
 }
 
@@ -206,7 +208,7 @@ pub(crate) fn guess_request<'a>(found: &ArgMatches<'a>) -> Result<GuessRequest<'
     let tape = found.get_str("TAPE").unwrap_or("-");
     let declaration = found.get_str("DECLARATION").unwrap_or("-");
     read_standard_input_once(&[tape, declaration])?;
-    let out = destination_of(found, &[tape, declaration])?;
+    let out = no_source(emptied_destination(found), &[tape, declaration])?;
     let report = report_of(found, &[tape, declaration], &out)?;
     if report.is_some() && (tape == "-" || declaration == "-") {
         return Err(Refused::Misuse(Misuse::ReportOfStandardInput));
@@ -253,7 +255,7 @@ pub(crate) fn refute_request<'a>(found: &ArgMatches<'a>) -> Result<RefuteRequest
     Ok(RefuteRequest {
         tape,
         declaration,
-        out: destination_of(found, &[tape, declaration])?,
+        out: no_source(kept_destination(found), &[tape, declaration])?,
         options: refute_options(found)?,
     })
 }
@@ -265,8 +267,8 @@ pub struct VerifyRequest<'a> {
     pub tape: &'a str,
     /// The name of the declaration's file; without one a declaration is proposed.
     pub declaration: Option<&'a str>,
-    /// What the names of the files begin with to which goes what is found.
-    pub save: Option<&'a str>,
+    /// The files to which goes what is found, if it is saved.
+    pub save: Option<Save<'a>>,
     /// How the answer is looked for.
     pub options: VerifyOptions,
 }
@@ -277,7 +279,6 @@ impl<'a> VerifyRequest<'a> {
             tape: Some(self.tape),
             declaration: self.declaration,
             output: Some("-"),
-            second_output: self.save,
             ..FileNames::NONE
         }
     }
@@ -291,10 +292,15 @@ pub(crate) fn verify_request<'a>(found: &ArgMatches<'a>) -> Result<VerifyRequest
     if declaration.is_some() && is_start_named(found) {
         return Err(Refused::Misuse(Misuse::DeclarationAndStart));
     }
+    let save = save_of(
+        found,
+        &[tape, declaration.unwrap_or("-")],
+        declaration.is_none(),
+    )?;
     Ok(VerifyRequest {
         tape,
         declaration,
-        save: found.get_str("save"),
+        save,
         options: verify_options(found)?,
     })
 }

@@ -55,8 +55,24 @@ pub enum Misuse {
     OutputIsInput,
     /// A tape is to go to a file that is named as a source.
     OutputIsSource,
+    /// A declaration in numbers is to go to a file that is named as a source.
+    PlacedIsSource,
+    /// Another result is to go to a file that is named as a source.
+    ResultIsSource,
+    /// A source is to go to a file that is named as one, is there, and isn't of this command's making.
+    SourceIsKept,
     /// The report is to go to an input, or where the result goes.
     ReportIsTaken,
+    /// The report is to go to a file that is named as a source.
+    ReportIsSource,
+    /// The punched bytes are to go to an input.
+    PunchIsTaken,
+    /// The punched bytes are to go to a file that is named as a source.
+    PunchIsSource,
+    /// What is found is to go to files without a name.
+    SaveIsFolder,
+    /// What is found is to go to an input.
+    SaveIsTaken,
     /// There is a report, and standard input, which can't be read twice.
     ReportOfStandardInput,
 }
@@ -65,7 +81,8 @@ impl Misuse {
     /// What is told of it.
     pub fn text(&self) -> &'static str {
         match self {
-            Misuse::NotText => "an argument isn't text",
+            Misuse::NotText =>
+                "an argument isn't text in UTF-8: rename the file, or give it on standard input",
             Misuse::Show =>
                 "bad value for '--show': it has octal addresses and ranges, such as 0324 0400-0417",
             Misuse::EventsAndOperator =>
@@ -87,6 +104,21 @@ impl Misuse {
             Misuse::OutputIsInput => "OUT is also an input: the result goes to a file of its own",
             Misuse::OutputIsSource =>
                 "OUT ends as the names of sources do: it takes the tape, and stands before the sources",
+            Misuse::PlacedIsSource =>
+                "OUT ends as the names of sources do: it takes the declaration, and stands before the sources",
+            Misuse::ResultIsSource =>
+                "OUT ends as the names of sources do: the result goes to a file with another ending",
+            Misuse::SourceIsKept =>
+                "OUT is a file that this command didn't write: it stays; give OUT another name, or --force to replace it",
+            Misuse::ReportIsSource =>
+                "the report's name ends as those of sources do: it goes to a file with another ending",
+            Misuse::PunchIsTaken =>
+                "the punch's file is also an input: what is punched goes to a file of its own",
+            Misuse::PunchIsSource =>
+                "the punch's file ends as the names of sources do: what is punched goes to a file with another ending",
+            Misuse::SaveIsFolder =>
+                "'--save NAME' has no name of a file: NAME is what the files' names begin with, such as found",
+            Misuse::SaveIsTaken => "'--save NAME' would replace an input: give another NAME",
             Misuse::ReportIsTaken =>
                 "the report is also an input or OUT: it goes to a file of its own",
             Misuse::ReportOfStandardInput =>

@@ -2,7 +2,10 @@
 
 use crate::names::FileNames;
 use crate::operator::{WatchedSession, is_watched_with_operator, watched_session_of};
-use crate::outputs::{Destination, destination_of, has_output, is_taken, report_of};
+use crate::outputs::{
+    Destination, Save, has_output, is_source_name, is_taken, kept_destination, no_input, no_source,
+    report_of, save_of,
+};
 use crate::refused::{Misuse, Refused};
 use crate::shown::shown_cells;
 use crate::sources::source_names;
@@ -31,8 +34,8 @@ pub struct Sourced<'a> {
 pub enum Task<'a> {
     /// To say whether the program keeps its declaration.
     Verify {
-        /// What the names of the files begin with to which goes what is found.
-        save: Option<&'a str>,
+        /// The files to which goes what is found, if it is saved.
+        save: Option<Save<'a>>,
         /// How the answer is looked for.
         options: VerifyOptions,
         /// Whether a start or a machine is named.
@@ -150,9 +153,8 @@ impl<'a> Sourced<'a> {
                 second_output: Some("-"),
                 ..none
             },
-            Task::Verify { save, .. } => FileNames {
+            Task::Verify { .. } => FileNames {
                 output: Some("-"),
-                second_output: *save,
                 ..none
             },
         }
@@ -240,20 +242,20 @@ fn parts_of<'a>(
     Ok(names)
 }
 
-/// Where the result of a search goes: the value of `-o`, else the last operand. It is no input.
-fn result_of<'a>(
-    found: &ArgMatches<'a>,
-    last: Option<&'a str>,
-    inputs: &[&str],
-) -> Result<Destination<'a>, Refused> {
-    let out = match last {
+/// Where a result goes: the value of `-o`, else the last operand, which stays as it was if there is nothing to write.
+fn result_of<'a>(found: &ArgMatches<'a>, last: Option<&'a str>) -> Destination<'a> {
+    match last {
+        Some(name) => Destination::CheckedFirst(name),
+        None => Destination::MadeLast(found.get_str("output").unwrap_or("-")),
+    }
+}
+
+/// Where a certificate goes: the value of `-o`, else the last operand, which is emptied first.
+fn certificate_of<'a>(found: &ArgMatches<'a>, last: Option<&'a str>) -> Destination<'a> {
+    match last {
         Some(name) => Destination::EmptiedFirst(name),
         None => Destination::MadeLast(found.get_str("output").unwrap_or("-")),
-    };
-    if is_taken(out.name(), inputs) {
-        return Err(Refused::Misuse(Misuse::OutputIsInput));
     }
-    Ok(out)
 }
 
 /// The last operand that a search needs: OUT, unless `-o` stands in its place.
@@ -264,6 +266,9 @@ fn needed_out(found: &ArgMatches<'_>) -> Option<&'static str> {
 /// The operands of a search: a declaration, if there is one, and OUT, unless `-o` names it. A single operand
 /// without `-o` might be meant for either, and is refused.
 fn search_operands<'a>(found: &ArgMatches<'a>) -> Result<Operands<'a>, Refused> {
+    if !has_output(found) && found.get_str("TAPE").is_none() {
+        return Err(Refused::Misuse(Misuse::NoOutput));
+    }
     let operands = operands_of(found, needed_out(found))?;
     if operands.declaration.is_none() && !has_output(found) {
         return Err(Refused::Misuse(Misuse::NoOutput));
@@ -279,11 +284,15 @@ pub fn sourced_verify<'a>(alloc: Global, found: &ArgMatches<'a>) -> Result<Sourc
     if declaration.is_some() && asked {
         return Err(Refused::Misuse(Misuse::DeclarationAndStart));
     }
+    let sources = parts_of(alloc, found, &[declaration.unwrap_or("")])?;
+    let mut inputs = Vec::new(alloc);
+    inputs.extend_from_slice(&sources)?;
+    inputs.extend_from_slice(&[declaration.unwrap_or("-")])?;
     Ok(Sourced {
-        sources: parts_of(alloc, found, &[declaration.unwrap_or("")])?,
+        sources,
         declaration,
         task: Task::Verify {
-            save: found.get_str("save"),
+            save: save_of(found, &inputs, declaration.is_none())?,
             options: verify_options(found)?,
             asked,
         },
@@ -318,7 +327,7 @@ pub fn sourced_report<'a>(alloc: Global, found: &ArgMatches<'a>) -> Result<Sourc
     let mut inputs = Vec::new(alloc);
     inputs.extend_from_slice(&sources)?;
     inputs.extend_from_slice(&[declaration.unwrap_or("-"), certificate])?;
-    let out = result_of(found, None, &inputs)?;
+    let out = no_source(result_of(found, None), &inputs)?;
     Ok(Sourced {
         sources,
         declaration,
@@ -363,7 +372,12 @@ pub fn sourced_guess<'a>(alloc: Global, found: &ArgMatches<'a>) -> Result<Source
     let operands = search_operands(found)?;
     let declaration = operands.declaration;
     let sources = parts_of(alloc, found, &[declaration.unwrap_or("")])?;
-    let out = search_output(alloc, found, operands.last, declaration, &sources)?;
+    let out = search_output(
+        alloc,
+        certificate_of(found, operands.last),
+        declaration,
+        &sources,
+    )?;
     let report = report_of(found, &[declaration.unwrap_or("-")], &out)?;
     if report.is_some_and(|name| is_taken(name, &sources)) {
         return Err(Refused::Misuse(Misuse::ReportIsTaken));
@@ -379,18 +393,17 @@ pub fn sourced_guess<'a>(alloc: Global, found: &ArgMatches<'a>) -> Result<Source
     })
 }
 
-/// Where the result of a search goes, which is none of its inputs.
+/// Sees to it that the result of a search goes to none of its inputs, nor to a file that is named as a source.
 fn search_output<'a>(
     alloc: Global,
-    found: &ArgMatches<'a>,
-    last: Option<&'a str>,
+    out: Destination<'a>,
     declaration: Option<&'a str>,
     sources: &[&'a str],
 ) -> Result<Destination<'a>, Refused> {
     let mut inputs = Vec::new(alloc);
     inputs.extend_from_slice(sources)?;
     inputs.extend_from_slice(&[declaration.unwrap_or("-")])?;
-    result_of(found, last, &inputs)
+    no_source(out, &inputs)
 }
 
 /// The request for a run that breaks the declaration of a source.
@@ -398,7 +411,12 @@ pub fn sourced_refute<'a>(alloc: Global, found: &ArgMatches<'a>) -> Result<Sourc
     let operands = search_operands(found)?;
     let declaration = operands.declaration;
     let sources = parts_of(alloc, found, &[declaration.unwrap_or("")])?;
-    let out = search_output(alloc, found, operands.last, declaration, &sources)?;
+    let out = search_output(
+        alloc,
+        result_of(found, operands.last),
+        declaration,
+        &sources,
+    )?;
     Ok(Sourced {
         sources,
         declaration,
@@ -422,7 +440,7 @@ pub fn sourced_declare<'a>(alloc: Global, found: &ArgMatches<'a>) -> Result<Sour
     let sources = parts_of(alloc, found, &[from.unwrap_or("")])?;
     Ok(Sourced {
         task: Task::Declare {
-            out: search_output(alloc, found, operands.last, from, &sources)?,
+            out: search_output(alloc, result_of(found, operands.last), from, &sources)?,
             options: declare_options(found)?,
             explained: found.get_flag("why"),
             asked: is_start_named(found),
@@ -438,11 +456,15 @@ pub fn place_request<'a>(alloc: Global, found: &ArgMatches<'a>) -> Result<Source
     let declaration = found.get_str("declaration");
     let mut inputs = Vec::new(alloc);
     inputs.extend_from_slice(&sources)?;
-    inputs.extend_from_slice(&[declaration.unwrap_or("")])?;
+    inputs.extend_from_slice(declaration.as_slice())?;
     read_standard_input_once(&inputs)?;
+    let out = no_input(kept_destination(found), &inputs)?;
+    if is_source_name(out.name()) {
+        return Err(Refused::Misuse(Misuse::PlacedIsSource));
+    }
     Ok(Sourced {
         task: Task::Place {
-            out: destination_of(found, &inputs)?,
+            out,
             explained: found.get_flag("why"),
         },
         sources,

@@ -1,7 +1,7 @@
 //! What may be asked for with a source that is assembled.
 
 use crate::names::FileNames;
-use crate::outputs::{Destination, destination_of, has_output};
+use crate::outputs::{Destination, emptied_destination, has_output, is_source_name, no_input};
 use crate::refused::{Misuse, Refused};
 use crate::values::{profile_of, read_standard_input_once};
 use clap::ArgMatches;
@@ -59,16 +59,6 @@ pub(crate) fn source_names<'a>(
     Ok(names)
 }
 
-/// What the name of a source ends in.
-const SOURCE_ENDINGS: [&str; 10] = [
-    ".pal", ".PAL", ".pa", ".PA", ".pal8", ".PAL8", ".asm", ".ASM", ".src", ".SRC",
-];
-
-/// Whether a name ends as that of a source does.
-fn is_source_name(name: &str) -> bool {
-    SOURCE_ENDINGS.iter().any(|ending| name.ends_with(*ending))
-}
-
 /// The tape that is asked for. It doesn't go to a file that is named as a source: the operands may stand in the
 /// wrong order.
 pub(crate) fn assemble_request<'a>(
@@ -76,7 +66,7 @@ pub(crate) fn assemble_request<'a>(
     found: &ArgMatches<'a>,
 ) -> Result<AssembleRequest<'a>, Refused> {
     let sources = source_names(alloc, found)?;
-    let out = destination_of(found, &sources)?;
+    let out = no_input(emptied_destination(found), &sources)?;
     if is_source_name(out.name()) {
         return Err(Refused::Misuse(Misuse::OutputIsSource));
     }

@@ -1,7 +1,7 @@
 //! What may be asked for with a tape alone.
 
 use crate::names::FileNames;
-use crate::outputs::{Destination, destination_of};
+use crate::outputs::{Destination, kept_destination, no_input, no_source};
 use crate::refused::{Misuse, Refused};
 use crate::values::{
     declare_options, is_start_named, profile_of, read_standard_input_once, run_options, start_of,
@@ -79,6 +79,8 @@ pub struct SourceRequest<'a> {
     pub tape: &'a str,
     /// Where the source goes.
     pub out: Destination<'a>,
+    /// Whether a file that is named as a source is replaced also where it isn't of the command's making.
+    pub forced: bool,
     /// The name of the declaration's file, if there is one.
     pub declaration: Option<&'a str>,
     /// Where the program starts, without a declaration.
@@ -108,7 +110,8 @@ pub(crate) fn source_request<'a>(found: &ArgMatches<'a>) -> Result<SourceRequest
     }
     Ok(SourceRequest {
         tape,
-        out: destination_of(found, &[tape, declaration.unwrap_or("-")])?,
+        out: no_input(kept_destination(found), &[tape, declaration.unwrap_or("-")])?,
+        forced: found.get_flag("force"),
         declaration,
         start: start_of(found)?,
         profile: profile_of(found)?,
@@ -150,7 +153,7 @@ pub(crate) fn declare_request<'a>(found: &ArgMatches<'a>) -> Result<DeclareReque
     Ok(DeclareRequest {
         tape,
         from,
-        out: destination_of(found, &[tape, from.unwrap_or("-")])?,
+        out: no_source(kept_destination(found), &[tape, from.unwrap_or("-")])?,
         options: declare_options(found)?,
     })
 }

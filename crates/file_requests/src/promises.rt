@@ -9,13 +9,13 @@ use machine_commands::refuting::refute;
 use machine_commands::watching::watch;
 use program_files::drafted::{is_stuck, need_rereading, report_stuck_files};
 use program_files::faults::{omissions, stuck_address, stuck_lines, with_omissions};
-use program_files::files::{open_input, open_output};
-use program_files::saving::{save_answer, save_proposed};
+use program_files::files::{Outlet, finish, open_input, open_output};
+use program_files::saving::{Saving, save_answer, save_proposed};
 use program_files::tellers::{report_to, tell_to};
 use report_commands::reporting::{ReportForm, report};
 use search_commands::guessing::guess;
 use search_commands::stuck::guess_or_explain;
-use search_commands::verifying::{Answer, Lack, answer_status, verify, verify_proposed};
+use search_commands::verifying::{Answer, Lack, verify, verify_proposed};
 use std::alloc::Global;
 use std::io;
 use std::rt::Files;
@@ -33,8 +33,9 @@ pub fn migrate_from<R: Files + Input + Print>(
     asked: &MigrateRequest<'_>,
 ) -> Result<Status, Fault> {
     let mut text = open_input(rt, asked.certificate)?;
-    let mut migrated = open_output(rt, asked.out)?;
-    migrate(alloc, &mut text, &mut migrated)
+    let mut file = open_output(rt, alloc, asked.out)?;
+    let status = migrate(alloc, &mut text, &mut Writes::new(&mut file))?;
+    finish(&mut file, status)
 }
 
 /// Watches a run of the tape of a file.
@@ -86,13 +87,14 @@ pub fn report_from<R: Files + Input + Print>(
     let mut frames = open_input(rt, asked.tape)?;
     let mut text = open_input(rt, asked.declaration)?;
     let mut claims = open_input(rt, asked.certificate)?;
-    let mut page = open_output(rt, asked.out)?;
+    let mut file = open_output(rt, alloc, asked.out)?;
+    let mut page = Writes::new(&mut file);
     let form = if asked.text {
         ReportForm::Text
     } else {
         ReportForm::Page
     };
-    report(
+    let status = report(
         alloc,
         &mut frames,
         &mut text,
@@ -100,7 +102,8 @@ pub fn report_from<R: Files + Input + Print>(
         &mut page,
         form,
         None,
-    )
+    )?;
+    finish(&mut file, status)
 }
 
 /// Guesses a certificate for the tape of a file, and where the search is stuck writes a report, if one is
@@ -136,8 +139,9 @@ fn guess_alone<R: Files + Input + Print>(
 ) -> Result<Status, Fault> {
     let mut frames = open_input(rt, asked.tape)?;
     let mut text = open_input(rt, asked.declaration)?;
-    let mut certificate = open_output(rt, asked.out)?;
-    guess(alloc, &mut frames, &mut text, &mut certificate)
+    let mut file = open_output(rt, alloc, asked.out)?;
+    let status = guess(alloc, &mut frames, &mut text, &mut Writes::new(&mut file))?;
+    finish(&mut file, status)
 }
 
 /// Guesses a certificate for the tape of a file, and says on standard error why the search is stuck.
@@ -149,14 +153,15 @@ fn guess_with_reasons<R: Files + Input + Print + Eprint>(
 ) -> Result<Status, Fault> {
     let mut frames = open_input(rt, asked.tape)?;
     let mut text = open_input(rt, asked.declaration)?;
-    let mut certificate = open_output(rt, asked.out)?;
+    let mut file = open_output(rt, alloc, asked.out)?;
+    let mut certificate = Writes::new(&mut file);
     let mut report = Vec::new(alloc);
     let mut lines = Writes::new(&mut report);
     let answer = guess_or_explain(alloc, &mut frames, &mut text, &mut certificate, &mut lines);
     if lines.failed() {
         return Err(Fault::NoMemory);
     }
-    let status = answer?;
+    let status = finish(&mut file, answer?)?;
     if status == Status::Refused {
         tell_reasons(rt, alloc, asked.tape, asked.declaration, &report)?;
     }
@@ -202,18 +207,22 @@ fn verify_alone<R: Files + Input + Print + Eprint>(
     let mut frames = open_input(rt, asked.tape)?;
     let mut out = Writes::new(io::writer(rt));
     let proposed = verify_proposed(alloc, &mut frames, asked.options, &mut out)?;
-    save_proposed(rt, alloc, asked.save, &proposed)?;
+    let saving = Saving {
+        save: asked.save,
+        explained: asked.options.search.explained,
+    };
+    let status = save_proposed(rt, alloc, &saving, &proposed)?;
     if asked.save.is_none() {
         let _ = eprintln!(rt;
             "the answer is on a declaration that is proposed: --save NAME writes it"
         );
     }
-    Ok(answer_status(&proposed.answer))
+    Ok(status)
 }
 
 /// Says whether the program of a file's tape keeps the declaration of a file.
 #[inline(never)]
-fn verify_declared<R: Files + Input + Print>(
+fn verify_declared<R: Files + Input + Print + Eprint>(
     rt: &R,
     alloc: Global,
     asked: &VerifyRequest<'_>,
@@ -240,8 +249,24 @@ fn verify_declared<R: Files + Input + Print>(
     let mut told = with_omissions(alloc, &report, &others)?;
     told.extend_from_slice(&remedies)?;
     put(&mut Writes::new(io::writer(rt)), &told)?;
-    save_answer(rt, alloc, asked.save, &answer)?;
-    Ok(answer_status(&answer))
+    let saving = Saving {
+        save: asked.save,
+        explained: search.explained,
+    };
+    save_answer(rt, alloc, &saving, &answer)
+}
+
+/// Puts events in their place. They go out by one write before the line on them, so they are whole also where that
+/// line fails.
+fn finish_events<R: Files + Print>(
+    file: &mut Outlet<'_, R>,
+    failed: bool,
+    answer: Result<Status, Fault>,
+) -> Result<Status, Fault> {
+    if !failed {
+        let _status = finish(file, Status::Done)?;
+    }
+    answer
 }
 
 /// Looks for a run of the tape of a file that breaks its declaration.
@@ -253,14 +278,17 @@ pub fn refute_from<R: Files + Input + Print + Eprint>(
 ) -> Result<Status, Fault> {
     let mut frames = open_input(rt, asked.tape)?;
     let mut text = open_input(rt, asked.declaration)?;
-    let mut events = open_output(rt, asked.out)?;
+    let mut file = open_output(rt, alloc, asked.out)?;
+    let mut events = Writes::new(&mut file);
     let mut report = report_to(rt, asked.out.name() == "-");
-    refute(
+    let answer = refute(
         alloc,
         &mut frames,
         &mut text,
         asked.options,
         &mut events,
         &mut report,
-    )
+    );
+    let failed = events.failed();
+    finish_events(&mut file, failed, answer)
 }

@@ -3,7 +3,7 @@
 use command_line::{AssembleRequest, ListRequest};
 use command_parts::status::{DeviceFault, Fault, Status};
 use instruct::Profile;
-use program_files::files::{open_inputs, open_output, open_parts};
+use program_files::files::{Outlet, finish, open_inputs, open_output, open_parts};
 use program_files::source_faults::{
     NO_WORD, input_name, output_name, tell_of, tell_size, unopened,
 };
@@ -76,6 +76,14 @@ fn list_or_tell<R: Files + Input + Print + Eprint>(
     }
 }
 
+/// Puts a tape that was written in its place.
+fn finish_tape<R: Files + Print>(
+    file: &mut Outlet<'_, R>,
+    assembled: Result<Status, Fault>,
+) -> Result<Status, Fault> {
+    finish(file, assembled?)
+}
+
 /// Assembles the parts of these files into a tape, and tells below the line of a fault what is wrong.
 fn assemble_or_tell<R: Files + Input + Print + Eprint>(
     rt: &R,
@@ -83,8 +91,8 @@ fn assemble_or_tell<R: Files + Input + Print + Eprint>(
     asked: &AssembleRequest<'_>,
 ) -> Status {
     let (names, out) = (asked.sources.as_slice(), asked.out.name());
-    let mut tape = match open_output(rt, asked.out) {
-        Ok(tape) => tape,
+    let mut file = match open_output(rt, alloc, asked.out) {
+        Ok(file) => file,
         Err(fault) => return tell_of(rt, fault, output_name(out), "can't be made"),
     };
     let mut parts = Vec::new(alloc);
@@ -92,14 +100,15 @@ fn assemble_or_tell<R: Files + Input + Print + Eprint>(
         return tell_of(rt, fault, unopened(names, parts.len()), "can't be opened");
     }
     let mut told = String::new(alloc);
-    match assemble(
+    let assembled = assemble(
         alloc,
         &mut parts,
         asked.profile,
         Some(names),
         &mut told,
-        &mut tape,
-    ) {
+        &mut Writes::new(&mut file),
+    );
+    match finish_tape(&mut file, assembled) {
         Ok(status) => status,
         Err(fault) => tell_all(rt, fault, names, &parts, out, &told),
     }
@@ -131,8 +140,10 @@ pub fn assemble_to<R: Files + Input + Print + Eprint>(
     if asked.explained {
         return Ok(assemble_or_tell(rt, alloc, asked));
     }
-    let mut tape = open_output(rt, asked.out)?;
+    let mut file = open_output(rt, alloc, asked.out)?;
     let mut parts = open_inputs(rt, alloc, &asked.sources)?;
     let mut told = String::new(alloc);
-    assemble(alloc, &mut parts, asked.profile, None, &mut told, &mut tape)
+    let mut tape = Writes::new(&mut file);
+    let status = assemble(alloc, &mut parts, asked.profile, None, &mut told, &mut tape)?;
+    finish(&mut file, status)
 }

@@ -3,7 +3,7 @@
 use command_line::{DeclareRequest, DumpRequest, RunRequest, SourceRequest};
 use command_parts::status::{Fault, Status};
 use machine_commands::running::{dump, run, run_events};
-use program_files::files::{open_input, open_output};
+use program_files::files::{finish, open_input, open_output};
 use search_commands::completing::complete;
 use search_commands::declaring::declare;
 use source_commands::sourcing::{declared_source, source};
@@ -51,12 +51,16 @@ pub fn source_from<R: Files + Input + Print>(
 ) -> Result<Status, Fault> {
     let mut frames = open_input(rt, asked.tape)?;
     let Some(declaration) = asked.declaration else {
-        let mut text = open_output(rt, asked.out)?;
-        return source(alloc, &mut frames, asked.start, asked.profile, &mut text);
+        let mut file = open_output(rt, alloc, asked.out)?;
+        let mut text = Writes::new(&mut file);
+        let status = source(alloc, &mut frames, asked.start, asked.profile, &mut text)?;
+        return finish(&mut file, status);
     };
     let mut promise = open_input(rt, declaration)?;
-    let mut text = open_output(rt, asked.out)?;
-    declared_source(alloc, &mut frames, &mut promise, &mut text)
+    let mut file = open_output(rt, alloc, asked.out)?;
+    let mut text = Writes::new(&mut file);
+    let status = declared_source(alloc, &mut frames, &mut promise, &mut text)?;
+    finish(&mut file, status)
 }
 
 /// Proposes a declaration for the tape of a file, or completes that of a file, which is opened before the
@@ -69,16 +73,20 @@ pub fn declare_from<R: Files + Input + Print>(
 ) -> Result<Status, Fault> {
     let mut frames = open_input(rt, asked.tape)?;
     let Some(from) = asked.from else {
-        let mut text = open_output(rt, asked.out)?;
-        return declare(alloc, &mut frames, asked.options, &mut text);
+        let mut file = open_output(rt, alloc, asked.out)?;
+        let mut text = Writes::new(&mut file);
+        let status = declare(alloc, &mut frames, asked.options, &mut text)?;
+        return finish(&mut file, status);
     };
     let mut promise = open_input(rt, from)?;
-    let mut text = open_output(rt, asked.out)?;
-    complete(
+    let mut file = open_output(rt, alloc, asked.out)?;
+    let mut text = Writes::new(&mut file);
+    let status = complete(
         alloc,
         &mut frames,
         &mut promise,
         asked.options.reads,
         &mut text,
-    )
+    )?;
+    finish(&mut file, status)
 }

@@ -220,30 +220,71 @@ fn counted(image: &Image, bodies: &WordSet) -> WordSet {
     cells
 }
 
-/// Words at which sets may end: the tape's words that are no instructions, each with what makes it 0,
-/// and the ends of what may be written and read.
+/// Words at which sets may end: the ends of what may be written, and the words that the tape puts into cells outside of
+/// bodies to which an instruction refers, each with what makes it 0. What a program compares, counts and points to
+/// is among these; a word of the tape to which no instruction refers is not, so it changes nothing.
 fn landmarks<D: Allocator>(
     image: &Image,
     declaration: &Declaration<D>,
     bodies: &WordSet,
 ) -> WordSet {
     let mut words = ends(declaration.variables());
-    for index in 0..4096usize {
-        let at = Word::from_index(index);
-        if !bodies.contains(at) {
-            if let Some(word) = image.get(at) {
-                words.insert(word);
-                words.insert(word.complement().increment());
-            }
+    for cell in referred(image, declaration, bodies).minus(bodies).iter() {
+        if let Some(word) = image.get(cell) {
+            words.insert(word);
+            words.insert(word.complement().increment());
         }
     }
     words
 }
 
-/// The first words of each run of a set, and those past its end.
+/// The cells to which an instruction of a body refers: the one that it names, and the one to which a pointer that
+/// keeps its word leads.
+fn referred<D: Allocator>(
+    image: &Image,
+    declaration: &Declaration<D>,
+    bodies: &WordSet,
+) -> WordSet {
+    let mut cells = WordSet::empty();
+    for index in 0..4096usize {
+        let at = Word::from_index(index);
+        if let Some(word) = code_at(image, bodies, at) {
+            if is_reference(word) {
+                let named = target(word, at);
+                cells.insert(named);
+                if let Some(cell) = fixed_target(image, declaration, word, named) {
+                    cells.insert(cell);
+                }
+            }
+        }
+    }
+    cells
+}
+
+/// The cell that a memory reference refers to, which names a cell, if it is the same at all times.
+fn fixed_target<D: Allocator>(
+    image: &Image,
+    declaration: &Declaration<D>,
+    word: Word,
+    named: Word,
+) -> Option<Word> {
+    if !refers_indirectly(word) {
+        return Some(named);
+    }
+    if declaration.is_variable(named) || declaration.is_entry(named) {
+        return None;
+    }
+    image.get(named)
+}
+
+/// The first and the last word of each run of a set, and the words next to these outside of the run.
 fn ends(set: &WordSet) -> WordSet {
-    let after = set.shift(Word::ZERO.increment());
-    set.minus(&after).union(&after.minus(set))
+    let one = Word::ZERO.increment();
+    let after = set.shift(one);
+    let before = set.shift(one.complement().increment());
+    let firsts = set.minus(&after).union(&before.minus(set));
+    let lasts = set.minus(&before).union(&after.minus(set));
+    firsts.union(&lasts)
 }
 
 /// The tape's word at an address of a body.
@@ -273,13 +314,7 @@ impl<D: Allocator> AnalysedProgram<'_, D> {
 
     /// The cell that a memory reference refers to, which names a cell, if it's the same at all times.
     pub(crate) fn place_named(&self, word: Word, named: Word) -> Option<Word> {
-        if !refers_indirectly(word) {
-            return Some(named);
-        }
-        if self.declaration.is_variable(named) || self.declaration.is_entry(named) {
-            return None;
-        }
-        self.image.get(named)
+        fixed_target(self.image, self.declaration, word, named)
     }
 
     /// The cells of the body of an entry.

@@ -2,7 +2,7 @@
 
 ghost use Rattle.std.specs.Prelude.{◌≡◌, false};
 
-use crate::files::{is_read_once, open_input, open_output};
+use crate::files::{finish, is_read_once, open_input, open_output};
 use command_line::Destination;
 use command_parts::status::{DeviceFault, Fault, Status};
 use report_commands::drafting::report_draft;
@@ -10,6 +10,7 @@ use report_commands::reporting::{ReportForm, SourceNotes};
 use std::alloc::Global;
 use std::rt::Files;
 use streams::ByteSource;
+use streams::standard::Writes;
 use turns::GuessFault;
 
 /// Whether a search is given up with this fault since it is stuck.
@@ -39,8 +40,10 @@ pub fn report_stuck<R: Files + Print, T: ByteSource, D: ByteSource>(
     requires readable { T.mark tape.old ≡ false }
     requires declaration_readable { D.mark declaration.old ≡ false }
 {
-    let mut page = open_output(rt, Destination::MadeLast(name))?;
-    report_draft(alloc, tape, declaration, &mut page, ReportForm::Page, notes)
+    let mut file = open_output(rt, alloc, Destination::MadeLast(name))?;
+    let mut page = Writes::new(&mut file);
+    let status = report_draft(alloc, tape, declaration, &mut page, ReportForm::Page, notes)?;
+    finish(&mut file, status)
 }
 
 /// Sees to it that these files can be read twice, as a search with a report does.

@@ -3,14 +3,15 @@
 ghost use Rattle.std.specs.Prelude.{◌≡◌, false, IfOk};
 ghost use Rattle.std.specs.List.{AllByRecursion};
 
+use crate::replacing::ResultFile;
 use command_line::Destination;
-use command_parts::status::{DeviceFault, Fault};
+use command_parts::status::{DeviceFault, Fault, Status};
 use either::Either;
 use std::alloc::Global;
 use std::fs;
 use std::io::{self, Printer};
 use std::rt::Files;
-use streams::standard::{Reads, Writes};
+use streams::standard::Reads;
 
 /// What a name of the command line stands for: `-` for standard input, else a file.
 pub(crate) fn input_of<R: Files + Input>(
@@ -92,61 +93,48 @@ pub fn open_inputs<R: Files + Input>(
     Ok(inputs)
 }
 
-/// A file for a result, which may be made late.
-#[derive(Drop)]
-pub struct ResultFile<'r, R: Files> {
-    rt: &'r R,
-    name: &'r str,
-    file: Option<R::File>,
-}
+/// Where a result goes: standard output, or a file.
+pub type Outlet<'r, R> = Either<Printer<'r, R>, ResultFile<'r, R>>;
 
-impl<'r, R: Files> ResultFile<'r, R> {
-    /// Makes or empties the file, which is open from now on.
-    fn open(&mut self) -> io::Result<&mut R::File> {
-        let file = fs::create(self.rt, self.name)?;
-        Ok(self.file.insert(file))
-    }
-}
-
-impl<R: Files> io::Write for ResultFile<'_, R> {
-    fn write(&mut self, buf: &[u8]) -> io::Result<usize> {
-        match &mut self.file {
-            Some(file) => file.write(buf),
-            None => self.open()?.write(buf),
-        }
-    }
-
-    fn flush(&mut self) -> io::Result<()> {
-        match &mut self.file {
-            Some(file) => file.flush(),
-            None => Ok(()),
-        }
-    }
-}
-
-/// Opens where a result goes: `-` is standard output. The file of an operand is made or emptied at
-/// once, and that of `-o` when the first byte comes.
+/// Opens where a result goes: `-` is standard output. The operand of `assemble`, `guess` and `migrate` is made or
+/// emptied at once; of that of another command it is seen at once that it can be written; and the file of `-o` isn't
+/// touched before the first byte comes. What is written to a file is in its place after [`finish`].
 ///
 /// # Errors
 ///
-/// `Device` where a file can't be made, which is told as one that can't be written.
+/// `Device` where a file can't be made, which is told as one that can't be written, and `NoMemory`.
 pub fn open_output<'r, R: Files + Print>(
     rt: &'r R,
+    alloc: Global,
     out: Destination<'r>,
-) -> Result<Writes<Either<Printer<'r, R>, ResultFile<'r, R>>>, Fault>
-    ensures { IfOk result (λ output. output.failed ≡ false) }
-{
+) -> Result<Outlet<'r, R>, Fault> {
     let name = out.name();
     if name == "-" {
-        return Ok(Writes::new(Either::Left(io::writer(rt))));
+        return Ok(Either::Left(io::writer(rt)));
     }
-    let mut made = ResultFile {
-        rt,
-        name,
-        file: None,
+    let mut file = ResultFile::new(rt, alloc, name)?;
+    let opened = match out {
+        Destination::EmptiedFirst(_) => file.make_empty(),
+        Destination::CheckedFirst(_) => file.check(),
+        Destination::MadeLast(_) => Ok(()),
     };
-    if matches!(out, Destination::EmptiedFirst(_)) && made.open().is_err() {
-        return Err(Fault::Device(DeviceFault::Write));
+    match opened {
+        Ok(()) => Ok(Either::Right(file)),
+        Err(_) => Err(Fault::Device(DeviceFault::Write)),
     }
-    Ok(Writes::new(Either::Right(made)))
+}
+
+/// Puts a result that was written whole in its place, and gives this status. Where nothing was written, nothing is
+/// done.
+///
+/// # Errors
+///
+/// `Device` where it can't be put there.
+pub fn finish<R: Files + Print>(out: &mut Outlet<'_, R>, status: Status) -> Result<Status, Fault> {
+    if let Either::Right(file) = out {
+        if file.finish().is_err() {
+            return Err(Fault::Device(DeviceFault::Write));
+        }
+    }
+    Ok(status)
 }

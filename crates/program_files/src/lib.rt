@@ -5,6 +5,8 @@
 pub mod drafted;
 pub mod faults;
 pub mod files;
+pub mod inputs;
+pub mod replacing;
 pub mod saving;
 pub mod source_faults;
 pub mod tellers;

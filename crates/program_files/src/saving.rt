@@ -1,71 +1,190 @@
 //! The files that `verify --save` writes.
 
-ghost use Rattle.std.specs.Prelude.{◌≡◌, false, IfOk};
-
-use command_parts::status::{DeviceFault, Fault};
-use search_commands::verifying::{Answer, Proposed};
+use crate::files::open_input;
+use crate::replacing::ResultFile;
+use crate::source_faults::tell_of;
+use crate::telling::tell;
+use command_line::Save;
+use command_parts::status::{DeviceFault, Fault, Status};
+use search_commands::verifying::{Answer, Proposed, answer_status};
 use std::alloc::Global;
 use std::fs;
 use std::rt::Files;
-use streams::put;
 use streams::standard::Writes;
+use streams::{put, read_at_most};
 
-/// Makes or empties the file with this name and ending.
-fn make<R: Files>(rt: &R, alloc: Global, name: &str, ending: &str) -> Result<Writes<R::File>, Fault>
-    ensures { IfOk result (λ output. output.failed ≡ false) }
-{
-    let mut path = String::new(alloc);
-    path.push_str(name)?;
-    path.push_str(ending)?;
-    match fs::create(rt, &path) {
-        Ok(file) => Ok(Writes::new(file)),
-        Err(_) => Err(Fault::Device(DeviceFault::Write)),
+/// What the first line of a certificate begins with, which says that a command of this program wrote it.
+static CERTIFICATE_MARK: &[u8] = b"PDP8-CERTIFICATE ";
+
+/// How much of a file is looked at: the most that may be saved.
+const MOST: usize = 1_048_576;
+
+/// A text that is to be saved.
+#[derive(Drop)]
+struct Saved {
+    /// The name of its file.
+    path: String,
+    text: Vec<u8>,
+}
+
+impl Saved {
+    /// A text for the file with this name and ending.
+    fn new(alloc: Global, name: &str, ending: &str, text: Vec<u8>) -> Result<Saved, Fault> {
+        let mut path = String::new(alloc);
+        path.push_str(name)?;
+        path.push_str(ending)?;
+        Ok(Saved { path, text })
+    }
+
+    /// Whether its file is there and wasn't made by this program, as far as its bytes show: it is neither empty nor a
+    /// certificate, and says something else.
+    fn is_foreign<R: Files + Input>(&self, rt: &R, alloc: Global) -> bool {
+        match fs::metadata(rt, &self.path) {
+            Ok(found) if found.is_file() && found.len() > 0 => {}
+            _ => return false,
+        }
+        let Ok(mut input) = open_input(rt, &self.path) else {
+            return false;
+        };
+        match read_at_most(alloc, &mut input, MOST) {
+            Ok(bytes) => !bytes.starts_with(CERTIFICATE_MARK) && *bytes != *self.text,
+            Err(_) => true,
+        }
+    }
+
+    /// Writes it to its file, which is whole or as it was.
+    fn write<R: Files>(&self, rt: &R, alloc: Global) -> Result<(), Fault> {
+        let mut file = ResultFile::new(rt, alloc, &self.path)?;
+        put(&mut Writes::new(&mut file), &self.text)?;
+        match file.finish() {
+            Ok(()) => Ok(()),
+            Err(_) => Err(Fault::Device(DeviceFault::Write)),
+        }
     }
 }
 
-/// Writes what an answer shows, if it is to be saved: a certificate behind a yes, the events of a run
-/// behind a no.
-///
-/// # Errors
-///
-/// `Device` where the file can't be made or written, and `NoMemory`.
-pub fn save_answer<R: Files>(
+/// How files are saved.
+#[derive(Clone, Copy)]
+pub struct Saving<'a> {
+    /// What their names begin with, if they are saved.
+    pub save: Option<Save<'a>>,
+    /// Whether it is said which file can't be written.
+    pub explained: bool,
+}
+
+/// Tells that a file stays as it is, since it isn't of the command's making.
+fn tell_kept<R: Eprint>(rt: &R, path: &str) -> Status {
+    let told = eprintln!(rt;
+        "error: {path} is a file that this command didn't write: it stays; give another '--save NAME', or --force to replace it"
+    );
+    match told {
+        Ok(()) | Err(_) => Status::Usage,
+    }
+}
+
+/// Tells that a file can't be written, and which one, if that is asked for.
+fn tell_unwritten<R: Eprint>(rt: &R, fault: Fault, path: &str, explained: bool) -> Status {
+    if explained {
+        tell_of(rt, fault, path, "can't be made or written")
+    } else {
+        tell(rt, fault)
+    }
+}
+
+/// Writes these texts to their files, or none of them where one would replace a file that isn't of the command's
+/// making. The status is this one, or that of what is told.
+fn save_all<R: Files + Input + Eprint>(
     rt: &R,
     alloc: Global,
-    save: Option<&str>,
+    saving: &Saving<'_>,
+    saved: &[Saved],
+    status: Status,
+) -> Status {
+    let forced = saving.save.is_some_and(|save| save.forced);
+    for it in saved {
+        if !forced && it.is_foreign(rt, alloc) {
+            return tell_kept(rt, &it.path);
+        }
+    }
+    for it in saved {
+        if let Err(fault) = it.write(rt, alloc) {
+            return tell_unwritten(rt, fault, &it.path, saving.explained);
+        }
+    }
+    status
+}
+
+/// Adds a text that is to be saved.
+fn push_saved(saved: &mut Vec<Saved>, it: Saved) -> Result<(), Fault> {
+    match saved.push(it) {
+        Ok(()) => Ok(()),
+        Err(_) => Err(Fault::NoMemory),
+    }
+}
+
+/// Adds what an answer shows: a certificate behind a yes, the events of a run behind a no.
+fn push_answer(
+    alloc: Global,
+    name: &str,
     answer: &Answer<Global>,
+    saved: &mut Vec<Saved>,
 ) -> Result<(), Fault> {
-    let Some(name) = save else {
-        return Ok(());
-    };
+    let mut text = Vec::new(alloc);
     match answer {
         Answer::Yes(certificate) => {
-            let mut out = make(rt, alloc, name, ".certificate")?;
-            certificate.write(&mut out)?;
+            certificate.write(&mut Writes::new(&mut text))?;
+            push_saved(saved, Saved::new(alloc, name, ".certificate", text)?)?;
         }
         Answer::No(found) => {
-            let mut out = make(rt, alloc, name, ".events")?;
-            put(&mut out, &found.text)?;
+            text.extend_from_slice(&found.text)?;
+            push_saved(saved, Saved::new(alloc, name, ".events", text)?)?;
         }
         Answer::NotKnown(_) => {}
     }
     Ok(())
 }
 
-/// Writes the declaration that was proposed, and what the answer shows, if they are to be saved.
+/// Writes what an answer shows, if it is to be saved, and gives the status of the command: that of the answer, or of
+/// what is told of a file.
+///
+/// # Errors
+///
+/// `NoMemory`.
+pub fn save_answer<R: Files + Input + Eprint>(
+    rt: &R,
+    alloc: Global,
+    saving: &Saving<'_>,
+    answer: &Answer<Global>,
+) -> Result<Status, Fault> {
+    let mut saved = Vec::new(alloc);
+    if let Some(save) = saving.save {
+        push_answer(alloc, save.name, answer, &mut saved)?;
+    }
+    Ok(save_all(rt, alloc, saving, &saved, answer_status(answer)))
+}
+
+/// Writes the declaration that was proposed, and what the answer shows, if they are to be saved, and gives the status of
+/// the command.
 ///
 /// # Errors
 ///
 /// As of [`save_answer`].
-pub fn save_proposed<R: Files>(
+pub fn save_proposed<R: Files + Input + Eprint>(
     rt: &R,
     alloc: Global,
-    save: Option<&str>,
+    saving: &Saving<'_>,
     proposed: &Proposed<Global>,
-) -> Result<(), Fault> {
-    if let Some(name) = save {
-        let mut out = make(rt, alloc, name, ".declaration")?;
-        put(&mut out, &proposed.text)?;
+) -> Result<Status, Fault> {
+    let mut saved = Vec::new(alloc);
+    if let Some(save) = saving.save {
+        let mut text = Vec::new(alloc);
+        text.extend_from_slice(&proposed.text)?;
+        push_saved(
+            &mut saved,
+            Saved::new(alloc, save.name, ".declaration", text)?,
+        )?;
+        push_answer(alloc, save.name, &proposed.answer, &mut saved)?;
     }
-    save_answer(rt, alloc, save, &proposed.answer)
+    let status = answer_status(&proposed.answer);
+    Ok(save_all(rt, alloc, saving, &saved, status))
 }

@@ -6,10 +6,18 @@ use crate::hints::{Goal, Hint};
 use crate::random::Random;
 use std::alloc::Allocator;
 
+/// The most steps of one run.
+const MOST_STEPS: u32 = 300_000;
+
+/// The most steps of a run in which no key is struck.
+const MOST_PLAIN_STEPS: u32 = 1_000_000;
+
 /// What a run is for.
 #[derive(Clone, Copy, PartialEq, Eq)]
 pub(crate) enum Purpose {
-    /// A long run by chance, from the start.
+    /// A long run from the start in which no key is struck.
+    Plain,
+    /// A long run by chance.
     Roam,
     /// To find something new, from a kept state on.
     Grow,
@@ -31,6 +39,21 @@ pub(crate) struct Plan<A: Allocator> {
     pub(crate) in_turn: bool,
     /// The test that it is to bring nearer to 0.
     pub(crate) goal: Option<Goal>,
+}
+
+impl Purpose {
+    /// The most steps of a run for this purpose.
+    pub(crate) fn most_steps(self) -> u32 {
+        match self {
+            Purpose::Plain => MOST_PLAIN_STEPS,
+            Purpose::Roam | Purpose::Grow | Purpose::Repeat => MOST_STEPS,
+        }
+    }
+
+    /// Whether a run for this purpose is a long one, which goes on while nothing new is seen.
+    pub(crate) fn is_long(self) -> bool {
+        matches!(self, Purpose::Plain | Purpose::Roam)
+    }
 }
 
 impl<A: Allocator + Copy> Plan<A> {

@@ -1,4 +1,4 @@
-//! What to run next: a long run from the start, a hint, or a run from a kept state with other inputs.
+//! What to run next: a run without a key, a long run, a hint, or a run from a kept state with other inputs.
 
 use crate::asking::Ask;
 use crate::plan::{Plan, Purpose};
@@ -7,20 +7,31 @@ use crate::search::RunSearch;
 use peripherals::NoMemory;
 use std::alloc::Allocator;
 
+/// What each of the first runs, in which no key is struck, gives as every frame and as the switches; values by
+/// chance where none is named.
+const PLAIN_VALUES: [Option<u16>; 5] = [Some(0), None, Some(0o7777), Some(1), Some(0o4000)];
+
+/// After this many steps some long runs from kept states go without a key.
+const FIRST_PLAIN_FROM_STATES: u32 = 2_000_000;
+
 /// The most inputs in which a change is tried.
 const MOST_CHANGED: usize = 400;
 
 impl<A: Allocator + Copy> RunSearch<A> {
-    /// What to run next: a quarter of all steps go to long runs from the start, the others to runs from
-    /// kept states.
+    /// What to run next. The first runs go without a key; then a quarter of all steps goes to long runs, and the
+    /// others go to short runs from kept states.
     pub(crate) fn next_plan(&mut self) -> Result<Plan<A>, NoMemory> {
         if self.clock == self.begun && self.record.runs > 0 {
             self.clock = self.clock.saturating_add(1);
         }
         self.begun = self.clock;
         self.record.begins();
+        if let Some(value) = self.next_plain_value() {
+            self.plain = self.plain.saturating_add(1);
+            return self.plan_plain(0, value);
+        }
         if self.roamed <= self.clock / 4 {
-            return self.plan_roaming();
+            return self.plan_long();
         }
         if self.clock > self.lesson {
             self.lesson = self.clock.saturating_add(self.clock / 4);
@@ -29,10 +40,45 @@ impl<A: Allocator + Copy> RunSearch<A> {
         self.plan()
     }
 
-    /// A long run from the start, mostly with the same few inputs.
-    fn plan_roaming(&mut self) -> Result<Plan<A>, NoMemory> {
+    /// What the next run without a key gives as every frame and as the switches, if there is to be another one:
+    /// a second one makes sense only where the program asked for one of these.
+    fn next_plain_value(&self) -> Option<Option<u16>> {
+        if self.plain > 0 && !self.asks_without_keys {
+            return None;
+        }
+        PLAIN_VALUES.get(self.plain).copied()
+    }
+
+    /// A long run from a kept state in which no key is struck, and every frame and the switches are this value, or
+    /// values by chance.
+    fn plan_plain(&mut self, state: usize, value: Option<u16>) -> Result<Plan<A>, NoMemory> {
         let given = Vec::new(self.alloc);
-        let mut plan = Plan::of(self.alloc, Purpose::Roam, 0, given);
+        let mut plan = Plan::of(self.alloc, Purpose::Plain, state, given);
+        plan.more = usize::MAX;
+        plan.in_turn = true;
+        if let Some(value) = value {
+            plan.few.push(value).map_err(|_| NoMemory)?;
+        }
+        Ok(plan)
+    }
+
+    /// A long run: in one of four cases it goes on from a kept state, in the others it begins at the start. In a search
+    /// that has made many steps some of those from kept states go without a key.
+    fn plan_long(&mut self) -> Result<Plan<A>, NoMemory> {
+        if !self.random.once_in(4) {
+            return self.plan_roaming(0);
+        }
+        let state = self.tree.pick(&mut self.random);
+        if self.clock > FIRST_PLAIN_FROM_STATES && self.random.once_in(4) {
+            return self.plan_plain(state, None);
+        }
+        self.plan_roaming(state)
+    }
+
+    /// A long run from a kept state, mostly with the same few inputs.
+    fn plan_roaming(&mut self, state: usize) -> Result<Plan<A>, NoMemory> {
+        let given = Vec::new(self.alloc);
+        let mut plan = Plan::of(self.alloc, Purpose::Roam, state, given);
         plan.more = 20usize << (self.random.below(8) & 7);
         if !self.random.once_in(3) {
             plan.few = self.alphabet.few(self.alloc, &mut self.random)?;

@@ -17,11 +17,11 @@ use std::alloc::Allocator;
 use turns::{Stepped, Turns, take_step};
 use word12::Word;
 
-/// After so many events without an input, a completion or a store a run is over, if it is no long run from
-/// the start: it waits.
+/// After this many events without an input, a completion or a store a short run is over: the program waits.
 const MOST_IDLE: u32 = 400;
 
-/// After so many events without an input and without anything new a run is over.
+/// After this many events without an input and without anything new a run is over. A run in which no key is struck is
+/// over after this many events without an input, a completion or a store.
 const MOST_QUIET: u32 = 30_000;
 
 /// An input that was given.
@@ -107,7 +107,7 @@ impl<A: Allocator + Copy> Run<A> {
     /// A run that has not begun.
     pub(crate) fn new(alloc: A, plan: &Plan<A>, extent: Extent, random: &mut Random) -> Run<A> {
         let pace = match plan.purpose {
-            Purpose::Repeat => Pace::prompt(),
+            Purpose::Plain | Purpose::Repeat => Pace::prompt(),
             Purpose::Roam => Pace::by_chance(random, true),
             Purpose::Grow => {
                 let jitter = random.once_in(4);
@@ -116,7 +116,7 @@ impl<A: Allocator + Copy> Run<A> {
         };
         let most_stale = match plan.purpose {
             Purpose::Grow => patience(random),
-            Purpose::Roam | Purpose::Repeat => u32::MAX,
+            Purpose::Plain | Purpose::Roam | Purpose::Repeat => u32::MAX,
         };
         Run {
             most_stale,
@@ -299,12 +299,13 @@ impl<A: Allocator + Copy> Run<A> {
     /// The same, and up to how many events that is certain then.
     #[inline(never)]
     fn still_goes_on(&mut self, watcher: &Watcher<A>) -> Progress {
-        if self.since(self.last_asked) > MOST_QUIET || self.waits(watcher) {
+        let last = self.last_notable();
+        if self.since(last) > MOST_QUIET || self.waits(watcher) {
             return Progress::Over;
         }
-        let quiet = self.last_asked.saturating_add(MOST_QUIET);
+        let quiet = last.saturating_add(MOST_QUIET);
         let idle = self.stirred.saturating_add(MOST_IDLE);
-        self.certain = if self.purpose == Purpose::Roam || quiet < idle {
+        self.certain = if self.purpose.is_long() || quiet < idle {
             quiet
         } else {
             idle
@@ -312,9 +313,18 @@ impl<A: Allocator + Copy> Run<A> {
         Progress::GoesOn
     }
 
+    /// How many events there were when the run last had a reason to go on: something was new or asked for, or, in a
+    /// run in which no key is struck, something happened.
+    fn last_notable(&self) -> u32 {
+        match self.purpose {
+            Purpose::Plain => self.stirred,
+            Purpose::Roam | Purpose::Grow | Purpose::Repeat => self.last_asked,
+        }
+    }
+
     /// Whether nothing has happened for long, and no completion is still to come.
     fn waits(&self, watcher: &Watcher<A>) -> bool {
-        if self.since(self.stirred) <= MOST_IDLE || self.purpose == Purpose::Roam {
+        if self.since(self.stirred) <= MOST_IDLE || self.purpose.is_long() {
             return false;
         }
         let panel = watcher.world().panel();

@@ -23,9 +23,6 @@ use policy::Watcher;
 use std::alloc::Allocator;
 use turns::Turns;
 
-/// The most steps of one run.
-const MOST_STEPS: u32 = 300_000;
-
 /// Steps before the first lesson from failed tests.
 const FIRST_LESSON: u32 = 200_000;
 
@@ -56,8 +53,12 @@ pub struct RunSearch<A: Allocator> {
     pub(crate) clock: u32,
     /// What it was when the last run began.
     pub(crate) begun: u32,
-    /// The steps of long runs from the start.
+    /// The steps of long runs.
     pub(crate) roamed: u32,
+    /// How many runs without a key were begun at the start.
+    pub(crate) plain: usize,
+    /// Whether one of them asked for a frame or for the switches.
+    pub(crate) asks_without_keys: bool,
     /// The step from which on the next lesson is due.
     pub(crate) lesson: u32,
 }
@@ -123,6 +124,8 @@ impl<A: Allocator + Copy> RunSearch<A> {
             clock: 0,
             begun: 0,
             roamed: 0,
+            plain: 0,
+            asks_without_keys: false,
             lesson: FIRST_LESSON,
         })
     }
@@ -216,7 +219,7 @@ impl<A: Allocator + Copy> RunSearch<A> {
         trial.run = Run::new(self.alloc, &plan, extent, &mut self.random);
         trial.plan = plan;
         trial.is_tried = false;
-        trial.left = MOST_STEPS;
+        trial.left = trial.plan.purpose.most_steps();
         Ok(())
     }
 
@@ -277,7 +280,7 @@ impl<A: Allocator + Copy> RunSearch<A> {
         if plan.purpose != Purpose::Repeat {
             self.clock = self.clock.saturating_add(made);
         }
-        if plan.purpose == Purpose::Roam {
+        if plan.purpose.is_long() {
             self.roamed = self.roamed.saturating_add(made);
         }
     }

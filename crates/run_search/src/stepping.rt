@@ -122,11 +122,21 @@ impl<A: Allocator + Copy> RunSearch<A> {
         if !ask.is_wanted(&watcher.world().panel()) {
             return false;
         }
+        if plan.purpose == Purpose::Plain {
+            return self.comes_without_keys(ask);
+        }
         if matches!(ask, Ask::Switches) {
             return true;
         }
         let looks_away = plan.purpose == Purpose::Roam && self.random.once_in(8);
         run.pace.gives_input() && !looks_away
+    }
+
+    /// Whether an input comes in a run in which no key is struck.
+    fn comes_without_keys(&mut self, ask: Ask) -> bool {
+        let comes = !matches!(ask, Ask::Key);
+        self.asks_without_keys |= comes;
+        comes
     }
 
     /// Keeps the state in which an input is asked for, if something new was seen.

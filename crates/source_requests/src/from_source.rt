@@ -7,11 +7,12 @@ use crate::programs::{
     write_numbered,
 };
 use crate::spots::{Spot, behind_lines, line_counts, line_of, on_line, spot_of};
-use command_line::{Sourced, Task};
+use crate::wordless::number_for;
+use command_line::{Save, Sourced, Task};
 use command_parts::status::{Fault, Status};
 use declaration::DeclarationFault;
 use fault_texts::{FaultyFile, push_fault};
-use labels::{Numbered, number};
+use labels::Numbered;
 use pal_text::{Ending, statements};
 use program_files::telling::tell_with;
 use search_commands::verifying::VerifyOptions;
@@ -20,12 +21,12 @@ use std::alloc::Global;
 use std::rt::Files;
 
 /// Says whether a program keeps its declaration, or the one that is proposed.
-fn verified<R: Files + Print + Eprint>(
+fn verified<R: Files + Input + Print + Eprint>(
     rt: &R,
     alloc: Global,
     source: &SourceText<'_>,
     numbered: &Numbered<Global>,
-    save: Option<&str>,
+    save: Option<Save<'_>>,
     options: &VerifyOptions,
 ) -> Result<Status, SourcedFault> {
     match source.promise {
@@ -101,7 +102,7 @@ fn done_with<R: Files + Input + Print + Eprint>(
     given: &Given,
     sourced: &Sourced<'_>,
 ) -> Result<Status, SourcedFault> {
-    let numbered = number(alloc, parts, &given.text)?;
+    let numbered = number_for(alloc, parts, &given.text, &sourced.task)?;
     let source = SourceText {
         parts,
         declaration: &given.text,

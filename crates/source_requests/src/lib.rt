@@ -7,5 +7,6 @@ mod numbering;
 mod programs;
 mod source_lines;
 mod spots;
+mod wordless;
 
 pub use from_source::answer_sourced;

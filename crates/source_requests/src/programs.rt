@@ -5,7 +5,7 @@ ghost use Rattle.std.specs.Prelude.{◌≡◌, false};
 
 use crate::numbering::Promise;
 use crate::source_lines::{source_notes, with_source_lines};
-use command_line::{Destination, WatchedSession};
+use command_line::{Destination, Save, WatchedSession};
 use command_parts::inputs::{declaration_from, tape_from};
 use command_parts::status::{DeviceFault, Fault, Status};
 use fault_texts::push_omissions;
@@ -14,13 +14,13 @@ use machine_commands::refuting::RefuteOptions;
 use machine_commands::watched_session::watch_session;
 use program_files::drafted::{is_stuck_fault, report_stuck};
 use program_files::faults::{stuck_address, stuck_text, with_omissions};
-use program_files::files::{open_input, open_output};
-use program_files::saving::{save_answer, save_proposed};
+use program_files::files::{finish, open_input, open_output};
+use program_files::saving::{Saving, save_answer, save_proposed};
 use program_files::tellers::{open_input_if, report_to, tell_to};
 use report_commands::reporting::{ReportForm, report};
 use search_commands::completing::complete;
 use search_commands::declaring::{DeclareOptions, declare};
-use search_commands::verifying::{Answer, Lack, VerifyOptions, answer_status, verify_proposed};
+use search_commands::verifying::{Answer, Lack, VerifyOptions, verify_proposed};
 use source_verdicts::SourcedFault;
 use source_verdicts::checking::check_source;
 use source_verdicts::guessing::{explain_source, guess_source};
@@ -89,14 +89,14 @@ fn with_reasons(
 
 /// Tells the answer of a search, with what the program shows by itself where that is asked for, and saves what
 /// shows it.
-fn tell_answer<R: Files + Print>(
+fn tell_answer<R: Files + Input + Print + Eprint>(
     rt: &R,
     alloc: Global,
     given: &SourceText<'_>,
     numbered: &Numbered<Global>,
     answer: &Answer<Global>,
     lines: &[u8],
-    save: Option<&str>,
+    save: Option<Save<'_>>,
     explained: bool,
 ) -> Result<Status, Fault> {
     let mut report = Vec::new(alloc);
@@ -110,18 +110,18 @@ fn tell_answer<R: Files + Print>(
         report = with_source_lines(alloc, given, &report)?;
     }
     put(&mut Writes::new(io::writer(rt)), &report)?;
-    save_answer(rt, alloc, save, answer)?;
-    Ok(answer_status(answer))
+    let saving = Saving { save, explained };
+    save_answer(rt, alloc, &saving, answer)
 }
 
 /// Says whether the program keeps its declaration.
 #[inline(never)]
-pub fn verify_program<R: Files + Print>(
+pub fn verify_program<R: Files + Input + Print + Eprint>(
     rt: &R,
     alloc: Global,
     given: &SourceText<'_>,
     numbered: &Numbered<Global>,
-    save: Option<&str>,
+    save: Option<Save<'_>>,
     options: &VerifyOptions,
 ) -> Result<Status, SourcedFault> {
     let mut text = Vec::new(alloc);
@@ -169,12 +169,12 @@ fn tell_proposed_answer<R: Print + Eprint>(
 
 /// Says whether the program keeps the declaration that is proposed for it, and on standard error that it is.
 #[inline(never)]
-pub fn verify_alone<R: Files + Print + Eprint>(
+pub fn verify_alone<R: Files + Input + Print + Eprint>(
     rt: &R,
     alloc: Global,
     given: &SourceText<'_>,
     numbered: &Numbered<Global>,
-    save: Option<&str>,
+    save: Option<Save<'_>>,
     options: &VerifyOptions,
 ) -> Result<Status, Fault> {
     let mut text = Vec::new(alloc);
@@ -185,8 +185,11 @@ pub fn verify_alone<R: Files + Print + Eprint>(
     }
     let proposed = found?;
     tell_proposed_answer(rt, alloc, given, &text, options.search.explained)?;
-    save_proposed(rt, alloc, save, &proposed)?;
-    Ok(answer_status(&proposed.answer))
+    let saving = Saving {
+        save,
+        explained: options.search.explained,
+    };
+    save_proposed(rt, alloc, &saving, &proposed)
 }
 
 /// Checks the certificate of a file.
@@ -253,13 +256,14 @@ pub fn report_numbered<R: Files + Input + Print>(
 ) -> Result<Status, Fault> {
     let notes = source_notes(alloc, given)?;
     let mut claims = open_input(rt, certificate)?;
-    let mut page = open_output(rt, out)?;
+    let mut file = open_output(rt, alloc, out)?;
+    let mut page = Writes::new(&mut file);
     let form = if text {
         ReportForm::Text
     } else {
         ReportForm::Page
     };
-    report(
+    let status = report(
         alloc,
         &mut frames_of(numbered),
         &mut promise_of(numbered),
@@ -267,7 +271,8 @@ pub fn report_numbered<R: Files + Input + Print>(
         &mut page,
         form,
         Some(&notes),
-    )
+    )?;
+    finish(&mut file, status)
 }
 
 /// Watches a run by the events of a file, and writes what is told of it to a sink.
@@ -373,8 +378,10 @@ fn guess_alone<R: Files + Print>(
     given: &SourceText<'_>,
     out: Destination<'_>,
 ) -> Result<Status, SourcedFault> {
-    let mut certificate = open_output(rt, out)?;
-    guess_source(alloc, given.parts, given.declaration, &mut certificate)
+    let mut file = open_output(rt, alloc, out)?;
+    let mut certificate = Writes::new(&mut file);
+    let status = guess_source(alloc, given.parts, given.declaration, &mut certificate)?;
+    Ok(finish(&mut file, status)?)
 }
 
 /// Guesses a certificate, and gives the lines on a search that is stuck.
@@ -385,7 +392,8 @@ fn guess_with_lines<R: Files + Print>(
     out: Destination<'_>,
     lines: &mut Vec<u8>,
 ) -> Result<Status, SourcedFault> {
-    let mut certificate = open_output(rt, out)?;
+    let mut file = open_output(rt, alloc, out)?;
+    let mut certificate = Writes::new(&mut file);
     let mut report = Writes::new(lines);
     let answer = explain_source(
         alloc,
@@ -397,7 +405,7 @@ fn guess_with_lines<R: Files + Print>(
     if report.failed() {
         return Err(SourcedFault::Command(Fault::NoMemory));
     }
-    answer
+    Ok(finish(&mut file, answer?)?)
 }
 
 /// Guesses a certificate, and says on standard error why the search is stuck.
@@ -503,14 +511,15 @@ fn refute_with_reasons<R: Files + Print + Eprint>(
     out: Destination<'_>,
     options: RefuteOptions,
 ) -> Result<Status, SourcedFault> {
-    let mut output = open_output(rt, out)?;
+    let mut file = open_output(rt, alloc, out)?;
     let mut events = Vec::new(alloc);
     let mut told = Vec::new(alloc);
     let status = refute_lines(alloc, given, options, &mut events, &mut told)?;
     let text = with_source_lines(alloc, given, &told)?;
-    if put(&mut output, &events).is_err() {
+    if put(&mut Writes::new(&mut file), &events).is_err() {
         return Err(SourcedFault::Command(Fault::Device(DeviceFault::Write)));
     }
+    let status = finish(&mut file, status)?;
     match put(&mut report_to(rt, out.name() == "-"), &text) {
         Ok(()) => Ok(status),
         Err(failed) => Err(SourcedFault::Command(Fault::from(failed))),
@@ -530,15 +539,20 @@ pub fn refute_program<R: Files + Print + Eprint>(
         return refute_with_reasons(rt, alloc, given, out, options);
     }
     let mut report = report_to(rt, out.name() == "-");
-    let mut events = open_output(rt, out)?;
-    refute_source(
+    let mut file = open_output(rt, alloc, out)?;
+    let mut events = Writes::new(&mut file);
+    let answer = refute_source(
         alloc,
         given.parts,
         given.declaration,
         options,
         &mut events,
         &mut report,
-    )
+    );
+    if !events.failed() {
+        let _status = finish(&mut file, Status::Done)?;
+    }
+    answer
 }
 
 /// Adds a declaration that is proposed, or these numbers completed.
@@ -622,11 +636,11 @@ pub fn declare_program<R: Files + Print>(
     out: Destination<'_>,
     options: DeclareOptions,
 ) -> Result<Status, SourcedFault> {
-    let mut text = open_output(rt, out)?;
+    let mut file = open_output(rt, alloc, out)?;
     let mut found = Vec::new(alloc);
     let status = declared_with_symbols(alloc, given, numbered, options, &mut found)?;
-    match put(&mut text, &found) {
-        Ok(()) => Ok(status),
+    match put(&mut Writes::new(&mut file), &found) {
+        Ok(()) => Ok(finish(&mut file, status)?),
         Err(failed) => Err(SourcedFault::Command(Fault::from(failed))),
     }
 }
@@ -640,10 +654,10 @@ pub fn write_numbered<R: Files + Print>(
     promise: Promise,
     out: Destination<'_>,
 ) -> Result<Status, Fault> {
-    let mut text = open_output(rt, out)?;
+    let mut file = open_output(rt, alloc, out)?;
     put(
-        &mut text,
+        &mut Writes::new(&mut file),
         &as_written(alloc, &numbered.declaration, promise)?,
     )?;
-    Ok(Status::Done)
+    finish(&mut file, Status::Done)
 }

@@ -1,7 +1,7 @@
 //! All faults of a source that can be found, one after another.
 
 use crate::copies::{copies_of, first_fault, replace};
-use crate::findings::{Finding, about_text};
+use crate::findings::{Finding, about_text, has_order_mark};
 use crate::given::{about_assignment, about_room, about_tags};
 use crate::lines::{bytes_between, count_characters, line_at, push_marked};
 use crate::meanings::{Meanings, NOWHERE, meanings_before};
@@ -152,11 +152,15 @@ fn filler_of<A: Allocator>(bytes: &[u8], faulty: &Faulty<A>) -> u8 {
 }
 
 /// Leaves a fault out of a part: the tag at this place, or the body of the statement, in whose stead stands
-/// the word or the value 0. A body that was left out before becomes nothing.
+/// the word or the value 0. A body that was left out before becomes nothing, and so does a byte order mark.
 fn leave_out<A: Allocator>(bytes: &mut [u8], faulty: &Faulty<A>, marked: usize, is_again: bool) {
     if faulty.code == Code::DuplicateTag {
         let end = end_of_tag(faulty, marked);
         return replace(bytes, marked, end, b' ');
+    }
+    if faulty.start == 0 && has_order_mark(bytes) {
+        replace(bytes, 0, 1, b' ');
+        return replace(bytes, 2, 3, b' ');
     }
     let filler = if is_again {
         b' '

@@ -61,6 +61,25 @@ fn finding_by<A: Allocator + Copy>(
     })
 }
 
+/// Whether a part, or its copy, in which the second of the three bytes ends a line, begins with a byte order mark, which
+/// some editors put in front of a text.
+pub(crate) fn has_order_mark(bytes: &[u8]) -> bool {
+    matches!(bytes, [0o357, 0o273 | b'\r', 0o277, ..])
+}
+
+/// What is told of a byte order mark in front of a part.
+fn about_order_mark<A: Allocator + Copy>(alloc: A) -> Result<Finding<A>, AllocError> {
+    Ok(Finding {
+        start: 0,
+        end: 3,
+        wrong: String::from_str(alloc, "a byte order mark stands in front of the source")?,
+        advice: String::from_str(
+            alloc,
+            "save the file as ASCII, or as UTF-8 without a byte order mark",
+        )?,
+    })
+}
+
 /// What is told of a statement that has no form: of the token at this place among its own, or of the last
 /// one where that wants another behind it.
 fn about_form<A: Allocator + Copy>(
@@ -70,6 +89,9 @@ fn about_form<A: Allocator + Copy>(
     at: usize,
 ) -> Result<Option<Finding<A>>, AllocError> {
     if let Some(token) = tokens.get(at) {
+        if token.start == 0 && has_order_mark(bytes) {
+            return Ok(Some(about_order_mark(alloc)?));
+        }
         let words = about(told_kind(bytes, *token), code_at(bytes, token.start));
         let end = end_of_small(bytes, tokens_from(tokens, at), token.end);
         return Ok(Some(finding_by(alloc, bytes, token.start, end, words)?));

@@ -13,6 +13,7 @@ use file_requests::promises::{
 use file_requests::sources::{assemble_to, list_from};
 use file_requests::tapes::{declare_from, dump_from, run_from, source_from};
 use program_files::faults::{fault_lines, refusal_lines};
+use program_files::inputs::misused_files;
 use program_files::telling::{tell, tell_lines, tell_misuse};
 use source_requests::answer_sourced;
 use std::alloc::Global;
@@ -55,13 +56,18 @@ pub fn exit_status<R: Env + Files + Input + Print + Eprint + AllocGlobal>(rt: &R
     }
 }
 
-/// Carries out a command line, and tells the fault that stops it: first its line, since the file that has it is
+/// Carries out a command line whose files are none twice, and tells the fault that stops it: first its line, since the file that has it is
 /// looked at once more for those below. Of an answer that is no fault it says what the command doesn't.
 fn carry_out<R: Files + Input + Print + Eprint>(
     rt: &R,
     alloc: Global,
     line: &CommandLine<'_>,
 ) -> Status {
+    match misused_files(rt, alloc, &line.request) {
+        Ok(None) => {}
+        Ok(Some(misuse)) => return tell_misuse(rt, &misuse),
+        Err(_) => return tell(rt, Fault::NoMemory),
+    }
     match answer(rt, alloc, &line.request) {
         Ok(status) => {
             if line.explained && status == Status::Refused {

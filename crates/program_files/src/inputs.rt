@@ -1,0 +1,171 @@
+//! Outputs that are inputs under another name: files are compared, not their names. It is tested and not proved.
+
+use command_line::{Misuse, Request, Save, Task, is_source_name};
+use std::alloc::{AllocError, Global};
+use std::fs;
+use std::io::Read;
+use std::os::unix::fs::MetadataExt;
+use std::rt::Files;
+
+/// What the first line begins with of a source that `source` writes.
+static SOURCE_MARK: &[u8] = b"/From a tape, for the PDP-8/";
+
+/// A plain file, however it is named: its device and its number there.
+#[derive(Clone, Copy, PartialEq, Eq)]
+struct Identity {
+    device: u64,
+    number: u64,
+}
+
+/// The plain file with this name, if it is there; `-` stands for standard input.
+fn identity_of<R: Files>(rt: &R, name: &str) -> Option<Identity> {
+    let name = if name == "-" { "/dev/stdin" } else { name };
+    match fs::metadata(rt, name) {
+        Ok(found) if found.is_file() => Some(Identity {
+            device: found.dev(),
+            number: found.ino(),
+        }),
+        _ => None,
+    }
+}
+
+/// Whether one of these names is that of a file.
+fn names_file<R: Files>(rt: &R, names: &[&str], file: Identity) -> bool {
+    names.iter().any(|name| identity_of(rt, name) == Some(file))
+}
+
+/// Whether a file is a part of the request's source.
+fn is_part<R: Files>(rt: &R, request: &Request<'_>, file: Identity) -> bool {
+    match request {
+        Request::Assemble(asked) => names_file(rt, &asked.sources, file),
+        Request::Sourced(asked) => names_file(rt, &asked.sources, file),
+        _ => false,
+    }
+}
+
+/// Whether a request reads keys from standard input, though that isn't among its names.
+fn reads_keys(request: &Request<'_>) -> bool {
+    matches!(request, Request::Teletype(_))
+}
+
+/// Whether a name that no stream has is that of one of the request's inputs.
+fn is_input<R: Files>(rt: &R, request: &Request<'_>, name: &str) -> bool {
+    let Some(output) = identity_of(rt, name) else {
+        return false;
+    };
+    if reads_keys(request) && identity_of(rt, "-") == Some(output) {
+        return true;
+    }
+    for input in request.names().inputs() {
+        if let Some(input) = input {
+            if identity_of(rt, input) == Some(output) {
+                return true;
+            }
+        }
+    }
+    is_part(rt, request, output)
+}
+
+/// What is wrong with an output: it is also an input, or the result's file.
+fn misused_output<R: Files>(rt: &R, request: &Request<'_>) -> Option<Misuse> {
+    let names = request.names();
+    let out = names.output.unwrap_or("-");
+    if out != "-" && is_input(rt, request, out) {
+        return Some(Misuse::OutputIsInput);
+    }
+    let second = names.second_output.unwrap_or("-");
+    if second == "-" {
+        return None;
+    }
+    let is_punch = matches!(request, Request::Session(_) | Request::Teletype(_));
+    if is_input(rt, request, second) {
+        return Some(if is_punch {
+            Misuse::PunchIsTaken
+        } else {
+            Misuse::ReportIsTaken
+        });
+    }
+    let found = identity_of(rt, second);
+    if !is_punch && out != "-" && found.is_some() && identity_of(rt, out) == found {
+        return Some(Misuse::ReportIsTaken);
+    }
+    None
+}
+
+/// The files that a request saves, if it does.
+fn save_of<'a>(request: &Request<'a>) -> Option<Save<'a>> {
+    match request {
+        Request::Verify(asked) => asked.save,
+        Request::Sourced(asked) => match &asked.task {
+            Task::Verify { save, .. } => *save,
+            _ => None,
+        },
+        _ => None,
+    }
+}
+
+/// Whether a file that may be saved is an input.
+fn saves_over<R: Files>(rt: &R, alloc: Global, request: &Request<'_>) -> Result<bool, AllocError> {
+    let Some(save) = save_of(request) else {
+        return Ok(false);
+    };
+    for ending in save.endings() {
+        let mut path = String::new(alloc);
+        path.push_str(save.name)?;
+        path.push_str(ending)?;
+        if is_input(rt, request, &path) {
+            return Ok(true);
+        }
+    }
+    Ok(false)
+}
+
+/// Whether a file is there and isn't empty, and isn't a source that `source` wrote.
+fn is_foreign_source<R: Files>(rt: &R, name: &str) -> bool {
+    match fs::metadata(rt, name) {
+        Ok(found) if found.is_file() && found.len() > 0 => {}
+        _ => return false,
+    }
+    let mut front = [0; 28];
+    let Ok(mut file) = fs::open(rt, name) else {
+        return false;
+    };
+    match file.read(&mut front) {
+        Ok(_) => front.as_slice() != SOURCE_MARK,
+        Err(_) => true,
+    }
+}
+
+/// Whether a source would replace one that the command didn't write.
+fn replaces_source<R: Files>(rt: &R, request: &Request<'_>) -> bool {
+    match request {
+        Request::Source(asked) => {
+            let name = asked.out.name();
+            !asked.forced && is_source_name(name) && is_foreign_source(rt, name)
+        }
+        _ => false,
+    }
+}
+
+/// What is wrong with the files of a request, before any of them is opened: an output is also an input under another
+/// name, or a source would be lost.
+///
+/// # Errors
+///
+/// Where memory is refused.
+pub fn misused_files<R: Files>(
+    rt: &R,
+    alloc: Global,
+    request: &Request<'_>,
+) -> Result<Option<Misuse>, AllocError> {
+    if let Some(misuse) = misused_output(rt, request) {
+        return Ok(Some(misuse));
+    }
+    if saves_over(rt, alloc, request)? {
+        return Ok(Some(Misuse::SaveIsTaken));
+    }
+    if replaces_source(rt, request) {
+        return Ok(Some(Misuse::SourceIsKept));
+    }
+    Ok(None)
+}

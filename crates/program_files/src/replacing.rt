@@ -1,0 +1,324 @@
+//! A file for a result, which takes its place when it is whole: what is written goes to a file beside it, so that
+//! neither a full disk nor a fault halfway loses what was there. It is tested and not proved.
+
+use std::alloc::{AllocError, Global};
+use std::fmt::Write;
+use std::fs::{self, Metadata, OpenOptions, Permissions};
+use std::io::{self, Read};
+use std::os::unix::fs::{MetadataExt, PermissionsExt, chown};
+use std::rt::Files;
+
+/// How many names are tried for a file beside another one.
+const MOST_NAMES: u32 = 1_000;
+
+/// How many symbolic links are followed from one to the next.
+const MOST_LINKS: u32 = 40;
+
+/// Where Linux says how long a file of this program may become.
+static LIMITS: &str = "/proc/self/limits";
+
+/// A file beside another one, which is removed unless it has taken the place of that one.
+struct Beside<'r, R: Files> {
+    rt: &'r R,
+    /// Its name, which is empty when it has taken its place.
+    name: String,
+}
+
+impl<R: Files> Drop for Beside<'_, R> {
+    fn drop(self) {
+        if !self.name.is_empty() {
+            let _ = fs::remove_file(self.rt, &self.name);
+        }
+        let Beside { rt: _, name: _ } = self;
+    }
+}
+
+/// Adds the folder that a path names, with the slash behind it, if it names one.
+fn push_folder(text: &mut String, path: &str) -> Result<(), AllocError> {
+    if let Some((folder, _)) = path.rsplit_once('/') {
+        text.push_str(folder)?;
+        text.push('/')?;
+    }
+    Ok(())
+}
+
+/// A name for a file beside another one.
+fn name_beside(alloc: Global, path: &str, number: u32) -> Result<String, AllocError> {
+    let mut name = String::new(alloc);
+    push_folder(&mut name, path)?;
+    match write!(name, ".pdp8-{number}") {
+        Ok(()) => Ok(name),
+        Err(_) => Err(AllocError),
+    }
+}
+
+/// What is said of memory that was refused, as a fault of a file.
+fn no_memory(_refused: AllocError) -> io::Error {
+    io::Error::from(io::ErrorKind::OutOfMemory)
+}
+
+/// Makes a file beside the one at a path, with a name that no file has.
+fn make_beside<'r, R: Files>(
+    rt: &'r R,
+    alloc: Global,
+    path: &str,
+) -> io::Result<(R::File, Beside<'r, R>)> {
+    for number in 0..MOST_NAMES {
+        let name = name_beside(alloc, path, number).map_err(no_memory)?;
+        let made = OpenOptions::new()
+            .write(true)
+            .create_new(true)
+            .open(rt, &name);
+        match made {
+            Ok(file) => return Ok((file, Beside { rt, name })),
+            Err(error) if error.kind() == io::ErrorKind::AlreadyExists => {}
+            Err(error) => return Err(error),
+        }
+    }
+    Err(io::Error::from(io::ErrorKind::AlreadyExists))
+}
+
+/// Whether a path is that of a stream that is open, under the name that Linux gives it.
+fn is_stream(path: &str) -> bool {
+    path.starts_with("/dev/fd/") || path.starts_with("/proc/")
+}
+
+/// The path that a symbolic link stands for.
+fn link_target<R: Files>(rt: &R, alloc: Global, link: &str) -> io::Result<String> {
+    let target = rt.read_link(alloc, link)?.into_string();
+    if target.starts_with('/') {
+        return Ok(target);
+    }
+    let mut path = String::new(alloc);
+    push_folder(&mut path, link).map_err(no_memory)?;
+    path.push_str(&target).map_err(no_memory)?;
+    Ok(path)
+}
+
+/// Where the file with this name lies, behind all symbolic links; nothing where no file beside it may take its place.
+fn place_of<R: Files>(rt: &R, alloc: Global, name: &str) -> Result<Option<String>, AllocError> {
+    let mut path = String::from_str(alloc, name)?;
+    for _ in 0..MOST_LINKS {
+        if is_stream(&path) || path.is_empty() || path.ends_with('/') {
+            return Ok(None);
+        }
+        match fs::symlink_metadata(rt, &path) {
+            Ok(found) if found.is_symlink() => match link_target(rt, alloc, &path) {
+                Ok(target) => path = target,
+                Err(_) => return Ok(None),
+            },
+            _ => return Ok(Some(path)),
+        }
+    }
+    Ok(None)
+}
+
+/// Whether a file can't be made since its folder is closed to this program.
+fn is_forbidden(kind: io::ErrorKind) -> bool {
+    matches!(
+        kind,
+        io::ErrorKind::PermissionDenied | io::ErrorKind::ReadOnlyFilesystem
+    )
+}
+
+/// Gives a file beside another one the owner and the permissions of that one.
+fn dress<R: Files>(rt: &R, beside: &str, found: &Metadata) -> io::Result<()> {
+    let made = fs::metadata(rt, beside)?;
+    if made.uid() != found.uid() || made.gid() != found.gid() {
+        chown(rt, beside, Some(found.uid()), Some(found.gid()))?;
+    }
+    fs::set_permissions(rt, beside, Permissions::from_mode(found.mode() & 0o7777))
+}
+
+/// The limit that a line of Linux's list of limits gives, if it is that on the length of files.
+fn limit_on(line: &str) -> Option<u64> {
+    let limits = line.strip_prefix("Max file size")?;
+    limits.split_whitespace().next()?.parse::<u64>().ok()
+}
+
+/// How long a file of this program may become: to write beyond that would end the program by a signal.
+fn longest_file<R: Files>(rt: &R) -> u64 {
+    let mut text = [0; 2_048];
+    let Ok(mut file) = fs::open(rt, LIMITS) else {
+        return u64::MAX;
+    };
+    let Ok(count) = file.read(&mut text) else {
+        return u64::MAX;
+    };
+    let Ok(lines) = str::from_utf8(&text[..count]) else {
+        return u64::MAX;
+    };
+    for line in lines.lines() {
+        if let Some(limit) = limit_on(line) {
+            return limit;
+        }
+    }
+    u64::MAX
+}
+
+/// A file for a result.
+#[derive(Drop)]
+pub struct ResultFile<'r, R: Files> {
+    rt: &'r R,
+    alloc: Global,
+    name: &'r str,
+    /// Where it lies, if a file beside it may take its place.
+    path: Option<String>,
+    /// The file beside it, when that is open.
+    beside: Option<Beside<'r, R>>,
+    /// What is written to, when it is open.
+    file: Option<R::File>,
+    /// How many bytes may still be written.
+    room: u64,
+}
+
+impl<'r, R: Files> ResultFile<'r, R> {
+    /// The file with this name, which isn't touched yet.
+    pub fn new(rt: &'r R, alloc: Global, name: &'r str) -> Result<ResultFile<'r, R>, AllocError> {
+        Ok(ResultFile {
+            rt,
+            alloc,
+            name,
+            path: place_of(rt, alloc, name)?,
+            beside: None,
+            file: None,
+            room: u64::MAX,
+        })
+    }
+
+    /// Whether it is another thing than a file that is there or can be made, such as a pipe.
+    fn is_device(&self) -> bool {
+        match fs::metadata(self.rt, self.name) {
+            Ok(found) => !found.is_file(),
+            Err(_) => false,
+        }
+    }
+
+    /// Makes or empties the file. What is no plain file is open from now on.
+    pub fn make_empty(&mut self) -> io::Result<()> {
+        let file = fs::create(self.rt, self.name)?;
+        if self.path.is_none() || self.is_device() {
+            self.file = Some(file);
+        }
+        Ok(())
+    }
+
+    /// Sees to it that the file can be made or written, and leaves it as it is. What is no plain file is opened.
+    pub fn check(&mut self) -> io::Result<()> {
+        let Some(path) = &self.path else {
+            return self.open_in_place();
+        };
+        match fs::metadata(self.rt, path) {
+            Ok(found) if found.is_file() => {
+                let _file = OpenOptions::new().write(true).open(self.rt, path)?;
+                Ok(())
+            }
+            Ok(_) => self.open_in_place(),
+            Err(_) => {
+                let _made = make_beside(self.rt, self.alloc, path)?;
+                Ok(())
+            }
+        }
+    }
+
+    /// Makes or empties the file, and writes to it from now on.
+    fn open_in_place(&mut self) -> io::Result<()> {
+        self.file = Some(fs::create(self.rt, self.name)?);
+        Ok(())
+    }
+
+    /// Opens a file beside the one at a path, to which all is written from now on. Where there is one that can't be
+    /// replaced, that one is opened.
+    fn open_beside(&mut self, path: &str) -> io::Result<()> {
+        let (file, beside) = match fs::metadata(self.rt, path) {
+            Ok(found) => {
+                let _file = OpenOptions::new().write(true).open(self.rt, path)?;
+                match make_beside(self.rt, self.alloc, path) {
+                    Ok((file, beside)) => {
+                        if dress(self.rt, &beside.name, &found).is_err() {
+                            return self.open_in_place();
+                        }
+                        (file, beside)
+                    }
+                    Err(error) if is_forbidden(error.kind()) => return self.open_in_place(),
+                    Err(error) => return Err(error),
+                }
+            }
+            Err(_) => make_beside(self.rt, self.alloc, path)?,
+        };
+        self.file = Some(file);
+        self.beside = Some(beside);
+        Ok(())
+    }
+
+    /// Opens what is written to, before the first piece of so many bytes.
+    fn open(&mut self, count: u64) -> io::Result<()> {
+        let device = self.is_device();
+        if !device {
+            self.room = longest_file(self.rt);
+        }
+        if count > self.room {
+            return Err(io::Error::from(io::ErrorKind::FileTooLarge));
+        }
+        match self.path.take() {
+            Some(path) if !device => {
+                let opened = self.open_beside(&path);
+                self.path = Some(path);
+                opened
+            }
+            _ => self.open_in_place(),
+        }
+    }
+
+    /// Puts what was written, which is whole, in its place. Where nothing was written, nothing is done.
+    pub fn finish(&mut self) -> io::Result<()> {
+        let Some(path) = &self.path else {
+            return Ok(());
+        };
+        let Some(beside) = &mut self.beside else {
+            return Ok(());
+        };
+        match fs::rename(self.rt, &beside.name, path) {
+            Ok(()) => {
+                beside.name.clear();
+                Ok(())
+            }
+            Err(_) => {
+                let _count = fs::copy(self.rt, &beside.name, path)?;
+                Ok(())
+            }
+        }
+    }
+
+    /// Puts what was written, which is whole, in its place. Where nothing was written the file is made or emptied.
+    pub fn finish_or_empty(&mut self) -> io::Result<()> {
+        if self.file.is_none() {
+            return self.make_empty();
+        }
+        self.finish()
+    }
+}
+
+impl<R: Files> io::Write for ResultFile<'_, R> {
+    fn write(&mut self, buf: &[u8]) -> io::Result<usize> {
+        let count = buf.len() as u64;
+        if self.file.is_none() {
+            self.open(count)?;
+        }
+        if count > self.room {
+            return Err(io::Error::from(io::ErrorKind::FileTooLarge));
+        }
+        self.room -= count;
+        match &mut self.file {
+            Some(file) => file.write(buf),
+            None => Ok(0),
+        }
+    }
+
+    fn flush(&mut self) -> io::Result<()> {
+        match &mut self.file {
+            Some(file) => file.flush(),
+            None => Ok(()),
+        }
+    }
+}

@@ -309,4 +309,5 @@ def main(task, path, count, seed):
         sys.exit(differing > 0)
 
 
-main(*sys.argv[1:])
+if __name__ == "__main__":
+    main(*sys.argv[1:])

@@ -6,21 +6,21 @@ from dataclasses import dataclass, field, replace
 
 import sets
 from check import ORDER, Routine, set_of, set_text
-from facts3 import AC, Fact, Place, joined, lands_by, narrowed, parts, possible, post, targets, values
+from facts3 import AC, MINUS, Fact, Place, joined, lands_by, narrowed, order, parts, possible, post, spelled, targets, values
 from machine import is_supported, named_cell
 from watch import is_halt
 
-LIMITS = {"cell": 64, "apart": 32, "load": 16, "func": 4}
+LIMITS = {"cell": 64, "sum": 48, "func": 4}
 MOST = 64
 LONGEST = 1048576
 ADDRESS, SET, OFFSETS = r"[0-7]{4}", r"[-0-7,]+", r"[-0-7,]+"
+TERM = rf"(?:AC|{ADDRESS}|\[{ADDRESS}\+{ADDRESS}\])"
 LINES = {
     "routine": rf"routine ({ADDRESS}) rank ([0-7]{{2}}) sites ({SET}) writes ({SET})",
     "fact": rf"fact ({ADDRESS}) sites ({SET}) ac ({SET}) mq ({SET}) link (0|1|01) offsets ({OFFSETS})",
     "exit": rf"exit ({ADDRESS}) ([0-7]{{2}}) sites ({SET}) ac ({SET}) mq ({SET}) link (0|1|01)",
     "cell": rf"cell ({ADDRESS}) ({SET})",
-    "apart": rf"apart (AC|{ADDRESS}) (-|{ADDRESS})(?: ({ADDRESS})| times ({ADDRESS}))? ({SET})",
-    "load": rf"load (AC|{ADDRESS}) ({ADDRESS}) ({ADDRESS}) ([+-]) ({SET})",
+    "sum": rf"sum ({TERM}(?: (?:[+-]|{ADDRESS}) {TERM}){{1,2}}) in ({SET})",
     "func": rf"func ({ADDRESS}) ({ADDRESS}) link (0|1|01)((?: AND {ADDRESS}| TAD {ADDRESS}| 7[0-3][0-7]{{2}}){{1,16}})",
 }
 
@@ -47,37 +47,30 @@ def link_text(links):
     return "".join(str(link) for link in sorted(links))
 
 
-def name_text(name):
-    return "AC" if name == AC else "-" if name is None else f"{name:04o}"
+def term_text(term):
+    return "AC" if term == AC else "[{:04o}+{:04o}]".format(*term) if isinstance(term, tuple) else f"{term:04o}"
 
 
-def below(fact):
-    """The lines below a fact, each with its key, by which they rise."""
-    for cell, members in fact.cells.items():
-        yield ("cell", cell), f"cell {cell:04o} {set_text(members)}"
-    for (p, n), s in fact.sums.items():
-        names = name_text(p) + (f" {n:04o}" if n is not None else "")
-        yield sum_key(p, n), f"apart AC {names} {set_text(s)}"
-    for (x, y, c), s in fact.differences.items():
-        factor = f" times {c:04o}" if c != 1 else ""
-        yield ("apart", x, y, c), f"apart {x:04o} {y:04o}{factor} {set_text(s)}"
-    for (z, x, k, sign), j in fact.loads.items():
-        yield ("load", z, x, k, -sign), f"load {name_text(z)} {x:04o} {k:04o} {'+' if sign > 0 else '-'} {set_text(j)}"
-    for x, (k, links, steps) in fact.chains.items():
-        words = "".join(f" {kind} {operand:04o}" if kind != "word" else f" {operand:04o}" for kind, operand in steps)
-        yield ("func", x), f"func {x:04o} {k:04o} link {link_text(links)}{words}"
+def form_text(form):
+    signs = {1: "+", MINUS: "-"}
+    return term_text(form[0][0]) + "".join(f" {signs.get(c, f'{c:04o}')} {term_text(term)}" for term, c in form[1:])
 
 
-def sum_key(p, n):
-    return ("apart", AC, -1 if p is None else p, -1 if n is None else n)
-
-
-def rank_of(key):
-    return (("cell", "apart", "load", "func").index(key[0]), *key[1:])
+def form_key(form):
+    """The key of a relation's line below a fact: those of cells are before all others."""
+    return len(form) > 1, *((order(term), c) for term, c in form)
 
 
 def fact_lines(fact):
-    return [line for _, line in sorted(below(fact), key=lambda pair: rank_of(pair[0]))]
+    """The lines below a fact."""
+    for form, s in sorted(fact.relations.items(), key=lambda pair: form_key(pair[0])):
+        if len(form) > 1:
+            yield f"sum {form_text(form)} in {set_text(s)}"
+        elif form != ((AC, 1),):
+            yield f"cell {form_text(form)} {set_text(s)}"
+    for x, (k, links, steps) in sorted(fact.chains.items()):
+        words = "".join(f" {kind} {operand:04o}" if kind != "word" else f" {operand:04o}" for kind, operand in steps)
+        yield f"func {x:04o} {k:04o} link {link_text(links)}{words}"
 
 
 def text(certificate):
@@ -87,12 +80,12 @@ def text(certificate):
         out.append(f"routine {entry:04o} rank {line.rank:02o} sites {set_text(line.sites)} writes {set_text(line.writes)}")
     for at, facts in sorted(certificate.facts.items()):
         for fact in facts:
-            out.append(f"fact {at:04o} sites {set_text(fact.sites)} ac {set_text(fact.ac)} mq {set_text(fact.mq)} "
+            out.append(f"fact {at:04o} sites {set_text(fact.sites)} ac {set_text(fact.set_of(AC))} mq {set_text(fact.mq)} "
                        f"link {link_text(fact.link)} offsets {offsets_text(fact.offsets)}")
             out += fact_lines(fact)
     for (entry, offset), facts in sorted(certificate.exits.items()):
         for fact in facts:
-            out.append(f"exit {entry:04o} {offset:02o} sites {set_text(fact.sites)} ac {set_text(fact.ac)} "
+            out.append(f"exit {entry:04o} {offset:02o} sites {set_text(fact.sites)} ac {set_text(fact.set_of(AC))} "
                        f"mq {set_text(fact.mq)} link {link_text(fact.link)}")
             out += fact_lines(fact)
     return "".join(line + "\n" for line in out + ["end"])
@@ -121,8 +114,20 @@ def links_of(written):
     return frozenset(int(digit) for digit in written)
 
 
-def name_of(written):
-    return AC if written == "AC" else int(written, 8)
+def term_of(written):
+    numbers = tuple(int(word, 8) for word in re.findall(ADDRESS, written))
+    return AC if written == "AC" else numbers if written[0] == "[" else numbers[0]
+
+
+def form_of(written):
+    """The form that a text spells; a ValueError where it has another spelling."""
+    words, factors = written.split(" "), {"+": 1, "-": MINUS}
+    pairs = [(term_of(words[0]), 1)]
+    pairs += [(term_of(term), factors.get(c) or int(c, 8)) for c, term in zip(words[1::2], words[2::2])]
+    form, _ = spelled(frozenset(dict(pairs).items())) or (None, 0)
+    if form != tuple(pairs) or form_text(form) != written:
+        raise ValueError(written)
+    return form
 
 
 def steps_of(written):
@@ -173,7 +178,7 @@ class Reader:
         return (0, int(entry, 8)), lambda: self.found.routines.update({int(entry, 8): line}), "routine"
 
     def fact_of(self, sites, ac, mq, link, offsets="-"):
-        return Fact(members_of(ac), members_of(mq), links_of(link), offsets=offsets_of(offsets), sites=members_of(sites, True))
+        return Fact(members_of(mq), links_of(link), {((AC, 1),): members_of(ac)}, {}, offsets_of(offsets), members_of(sites, True))
 
     def begin(self, listed, key, fact):
         listed.setdefault(key, []).append(fact)
@@ -188,36 +193,18 @@ class Reader:
         return (2, *key), lambda: self.begin(self.found.exits, key, fact), ("exit", *key)
 
     def cell(self, cell, members):
-        cell, members = int(cell, 8), members_of(members)
-        return rank_of(("cell", cell)), lambda: put_new(self.under.cells, cell, members), "cell"
+        return self.relation(((int(cell, 8), 1),), members, "cell")
 
-    def apart(self, x, y, n, factor, members):
-        members = members_of(members)
-        if x == "AC":
-            p, n = None if y == "-" else int(y, 8), None if n is None else int(n, 8)
-            if p == n or factor is not None:
-                raise ValueError("apart")
-            return rank_of(sum_key(p, n)), lambda: put_new(self.under.sums, (p, n), members), "apart"
-        if y == "-" or n is not None:
-            raise ValueError("apart")
-        x, y, c = int(x, 8), int(y, 8), 1 if factor is None else int(factor, 8)
-        if x == y or (c in (1, 0o7777) and x > y) or c == 0 or (c == 1 and factor is not None):
-            raise ValueError("apart")
-        return rank_of(("apart", x, y, c)), lambda: put_new(self.under.differences, (x, y, c), members), "apart"
+    def sum(self, terms, members):
+        return self.relation(form_of(terms), members, "sum")
 
-    def load(self, z, x, k, sign, members):
-        key, members = (name_of(z), int(x, 8), int(k, 8), 1 if sign == "+" else -1), members_of(members)
-        if key[0] == key[1]:
-            raise ValueError("load")
-        return rank_of(("load", *key[:3], -key[3])), lambda: put_new(self.under.loads, key, members), "load"
+    def relation(self, form, members, group):
+        fact, members = self.under, members_of(members)
+        return form_key(form), lambda: fact.relations.update({form: members}), group
 
     def func(self, x, k, links, steps):
         chain = (int(k, 8), links_of(links), steps_of(steps))
-        return rank_of(("func", int(x, 8))), lambda: put_new(self.under.chains, int(x, 8), chain), "func"
-
-
-def put_new(relations, key, value):
-    relations[key] = value
+        return (2, int(x, 8)), lambda: self.under.chains.update({int(x, 8): chain}), "func"
 
 
 def read(written):
@@ -244,7 +231,7 @@ def read(written):
 
 def start_fact(image):
     """What is so at every start."""
-    return Fact(cells={cell: sets.one(word) for cell, word in image.items()})
+    return Fact(relations={((cell, 1),): sets.one(word) for cell, word in image.items()})
 
 
 class Judge:

@@ -1,11 +1,9 @@
 """Facts of version 3 and their outcomes, written from docs/CERTIFICATES3.md alone, for comparing.
 
-Names are cells, and AC is -1, so that AC stands before all cells; None stands where a relation lacks a name. A fact has
-four kinds of relations:
+A term is AC, which is -1 so that it stands before all cells, a cell, or (x, k), the word that the cell at x + k held at
+the start. A form is a tuple of terms with their coefficients. A fact has
 
-    differences[x, y, c] = S     x - c y is in S, for cells
-    sums[p, n] = S               AC - p + n is in S, for cells of which one may be missing
-    loads[z, x, k, sign] = J     z is the word of the fixed cell at x + k, with this sign, plus a word of J
+    relations[form] = S              the form's sum is in S; a form of one term is the set of AC or of a cell
     chains[x] = (k, links, steps)    link and AC are what the steps make of x + k and one of these links
 """
 from dataclasses import dataclass, field, replace
@@ -22,46 +20,31 @@ MINUS = 0o7777
 @dataclass
 class Fact:
     """What is known of a state, and of the call in which it is."""
-    ac: int = sets.ALL
     mq: int = sets.ALL
     link: frozenset = frozenset((0, 1))
-    cells: dict = field(default_factory=dict)
-    differences: dict = field(default_factory=dict)
-    sums: dict = field(default_factory=dict)
-    loads: dict = field(default_factory=dict)
+    relations: dict = field(default_factory=dict)
     chains: dict = field(default_factory=dict)
     offsets: frozenset = frozenset()
     sites: int = 0
 
     def set_of(self, name):
-        return self.ac if name == AC else self.cells.get(name, sets.ALL)
+        return self.relations.get(((name, 1),), sets.ALL)
 
     def with_set(self, name, members):
-        if name == AC:
-            return replace(self, ac=members)
-        return replace(self, cells=self.cells | {name: members})
+        return replace(self, relations=self.relations | {((name, 1),): members})
 
-    def without_ac(self):
-        """Without the relations of AC."""
-        return replace(self, sums={}, chains={}, loads={key: j for key, j in self.loads.items() if key[0] != AC})
+    def without(self, *gone):
+        """Without the relations of some names; without chains, where AC is one of them."""
+        return replace(self, relations={form: s for form, s in self.relations.items() if not names(form) & {*gone}},
+                       chains={x: chain for x, chain in self.chains.items() if not {x, AC} & {*gone}})
 
-    def without(self, gone):
-        """Without the relations of some cells."""
-        return replace(self, differences={key: s for key, s in self.differences.items() if not {*key[:2]} & gone},
-                       sums={key: s for key, s in self.sums.items() if not {*key} & gone},
-                       loads={key: j for key, j in self.loads.items() if not {*key[:2]} & gone},
-                       chains={x: chain for x, chain in self.chains.items() if x not in gone})
-
-    def moved(self, cell, by):
-        """The relations after a cell was counted up."""
-        differences = {(x, y, c): sets.shift(s, by * (x == cell) - c * by * (y == cell))
-                       for (x, y, c), s in self.differences.items()}
-        sums = {(p, n): sets.shift(s, by * (n == cell) - by * (p == cell)) for (p, n), s in self.sums.items()}
-        loads = {}
-        for (z, x, k, sign), j in self.loads.items():
-            put(loads, (z, x, (k - by * (x == cell)) % 4096, sign), sets.shift(j, by * (z == cell)))
-        chains = {x: ((k - by * (x == cell)) % 4096, links, steps) for x, (k, links, steps) in self.chains.items()}
-        return replace(self, differences=differences, sums=sums, loads=loads, chains=chains)
+    def moved(self, cell):
+        """With the relations after a cell was counted up by 1."""
+        relations = {}
+        for form, s in self.relations.items():
+            put(relations, *moved(form, s, cell, sets.one(1)))
+        chains = {x: ((k - (x == cell)) % 4096, links, steps) for x, (k, links, steps) in self.chains.items()}
+        return replace(self, relations=relations, chains=chains)
 
 
 @dataclass
@@ -79,34 +62,111 @@ class Place:
     declared: object
     entry: int
 
-    def fixed(self, cell):
-        """The word of a fixed cell, any word of another."""
-        return sets.one(self.image[cell]) if self.fixed_cells >> cell & 1 else sets.ALL
+    def at_start(self, cells):
+        """The words that some cells may have held at the start."""
+        if cells & ~self.on_tape:
+            return sets.ALL
+        return sets.of(self.image[cell] for cell in sets.words(cells))
+
+    def started_with(self, members, cells):
+        """Those of some cells that may have held a word of a set at the start."""
+        if not members:
+            return 0
+        return cells & ~self.on_tape | sets.of(cell for cell in sets.words(cells & self.on_tape) if members >> self.image[cell] & 1)
 
     @cached_property
-    def fixed_cells(self):
-        """The cells on the tape that are neither variables nor entries."""
-        return sets.of(set(self.image) - self.declared.variables - set(self.declared.routines))
+    def on_tape(self):
+        return sets.of(self.image)
+
+    @cached_property
+    def changing(self):
+        """The variables and the entries; each other cell keeps the word of the start."""
+        return sets.of(self.declared.variables | set(self.declared.routines))
 
 
-def put(relations, key, members):
-    """Adds a relation; where there is one with this key the two sets meet."""
-    relations[key] = relations.get(key, sets.ALL) & members
+# Forms -----------------------------------------------------------------------------------------------------------
+
+def names(form):
+    """The names of which a form speaks."""
+    return {term[0] if isinstance(term, tuple) else term for term, _ in form}
 
 
-def put_difference(relations, x, y, factor, members):
-    """Adds x - c y in S in its orientation."""
-    if x != y and x > y and factor in (1, MINUS):
-        x, y, members = y, x, sets.negated(members) if factor == 1 else members
-    if x != y:
-        put(relations, (x, y, factor), members)
+def order(term):
+    return isinstance(term, tuple), term
 
 
-def difference(fact, x, y):
-    """What the relations say of x - y."""
-    if x < y:
-        return fact.differences.get((x, y, 1), sets.ALL)
-    return sets.negated(fact.differences.get((y, x, 1), sets.ALL))
+@lru_cache(100000)
+def spelled(terms):
+    """The form that says what some terms with their coefficients say, and its sign; None where none has a permitted shape."""
+    pairs = [(term, c % 4096) for term, c in terms if c % 4096]
+    pairs.sort(key=lambda pair: (pair[1] not in (1, MINUS), order(pair[0])))
+    sign = pairs[0][1] if pairs else 0
+    form = tuple((term, c * sign % 4096) for term, c in pairs)
+    return (form, sign) if sign in (1, MINUS) and permitted(form) else None
+
+
+def permitted(form):
+    """x; x + c y; x + [y + k], x - [y + k]; AC + x - y, AC - x + y; where x may be AC but in the last."""
+    (first, _), rest = form[0], form[1:]
+    if isinstance(first, tuple) or len(rest) > 2 or any(term == AC for term, _ in rest):
+        return False
+    if len(rest) == 1 and isinstance(rest[0][0], tuple):
+        return rest[0][1] in (1, MINUS) and rest[0][0][0] != first
+    if any(isinstance(term, tuple) for term, _ in rest):
+        return False
+    return len(rest) < 2 or first == AC and {c for _, c in rest} == {1, MINUS}
+
+
+def meet(relations, form, members):
+    """Adds a relation; where there is one of this form the two sets meet."""
+    if members != sets.ALL:
+        relations[form] = relations.get(form, sets.ALL) & members
+
+
+def put(relations, terms, members):
+    """Adds what some terms say, if that has a permitted shape."""
+    found = spelled(frozenset(terms.items()))
+    if found:
+        meet(relations, found[0], sets.times(found[1], members))
+
+
+def own(fact, terms):
+    """What a fact's own relation says of the sum of some terms."""
+    form, sign = spelled(frozenset(terms.items()))
+    return sets.times(sign, fact.relations.get(form, sets.ALL))
+
+
+def moved(form, members, cell, by):
+    """A relation's terms and set after a word of a set was added to a cell."""
+    terms = {}
+    for term, c in form:
+        if term == cell:
+            members = sets.added(members, sets.times(c, by))
+        elif isinstance(term, tuple) and term[0] == cell:
+            members = members if sets.only(by) is not None else sets.ALL
+            term = cell, (term[1] - (sets.only(by) or 0)) % 4096
+        terms[term] = c
+    return terms, members
+
+
+def sums(fact, form, place):
+    """The sums of a form by the sets of its names."""
+    found = sets.one(0)
+    for term, c in form:
+        if isinstance(term, tuple):
+            members = place.at_start(sets.shift(fact.set_of(term[0]), term[1]))
+        else:
+            members = fact.set_of(term)
+        found = sets.added(found, sets.times(c, members))
+    return found
+
+
+def keeping(fact, term, c, members, place):
+    """The words of a term's name with which the term, times its coefficient, may be in a set."""
+    if not isinstance(term, tuple):
+        return sets.divided(c, members, fact.set_of(term))
+    x, k = term
+    return sets.shift(place.started_with(sets.times(c, members), sets.shift(fact.set_of(x), k)), -k)
 
 
 @lru_cache(200000)
@@ -127,71 +187,37 @@ def results(chain, word):
     return found
 
 
-def loaded(place, x, k, sign, j):
-    """The words that z may be by a load, where x is known."""
-    members = place.fixed((x + k) % 4096)
-    return sets.added(members if sign > 0 else sets.negated(members), j)
-
-
 # Narrowing -------------------------------------------------------------------------------------------------------
 
 def narrowed(fact, place):
     """N(F), or None where no state satisfies it."""
     found = met_once(fact, place)
-    several = [found.ac, found.mq, *found.cells.values(), *found.differences.values(), *found.sums.values(),
-               *found.loads.values()]
-    return found if all(several) and found.link else None
+    return found if all(found.relations.values()) and found.mq and found.link else None
 
 
 def met_once(fact, place):
     """The fact with each set met with what the relations say of it, by the other sets as they stand."""
-    found = replace(fact, cells=dict(fact.cells), differences=dict(fact.differences), sums=dict(fact.sums))
-
-    def meet(name, members):
-        if name == AC:
-            found.ac &= members
-        else:
-            found.cells[name] = found.set_of(name) & members
-
-    for (p, n), s in fact.sums.items():
-        low = sets.added(s, fact.set_of(p)) if p is not None else s
-        meet(AC, sets.subtracted(low, fact.set_of(n)) if n is not None else low)
-        if p is None:
-            meet(n, sets.subtracted(s, fact.ac))
-        elif n is None:
-            meet(p, sets.subtracted(fact.ac, s))
-        else:
-            meet(AC, sets.added(difference(fact, p, n), s))
-            put_difference(found.differences, p, n, 1, sets.subtracted(fact.ac, s))
-    for (x, y, c), s in fact.differences.items():
-        meet(x, sets.added(sets.times(c, fact.set_of(y)), s))
-        meet(y, sets.divided(c, sets.subtracted(fact.set_of(x), s), fact.set_of(y)))
-    for (z, x, k, sign), j in fact.loads.items():
-        xs = fact.set_of(x) & ~sets.shift(place.fixed_cells, -k)
-        zs = fact.set_of(z) if xs else 0
-        for word in sets.words(fact.set_of(x) & ~xs):
-            fits = loaded(place, word, k, sign, j) & fact.set_of(z)
-            xs |= sets.one(word) if fits else 0
-            zs |= fits
-        meet(x, xs)
-        meet(z, zs)
+    found = replace(fact, relations=dict(fact.relations))
+    for form, s in fact.relations.items():
+        for term, c in form if len(form) > 1 else ():
+            others = sums(fact, [pair for pair in form if pair[0] != term], place)
+            (name,) = names([(term, c)])
+            meet(found.relations, ((name, 1),), keeping(fact, term, c, sets.subtracted(s, others), place))
+        if len(form) == 3:
+            put(found.relations, {AC: 1}, sets.subtracted(s, own(fact, dict(form[1:]))))
+            put(found.relations, dict(form[1:]), sets.subtracted(s, fact.set_of(AC)))
     for x, chain in fact.chains.items():
-        narrow_by_chain(fact, found, meet, x, chain)
+        narrow_by_chain(fact, found, x, chain)
     return found
 
 
-def narrow_by_chain(fact, found, meet, x, chain):
-    xs, pairs, apart = set(), set(), set()
-    for word in sets.words(fact.set_of(x)):
-        fits = {(link, ac) for link, ac in results(chain, word) if link in fact.link and fact.ac >> ac & 1}
-        if fits:
-            xs.add(word)
-            pairs |= fits
-            apart |= {(ac - word) % 4096 for _, ac in fits}
-    meet(x, sets.of(xs))
-    meet(AC, sets.of(ac for _, ac in pairs))
-    found.link &= {link for link, _ in pairs}
-    put(found.sums, (x, None), sets.of(apart))
+def narrow_by_chain(fact, found, x, chain):
+    fits = [(word, link, ac) for word in sets.words(fact.set_of(x)) for link, ac in results(chain, word)
+            if link in fact.link and fact.set_of(AC) >> ac & 1]
+    found.link &= {link for _, link, _ in fits}
+    put(found.relations, {x: 1}, sets.of(word for word, _, _ in fits))
+    put(found.relations, {AC: 1}, sets.of(ac for _, _, ac in fits))
+    put(found.relations, {AC: 1, x: -1}, sets.of((ac - word) % 4096 for word, _, ac in fits))
 
 
 # What may stand where -------------------------------------------------------------------------------------------
@@ -202,7 +228,7 @@ def values(fact, cell, place):
         return fact.set_of(cell)
     if cell == place.entry:
         return sets.of((site + 1 + offset) % 4096 for site in sets.words(fact.sites) for offset in fact.offsets)
-    return place.fixed(cell)
+    return sets.ALL if cell in place.declared.routines else place.at_start(sets.one(cell))
 
 
 def possible(fact, at, place):
@@ -216,8 +242,8 @@ def targets(fact, at, word, place):
     if not word & 0o400:
         return fact, sets.one(cell)
     if 0o10 <= cell <= 0o17:
-        stepped = sets.shift(fact.set_of(cell), 1)
-        return fact.moved(cell, 1).with_set(cell, stepped), stepped
+        fact = fact.moved(cell)
+        return fact, fact.set_of(cell)
     return fact, values(fact, cell, place)
 
 
@@ -240,11 +266,10 @@ def variable(cells, place):
 
 def begun(fact):
     """The chains, with one begun for each cell of which AC is a known word more."""
-    chains = dict(fact.chains)
-    for (p, n), s in fact.sums.items():
-        if n is None and p not in chains and sets.only(s) is not None:
-            chains[p] = (sets.only(s), fact.link, ())
-    return chains
+    found = {form[1][0]: (sets.only(s), fact.link, ()) for form, s in fact.relations.items()
+             if len(form) == 2 and form[0][0] == AC and form[1][1] == MINUS and not isinstance(form[1][0], tuple) and
+             sets.only(s) is not None}
+    return found | fact.chains
 
 
 def longer(chains, kind, operand):
@@ -253,55 +278,48 @@ def longer(chains, kind, operand):
 
 def after_and(fact, cells, place, following):
     members = union_of_values(fact, cells, place)
-    after = replace(fact.without_ac(), ac=sets.ands(fact.ac, members))
+    after = fact.without(AC).with_set(AC, sets.ands(fact.set_of(AC), members))
     if sets.only(members) is not None:
         after.chains = longer(begun(fact), "AND", sets.only(members))
     return [Outcome(after, [following])]
 
 
-def sums_after_tad(fact, y, members):
-    """The sums after a TAD of a word of a set, which is that of the variable y where y isn't None."""
-    sums = {}
-    for (p, n), s in fact.sums.items():
-        put(sums, (p, n), sets.added(s, members))
-        if y is not None and n == y:
-            put(sums, (p, None), s)
-        elif y is not None and p is None:
-            put(sums, (y, n), s)
-    if y is None:
-        return sums
-    put(sums, (y, None), fact.ac)
-    for (x, z, c), s in fact.differences.items():
-        if c == 1 and x == y:
-            put(sums, (z, None), sets.added(fact.ac, s))
-        elif c == 1 and z == y:
-            put(sums, (x, None), sets.subtracted(fact.ac, s))
-        elif c == MINUS and y in (x, z):
-            put(sums, (None, z if x == y else x), sets.added(fact.ac, s))
-    return sums
+def added_terms(cells, pointer, place):
+    """The terms whose word is added by a TAD."""
+    if variable(cells, place) is not None:
+        yield variable(cells, place)
+    if pointer is not None and not cells & place.changing:
+        yield pointer, 0
+
+
+def relations_after_tad(fact, members, added):
+    """The relations after a TAD of a word of a set, which is also the word of some terms."""
+    ac, relations = fact.set_of(AC), {}
+    for form, s in fact.relations.items():
+        terms = dict(form)
+        if AC in terms:
+            meet(relations, form, sets.added(s, members))
+        else:
+            meet(relations, form, s)
+        for term in added:
+            c = terms.get(term, 0)
+            if AC in terms:
+                put(relations, terms | {term: c - 1}, s)
+            elif c in (1, MINUS):
+                others = {other: c * factor for other, factor in form if other != term}
+                put(relations, {AC: 1} | others, sets.added(ac, sets.times(c, s)))
+    return relations
 
 
 def after_tad(fact, cells, place, pointer, following):
-    members, y = union_of_values(fact, cells, place), variable(cells, place)
-    sums, loads = sums_after_tad(fact, y, members), {}
-    known = sums.pop((None, None), sets.ALL)
-    for (z, x, k, sign), j in fact.loads.items():
-        if z != AC:
-            put(loads, (z, x, k, sign), j)
-        if z == AC:
-            put(loads, (AC, x, k, sign), sets.added(j, members))
-        elif z == y:
-            put(loads, (AC, x, k, sign), sets.added(j, fact.ac))
-    if pointer is not None:
-        put(loads, (AC, pointer, 0, 1), fact.ac)
-    only = sets.only(members)
-    chains = longer(fact.chains, "TAD", only) if only is not None else {}
-    low, high = sets.totals(fact.ac, members)
-    after = replace(fact, sums=sums, loads=loads, chains=chains)
+    members = union_of_values(fact, cells, place)
+    only, (low, high) = sets.only(members), sets.totals(fact.set_of(AC), members)
+    relations = relations_after_tad(fact, members, list(added_terms(cells, pointer, place)))
+    after = replace(fact, relations=relations, chains=longer(fact.chains, "TAD", only) if only is not None else {})
     found = []
     for link in (0, 1):
-        ac = ((low if link in fact.link else 0) | (high if 1 - link in fact.link else 0)) & known
-        found.append(Outcome(replace(after, ac=ac, link=frozenset((link,))), [following]))
+        ac = ((low if link in fact.link else 0) | (high if 1 - link in fact.link else 0)) & after.set_of(AC)
+        found.append(Outcome(replace(after.with_set(AC, ac), link=frozenset((link,))), [following]))
     return found
 
 
@@ -311,74 +329,68 @@ def after_isz(fact, cells, place, at):
         return [Outcome(replace(fact, offsets=frozenset(offset + 1 for offset in fact.offsets)), [following])]
     cell = variable(cells, place)
     if cell is not None:
-        after, counted = fact.moved(cell, 1), sets.shift(fact.set_of(cell), 1)
+        after = fact.moved(cell)
+        counted = after.set_of(cell)
         return [Outcome(after.with_set(cell, counted & ~1), [following]), Outcome(after.with_set(cell, counted & 1), [skipped])]
-    after, nexts = fact.without(set(sets.words(cells))), []
-    for tracked, members in fact.cells.items():
-        if cells >> tracked & 1:
-            after = after.with_set(tracked, members | sets.shift(members, 1))
+    after, nexts = several(fact, fact, cells, lambda members: sets.shift(members, 1)), []
     every = [fact.set_of(target) for target in sets.words(cells)]
     nexts += [following] if any(members & ~sets.one(0o7777) for members in every) else []
     nexts += [skipped] if any(members >> 0o7777 & 1 for members in every) else []
     return [Outcome(after, nexts)]
 
 
+def several(fact, after, cells, new):
+    """What is known after one of some cells was written: its old words or new ones."""
+    after = after.without(*sets.words(cells))
+    for cell in sets.words(cells):
+        if fact.set_of(cell) != sets.ALL:
+            after = after.with_set(cell, fact.set_of(cell) | new(fact.set_of(cell)))
+    return after
+
+
 def after_dca(fact, cells, place, following):
     y = variable(cells, place)
     if y is not None:
-        after = stored(fact, y).with_set(y, fact.ac)
+        after = replace(fact, relations=relations_after_dca(fact, y), chains={})
     else:
-        after = fact.without_ac().without(set(sets.words(cells)))
-        for tracked, members in fact.cells.items():
-            if cells >> tracked & 1:
-                after = after.with_set(tracked, members | fact.ac)
-    return [Outcome(replace(after, ac=1), [following])]
+        after = several(fact, fact.without(AC), cells, lambda _: fact.set_of(AC))
+    return [Outcome(after.with_set(AC, 1), [following])]
 
 
-def stored(fact, y):
-    """The relations after AC was stored in the variable y."""
-    kept = fact.without_ac().without({y})
-    differences, loads, by = dict(kept.differences), dict(kept.loads), fact.sums.get((y, None))
-    for (p, n), s in fact.sums.items():
-        if n is None and p != y:
-            put_difference(differences, y, p, 1, s)
-        elif p is None and n != y:
-            put_difference(differences, y, n, MINUS, s)
-    for (x, z, c), s in fact.differences.items() if by is not None else ():
-        if x == y:
-            put_difference(differences, y, z, c, sets.added(s, by))
-        elif z == y:
-            put_difference(differences, x, y, c, sets.subtracted(s, sets.times(c, by)))
-    for (z, x, k, sign), j in fact.loads.items():
-        if z == AC and x != y:
-            put(loads, (y, x, k, sign), j)
-        elif x == y and z != AC and by is not None and sets.only(by) is not None:
-            put(loads, (z, y, (k - sets.only(by)) % 4096, sign), j)
-    return replace(kept, differences=differences, loads=loads)
+def relations_after_dca(fact, y):
+    """The relations after AC was stored in a variable."""
+    relations, by = {}, own(fact, {AC: 1, y: -1})
+    for form, s in fact.relations.items():
+        if form[0][0] == AC:
+            if y not in names(form):
+                put(relations, {y: 1} | dict(form[1:]), s)
+        elif y not in names(form):
+            meet(relations, form, s)
+        elif by != sets.ALL:
+            put(relations, *moved(form, s, y, by))
+    return relations
 
 
 def after_group1(fact, word, following):
-    found, pairs = [], {group1(word, ac, link) for ac in sets.words(fact.ac) for link in fact.link}
-    after = fact.without_ac() if word & 0o216 else turned(fact, word)
+    found, pairs = [], {group1(word, ac, link) for ac in sets.words(fact.set_of(AC)) for link in fact.link}
+    after = fact.without(AC) if word & 0o216 else turned(fact, word)
     if not word & 0o200:
         after.chains = longer(begun(fact) if word & 0o16 else fact.chains, "word", word)
     for link in sorted({link for _, link in pairs}):
         ac = sets.of(ac for ac, other in pairs if other == link)
-        found.append(Outcome(replace(after, ac=ac, link=frozenset((link,))), [following]))
+        found.append(Outcome(replace(after.with_set(AC, ac), link=frozenset((link,))), [following]))
     return found
 
 
 def turned(fact, word):
     """The relations after CMA and IAC, where the word has them."""
-    sums, loads = fact.sums, fact.loads
-    if word & 0o40:
-        sums = {(n, p): sets.complement(s) for (p, n), s in sums.items()}
-        loads = {key if key[0] != AC else (*key[:3], -key[3]): j if key[0] != AC else sets.complement(j)
-                 for key, j in loads.items()}
-    if word & 1:
-        sums = {key: sets.shift(s, 1) for key, s in sums.items()}
-        loads = {key: sets.shift(j, key[0] == AC) for key, j in loads.items()}
-    return replace(fact, sums=sums, loads=loads)
+    relations = {}
+    for form, s in fact.relations.items():
+        terms = dict(form)
+        if AC in terms and word & 0o40:
+            terms, s = {AC: 1} | {term: -c for term, c in form[1:]}, sets.complement(s)
+        put(relations, terms, sets.shift(s, 1) if AC in terms and word & 1 else s)
+    return replace(fact, relations=relations)
 
 
 def after_group2(fact, word, at, place):
@@ -387,37 +399,36 @@ def after_group2(fact, word, at, place):
     found = []
     for link in sorted(fact.link):
         branches = [[], []]
-        for ac in sets.words(fact.ac):
+        for ac in sets.words(fact.set_of(AC)):
             branches[skips(word, ac, link)].append(ac)
         for branch, taken in enumerate(branches):
-            after = replace(fact, ac=sets.of(taken), link=frozenset((link,)))
+            after = replace(fact.with_set(AC, sets.of(taken)), link=frozenset((link,)))
             if word & 0o204 and taken:
                 after = narrowed(after, place)
                 if after is None:
                     continue
-                ac = 1 if word & 0o200 else after.ac
-                after = replace(after.without_ac(), ac=sets.or_any(ac, 0o7777) if word & 4 else ac)
+                ac = 1 if word & 0o200 else after.set_of(AC)
+                after = after.without(AC).with_set(AC, sets.or_any(ac, 0o7777) if word & 4 else ac)
             found.append(Outcome(after, [(at + 1 + branch) % 4096]))
     return found
 
 
 def after_group3(fact, word, following):
-    ac, mq = fact.ac, fact.mq
+    ac, mq = fact.set_of(AC), fact.mq
     made = {0o7421: (1, ac), 0o7501: (None, mq), 0o7521: (mq, ac), 0o7621: (1, 1), 0o7701: (mq, mq), 0o7721: (mq, 1)}
     new_ac, new_mq = made[word]
     new_ac = sets.ors(ac, mq) if new_ac is None else new_ac
-    return [Outcome(replace(fact.without_ac(), ac=new_ac, mq=new_mq), [following])]
+    return [Outcome(replace(fact.without(AC).with_set(AC, new_ac), mq=new_mq), [following])]
 
 
 def after_device(fact, word, at):
     following = (at + 1) % 4096
     if word in (0o6011, 0o6021, 0o6031, 0o6041):
         return [Outcome(fact, [following, (at + 2) % 4096])]
+    made = {0o6032: 1, 0o6036: sets.span(0, 0o377)}
     if word in (0o6012, 0o6016, 0o6034):
-        return [Outcome(replace(fact.without_ac(), ac=sets.or_any(fact.ac, 0o377)), [following])]
-    if word in (0o6032, 0o6036):
-        return [Outcome(replace(fact.without_ac(), ac=1 if word == 0o6032 else sets.span(0, 0o377)), [following])]
-    return [Outcome(fact, [following])]
+        made[word] = sets.or_any(fact.set_of(AC), 0o377)
+    return [Outcome(fact.without(AC).with_set(AC, made[word]) if word in made else fact, [following])]
 
 
 def post(fact, at, word, place):
@@ -451,48 +462,27 @@ def referred(fact, cells, at, word, place):
 
 # Entailment and landing -----------------------------------------------------------------------------------------
 
-def known_difference(fact, x, y, c):
-    """What a narrowed fact says of x - c y."""
-    own = difference(fact, x, y) if c == 1 else fact.differences.get((x, y, c), sets.ALL)
-    return own & sets.subtracted(fact.set_of(x), sets.times(c, fact.set_of(y)))
-
-
-def known_sum(fact, p, n):
-    """What a narrowed fact says of AC - p + n."""
-    found = fact.ac
-    if p is not None:
-        found = sets.subtracted(found, fact.set_of(p))
-    if n is not None:
-        found = sets.added(found, fact.set_of(n))
-    if p is not None and n is not None:
-        found &= sets.subtracted(fact.ac, difference(fact, p, n))
-    return found & fact.sums.get((p, n), sets.ALL)
-
-
-def entails_load(fact, key, j, place):
-    """Each word that z may be beside each word of x is one by the load."""
-    z, x, k, sign = key
-    own = [(k2, sign2, j2) for (z2, x2, k2, sign2), j2 in fact.loads.items() if (z2, x2) == (z, x)]
-    for word in sets.words(fact.set_of(x) & sets.shift(place.fixed_cells, -k)):
-        allowed = fact.set_of(z)
-        for k2, sign2, j2 in own:
-            allowed &= loaded(place, word, k2, sign2, j2)
-        if allowed & ~loaded(place, word, k, sign, j):
-            return False
-    return True
+def says(fact, form, s, place):
+    """A narrowed fact says that a form's sum is in a set."""
+    known = fact.relations.get(form, sets.ALL)
+    if not known & ~s:
+        return True
+    if len(form) == 3:
+        known &= sets.added(fact.set_of(AC), own(fact, dict(form[1:])))
+    return not known & sums(fact, form, place) & ~s
 
 
 def entails_chain(fact, x, chain):
     """Each link and word of AC that may be beside each word of x is one that the chain makes."""
-    own = fact.chains.get(x)
-    if own is None and fact.ac.bit_count() * len(fact.link) > 2:
+    mine = fact.chains.get(x)
+    if mine is None and fact.set_of(AC).bit_count() * len(fact.link) > 2:
         return fact.set_of(x) == 0
-    every = {(link, ac) for link in fact.link for ac in sets.words(fact.ac)} if own is None else None
+    every = {(link, ac) for link in fact.link for ac in sets.words(fact.set_of(AC))} if mine is None else None
     for word in sets.words(fact.set_of(x)):
-        if own is None:
+        if mine is None:
             allowed = every
         else:
-            allowed = {(link, ac) for link, ac in results(own, word) if link in fact.link and fact.ac >> ac & 1}
+            allowed = {(link, ac) for link, ac in results(mine, word) if link in fact.link and fact.set_of(AC) >> ac & 1}
         if not allowed <= results(chain, word):
             return False
     return True
@@ -500,12 +490,9 @@ def entails_chain(fact, x, chain):
 
 def entails(a, b, place, offsets=True):
     """The narrowed fact a says at least as much as b; against an exit's fact offsets aren't compared."""
-    if a.ac & ~b.ac or a.mq & ~b.mq or not a.link <= b.link or a.sites & ~b.sites or offsets and not a.offsets <= b.offsets:
+    if a.mq & ~b.mq or not a.link <= b.link or a.sites & ~b.sites or offsets and not a.offsets <= b.offsets:
         return False
-    return (all(not a.set_of(cell) & ~members for cell, members in b.cells.items()) and
-            all(not known_difference(a, *key) & ~s for key, s in b.differences.items()) and
-            all(not known_sum(a, *key) & ~s for key, s in b.sums.items()) and
-            all(entails_load(a, key, j, place) for key, j in b.loads.items()) and
+    return (all(says(a, form, s, place) for form, s in b.relations.items()) and
             all(entails_chain(a, x, chain) for x, chain in b.chains.items()))
 
 
@@ -515,7 +502,7 @@ def lands_by(part, known, place, offsets):
         return True
     if len(known) < 2:
         return False
-    for name in [AC, *sorted({cell for b in known for cell in b.cells})]:
+    for name in sorted({form[0][0] for b in known for form in b.relations if len(form) == 1}):
         covered = 0
         for b in known:
             members = part.set_of(name) & b.set_of(name)
@@ -535,18 +522,8 @@ def parts(fact, place):
 
 def joined(call, exit_fact, written):
     """What is known after a return: what the exit says, and what the caller knew of cells that weren't written."""
-    def outside(*names):
-        return not any(name == AC or written >> name & 1 for name in names)
-
-    cells = dict(exit_fact.cells)
-    for cell, members in call.cells.items():
-        if outside(cell):
-            put(cells, cell, members)
-    differences, loads = dict(exit_fact.differences), dict(exit_fact.loads)
-    for key, s in call.differences.items():
-        if outside(*key[:2]):
-            put(differences, key, s)
-    for key, j in call.loads.items():
-        if outside(*key[:2]):
-            put(loads, key, j)
-    return replace(exit_fact, cells=cells, differences=differences, loads=loads, offsets=call.offsets, sites=call.sites)
+    relations = dict(exit_fact.relations)
+    for form, s in call.relations.items():
+        if not any(name == AC or written >> name & 1 for name in names(form)):
+            meet(relations, form, s)
+    return replace(exit_fact, relations=relations, offsets=call.offsets, sites=call.sites)

@@ -212,8 +212,9 @@ def met_once(fact, place):
 
 
 def narrow_by_chain(fact, found, x, chain):
+    members = fact.set_of(AC)
     fits = [(word, link, ac) for word in sets.words(fact.set_of(x)) for link, ac in results(chain, word)
-            if link in fact.link and fact.set_of(AC) >> ac & 1]
+            if link in fact.link and members >> ac & 1]
     found.link &= {link for _, link, _ in fits}
     put(found.relations, {x: 1}, sets.of(word for word, _, _ in fits))
     put(found.relations, {AC: 1}, sets.of(ac for _, _, ac in fits))

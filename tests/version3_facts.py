@@ -46,7 +46,8 @@ class Chance:
         return found
 
     def state(self, image):
-        world = World(image, AT, "8e", [self.word() for _ in range(4096)], self.word(), self.r.randrange(2), self.word())
+        memory = self.r.choices([self.word() for _ in range(64)], k=4096)
+        world = World(image, AT, "8e", memory, self.word(), self.r.randrange(2), self.word())
         world.switches = self.word()
         for name in world.flags:
             world.flags[name] = self.r.random() < 0.5
@@ -73,86 +74,62 @@ class Chance:
                 return word
 
 
-def value(world, name):
-    return world.ac if name == AC else world.memory[name]
+def value(world, start, term):
+    """What a term is in a state: the meaning, as the text has it."""
+    if isinstance(term, tuple):
+        return start[(value(world, start, term[0]) + term[1]) % 4096]
+    return world.ac if term == AC else world.memory[term] if term in VARIABLES else start[term]
 
 
 def fact_of(chance, world, start, site, offset, place):
     """A fact that holds of a state."""
-    def speaks(cell):
-        return world.memory[cell] if cell in VARIABLES else start[cell]
-
     r = chance.r
     cells = [*VARIABLES, *VARIABLES, 0o270, 0o271]
-    found = Fact(chance.set_with(world.ac), chance.set_with(world.mq), frozenset({world.link, r.choice([world.link, 0, 1])}),
+
+    def put(*terms):
+        """A relation of terms with coefficients, which is true."""
+        form, sign = facts3.spelled(frozenset(dict(terms).items())) or (None, 0)
+        if form:
+            found.relations[form] = chance.set_with(sum(c * value(world, start, term) for term, c in form) % 4096)
+
+    found = Fact(chance.set_with(world.mq), frozenset({world.link, r.choice([world.link, 0, 1])}),
                  offsets=frozenset({offset, r.randrange(4)}), sites=sets.one(site) | sets.one(r.choice([site, 0o205])))
-    for cell in r.sample(VARIABLES, r.randrange(5)):
-        found.cells[cell] = chance.set_with(speaks(cell))
-    for _ in range(r.randrange(4)):
-        x, y = r.sample(cells, 2)
-        c = r.choice([1, 1, 1, 0o7777, 2, 0o7774, 3]) if x != y else 1
-        if x != y:
-            if c in (1, 0o7777) and x > y:
-                x, y = y, x
-            found.differences[x, y, c] = chance.set_with((speaks(x) - c * speaks(y)) % 4096)
-    for _ in range(r.randrange(4)):
-        p, n = r.choice([None, *cells]), r.choice([None, None, *cells])
-        if p != n:
-            found.sums[p, n] = chance.set_with((world.ac - (speaks(p) if p is not None else 0) +
-                                                (speaks(n) if n is not None else 0)) % 4096)
-    for _ in range(r.randrange(3)):
-        z, x = r.choice([AC, *cells]), r.choice(cells)
-        k, sign = r.choice([0, 1, 0o7777, (r.choice(TABLE) - speaks(x)) % 4096]), r.choice([1, -1])
-        at = (speaks(x) + k) % 4096
-        there = start[at] if place.fixed_cells >> at & 1 else chance.word()
-        if z != x:
-            zs = world.ac if z == AC else speaks(z)
-            found.loads[z, x, k, sign] = chance.set_with((zs - sign * there) % 4096)
+    for name in [AC, *r.sample(VARIABLES, r.randrange(5))]:
+        put((name, 1))
+    for _ in range(r.randrange(8)):
+        x, y, z = r.choice([AC, AC, r.choice(cells)]), r.choice(cells), r.choice(cells)
+        k = r.choice([0, 0, 1, 0o7777, (r.choice(TABLE) - value(world, start, y)) % 4096])
+        c = r.choice([1, 1, -1, -1, -1, 2, 0o7774, 3])
+        put(*r.choice([[(x, 1), (y, c)], [(AC, 1), (y, 1), (z, -1)], [(x, 1), ((y, k), r.choice([1, -1]))]]))
     if r.random() < 0.5:
         x = r.choice(cells)
         k, steps = r.choice([0, 1, chance.word()]), tuple(r.choice([("AND", r.choice([7, 0o7600, 0o77])), ("TAD", chance.word()),
                                                                     ("word", r.choice([0o7010, 0o7106, 0o7041, 0o7012]))])
                                                           for _ in range(r.randrange(1, 4)))
         links = frozenset(r.choice([(0,), (1,), (0, 1)]))
-        _, ac = min(facts3.results((k, links, steps), speaks(x)))
+        _, ac = min(facts3.results((k, links, steps), value(world, start, x)))
         steps += (("TAD", (world.ac - ac) % 4096),)
-        if world.link not in {link for link, ac in facts3.results((k, links, steps), speaks(x)) if ac == world.ac}:
+        if world.link not in {link for link, ac in facts3.results((k, links, steps), value(world, start, x)) if ac == world.ac}:
             steps += (("word", 0o7020),)
         chain = (k, links, steps)
-        if (world.link, world.ac) in facts3.results(chain, speaks(x)):
+        if (world.link, world.ac) in facts3.results(chain, value(world, start, x)):
             found.chains[x] = chain
     return found
 
 
 def holds(fact, world, start, site, offset, place):
     """A fact holds of a state: the meaning, as the text has it."""
-    def speaks(cell):
-        return world.memory[cell] if cell in VARIABLES else start[cell]
-
-    def of(name):
-        return world.ac if name == AC else speaks(name)
-
-    for name in ("ac", "mq"):
-        if not getattr(fact, name) >> getattr(world, name) & 1:
-            return name
+    if not fact.mq >> world.mq & 1:
+        return "mq"
     if world.link not in fact.link:
         return "link"
     if not fact.sites >> site & 1 or offset not in fact.offsets:
         return "call"
-    for cell, members in fact.cells.items():
-        if not members >> speaks(cell) & 1:
-            return "cell", cell
-    for (x, y, c), s in fact.differences.items():
-        if not s >> (speaks(x) - c * speaks(y)) % 4096 & 1:
-            return "difference", x, y, c
-    for (p, n), s in fact.sums.items():
-        if not s >> (world.ac - (0 if p is None else speaks(p)) + (0 if n is None else speaks(n))) % 4096 & 1:
-            return "sum", p, n
-    for (z, x, k, sign), j in fact.loads.items():
-        if not facts3.loaded(place, speaks(x), k, sign, j) >> of(z) & 1:
-            return "load", z, x, k, sign
+    for form, s in fact.relations.items():
+        if not s >> sum(c * value(world, start, term) for term, c in form) % 4096 & 1:
+            return kind(form), form
     for x, chain in fact.chains.items():
-        if (world.link, world.ac) not in facts3.results(chain, speaks(x)):
+        if (world.link, world.ac) not in facts3.results(chain, value(world, start, x)):
             return "chain", x
     return None
 
@@ -165,16 +142,23 @@ def weaker(chance, a):
         return {key: s if r.random() < 0.6 or not isinstance(s, int) else s | sets.one(chance.word())
                 for key, s in relations.items() if r.random() < 0.7}
 
-    return replace(a, cells=some(a.cells), differences=some(a.differences), sums=some(a.sums), loads=some(a.loads),
-                   chains=some(a.chains))
+    return replace(a, relations=some(a.relations), chains=some(a.chains))
+
+
+def kind(form):
+    """Which shape a relation has."""
+    (first, _), rest = form[0], form[1:]
+    second = "" if not rest else " word" if isinstance(rest[-1][0], tuple) else " cell" * len(rest)
+    return ("AC" if first == AC else "cell") + second + (" factor" if any(c not in (1, facts3.MINUS) for _, c in rest) else "")
 
 
 def alone(fact, like):
     """Each relation of a fact by itself."""
     bare = Fact(offsets=like.offsets, sites=like.sites)
-    for kind in ("cells", "differences", "sums", "loads", "chains"):
-        for key, value_ in getattr(fact, kind).items():
-            yield kind, replace(bare, **{kind: {key: value_}})
+    for form, s in fact.relations.items():
+        yield kind(form), replace(bare, relations={form: s})
+    for x, chain in fact.chains.items():
+        yield "chain", replace(bare, chains={x: chain})
 
 
 def case(chance, counts):
@@ -187,7 +171,7 @@ def case(chance, counts):
         world.memory[cell] = r.choice([*VARIABLES, chance.word(), world.memory[cell]])
     site, offset = r.choice([0o203, 0o206]), r.randrange(3)
     world.memory[ENTRY] = (site + 1 + offset) % 4096
-    start = list(world.memory)
+    start = [image.get(cell, word_) for cell, word_ in enumerate(world.memory)]
     place = Place(image, DECLARED, ENTRY)
     fact = fact_of(chance, world, start, site, offset, place)
     if holds(fact, world, start, site, offset, place):
@@ -202,13 +186,13 @@ def case(chance, counts):
         if holds(other, world, start, site, offset, place):
             return "entailed", holds(other, world, start, site, offset, place)
     other = fact_of(chance, chance.state(image) if r.random() < 0.5 else world, start, site, offset, place)
-    for kind, b in alone(other, narrow):
+    for shape, b in alone(other, narrow):
         if facts3.entails(narrow, b, place):
-            counts["entailed " + kind] += 1
+            counts["entailed " + shape] += 1
             if holds(b, world, start, site, offset, place):
-                return "entailed", kind, holds(b, world, start, site, offset, place)
+                return "entailed", shape, holds(b, world, start, site, offset, place)
         else:
-            counts["not entailed " + kind] += 1
+            counts["not entailed " + shape] += 1
     stepped, cells = (narrow, 0) if word >= 0o6000 else facts3.targets(narrow, at, word, place)
     written = cells if word >> 9 in (2, 3) else 0
     if word < 0o6000 and word & 0o400 and facts3.named_cell(word, at) in range(0o10, 0o20):

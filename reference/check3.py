@@ -10,7 +10,7 @@ from facts3 import AC, MINUS, Fact, Place, joined, lands_by, narrowed, order, pa
 from machine import is_supported, named_cell
 from watch import is_halt
 
-LIMITS = {"cell": 64, "sum": 48, "func": 4}
+LIMITS = {"cell": 64, "sum": 32, "func": 4}
 MOST = 64
 LONGEST = 1048576
 ADDRESS, SET, OFFSETS = r"[0-7]{4}", r"[-0-7,]+", r"[-0-7,]+"

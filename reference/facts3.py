@@ -149,24 +149,28 @@ def moved(form, members, cell, by):
     return terms, members
 
 
-def sums(fact, form, place):
-    """The sums of a form by the sets of its names."""
-    found = sets.one(0)
-    for term, c in form:
-        if isinstance(term, tuple):
-            members = place.at_start(sets.shift(fact.set_of(term[0]), term[1]))
-        else:
-            members = fact.set_of(term)
-        found = sets.added(found, sets.times(c, members))
-    return found
+def known(fact, form, place):
+    """K(form): what a fact says of its sum, by the sets of its names and by relations of the sum and of its last terms."""
+    (term, c), rest = form[0], form[1:]
+    if isinstance(term, tuple):
+        members = place.at_start(sets.shift(fact.set_of(term[0]), term[1]))
+    else:
+        members = fact.set_of(term)
+    found = sets.times(c, members)
+    return own(fact, dict(form)) & sets.added(found, known(fact, rest, place)) if rest else found
 
 
-def keeping(fact, term, c, members, place):
-    """The words of a term's name with which the term, times its coefficient, may be in a set."""
-    if not isinstance(term, tuple):
-        return sets.divided(c, members, fact.set_of(term))
-    x, k = term
-    return sets.shift(place.started_with(sets.times(c, members), sets.shift(fact.set_of(x), k)), -k)
+def confine(found, fact, part, members, place):
+    """Adds to a fact that the sum of a part of a form, as another fact knows it, is in a set."""
+    (term, c), = part[:1]
+    if len(part) > 1:
+        put(found.relations, dict(part), members)
+    elif isinstance(term, tuple):
+        x, k = term
+        cells = place.started_with(sets.times(c, members), sets.shift(fact.set_of(x), k))
+        meet(found.relations, ((x, 1),), sets.shift(cells, -k))
+    else:
+        meet(found.relations, ((term, 1),), sets.divided(c, members, fact.set_of(term)))
 
 
 @lru_cache(200000)
@@ -199,13 +203,10 @@ def met_once(fact, place):
     """The fact with each set met with what the relations say of it, by the other sets as they stand."""
     found = replace(fact, relations=dict(fact.relations))
     for form, s in fact.relations.items():
-        for term, c in form if len(form) > 1 else ():
-            others = sums(fact, [pair for pair in form if pair[0] != term], place)
-            (name,) = names([(term, c)])
-            meet(found.relations, ((name, 1),), keeping(fact, term, c, sets.subtracted(s, others), place))
-        if len(form) == 3:
-            put(found.relations, {AC: 1}, sets.subtracted(s, own(fact, dict(form[1:]))))
-            put(found.relations, dict(form[1:]), sets.subtracted(s, fact.set_of(AC)))
+        first, rest = form[:1], form[1:]
+        if rest:
+            confine(found, fact, first, sets.subtracted(s, known(fact, rest, place)), place)
+            confine(found, fact, rest, sets.subtracted(s, known(fact, first, place)), place)
     for x, chain in fact.chains.items():
         narrow_by_chain(fact, found, x, chain)
     return found
@@ -463,16 +464,6 @@ def referred(fact, cells, at, word, place):
 
 # Entailment and landing -----------------------------------------------------------------------------------------
 
-def says(fact, form, s, place):
-    """A narrowed fact says that a form's sum is in a set."""
-    known = fact.relations.get(form, sets.ALL)
-    if not known & ~s:
-        return True
-    if len(form) == 3:
-        known &= sets.added(fact.set_of(AC), own(fact, dict(form[1:])))
-    return not known & sums(fact, form, place) & ~s
-
-
 def entails_chain(fact, x, chain):
     """Each link and word of AC that may be beside each word of x is one that the chain makes."""
     mine = fact.chains.get(x)
@@ -493,7 +484,7 @@ def entails(a, b, place, offsets=True):
     """The narrowed fact a says at least as much as b; against an exit's fact offsets aren't compared."""
     if a.mq & ~b.mq or not a.link <= b.link or a.sites & ~b.sites or offsets and not a.offsets <= b.offsets:
         return False
-    return (all(says(a, form, s, place) for form, s in b.relations.items()) and
+    return (all(not a.relations.get(form, sets.ALL) & ~s or not known(a, form, place) & ~s for form, s in b.relations.items()) and
             all(entails_chain(a, x, chain) for x, chain in b.chains.items()))
 
 

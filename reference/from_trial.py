@@ -17,6 +17,7 @@ import watch
 from check import Routine
 
 LETTERS = "SDLTPFCVOB"
+AC_ALONE = ((facts3.AC, 1),)
 
 
 def trial(folder):
@@ -53,7 +54,7 @@ class Chains:
         return k, frozenset((0, 1) if free else (link,)), steps
 
 
-def analysed(richer, image, declaration, letters=LETTERS, split=()):
+def analysed(richer, image, declared, declaration, letters=LETTERS, split=()):
     """The trial's analysis with the checker's narrowing, apart by the words of some cells, and what it says."""
     class Analysis(richer.Analysis):
         """Narrows each set once, by the other sets as they stand."""
@@ -62,69 +63,56 @@ def analysed(richer, image, declaration, letters=LETTERS, split=()):
             return reduced(richer, self, f)
 
     found = Analysis(image, declaration, letters)
+    found.place = facts3.Place(image, declared, None)
     found.split = list(split)
     return found, found.run()
 
 
+def relations_of(f, cells, ac):
+    """The relations of a trial's fact as forms."""
+    made = {}
+    facts3.put(made, {facts3.AC: 1}, ac)
+    for cell, members in cells.items():
+        facts3.put(made, {cell: 1}, members)
+    for (x, y, c), s in f.rel.items():
+        facts3.put(made, {x: 1, y: -c}, s)
+    for (p, n), s in f.acf.items():
+        facts3.put(made, {facts3.AC: 1} | {name: c for name, c in ((p, -1), (n, 1)) if name >= 0}, s)
+    for (z, x), (k, sign, j) in f.loads.items():
+        facts3.put(made, {z: 1, (x, k): -sign}, j)
+    return made
+
+
 def reduced(richer, found, f):
     """A trial's fact, narrowed as in facts3; None where no state satisfies it."""
-    g, ac = f.copy(), richer.acs(f.al)
-    met = {facts3.AC: ac}
-
-    def raw(name):
-        return ac if name == facts3.AC else found.raw(f, name)
-
-    def meet(name, members):
-        met[name] = met.get(name, raw(name)) & members
-
-    def put(relations, key, members):
-        relations[key] = relations.get(key, sets.ALL) & members
-
-    for (p, n), s in f.acf.items():
-        low = sets.added(s, raw(p)) if p >= 0 else s
-        meet(facts3.AC, sets.subtracted(low, raw(n)) if n >= 0 else low)
-        if p < 0 or n < 0:
-            meet(n if p < 0 else p, sets.subtracted(s, ac) if p < 0 else sets.subtracted(ac, s))
-        else:
-            known = found.get_rel(f, p, n)
-            meet(facts3.AC, sets.ALL if known is None else sets.added(known, s))
-            x, y = min(p, n), max(p, n)
-            apart = sets.subtracted(ac, s)
-            put(g.rel, (x, y, 1), apart if p < n else sets.negated(apart))
-    for (x, y, c), s in f.rel.items():
-        meet(x, sets.added(sets.times(c, raw(y)), s))
-        meet(y, sets.divided(c, sets.subtracted(raw(x), s), raw(y)))
-    for (z, x), (k, sign, j) in f.loads.items():
-        xs = zs = 0
-        for word in sets.words(raw(x)) if raw(x) != sets.ALL else ():
-            members = found.fixed_set(word + k)
-            fits = sets.added(members if sign > 0 else sets.negated(members), j) & raw(z)
-            xs, zs = xs | (sets.one(word) if fits else 0), zs | fits
-        if raw(x) != sets.ALL:
-            meet(x, xs)
-            meet(z, zs)
+    g = f.copy()
+    met = facts3.met_once(facts3.Fact(f.mq, relations=relations_of(f, f.cells, richer.acs(f.al))), found.place)
+    g.al &= richer.both(met.set_of(facts3.AC))
+    for form, s in met.relations.items():
+        if len(form) == 1 and form[0][0] != facts3.AC:
+            g.cells[form[0][0]] = s
+        elif len(form) == 2 and form[0][0] != facts3.AC and not isinstance(form[1][0], tuple):
+            (x, _), (y, c) = form
+            g.rel[x, y, -c % 4096] = s
     for x, (table, free) in f.fn.items():
-        xs, fits = found.fit(table, free, raw(x), f.al)
-        meet(x, xs)
+        xs, fits = found.fit(table, free, found.raw(f, x), f.al)
+        g.cells[x] = found.raw(g, x) & xs
         g.al &= fits
-        put(g.acf, (x, richer.NONE), found.offset_set(table, xs))
-    g.al &= richer.both(met.pop(facts3.AC))
-    g.cells.update(met)
+        apart = found.offset_set(table, xs)
+        g.acf[x, richer.NONE] = g.acf.get((x, richer.NONE), sets.ALL) & apart
     every = [g.al, g.mq, *g.cells.values(), *g.rel.values(), *g.acf.values()]
     return g if all(every) else None
 
 
-def facts_of(chains, trial_fact, sites, offsets):
+def facts_of(chains, f, sites, offsets):
     """The facts that stand for one of the trial: two where the sets of AC differ by the link."""
-    low, high = trial_fact.al & sets.ALL, trial_fact.al >> 4096
+    low, high = f.al & sets.ALL, f.al >> 4096
     by_link = [(low, (0, 1))] if low == high else [(low, (0,)), (high, (1,))]
-    sums = {tuple(None if name == -2 else name for name in key): s for key, s in trial_fact.acf.items()}
-    loads = {(z, x, k, sign): j for (z, x), (k, sign, j) in trial_fact.loads.items()}
-    made = {x: chains.of(*chain) for x, chain in trial_fact.fn.items()}
+    made = {x: chains.of(*chain) for x, chain in f.fn.items()}
     for ac, links in by_link:
         if ac:
-            yield facts3.Fact(ac, trial_fact.mq, frozenset(links), dict(trial_fact.cells), dict(trial_fact.rel), sums,
-                              loads, made, frozenset(offset for offset in range(64) if offsets >> offset & 1), sites)
+            yield facts3.Fact(f.mq, frozenset(links), relations_of(f, f.cells, ac), made,
+                              frozenset(offset for offset in range(64) if offsets >> offset & 1), sites)
 
 
 def certificate(found, chains):
@@ -165,15 +153,19 @@ def trimmed(image, declared, made):
     asked = check3.Judge(image, declared, made)
     listed = [(fact, [at]) for at, facts in sorted(made.facts.items(), reverse=True) for fact in facts]
     listed = [(fact, list(sets.words(fact.sites))) for facts in made.exits.values() for fact in facts] + listed
-    kinds = ("chains", "loads", "differences", "sums", "cells")
+    kinds = ("chains", "relations")
     for kind in kinds:
-        for key in sorted({key for fact, _ in listed for key in getattr(fact, kind)}, key=str):
+        for key in sorted({key for fact, _ in listed for key in getattr(fact, kind)} - {AC_ALONE}, key=longest):
             without(asked, [entry for entry in listed if key in getattr(entry[0], kind)], kind, key)
     gone = 1
     while gone:
         gone = sum(without(asked, [entry], kind, key) for entry in listed for kind in kinds
-                   for key in sorted(getattr(entry[0], kind), key=str, reverse=True))
+                   for key in sorted({*getattr(entry[0], kind)} - {AC_ALONE}, key=longest))
     return made
+
+
+def longest(key):
+    return isinstance(key, tuple) and -len(key), str(key)
 
 
 def without(asked, entries, kind, key):
@@ -191,9 +183,9 @@ def main(folder, source, out, letters=LETTERS, *split):
     richer, words = trial(folder)
     chains = Chains(richer)
     image, text = labels.program(Path(source).read_bytes())
-    found, said = analysed(richer, image, words.parse_declaration(text.encode()), letters, [int(cell, 8) for cell in split])
+    declared = watch.declaration(text.encode())
+    found, said = analysed(richer, image, declared, words.parse_declaration(text.encode()), letters, [int(cell, 8) for cell in split])
     if said == "proved":
-        declared = watch.declaration(text.encode())
         made = certificate(found, chains)
         failed = check3.judge(image, declared, made)
         said = "no: V{} at {:04o}".format(*failed) if failed else "yes"

@@ -101,8 +101,8 @@ BELOW = [
     ("func 0200 0000 link 01" + " 7001" * 17, "BadLine 3"), ("func 0200 0000 link 0 7001;sum AC - 0200 in 0000", "Order 4"),
     (";".join(f"cell {cell:04o} 0000" for cell in range(64)), "good"),
     (";".join(f"cell {cell:04o} 0000" for cell in range(65)), "TooMany"),
-    (";".join(f"sum AC - {cell:04o} in 0000" for cell in range(48)), "good"),
-    (";".join(f"sum AC - {cell:04o} in 0000" for cell in range(49)), "TooMany"),
+    (";".join(f"sum AC - {cell:04o} in 0000" for cell in range(32)), "good"),
+    (";".join(f"sum AC - {cell:04o} in 0000" for cell in range(33)), "TooMany"),
     (";".join(f"func {cell:04o} 0000 link 0 7001" for cell in range(5)), "TooMany"),
 ]
 

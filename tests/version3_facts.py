@@ -4,6 +4,7 @@ chance, a word is executed by the second machine, and what the rules conclude mu
 usage: version3_facts.py COUNT SEED, which prints how many cases of each kind there were, and what went wrong.
 """
 import collections
+import copy
 import random
 import sys
 from dataclasses import replace
@@ -101,8 +102,9 @@ def fact_of(chance, world, start, site, offset, place):
         k = r.choice([0, 0, 1, 0o7777, (r.choice(TABLE) - value(world, start, y)) % 4096])
         c = r.choice([1, 1, -1, -1, -1, 2, 0o7774, 3])
         put(*r.choice([[(x, 1), (y, c)], [(AC, 1), (y, 1), (z, -1)], [(x, 1), ((y, k), r.choice([1, -1]))]]))
-    if r.random() < 0.5:
+    if r.random() < 0.2:
         x = r.choice(cells)
+        put((x, 1))
         k, steps = r.choice([0, 1, chance.word()]), tuple(r.choice([("AND", r.choice([7, 0o7600, 0o77])), ("TAD", chance.word()),
                                                                     ("word", r.choice([0o7010, 0o7106, 0o7041, 0o7012]))])
                                                           for _ in range(r.randrange(1, 4)))
@@ -193,6 +195,11 @@ def case(chance, counts):
                 return "entailed", shape, holds(b, world, start, site, offset, place)
         else:
             counts["not entailed " + shape] += 1
+    if r.random() < 0.3:
+        said = returned(chance, narrow, (world, start, site, offset, place))
+        counts["returned"] += 1
+        if said:
+            return "returned", said
     stepped, cells = (narrow, 0) if word >= 0o6000 else facts3.targets(narrow, at, word, place)
     written = cells if word >> 9 in (2, 3) else 0
     if word < 0o6000 and word & 0o400 and facts3.named_cell(word, at) in range(0o10, 0o20):
@@ -213,6 +220,17 @@ def case(chance, counts):
                 return landed(chance, counts, outcome.fact, (world, start, site, offset, place))
             wrong.append(said)
     return "outcome", f"{word:04o}", wrong
+
+
+def returned(chance, call, state):
+    """What is known after a return holds where the callee's written set has all that it wrote."""
+    world, start, site, offset, place = state
+    written, world = chance.r.sample(VARIABLES, chance.r.randrange(4)), copy.copy(world)
+    world.memory, world.ac, world.mq, world.link = list(world.memory), chance.word(), chance.word(), chance.r.randrange(2)
+    for cell in written:
+        world.memory[cell] = chance.word()
+    known = facts3.joined(call, fact_of(chance, world, start, 0o203, 1, place), sets.of(written))
+    return holds(known, world, start, site, offset, place)
 
 
 def landed(chance, counts, fact, state):

@@ -1,6 +1,8 @@
-"""Tries that versions 1 and 2 are version 3 with less: the outcomes, the entailments and the returns of reference/facts.py
-are those of reference/facts3.py where these do less in the places that docs/CERTIFICATES3.md lists, on the cases by chance
-of tests/facts.py; and what version 1 lets land, version 3 does.
+"""Compares versions 1 and 2 with version 3 on the cases by chance of tests/facts.py: the outcomes, the entailments and the
+returns of reference/facts.py are those of reference/facts3.py, where this does less as points 1 to 7 of "Versions 1 and 2" in
+docs/CERTIFICATES3.md say, and of 8 and 9 what is said of outcomes and returns; and each single fact that version 1 or 2
+entails is entailed by the narrowed fact in version 3. Conditions, landing and whole certificates aren't compared, nor facts
+with two equations of one pair of names.
 
 usage: version3_older.py COUNT SEED
 """
@@ -25,27 +27,39 @@ SPEC.loader.exec_module(by_chance)
 
 def newer(fact, sites):
     """A fact of version 1 or 2 as one of version 3."""
-    differences = {(x, y, 1): sets.one(k) for x, y, k in fact.equations if x != AC}
-    sums = {(y, None): sets.one(k) for x, y, k in fact.equations if x == AC}
-    return facts3.Fact(fact.ac, fact.mq, fact.link, dict(fact.cells), differences, sums, {}, {}, fact.offsets, sites)
+    found = facts3.Fact(fact.mq, fact.link, {((AC, 1),): fact.ac}, {}, fact.offsets, sites)
+    found.relations |= {((cell, 1),): members for cell, members in fact.cells.items()}
+    for x, y, k in fact.equations:
+        facts3.put(found.relations, {x: 1, y: -1}, sets.one(k))
+    return found
+
+
+def sums(fact):
+    """The relations of several terms."""
+    return {form: s for form, s in fact.relations.items() if len(form) > 1}
+
+
+def names_sets(fact):
+    """The sets of AC and of cells."""
+    return {form: s for form, s in fact.relations.items() if len(form) == 1}
 
 
 def equations_alone(fact):
     """A fact with those relations alone that versions 1 and 2 know."""
-    return replace(fact, differences={key: s for key, s in fact.differences.items() if key[2] == 1 and sets.only(s) is not None},
-                   sums={(p, n): s for (p, n), s in fact.sums.items() if p is not None and n is None and sets.only(s) is not None},
-                   loads={}, chains={})
+    kept = {form: s for form, s in sums(fact).items() if len(form) == 2 and form[1][1] == facts3.MINUS and
+            not isinstance(form[1][0], tuple) and sets.only(s) is not None}
+    return replace(fact, relations=names_sets(fact) | kept, chains={})
 
 
 def said(fact, nexts=()):
     """What a fact says, in a form to compare; of either kind."""
     if isinstance(fact, facts3.Fact):
-        equations = {(x, y, sets.only(s)) for (x, y, _), s in fact.differences.items()}
-        equations |= {(AC, p, sets.only(s)) for (p, _), s in fact.sums.items()}
+        equations = {(form[0][0], form[1][0], sets.only(s)) for form, s in sums(fact).items()}
+        cells, ac = {name: s for ((name, _),), s in names_sets(fact).items()}, fact.set_of(AC)
     else:
-        equations = set(fact.equations)
-    cells = {cell: members for cell, members in fact.cells.items() if members != sets.ALL}
-    return repr((fact.ac, fact.mq, sorted(fact.link), sorted(cells.items()), sorted(equations), sorted(fact.offsets), sorted(nexts)))
+        equations, cells, ac = set(fact.equations), fact.cells, fact.ac
+    cells = {cell: members for cell, members in cells.items() if cell != AC and members != sets.ALL}
+    return repr((ac, fact.mq, sorted(fact.link), sorted(cells.items()), sorted(equations), sorted(fact.offsets), sorted(nexts)))
 
 
 def rows(start, cells, at, word, place):
@@ -63,7 +77,7 @@ def stepped(fact, known, at, word, place):
     if not word & 0o400 or not 0o10 <= cell <= 0o17:
         return fact, known, facts3.targets(known, at, word, place)[1]
     cells = sets.shift(known.set_of(cell), 1)
-    fact = fact.moved(cell, 1).with_set(cell, cells)
+    fact = fact.moved(cell).with_set(cell, cells)
     return fact, facts3.met_once(fact, place), cells
 
 
@@ -73,11 +87,12 @@ def older_post(fact, at, word, place):
     if word < 0o6000:
         fact, known, cells = stepped(fact, known, at, word, place)
         y = facts3.variable(cells, place)
-    if not known.ac:
+    if not known.set_of(AC):
         return []
     several = operation in (2, 3) and y is None
-    sums = {key: s for key, s in fact.sums.items() if operation != 3 or key[0] != y}
-    start = replace(known, cells=dict(fact.cells if several else known.cells), differences=fact.differences, sums=sums)
+    start = replace(known, relations=names_sets(fact) | sums(fact) | {((AC, 1),): known.set_of(AC)}) if several else known
+    if operation == 3 and y is not None:
+        start.relations.pop(((AC, 1), (y, facts3.MINUS)), None)
     found = rows(start, cells, at, word, place)
     if operation == 2 and several and sets.only(cells) != place.entry:
         every = [known.set_of(target) for target in sets.words(cells)]
@@ -87,50 +102,60 @@ def older_post(fact, at, word, place):
     if operation == 1 or 0o7000 <= word < 0o7400:
         found = together(found)
     if operation == 1:
-        found = [facts3.Outcome(replace(outcome.fact, sums=older_sums(fact, known, y, cells, place)), outcome.nexts)
+        relations = older_sums(fact, known, y, cells, place)
+        found = [facts3.Outcome(replace(outcome.fact, relations=names_sets(outcome.fact) | relations), outcome.nexts)
                  for outcome in found]
     found = [facts3.Outcome(stays(fact, outcome.fact, y, several, word), outcome.nexts) for outcome in found]
-    return [outcome for outcome in found if outcome.fact.ac and outcome.fact.mq and outcome.fact.link and
-            (operation not in (2, 3) or y is None or outcome.fact.cells[y])]
+    return [outcome for outcome in found if outcome.fact.set_of(AC) and outcome.fact.mq and outcome.fact.link and
+            (operation not in (2, 3) or y is None or outcome.fact.set_of(y))]
 
 
 def together(found):
     """One outcome for both links."""
-    found = [outcome for outcome in found if outcome.fact.ac]
+    found = [outcome for outcome in found if outcome.fact.set_of(AC)]
     if not found:
         return []
     links = frozenset().union(*(outcome.fact.link for outcome in found))
-    return [facts3.Outcome(replace(found[0].fact, ac=sets.union(outcome.fact.ac for outcome in found), link=links), found[0].nexts)]
+    ac = sets.union(outcome.fact.set_of(AC) for outcome in found)
+    return [facts3.Outcome(replace(found[0].fact.with_set(AC, ac), link=links), found[0].nexts)]
 
 
 def older_sums(fact, known, y, cells, place):
-    """AC's relations after TAD."""
-    members = facts3.union_of_values(known, cells, place)
-    if y is not None and sets.only(known.ac) is not None:
-        return {(y, None): known.ac}
-    return {key: sets.added(s, members) for key, s in fact.sums.items()} if sets.only(members) is not None else {}
+    """The relations of several terms after TAD."""
+    members, others = facts3.union_of_values(known, cells, place), {}
+    for form, s in sums(fact).items():
+        if form[0][0] != AC:
+            others[form] = s
+        elif sets.only(members) is not None and (y is None or sets.only(known.set_of(AC)) is None):
+            others[form] = sets.added(s, members)
+    if y is not None and sets.only(known.set_of(AC)) is not None:
+        others[(AC, 1), (y, facts3.MINUS)] = known.set_of(AC)
+    return others
 
 
 def stays(before, after, y, several, word):
     """What a row doesn't name is as it was before narrowing, and equations alone are kept."""
     after, operation = equations_alone(after), word >> 9
-    if not several:
-        written = {y: after.cells[y]} if operation in (2, 3) else {}
-        after = replace(after, cells=before.cells | written)
     names_ac = operation in (0, 1, 3, 7) or word in (0o6012, 0o6016, 0o6034, 0o6032, 0o6036)
-    return after if names_ac else replace(after, ac=before.ac)
+    ac = after.set_of(AC) if names_ac else before.set_of(AC)
+    if not several:
+        written = {((y, 1),): after.set_of(y)} if operation in (2, 3) else {}
+        after = replace(after, relations=names_sets(before) | written | sums(after))
+    return after.with_set(AC, ac)
 
 
 def older_entails(a, b, place):
     """The entailment of versions 1 and 2: an equation is one of a's own, or both sides have one word and fulfil it."""
     known = facts3.met_once(a, place)
-    bare = replace(b, differences={}, sums={}, sites=a.sites)
+    bare = replace(b, relations=names_sets(b), sites=a.sites)
     if not facts3.entails(replace(known, link=a.link), bare, place):
         return False
-    relations = [(a.differences.get(key), s, known.set_of(key[0]), known.set_of(key[1])) for key, s in b.differences.items()]
-    relations += [(a.sums.get(key), s, known.ac, known.set_of(key[0])) for key, s in b.sums.items()]
-    return all(own == s or sets.only(left) is not None and sets.only(right) is not None and sets.subtracted(left, right) == s
-               for own, s, left, right in relations)
+    for form, s in sums(b).items():
+        left, right = known.set_of(form[0][0]), known.set_of(form[1][0])
+        one = sets.only(left) is not None and sets.only(right) is not None
+        if a.relations.get(form) != s and not (one and sets.subtracted(left, right) == s):
+            return False
+    return True
 
 
 def pairs_once(fact):
@@ -140,8 +165,8 @@ def pairs_once(fact):
 
 def older_joined(call, exit_fact, written):
     """The return of versions 1 and 2: of cells outside the written set the exit says nothing."""
-    cells = {cell: members for cell, members in exit_fact.cells.items() if written >> cell & 1}
-    return facts3.joined(call, replace(exit_fact, cells=cells), written)
+    relations = {form: s for form, s in exit_fact.relations.items() if len(form) > 1 or form[0][0] == AC or written >> form[0][0] & 1}
+    return facts3.joined(call, replace(exit_fact, relations=relations), written)
 
 
 def tried(case, counts):

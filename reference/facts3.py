@@ -286,37 +286,32 @@ def after_and(fact, cells, place, following):
     return [Outcome(after, [following])]
 
 
-def added_terms(cells, pointer, place):
-    """The terms whose word is added by a TAD."""
-    if variable(cells, place) is not None:
-        yield variable(cells, place)
+def added_term(cells, pointer, place):
+    """The term whose word is added by a TAD, if there is one."""
     if pointer is not None and not cells & place.changing:
-        yield pointer, 0
+        return pointer, 0
+    return variable(cells, place)
 
 
 def relations_after_tad(fact, members, added):
-    """The relations after a TAD of a word of a set, which is also the word of some terms."""
-    ac, relations = fact.set_of(AC), {}
+    """The relations after a TAD of a word of a set, which is that of a term where this isn't None."""
+    relations = {}
     for form, s in fact.relations.items():
         terms = dict(form)
-        if AC in terms:
-            meet(relations, form, sets.added(s, members))
-        else:
-            meet(relations, form, s)
-        for term in added:
-            c = terms.get(term, 0)
-            if AC in terms:
-                put(relations, terms | {term: c - 1}, s)
-            elif c in (1, MINUS):
-                others = {other: c * factor for other, factor in form if other != term}
-                put(relations, {AC: 1} | others, sets.added(ac, sets.times(c, s)))
+        c = terms.get(added, 0)
+        meet(relations, form, sets.added(s, members) if AC in terms else s)
+        if added is not None and AC in terms:
+            put(relations, terms | {added: c - 1}, s)
+        elif c in (1, MINUS):
+            others = {term: c * factor for term, factor in form if term != added}
+            put(relations, {AC: 1} | others, sets.added(fact.set_of(AC), sets.times(c, s)))
     return relations
 
 
 def after_tad(fact, cells, place, pointer, following):
     members = union_of_values(fact, cells, place)
     only, (low, high) = sets.only(members), sets.totals(fact.set_of(AC), members)
-    relations = relations_after_tad(fact, members, list(added_terms(cells, pointer, place)))
+    relations = relations_after_tad(fact, members, added_term(cells, pointer, place))
     after = replace(fact, relations=relations, chains=longer(fact.chains, "TAD", only) if only is not None else {})
     found = []
     for link in (0, 1):

@@ -29,6 +29,11 @@ class Chance:
 
     def __init__(self, seed):
         self.r = random.Random(seed)
+        self.subject = self.r.choice(VARIABLES)
+
+    def cell(self):
+        """A cell; often the one that the instruction names too."""
+        return self.subject if self.r.random() < 0.5 else self.r.choice([*VARIABLES, *VARIABLES, 0o270, 0o271])
 
     def word(self):
         return self.r.choice([0, 1, 2, 0o7777, 0o7776, 0o4000, 0o3777, *VARIABLES, *TABLE, *TABLE, self.r.randrange(4096)])
@@ -59,7 +64,7 @@ class Chance:
             kind = self.r.randrange(10)
             if kind < 6:
                 operation = self.r.choice([0, 1, 1, 1, 2, 2, 3, 3, 3])
-                cell = self.r.choice([*VARIABLES, *VARIABLES, *VARIABLES, 0o270, 0o271, 0o250])
+                cell = self.subject if self.r.random() < 0.6 else self.r.choice([*VARIABLES, *VARIABLES, 0o270, 0o271, 0o250])
                 page = 0 if cell < 0o200 else 0o200
                 if cell >= 0o400 or cell >= 0o200 and cell & 0o7600 != AT & 0o7600:
                     page, cell = 0o200, 0o200 | cell & 0o177
@@ -85,8 +90,6 @@ def value(world, start, term):
 def fact_of(chance, world, start, site, offset, place):
     """A fact that holds of a state."""
     r = chance.r
-    cells = [*VARIABLES, *VARIABLES, 0o270, 0o271]
-
     def put(*terms):
         """A relation of terms with coefficients, which is true."""
         form, sign = facts3.spelled(frozenset(dict(terms).items())) or (None, 0)
@@ -98,12 +101,12 @@ def fact_of(chance, world, start, site, offset, place):
     for name in [AC, *r.sample(VARIABLES, r.randrange(5))]:
         put((name, 1))
     for _ in range(r.randrange(8)):
-        x, y, z = r.choice([AC, AC, r.choice(cells)]), r.choice(cells), r.choice(cells)
+        x, y, z = r.choice([AC, AC, chance.cell()]), chance.cell(), chance.cell()
         k = r.choice([0, 0, 1, 0o7777, (r.choice(TABLE) - value(world, start, y)) % 4096])
         c = r.choice([1, 1, -1, -1, -1, 2, 0o7774, 3])
         put(*r.choice([[(x, 1), (y, c)], [(AC, 1), (y, 1), (z, -1)], [(x, 1), ((y, k), r.choice([1, -1]))]]))
     if r.random() < 0.2:
-        x = r.choice(cells)
+        x = chance.cell()
         put((x, 1))
         k, steps = r.choice([0, 1, chance.word()]), tuple(r.choice([("AND", r.choice([7, 0o7600, 0o77])), ("TAD", chance.word()),
                                                                     ("word", r.choice([0o7010, 0o7106, 0o7041, 0o7012]))])

@@ -68,25 +68,28 @@ def analysed(richer, image, declared, declaration, letters=LETTERS, split=()):
     return found, found.run()
 
 
-def relations_of(f, cells, ac):
-    """The relations of a trial's fact as forms."""
+def relations_of(f, place, ac):
+    """The relations of a trial's fact as forms. It also says of a pointer to cells of which some change that a word is that of
+    one that doesn't; the checker has no such relation.
+    """
     made = {}
     facts3.put(made, {facts3.AC: 1}, ac)
-    for cell, members in cells.items():
+    for cell, members in f.cells.items():
         facts3.put(made, {cell: 1}, members)
     for (x, y, c), s in f.rel.items():
         facts3.put(made, {x: 1, y: -c}, s)
     for (p, n), s in f.acf.items():
         facts3.put(made, {facts3.AC: 1} | {name: c for name, c in ((p, -1), (n, 1)) if name >= 0}, s)
     for (z, x), (k, sign, j) in f.loads.items():
-        facts3.put(made, {z: 1, (x, k): -sign}, j)
+        if not sets.shift(f.cells.get(x, sets.ALL), k) & place.changing:
+            facts3.put(made, {z: 1, (x, k): -sign}, j)
     return made
 
 
 def reduced(richer, found, f):
     """A trial's fact, narrowed as in facts3; None where no state satisfies it."""
     g = f.copy()
-    met = facts3.met_once(facts3.Fact(f.mq, relations=relations_of(f, f.cells, richer.acs(f.al))), found.place)
+    met = facts3.met_once(facts3.Fact(f.mq, relations=relations_of(f, found.place, richer.acs(f.al))), found.place)
     g.al &= richer.both(met.set_of(facts3.AC))
     for form, s in met.relations.items():
         if len(form) == 1 and form[0][0] != facts3.AC:
@@ -104,14 +107,14 @@ def reduced(richer, found, f):
     return g if all(every) else None
 
 
-def facts_of(chains, f, sites, offsets):
+def facts_of(chains, place, f, sites, offsets):
     """The facts that stand for one of the trial: two where the sets of AC differ by the link."""
     low, high = f.al & sets.ALL, f.al >> 4096
     by_link = [(low, (0, 1))] if low == high else [(low, (0,)), (high, (1,))]
     made = {x: chains.of(*chain) for x, chain in f.fn.items()}
     for ac, links in by_link:
         if ac:
-            yield facts3.Fact(f.mq, frozenset(links), relations_of(f, f.cells, ac), made,
+            yield facts3.Fact(f.mq, frozenset(links), relations_of(f, place, ac), made,
                               frozenset(offset for offset in range(64) if offsets >> offset & 1), sites)
 
 
@@ -135,12 +138,12 @@ def certificate(found, chains):
             line.writes |= written if routine == entry else 0
     for key, fact in sorted(found.facts.items(), key=lambda pair: str(pair[0])):
         entry, context, _, at, _ = key
-        made.facts.setdefault(at, []).extend(facts_of(chains, fact, sites(entry, context), fact.offs))
+        made.facts.setdefault(at, []).extend(facts_of(chains, found.place, fact, sites(entry, context), fact.offs))
     for key, fact in sorted(found.exits.items(), key=lambda pair: str(pair[0])):
         entry, context, offset, values = key
         fact = fact.copy()
         fact.cells.update({cell: sets.one(word) for cell, word in zip(found.split, values) if word is not None})
-        made.exits.setdefault((entry, offset), []).extend(facts_of(chains, fact, sites(entry, context), 0))
+        made.exits.setdefault((entry, offset), []).extend(facts_of(chains, found.place, fact, sites(entry, context), 0))
     return made
 
 

@@ -1,3 +1,4 @@
 pub mod Needed
 pub mod Proposals
 pub mod Touched
+pub mod Permitting

@@ -10,3 +10,4 @@ pub mod marked;
 mod merging;
 pub mod stuck;
 pub mod verifying;
+mod widening;

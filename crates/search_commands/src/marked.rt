@@ -8,9 +8,10 @@ ghost use Rattle.declaration.specs.Kept.{meaning};
 ghost use Rattle.search_commands.specs.VerifyText.{IsAnswer, answer_text};
 
 use crate::verifying::{
-    Answer, Lack, MOST_TURNS, Proposed, RefuteOptions, VerifyOptions, answer_by, answer_line,
+    Answer, Lack, MOST_TURNS, Proposed, RefuteOptions, VerifyOptions, answer_line,
     answer_why, draft_lines, lack_of, refuted,
 };
+use crate::widening::{Settled, answer_of, obstacle_line, settled};
 use analyser::{Attempt, guess_or_draft};
 use bin_tape::Image;
 use certificate::Certificate;
@@ -174,17 +175,25 @@ pub fn verify_proposed_marked<A: Allocator + Copy>(
 ) -> Result<MarkedProposal<A>, Fault> {
     let mut turns = Turns::new(MOST_TURNS);
     let proposal = propose(alloc, image, options.start, options.profile, &mut turns)?;
+    let Settled { proposal, ending } = settled(alloc, image, proposal, &options.search, &mut turns)?;
     let Proposal {
         declaration,
         text,
         verdict,
         ..
     } = proposal;
-    let answer = answer_by(alloc, image, &declaration, verdict, &options.search)?;
-    let line = answer_line(alloc, &declaration, &answer)?;
+    let (answer, obstacle) = answer_of(verdict, ending);
+    let mut line = answer_line(alloc, &declaration, &answer)?;
+    if let Some(obstacle) = obstacle {
+        line.extend_from_slice(&obstacle_line(alloc, obstacle)?)?;
+    }
     let why = answer_why(alloc, image, &declaration, &answer, true)?;
     Ok(MarkedProposal {
-        proposed: Proposed { text, answer },
+        proposed: Proposed {
+            text,
+            answer,
+            obstacle,
+        },
         line,
         why,
     })

@@ -9,6 +9,7 @@ ghost use Rattle.search_commands.specs.SearchFaults.{IsProposeFault};
 ghost use Rattle.search_commands.specs.VerifyText.{IsAnswer, IsProposedAnswer, IsTold, IsVerifiedOf, answer_status, answer_text, lack_text, no_text};
 ghost use Rattle.proposer.specs.Proposals.{IsShown};
 
+use crate::widening::{self, Settled, obstacle_line, settled};
 use analyser::{Attempt, GuessFault, guess, guess_or_draft};
 use bin_tape::Image;
 use certificate::Certificate;
@@ -22,7 +23,7 @@ use declaration::Declaration;
 use itoa::Buffer;
 pub use options::{RefuteOptions, VerifyOptions};
 use policy::{Rule, Watched};
-use proposer::{Proposal, Verdict, propose};
+use proposer::{Obstacle, Proposal, propose};
 use reasons::why_stuck;
 use refuter::{Witness, refute_within};
 use std::alloc::{AllocError, Allocator};
@@ -63,6 +64,8 @@ pub struct Proposed<A: Allocator> {
     pub text: Vec<u8, A>,
     /// Whether the program keeps it.
     pub answer: Answer<A>,
+    /// After a no why no declaration allows what the run does.
+    pub obstacle: Option<Obstacle>,
 }
 
 /// The status of an answer: only a yes is done.
@@ -261,6 +264,25 @@ fn told_of<A: Allocator + Copy, D: Allocator>(
     Ok(text)
 }
 
+/// What is told of an answer on a proposal: its line, behind a no why no declaration allows what the run does, and behind
+/// that why the proposal doesn't, where that is asked for.
+fn told_of_proposed<A: Allocator + Copy, D: Allocator>(
+    alloc: A,
+    image: &Image,
+    declaration: &Declaration<D>,
+    answer: &Answer<A>,
+    obstacle: Option<Obstacle>,
+    explained: bool,
+) -> Result<Vec<u8, A>, Fault> {
+    let mut text = answer_line(alloc, declaration, answer)?;
+    if let Some(obstacle) = obstacle {
+        text.extend_from_slice(&obstacle_line(alloc, obstacle)?)?;
+    }
+    let why = answer_why(alloc, image, declaration, answer, explained)?;
+    text.extend_from_slice(why.as_bytes())?;
+    Ok(text)
+}
+
 /// Says whether a tape's program keeps its declaration: `yes` with the certificate that shows it, of
 /// which every condition holds; `no` with a run that breaks it; or that neither is found. The answer is
 /// written as a line, behind which stands why, where that is asked for; these further lines are tested
@@ -300,25 +322,6 @@ pub fn verify<A: Allocator + Copy, R: ByteSource, D: ByteSource, W: ByteSink>(
     Ok(answer)
 }
 
-/// The answer for a declaration that was proposed with this verdict.
-pub(crate) fn answer_by<A: Allocator + Copy>(
-    alloc: A,
-    image: &Image,
-    declaration: &Declaration<A>,
-    verdict: Verdict<A>,
-    options: &RefuteOptions,
-) -> Result<Answer<A>, Fault>
-    requires { IsShown image.now declaration.now verdict }
-    ensures answer { IfOk result (IsAnswer image.now (meaning declaration.now)) }
-    ensures faults { IfErr result IsMemoryFault }
-{
-    match verdict {
-        Verdict::Safe(certificate) => Ok(Answer::Yes(certificate)),
-        Verdict::Stuck(at) => refuted(alloc, image, declaration, options, Lack::Stuck(at)),
-        Verdict::TurnsSpent => refuted(alloc, image, declaration, options, Lack::TurnsSpent),
-    }
-}
-
 /// Says of a tape alone whether its program keeps the declaration that is proposed for it, as [`verify`]
 /// does, and gives the text of that declaration too.
 ///
@@ -345,20 +348,27 @@ pub fn verify_proposed<A: Allocator + Copy, R: ByteSource, W: ByteSink>(
     let image = tape_from(tape)?;
     let mut turns = Turns::new(MOST_TURNS);
     let proposal = propose(alloc, &image, options.start, options.profile, &mut turns)?;
+    let Settled { proposal, ending } =
+        settled(alloc, &image, proposal, &options.search, &mut turns)?;
     let Proposal {
         declaration,
         text,
         verdict,
         ..
     } = proposal;
-    let answer = answer_by(alloc, &image, &declaration, verdict, &options.search)?;
-    let told = told_of(
+    let (answer, obstacle) = widening::answer_of(verdict, ending);
+    let told = told_of_proposed(
         alloc,
         &image,
         &declaration,
         &answer,
+        obstacle,
         options.search.explained,
     )?;
     write_text(out, &told)?;
-    Ok(Proposed { text, answer })
+    Ok(Proposed {
+        text,
+        answer,
+        obstacle,
+    })
 }

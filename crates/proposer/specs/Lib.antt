@@ -2,3 +2,4 @@ pub mod Needed
 pub mod Proposals
 pub mod Touched
 pub mod Permitting
+pub mod Widenings

@@ -176,15 +176,23 @@ fn named_by(image: &Image, bodies: &WordSet, profile: Profile) -> WordSet {
 
 /// The cells around one, up and down, as far as they are among these.
 fn row_around(cells: &WordSet, cell: Word) -> WordSet {
-    let mut low = cell.index();
-    while low > 0 && cells.contains(Word::from_index(low - 1)) {
-        low -= 1;
+    let top = Word::ZERO.complement();
+    let mut row = WordSet::one(cell);
+    let mut low = cell;
+    let mut high = cell;
+    for _cell in 0..4096usize {
+        let below = low.add(top);
+        if low != Word::ZERO && cells.contains(below) {
+            low = below;
+            row.insert(low);
+        }
+        let above = high.increment();
+        if high != top && cells.contains(above) {
+            high = above;
+            row.insert(high);
+        }
     }
-    let mut high = cell.index();
-    while high < 4095 && cells.contains(Word::from_index(high + 1)) {
-        high += 1;
-    }
-    WordSet::range(Word::from_index(low), Word::from_index(high))
+    row
 }
 
 /// The buffer that has a cell: the cells around it of which the tape has words, or has none, as of this one, and which no

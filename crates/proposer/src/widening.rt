@@ -1,5 +1,11 @@
 //! Widens a proposal that a run leaves.
 
+ghost use Rattle.std.specs.Prelude.{◌≡◌, ◌≤◌, IfOk, IfErr, IfSome};
+ghost use Rattle.declaration.specs.Kept.{meaning};
+ghost use Rattle.peripherals.specs.World.{profile_of};
+ghost use Rattle.proposer.specs.Proposals.{IsTold};
+ghost use Rattle.proposer.specs.Widenings.{HasProfile, IsDrafted, IsTaught, IsWidened, Supersedes};
+
 use crate::evidence::Evidence;
 use crate::extending::permits;
 use crate::learning::{Lesson, Obstacle, learn};
@@ -48,7 +54,9 @@ fn drafted<A: Allocator + Copy>(
     alloc: A,
     image: &Image,
     sketch: &Sketch<A>,
-) -> Result<Option<Drafted<A>>, NoMemory> {
+) -> Result<Option<Drafted<A>>, NoMemory>
+    ensures drafted { IfOk result (λ found. IfSome found IsDrafted) }
+{
     let text = sketch.text(alloc, image)?;
     match Declaration::parse(alloc, &text) {
         Ok(declaration) => Ok(Some(Drafted { declaration, text })),
@@ -64,7 +72,10 @@ fn taught<A: Allocator + Copy>(
     declaration: &Declaration<A>,
     evidence: &Evidence<A>,
     watcher: &Watcher<A>,
-) -> Result<Taught<A>, NoMemory> {
+) -> Result<Taught<A>, NoMemory>
+    ensures drafted { IfOk result IsTaught }
+    ensures profile { IfOk result (HasProfile (meaning declaration.now).profile) }
+{
     let mut sketch = Sketch::of(alloc, declaration)?;
     match learn(alloc, image, declaration, evidence, &mut sketch, watcher)? {
         Lesson::Never(obstacle) => return Ok(Taught::Never(obstacle)),
@@ -83,7 +94,10 @@ fn taught<A: Allocator + Copy>(
 fn complete<A: Allocator + Copy>(
     watcher: &mut Watcher<A>,
     declaration: &Declaration<A>,
-) -> Result<(), NoMemory> {
+) -> Result<(), NoMemory>
+    requires profile { profile_of watcher.old.world ≡ (meaning declaration.now).profile }
+    ensures profile { profile_of watcher.new.world ≡ (meaning declaration.now).profile }
+{
     let panel = watcher.world().panel();
     if panel.printer.busy {
         watcher.next(declaration, Event::PrinterDone)?;
@@ -101,7 +115,11 @@ fn run_on<A: Allocator + Copy>(
     first: Drafted<A>,
     evidence: &mut Evidence<A>,
     watcher: &mut Watcher<A>,
-) -> Result<Drafted<A>, NoMemory> {
+) -> Result<Drafted<A>, NoMemory>
+    requires drafted { IsDrafted first }
+    requires profile { profile_of watcher.old.world ≡ (meaning first.declaration).profile }
+    ensures drafted { IfOk result IsDrafted }
+{
     let mut current = first;
     for _step in 0..MOST_STEPS {
         if watcher.world().halted_at().is_some() {
@@ -129,7 +147,9 @@ fn taught_by_run<A: Allocator + Copy>(
     declaration: &Declaration<A>,
     evidence: &mut Evidence<A>,
     events: &[Event],
-) -> Result<Taught<A>, NoMemory> {
+) -> Result<Taught<A>, NoMemory>
+    ensures drafted { IfOk result IsTaught }
+{
     let mut watcher = Watcher::new(alloc, image, declaration, &Start::zero());
     let Some((_, before)) = events.split_last() else {
         return Ok(Taught::Unclear);
@@ -155,7 +175,9 @@ fn stopped<A: Allocator + Copy>(
     image: &Image,
     declaration: &Declaration<A>,
     evidence: &mut Evidence<A>,
-) -> Result<Option<Drafted<A>>, NoMemory> {
+) -> Result<Option<Drafted<A>>, NoMemory>
+    ensures drafted { IfOk result (λ found. IfSome found IsDrafted) }
+{
     let halts = evidence.continued.meet(declaration.pauses());
     if halts.is_empty() {
         return Ok(None);
@@ -175,7 +197,9 @@ fn taught_at_last<A: Allocator + Copy>(
     declaration: &Declaration<A>,
     evidence: &mut Evidence<A>,
     events: &[Event],
-) -> Result<Taught<A>, NoMemory> {
+) -> Result<Taught<A>, NoMemory>
+    ensures drafted { IfOk result IsTaught }
+{
     let taught = taught_by_run(alloc, image, declaration, evidence, events)?;
     let Taught::Never(obstacle) = taught else {
         return Ok(taught);
@@ -193,7 +217,14 @@ fn proposed_after<A: Allocator + Copy>(
     given: &Proposal<A>,
     drafted: Drafted<A>,
     turns: &mut Turns,
-) -> Result<Option<Proposal<A>>, ProposeFault> {
+) -> Result<Option<Proposal<A>>, ProposeFault>
+    requires drafted { IsDrafted drafted }
+    ensures wider { IfOk result (λ found. IfSome found (Supersedes image.now given.now.declaration)) }
+    ensures faults { IfErr result IsTold }
+    ensures limit { turns.new.limit ≡ turns.old.limit }
+    ensures rises { turns.old.spent ≤ turns.new.spent }
+    ensures within { turns.new.spent ≤ turns.new.limit }
+{
     let Drafted { declaration, text } = drafted;
     if !permits(&given.declaration, &declaration) {
         return Ok(None);
@@ -215,7 +246,13 @@ fn with_variables<A: Allocator + Copy>(
     given: &Proposal<A>,
     variables: &WordSet,
     turns: &mut Turns,
-) -> Result<Option<Proposal<A>>, ProposeFault> {
+) -> Result<Option<Proposal<A>>, ProposeFault>
+    ensures wider { IfOk result (λ found. IfSome found (Supersedes image.now given.now.declaration)) }
+    ensures faults { IfErr result IsTold }
+    ensures limit { turns.new.limit ≡ turns.old.limit }
+    ensures rises { turns.old.spent ≤ turns.new.spent }
+    ensures within { turns.new.spent ≤ turns.new.limit }
+{
     let Ok(mut sketch) = Sketch::of(alloc, &given.declaration) else {
         return Err(ProposeFault::NoMemory);
     };
@@ -239,7 +276,13 @@ fn with_data<A: Allocator + Copy>(
     image: &Image,
     given: &Proposal<A>,
     turns: &mut Turns,
-) -> Result<Option<Proposal<A>>, ProposeFault> {
+) -> Result<Option<Proposal<A>>, ProposeFault>
+    ensures wider { IfOk result (λ found. IfSome found (Supersedes image.now given.now.declaration)) }
+    ensures faults { IfErr result IsTold }
+    ensures limit { turns.new.limit ≡ turns.old.limit }
+    ensures rises { turns.old.spent ≤ turns.new.spent }
+    ensures within { turns.new.spent ≤ turns.new.limit }
+{
     let Ok(sketch) = Sketch::of(alloc, &given.declaration) else {
         return Err(ProposeFault::NoMemory);
     };
@@ -280,7 +323,15 @@ pub fn widened<A: Allocator + Copy>(
     evidence: &mut Evidence<A>,
     events: &[Event],
     turns: &mut Turns,
-) -> Result<Widening<A>, ProposeFault> {
+) -> Result<Widening<A>, ProposeFault>
+    // What is wider permits whatever the given proposal permits, and its certificate, if there is one, shows
+    // that no run of the program breaks it.
+    ensures wider { IfOk result (IsWidened image.now given.now.declaration) }
+    ensures faults { IfErr result IsTold }
+    ensures limit { turns.new.limit ≡ turns.old.limit }
+    ensures rises { turns.old.spent ≤ turns.new.spent }
+    ensures within { turns.new.spent ≤ turns.new.limit }
+{
     let Ok(taught) = taught_at_last(alloc, image, &given.declaration, evidence, events) else {
         return Err(ProposeFault::NoMemory);
     };

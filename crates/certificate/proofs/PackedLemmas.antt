@@ -12,6 +12,8 @@ use Rattle.wordset.specs.Lanes.{words}
 use Rattle.wordset.proofs.SetLemmas.{words_are, all_past, all_everything}
 use Rattle.domain.specs.Statements.{TrackedCell, cell_at}
 use Rattle.domain.specs.Meaning.{offsets_of}
+use Rattle.certificate.specs.Reading.{Each, EndsBefore, RegistersEnd, SetsEnd}
+use Rattle.certificate.specs.Found.{OffsetsEnd}
 use Rattle.certificate.specs.declared.packed.Run.{Run}
 use Rattle.certificate.specs.declared.packed.Counts.{Counts}
 use Rattle.certificate.specs.declared.packed.PackedRegisters.{PackedRegisters}
@@ -19,8 +21,7 @@ use Rattle.certificate.specs.declared.packed.PackedLine.{PackedLine}
 use Rattle.certificate.specs.declared.packed.PackedLine.TheVariants as packed
 use Rattle.certificate.specs.declared.packed.KeptLine.{KeptLine}
 use Rattle.certificate.specs.Spelling.{Line, Registers as SaidRegisters, RoutineIs, FactIs, ExitIs, CellIs}
-use Rattle.certificate.specs.Reading.{Each}
-use Rattle.certificate.specs.Packed.{Begins, joined, set_of_runs, added, set_at, one_at, other_at, registers_at, said_at, kept_at, lines_in, AreWithin, LiesWithin, IsKept, AreLaid, IsPacked}
+use Rattle.certificate.specs.Packed.{Begins, joined, set_of_runs, added, set_at, one_at, other_at, registers_at, said_at, kept_at, lines_in, AreWithin, LiesWithin, IsKept, AreLaid, IsPacked, HasEight}
 
 -- A run more.
 pub joined_more : (t : Words) (rs : List Run) (r : Run) → joined t (rs ++ r ∷ []) ≡ union (joined t rs) (between r.first r.last)
@@ -70,22 +71,46 @@ pub runs_past : (rs : List Run) (v : ℕ) → 4096 ≤ v → set_of_runs rs v �
 unfolding set_of_runs
 runs_past rs v h = ap (λ b. b && joined nothing rs v) (all_past v h)
 
--- So has none of a routine's sets that are kept.
-abbrev pub SetsEnd : Line → Type 0
-SetsEnd (RoutineIs r) = ((v : ℕ) → 4096 ≤ v → r.sites v ≡ false) × ((v : ℕ) → 4096 ≤ v → r.writes v ≡ false)
-SetsEnd _ = Unit {0}
+-- So has no set of a line that's kept.
+pub registers_end : (runs : List Run) (r : PackedRegisters) → RegistersEnd (registers_at runs r)
+registers_end runs r = record { ac = λ v h. runs_past _ v h; mq = λ v h. runs_past _ v h; link = refl }
 
-said_end : (runs : List Run) (l : PackedLine) → SetsEnd (said_at runs l)
-said_end runs (packed.Routine r) = (λ v h. runs_past _ v h, λ v h. runs_past _ v h)
-said_end runs (packed.Fact a r o) = tt
-said_end runs (packed.Exit e o r) = tt
-said_end runs (packed.Cell a n) = tt
-said_end runs (packed.Equation e) = tt
-said_end runs packed.End = tt
+pub said_end : (runs : List Run) (l : PackedLine) → HasEight l → SetsEnd (said_at runs l)
+said_end runs (packed.Routine r) h = (λ v h. runs_past _ v h, λ v h. runs_past _ v h)
+said_end runs (packed.Fact a r o) h = (registers_end runs r, h)
+said_end runs (packed.Exit e o r) h = registers_end runs r
+said_end runs (packed.Cell a n) h = λ v h. runs_past _ v h
+said_end runs (packed.Equation e) h = tt
+said_end runs packed.End h = tt
 
-pub sets_end : (runs : List Run) (ls : List KeptLine) → Each SetsEnd (lines_in runs ls)
-sets_end runs [] = tt
-sets_end runs (k ∷ ls) = (said_end (drop k.first runs) k.line, sets_end runs ls)
+-- A routine's sets have none whichever line this is.
+abbrev pub RoutineEnds : Line → Type 0
+RoutineEnds (RoutineIs r) = EndsBefore 4096 r.sites × EndsBefore 4096 r.writes
+RoutineEnds _ = Unit {0}
+
+routine_ends : (runs : List Run) (l : PackedLine) → RoutineEnds (said_at runs l)
+routine_ends runs (packed.Routine r) = (λ v h. runs_past _ v h, λ v h. runs_past _ v h)
+routine_ends runs (packed.Fact a r o) = tt
+routine_ends runs (packed.Exit e o r) = tt
+routine_ends runs (packed.Cell a n) = tt
+routine_ends runs (packed.Equation e) = tt
+routine_ends runs packed.End = tt
+
+pub routines_end : (runs : List Run) (ls : List KeptLine) → Each RoutineEnds (lines_in runs ls)
+routines_end runs [] = tt
+routines_end runs (k ∷ ls) = (routine_ends (drop k.first runs) k.line, routines_end runs ls)
+
+eight_of : (runs : List Run) (l : PackedLine) → OffsetsEnd (said_at runs l) → HasEight l
+eight_of runs (packed.Routine r) h = tt
+eight_of runs (packed.Fact a r o) h = h
+eight_of runs (packed.Exit e o r) h = tt
+eight_of runs (packed.Cell a n) h = tt
+eight_of runs (packed.Equation e) h = tt
+eight_of runs packed.End h = tt
+
+pub sets_end : (runs : List Run) (ls : List KeptLine) → Each OffsetsEnd (lines_in runs ls) → Each SetsEnd (lines_in runs ls)
+sets_end runs [] h = tt
+sets_end runs (k ∷ ls) h = (said_end (drop k.first runs) k.line (eight_of (drop k.first runs) k.line h.0), sets_end runs ls h.1)
 
 pub runs_within : (rs : List Run) (v : ℕ) → v < 4096 → joined nothing rs v ≡ set_of_runs rs v
 unfolding set_of_runs

@@ -9,7 +9,7 @@ use Rattle.certificate.specs.declared.RoutineClaim.{RoutineClaim}
 use Rattle.certificate.specs.declared.packed.Run.{Run}
 use Rattle.certificate.specs.declared.packed.KeptLine.{KeptLine}
 use Rattle.certificate.specs.Spelling.{RoutineLine, Line, FactIs, ExitIs, End}
-use Rattle.certificate.specs.Reading.{rank_in, sites_in, writes_in}
+use Rattle.certificate.specs.Reading.{Each, EndsBefore, rank_in, sites_in, writes_in}
 use Rattle.certificate.specs.Order.{is_detail, place, any, is_end, details_of_last, AreInOrder}
 use Rattle.certificate.specs.Packed.{Packed, said_at, said_lines, IsKept}
 use Rattle.certificate.specs.Gathered.{cells_under, equations_under, stated}
@@ -71,11 +71,17 @@ pub record IsNextPlace (ls : List Line) (from next : ℕ) : Type 0 where
 abbrev pub Keeps : Packed → List Line → Type 0
 Keeps k before = newest_first [] (said_lines k) ≡ before
 
+-- The offsets of a fact are among eight.
+abbrev pub OffsetsEnd : Line → Type 0
+OffsetsEnd (FactIs a r offsets) = EndsBefore 8 offsets
+OffsetsEnd _ = Unit {0}
+
 -- The lines that are kept are in order, so their places don't fall, and the end isn't among them.
 pub record IsWhole (v : Version) (k : Packed) : Type 0 where
   pub order : AreInOrder v (newest_first [] (said_lines k))
   pub no_end : any is_end (newest_first [] (said_lines k)) ≡ false
   pub rising : AreRising 0 (said_lines k)
+  pub eight : Each OffsetsEnd (said_lines k)
 
 -- There is room in a fact for the cells and equations at the front.
 abbrev pub FitUnder : List Line → Type 0

@@ -8,7 +8,7 @@ ghost use Rattle.wordset.specs.Links.{links_of};
 ghost use Rattle.domain.specs.Facts.{Location as Named};
 ghost use Rattle.domain.specs.Meaning.{location_of, offsets_of};
 ghost use Rattle.certificate.specs.Spelling.{marks, set_text, digits, offsets_text, name_text, rank_text};
-ghost use Rattle.certificate.specs.Reading.{place_of_name};
+ghost use Rattle.certificate.specs.Reading.{place_of_name, EndsBefore};
 ghost use Rattle.certificate.specs.Packed.{Begins, added};
 ghost use Rattle.certificate.specs.Fields.{left, WasFirst, run_text, NoDash, EndsField};
 
@@ -264,6 +264,7 @@ impl<'a> Fields<'a> {
 
     /// Offsets, `-` where there are none.
     pub fn offsets(&mut self) -> CountedOffsets
+        ensures ends { EndsBefore 8 (offsets_of result) }
         ensures read { WasFirst self.old self.new (offsets_text (offsets_of result)) }
         ensures only { (s : Words) (rest : List ℕ) → EndsField rest → left self.old ≡
             Some (offsets_text s ++ rest) →

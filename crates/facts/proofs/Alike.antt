@@ -1,37 +1,12 @@
--- Facts that agree entail alike.
-use Rattle.std.proofs.Common.{◌≡◌, ℕ, zero, suc, ◌<◌, ◌==◌, Bool, true, false, ◌&&◌, Option, Some, None, List, [], ◌∷◌, refl, sym, ap, ◌∙◌, subst, inl, inr, arith}
+-- Facts that say the same entail alike.
+use Rattle.std.proofs.Common.{◌≡◌, ℕ, Bool, true, ◌&&◌, List, [], ◌∷◌, refl, sym, ap, ◌∙◌, subst, inl, inr}
 use Rattle.std.specs.Prelude.{if◌then◌else◌}
 use Rattle.std.proofs.lemmas.Bool.{and_parts, and_from}
-use Rattle.wordset.specs.Words.{plus, minus, Words, SameWords, some_below, first_below, only_of, only, without}
+use Rattle.std.proofs.Math.Path.{fun_ext}
+use Rattle.wordset.specs.Words.{plus, minus, only}
 use Rattle.domain.specs.Facts.{Location, same, Equation, Fact, met_by, narrowed, Among, Knows, KnowsAll}
 use Rattle.wordset.proofs.Tests.{both_ways}
 use Rattle.domain.specs.Same.{SameFact, SameLaw}
-use Rattle.facts.proofs.Numbers.{plus_lt, minus_lt}
-
-pub some_same : (n : ℕ) (a b : ℕ → Bool) → ((v : ℕ) → v < n → a v ≡ b v) → some_below n a ≡ some_below n b
-unfolding some_below
-some_same zero a b h = refl
-some_same (suc n) a b h =
-    let here : a n ≡ b n = h n (omega arith) in
-    let rest : some_below n a ≡ some_below n b = some_same n a b (λ v lt. h v (omega arith)) in
-    rw (here, rest) refl
-
-first_same : (n : ℕ) (a b : ℕ → Bool) → ((v : ℕ) → v < n → a v ≡ b v) → first_below n a ≡ first_below n b
-unfolding first_below
-first_same zero a b h = refl
-first_same (suc n) a b h =
-    let here : a n ≡ b n = h n (omega arith) in
-    let some : some_below n a ≡ some_below n b = some_same n a b (λ v lt. h v (omega arith)) in
-    let rest : first_below n a ≡ first_below n b = first_same n a b (λ v lt. h v (omega arith)) in
-    rw (here, some, rest) refl
-
-pub only_same : (a b : Words) → SameWords a b → only a ≡ only b
-unfolding only
-only_same a b h = ap (only_of a) (first_same 4096 a b h) ∙ go (first_below 4096 b)
-  where
-    go : (o : Option ℕ) → only_of a o ≡ only_of b o
-    go None = refl
-    go (Some k) = ap (λ t. if t then None else Some k) (some_same 4096 (without k a) (without k b) (λ v lt. ap (λ x. if v == k then false else x) (h v lt)))
 
 -- what one equation leaves of a set, from its left and from its right
 abbrev pub left_met : Fact → Location → Equation → ℕ → Bool
@@ -59,29 +34,26 @@ met_all f n v (g ∷ gs) h =
     let a = and_parts (left_met f n g v) (right_met f n g v) (h g (inl refl)) in
     and_from _ _ a.0 (and_from _ _ a.1 (met_all f n v gs (λ e m. h e (inr m))))
 
-is_met_same : (a b : Fact) (n : Location) (e : Equation) (v : ℕ) → ((m : Location) → SameWords (a.set m) (b.set m)) → is_met a n e v ≡ is_met b n e v
-is_met_same a b n e v h =
-    let l : a.set e.right (minus v e.more) ≡ b.set e.right (minus v e.more) = h e.right (minus v e.more) (minus_lt v e.more) in
-    let r : a.set e.left (plus v e.more) ≡ b.set e.left (plus v e.more) = h e.left (plus v e.more) (plus_lt v e.more) in
-    rw (l, r) refl
+is_met_same : (a b : Fact) (n : Location) (e : Equation) (v : ℕ) → ((m : Location) → a.set m ≡ b.set m) → is_met a n e v ≡ is_met b n e v
+is_met_same a b n e v h = rw (h e.right, h e.left) refl
 
-narrowed_to : (a b : Fact) (n : Location) (v : ℕ) → v < 4096 → ((m : Location) → SameWords (a.set m) (b.set m)) → ((e : Equation) → Among e b.equations → Among e a.equations) → narrowed a n v ≡ true → narrowed b n v ≡ true
+narrowed_to : (a b : Fact) (n : Location) (v : ℕ) → ((m : Location) → a.set m ≡ b.set m) → ((e : Equation) → Among e b.equations → Among e a.equations) → narrowed a n v ≡ true → narrowed b n v ≡ true
 unfolding narrowed
-narrowed_to a b n v lt sets from h =
+narrowed_to a b n v sets from h =
     let p = and_parts (a.set n v) (met_by a n a.equations v) h in
-    and_from _ _ (sym (sets n v lt) ∙ p.0)
+    and_from _ _ (ap (λ s. s v) (sym (sets n)) ∙ p.0)
     (met_all b n v b.equations (λ e m. sym (is_met_same a b n e v sets) ∙ met_each a n v a.equations p.1 e (from e m)))
 
-pub narrowed_same : {a b : Fact} → SameFact a b → (n : Location) → SameWords (narrowed a n) (narrowed b n)
-narrowed_same {a} {b} h n v lt =
+pub narrowed_same : {a b : Fact} → SameFact a b → (n : Location) → narrowed a n ≡ narrowed b n
+narrowed_same {a} {b} h n = fun_ext (λ v.
     both_ways (narrowed a n v) (narrowed b n v)
-    (narrowed_to a b n v lt h.sets h.equations.from)
-    (narrowed_to b a n v lt (λ m x l. sym (h.sets m x l)) h.equations.to)
+    (narrowed_to a b n v h.sets h.equations.from)
+    (narrowed_to b a n v (λ m. sym (h.sets m)) h.equations.to))
 
 known_same : {a b : Fact} → SameFact a b → (e : Equation) → Knows a e → Knows b e
 known_same {a} {b} h e k = elim k [
   | inl m ↦ inl (h.equations.to e m)
-  | inr p ↦ inr (p.0, p.1, sym (only_same _ _ (narrowed_same h e.left)) ∙ p.2, sym (only_same _ _ (narrowed_same h e.right)) ∙ p.3, p.4)
+  | inr p ↦ inr (p.0, p.1, ap only (sym (narrowed_same h e.left)) ∙ p.2, ap only (sym (narrowed_same h e.right)) ∙ p.3, p.4)
 ]
 
 knows_each : (f : Fact) (es : List Equation) → KnowsAll f es → (e : Equation) → Among e es → Knows f e
@@ -95,17 +67,17 @@ knows_all f (g ∷ gs) h = (h g (inl refl), knows_all f gs (λ e m. h e (inr m))
 pub same_law : SameLaw
 same_law a b c h = record {
   left = λ en. record {
-    sets = λ n v lt q. en.sets n v lt (narrowed_same h n v lt ∙ q);
-    mq = λ v lt q. en.mq v lt (h.mq v lt ∙ q);
-    link = λ l lt q. en.link l lt (h.link l lt ∙ q);
+    sets = λ n. rw (← narrowed_same h n) (en.sets n);
+    mq = rw (← h.mq) en.mq;
+    link = rw (← h.link) en.link;
     equations = knows_all b c.equations (λ e m. known_same h e (knows_each a c.equations en.equations e m));
   };
   right = λ en. record {
-    sets = λ n v lt q. sym (h.sets n v lt) ∙ en.sets n v lt q;
-    mq = λ v lt q. sym (h.mq v lt) ∙ en.mq v lt q;
-    link = λ l lt q. sym (h.link l lt) ∙ en.link l lt q;
+    sets = λ n. rw (← h.sets n) (en.sets n);
+    mq = rw (← h.mq) en.mq;
+    link = rw (← h.link) en.link;
     equations = knows_all c b.equations (λ e m. knows_each c a.equations en.equations e (h.equations.from e m));
   };
-  left_offsets = λ en o lt q. en o lt (h.offsets o lt ∙ q);
-  right_offsets = λ en o lt q. sym (h.offsets o lt) ∙ en o lt q;
+  left_offsets = λ en. rw (← h.offsets) en;
+  right_offsets = λ en. rw (← h.offsets) en;
 }

@@ -1,12 +1,14 @@
 -- The words of group 2: the words that skip, and what the word makes of them.
-use Rattle.std.proofs.Common.{◌≡◌, ℕ, ◌<◌, ◌==◌, Bool, true, false, not, ◌&&◌, ◌||◌, refl, sym, ap, ◌∙◌, arith}
+use Rattle.std.proofs.Common.{◌≡◌, ℕ, ◌<◌, ◌==◌, Bool, true, false, not, ◌&&◌, ◌||◌, List, inl, inr, refl, sym, ap, ◌∙◌, arith}
 use Rattle.std.specs.Prelude.{if◌then◌else◌, nat_le}
 use Rattle.std.proofs.lemmas.Bool.Decides.{nat_tests}
 use Rattle.instruct.specs.Bits.{has_bit}
 use Rattle.instruct.specs.Operates.{any_test_holds, skips_of}
-use Rattle.wordset.specs.Words.{Words, SameWords, one, between, nothing, all_words, meet, difference}
-use Rattle.std.proofs.lemmas.Bool.{lt-ltb}
-use Rattle.facts.proofs.Numbers.{if_both}
+use Rattle.wordset.specs.Words.{Words, one, between, nothing, all_words, meet, difference}
+use Rattle.std.proofs.lemmas.Bool.{lt-ltb, cases_lt}
+use Rattle.std.proofs.Math.Path.{fun_ext}
+use Rattle.wordset.specs.Lanes.{words}
+use Rattle.wordset.proofs.SetLemmas.{words_past}
 
 last_word : (v : ℕ) → v < 4096 → nat_le v 4095 ≡ true
 last_word v lt = grind (arith, nat_tests)
@@ -61,5 +63,9 @@ part_failing w l v skip t a p r te is e h =
     go false false false q = refl
     go _ _ _ q = absurd (cc)
 
-pub kept_same : {s t : Words} (w : ℕ) → SameWords s t → SameWords (if has_bit 7 w then one 0 else s) (if has_bit 7 w then one 0 else t)
-kept_same {s} {t} w h v lt = if_both (has_bit 7 w) (one 0) s (one 0) t v refl (h v lt)
+-- the part of a set that a test leaves, where the test is told of words alone
+pub part_is : (part held : List ℕ) (t : ℕ → Bool) → ((v : ℕ) → v < 4096 → words part v ≡ (words held v && t v)) → words part ≡ (λ (v : ℕ). words held v && t v)
+part_is part held t h = fun_ext (λ v. elim (cases_lt v 4096) [
+  | inl l ↦ h v l
+  | inr g ↦ words_past part v g ∙ sym (ap (λ b. b && t v) (words_past held v g))
+])

@@ -40,5 +40,5 @@ returns c =
           let few : length c.some_set-one.new.runs.items ≤ length c.args.runs.now.items + 2048 = set.2 in
           let after = c.read_mq-other.ensures.only r.mq _ (omega arith) form.mq refl set.1 in
           let last = c.links-link.ensures.only r.link rest form.link ends (c.skip-2.ensures.only _ after.1) in
-          (record { ac = rw l.one_is set.0; mq = rw l.other_is after.0; link = last.0 }, last.1);
+          last.1;
     }

@@ -1,5 +1,6 @@
 -- Facts that say the same, with their equations in different orders.
-use Rattle.std.specs.Prelude.{◌≡◌, List}
+use Rattle.std.specs.Prelude.{◌≡◌, ℕ, ◌<◌, List}
+use Rattle.wordset.specs.Words.{SameWords}
 use Rattle.domain.specs.Facts.{Location, Equation, Fact, Among, Entails, EntailsOffsets}
 
 -- The two lists have the same equations, in whatever order and however often.
@@ -7,13 +8,13 @@ pub record SameEquations (es gs : List Equation) : Type 0 where
   pub to : (e : Equation) → Among e es → Among e gs
   pub from : (e : Equation) → Among e gs → Among e es
 
--- The two facts have the same words, links, equations and offsets.
+-- The two facts have the same words, links, equations and offsets, whatever their tests say of larger numbers.
 pub record SameFact (a b : Fact) : Type 0 where
-  pub sets : (n : Location) → a.set n ≡ b.set n
-  pub mq : a.mq ≡ b.mq
-  pub link : a.link ≡ b.link
+  pub sets : (n : Location) → SameWords (a.set n) (b.set n)
+  pub mq : SameWords a.mq b.mq
+  pub link : (k : ℕ) → k < 2 → a.link k ≡ b.link k
   pub equations : SameEquations a.equations b.equations
-  pub offsets : a.offsets ≡ b.offsets
+  pub offsets : (o : ℕ) → o < 8 → a.offsets o ≡ b.offsets o
 
 -- Facts that say the same entail the same facts, and are entailed by the same.
 pub record EntailAlike (a b c : Fact) : Type 0 where

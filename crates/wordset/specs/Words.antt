@@ -1,6 +1,5 @@
--- Sets of words as tests on numbers, and the mathematical image of each call. Words are the numbers below 4096. A set that
--- is kept by lanes has no larger number, and neither has any image of such sets: so two of them with the same words are
--- equal.
+-- Sets of words as tests on numbers, and the mathematical image of each call. Words are the numbers below 4096. No set
+-- here has a larger number, where its arguments and f give words alone: so two sets with the same words are equal.
 use Rattle.std.specs.Prelude.{◌≡◌, ℕ, ◌+◌, ◌-◌, ◌/◌, ◌%◌, ◌<◌, ◌≤◌, ◌==◌, nat_le, nat_lt, Bool, true, false, not, ◌&&◌, ◌||◌, if◌then◌else◌, Option, Some, None, bit_and, bit_or}
 use Rattle.std.proofs.Common.{zero, suc}
 
@@ -16,11 +15,11 @@ minus a b = (a + (4096 - b % 4096)) % 4096
 abbrev pub Words : Type 0
 Words = ℕ → Bool
 
--- The two sets have the same words.
+-- The two sets have the same words; larger numbers don't matter.
 abbrev pub SameWords : Words → Words → Type 0
 SameWords a b = (v : ℕ) → v < 4096 → a v ≡ b v
 
--- Each word of the one set is in the other.
+-- Each word of the one set is in the other; larger numbers don't matter.
 abbrev pub IsWithin : Words → Words → Type 0
 IsWithin a b = (v : ℕ) → v < 4096 → a v ≡ true → b v ≡ true
 

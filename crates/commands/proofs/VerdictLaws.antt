@@ -62,16 +62,16 @@ module _ (t d : List ℕ) (c e : List ℕ) (line line' : List ℕ) (status statu
   promised_is : x.declaration ≡ y.declaration
   promised_is = one_declaration d x.declaration y.declaration x.declares y.declares
 
-  verdict_is : x.verdict ≡ y.verdict
+  verdict_is : x.is.verdict ≡ y.is.verdict
   verdict_is =
-      same_verdict x.image x.declaration x.lines y.lines x.claims.of_words y.claims.of_words same back x.verdict y.verdict x.is
-      (subst (λ i. IsVerdict (checked_case i x.declaration y.lines) y.verdict) (sym image_is)
-      (subst (λ p. IsVerdict (checked_case y.image p y.lines) y.verdict) (sym promised_is) y.is))
+      same_verdict x.image x.declaration x.lines y.lines x.claims.of_words y.claims.of_words same back x.is.verdict y.is.verdict x.is.is
+      (subst (λ i. IsVerdict (checked_case i x.declaration y.lines) y.is.verdict) (sym image_is)
+      (subst (λ p. IsVerdict (checked_case y.image p y.lines) y.is.verdict) (sym promised_is) y.is.is))
 
   one_answer : (line ≡ line') × (status ≡ status')
   one_answer = (
-    x.line_is ∙ ap (λ v. verdict_text x.declaration v) verdict_is ∙ ap (λ p. verdict_text p y.verdict) promised_is ∙ sym y.line_is,
-    x.status_is ∙ ap verdict_status verdict_is ∙ sym y.status_is,
+    x.is.line_is ∙ ap (λ v. verdict_text x.declaration v) verdict_is ∙ ap (λ p. verdict_text p y.is.verdict) promised_is ∙ sym y.is.line_is,
+    x.is.status_is ∙ ap verdict_status verdict_is ∙ sym y.is.status_is,
   )
 
 lines_alike : (c e : Lines) → AreLines c → AreLines e → text c ≡ text e → SameCertificate (certificate_of c) (certificate_of e)
@@ -94,12 +94,9 @@ guess_checked t d guess g few = record {
   tape = g.tape;
   declaration = g.declaration;
   declares = g.declares;
-  lines = g.lines;
-  claims = record { lines_are = g.lines_are; of_words = g.of_words; text_is = g.guess_is; few = few };
-  verdict = Ok tt;
-  is = g.accepted;
-  line_is = refl;
-  status_is = refl;
+  lines = g.is.lines;
+  claims = record { lines_are = g.is.lines_are; of_words = g.is.of_words; text_is = g.is.guess_is; few = few };
+  is = record { verdict = Ok tt; is = g.is.accepted; line_is = refl; status_is = refl };
 }
 
 pub guess_is_accepted : GuessIsAccepted

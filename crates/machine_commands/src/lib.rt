@@ -3,6 +3,7 @@
 #![tactic(auto)]
 
 pub mod follow;
+pub mod marked;
 mod progress;
 pub mod refuting;
 pub mod running;

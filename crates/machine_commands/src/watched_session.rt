@@ -42,7 +42,7 @@ fn ends(seen: &Seen) -> bool
 
 /// The events that come with an operator, each where it is due. They end early at a halt and at an
 /// unsupported word.
-fn events_of<A: Allocator, B: Allocator>(
+pub(crate) fn events_of<A: Allocator, B: Allocator>(
     alloc: A,
     world: &mut World<B>,
     operator: &mut Operator<'_>,

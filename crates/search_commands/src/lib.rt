@@ -6,6 +6,7 @@ pub mod completing;
 pub mod declaring;
 mod extending;
 pub mod guessing;
+pub mod marked;
 mod merging;
 pub mod stuck;
 pub mod verifying;

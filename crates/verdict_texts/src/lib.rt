@@ -2,5 +2,6 @@
 #![tactic(auto)]
 
 pub mod certificates;
+pub mod marked;
 pub mod reason_text;
 pub mod verdict;

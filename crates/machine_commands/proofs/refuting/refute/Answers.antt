@@ -1,4 +1,5 @@
-use Rattle.std.proofs.Common.{rules, inl, inr}
+use Rattle.std.proofs.Common.{◌≡◌, rules, inl, inr, Err, Ok}
+use Rattle.command_parts.proofs.AnswerLemmas.{two_good, two_refused}
 use Rattle.std.specs.Io.KnownBytes.{Appends}
 use Rattle.streams.specs.Bytes.{AppendsFront}
 use Rattle.declaration.specs.Kept.{meaning}
@@ -12,10 +13,10 @@ returns-in_err-put-3-clause-front_of_report g c = λ marked.
       is = inl (
         c.in-Some.found.text.items,
         record {
-          image = c.in_ok-image.image;
-          tape = c.in_ok-image.ensures.tape;
-          declaration = meaning c.in_ok-promised.promised;
-          declares = c.in_ok-promised.ensures.declares;
+          image = c.in_ok-program.program.image;
+          tape = c.in_ok-program.ensures.image;
+          declaration = meaning c.in_ok-program.program.declaration;
+          declares = c.in_ok-program.ensures.declares;
           events = c.in-Some.found.events.items;
           spells = rw c.in-Some.is at c.in_ok-found.ensures.spelled;
           event = c.in-Some.found.event;
@@ -36,10 +37,10 @@ returns-in_err-put-3-clause-written_first g c = λ marked.
       is = (
         c.in_ok-told.told.items,
         record {
-          image = c.in_ok-image.image;
-          tape = c.in_ok-image.ensures.tape;
-          declaration = meaning c.in_ok-promised.promised;
-          declares = c.in_ok-promised.ensures.declares;
+          image = c.in_ok-program.program.image;
+          tape = c.in_ok-program.ensures.image;
+          declaration = meaning c.in_ok-program.program.declaration;
+          declares = c.in_ok-program.ensures.declares;
           events = c.in-Some.found.events.items;
           spells = rw c.in-Some.is at c.in_ok-found.ensures.spelled;
           event = c.in-Some.found.event;
@@ -51,3 +52,40 @@ returns-in_err-put-3-clause-written_first g c = λ marked.
       );
       written = written;
     })
+
+pub returns-in_err-program-clause-reads : goal.returns-in_err-program-clause-reads
+returns-in_err-program-clause-reads g c =
+    let told : c.from_residual.result ≡ Err c.in_err-program.field-0.0 = search rules in
+    rw told (two_refused c.in_err-program.ensures.reads)
+
+pub returns-in_err-found-clause-reads : goal.returns-in_err-found-clause-reads
+returns-in_err-found-clause-reads g c =
+    two_good c.from_residual-in_err-found.result (search rules) c.in_ok-program.ensures.reads
+
+pub returns-in_err-line-clause-reads : goal.returns-in_err-line-clause-reads
+returns-in_err-line-clause-reads g c =
+    two_good c.from_residual-in_err-line.result (search rules) c.in_ok-program.ensures.reads
+
+pub returns-in_err-put-clause-reads : goal.returns-in_err-put-clause-reads
+returns-in_err-put-clause-reads g c =
+    two_good c.from_residual-in_err-put.result (search rules) c.in_ok-program.ensures.reads
+
+pub returns-in_default-clause-reads : goal.returns-in_default-clause-reads
+returns-in_default-clause-reads g c =
+    two_good (Ok _) tt c.in_ok-program.ensures.reads
+
+pub returns-in_err-told-clause-reads : goal.returns-in_err-told-clause-reads
+returns-in_err-told-clause-reads g c =
+    two_good c.from_residual-in_err-told.result (search rules) c.in_ok-program.ensures.reads
+
+pub returns-in_err-put-2-clause-reads : goal.returns-in_err-put-2-clause-reads
+returns-in_err-put-2-clause-reads g c =
+    two_good c.from_residual-in_err-put-2.result (search rules) c.in_ok-program.ensures.reads
+
+pub returns-in_err-put-3-clause-reads : goal.returns-in_err-put-3-clause-reads
+returns-in_err-put-3-clause-reads g c =
+    two_good c.from_residual-in_err-put-3.result (search rules) c.in_ok-program.ensures.reads
+
+pub returns-clause-reads : goal.returns-clause-reads
+returns-clause-reads g c =
+    two_good (Ok _) tt c.in_ok-program.ensures.reads

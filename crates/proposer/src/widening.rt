@@ -50,7 +50,7 @@ enum Taught<A: Allocator> {
 }
 
 /// What a sketch says, if it can be declared.
-fn drafted<A: Allocator + Copy>(
+fn draft_of<A: Allocator + Copy>(
     alloc: A,
     image: &Image,
     sketch: &Sketch<A>,
@@ -66,7 +66,7 @@ fn drafted<A: Allocator + Copy>(
 }
 
 /// What the next step of a machine that is watched teaches, which breaks a declaration.
-fn taught<A: Allocator + Copy>(
+fn teach<A: Allocator + Copy>(
     alloc: A,
     image: &Image,
     declaration: &Declaration<A>,
@@ -82,7 +82,7 @@ fn taught<A: Allocator + Copy>(
         Lesson::Nothing | Lesson::Unclear => return Ok(Taught::Unclear),
         Lesson::New => {}
     }
-    match drafted(alloc, image, &sketch)? {
+    match draft_of(alloc, image, &sketch)? {
         Some(found) if found.declaration.profile() == declaration.profile() => {
             Ok(Taught::More(found))
         }
@@ -131,7 +131,7 @@ fn run_on<A: Allocator + Copy>(
                 evidence.sees(&sight);
                 complete(watcher, &current.declaration)?;
             }
-            Some(_) => match taught(alloc, image, &current.declaration, evidence, watcher)? {
+            Some(_) => match teach(alloc, image, &current.declaration, evidence, watcher)? {
                 Taught::More(next) => current = next,
                 Taught::Never(_) | Taught::Unclear => break,
             },
@@ -161,7 +161,7 @@ fn taught_by_run<A: Allocator + Copy>(
         }
     }
     evidence.runs(&watcher);
-    match taught(alloc, image, declaration, evidence, &watcher)? {
+    match teach(alloc, image, declaration, evidence, &watcher)? {
         Taught::More(first) => {
             Ok(Taught::More(run_on(alloc, image, first, evidence, &mut watcher)?))
         }
@@ -186,7 +186,7 @@ fn stopped<A: Allocator + Copy>(
     let mut sketch = Sketch::of(alloc, declaration)?;
     sketch.pauses = sketch.pauses.minus(&halts);
     sketch.stops = sketch.stops.union(&halts);
-    drafted(alloc, image, &sketch)
+    draft_of(alloc, image, &sketch)
 }
 
 /// What a run teaches that leaves a declaration by its last event; where no declaration allows it, and runs went on after
@@ -257,7 +257,7 @@ fn with_variables<A: Allocator + Copy>(
         return Err(ProposeFault::NoMemory);
     };
     sketch.variables = *variables;
-    let Ok(found) = drafted(alloc, image, &sketch) else {
+    let Ok(found) = draft_of(alloc, image, &sketch) else {
         return Err(ProposeFault::NoMemory);
     };
     let Some(draft) = found else {

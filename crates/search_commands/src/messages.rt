@@ -12,7 +12,7 @@ ghost use Rattle.search_commands.specs.SearchFaults.{IsProposeFault, IsSearchFau
 ghost use Rattle.search_commands.specs.VerifyText.{IsAnswer, IsProposedAnswerOf, IsVerifiedOf, answer_text, lack_text, no_text};
 
 use crate::stuck::draft_message;
-use crate::widening::{Settled, settled, with_reason};
+use crate::widening::{Settled, settle, with_reason};
 use crate::verifying::{Answer, Lack, MOST_TURNS, Proposed, RefuteOptions, VerifyOptions, lack_of};
 use analyser::{Attempt, GuessFault, guess, guess_or_draft};
 use bin_tape::Image;
@@ -405,7 +405,7 @@ pub fn verify_proposed_message<A: Allocator + Copy>(
 {
     let mut turns = Turns::new(MOST_TURNS);
     let proposal = propose(alloc, image, options.start, options.profile, &mut turns)?;
-    let found = settled(alloc, image, proposal, &options.search, &mut turns)?;
+    let found = settle(alloc, image, proposal, &options.search, &mut turns)?;
     let Settled {
         declaration,
         text,

@@ -68,7 +68,7 @@ fn answer_by<A: Allocator>(
 }
 
 /// What is said of a proposal in the end.
-fn ended<A: Allocator>(image: &Image, proposal: Proposal<A>, ending: Ending<A>) -> Settled<A>
+fn conclude<A: Allocator>(image: &Image, proposal: Proposal<A>, ending: Ending<A>) -> Settled<A>
     requires shown { IsShown image.now proposal.declaration proposal.verdict }
     requires text { Declares proposal.text.items (meaning proposal.declaration) }
     requires ended { IsEnded image.now proposal.declaration ending }
@@ -144,7 +144,7 @@ fn next_after<A: Allocator + Copy>(
 }
 
 /// Widens a proposal as long as runs leave it, within the steps that there are, and says what is known of the last one.
-pub(crate) fn settled<A: Allocator + Copy>(
+pub(crate) fn settle<A: Allocator + Copy>(
     alloc: A,
     image: &Image,
     proposal: Proposal<A>,
@@ -165,10 +165,10 @@ pub(crate) fn settled<A: Allocator + Copy>(
         let next = next_after(alloc, image, &proposal, &mut evidence, seed, &mut steps, turns)?;
         match next {
             Next::Wider(wider) => proposal = wider,
-            Next::Ended(ending) => return Ok(ended(image, proposal, ending)),
+            Next::Ended(ending) => return Ok(conclude(image, proposal, ending)),
         }
     }
-    Ok(ended(image, proposal, Ending::Open))
+    Ok(conclude(image, proposal, Ending::Open))
 }
 
 /// The line that says why no declaration allows what a run does.

@@ -405,13 +405,13 @@ pub fn verify_proposed_message<A: Allocator + Copy>(
 {
     let mut turns = Turns::new(MOST_TURNS);
     let proposal = propose(alloc, image, options.start, options.profile, &mut turns)?;
-    let found = settle(alloc, image, proposal, &options.search, &mut turns)?;
+    let last = settle(alloc, image, proposal, &options.search, &mut turns)?;
     let Settled {
         declaration,
         text,
         answer,
         obstacle,
-    } = found;
+    } = last;
     let found = Searched {
         answer,
         draft: None,
@@ -423,14 +423,14 @@ pub fn verify_proposed_message<A: Allocator + Copy>(
         why,
         ..
     } = told;
-    let line = with_reason(alloc, line, obstacle)?;
+    let lines = with_reason(alloc, line, obstacle)?;
     Ok(ProposalMessage {
         proposed: Proposed {
             text,
             answer,
             obstacle,
         },
-        line,
+        line: lines,
         why,
     })
 }

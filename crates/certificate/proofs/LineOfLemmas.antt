@@ -11,8 +11,9 @@ use Rattle.std.proofs.lemmas.List.Folds.{list_any-append}
 use Rattle.std.proofs.lemmas.Slice.Eq.{bytes_eq-Decides}
 use Rattle.word12.specs.Words.{octal_text}
 use Rattle.word12.specs.Octal.{octal_value}
-use Rattle.wordset.specs.Words.{Words, SameWords, nothing, everything, all_words, between, some_below, has_some}
+use Rattle.wordset.specs.Words.{Words, nothing, all_words, between, some_below, has_some}
 use Rattle.wordset.specs.Links.{links_of}
+use Rattle.wordset.proofs.SetLemmas.{equal_words, all_past}
 use Rattle.wordset.proofs.Tests.{some_none_of, none_of_some}
 use Rattle.domain.specs.Facts.{Location, Ac, Cell, Equation}
 use Rattle.domain.specs.Statements.{TrackedCell}
@@ -224,17 +225,11 @@ literal (c ∷ cs) e = elim (cases_lt c 44) [
   | inr big ↦ (omega arith, literal cs (rw (le-ltb c 44 big) at e))
 ]
 
-all_of : (s : Words) → SameWords s everything → EndsBefore 4096 s → all_words ≡ s
-all_of s all end = fun_ext (λ v. elim (cases_lt v 4096) [
-  | inl small ↦ lt-ltb v 4096 small ∙ sym (all v small)
-  | inr past ↦ le-ltb v 4096 past ∙ sym (end v past)
-])
-
 registers_are : (a b m n k l : Words) → a ≡ b → m ≡ n → k ≡ l → (let x : Registers = record { ac = a; mq = m; link = k } in x) ≡ record { ac = b; mq = n; link = l }
 registers_are a b m n k l e f g = rw (e, f, g) refl
 
 registers_back : (v : Version) (r : Registers) (ws : List (List ℕ)) → IsRegisters v r → RegistersEnd r → registers_in v (register_list v r ws) ≡ r
-registers_back One r ws h e = registers_are _ _ _ _ _ _ (set_back r.ac e.ac) (all_of r.mq h.mq e.mq) (links_back r.link e.link)
+registers_back One r ws h e = registers_are _ _ _ _ _ _ (set_back r.ac e.ac) (sym h.mq) (links_back r.link e.link)
 registers_back Two r ws h e = registers_are _ _ _ _ _ _ (set_back r.ac e.ac) (set_back r.mq e.mq) (links_back r.link e.link)
 
 -- Lines.
@@ -388,20 +383,21 @@ still_true true e = refl
 still_true false e = absurd (true≢false e)
 
 mq_tested : (v : Version) (mq : Words) → FitsVersion v mq → has_mq v mq ≡ true
-mq_tested One mq h = rw (some_none_of 4096 (λ v. not (mq v)) (λ v small. ap not (h v small))) refl
+mq_tested One mq h = rw (some_none_of 4096 (λ v. not (mq v)) (λ v small. ap not (ap (λ (f : Words). f v) h ∙ lt-ltb v 4096 small))) refl
 mq_tested Two mq h = h
 
-mq_fits : (v : Version) (mq : Words) → has_mq v mq ≡ true → FitsVersion v mq
-mq_fits One mq e = λ v small. still_true (mq v) (none_of_some 4096 (λ v. not (mq v)) (not_false _ e) v small)
-mq_fits Two mq e = e
+mq_fits : (v : Version) (mq : Words) → EndsBefore 4096 mq → has_mq v mq ≡ true → FitsVersion v mq
+mq_fits One mq end e =
+    equal_words mq all_words end all_past (λ v small. still_true (mq v) (none_of_some 4096 (λ v. not (mq v)) (not_false _ e) v small) ∙ sym (lt-ltb v 4096 small))
+mq_fits Two mq end e = e
 
 registers_tested : (v : Version) (r : Registers) → IsRegisters v r → has_registers v r ≡ true
 registers_tested v r h = and_true _ _ h.ac (and_true _ _ (mq_tested v r.mq h.mq) h.link)
 
-registers_formed : (v : Version) (r : Registers) → has_registers v r ≡ true → IsRegisters v r
-registers_formed v r e =
+registers_formed : (v : Version) (r : Registers) → RegistersEnd r → has_registers v r ≡ true → IsRegisters v r
+registers_formed v r end e =
     let p = and_both (has_some r.ac) _ e in
-    let q = and_both (has_mq v r.mq) _ p.1 in record { ac = p.0; mq = mq_fits v r.mq q.0; link = q.1 }
+    let q = and_both (has_mq v r.mq) _ p.1 in record { ac = p.0; mq = mq_fits v r.mq end.mq q.0; link = q.1 }
 
 form_tested : (v : Version) (l : Line) → IsLine v l → has_form v l ≡ true
 form_tested v (RoutineIs r) h = and_true _ _ (lt-ltb r.entry 4096 h.entry) (lt-ltb r.rank 64 h.rank)
@@ -413,19 +409,19 @@ form_tested v (EquationIs q) h =
     (and_true _ _ (lt-ltb (place_of_name q.right) 4097 h.right) (lt-ltb q.more 4096 h.more))
 form_tested v End h = refl
 
-formed : (v : Version) (l : Line) → has_form v l ≡ true → IsLine v l
-formed v (RoutineIs r) e =
+formed : (v : Version) (l : Line) → SetsEnd l → has_form v l ≡ true → IsLine v l
+formed v (RoutineIs r) end e =
     let p = and_both (nat_lt r.entry 4096) _ e in record { entry = ltb-true r.entry 4096 p.0; rank = ltb-true r.rank 64 p.1 }
-formed v (FactIs a r o) e = let p = and_both (nat_lt a 4096) _ e in (ltb-true a 4096 p.0, registers_formed v r p.1)
-formed v (ExitIs x o r) e =
+formed v (FactIs a r o) end e = let p = and_both (nat_lt a 4096) _ e in (ltb-true a 4096 p.0, registers_formed v r end.0 p.1)
+formed v (ExitIs x o r) end e =
     let p = and_both (nat_lt x 4096) _ e in
-    let q = and_both (nat_lt o 8) _ p.1 in (ltb-true x 4096 p.0, ltb-true o 8 q.0, registers_formed v r q.1)
-formed v (CellIs c) e = let p = and_both (nat_lt c.address 4096) _ e in record { address = ltb-true c.address 4096 p.0; set = p.1 }
-formed v (EquationIs q) e =
+    let q = and_both (nat_lt o 8) _ p.1 in (ltb-true x 4096 p.0, ltb-true o 8 q.0, registers_formed v r end q.1)
+formed v (CellIs c) end e = let p = and_both (nat_lt c.address 4096) _ e in record { address = ltb-true c.address 4096 p.0; set = p.1 }
+formed v (EquationIs q) end e =
     let p = and_both (nat_lt (place_of_name q.left) (place_of_name q.right)) _ e in
     let s = and_both (nat_lt (place_of_name q.right) 4097) _ p.1 in
     record { order = ltb-true _ _ p.0; right = ltb-true _ _ s.0; more = ltb-true _ _ s.1 }
-formed v End e = tt
+formed v End end e = tt
 
 -- What is read as a line ends its sets.
 set_ends : (w : List ℕ) → EndsBefore 4096 (set_of w)
@@ -462,7 +458,7 @@ some_if v bytes m l end e = elim (cases_Bool (has_form v m && bytes_eq (line_tex
       let p = and_both (has_form v m) _ t in
       let same : Some m ≡ Some l = rw t at e in
       let is : m ≡ l = cc in
-      subst (λ (x : Line). Spells v x bytes × SetsEnd x) is ((formed v m p.0, sym ((bytes_eq-Decides (line_text v m) bytes).0 p.1)), end))
+      subst (λ (x : Line). Spells v x bytes × SetsEnd x) is ((formed v m end p.0, sym ((bytes_eq-Decides (line_text v m) bytes).0 p.1)), end))
   | inr f ↦ (let none : None ≡ Some l = rw f at e in absurd (cc))
 ]
 

@@ -198,7 +198,7 @@ begins_both xs ys zs a b = (a.0 ++ b.0, b.1 ∙ (ap (λ l. l ++ b.0) a.1 ∙ app
 
 -- Lines in order are so in version 2 too.
 fits_two : (v : Version) (mq : Words) → FitsVersion v mq → FitsVersion Two mq
-fits_two One mq h = some_from 4096 mq 0 (omega arith) (h 0 (omega arith))
+fits_two One mq h = some_from 4096 mq 0 (omega arith) (ap (λ (f : Words). f 0) h)
 fits_two Two mq h = h
 
 line_two : (v : Version) (l : Line) → IsLine v l → IsLine Two l

@@ -16,7 +16,7 @@ use Rattle.certificate.specs.Progress.{Tracks, Continues}
 use Rattle.certificate.specs.Gathered.{gathered}
 use Rattle.certificate.specs.Packed.{Packed, said_lines}
 use Rattle.certificate.specs.Found.{newest_first, Keeps, OffsetsEnd, IsWhole, unended}
-use Rattle.certificate.specs.Faults.{most_bytes, Place, Start, After, Failed, taken, at_last, answer_from, pieces, reading, AsksForMemory}
+use Rattle.certificate.specs.Faults.{most_bytes, Progress as ReadingProgress, Start, After, Failed, after_line, at_last, answer_from, pieces, reading, AsksForMemory}
 use Rattle.certificate.specs.Serving.{Settles}
 use Rattle.certificate.specs.Kept.{Kept as KeptCertificate}
 use Rattle.certificate.specs.Parser.{NoFeed, Reached, HasRead, WasRead, Parts, Seen, Refuses, IsParsed}
@@ -37,22 +37,6 @@ pub settles_refuses : (bytes : List ℕ) (f : CertificateFault) → Settles byte
 settles_refuses bytes faults.NoMemory h = absurd (false≢true (fault_of_bytes (bytes ++ []) faults.NoMemory (h [])))
 settles_refuses bytes f h = h
 
--- What a call that keeps a line leaves.
-abbrev pub Kept : List ℕ → List ℕ → List ℕ → List ℕ → Option Progress → Bool → Progress → Type 0
-Kept text line new_text new_line new long p = (new_text ≡ text ++ line ++ 10 ∷ []) × (new_line ≡ []) × (new ≡ Some p) × (long ≡ false)
-
-kept_parts : (new_kept : Packed) (text line new_text new_line bytes : List ℕ) (new : Option Progress) (long : Bool) (p : Progress) →
-    bytes ≡ text ++ line → Kept text line new_text new_line new long p → Reached p new_text new_kept →
-    Parts new_text new_kept new new_line long (bytes ++ 10 ∷ [])
-kept_parts new_kept text line new_text new_line bytes new long p e k h = record {
-  tail = [];
-  split = rw (e, k.0) (sym (append-nil (text ++ line ++ 10 ∷ [])));
-  read = rw k.2 h;
-  feed = tt;
-  same = λ q. k.1;
-  long = λ q. absurd (true≢false (sym q ∙ k.3));
-}
-
 -- The whole lines that were seen were read.
 pub was_read : {A : Type 0} (p : Parser A) (bytes : List ℕ) → Seen p bytes → WasRead p.progress p.kept
 was_read p bytes s = record { text = s.text; read = s.parts.read }
@@ -63,14 +47,6 @@ line_split kept text line bytes progress h = rw (h.same refl) h.split
 
 line_feed : (kept : Packed) (text line bytes : List ℕ) (progress : Option Progress) → (h : Parts text kept progress line false bytes) → NoFeed line
 line_feed kept text line bytes progress h = rw (h.same refl) h.feed
-
--- The first line.
-pub first_kept : (kept new_kept : Packed) (text line new_text new_line bytes : List ℕ) (new : Option Progress) (long : Bool) (p : Progress) (v : Version) →
-    Parts text kept None line false bytes → line ≡ version_text v → p.version ≡ v → Tracks p [] → Kept text line new_text new_line new long p →
-    new_kept ≡ kept → Parts new_text new_kept new new_line long (bytes ++ 10 ∷ [])
-first_kept kept new_kept text line new_text new_line bytes new long p v h e w t k same =
-    kept_parts new_kept text line new_text new_line bytes new long p (line_split kept text line bytes None h) k
-    (record { before = []; order = tt; end = tt; tracks = t; keeps = rw same h.read.1; is = (let z : text ≡ [] = h.read.0 in k.0 ∙ rw (z, e, w) refl) })
 
 -- Lines after which one may stand have no end.
 open_before : (before : List Line) → any is_end before ≡ false → unended before ≡ before
@@ -100,17 +76,21 @@ ended_last v (End ∷ ls) h e = record { is = refl; order = h.2; no_end = not_en
 ended_last v (l ∷ ls) h e = absurd (true≢false (sym e ∙ not_ended (any is_end ls) _ h.1.stands))
 
 -- A further line.
-pub next_kept : (kept mid new_kept : Packed) (text line new_text new_line bytes : List ℕ) (old new : Option Progress) (long : Bool)
-    (p q : Progress) (l : Line) → old ≡ Some p → Parts text kept old line false bytes → q.version ≡ p.version →
-    ((before : List Line) → Tracks p before → Continues p.version before line l × Tracks q (l ∷ before)) → Kept text line new_text new_line new long q →
-    ((before : List Line) → Keeps kept before → Keeps mid (unended (l ∷ before))) → new_kept ≡ mid →
-    Parts new_text new_kept new new_line long (bytes ++ 10 ∷ [])
-next_kept kept mid new_kept text line new_text new_line bytes old new long p q l is h w t k more same =
-    kept_parts new_kept text line new_text new_line bytes new long q (line_split kept text line bytes old h) k
-    (made (let z : HasRead (Some p) text kept = rw is at h.read in z))
+pub next_kept : (kept new : Packed) (text line bytes : List ℕ) (p q : Progress) (l : Line) → Parts text kept (Some p) line false bytes → q.version ≡ p.version →
+    ((before : List Line) → Tracks p before → Continues p.version before line l × Tracks q (l ∷ before)) →
+    ((before : List Line) → Keeps kept before → Keeps new (unended (l ∷ before))) →
+    Parts (text ++ line ++ 10 ∷ []) new (Some q) [] false (bytes ++ 10 ∷ [])
+next_kept kept new text line bytes p q l h w t more = record {
+  tail = [];
+  split = rw (line_split kept text line bytes (Some p) h) (sym (append-nil (text ++ line ++ 10 ∷ [])));
+  read = read h.read;
+  feed = tt;
+  same = λ e. refl;
+  long = λ e. absurd (false≢true e);
+}
   where
-    made : Reached p text kept → Reached q new_text new_kept
-    made g =
+    read : Reached p text kept → Reached q (text ++ line ++ 10 ∷ []) new
+    read g =
         let n = t g.before g.tracks in
         let e : line ≡ line_text p.version l = n.0.spells.1 in
         record {
@@ -118,9 +98,9 @@ next_kept kept mid new_kept text line new_text new_line bytes old new long p q l
           order = subst (λ (v : Version). AreInOrder v (l ∷ g.before)) (sym w) (n.0.spells.0, n.0.next, g.order);
           end = (n.0.ends, g.end);
           tracks = n.1;
-          keeps = rw same (more g.before (let k : unended g.before ≡ g.before = still_open g.before l n.0.next.stands in rw k at g.keeps));
-          is = subst (λ (v : Version). new_text ≡ front v (l ∷ g.before)) (sym w)
-              (k.0 ∙ rw (g.is, e) (append_assoc (front p.version g.before) (line_text p.version l) (10 ∷ [])));
+          keeps = more g.before (let k : unended g.before ≡ g.before = still_open g.before l n.0.next.stands in rw k at g.keeps);
+          is = subst (λ (v : Version). text ++ line ++ 10 ∷ [] ≡ front v (l ∷ g.before)) (sym w)
+              (rw (g.is, e) (append_assoc (front p.version g.before) (line_text p.version l) (10 ∷ [])));
         }
 
 -- A first line that is none.
@@ -153,7 +133,7 @@ module _ (kept : Packed) (text bytes : List ℕ) (old : Option Progress) (p : Pr
 
   -- A further line that has a fault.
   line_refused : (tail : List ℕ) (f : CertificateFault) → HasRead old text kept → bytes ≡ text ++ tail → NoFeed tail →
-      ((before : List Line) → Tracks p before → taken (After p.version before) tail ≡ Failed f) → Refuses (bytes ++ 10 ∷ []) f
+      ((before : List Line) → Tracks p before → after_line (After p.version before) tail ≡ Failed f) → Refuses (bytes ++ 10 ∷ []) f
   line_refused tail f h e feed fails =
       let g : Reached p text kept = there h in
       let same : bytes ≡ front p.version g.before ++ tail = e ∙ ap (λ (x : List ℕ). x ++ tail) g.is in
@@ -161,7 +141,7 @@ module _ (kept : Packed) (text bytes : List ℕ) (old : Option Progress) (p : Pr
       (rw same (answer.line_refused p.version g.before tail f g.order g.end feed (rw same at small) (fails g.before g.tracks)))
 
   pub next_refused : (line : List ℕ) (f : CertificateFault) → Parts text kept old line false bytes →
-      ((before : List Line) → Tracks p before → taken (After p.version before) line ≡ Failed f) → Refuses (bytes ++ 10 ∷ []) f
+      ((before : List Line) → Tracks p before → after_line (After p.version before) line ≡ Failed f) → Refuses (bytes ++ 10 ∷ []) f
   next_refused line f h fails = line_refused line f h.read (line_split kept text line bytes old h) (line_feed kept text line bytes old h) fails
 
   -- A line that is too long.
@@ -185,7 +165,7 @@ wanting kept text line bytes p q l h small t grows =
     (omega (arith, e, length-append bytes (10 ∷ []), small))
 
 -- Where reading stands after the whole lines, and what the bytes so far and more without a line feed are answered with.
-unfoldable pub place_at : (kept : Packed) (text : List ℕ) (o : Option Progress) → HasRead o text kept → Place
+unfoldable pub place_at : (kept : Packed) (text : List ℕ) (o : Option Progress) → HasRead o text kept → ReadingProgress
 place_at kept text None h = Start
 place_at kept text (Some p) h = After p.version h.before
 

@@ -20,7 +20,7 @@ use Rattle.certificate.specs.Order.{any, is_end, may_stand, comes_in_order, has_
 use Rattle.certificate.specs.Gathered.{gathered}
 use Rattle.certificate.specs.Found.{newest_first}
 use Rattle.certificate.specs.LineOf.{line_of}
-use Rattle.certificate.specs.Faults.{most_bytes, Place, Start, After, Failed, begun, with_line, taken, all_taken, at_last, answer_from, pieces, reading, AsksForMemory}
+use Rattle.certificate.specs.Faults.{most_bytes, Progress, Start, After, Failed, begun, with_line, after_line, after_lines, at_last, answer_from, pieces, reading, AsksForMemory}
 use Rattle.certificate.specs.Serving.{Settles, is_of_bytes}
 use Rattle.certificate.specs.Parser.{NoFeed}
 use Rattle.certificate.specs.Exact.{SpellingLaw, ReadingLaw, IsTextOf}
@@ -40,17 +40,17 @@ pub last_piece : (rest : List ℕ) → NoFeed rest → pieces rest ≡ rest ∷ 
 last_piece rest h = split_none (λ c. c == 10) rest (feeds rest h)
 
 module _ (long : Bool) where
-  one_piece : (p : Place) (line : List ℕ) (n : ℕ) (ps : List (List ℕ)) → length ps ≡ n + 1 → answer_from long p (line ∷ ps) ≡ answer_from long (taken p line) ps
+  one_piece : (p : Progress) (line : List ℕ) (n : ℕ) (ps : List (List ℕ)) → length ps ≡ n + 1 → answer_from long p (line ∷ ps) ≡ answer_from long (after_line p line) ps
   one_piece p line n [] e = absurd (omega arith)
   one_piece p line n (x ∷ ps) e = refl
 
   -- A line, and what follows it.
-  pub line_on : (p : Place) (line rest : List ℕ) → NoFeed line → answer_from long p (pieces (line ++ 10 ∷ rest)) ≡ answer_from long (taken p line) (pieces rest)
+  pub line_on : (p : Progress) (line rest : List ℕ) → NoFeed line → answer_from long p (pieces (line ++ 10 ∷ rest)) ≡ answer_from long (after_line p line) (pieces rest)
   line_on p line rest h =
       ap (answer_from long p) (split_at (λ c. c == 10) line 10 rest (feeds line h) refl) ∙
       one_piece p line _ (pieces rest) (length-slice_split (λ c. c == 10) rest)
 
-  pub end_on : (p : Place) (rest : List ℕ) → NoFeed rest → answer_from long p (pieces rest) ≡ at_last long p rest
+  pub end_on : (p : Progress) (rest : List ℕ) → NoFeed rest → answer_from long p (pieces rest) ≡ at_last long p rest
   end_on p rest h = ap (answer_from long p) (last_piece rest h)
 
   -- A fault stays.
@@ -80,7 +80,7 @@ next_taken : (v : Version) (before : List Line) (l : Line) → IsNext v before l
 next_taken v before l n = rw (n.stands, le-leb (next_place (fellows before l)) (place l) n.order, room_tested before l n.room) refl
 
 pub line_taken : (v : Version) (before : List Line) (bytes : List ℕ) (l : Line) → Spells v l bytes → IsNext v before l → SetsEnd l →
-    taken (After v before) bytes ≡ After v (l ∷ before)
+    after_line (After v before) bytes ≡ After v (l ∷ before)
 line_taken v before bytes l s n e = ap (with_line v before) (line_of_text v bytes l s e) ∙ next_taken v before l n
 
 version_taken : (v : Version) → begun (version_text v) ≡ After v []
@@ -91,17 +91,17 @@ pub no_version : (line : List ℕ) → ((v : Version) → line ≢ version_text 
 no_version line none = rw (other_text line (version_text One) (none One), other_text line (version_text Two) (none Two)) refl
 
 -- A line with a fault.
-pub bad_line : (v : Version) (before : List Line) (bytes : List ℕ) → line_of v bytes ≡ None → taken (After v before) bytes ≡ Failed (faults.BadLine (length before + 2))
+pub bad_line : (v : Version) (before : List Line) (bytes : List ℕ) → line_of v bytes ≡ None → after_line (After v before) bytes ≡ Failed (faults.BadLine (length before + 2))
 bad_line v before bytes e = ap (with_line v before) e
 
 module _ (v : Version) (before : List Line) (bytes : List ℕ) (l : Line) (is : line_of v bytes ≡ Some l) where
-  pub not_standing : may_stand before l ≡ false → taken (After v before) bytes ≡ Failed (faults.BadLine (length before + 2))
+  pub not_standing : may_stand before l ≡ false → after_line (After v before) bytes ≡ Failed (faults.BadLine (length before + 2))
   not_standing e = ap (with_line v before) is ∙ rw e refl
 
-  pub misplaced : may_stand before l ≡ true → place l < next_place (fellows before l) → taken (After v before) bytes ≡ Failed (faults.Order (length before + 2))
+  pub misplaced : may_stand before l ≡ true → place l < next_place (fellows before l) → after_line (After v before) bytes ≡ Failed (faults.Order (length before + 2))
   misplaced e past = ap (with_line v before) is ∙ rw (e, lt-leb (next_place (fellows before l)) (place l) past) refl
 
-  pub no_room : may_stand before l ≡ true → next_place (fellows before l) ≤ place l → (HasRoom before l → ⊥) → taken (After v before) bytes ≡ Failed faults.TooMany
+  pub no_room : may_stand before l ≡ true → next_place (fellows before l) ≤ place l → (HasRoom before l → ⊥) → after_line (After v before) bytes ≡ Failed faults.TooMany
   no_room e order full = ap (with_line v before) is ∙ rw (e, le-leb (next_place (fellows before l)) (place l) order, none) refl
     where
       none : has_room before l ≡ false
@@ -115,13 +115,13 @@ pub front_on : (long : Bool) (v : Version) (before : List Line) (rest : List ℕ
     answer_from long Start (pieces (front v before ++ rest)) ≡ answer_from long (After v before) (pieces rest)
 front_on long v [] rest h e =
     ap (λ (x : List ℕ). answer_from long Start (pieces x)) (sym (seam (version_text v) rest)) ∙
-    (line_on long Start (version_text v) rest (version_feed v) ∙ ap (λ (p : Place). answer_from long p (pieces rest)) (version_taken v))
+    (line_on long Start (version_text v) rest (version_feed v) ∙ ap (λ (p : Progress). answer_from long p (pieces rest)) (version_taken v))
 front_on long v (l ∷ ls) rest h e =
     ap (λ (x : List ℕ). answer_from long Start (pieces x))
     (append_assoc (front v ls) (ended (line_text v l)) rest ∙ ap (λ (x : List ℕ). front v ls ++ x) (sym (seam (line_text v l) rest))) ∙
     (front_on long v ls (line_text v l ++ 10 ∷ rest) h.2 e.1 ∙
     (line_on long (After v ls) (line_text v l) rest (line_feed v l) ∙
-    ap (λ (p : Place). answer_from long p (pieces rest)) (line_taken v ls (line_text v l) l (h.0, refl) h.1 e.0)))
+    ap (λ (p : Progress). answer_from long p (pieces rest)) (line_taken v ls (line_text v l) l (h.0, refl) h.1 e.0)))
 
 -- What is read of a text.
 pub few_read : (bytes : List ℕ) → length bytes ≤ most_bytes → reading bytes ≡ answer_from false Start (pieces bytes)
@@ -144,16 +144,16 @@ settled bytes f few h rest = front_read bytes rest few ∙ h _ _
 pub first_refused : (line : List ℕ) (f : CertificateFault) → NoFeed line → length line < most_bytes → begun line ≡ Failed f → Settles (line ++ 10 ∷ []) f
 first_refused line f feed few e = settled (line ++ 10 ∷ []) f (omega (arith, length-append line (10 ∷ []), few)) (λ long rest.
     ap (λ (x : List ℕ). answer_from long Start (pieces x)) (append_assoc line (10 ∷ []) rest) ∙
-    (line_on long Start line rest feed ∙ (ap (λ (p : Place). answer_from long p (pieces rest)) e ∙ failed long f (pieces rest))))
+    (line_on long Start line rest feed ∙ (ap (λ (p : Progress). answer_from long p (pieces rest)) e ∙ failed long f (pieces rest))))
 
 pub line_refused : (v : Version) (before : List Line) (line : List ℕ) (f : CertificateFault) → AreInOrder v before → Each SetsEnd before → NoFeed line →
-    length (front v before ++ line) < most_bytes → taken (After v before) line ≡ Failed f → Settles (front v before ++ line ++ 10 ∷ []) f
+    length (front v before ++ line) < most_bytes → after_line (After v before) line ≡ Failed f → Settles (front v before ++ line ++ 10 ∷ []) f
 line_refused v before line f order ends feed few e = settled (front v before ++ line ++ 10 ∷ []) f
     (omega (arith, length-append (front v before ++ line) (10 ∷ []), few)) (λ long rest.
     ap (λ (x : List ℕ). answer_from long Start (pieces x))
     (append_assoc (front v before ++ line) (10 ∷ []) rest ∙ append_assoc (front v before) line (10 ∷ rest)) ∙
     (front_on long v before (line ++ 10 ∷ rest) order ends ∙
-    (line_on long (After v before) line rest feed ∙ (ap (λ (p : Place). answer_from long p (pieces rest)) e ∙ failed long f (pieces rest)))))
+    (line_on long (After v before) line rest feed ∙ (ap (λ (p : Progress). answer_from long p (pieces rest)) e ∙ failed long f (pieces rest)))))
 
 -- The text of a certificate is read as the certificate.
 each_newest : (before ls : List Line) → Each SetsEnd before → Each SetsEnd ls → Each SetsEnd (newest_first before ls)
@@ -182,7 +182,7 @@ record Told (v : Version) (before : List Line) (line : List ℕ) (l : Line) : Ty
   next : IsNext v before l
   ends : SetsEnd l
 
-abbrev Next : Version → List Line → List ℕ → Place → Type 0
+abbrev Next : Version → List Line → List ℕ → Progress → Type 0
 Next v before line p = ((f : CertificateFault) × (p ≡ Failed f)) ⊎ ((l : Line) × (p ≡ After v (l ∷ before)) × Told v before line l)
 
 next_of : (v : Version) (before : List Line) (line : List ℕ) (o : Option Line) → line_of v line ≡ o → Next v before line (with_line v before o)
@@ -282,20 +282,20 @@ from_start (line ∷ x ∷ ps) c read = elim (cases_Bool (bytes_eq line (version
         }
 
 -- A text that's too long is read as none.
-none_long : (p : Place) (ps : List (List ℕ)) (c : Lines) → answer_from true p ps ≡ Ok c → ⊥
+none_long : (p : Progress) (ps : List (List ℕ)) (c : Lines) → answer_from true p ps ≡ Ok c → ⊥
 none_long p [] c e = last p e
   where
-    last : (p : Place) → at_last true p [] ≡ Ok c → ⊥
+    last : (p : Progress) → at_last true p [] ≡ Ok c → ⊥
     last Start e = absurd (cc)
     last (After v b) e = absurd (cc)
     last (Failed f) e = absurd (cc)
 none_long p (x ∷ []) c e = last p e
   where
-    last : (p : Place) → at_last true p x ≡ Ok c → ⊥
+    last : (p : Progress) → at_last true p x ≡ Ok c → ⊥
     last Start e = absurd (cc)
     last (After v b) e = absurd (cc)
     last (Failed f) e = absurd (cc)
-none_long p (x ∷ y ∷ ps) c e = none_long (taken p x) (y ∷ ps) c e
+none_long p (x ∷ y ∷ ps) c e = none_long (after_line p x) (y ∷ ps) c e
 
 pub each_oldest : (ls : List Line) → Each SetsEnd ls → Each SetsEnd (oldest ls)
 each_oldest [] h = tt
@@ -324,7 +324,7 @@ text_of_read bytes c e = elim (cases_lt most_bytes (length bytes)) [
     too_long long = none_long Start (pieces (take most_bytes bytes)) c (rw (lt-ltb most_bytes (length bytes) long) at e)
 
 -- A text's fault is one of its bytes.
-OfBytes : Place → Type 0
+OfBytes : Progress → Type 0
 OfBytes Start = Unit {0}
 OfBytes (After v before) = Unit {0}
 OfBytes (Failed f) = is_of_bytes f ≡ true
@@ -359,7 +359,7 @@ begun_of line = elim (cases_Bool (bytes_eq line (version_text One))) [
   ])
 ]
 
-taken_of : (p : Place) (line : List ℕ) → OfBytes p → OfBytes (taken p line)
+taken_of : (p : Progress) (line : List ℕ) → OfBytes p → OfBytes (after_line p line)
 taken_of Start line h = begun_of line
 taken_of (After v before) line h = with_line_of v before (line_of v line)
 taken_of (Failed f) line h = h
@@ -367,7 +367,7 @@ taken_of (Failed f) line h = h
 same_fault : (f g : CertificateFault) → is_of_bytes f ≡ true → (let r : Result Lines CertificateFault = Err f in r) ≡ Err g → is_of_bytes g ≡ true
 same_fault f g h e = let z : f ≡ g = cc in subst (λ x. is_of_bytes x ≡ true) z h
 
-last_of : (long : Bool) (p : Place) (rest : List ℕ) (f : CertificateFault) → OfBytes p → at_last long p rest ≡ Err f → is_of_bytes f ≡ true
+last_of : (long : Bool) (p : Progress) (rest : List ℕ) (f : CertificateFault) → OfBytes p → at_last long p rest ≡ Err f → is_of_bytes f ≡ true
 unfolding OfBytes
 last_of long (Failed g) rest f h e = same_fault g f h e
 last_of true Start rest f h e = same_fault faults.TooMany f refl e
@@ -378,10 +378,10 @@ last_of false (After v b) rest f h e = elim (cases_Bool (any is_end b && length 
   | inr t ↦ same_fault (faults.BadLine (length b + 2)) f refl (rw t at e)
 ]
 
-fault_from : (long : Bool) (p : Place) (ps : List (List ℕ)) (f : CertificateFault) → OfBytes p → answer_from long p ps ≡ Err f → is_of_bytes f ≡ true
+fault_from : (long : Bool) (p : Progress) (ps : List (List ℕ)) (f : CertificateFault) → OfBytes p → answer_from long p ps ≡ Err f → is_of_bytes f ≡ true
 fault_from long p [] f h e = last_of long p [] f h e
 fault_from long p (x ∷ []) f h e = last_of long p x f h e
-fault_from long p (x ∷ y ∷ ps) f h e = fault_from long (taken p x) (y ∷ ps) f (taken_of p x h) e
+fault_from long p (x ∷ y ∷ ps) f h e = fault_from long (after_line p x) (y ∷ ps) f (taken_of p x h) e
 
 pub fault_of_bytes : (bytes : List ℕ) (f : CertificateFault) → reading bytes ≡ Err f → is_of_bytes f ≡ true
 unfolding reading OfBytes
@@ -399,16 +399,16 @@ front_of v (l ∷ ls) =
     flat_map-append ended (front_lines v ls) (line_text v l ∷ []) ∙
     (ap (λ (x : List ℕ). x ++ (ended (line_text v l) ++ [])) (front_of v ls) ∙ ap (λ (x : List ℕ). front v ls ++ x) (append-nil (ended (line_text v l))))
 
-taken_more : (p : Place) (xs : List (List ℕ)) (x : List ℕ) → all_taken p (xs ++ x ∷ []) ≡ taken (all_taken p xs) x
+taken_more : (p : Progress) (xs : List (List ℕ)) (x : List ℕ) → after_lines p (xs ++ x ∷ []) ≡ after_line (after_lines p xs) x
 taken_more p [] x = refl
-taken_more p (y ∷ xs) x = taken_more (taken p y) xs x
+taken_more p (y ∷ xs) x = taken_more (after_line p y) xs x
 
-front_taken : (v : Version) (ls : List Line) → AreInOrder v ls → Each SetsEnd ls → all_taken Start (front_lines v ls) ≡ After v ls
+front_taken : (v : Version) (ls : List Line) → AreInOrder v ls → Each SetsEnd ls → after_lines Start (front_lines v ls) ≡ After v ls
 unfolding front_lines
 front_taken v [] h e = version_taken v
 front_taken v (l ∷ ls) h e =
     taken_more Start (front_lines v ls) (line_text v l) ∙
-    (ap (λ (p : Place). taken p (line_text v l)) (front_taken v ls h.2 e.1) ∙ line_taken v ls (line_text v l) l (h.0, refl) h.1 e.0)
+    (ap (λ (p : Progress). after_line p (line_text v l)) (front_taken v ls h.2 e.1) ∙ line_taken v ls (line_text v l) l (h.0, refl) h.1 e.0)
 
 pub asks : (v : Version) (l : Line) (before : List Line) (bytes rest : List ℕ) → AreInOrder v (l ∷ before) → Each SetsEnd (l ∷ before) → is_end l ≡ false →
     bytes ≡ front v (l ∷ before) ++ rest → length (front v (l ∷ before)) ≤ most_bytes → AsksForMemory bytes

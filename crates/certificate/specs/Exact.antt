@@ -1,27 +1,13 @@
 -- One spelling has one meaning: what a text is read as has that text, and it's read as what has it.
 use Rattle.std.specs.Prelude.{◌≡◌, ℕ, ◌≤◌, true, List, length, Some, Ok, Err}
-use Rattle.wordset.specs.Words.{SameWords}
-use Rattle.domain.specs.Same.{Agree}
 use Rattle.certificate.specs.declared.Version.{Version}
 use Rattle.certificate.specs.declared.CertificateFault.{CertificateFault}
 use Rattle.certificate.specs.Spelling.{Lines, text, Line, line_text}
-use Rattle.certificate.specs.Certificate.{Certificate}
 use Rattle.certificate.specs.Reading.{AreLines, SetsEnd}
 use Rattle.certificate.specs.Line.{IsLine}
 use Rattle.certificate.specs.LineOf.{line_of}
 use Rattle.certificate.specs.Faults.{most_bytes, reading}
 use Rattle.certificate.specs.Serving.{is_of_bytes}
-
--- The two certificates claim the same of each routine, address and exit: sets agree on words, and facts agree.
-pub record SameCertificate (c d : Certificate) : Type 0 where
-  pub listed : (e : ℕ) → c.listed e ≡ d.listed e
-  pub rank : (e : ℕ) → c.rank e ≡ d.rank e
-  pub sites : (e : ℕ) → SameWords (c.sites e) (d.sites e)
-  pub writes : (e : ℕ) → SameWords (c.writes e) (d.writes e)
-  pub has_fact : (a : ℕ) → c.has_fact a ≡ d.has_fact a
-  pub fact : (a : ℕ) → Agree (c.fact a) (d.fact a)
-  pub has_exit : (e o : ℕ) → c.has_exit e o ≡ d.has_exit e o
-  pub exit : (e o : ℕ) → Agree (c.exit e o) (d.exit e o)
 
 -- The bytes spell the line, which is of its form.
 pub record IsLineOf (v : Version) (bytes : List ℕ) (l : Line) : Type 0 where

@@ -17,20 +17,21 @@ most_bytes = 1048576
 
 -- Where reading stands: before the first line; after these lines of a text of this version, of which the newest is the first; or at a
 -- fault, which stays.
-pub data Place : Type 0 where
-  Start : Place
-  After : Version → List Line → Place
-  Failed : CertificateFault → Place
+pub data Progress : Type 0 where
+  Start : Progress
+  After : Version → List Line → Progress
+  Failed : CertificateFault → Progress
 
 -- A first line names the version.
-abbrev pub begun : List ℕ → Place
+abbrev pub begun : List ℕ → Progress
 begun line =
     if bytes_eq line (version_text One) then After One []
     else (if bytes_eq line (version_text Two) then After Two [] else Failed faults.Version)
 
--- A further line may come after those before it, which have this number in all with the first one; or it has a fault: it's none
--- that may stand there, it's out of order, or there is no room for it.
-abbrev pub with_line : Version → List Line → Option Line → Place
+-- Where reading stands after a further line, by what that line says, if it is one: behind it, or at its first fault: no such line may
+-- stand there, it's out of order, or there is no room for it. A fault gives the line's number in the text. The first line, which names
+-- the version, is line 1, and those before this one come after it.
+abbrev pub with_line : Version → List Line → Option Line → Progress
 with_line v before None = Failed (faults.BadLine (length before + 2))
 with_line v before (Some l) =
     if may_stand before l then
@@ -39,19 +40,20 @@ with_line v before (Some l) =
     else Failed (faults.BadLine (length before + 2))
 
 -- Where reading stands after one line more.
-abbrev pub taken : Place → List ℕ → Place
-taken Start line = begun line
-taken (After v before) line = with_line v before (line_of v line)
-taken (Failed fault) line = Failed fault
+abbrev pub after_line : Progress → List ℕ → Progress
+after_line Start line = begun line
+after_line (After v before) line = with_line v before (line_of v line)
+after_line (Failed fault) line = Failed fault
 
 -- Where it stands after these lines more.
-abbrev pub all_taken : Place → List (List ℕ) → Place
-all_taken p [] = p
-all_taken p (line ∷ lines) = all_taken (taken p line) lines
+abbrev pub after_lines : Progress → List (List ℕ) → Progress
+after_lines p [] = p
+after_lines p (line ∷ lines) = after_lines (after_line p line) lines
 
--- The answer where these bytes come last, which have no line feed. Nothing may come after the end, and it may not be lacking. But of a
--- text that's too long more would come.
-abbrev pub at_last : Bool → Place → List ℕ → Result Lines CertificateFault
+-- The answer where the text's last line feed is behind and these bytes come after it. It's a certificate if the line of the end was
+-- read and no byte follows; else the line that begins there is a bad one, or the first line is lacking, which names the version. Of a
+-- text that's too long, these bytes aren't the last: if no line before has a fault, it has too many bytes.
+abbrev pub at_last : Bool → Progress → List ℕ → Result Lines CertificateFault
 at_last long (Failed fault) rest = Err fault
 at_last true Start rest = Err faults.TooMany
 at_last true (After v before) rest = Err faults.TooMany
@@ -60,10 +62,10 @@ at_last false (After v before) rest =
     if any is_end before && length rest == 0 then Ok (gathered v (oldest before)) else Err (faults.BadLine (length before + 2))
 
 -- The answer of a text whose lines are these, the last of which is what comes after the last line feed.
-abbrev pub answer_from : Bool → Place → List (List ℕ) → Result Lines CertificateFault
+abbrev pub answer_from : Bool → Progress → List (List ℕ) → Result Lines CertificateFault
 answer_from long p [] = at_last long p []
 answer_from long p (rest ∷ []) = at_last long p rest
-answer_from long p (line ∷ next ∷ lines) = answer_from long (taken p line) (next ∷ lines)
+answer_from long p (line ∷ next ∷ lines) = answer_from long (after_line p line) (next ∷ lines)
 
 -- The pieces of a text between its line feeds.
 abbrev pub pieces : List ℕ → List (List ℕ)
@@ -82,5 +84,5 @@ pub record AsksForMemory (bytes : List ℕ) : Type 0 where
   pub version : Version
   pub line : Line
   pub before : List Line
-  pub reached : all_taken Start lines ≡ After version (line ∷ before)
+  pub reached : after_lines Start lines ≡ After version (line ∷ before)
   pub grows : is_end line ≡ false

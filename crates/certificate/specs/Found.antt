@@ -2,7 +2,7 @@
 use Rattle.std.specs.Prelude.{◌≡◌, ℕ, ◌+◌, ◌-◌, ◌≤◌, ◌<◌, ◌==◌, get_or, Bool, true, false, if◌then◌else◌, List, [], ◌∷◌, ◌++◌, length, drop}
 use Rattle.std.specs.List.{AllByRecursion}
 use Rattle.wordset.specs.Words.{Words}
-use Rattle.domain.specs.Statements.{Statement}
+use Rattle.domain.specs.Statements.{Statement, all_offsets}
 use Rattle.wordset.specs.Lanes.{words}
 use Rattle.certificate.specs.declared.Version.{Version}
 use Rattle.certificate.specs.declared.RoutineClaim.{RoutineClaim}
@@ -107,7 +107,7 @@ begins test (l ∷ ls) = test l
 -- which doesn't speak of them, they are all.
 abbrev pub IsSaid : List Line → Statement → Words → Type 0
 IsSaid (FactIs a r known ∷ ls) s offsets = (s ≡ stated r ls) × (offsets ≡ known)
-IsSaid (ExitIs e o r ∷ ls) s offsets = (s ≡ stated r ls) × ((n : ℕ) → n < 8 → offsets n ≡ true)
+IsSaid (ExitIs e o r ∷ ls) s offsets = (s ≡ stated r ls) × (offsets ≡ all_offsets)
 IsSaid _ s offsets = ⊥
 
 -- A routine that is given is what the routines say of an entry.

@@ -59,7 +59,9 @@ abbrev pub register_words : Version → ℕ
 register_words One = 4
 register_words Two = 6
 
--- What these words would say, by the first of them and by their places: those of `line_text`.
+-- What a line of these words would say. The first word tells the kind of line, and the words of numbers and sets stand at the places
+-- that `line_text` gives them. The words between aren't looked at, and if the first one tells no kind, the line would be the end: a
+-- line that is spelled otherwise says nothing, as `line_if` has it.
 abbrev pub said_by : Version → List (List ℕ) → Line
 said_by v words =
     if bytes_eq (word_at 0 words) (codes "routine") then

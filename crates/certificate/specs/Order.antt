@@ -64,11 +64,11 @@ next_place (l ∷ ls) = place l + 1
 abbrev pub fellows : List Line → Line → List Line
 fellows before l = if is_detail l then details_of_last before else heads before
 
--- A line comes in order after others.
+-- A line comes in order after others. It says in numbers what `comes_in_order` tests, for laws and private contracts alone.
 abbrev pub InOrder : List Line → Line → Type 0
 InOrder before l = next_place (fellows before l) ≤ place l
 
--- So it's tested: the least place after its fellows isn't past its own.
+-- A line comes in order after others: the least place after its fellows isn't past its own.
 abbrev pub comes_in_order : List Line → Line → Bool
 comes_in_order before l = nat_le (next_place (fellows before l)) (place l)
 
@@ -87,21 +87,21 @@ abbrev pub is_equation : Line → Bool
 is_equation (EquationIs e) = true
 is_equation _ = false
 
--- There may be 64 routines, and a fact or an exit may have 64 cells and 32 equations.
+-- There is room for a line after others. It says in numbers what `has_room` tests, for laws and private contracts alone.
 abbrev pub HasRoom : List Line → Line → Type 0
 HasRoom before (RoutineIs r) = how_many is_routine before < 64
 HasRoom before (CellIs c) = how_many is_cell (details_of_last before) < 64
 HasRoom before (EquationIs e) = how_many is_equation (details_of_last before) < 32
 HasRoom before _ = Unit {0}
 
--- So it's tested: whether there is room for a line more of this kind.
+-- There is room for a line after others: there may be 64 routines, and a fact or an exit may have 64 cells and 32 equations.
 abbrev pub has_room : List Line → Line → Bool
 has_room before (RoutineIs r) = nat_lt (how_many is_routine before) 64
 has_room before (CellIs c) = nat_lt (how_many is_cell (details_of_last before)) 64
 has_room before (EquationIs e) = nat_lt (how_many is_equation (details_of_last before)) 32
 has_room before _ = true
 
--- The line is spelled by these bytes.
+-- The line is of its form and these bytes spell it, as where `line_of` gives the line. It's for laws and private contracts alone.
 abbrev pub Spells : Version → Line → List ℕ → Type 0
 Spells v l bytes = IsLine v l × (bytes ≡ line_text v l)
 

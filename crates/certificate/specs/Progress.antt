@@ -8,7 +8,7 @@ use Rattle.certificate.specs.declared.packed.PackedLine.{PackedLine}
 use Rattle.certificate.specs.declared.progress.Progress.{Progress}
 use Rattle.certificate.specs.Spelling.{Line, RoutineIs, FactIs, ExitIs, CellIs, EquationIs, End}
 use Rattle.certificate.specs.Order.{any, how_many, is_end, has_details, is_routine, is_cell, is_equation, heads, details_of_last, next_place, Spells, IsNext}
-use Rattle.certificate.specs.Faults.{After, Failed, taken}
+use Rattle.certificate.specs.Faults.{After, Failed, after_line}
 use Rattle.certificate.specs.Packed.{said_at}
 
 -- What is kept is that of these lines; their number apart.
@@ -43,4 +43,4 @@ pub record Continues (v : Version) (before : List Line) (bytes : List ℕ) (l : 
 -- What a call answers that takes the next line, whose runs are these.
 abbrev pub Takes : Version → List Line → List ℕ → Progress → List Run → Result PackedLine CertificateFault → Type 0
 Takes v before bytes after runs (Ok l) = Continues v before bytes (said_at runs l) × Tracks after (said_at runs l ∷ before)
-Takes v before bytes after runs (Err fault) = taken (After v before) bytes ≡ Failed fault
+Takes v before bytes after runs (Err fault) = after_line (After v before) bytes ≡ Failed fault

@@ -1,9 +1,9 @@
 -- Which lines make a certificate, and which certificate they make.
 use Rattle.std.specs.Prelude.{◌≡◌, ℕ, ◌+◌, ◌*◌, ◌<◌, ◌≤◌, ◌==◌, Bool, true, false, if◌then◌else◌, List, [], ◌∷◌, length, map, Option, Some, None}
-use Rattle.wordset.specs.Words.{Words, SameWords, nothing, everything, some_below, has_some}
+use Rattle.wordset.specs.Words.{Words, nothing, all_words, some_below, has_some}
 use Rattle.wordset.specs.Links.{links_of}
 use Rattle.domain.specs.Facts.{Location, Ac, Cell, Equation, Fact}
-use Rattle.domain.specs.Statements.{TrackedCell, Statement, fact_of, unknown}
+use Rattle.domain.specs.Statements.{TrackedCell, Statement, fact_of, all_offsets, unknown}
 use Rattle.certificate.specs.declared.Version.{Version}
 use Rattle.certificate.specs.declared.Version.TheVariants.{One, Two}
 use Rattle.certificate.specs.Spelling.{RoutineLine, FactLine, ExitLine, Lines, Registers, Line, RoutineIs, FactIs, ExitIs, CellIs, EquationIs, End, lines_of}
@@ -39,9 +39,9 @@ pub record IsEquation (e : Equation) : Type 0 where
   pub right : place_of_name e.right < 4097
   pub more : e.more < 4096
 
--- In version 1 nothing is said of MQ.
+-- In version 1 any word may be in MQ, since nothing is said of it; in version 2 its set has a word.
 abbrev pub FitsVersion : Version → Words → Type 0
-FitsVersion One mq = SameWords mq everything
+FitsVersion One mq = mq ≡ all_words
 FitsVersion Two mq = has_some mq ≡ true
 
 -- What is said is of its form, in order and within the limits.
@@ -154,7 +154,7 @@ has_exit_in (x ∷ xs) e o = if is_exit x e o then true else has_exit_in xs e o
 -- The exit fact of an entry and an offset by its line. It has all offsets, since nothing is asked of them.
 abbrev pub exit_in : List ExitLine → ℕ → ℕ → Fact
 exit_in [] e o = unknown
-exit_in (x ∷ xs) e o = if is_exit x e o then fact_of x.statement everything else exit_in xs e o
+exit_in (x ∷ xs) e o = if is_exit x e o then fact_of x.statement all_offsets else exit_in xs e o
 
 -- The statement of an entry and an offset by its line, if they have one.
 abbrev pub exit_statement_in : List ExitLine → ℕ → ℕ → Option Statement

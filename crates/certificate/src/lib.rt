@@ -6,9 +6,9 @@ ghost use Rattle.std.specs.Io.KnownBytes.{Appends};
 ghost use Rattle.streams.specs.Bytes.{AppendsFront};
 ghost use Rattle.certificate.specs.declared.CertificateFault.TheVariants as faults;
 ghost use Rattle.certificate.specs.Faults.{reading, AsksForMemory};
-ghost use Rattle.wordset.specs.Words.{everything, HasNoneFrom, IsFirstFrom};
+ghost use Rattle.wordset.specs.Words.{HasNoneFrom, IsFirstFrom};
 ghost use Rattle.wordset.specs.Lanes.{words};
-ghost use Rattle.domain.specs.Changes.{with_offsets};
+ghost use Rattle.domain.specs.Statements.{all_offsets};
 ghost use Rattle.domain.specs.Meaning.{statement_of, meaning as fact_meaning};
 ghost use Rattle.certificate.specs.Spelling.{fact_text_at, text};
 ghost use Rattle.certificate.specs.Reading.{AreLines, statement_in, exit_statement_in};
@@ -281,12 +281,10 @@ impl<A: Allocator> Certificate<A> {
     /// offsets, since an exit doesn't speak of them.
     pub fn exit(&self, entry: Word, offset: usize) -> Option<Fact>
         ensures there { is_some result ≡ (claims self.now).has_exit entry offset }
-        ensures fact { IfSome result (λ f. with_offsets everything (fact_meaning f) ≡
-            (claims self.now).exit entry offset) }
+        ensures fact { IfSome result (λ f. fact_meaning f ≡ (claims self.now).exit entry offset) }
         ensures statement { IfSome result (λ f.
             exit_statement_in (meaning self.now).exits entry offset ≡ Some (statement_of f)) }
-        ensures offsets { IfSome result (λ f. (o : ℕ) → o < 8 →
-            (fact_meaning f).offsets o ≡ true) }
+        ensures offsets { IfSome result (λ f. (fact_meaning f).offsets ≡ all_offsets) }
     {
         let mut exit = Fact::any();
         if self.exit_into(entry, offset, &mut exit) {
@@ -300,12 +298,11 @@ impl<A: Allocator> Certificate<A> {
     /// lent fact then says, with all offsets; else it's left as it is.
     pub fn exit_into(&self, entry: Word, offset: usize, exit: &mut Fact) -> bool
         ensures there { result ≡ (claims self.now).has_exit entry offset }
-        ensures fact { result ≡ true → with_offsets everything (fact_meaning exit.new) ≡
-            (claims self.now).exit entry offset }
+        ensures fact { result ≡ true →
+            fact_meaning exit.new ≡ (claims self.now).exit entry offset }
         ensures statement { result ≡ true →
             exit_statement_in (meaning self.now).exits entry offset ≡ Some (statement_of exit.new) }
-        ensures offsets { result ≡ true → (o : ℕ) → o < 8 →
-            (fact_meaning exit.new).offsets o ≡ true }
+        ensures offsets { result ≡ true → (fact_meaning exit.new).offsets ≡ all_offsets }
         ensures kept { result ≡ false → exit.new ≡ exit.old }
     {
         let kept = &self.kept;

@@ -1,7 +1,7 @@
 //! The lines of a certificate after the first one.
 
 ghost use Rattle.std.specs.Prelude.{ℕ, ◌≡◌, ◌+◌, ◌<◌, ◌≤◌, ◌↔◌, List, [], ◌++◌, length, true, codes, is_some, Some, IfSome, IsTrue};
-ghost use Rattle.wordset.specs.Words.{Words, SameWords};
+ghost use Rattle.wordset.specs.Words.{Words};
 ghost use Rattle.domain.specs.Facts.{Equation as Equal};
 ghost use Rattle.domain.specs.Statements.{TrackedCell as Tracked};
 ghost use Rattle.domain.specs.Meaning.{location_of, equation_of};
@@ -30,8 +30,7 @@ fn read_mq(fields: &mut Fields<'_>, version: Version, runs: &mut Runs) -> u16
         (mq_text version (added runs.old.items runs.new.items)) }
     ensures only { (s : Words) (rest : List ℕ) → length runs.old.items ≤ 2048 →
         FitsVersion version s → EndsField rest →
-        left fields.old ≡ Some (mq_text version s ++ rest) →
-        SameWords (added runs.old.items runs.new.items) s × (left fields.new ≡ Some rest) }
+        left fields.old ≡ Some (mq_text version s ++ rest) → left fields.new ≡ Some rest }
 {
     match version {
         Version::One => fields.all(runs),

@@ -41,6 +41,6 @@ returns-else-is_done-clause-only c = λ r form e.
     (c.skip.ensures.only _ (c.of-fields.ensures ∙ ap (λ (x : List ℕ). Some x) (e ∙ routine_fields r))) in
     let rank = c.rank-rank.ensures.only r.rank _ form.rank (c.skip-2.ensures.only _ entry.1) in
     let sites = c.set-one.ensures.only r.sites _ (omega arith) refl (c.skip-3.ensures.only _ rank.1) in
-    let few : length c.set-one.new.runs.items ≤ length c.args.runs.now.items + 2048 = sites.2 in
-    let writes = c.set-other.ensures.only r.writes [] (omega arith) tt (c.skip-4.ensures.only _ sites.1) in
-    c.if-is_done.ensures.1 writes.1
+    let few : length c.set-one.new.runs.items ≤ length c.args.runs.now.items + 2048 = sites.1 in
+    let writes = c.set-other.ensures.only r.writes [] (omega arith) tt (c.skip-4.ensures.only _ sites.0) in
+    c.if-is_done.ensures.1 writes.0

@@ -1,13 +1,12 @@
 -- What is asked of calls and returns, from what the code found.
 use Rattle.std.proofs.Common.{◌≡◌, ℕ, ◌+◌, ◌%◌, ◌<◌, Bool, true, false, ◌&&◌, Option, Some, None, refl, sym, ap, ◌∙◌, subst, arith}
 use Rattle.std.specs.Prelude.{IsTrue, ◌↔◌, if◌then◌else◌}
-use Rattle.std.proofs.lemmas.Bool.{false≢true, true≢false}
+use Rattle.std.proofs.lemmas.Bool.{false≢true, lt-ltb, true≢false}
 use Rattle.instruct.specs.Instructions.{Meaning, Jms, Jmp}
 use Rattle.wordset.specs.Words.{Words, IsWithin, plus}
 use Rattle.wordset.specs.Lanes.{words}
 use Rattle.declaration.specs.Declaration.{Routine}
 use Rattle.domain.specs.Facts.{Fact, Entails, EntailsOffsets, joined}
-use Rattle.domain.specs.Changes.{with_offsets}
 use Rattle.domain.specs.Statements.{all_offsets}
 use Rattle.facts.specs.Conditions.{called, is_call, calls_through_index, returned_through}
 use Rattle.facts.specs.Places as kept
@@ -69,13 +68,9 @@ lands_equally j {r} {s} {a} {b} {f} {g} t same at fact told =
 pub return_place : (a o i k n : ℕ) → i ≡ (a + 1) % 4096 → k ≡ o → n ≡ (i + k) % 4096 → n ≡ plus (a + 1) o
 return_place a o i k n first same next = omega (arith, first, same, next)
 
--- After a call an exit's offsets don't matter.
-pub joined_equally : (f g call exit : Fact) (written writes : Words) → f ≡ call → with_offsets all_offsets g ≡ exit → written ≡ writes → joined f g written ≡ joined call exit writes
-unfolding joined
-joined_equally f g call exit written writes fact same cells =
-    let first : joined f (with_offsets all_offsets g) written ≡ joined call (with_offsets all_offsets g) written = ap (λ x. joined x (with_offsets all_offsets g) written) fact in
-    let second : joined call (with_offsets all_offsets g) written ≡ joined call exit written = ap (λ x. joined call x written) same in
-    first ∙ (second ∙ ap (λ w. joined call exit w) cells)
+-- What is known after a call, by equal parts.
+pub joined_equally : (f g call exit : Fact) (written writes : Words) → f ≡ call → g ≡ exit → written ≡ writes → joined f g written ≡ joined call exit writes
+joined_equally f g call exit written writes fact same cells = rw (fact, same, cells) refl
 
 pub lands_claimed : (j : Case) (r : Routine) (a e o : ℕ) (t : Bool) → true ≡ j.certificate.has_exit e o →
     IsTrue t ↔ LandsAt j r (plus (a + 1) o) (joined (fact_at j a) (j.certificate.exit e o) (j.certificate.writes e)) → IsTrue t ↔ LandsBy j r a e o
@@ -83,22 +78,19 @@ lands_claimed j r a e o t there told = (λ q h. told.0 q, λ l. told.1 (l (sym t
 
 -- A return by an offset.
 pub returns_claimed : (j : Case) (e o k : ℕ) {f call exit : Fact} (b t : Bool) → k ≡ o → b ≡ j.declaration.offset e k → b ≡ true → true ≡ j.certificate.has_exit e o →
-    f ≡ call → with_offsets all_offsets exit ≡ j.certificate.exit e o → ((i : ℕ) → i < 8 → exit.offsets i ≡ true) →
+    f ≡ call → exit ≡ j.certificate.exit e o → exit.offsets ≡ all_offsets →
     (IsTrue t ↔ (Entails f exit × EntailsOffsets f exit)) → IsTrue t ↔ MayReturn j e call o
 returns_claimed j e o k {f} {call} {exit} b t same declared is there fact said all told = (
   λ q. record {
     declared = ap (λ i. j.declaration.offset e i) (sym same) ∙ (sym declared ∙ is);
     there = sym there;
-    entails = subst (λ x. Entails x (j.certificate.exit e o)) fact (subst (λ x. Entails f x) said (to_all (told.0 q).0));
+    entails = subst (λ x. Entails x (j.certificate.exit e o)) fact (subst (λ x. Entails f x) said (told.0 q).0);
   },
-  λ m. told.1 (from_all (subst (λ x. Entails f x) (sym said) (subst (λ x. Entails x (j.certificate.exit e o)) (sym fact) m.entails)), λ i lt h. all i lt),
+  λ m. told.1 (
+    subst (λ x. Entails f x) (sym said) (subst (λ x. Entails x (j.certificate.exit e o)) (sym fact) m.entails),
+    λ i lt h. ap (λ (s : Words). s i) all ∙ lt-ltb i 8 lt,
+  ),
 )
-  where
-    to_all : {x y : Fact} → Entails x y → Entails x (with_offsets all_offsets y)
-    to_all en = record { sets = en.sets; mq = en.mq; link = en.link; equations = en.equations }
-
-    from_all : {x y : Fact} → Entails x (with_offsets all_offsets y) → Entails x y
-    from_all en = record { sets = en.sets; mq = en.mq; link = en.link; equations = en.equations }
 
 -- A return by an offset that the fact lacks, or has.
 pub returns_lacking : (j : Case) (a c o : ℕ) (b : Bool) → b ≡ (fact_at j a).offsets o → b ≡ false → IsTrue true ↔ ReturnsBy j a c o

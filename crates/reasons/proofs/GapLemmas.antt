@@ -34,17 +34,9 @@ among_item es i g lt e = among_drop (equation_of g) es i (subst (λ xs. Among (e
 pub link_gap : {s t u v : Words} {l : ℕ} → s ≡ u → t ≡ v → IsLinkBeyond s t l → IsLinkBeyond u v l
 link_gap {s} {t} {u} {v} {l} first second h = subst (λ x. IsLinkBeyond x v l) first (subst (λ x. IsLinkBeyond s x l) second h)
 
--- An exit's offsets aren't looked at.
-pub exit_gap : (k f b : Fact) (g : Counterexample) → ((o : ℕ) → o < 8 → f.offsets o ≡ true) → with_offsets all_offsets f ≡ b → IsCounterexample k f g → IsCounterexample k (with_offsets all_offsets b) g
-exit_gap k f b g all same h = subst (λ x. IsCounterexample k (with_offsets all_offsets x) g) same (whole g h)
-  where
-    whole : (p : Counterexample) → IsCounterexample k f p → IsCounterexample k (with_offsets all_offsets f) p
-    whole (gap.Accumulator w) q = record { small = q.small; possible = q.possible; excluded = q.excluded }
-    whole (gap.Mq w) q = record { small = q.small; possible = q.possible; excluded = q.excluded }
-    whole (gap.Link l) q = record { small = q.small; possible = q.possible; excluded = q.excluded }
-    whole (gap.Cell c w) q = record { small = q.small; possible = q.possible; excluded = q.excluded }
-    whole (gap.Equation e) q = (q.0, q.1)
-    whole (gap.Offset o) q = absurd (true≢false (sym (all o q.0) ∙ q.2))
+-- An exit has all offsets, so none is excluded.
+pub exit_gap : (k f exit : Fact) (g : Counterexample) → f.offsets ≡ all_offsets → f ≡ exit → IsCounterexample k f g → IsCounterexample k (with_offsets all_offsets exit) g
+exit_gap k f exit g all same h = subst (λ x. IsCounterexample k x g) (ap (λ o. with_offsets o f) all ∙ ap (λ x. with_offsets all_offsets x) same) h
 
 -- ---- where nothing is found
 
@@ -81,10 +73,8 @@ all_within k cells i le h = h.0 (subst (EachWithin k) (sym (drop_of_length-le ce
 pub entails_all : (k : Fact) (f : CodeFact) → EntailsRegisters k (meaning f) → EntailsOffsets k (meaning f) → EachWithin k (statement_of f).cells → KnowsAll k (meaning f).equations → Entails k (meaning f) × EntailsOffsets k (meaning f)
 entails_all k f registers offsets each know = (entails_iff k f true registers offsets each (λ t. know, λ a. refl)).0 refl
 
--- An exit's offsets aren't asked for.
-pub exit_entailed : (k f b exit : Fact) → k ≡ f → with_offsets all_offsets b ≡ exit → Entails k b → Entails f exit
-exit_entailed k f b exit is same h =
-    subst (λ x. Entails x exit) is (subst (λ x. Entails k x) same (record { sets = h.sets; mq = h.mq; link = h.link; equations = h.equations }))
+pub entails_equally : {k f b exit : Fact} → k ≡ f → b ≡ exit → Entails k b → Entails f exit
+entails_equally {k} {f} {b} {exit} is same h = subst (λ x. Entails x exit) is (subst (λ x. Entails k x) same h)
 
 -- ---- at a start
 

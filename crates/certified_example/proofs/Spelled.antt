@@ -1,21 +1,21 @@
 -- The certificate as it is written.
-use Rattle.std.proofs.Common.{◌≡◌, ◌≢◌, ℕ, ◌==◌, Bool, true, false, ◌&&◌, ◌||◌, ◌<◌, ◌≤◌, List, [], ◌∷◌, length, map, Ok, refl, sym, ap, ◌∙◌, subst, inl, inr, arith}
+use Rattle.std.proofs.Common.{◌≡◌, ◌≢◌, ℕ, ◌==◌, Bool, true, false, ◌&&◌, ◌<◌, ◌≤◌, List, [], ◌∷◌, length, map, Ok, refl, sym, ap, ◌∙◌, subst, inl, inr, arith}
 use Rattle.std.specs.Prelude.{if◌then◌else◌}
 use Rattle.std.proofs.lemmas.Bool.{cases_eq, eq-eqb, le-ltb, ne_eqb}
 use Rattle.std.proofs.Math.Path.{fun_ext}
 use Rattle.wordset.specs.Words.{Words, nothing, all_words, all_links, one, some_below}
 use Rattle.wordset.proofs.LinkLemmas.{two_are}
 use Rattle.wordset.proofs.SetLemmas.{all_past}
-use Rattle.domain.specs.Facts.{Location, Ac, Cell, Fact}
-use Rattle.domain.specs.Statements.{TrackedCell, all_offsets, tracked, sets_of, fact_of}
+use Rattle.domain.specs.Facts.{Location, Ac, Cell}
+use Rattle.domain.specs.Statements.{all_offsets, sets_of, fact_of}
 use Rattle.certificate.specs.Certificate.{Certificate}
 use Rattle.certificate.specs.declared.Version.TheVariants.{One}
 use Rattle.certificate.specs.Faults.{most_bytes, reading}
 use Rattle.certificate.proofs.TextAnswerLemmas.{reading_law}
 use Rattle.certificate.specs.Spelling.{lines_of, marks, digits, text}
 use Rattle.certificate.specs.Reading.{AreLines, Each, EndsBefore, RegistersEnd, SetsEnd, IsStatement, IsFactLine, RiseFrom, certificate_of, exit_in, fact_in, has_exit_in, has_fact_in, has_routine, rank_in, sites_in, writes_in}
-use Rattle.certified_example.specs.Example.{any, certificate, changed, clear, fact, knowing, main_cells}
-use Rattle.certified_example.specs.Written.{IsWritten, certificate_text, in_main, knowing_of, lines}
+use Rattle.certified_example.specs.Example.{any, certificate, changed, clear, fact, knowing}
+use Rattle.certified_example.specs.Written.{IsWritten, certificate_text, knowing_of, lines}
 
 plain : IsStatement One (knowing_of all_words [])
 unfolding some_below

@@ -2,10 +2,10 @@
 use Rattle.std.proofs.Common.{◌≡◌, ℕ, ◌+◌, ◌<◌, ◌≤◌, true, ◌&&◌, Option, Some, None, List, [], ◌∷◌, length, get_or, drop, map, inl, inr, refl, sym, ap, ◌∙◌, subst, zero, suc}
 use Rattle.std.specs.Prelude.{IfSome, ◌↔◌}
 use Rattle.std.proofs.Math.ListN.{drop_of_length-le}
-use Rattle.std.proofs.lemmas.Bool.{and_from, eq-eqb, lt-ltb, true≢false}
+use Rattle.std.proofs.lemmas.Bool.{and_from, eq-eqb, lt-ltb}
 use Rattle.wordset.specs.Words.{Words, IsLinkWithin, IsWithin, all_words, all_links}
 use Rattle.processor.specs.Runs.{Image}
-use Rattle.domain.specs.Facts.{Ac, Cell, Entails, EntailsOffsets, Fact, Among, Equation, Knows, KnowsAll, narrowed, tape_word}
+use Rattle.domain.specs.Facts.{Ac, Cell, Entails, EntailsOffsets, Fact, Among, Equation, KnowsAll, narrowed, tape_word}
 use Rattle.facts.specs.Showing.{EachWithin, EntailsRegisters, MayStart, allows_all}
 use Rattle.facts.specs.Starts.{are_always, has_each, holds_before, is_always}
 use Rattle.domain.specs.Statements.{TrackedCell, all_offsets, cell_at, tracked}
@@ -19,7 +19,6 @@ use Rattle.facts.proofs.Starting.{each_from}
 use Rattle.domain.proofs.TrackingLemmas.{entry_within}
 use Rattle.reasons.specs.Gaps.{IsLinkBeyond, IsCounterexample}
 use Rattle.reasons.specs.declared.counterexample.Counterexample.{Counterexample}
-use Rattle.reasons.specs.declared.counterexample.Counterexample.TheVariants as gap
 
 among_drop : (e : Equation) (es : List CodeEquation) (i : ℕ) → Among e (map equation_of (drop i es)) → Among e (map equation_of es)
 among_drop e [] zero h = h

@@ -1,6 +1,6 @@
 //! What is claimed at an address, of a return or of a routine, as a value of its own.
 
-ghost use Rattle.std.specs.Prelude.{◌≡◌, true, is_some, IfSome};
+ghost use Rattle.std.specs.Prelude.{◌≡◌, is_some, IfSome};
 ghost use Rattle.wordset.specs.Lanes.{words};
 ghost use Rattle.domain.specs.Meaning.{meaning};
 ghost use Rattle.domain.specs.Statements.{all_offsets};

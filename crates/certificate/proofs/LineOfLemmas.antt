@@ -3,6 +3,7 @@ use Rattle.std.proofs.Common.{◌≡◌, ℕ, zero, suc, ◌+◌, ◌-◌, ◌/�
 use Rattle.std.specs.Prelude.{if◌then◌else◌, codes, nat_lt, not, Option, Some, None}
 use Rattle.std.specs.List.{slice_split, onto_first, list_any, join_with_byte}
 use Rattle.std.specs.Str.{bytes_eq}
+use Rattle.std.proofs.Math.Bool.{or-false}
 use Rattle.std.proofs.Math.Path.{fun_ext}
 use Rattle.std.proofs.lemmas.Bool.{true≢false, and_parts, and_from, not-true, not-false, ne_eqb, eq-eqb, cases_lt, cases_Bool, lt-ltb, le-ltb, ltb-true}
 use Rattle.std.proofs.lemmas.Bool.Decides.{eqb_tells}
@@ -181,17 +182,12 @@ digits_have (suc n) d s =
   where
     told : ((nat_lt d n && s d) || (n == d && s n)) ≡ (nat_lt d (suc n) && s d)
     told = elim (cases_lt d n) [
-      | inl below ↦ rw (lt-ltb d n below, lt-ltb d (suc n) (omega arith), ne_eqb n d (λ z. omega arith)) (or_none (s d))
+      | inl below ↦ rw (lt-ltb d n below, lt-ltb d (suc n) (omega arith), ne_eqb n d (λ z. omega arith)) (or-false (s d))
       | inr past ↦ elim (eqb_tells n d) [
         | inl t ↦ (let z : n ≡ d = t.1 in rw (le-ltb d n past, lt-ltb d (suc n) (omega arith), t.0) (ap s t.1))
         | inr t ↦ (let z : n ≡ d → ⊥ = t.1 in rw (le-ltb d n past, le-ltb d (suc n) (omega arith), t.0) refl)
       ]
     ]
-      where
-        or_none : (b : Bool) → (b || false) ≡ b
-        or_none true = refl
-        or_none false = refl
-
 offsets_back : (s : Words) → EndsBefore 8 s → offsets_in (offsets_text s) ≡ s
 offsets_back s end = fun_ext (λ o. elim (cases_lt o 8) [
   | inl small ↦ rw (lt-ltb o 8 small) (elim (by_offsets s) [

@@ -77,23 +77,6 @@ said_end runs (packed.Cell a n) h = λ v h. runs_past _ v h
 said_end runs (packed.Equation e) h = tt
 said_end runs packed.End h = tt
 
--- A routine's sets have none whichever line this is.
-abbrev pub RoutineEnds : Line → Type 0
-RoutineEnds (RoutineIs r) = EndsBefore 4096 r.sites × EndsBefore 4096 r.writes
-RoutineEnds _ = Unit {0}
-
-routine_ends : (runs : List Run) (l : PackedLine) → RoutineEnds (said_at runs l)
-routine_ends runs (packed.Routine r) = (λ v h. runs_past _ v h, λ v h. runs_past _ v h)
-routine_ends runs (packed.Fact a r o) = tt
-routine_ends runs (packed.Exit e o r) = tt
-routine_ends runs (packed.Cell a n) = tt
-routine_ends runs (packed.Equation e) = tt
-routine_ends runs packed.End = tt
-
-pub routines_end : (runs : List Run) (ls : List KeptLine) → Each RoutineEnds (lines_in runs ls)
-routines_end runs [] = tt
-routines_end runs (k ∷ ls) = (routine_ends (drop k.first runs) k.line, routines_end runs ls)
-
 eight_of : (runs : List Run) (l : PackedLine) → OffsetsEnd (said_at runs l) → HasEight l
 eight_of runs (packed.Routine r) h = tt
 eight_of runs (packed.Fact a r o) h = h

@@ -1,5 +1,4 @@
-use Rattle.std.proofs.Common.{◌<◌, length, arith, ap, subst, sym}
-use Rattle.wordset.specs.Words.{SameWords}
+use Rattle.std.proofs.Common.{◌<◌, ◌∙◌, length, arith, ap, subst, sym}
 use Rattle.wordset.specs.Lanes.{words}
 use Rattle.domain.specs.Meaning.{tracked_cells}
 use Rattle.facts.specs.Knowing.{fact_of_state}
@@ -16,7 +15,7 @@ loop-at-preserved c =
     let lt : c.loop-at.at < length cells = omega (arith, c.loop-at-test.true, c.len-at-end.ensures.count) in
     each_step k cells c.loop-at.at lt
     (cell_within k cells c.loop-at.at c.get-tracked.result.cell (words c.narrowed.result) (words c.set.result) lt (ap (λ (t : TrackedCell). t.address) c.get-tracked.ensures) c.narrowed.ensures
-    (subst (λ all. SameWords (words c.set.result) (tracked c.get-tracked.result.cell all)) (sym c.cells-cells.ensures) c.set.ensures) c.in_default.ensures.none)
+    (c.set.ensures ∙ ap (λ all. tracked c.get-tracked.result.cell all) (sym c.cells-cells.ensures)) c.in_default.ensures.none)
     c.loop-at.invariant
 
 pub returns-clause-none : goal.returns-clause-none

@@ -44,6 +44,10 @@ pub some_slot : (p : Successor → Type 0) (os : List (Option Given)) (i : ℕ) 
 some_slot p os i o lt item h =
     some_drop p os i (subst (λ xs. SomeOutcome p (slots xs)) (sym (drop_item os i o lt item)) (some_left p (slot o) (slots (drop (i + 1) os)) h))
 
+-- What some outcome of a list has, some outcome of an equal one has.
+pub some_equally : (p : Successor → Type 0) {os ps : List Successor} → os ≡ ps → SomeOutcome p os → SomeOutcome p ps
+some_equally p same h = subst (SomeOutcome p) same h
+
 -- A wrong word, by the parts of the case.
 pub wrong_word : (j : Case) (r : Routine) (a : ℕ) (v : Condition) (reason : Reason) (c : Certificate) (pl : Place) (f : Fact) (at : ℕ) → IsIn j r a → c ≡ j.certificate → pl ≡ place_in j r → f ≡ fact_at j a → at ≡ a →
     IsWrongWord c pl f at v reason → HasWrongWord j v a reason

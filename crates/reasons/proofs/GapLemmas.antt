@@ -17,7 +17,7 @@ use Rattle.facts.proofs.EntailLemmas.{drop_item, entails_iff}
 use Rattle.facts.proofs.StartLemmas.{test_all}
 use Rattle.facts.proofs.Starting.{each_from}
 use Rattle.domain.proofs.TrackingLemmas.{entry_within}
-use Rattle.reasons.specs.Gaps.{IsLinkBeyond, IsCounterexample}
+use Rattle.reasons.specs.Gaps.{IsBeyond, IsLinkBeyond, IsCounterexample}
 use Rattle.reasons.specs.declared.counterexample.Counterexample.{Counterexample}
 
 among_drop : (e : Equation) (es : List CodeEquation) (i : ℕ) → Among e (map equation_of (drop i es)) → Among e (map equation_of es)
@@ -32,6 +32,12 @@ among_item es i g lt e = among_drop (equation_of g) es i (subst (λ xs. Among (e
 
 pub link_gap : {s t u v : Words} {l : ℕ} → s ≡ u → t ≡ v → IsLinkBeyond s t l → IsLinkBeyond u v l
 link_gap {s} {t} {u} {v} {l} first second h = subst (λ x. IsLinkBeyond x v l) first (subst (λ x. IsLinkBeyond s x l) second h)
+
+pub word_gap : {s t u v : Words} {w : ℕ} → s ≡ u → t ≡ v → IsBeyond s t w → IsBeyond u v w
+word_gap {s} {t} {u} {v} {w} first second h = subst (λ x. IsBeyond x v w) first (subst (λ x. IsBeyond s x w) second h)
+
+pub gap_equally : {k f : Fact} (b : Fact) (g : Counterexample) → k ≡ f → IsCounterexample k b g → IsCounterexample f b g
+gap_equally b g same h = subst (λ x. IsCounterexample x b g) same h
 
 -- An exit has all offsets, so none is excluded.
 pub exit_gap : (k f exit : Fact) (g : Counterexample) → f.offsets ≡ all_offsets → f ≡ exit → IsCounterexample k f g → IsCounterexample k (with_offsets all_offsets exit) g

@@ -5,8 +5,11 @@ use Rattle.facts.specs.Knowing.{fact_of_state}
 use Rattle.facts.specs.Showing.{EachWithin}
 use Rattle.domain.specs.Statements.{TrackedCell, tracked}
 use Rattle.facts.proofs.EntailLemmas.{each_step}
-use Rattle.reasons.proofs.GapLemmas.{all_within, cell_within}
+use Rattle.reasons.proofs.GapLemmas.{all_within, cell_within, word_gap}
 use Rattle.reasons.proofs.counterexample.cell_gap.Goals as goal
+
+pub returns-in-Some-clause-found : goal.returns-in-Some-clause-found
+returns-in-Some-clause-found c = word_gap c.narrowed.ensures c.set.ensures c.in-Some.ensures.found
 
 pub loop-at-preserved : goal.loop-at-preserved
 loop-at-preserved c =

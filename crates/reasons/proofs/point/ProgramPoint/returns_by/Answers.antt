@@ -1,10 +1,9 @@
-use Rattle.std.proofs.Common.{sym, ap, ◌∙◌, subst}
+use Rattle.std.proofs.Common.{sym, ap, ◌∙◌}
 use Rattle.std.proofs.lemmas.Bool.{true≢false}
 use Rattle.wordset.specs.Words.{Words}
 use Rattle.domain.specs.Meaning.{meaning}
-use Rattle.reasons.specs.Gaps.{IsCounterexample}
 use Rattle.reasons.specs.Spots.{fact_of}
-use Rattle.reasons.proofs.GapLemmas.{entails_equally, exit_gap}
+use Rattle.reasons.proofs.GapLemmas.{entails_equally, exit_gap, gap_equally}
 use Rattle.reasons.proofs.point.ProgramPoint.returns_by.Goals as goal
 
 pub returns-then-not-contains-clause-none : goal.returns-then-not-contains-clause-none
@@ -44,8 +43,8 @@ returns-in-Some-gap_between-clause-found g c = (
     c.requires,
     ap (λ (s : Words). s c.args.offset) (sym c.offsets.ensures) ∙ sym c.contains.ensures ∙ c.if-not-contains.false,
     sym c.in-Some.ensures.there,
-    exit_gap (fact_of c.args.self.now) (meaning c.in-Some.exit) _ c.in-Some.found c.in-Some.ensures.offsets c.in-Some.ensures.fact
-        (subst (λ f. IsCounterexample f (meaning c.in-Some.exit) c.in-Some.found) c.of.ensures.same c.in-Some-gap_between.ensures.found),
+    exit_gap (fact_of c.args.self.now) (meaning c.in-Some.exit) _ _ c.in-Some.ensures.offsets c.in-Some.ensures.fact
+        (gap_equally (meaning c.in-Some.exit) _ c.of.ensures.same c.in-Some-gap_between.ensures.found),
   ),
 )
 

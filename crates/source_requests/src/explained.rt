@@ -25,7 +25,7 @@ use streams::put;
 use streams::standard::Writes;
 use turns::GuessFault;
 use verdict_texts::certificates::certificate_from;
-use verdict_texts::marked::check_marked;
+use verdict_texts::messages::check_message;
 use wordset::WordSet;
 
 /// Writes to standard output what is told, with what the source says of its addresses.
@@ -96,7 +96,7 @@ pub fn check_with_reasons<R: Files + Input + Print>(
     let image = source.map.image();
     let declaration = source.declaration(alloc)?;
     let claims = certificate_from(alloc, &mut claims)?;
-    let checked = check_marked(alloc, image, &declaration, &claims)?;
+    let checked = check_message(alloc, image, &declaration, &claims)?;
     tell_sourced(rt, alloc, source, &checked.told)?;
     Ok(checked.status)
 }

@@ -2,6 +2,7 @@
 #![tactic(auto)]
 
 pub mod certificates;
-pub mod marked;
+pub mod explanation;
+pub mod messages;
 pub mod reason_text;
 pub mod verdict;

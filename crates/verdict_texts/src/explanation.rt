@@ -7,6 +7,7 @@ ghost use Rattle.declaration.specs.Kept.{meaning};
 ghost use Rattle.verdict_texts.specs.CheckText.{checked_case};
 ghost use Rattle.verdict_texts.specs.WhyText.{AddsExplanation, IsReason, fact_shown};
 
+use crate::gathered::Gathered;
 use crate::reason_text::push_why;
 use crate::verdict::verdict_line;
 use bin_tape::Image;
@@ -16,7 +17,6 @@ use declaration::Declaration;
 use judge::Refusal;
 use reasons::{Reason, why};
 use std::alloc::{AllocError, Allocator};
-use streams::standard::Writes;
 use word12::Word;
 
 /// Why a verdict is no.
@@ -55,7 +55,8 @@ pub fn push_explanation<L: Lines, A: Allocator, D: Allocator, C: Allocator>(
     let reason = reason_of(image, declaration, certificate, verdict);
     let line = verdict_line(alloc, declaration, verdict)?;
     text.push_text(&line)?;
-    push_why(text, declaration.profile(), image, verdict, &reason)
+    push_why(text, declaration.profile(), image, verdict, &reason)?;
+    Ok(())
 }
 
 /// The lines of a certificate on the fact at an address.
@@ -66,9 +67,9 @@ fn fact_lines<A: Allocator, C: Allocator>(
 ) -> Result<Vec<u8, A>, AllocError>
     ensures { IfOk result (λ bytes. bytes.items ≡ fact_text_at (lines_of certificate.now) at) }
 {
-    let mut bytes = Vec::new(alloc);
-    match certificate.write_fact(at, &mut Writes::new(&mut bytes)) {
-        Ok(()) => Ok(bytes),
+    let mut sink = Gathered::new(alloc);
+    match certificate.write_fact(at, &mut sink) {
+        Ok(()) => Ok(sink.into_bytes()),
         Err(_) => Err(AllocError),
     }
 }

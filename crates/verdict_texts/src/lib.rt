@@ -3,6 +3,7 @@
 
 pub mod certificates;
 pub mod explanation;
+mod gathered;
 pub mod messages;
 pub mod reason_text;
 pub mod verdict;

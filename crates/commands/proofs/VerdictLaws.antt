@@ -10,18 +10,17 @@ use Rattle.declaration.proofs.AnswerLemmas.{one_declaration}
 use Rattle.domain.specs.Statements.{Statement}
 use Rattle.certificate.specs.declared.Version.{Version}
 use Rattle.certificate.specs.declared.Version.TheVariants.{One, Two}
-use Rattle.certificate.specs.Exact.{SameCertificate, SameLines}
+use Rattle.certificate.specs.Exact.{SameCertificate}
 use Rattle.certificate.specs.Faults.{most_bytes}
 use Rattle.certificate.specs.Made.{migrated}
 use Rattle.certificate.specs.Reading.{AreLines, Each, FitsVersion, IsExit, IsFactLine, IsStatement, certificate_of}
 use Rattle.certificate.specs.Spelling.{ExitLine, FactLine, Lines, text}
-use Rattle.certificate.proofs.SameMeaningLemmas.{meaning_law}
-use Rattle.certificate.proofs.SameTextLemmas.{spelling_law}
+use Rattle.certificate.proofs.TextAnswerLemmas.{spelling_law}
 use Rattle.judge.specs.Conditions.{IsFirst}
 use Rattle.judge.specs.Laws.{SetsAreOfWords}
 use Rattle.judge.specs.declared.judging.Refusal.{Refusal}
 use Rattle.judge.proofs.AlikeLaws.{claims_are_valid, claims_fail}
-use Rattle.judge.proofs.ReadingLemmas.{none_fails, one_first}
+use Rattle.judge.proofs.ReadingLemmas.{claims_itself, none_fails, one_first}
 use Rattle.facts.specs.declared.Condition.{Condition}
 use Rattle.search_commands.specs.GuessText.{IsGuess}
 use Rattle.verdict_texts.specs.CheckText.{IsCheckedSo, IsVerdict, checked_case, verdict_status, verdict_text, yes_text}
@@ -76,7 +75,8 @@ module _ (t d : List ℕ) (c e : List ℕ) (line line' : List ℕ) (status statu
   )
 
 lines_alike : (c e : Lines) → AreLines c → AreLines e → text c ≡ text e → SameCertificate (certificate_of c) (certificate_of e)
-lines_alike c e one other same = meaning_law c e (spelling_law.lines c e one other same)
+lines_alike c e one other same =
+    subst (λ (l : Lines). SameCertificate (certificate_of c) (certificate_of l)) (spelling_law.lines c e one other same) (claims_itself (certificate_of c))
 
 pub checks_are_one : ChecksAreOne
 checks_are_one t d c line line' status status' x y =
@@ -146,16 +146,14 @@ migrated_lines c h = record {
   facts_rise = h.facts_rise;
   exits = exits_two c.version c.exits h.exits;
   exits_rise = h.exits_rise;
+  ends = h.ends;
 }
-
-migrated_alike : (c e : Lines) → SameLines c e → SameLines (migrated c) (migrated e)
-migrated_alike c e h = record { version = refl; routines = h.routines; facts = h.facts; exits = h.exits }
 
 pub migrated_is_checked_alike : MigratedIsCheckedAlike
 migrated_is_checked_alike t d c m line line' status status' moved x y =
     let read : IsTextOf c moved.lines = moved.claims in
-    let lines : SameLines x.lines moved.lines = spelling_law.lines x.lines moved.lines x.claims.lines_are read.lines_are (sym x.claims.text_is ∙ read.text_is) in
-    let both : text (migrated x.lines) ≡ text (migrated moved.lines) = spelling_law.text (migrated x.lines) (migrated moved.lines) (migrated_alike x.lines moved.lines lines) in
+    let lines : x.lines ≡ moved.lines = spelling_law.lines x.lines moved.lines x.claims.lines_are read.lines_are (sym x.claims.text_is ∙ read.text_is) in
+    let both : text (migrated x.lines) ≡ text (migrated moved.lines) = ap (λ (l : Lines). text (migrated l)) lines in
     let same : text (migrated x.lines) ≡ text y.lines = both ∙ sym moved.text_is ∙ y.claims.text_is in
     let are : AreLines (migrated x.lines) = migrated_lines x.lines x.claims.lines_are in
     one_answer t d c m line line' status status' x y

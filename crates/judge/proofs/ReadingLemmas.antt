@@ -1,5 +1,5 @@
 -- Tape, declaration and certificate are read in one way: whatever parts the bytes have, the same conditions hold of them.
-use Rattle.std.proofs.Common.{◌≡◌, ℕ, ◌+◌, ◌*◌, ◌<◌, ◌≤◌, ◌==◌, Bool, true, false, List, [], ◌∷◌, length, refl, sym, ap, ◌∙◌, subst, inl, inr, arith}
+use Rattle.std.proofs.Common.{◌≡◌, ℕ, ◌+◌, ◌*◌, ◌<◌, ◌≤◌, ◌==◌, Bool, true, false, List, [], ◌∷◌, length, Ok, Err, refl, sym, ap, ◌∙◌, subst, inl, inr, arith}
 use Rattle.std.proofs.Math.Path.{fun_ext}
 use Rattle.std.proofs.lemmas.Bool.{cases_order}
 use Rattle.std.specs.Prelude.{if◌then◌else◌}
@@ -11,21 +11,19 @@ use Rattle.declaration.specs.Declaration.{Declaration}
 use Rattle.declaration.specs.Text.{Declares, ListsRoutines}
 use Rattle.declaration.proofs.AnswerLemmas.{one_declaration}
 use Rattle.domain.specs.Facts.{Fact}
+use Rattle.domain.specs.Same.{Agree}
 use Rattle.facts.specs.declared.Condition.{Condition}
 use Rattle.facts.specs.declared.Condition.TheVariants.{V1, V2, V3, V4, V5, V6, V7, V8, V9, V10, V11, V12, V13, V14, V15}
 use Rattle.certificate.specs.Certificate.{Certificate}
-use Rattle.certificate.specs.Exact.{SameLines, SameCertificate}
-use Rattle.certificate.specs.Faults.{IsText, most_bytes}
+use Rattle.certificate.specs.Exact.{SameCertificate}
+use Rattle.certificate.specs.Faults.{reading}
 use Rattle.certificate.specs.Gathered.{routines_of}
 use Rattle.certificate.specs.Kept as certified
 use Rattle.certificate.specs.Packed.{said_lines}
-use Rattle.certificate.specs.Reading.{AreLines, Each, sites_in, writes_in}
-use Rattle.certificate.specs.Spelling.{Line, RoutineIs, text}
-use Rattle.certificate.specs.declared.Version.{Version}
-use Rattle.certificate.proofs.FromOrderLemmas.{reading_law}
-use Rattle.certificate.proofs.PackedLemmas.{SetsEnd, sets_end}
-use Rattle.certificate.proofs.SameMeaningLemmas.{meaning_law}
-use Rattle.certificate.proofs.SameTextLemmas.{spelling_law}
+use Rattle.certificate.specs.Reading.{Each, sites_in, writes_in, certificate_of}
+use Rattle.certificate.specs.Spelling.{Lines, Line, RoutineIs}
+use Rattle.certificate.specs.declared.CertificateFault.{CertificateFault}
+use Rattle.certificate.proofs.PackedLemmas.{RoutineEnds, routines_end}
 use Rattle.judge.specs.Conditions.{Case, HoldsAt, IsAsked, IsAskedAs, IsFirst, IsValid, is_first_condition, order, place_among}
 use Rattle.judge.specs.Certifying.{Parts, AreRead, IsTapeOf, case_of, declaration_of, words_of}
 use Rattle.judge.specs.Laws.{SetsAreOfWords}
@@ -40,12 +38,12 @@ either_past : (b : Bool) (s t : Words) (v : ℕ) → s v ≡ false → t v ≡ f
 either_past true s t v e f = e
 either_past false s t v e f = f
 
-sites_past : (ls : List Line) (e v : ℕ) → Each SetsEnd ls → 4096 ≤ v → sites_in (routines_of ls) e v ≡ false
+sites_past : (ls : List Line) (e v : ℕ) → Each RoutineEnds ls → 4096 ≤ v → sites_in (routines_of ls) e v ≡ false
 sites_past [] e v p h = refl
 sites_past (RoutineIs r ∷ ls) e v p h = either_past (r.entry == e) r.sites (sites_in (routines_of ls) e) v (p.0.0 v h) (sites_past ls e v p.1 h)
 sites_past (l ∷ ls) e v p h = sites_past ls e v p.1 h
 
-writes_past : (ls : List Line) (e v : ℕ) → Each SetsEnd ls → 4096 ≤ v → writes_in (routines_of ls) e v ≡ false
+writes_past : (ls : List Line) (e v : ℕ) → Each RoutineEnds ls → 4096 ≤ v → writes_in (routines_of ls) e v ≡ false
 writes_past [] e v p h = refl
 writes_past (RoutineIs r ∷ ls) e v p h = either_past (r.entry == e) r.writes (writes_in (routines_of ls) e) v (p.0.1 v h) (writes_past ls e v p.1 h)
 writes_past (l ∷ ls) e v p h = writes_past ls e v p.1 h
@@ -69,7 +67,7 @@ judged_by i d c = record { image = i; declaration = d; certificate = c }
 
 pub kept_of_words : (c : certified.Kept) → SetsAreOfWords (certified.claims c)
 kept_of_words c =
-    let ends : Each SetsEnd (said_lines c.lines) = sets_end c.lines.runs c.lines.list in
+    let ends : Each RoutineEnds (said_lines c.lines) = routines_end c.lines.runs c.lines.list in
     record { sites = λ e v past. sites_past (said_lines c.lines) e v ends past; writes = λ e v past. writes_past (said_lines c.lines) e v ends past }
 
 restated_is : (i i' : Image) (d d' : Declaration) (c e : Certificate) → i ≡ i' → d ≡ d' → SetsAreOfWords c → SetsAreOfWords e → SameCertificate c e →
@@ -107,11 +105,26 @@ module _ (i i' : Image) (d d' : Declaration) (c e : Certificate) (at : i ≡ i')
 
 -- ---- so whatever parts the bytes have, the same holds of them
 
+pub claims_itself : (c : Certificate) → SameCertificate c c
+claims_itself c = record {
+  listed = λ e. refl;
+  rank = λ e. refl;
+  sites = λ e v h. refl;
+  writes = λ e v h. refl;
+  has_fact = λ a. refl;
+  fact = λ a. agrees_itself (c.fact a);
+  has_exit = λ e o. refl;
+  exit = λ e o. agrees_itself (c.exit e o);
+}
+  where
+    agrees_itself : (f : Fact) → Agree f f
+    agrees_itself f = record { sets = λ n v h. refl; mq = λ v h. refl; link = λ v h. refl; equations = refl; offsets = λ o h. refl }
+
 same_certificate : {t d c : List ℕ} (p q : Parts) → AreRead t d c p → AreRead t d c q → SameCertificate (certified.claims p.certificate) (certified.claims q.certificate)
 same_certificate p q one other =
-    let lines : SameLines (certified.meaning p.certificate) (certified.meaning q.certificate) =
-    spelling_law.lines (certified.meaning p.certificate) (certified.meaning q.certificate) one.are_lines other.are_lines (sym one.is_text ∙ other.is_text) in
-    meaning_law (certified.meaning p.certificate) (certified.meaning q.certificate) lines
+    let both : Ok (certified.meaning p.certificate) ≡ Ok (certified.meaning q.certificate) = sym one.is_certificate ∙ other.is_certificate in
+    let lines : certified.meaning p.certificate ≡ certified.meaning q.certificate = cc in
+    subst (λ (ls : Lines). SameCertificate (certified.claims p.certificate) (certificate_of ls)) lines (claims_itself (certified.claims p.certificate))
 
 promised_is : {t d c : List ℕ} (p q : Parts) → AreRead t d c p → AreRead t d c q → declaration_of p ≡ declaration_of q
 promised_is {t} {d} {c} p q one other = one_declaration d (declaration_of p) (declaration_of q) one.declares other.declares
@@ -220,13 +233,15 @@ one_refusal p q image one other r s first found =
 pub none_fails : {j : Case} {v : Condition} {a : ℕ} → IsValid j → IsFirst j v a → ⊥
 none_fails {j} {v} {a} valid first = first.fails (valid v a first.asked)
 
--- ---- the parts that are read, and that the certificate's text is one
+-- ---- the parts that are read
 
-pub are_read : {t d c : List ℕ} {v : Version} (p : Parts) → IsTapeOf t p.image → Declares d (declaration_of p) → ListsRoutines d p.declaration.routines →
-    AreLines (certified.meaning p.certificate) → c ≡ text (certified.meaning p.certificate) → IsText v c → AreRead t d c p
-are_read p tape declares lists lines spelled read = record { is_tape = tape; declares = declares; lists = lists; are_lines = lines; is_text = spelled; is_short = read.few }
+pub are_read : {t d c : List ℕ} (p : Parts) → IsTapeOf t p.image → Declares d (declaration_of p) → ListsRoutines d p.declaration.routines →
+    reading c ≡ Ok (certified.meaning p.certificate) → AreRead t d c p
+are_read p tape declares lists read = record { is_tape = tape; declares = declares; lists = lists; is_certificate = read }
 
-pub read_text : {t d c : List ℕ} (p : Parts) → AreRead t d c p → IsText (certified.meaning p.certificate).version c
-read_text p one =
-    subst (λ bytes. IsText (certified.meaning p.certificate).version bytes) (sym one.is_text)
-    (reading_law.text (certified.meaning p.certificate) one.are_lines (subst (λ bytes. length bytes ≤ most_bytes) one.is_text one.is_short))
+-- a text that is read as a certificate has no fault
+pub not_both : {A : Type 0} (c : List ℕ) (ls : Lines) (f : CertificateFault) → reading c ≡ Ok ls → reading c ≡ Err f → A
+not_both c ls f read fails = let both : Ok ls ≡ Err f = sym read ∙ fails in absurd (cc)
+
+pub one_fault : (c : List ℕ) (f g : CertificateFault) → reading c ≡ Err f → reading c ≡ Err g → f ≡ g
+one_fault c f g one other = let both : Err f ≡ Err g = sym one ∙ other in cc

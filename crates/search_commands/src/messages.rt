@@ -138,7 +138,7 @@ fn refuted<A: Allocator + Copy, D: Allocator>(
 }
 
 /// The same, with what the search for a certificate had found, if that is known.
-fn searched_on<A: Allocator + Copy, D: Allocator>(
+fn answer_on<A: Allocator + Copy, D: Allocator>(
     alloc: A,
     image: &Image,
     declaration: &Declaration<D>,
@@ -157,7 +157,7 @@ fn searched_on<A: Allocator + Copy, D: Allocator>(
 }
 
 /// The same by the fault of the search for a certificate.
-fn searched_after<A: Allocator + Copy, D: Allocator>(
+fn answer_after<A: Allocator + Copy, D: Allocator>(
     alloc: A,
     image: &Image,
     declaration: &Declaration<D>,
@@ -169,13 +169,13 @@ fn searched_after<A: Allocator + Copy, D: Allocator>(
     ensures faults { IfErr result IsMemoryFault }
 {
     match lack_of(fault) {
-        Ok(lack) => searched_on(alloc, image, declaration, options, lack, None),
+        Ok(lack) => answer_on(alloc, image, declaration, options, lack, None),
         Err(fault) => Err(fault),
     }
 }
 
 /// The answer for a declaration that was given.
-fn searched<A: Allocator + Copy, D: Allocator>(
+fn answer_of<A: Allocator + Copy, D: Allocator>(
     alloc: A,
     image: &Image,
     declaration: &Declaration<D>,
@@ -190,12 +190,12 @@ fn searched<A: Allocator + Copy, D: Allocator>(
             answer: Answer::Yes(certificate),
             draft: None,
         }),
-        Err(fault) => searched_after(alloc, image, declaration, options, fault),
+        Err(fault) => answer_after(alloc, image, declaration, options, fault),
     }
 }
 
 /// The same, with the draft of a search that is stuck. One search is made for a certificate.
-fn searched_with_draft<A: Allocator + Copy, D: Allocator>(
+fn answer_with_draft<A: Allocator + Copy, D: Allocator>(
     alloc: A,
     image: &Image,
     declaration: &Declaration<D>,
@@ -212,14 +212,14 @@ fn searched_with_draft<A: Allocator + Copy, D: Allocator>(
         }),
         Ok(Attempt::Stuck(at, draft)) => {
             let lack = Lack::Stuck(at);
-            searched_on(alloc, image, declaration, options, lack, Some(draft))
+            answer_on(alloc, image, declaration, options, lack, Some(draft))
         }
-        Err(fault) => searched_after(alloc, image, declaration, options, fault),
+        Err(fault) => answer_after(alloc, image, declaration, options, fault),
     }
 }
 
 /// The answer for a declaration that was proposed with this verdict.
-fn searched_by<A: Allocator + Copy>(
+fn answer_by<A: Allocator + Copy>(
     alloc: A,
     image: &Image,
     declaration: &Declaration<A>,
@@ -241,7 +241,7 @@ fn searched_by<A: Allocator + Copy>(
         Verdict::Stuck(at) => Lack::Stuck(at),
         Verdict::TurnsSpent => Lack::TurnsSpent,
     };
-    searched_on(alloc, image, declaration, options, lack, None)
+    answer_on(alloc, image, declaration, options, lack, None)
 }
 
 /// The line that says why it isn't known.
@@ -402,10 +402,10 @@ pub fn verify_message<A: Allocator + Copy, D: Allocator>(
     ensures faults { IfErr result IsMemoryFault }
 {
     if options.explained {
-        let found = searched_with_draft(alloc, image, declaration, options)?;
+        let found = answer_with_draft(alloc, image, declaration, options)?;
         return message_of(alloc, image, declaration, found, options.explained);
     }
-    let found = searched(alloc, image, declaration, options)?;
+    let found = answer_of(alloc, image, declaration, options)?;
     message_of(alloc, image, declaration, found, options.explained)
 }
 
@@ -435,7 +435,7 @@ pub fn verify_proposed_message<A: Allocator + Copy>(
         verdict,
         ..
     } = proposal;
-    let found = searched_by(alloc, image, &declaration, verdict, &options.search)?;
+    let found = answer_by(alloc, image, &declaration, verdict, &options.search)?;
     let told = message_of(alloc, image, &declaration, found, options.search.explained)?;
     let AnswerMessage {
         answer,

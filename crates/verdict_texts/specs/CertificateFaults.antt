@@ -1,7 +1,7 @@
 -- Which faults a certificate that is read may have, and how a command reads it.
-use Rattle.std.specs.Prelude.{IfSome, Result, ⊤}
+use Rattle.std.specs.Prelude.{◌≡◌, IfSome, Result, Err, ⊤}
 use Rattle.streams.specs.Bytes.{Gave}
-use Rattle.certificate.specs.Faults.{HasFault, AsksForMemory}
+use Rattle.certificate.specs.Faults.{reading, AsksForMemory}
 use Rattle.command_parts.specs.declared.status.Fault.{Fault}
 use Rattle.command_parts.specs.declared.status.Fault.TheVariants.{Certificate, Device}
 use Rattle.command_parts.specs.declared.status.Fault.TheVariants as fault
@@ -13,7 +13,7 @@ use Rattle.verdict_texts.specs.CertificateInputs.{FailsInCertificate, IsGoodCert
 -- Why a certificate's text wasn't read: it has this fault, a read failed before the bytes given brought an answer, or
 -- memory was refused once a line had come that is kept.
 abbrev pub IsCertificateInputFault : Input → Fault → Type 0
-IsCertificateInputFault text (Certificate fault) = IfSome text.had (λ bytes. HasFault bytes fault)
+IsCertificateInputFault text (Certificate fault) = IfSome text.had (λ bytes. reading bytes ≡ Err fault)
 IsCertificateInputFault text (Device Read) = FailsInCertificate text
 IsCertificateInputFault text fault.NoMemory = Gave text.had text.left AsksForMemory
 IsCertificateInputFault text _ = ⊥

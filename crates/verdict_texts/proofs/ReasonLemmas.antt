@@ -12,3 +12,7 @@ from_nothing start mid new a b none first second = second ∙ ap (λ (t : List �
 -- a piece that is known by another name, and one behind it
 pub known_joined : (old mid new piece a b : List ℕ) → piece ≡ a → mid ≡ old ++ piece → new ≡ mid ++ b → new ≡ old ++ (a ++ b)
 known_joined old mid new piece a b known first second = joined old mid new a b (first ∙ ap (λ (t : List ℕ). old ++ t) known) second
+
+-- a piece behind nothing
+pub behind_nothing : (start new a : List ℕ) → start ≡ [] → new ≡ start ++ a → new ≡ a
+behind_nothing start new a none is = is ∙ ap (λ (t : List ℕ). t ++ a) none

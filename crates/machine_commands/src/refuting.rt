@@ -8,28 +8,12 @@ ghost use Rattle.command_parts.specs.Writes.{FrontOf, Writes, WritesNothingOr};
 ghost use Rattle.command_parts.specs.declared.status.Status.TheVariants.{Done, Refused};
 ghost use Rattle.machine_commands.specs.RefuteText.{IsToldOfWitness, IsWitnessText, WritesWitness, unbroken_text};
 
-use crate::progress::offered_by;
-use crate::watching::told_of;
+use crate::messages::{told_witness, unbroken_line};
 use command_parts::programs::program_from;
 use command_parts::status::{Fault, Status};
-use itoa::Buffer;
 pub use options::RefuteOptions;
-use policy::Watched;
-use refuter::{Witness, refute_within};
-use std::alloc::{AllocError, Allocator};
+use std::alloc::Allocator;
 use streams::{ByteSink, ByteSource, put};
-use turns::Turns;
-
-/// The line that says in how many steps nothing was found.
-pub(crate) fn unbroken_line<A: Allocator>(alloc: A, steps: u32) -> Result<Vec<u8, A>, AllocError>
-    ensures { IfOk result (λ text. text.items ≡ unbroken_text steps) }
-{
-    let mut text = Vec::new(alloc);
-    text.extend_from_slice(b"not broken in ")?;
-    text.extend_from_slice(Buffer::new().format(steps).as_bytes())?;
-    text.extend_from_slice(b" steps\n")?;
-    Ok(text)
-}
 
 /// Looks for a run of a tape's program that breaks its declaration, and writes it: to `out` the text
 /// of its events, of which the last one breaks a rule, and to `report` the line that `watch` writes
@@ -92,30 +76,12 @@ pub fn refute<A: Allocator + Copy, R: ByteSource, D: ByteSource, W: ByteSink, P:
 {
     let program = program_from(alloc, tape, declaration)?;
     let (image, promised) = (&program.image, &program.declaration);
-    let mut turns = Turns::new(options.steps);
-    let Some(found) = refute_within(alloc, image, promised, u64::from(options.seed), &mut turns)?
-    else {
+    let Some(found) = told_witness(alloc, image, promised, &options)? else {
         let line = unbroken_line(alloc, options.steps)?;
         put(report, &line)?;
         return Ok(Status::Done);
     };
-    let Witness {
-        events,
-        text,
-        event,
-        rule,
-    } = found;
-    let watched = Watched::Broken { event, rule };
-    let told = told_of(
-        alloc,
-        image,
-        promised,
-        &events,
-        offered_by(&events),
-        watched,
-        options.explained,
-    )?;
-    put(out, &text)?;
-    put(report, &told)?;
+    put(out, &found.events)?;
+    put(report, found.told.as_bytes())?;
     Ok(Status::Refused)
 }

@@ -1,8 +1,9 @@
 -- What `verify` says, and when it is true.
-use Rattle.std.specs.Prelude.{ℕ, ◌≡◌, ◌++◌, ⊤, Bool, false, codes, decimal, List, [], Option, Some}
+use Rattle.std.specs.Prelude.{ℕ, ◌≡◌, ◌++◌, ⊤, Bool, false, codes, decimal, List, [], Option}
 use Rattle.word12.specs.Words.{octal_text}
 use Rattle.peripherals.specs.Loading.{image_of}
 use Rattle.declaration.specs.Declaration.{Declaration}
+use Rattle.declaration.specs.Text.{Declares}
 use Rattle.policy.specs.declared.rules.Rule.{Rule}
 use Rattle.policy.specs.Watching.{number_of}
 use Rattle.certificate.specs.Kept.{meaning}
@@ -13,6 +14,7 @@ use Rattle.options.specs.declared.VerifyOptions.{VerifyOptions}
 use Rattle.command_parts.specs.declared.status.Status.{Status}
 use Rattle.command_parts.specs.declared.status.Status.TheVariants.{Done, Refused}
 use Rattle.command_parts.specs.Answers.{OfProgram}
+use Rattle.command_parts.specs.Inputs.{HasImage}
 use Rattle.search_commands.specs.declared.verifying.Lack.{Lack}
 use Rattle.search_commands.specs.declared.verifying.Lack.TheVariants.{Stuck, TurnsSpent}
 use Rattle.search_commands.specs.declared.verifying.Answer.{Answer}
@@ -63,9 +65,17 @@ pub record IsVerifiedOf {A : Type 0} (explained : Bool) (image : List (Option �
 abbrev pub IsVerified : {A : Type 0} → Option (List ℕ) → Option (List ℕ) → Bool → Answer A → List ℕ → Type 0
 IsVerified frames text explained answer told = OfProgram frames text (IsVerifiedOf explained) answer told
 
--- The frames are a tape, and the text that is proposed declares a program that starts where it was asked to, on the machine
--- that was asked for; the answer is true of them, and this is told of it.
+-- The text that is proposed declares a program that starts where it was asked to, on the machine that was asked for; the answer
+-- is true of the words and of what is declared, and this is told of it.
+pub record IsProposedAnswerOf {A : Type 0} (options : VerifyOptions) (image : List (Option ℕ)) (p : Proposed A) (told : List ℕ) : Type 0 where
+  pub declaration : Declaration
+  pub declares : Declares p.text.items declaration
+  pub start_is : declaration.start ≡ options.start
+  pub profile_is : declaration.profile ≡ options.profile
+  pub is : IsVerifiedOf options.search.explained image declaration p.answer told
+
+-- The frames are a tape, and this is told of such an answer for it.
 pub record IsProposedAnswer {A : Type 0} (options : VerifyOptions) (frames : Option (List ℕ)) (p : Proposed A) (told : List ℕ) : Type 0 where
-  pub verified : IsVerified frames (Some p.text.items) options.search.explained p.answer told
-  pub start_is : verified.declaration.start ≡ options.start
-  pub profile_is : verified.declaration.profile ≡ options.profile
+  pub image : List (Option ℕ)
+  pub tape : HasImage frames image
+  pub is : IsProposedAnswerOf options image p told

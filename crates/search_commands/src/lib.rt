@@ -6,7 +6,7 @@ pub mod completing;
 pub mod declaring;
 mod extending;
 pub mod guessing;
-pub mod marked;
 mod merging;
+pub mod messages;
 pub mod stuck;
 pub mod verifying;

@@ -9,13 +9,15 @@ ghost use Rattle.search_commands.specs.SearchFaults.{IsSearchFault};
 ghost use Rattle.command_parts.specs.Answers.{IsLaterFault, ReadsTwo};
 ghost use Rattle.command_parts.specs.Faults.{fails_to_write};
 ghost use Rattle.command_parts.specs.Inputs.{input};
-ghost use Rattle.search_commands.specs.StuckText.{IsReport, IsStuck, stuck_text};
+ghost use Rattle.command_parts.specs.Messages.{plain};
+ghost use Rattle.search_commands.specs.StuckText.{IsReport, IsStuck, IsToldOfDraft, stuck_text, told_text};
 ghost use Rattle.command_parts.specs.Writes.{FrontOf, Writes};
 ghost use Rattle.command_parts.specs.declared.status.Status.TheVariants.{Done, Refused};
 
 use analyser::{Attempt, guess_or_draft};
 use bin_tape::Image;
 use certificate::Certificate;
+use command_parts::message::{Lines, Message};
 use command_parts::programs::program_from;
 use command_parts::status::{Fault, Status};
 use command_parts::text::push_place;
@@ -28,27 +30,55 @@ use streams::{ByteSink, ByteSource, put};
 use verdict_texts::reason_text::push_why;
 use word12::Word;
 
-/// Adds the line of a search that is stuck at an address, and behind it why, as far as that is told.
-fn push_stuck<A: Allocator>(
-    text: &mut Vec<u8, A>,
+/// Adds the lines of the condition that is told, if one is.
+fn push_told<L: Lines>(
+    text: &mut L,
     profile: Profile,
     image: &Image,
-    at: Word,
     told: &Option<(Refusal, Reason)>,
 ) -> Result<(), AllocError>
-    ensures { OnOk result
-        (text.new.items ≡ text.old.items ++ stuck_text profile image.now at told.now) }
+    ensures { OnOk result (L.text text.new ≡ L.text text.old ++ told_text profile image.now told.now) }
 {
-    push_place(text, b"pdp8: guess: Stuck ", at)?;
-    text.extend_from_slice(b"\n")?;
     match told {
         None => Ok(()),
         Some((refusal, reason)) => push_why(text, profile, image, &Err(*refusal), &Some(*reason)),
     }
 }
 
+/// Why a search is stuck at an address, by the draft of what it found.
+///
+/// # Errors
+///
+/// Memory was refused.
+pub fn draft_message<A: Allocator + Copy, D: Allocator, C: Allocator>(
+    alloc: A,
+    image: &Image,
+    declaration: &Declaration<D>,
+    draft: &Certificate<C>,
+    at: Word,
+) -> Result<Message<A>, AllocError>
+    ensures { IfOk result (λ text. IsToldOfDraft image.now (meaning declaration.now)
+        (lines_of draft.now) at (plain text)) }
+{
+    let told = why_stuck(image, declaration, draft, at);
+    let mut text = Message::new(alloc);
+    push_told(&mut text, declaration.profile(), image, &told)?;
+    Ok(text)
+}
+
+/// The line of a search that is stuck at an address, and behind it these lines.
+fn stuck_line<A: Allocator>(alloc: A, at: Word, lines: &[u8]) -> Result<Vec<u8, A>, AllocError>
+    ensures { IfOk result (λ text. text.items ≡ stuck_text at lines.now) }
+{
+    let mut text = Vec::new(alloc);
+    push_place(&mut text, b"pdp8: guess: Stuck ", at)?;
+    text.extend_from_slice(b"\n")?;
+    text.extend_from_slice(lines)?;
+    Ok(text)
+}
+
 /// The lines of a search that is stuck at an address, and why, by the draft of what it found.
-fn stuck_lines<A: Allocator, D: Allocator, C: Allocator>(
+fn stuck_lines<A: Allocator + Copy, D: Allocator, C: Allocator>(
     alloc: A,
     image: &Image,
     declaration: &Declaration<D>,
@@ -59,14 +89,13 @@ fn stuck_lines<A: Allocator, D: Allocator, C: Allocator>(
     ensures { IfOk result (λ text. IsReport image.now (meaning declaration.now) (lines_of draft.now)
         text.items) }
 {
-    let told = why_stuck(image, declaration, draft, at);
-    let mut text = Vec::new(alloc);
-    push_stuck(&mut text, declaration.profile(), image, at, &told)?;
+    let why = draft_message(alloc, image, declaration, draft, at)?;
+    let text = stuck_line(alloc, at, why.as_bytes())?;
     Ok(text)
 }
 
 /// Reports that a search is stuck at an address, and why, by the draft of what it found.
-fn report_stuck<A: Allocator, D: Allocator, C: Allocator, E: ByteSink>(
+fn report_stuck<A: Allocator + Copy, D: Allocator, C: Allocator, E: ByteSink>(
     alloc: A,
     image: &Image,
     declaration: &Declaration<D>,

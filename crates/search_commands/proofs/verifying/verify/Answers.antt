@@ -14,13 +14,13 @@ returns-in_err-program-clause-verified g c =
     let told : c.from_residual.result ≡ Err c.in_err-program.field-0.0 = search rules in
     rw told (nothing_written c.in_err-program.field-0.0 c.requires.writable c.in_err-program.ensures.unwritten)
 
-pub returns-in_err-answer-clause-reads : goal.returns-in_err-answer-clause-reads
-returns-in_err-answer-clause-reads g c =
-    two_good c.from_residual-in_err-answer.result (search rules) c.in_ok-program.ensures.reads
+pub returns-in_err-found-clause-reads : goal.returns-in_err-found-clause-reads
+returns-in_err-found-clause-reads g c =
+    two_good c.from_residual-in_err-found.result (search rules) c.in_ok-program.ensures.reads
 
-pub returns-in_err-answer-clause-verified : goal.returns-in_err-answer-clause-verified
-returns-in_err-answer-clause-verified g c =
-    let told : c.from_residual-in_err-answer.result ≡ Err NoMemory = search rules in
+pub returns-in_err-found-clause-verified : goal.returns-in_err-found-clause-verified
+returns-in_err-found-clause-verified g c =
+    let told : c.from_residual-in_err-found.result ≡ Err NoMemory = search rules in
     rw told (nothing_written NoMemory c.requires.writable refl)
 
 pub returns-in_err-text-clause-reads : goal.returns-in_err-text-clause-reads
@@ -39,28 +39,28 @@ returns-in_err-write_text-clause-reads g c =
 pub returns-in_err-write_text-clause-verified : goal.returns-in_err-write_text-clause-verified
 returns-in_err-write_text-clause-verified g c =
     let told : c.from_residual-in_err-write_text.result ≡ Err c.in_err-write_text.field-0.0 = search rules in
-    rw told (text_failed c.in_ok-answer.answer c.in_ok-text.text.items
+    rw told (text_failed c.in_ok-found.found.answer c.in_ok-text.text.items
     (record {
       image = c.in_ok-program.program.image;
       tape = c.in_ok-program.ensures.image;
       declaration = meaning c.in_ok-program.program.declaration;
       declares = c.in_ok-program.ensures.declares;
-      is = record { answers = c.in_ok-answer.ensures.answer; is = c.in_ok-text.ensures.told };
+      is = rw c.in_ok-text.ensures c.in_ok-found.ensures.told;
     })
     (rw c.deref.ensures.value at c.in_err-write_text.ensures.writes))
 
 pub returns-clause-reads : goal.returns-clause-reads
 returns-clause-reads g c =
-    two_good (Ok c.in_ok-answer.answer) tt c.in_ok-program.ensures.reads
+    two_good (Ok c.in_ok-found.found.answer) tt c.in_ok-program.ensures.reads
 
 pub returns-clause-verified : goal.returns-clause-verified
 returns-clause-verified g c =
-    text_put c.in_ok-answer.answer c.in_ok-text.text.items
+    text_put c.in_ok-found.found.answer c.in_ok-text.text.items
     (record {
       image = c.in_ok-program.program.image;
       tape = c.in_ok-program.ensures.image;
       declaration = meaning c.in_ok-program.program.declaration;
       declares = c.in_ok-program.ensures.declares;
-      is = record { answers = c.in_ok-answer.ensures.answer; is = c.in_ok-text.ensures.told };
+      is = rw c.in_ok-text.ensures c.in_ok-found.ensures.told;
     })
     (rw c.deref.ensures.value at c.in_ok-write_text.ensures.writes)

@@ -3,7 +3,7 @@ use Rattle.peripherals.specs.Operator.{plan_of}
 use Rattle.peripherals.specs.World.{view, profile_of}
 use Rattle.machine_commands.specs.SessionParts.{events_left}
 use Rattle.machine_commands.proofs.WatchedSessionLemmas.{Gathered}
-use Rattle.machine_commands.proofs.watched_session.events_of.Given as goal
+use Rattle.machine_commands.proofs.schedule.events_of.Given as goal
 
 abbrev pub invariant-loop-event : goal.invariant-loop-event
 invariant-loop-event g l = record {

@@ -5,7 +5,7 @@ use Rattle.peripherals.specs.World.{view, profile_of}
 use Rattle.machine_commands.specs.Follows.{goes_on}
 use Rattle.machine_commands.proofs.SessionLemmas.{fewer}
 use Rattle.machine_commands.proofs.WatchedSessionLemmas.{gathered_none, gathered_more, gathered_last, gathered_all, not_back}
-use Rattle.machine_commands.proofs.watched_session.events_of.Goals as goal
+use Rattle.machine_commands.proofs.schedule.events_of.Goals as goal
 
 pub loop-event-init : goal.loop-event-init
 loop-event-init g c = record { gathered = rw c.new-events.ensures.items (gathered_none _ _ _ _ c.requires.first); profile = refl }

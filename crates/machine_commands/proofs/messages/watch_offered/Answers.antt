@@ -4,19 +4,18 @@ use Rattle.declaration.specs.Kept.{meaning}
 use Rattle.machine_commands.specs.Running.{fresh}
 use Rattle.machine_commands.specs.WatchText.{IsSeen}
 use Rattle.machine_commands.proofs.WatchLemmas.{is_seen}
-use Rattle.machine_commands.proofs.watching.watch_of.Goals as goal
+use Rattle.machine_commands.proofs.messages.watch_offered.Goals as goal
 
 pub returns-clause-told : goal.returns-clause-told
 returns-clause-told g c =
-    let image = c.args.run.now.program.image in
-    let d = meaning c.args.run.now.program.declaration in
-    let events = c.args.run.now.events.items in
+    let image = c.args.image.now in
+    let d = meaning c.args.declaration.now in
+    let events = c.args.events.now in
     let begins : loaded (image_of image) d.start c.zero.result ≡ fresh image d.start = search rules in
-    let sees : IsSeen image d events c.in_ok-watched.watched = is_seen image d events c.in_ok-watched.watched (loaded (image_of image) d.start c.zero.result) begins
-    (rw c.as_slice-events.ensures.value at c.in_ok-watched.ensures.clean) (rw c.as_slice-events.ensures.value at c.in_ok-watched.ensures.broken) in
+    let sees : IsSeen image d events c.in_ok-watched.watched = is_seen image d events c.in_ok-watched.watched (loaded (image_of image) d.start c.zero.result) begins c.in_ok-watched.ensures.clean c.in_ok-watched.ensures.broken in
     record {
       watched = c.in_ok-watched.watched;
       sees = sees;
-      is = rw c.as_slice-events.ensures.value at c.in_ok-text.ensures;
+      is = c.in_ok-told.ensures;
       status_is = c.watched_status-status.ensures;
     }

@@ -160,13 +160,6 @@ all_digits c n old now t low high h s tail ends e =
     let z : c - n ≡ 0 = omega arith in
     (λ v a. p.0 v (omega arith), rw (z, from_none n s) at p.1)
 
-pub some_same : (n : ℕ) (s t : Words) → ((v : ℕ) → v < n → s v ≡ t v) → some_below n s ≡ some_below n t
-unfolding some_below
-some_same zero s t h = refl
-some_same (suc n) s t h =
-    let e : some_below n s ≡ some_below n t = some_same n s t (λ v a. h v (omega arith)) in
-    let f : s n ≡ t n = h n (omega arith) in rw (e, f) refl
-
 -- What a call that reads digits says.
 pub record DigitsAre (c : ℕ) (old now : Option (List ℕ)) (t : Words) : Type 0 where
   pub read : IfSome now (λ r. old ≡ Some (digits c t ++ r))
@@ -178,7 +171,7 @@ pub no_links : {X : Type 0} (old now : Option (List ℕ)) (t u : Words) → Digi
     some_below 2 u ≡ false → (s : Words) (tail : List ℕ) → some_below 2 s ≡ true → EndsField tail → old ≡ Some (digits 2 s ++ tail) → X
 no_links old now t u g same none s tail some ends e =
     let p : ((v : ℕ) → v < 2 → t v ≡ s v) × (now ≡ Some tail) = g.only s tail ends e in
-    absurd (true≢false (sym some ∙ (sym (some_same 2 u s (λ v h. same v h ∙ p.0 v h)) ∙ none)))
+    absurd (true≢false (sym some ∙ some_none_of 2 s (λ v h. sym (same v h ∙ p.0 v h) ∙ none_of_some 2 u none v h)))
 
 pub links_read : (old now : Option (List ℕ)) (t u : Words) → DigitsAre 2 old now t → ((v : ℕ) → v < 2 → u v ≡ t v) →
     IfSome now (λ r. old ≡ Some (digits 2 u ++ r))
@@ -202,7 +195,7 @@ pub record OffsetsRead (old now : Option (List ℕ)) (t : Words) : Type 0 where
 pub dash_read : (old now : Option (List ℕ)) (t : Words) → t ≡ nothing → IsSomeAnd now (λ r. old ≡ Some (45 ∷ r)) →
     ((r : List ℕ) → old ≡ Some (45 ∷ r) → (true ≡ true) × (now ≡ Some r)) → OffsetsRead old now t
 dash_read old None t none took begins = absurd took
-dash_read old (Some r) t none took begins = record { read = rw none took; only = only }
+dash_read old (Some r) t none took begins = record { read = rw (no_offsets t (λ v h. ap (λ (f : Words). f v) none)) took; only = only }
   where
     only : (s : Words) (tail : List ℕ) → EndsField tail → old ≡ Some (offsets_text s ++ tail) → Some r ≡ Some tail
     only s tail ends e = elim (by_offsets s) [

@@ -1,10 +1,11 @@
 -- A line is read from its text.
-use Rattle.std.proofs.Common.{◌≡◌, ℕ, zero, suc, ◌+◌, ◌-◌, ◌/◌, ◌<◌, ◌≤◌, ◌==◌, Bool, true, false, ◌&&◌, ◌||◌, List, [], ◌∷◌, ◌++◌, length, map, take, drop, refl, ap, ◌∙◌, sym, subst, inl, inr, arith, append-nil, append_assoc}
+use Rattle.std.proofs.Common.{◌≡◌, ℕ, zero, suc, ◌+◌, ◌/◌, ◌<◌, ◌≤◌, ◌==◌, Bool, true, false, ◌&&◌, ◌||◌, List, [], ◌∷◌, ◌++◌, map, drop, refl, ap, ◌∙◌, sym, subst, inl, inr, arith, append-nil, append_assoc}
 use Rattle.std.specs.Prelude.{if◌then◌else◌, codes, nat_lt, not, Option, Some, None}
 use Rattle.std.specs.List.{slice_split, onto_first, list_any, join_with_byte}
 use Rattle.std.specs.Str.{bytes_eq}
+use Rattle.std.proofs.Math.Bool.{or-false}
 use Rattle.std.proofs.Math.Path.{fun_ext}
-use Rattle.std.proofs.lemmas.Bool.{true≢false, false≢true, ne_eqb, eq-eqb, cases_lt, cases_Bool, lt-ltb, le-ltb, ltb-true}
+use Rattle.std.proofs.lemmas.Bool.{true≢false, and_parts, and_from, not-true, not-false, ne_eqb, eq-eqb, cases_lt, cases_Bool, lt-ltb, le-ltb, ltb-true}
 use Rattle.std.proofs.lemmas.Bool.Decides.{eqb_tells}
 use Rattle.std.proofs.lemmas.List.Splits.{slice_split-cons_yes, slice_split-cons_no}
 use Rattle.std.proofs.lemmas.List.Folds.{list_any-append}
@@ -12,7 +13,6 @@ use Rattle.std.proofs.lemmas.Slice.Eq.{bytes_eq-Decides}
 use Rattle.word12.specs.Words.{octal_text}
 use Rattle.word12.specs.Octal.{octal_value}
 use Rattle.wordset.specs.Words.{Words, nothing, all_words, between, some_below, has_some}
-use Rattle.wordset.specs.Links.{links_of}
 use Rattle.wordset.proofs.SetLemmas.{equal_words, all_past}
 use Rattle.wordset.proofs.Tests.{some_none_of, none_of_some}
 use Rattle.domain.specs.Facts.{Location, Ac, Cell, Equation}
@@ -21,14 +21,14 @@ use Rattle.certificate.specs.declared.Version.{Version}
 use Rattle.certificate.specs.declared.Version.TheVariants.{One, Two}
 use Rattle.certificate.specs.declared.packed.Run.{Run}
 use Rattle.certificate.specs.Spelling.{RoutineLine, Registers, Line, RoutineIs, FactIs, ExitIs, CellIs, EquationIs, End, digits, set_text, offsets_text, name_text, rank_text, mq_text, words_text, routine_line, cell_line, equation_line, line_text}
-use Rattle.certificate.specs.Reading.{Each, FitsVersion, place_of_name, IsEquation, EndsBefore, IsOfLinks, RegistersEnd, SetsEnd}
+use Rattle.certificate.specs.Reading.{Each, FitsVersion, place_of_name, EndsBefore, IsOfLinks, RegistersEnd, SetsEnd}
 use Rattle.certificate.specs.Line.{IsLine, IsRegisters}
 use Rattle.certificate.specs.Order.{Spells}
 use Rattle.certificate.specs.Fields.{run_text}
 use Rattle.certificate.specs.Packed.{joined, StandApart}
 use Rattle.certificate.specs.LineOf.{words_in, word_at, run_of, in_runs, set_of, has_digit, offsets_in, links_in, name_of, registers_in, said_by, has_mq, has_registers, has_form, line_if, line_of}
 use Rattle.certificate.proofs.ApartLemmas.{more_text, runs_text, first_or}
-use Rattle.certificate.proofs.PackedLemmas.{runs_within}
+use Rattle.certificate.proofs.PackedLemmas.{runs_within, or_with}
 use Rattle.certificate.proofs.SetLemmas.{Full, by_words, empty_text}
 use Rattle.certificate.proofs.RunLemmas.{first_digit}
 use Rattle.certificate.proofs.DigitLemmas.{by_offsets, some_offsets, no_offsets}
@@ -130,13 +130,10 @@ runs_split r (t ∷ ts) =
     split_at (λ c. c == 44) (text_of r) 44 (runs_text (t ∷ ts)) (apart 44 44 (text_of r) (omega arith) (run_above r.first r.last)) refl ∙
     ap (λ (x : List (List ℕ)). text_of r ∷ x) (runs_split t ts)
 
-both_or : (a b c d : Bool) → a ≡ b → c ≡ d → (a || c) ≡ (b || d)
-both_or a b c d e f = rw (e, f) refl
-
 in_runs_back : (n a : ℕ) (rs : List Run) → StandApart n rs → in_runs (map text_of rs) a ≡ joined nothing rs a
 in_runs_back n a [] h = refl
 in_runs_back n a (r ∷ rs) h =
-    both_or _ _ _ _ (run_back r.first r.last a h.1 h.2) (in_runs_back (r.last + 2) a rs h.3) ∙ sym (first_or r rs a)
+    or_with _ _ _ _ (run_back r.first r.last a h.1 h.2) (in_runs_back (r.last + 2) a rs h.3) ∙ sym (first_or r rs a)
 
 pub other_text : (xs ys : List ℕ) → (xs ≡ ys → ⊥) → bytes_eq xs ys ≡ false
 other_text xs ys other = elim (cases_Bool (bytes_eq xs ys)) [
@@ -180,20 +177,16 @@ unfolding digits
 digits_have zero d s = rw (le-ltb d zero (omega arith)) refl
 digits_have (suc n) d s =
     list_any-append (λ c. c == 48 + d) (digits n s) (if s n then (48 + n) ∷ [] else []) ∙
-    (both_or _ _ _ _ (digits_have n d s) (at_digit s n d) ∙ told)
+    (or_with _ _ _ _ (digits_have n d s) (at_digit s n d) ∙ told)
   where
     told : ((nat_lt d n && s d) || (n == d && s n)) ≡ (nat_lt d (suc n) && s d)
     told = elim (cases_lt d n) [
-      | inl below ↦ rw (lt-ltb d n below, lt-ltb d (suc n) (omega arith), ne_eqb n d (λ z. omega arith)) (or_none (s d))
+      | inl below ↦ rw (lt-ltb d n below, lt-ltb d (suc n) (omega arith), ne_eqb n d (λ z. omega arith)) (or-false (s d))
       | inr past ↦ elim (eqb_tells n d) [
         | inl t ↦ (let z : n ≡ d = t.1 in rw (le-ltb d n past, lt-ltb d (suc n) (omega arith), t.0) (ap s t.1))
         | inr t ↦ (let z : n ≡ d → ⊥ = t.1 in rw (le-ltb d n past, le-ltb d (suc n) (omega arith), t.0) refl)
       ]
     ]
-      where
-        or_none : (b : Bool) → (b || false) ≡ b
-        or_none true = refl
-        or_none false = refl
 
 offsets_back : (s : Words) → EndsBefore 8 s → offsets_in (offsets_text s) ≡ s
 offsets_back s end = fun_ext (λ o. elim (cases_lt o 8) [
@@ -367,59 +360,44 @@ said_back v (EquationIs q) h e =
 said_back v End h e = refl
 
 -- The form of a line, by its test.
-and_true : (a b : Bool) → a ≡ true → b ≡ true → (a && b) ≡ true
-and_true a b e f = rw (e, f) refl
-
-and_both : (a b : Bool) → (a && b) ≡ true → (a ≡ true) × (b ≡ true)
-and_both true b e = (refl, e)
-and_both false b e = absurd (false≢true e)
-
-not_false : (b : Bool) → not b ≡ true → b ≡ false
-not_false false e = refl
-not_false true e = absurd (false≢true e)
-
-still_true : (b : Bool) → not b ≡ false → b ≡ true
-still_true true e = refl
-still_true false e = absurd (true≢false e)
-
 mq_tested : (v : Version) (mq : Words) → FitsVersion v mq → has_mq v mq ≡ true
 mq_tested One mq h = rw (some_none_of 4096 (λ v. not (mq v)) (λ v small. ap not (ap (λ (f : Words). f v) h ∙ lt-ltb v 4096 small))) refl
 mq_tested Two mq h = h
 
 mq_fits : (v : Version) (mq : Words) → EndsBefore 4096 mq → has_mq v mq ≡ true → FitsVersion v mq
 mq_fits One mq end e =
-    equal_words mq all_words end all_past (λ v small. still_true (mq v) (none_of_some 4096 (λ v. not (mq v)) (not_false _ e) v small) ∙ sym (lt-ltb v 4096 small))
+    equal_words mq all_words end all_past (λ v small. not-false (mq v) (none_of_some 4096 (λ v. not (mq v)) (not-true _ e) v small) ∙ sym (lt-ltb v 4096 small))
 mq_fits Two mq end e = e
 
 registers_tested : (v : Version) (r : Registers) → IsRegisters v r → has_registers v r ≡ true
-registers_tested v r h = and_true _ _ h.ac (and_true _ _ (mq_tested v r.mq h.mq) h.link)
+registers_tested v r h = and_from _ _ h.ac (and_from _ _ (mq_tested v r.mq h.mq) h.link)
 
 registers_formed : (v : Version) (r : Registers) → RegistersEnd r → has_registers v r ≡ true → IsRegisters v r
 registers_formed v r end e =
-    let p = and_both (has_some r.ac) _ e in
-    let q = and_both (has_mq v r.mq) _ p.1 in record { ac = p.0; mq = mq_fits v r.mq end.mq q.0; link = q.1 }
+    let p = and_parts (has_some r.ac) _ e in
+    let q = and_parts (has_mq v r.mq) _ p.1 in record { ac = p.0; mq = mq_fits v r.mq end.mq q.0; link = q.1 }
 
 form_tested : (v : Version) (l : Line) → IsLine v l → has_form v l ≡ true
-form_tested v (RoutineIs r) h = and_true _ _ (lt-ltb r.entry 4096 h.entry) (lt-ltb r.rank 64 h.rank)
-form_tested v (FactIs a r o) h = and_true _ _ (lt-ltb a 4096 h.0) (registers_tested v r h.1)
-form_tested v (ExitIs x o r) h = and_true _ _ (lt-ltb x 4096 h.0) (and_true _ _ (lt-ltb o 8 h.1) (registers_tested v r h.2))
-form_tested v (CellIs c) h = and_true _ _ (lt-ltb c.address 4096 h.address) h.set
+form_tested v (RoutineIs r) h = and_from _ _ (lt-ltb r.entry 4096 h.entry) (lt-ltb r.rank 64 h.rank)
+form_tested v (FactIs a r o) h = and_from _ _ (lt-ltb a 4096 h.0) (registers_tested v r h.1)
+form_tested v (ExitIs x o r) h = and_from _ _ (lt-ltb x 4096 h.0) (and_from _ _ (lt-ltb o 8 h.1) (registers_tested v r h.2))
+form_tested v (CellIs c) h = and_from _ _ (lt-ltb c.address 4096 h.address) h.set
 form_tested v (EquationIs q) h =
-    and_true _ _ (lt-ltb (place_of_name q.left) (place_of_name q.right) h.order)
-    (and_true _ _ (lt-ltb (place_of_name q.right) 4097 h.right) (lt-ltb q.more 4096 h.more))
+    and_from _ _ (lt-ltb (place_of_name q.left) (place_of_name q.right) h.order)
+    (and_from _ _ (lt-ltb (place_of_name q.right) 4097 h.right) (lt-ltb q.more 4096 h.more))
 form_tested v End h = refl
 
 formed : (v : Version) (l : Line) → SetsEnd l → has_form v l ≡ true → IsLine v l
 formed v (RoutineIs r) end e =
-    let p = and_both (nat_lt r.entry 4096) _ e in record { entry = ltb-true r.entry 4096 p.0; rank = ltb-true r.rank 64 p.1 }
-formed v (FactIs a r o) end e = let p = and_both (nat_lt a 4096) _ e in (ltb-true a 4096 p.0, registers_formed v r end.0 p.1)
+    let p = and_parts (nat_lt r.entry 4096) _ e in record { entry = ltb-true r.entry 4096 p.0; rank = ltb-true r.rank 64 p.1 }
+formed v (FactIs a r o) end e = let p = and_parts (nat_lt a 4096) _ e in (ltb-true a 4096 p.0, registers_formed v r end.0 p.1)
 formed v (ExitIs x o r) end e =
-    let p = and_both (nat_lt x 4096) _ e in
-    let q = and_both (nat_lt o 8) _ p.1 in (ltb-true x 4096 p.0, ltb-true o 8 q.0, registers_formed v r end q.1)
-formed v (CellIs c) end e = let p = and_both (nat_lt c.address 4096) _ e in record { address = ltb-true c.address 4096 p.0; set = p.1 }
+    let p = and_parts (nat_lt x 4096) _ e in
+    let q = and_parts (nat_lt o 8) _ p.1 in (ltb-true x 4096 p.0, ltb-true o 8 q.0, registers_formed v r end q.1)
+formed v (CellIs c) end e = let p = and_parts (nat_lt c.address 4096) _ e in record { address = ltb-true c.address 4096 p.0; set = p.1 }
 formed v (EquationIs q) end e =
-    let p = and_both (nat_lt (place_of_name q.left) (place_of_name q.right)) _ e in
-    let s = and_both (nat_lt (place_of_name q.right) 4097) _ p.1 in
+    let p = and_parts (nat_lt (place_of_name q.left) (place_of_name q.right)) _ e in
+    let s = and_parts (nat_lt (place_of_name q.right) 4097) _ p.1 in
     record { order = ltb-true _ _ p.0; right = ltb-true _ _ s.0; more = ltb-true _ _ s.1 }
 formed v End end e = tt
 
@@ -455,7 +433,7 @@ line_complete v l h e =
 some_if : (v : Version) (bytes : List ℕ) (m l : Line) → SetsEnd m → line_if v bytes m ≡ Some l → Spells v l bytes × SetsEnd l
 some_if v bytes m l end e = elim (cases_Bool (has_form v m && bytes_eq (line_text v m) bytes)) [
   | inl t ↦ (
-      let p = and_both (has_form v m) _ t in
+      let p = and_parts (has_form v m) _ t in
       let same : Some m ≡ Some l = rw t at e in
       let is : m ≡ l = cc in
       subst (λ (x : Line). Spells v x bytes × SetsEnd x) is ((formed v m end p.0, sym ((bytes_eq-Decides (line_text v m) bytes).0 p.1)), end))

@@ -1,5 +1,5 @@
 -- Lines packed, and the runs of their sets.
-use Rattle.std.proofs.Common.{◌≡◌, ℕ, ◌+◌, ◌-◌, ◌<◌, ◌≤◌, Bool, true, false, ◌&&◌, ◌||◌, List, [], ◌∷◌, ◌++◌, length, map, get_or, take, drop, refl, ap, ◌∙◌, sym, subst, inl, inr, arith, append_assoc, length-append}
+use Rattle.std.proofs.Common.{◌≡◌, ℕ, ◌+◌, ◌-◌, ◌<◌, ◌≤◌, Bool, true, false, ◌&&◌, ◌||◌, List, [], ◌∷◌, ◌++◌, length, map, get_or, take, drop, refl, ap, ◌∙◌, sym, subst, arith, append_assoc, length-append}
 use Rattle.std.specs.Prelude.{not, nat_le, slice_range}
 use Rattle.std.specs.List.{AllByRecursion}
 use Rattle.std.proofs.lemmas.Bool.{true≢false}
@@ -13,7 +13,7 @@ use Rattle.wordset.proofs.SetLemmas.{words_are, equal_words, lt_to, all_past}
 use Rattle.wordset.proofs.RangeLemmas.{all_between}
 use Rattle.domain.specs.Statements.{TrackedCell, cell_at}
 use Rattle.domain.specs.Meaning.{offsets_of}
-use Rattle.certificate.specs.Reading.{Each, EndsBefore, RegistersEnd, SetsEnd}
+use Rattle.certificate.specs.Reading.{Each, RegistersEnd, SetsEnd}
 use Rattle.certificate.specs.Found.{OffsetsEnd}
 use Rattle.certificate.specs.declared.packed.Run.{Run}
 use Rattle.certificate.specs.declared.packed.Counts.{Counts}
@@ -21,7 +21,7 @@ use Rattle.certificate.specs.declared.packed.PackedRegisters.{PackedRegisters}
 use Rattle.certificate.specs.declared.packed.PackedLine.{PackedLine}
 use Rattle.certificate.specs.declared.packed.PackedLine.TheVariants as packed
 use Rattle.certificate.specs.declared.packed.KeptLine.{KeptLine}
-use Rattle.certificate.specs.Spelling.{Line, Registers as SaidRegisters, RoutineIs, FactIs, ExitIs, CellIs}
+use Rattle.certificate.specs.Spelling.{Line, Registers as SaidRegisters, FactIs, ExitIs, CellIs}
 use Rattle.certificate.specs.Packed.{Begins, joined, set_of_runs, added, set_at, one_at, other_at, registers_at, said_at, kept_at, lines_in, AreWithin, LiesWithin, IsKept, AreLaid, IsPacked, HasEight}
 
 -- A run more.
@@ -76,23 +76,6 @@ said_end runs (packed.Exit e o r) h = registers_end runs r
 said_end runs (packed.Cell a n) h = λ v h. runs_past _ v h
 said_end runs (packed.Equation e) h = tt
 said_end runs packed.End h = tt
-
--- A routine's sets have none whichever line this is.
-abbrev pub RoutineEnds : Line → Type 0
-RoutineEnds (RoutineIs r) = EndsBefore 4096 r.sites × EndsBefore 4096 r.writes
-RoutineEnds _ = Unit {0}
-
-routine_ends : (runs : List Run) (l : PackedLine) → RoutineEnds (said_at runs l)
-routine_ends runs (packed.Routine r) = (λ v h. runs_past _ v h, λ v h. runs_past _ v h)
-routine_ends runs (packed.Fact a r o) = tt
-routine_ends runs (packed.Exit e o r) = tt
-routine_ends runs (packed.Cell a n) = tt
-routine_ends runs (packed.Equation e) = tt
-routine_ends runs packed.End = tt
-
-pub routines_end : (runs : List Run) (ls : List KeptLine) → Each RoutineEnds (lines_in runs ls)
-routines_end runs [] = tt
-routines_end runs (k ∷ ls) = (routine_ends (drop k.first runs) k.line, routines_end runs ls)
 
 eight_of : (runs : List Run) (l : PackedLine) → OffsetsEnd (said_at runs l) → HasEight l
 eight_of runs (packed.Routine r) h = tt

@@ -1,9 +1,9 @@
 -- What a text is read as, line by line.
-use Rattle.std.proofs.Common.{◌≡◌, ◌≢◌, ◌⊎◌, ℕ, suc, ◌+◌, ◌-◌, ◌<◌, ◌≤◌, ◌==◌, Bool, true, false, ◌&&◌, List, [], ◌∷◌, ◌++◌, length, take, Option, Some, None, Result, Ok, Err, refl, ap, ◌∙◌, sym, subst, inl, inr, arith, append_assoc, append-nil, length-append}
+use Rattle.std.proofs.Common.{◌≡◌, ◌≢◌, ◌⊎◌, ℕ, ◌+◌, ◌-◌, ◌<◌, ◌≤◌, ◌==◌, Bool, true, false, ◌&&◌, List, [], ◌∷◌, ◌++◌, length, take, Option, Some, None, Result, Ok, Err, refl, ap, ◌∙◌, sym, subst, inl, inr, arith, append_assoc, append-nil, length-append}
 use Rattle.std.specs.Prelude.{if◌then◌else◌, flat_map, nat_lt}
 use Rattle.std.specs.List.{join_with_byte}
 use Rattle.std.specs.Str.{bytes_eq}
-use Rattle.std.proofs.lemmas.Bool.{true≢false, false≢true, ne_eqb, eqb-true, cases_lt, cases_Bool, lt-ltb, le-ltb, ltb-true, le-leb, lt-leb, leb-true}
+use Rattle.std.proofs.lemmas.Bool.{ne_eqb, cases_lt, cases_Bool, lt-ltb, le-ltb, ltb-true, le-leb, lt-leb, leb-true}
 use Rattle.std.proofs.lemmas.List.{take_all}
 use Rattle.std.proofs.lemmas.List.Concat.{flat_map-append}
 use Rattle.std.proofs.lemmas.List.Splits.{length-slice_split, join_with_byte-slice_split}
@@ -15,11 +15,11 @@ use Rattle.certificate.specs.declared.CertificateFault.{CertificateFault}
 use Rattle.certificate.specs.declared.CertificateFault.TheVariants as faults
 use Rattle.certificate.specs.Spelling.{Lines, version_text, text, Line, RoutineIs, FactIs, ExitIs, CellIs, EquationIs, End, line_text, lines_of, ended}
 use Rattle.certificate.specs.Reading.{Each, AreLines, SetsEnd}
-use Rattle.certificate.specs.Line.{IsLine}
-use Rattle.certificate.specs.Order.{any, is_end, may_stand, comes_in_order, has_room, next_place, fellows, place, InOrder, HasRoom, IsNext, Spells, AreInOrder, front, oldest}
+use Rattle.certificate.specs.Order.{any, is_end, may_stand, comes_in_order, has_room, next_place, fellows, place, HasRoom, IsNext, Spells, AreInOrder, front, oldest}
 use Rattle.certificate.specs.Gathered.{gathered}
 use Rattle.certificate.specs.Found.{newest_first}
 use Rattle.certificate.specs.LineOf.{line_of}
+use Rattle.certificate.specs.Progress.{Continues}
 use Rattle.certificate.specs.Faults.{most_bytes, Progress, Start, After, Failed, begun, with_line, after_line, after_lines, at_last, answer_from, pieces, reading, AsksForMemory}
 use Rattle.certificate.specs.Serving.{Settles, is_of_bytes}
 use Rattle.certificate.specs.Parser.{NoFeed}
@@ -177,22 +177,18 @@ text_read c h =
     (end_read c.version before o.1 ∙ ap (λ (x : Lines). Ok x) (ap (gathered c.version) (oldest_newest [] (lines_of c)) ∙ gathered_lines c)))
 
 -- What is read as a certificate is its text.
-record Told (v : Version) (before : List Line) (line : List ℕ) (l : Line) : Type 0 where
-  spells : Spells v l line
-  next : IsNext v before l
-  ends : SetsEnd l
-
 abbrev Next : Version → List Line → List ℕ → Progress → Type 0
-Next v before line p = ((f : CertificateFault) × (p ≡ Failed f)) ⊎ ((l : Line) × (p ≡ After v (l ∷ before)) × Told v before line l)
+Next v before line p =
+    ((f : CertificateFault) × (p ≡ Failed f) × (is_of_bytes f ≡ true)) ⊎ ((l : Line) × (p ≡ After v (l ∷ before)) × Continues v before line l)
 
 next_of : (v : Version) (before : List Line) (line : List ℕ) (o : Option Line) → line_of v line ≡ o → Next v before line (with_line v before o)
-next_of v before line None e = inl (_, refl)
+next_of v before line None e = inl (_, refl, refl)
 next_of v before line (Some l) e = elim (cases_Bool (may_stand before l)) [
-  | inr f ↦ rw f (inl (_, refl))
+  | inr f ↦ rw f (inl (_, refl, refl))
   | inl s ↦ rw s (elim (cases_Bool (comes_in_order before l)) [
-    | inr f ↦ rw f (inl (_, refl))
+    | inr f ↦ rw f (inl (_, refl, refl))
     | inl o ↦ rw o (elim (cases_Bool (has_room before l)) [
-      | inr f ↦ rw f (inl (_, refl))
+      | inr f ↦ rw f (inl (_, refl, refl))
       | inl r ↦ rw r (
           let p = line_sound v line l e in
           let n : IsNext v before l = record { stands = s; order = leb-true _ _ o; room = has_room_of before l r } in
@@ -250,12 +246,9 @@ lines_read v before (line ∷ x ∷ ps) c o e read =
 
 record Read (bytes : List ℕ) (c : Lines) : Type 0 where
   version : Version
-  all : List Line
-  order : AreInOrder version all
-  ends : Each SetsEnd all
-  has_end : any is_end all ≡ true
-  is : gathered version (oldest all) ≡ c
-  text : bytes ≡ front version all
+  rest : List ℕ
+  whole : Whole version [] rest c
+  text : bytes ≡ ended (version_text version) ++ rest
 
 from_start : (ps : List (List ℕ)) (c : Lines) → answer_from false Start ps ≡ Ok c → Read (join_with_byte 10 ps) c
 from_start [] c read = absurd (cc)
@@ -269,32 +262,22 @@ from_start (line ∷ x ∷ ps) c read = elim (cases_Bool (bytes_eq line (version
 ]
   where
     start : (v : Version) → line ≡ version_text v → answer_from false (After v []) (x ∷ ps) ≡ Ok c → Read (line ++ 10 ∷ join_with_byte 10 (x ∷ ps)) c
-    start v is read =
-        let w = lines_read v [] (x ∷ ps) c tt tt read in
-        record {
-          version = v;
-          all = w.all;
-          order = w.order;
-          ends = w.ends;
-          has_end = w.has_end;
-          is = w.is;
-          text = ap (λ (y : List ℕ). y ++ 10 ∷ join_with_byte 10 (x ∷ ps)) is ∙ (seam (version_text v) _ ∙ w.text);
-        }
+    start v is read = record {
+      version = v;
+      rest = join_with_byte 10 (x ∷ ps);
+      whole = lines_read v [] (x ∷ ps) c tt tt read;
+      text = ap (λ (y : List ℕ). y ++ 10 ∷ join_with_byte 10 (x ∷ ps)) is ∙ seam (version_text v) (join_with_byte 10 (x ∷ ps));
+    }
 
 -- A text that's too long is read as none.
+none_at_last : (p : Progress) (rest : List ℕ) (c : Lines) → at_last true p rest ≡ Ok c → ⊥
+none_at_last Start rest c e = absurd (cc)
+none_at_last (After v b) rest c e = absurd (cc)
+none_at_last (Failed f) rest c e = absurd (cc)
+
 none_long : (p : Progress) (ps : List (List ℕ)) (c : Lines) → answer_from true p ps ≡ Ok c → ⊥
-none_long p [] c e = last p e
-  where
-    last : (p : Progress) → at_last true p [] ≡ Ok c → ⊥
-    last Start e = absurd (cc)
-    last (After v b) e = absurd (cc)
-    last (Failed f) e = absurd (cc)
-none_long p (x ∷ []) c e = last p e
-  where
-    last : (p : Progress) → at_last true p x ≡ Ok c → ⊥
-    last Start e = absurd (cc)
-    last (After v b) e = absurd (cc)
-    last (Failed f) e = absurd (cc)
+none_long p [] c e = none_at_last p [] c e
+none_long p (x ∷ []) c e = none_at_last p x c e
 none_long p (x ∷ y ∷ ps) c e = none_long (after_line p x) (y ∷ ps) c e
 
 pub each_oldest : (ls : List Line) → Each SetsEnd ls → Each SetsEnd (oldest ls)
@@ -303,12 +286,13 @@ each_oldest (l ∷ ls) h = each_append SetsEnd (oldest ls) (l ∷ []) (each_olde
 
 read_text : (bytes : List ℕ) (c : Lines) → length bytes ≤ most_bytes → Read bytes c → IsTextOf bytes c
 read_text bytes c few r =
-    let back : newest_first [] (oldest r.all) ≡ r.all = newest_oldest r.all in
-    let lines : oldest r.all ≡ lines_of (gathered r.version (oldest r.all)) = lines_set_out r.version (oldest r.all) (rw back r.order) (rw back r.has_end) in
-    subst (λ (x : Lines). IsTextOf bytes x) r.is (record {
-      form = with_ends (gathered r.version (oldest r.all)) (gathered_formed r.version (oldest r.all) (rw back r.order))
-          (subst (λ (x : List Line). Each SetsEnd x) lines (each_oldest r.all r.ends));
-      text = r.text ∙ (ap (front r.version) (sym back) ∙ sym (text_of_gathered r.version (oldest r.all) (rw back r.order) (rw back r.has_end)));
+    let w = r.whole in
+    let back : newest_first [] (oldest w.all) ≡ w.all = newest_oldest w.all in
+    let lines : oldest w.all ≡ lines_of (gathered r.version (oldest w.all)) = lines_set_out r.version (oldest w.all) (rw back w.order) (rw back w.has_end) in
+    subst (λ (x : Lines). IsTextOf bytes x) w.is (record {
+      form = with_ends (gathered r.version (oldest w.all)) (gathered_formed r.version (oldest w.all) (rw back w.order))
+          (subst (λ (x : List Line). Each SetsEnd x) lines (each_oldest w.all w.ends));
+      text = r.text ∙ (w.text ∙ (ap (front r.version) (sym back) ∙ sym (text_of_gathered r.version (oldest w.all) (rw back w.order) (rw back w.has_end))));
       few = few;
     })
 
@@ -337,18 +321,9 @@ failed_of : (f : CertificateFault) → is_of_bytes f ≡ true → OfBytes (Faile
 unfolding OfBytes
 failed_of f h = h
 
-with_line_of : (v : Version) (before : List Line) (o : Option Line) → OfBytes (with_line v before o)
-with_line_of v before None = failed_of (faults.BadLine (length before + 2)) refl
-with_line_of v before (Some l) = elim (cases_Bool (may_stand before l)) [
-  | inr e ↦ rw e (failed_of (faults.BadLine (length before + 2)) refl)
-  | inl e ↦ rw e (elim (cases_Bool (comes_in_order before l)) [
-    | inr f ↦ rw f (failed_of (faults.Order (length before + 2)) refl)
-    | inl f ↦ rw f (elim (cases_Bool (has_room before l)) [
-      | inr g ↦ rw g (failed_of faults.TooMany refl)
-      | inl g ↦ rw g (after_of v (l ∷ before))
-    ])
-  ])
-]
+next_of_bytes : (v : Version) (before : List Line) (line : List ℕ) (p : Progress) → Next v before line p → OfBytes p
+next_of_bytes v before line p (inl f) = rw f.1 (failed_of f.0 f.2)
+next_of_bytes v before line p (inr l) = rw l.1 (after_of v (l.0 ∷ before))
 
 begun_of : (line : List ℕ) → OfBytes (begun line)
 begun_of line = elim (cases_Bool (bytes_eq line (version_text One))) [
@@ -361,7 +336,7 @@ begun_of line = elim (cases_Bool (bytes_eq line (version_text One))) [
 
 taken_of : (p : Progress) (line : List ℕ) → OfBytes p → OfBytes (after_line p line)
 taken_of Start line h = begun_of line
-taken_of (After v before) line h = with_line_of v before (line_of v line)
+taken_of (After v before) line h = next_of_bytes v before line _ (next_of v before line (line_of v line) refl)
 taken_of (Failed f) line h = h
 
 same_fault : (f g : CertificateFault) → is_of_bytes f ≡ true → (let r : Result Lines CertificateFault = Err f in r) ≡ Err g → is_of_bytes g ≡ true

@@ -14,7 +14,7 @@ ghost use Rattle.certificate.specs.Fields.{left, WasFirst, run_text, NoDash, End
 
 use crate::packed::{Run, Runs};
 use domain::{CountedOffsets, Location};
-use word12::{Link, Word};
+use word12::Word;
 use wordset::Links;
 
 /// A line from some field on, or nothing once a field didn't read.
@@ -322,10 +322,8 @@ fn digit_of(byte: u8) -> usize
 fn links_among(digits: CountedOffsets) -> Links
     ensures { (k : ℕ) → k < 2 → links_of result k ≡ offsets_of digits k }
 {
-    match (digits.contains(0), digits.contains(1)) {
-        (false, false) => Links::none(),
-        (true, false) => Links::one(Link::CLEAR),
-        (false, true) => Links::one(Link::SET),
-        (true, true) => Links::both(),
+    Links {
+        clear: digits.contains(0),
+        set: digits.contains(1),
     }
 }

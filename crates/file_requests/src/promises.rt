@@ -16,7 +16,7 @@ use program_files::stuck::{Stuck, answer_message, stuck_message};
 use program_files::tellers::{report_to, tell_to};
 use report_commands::reporting::{ReportForm, report};
 use search_commands::guessing::guess;
-use search_commands::marked::{seek, verify_marked};
+use search_commands::messages::{seek, verify_message};
 use search_commands::verifying::{verify, verify_proposed};
 use std::alloc::Global;
 use std::io;
@@ -268,7 +268,7 @@ fn verify_with_reasons<R: Files + Input + Print + Eprint>(
     let mut text = open_input(rt, declaration)?;
     let image = tape_from(&mut frames)?;
     let promised = declaration_from(alloc, &mut text)?;
-    let found = verify_marked(alloc, &image, &promised, &asked.options.search)?;
+    let found = verify_message(alloc, &image, &promised, &asked.options.search)?;
     let is_whole = is_told_whole(rt, asked.tape, declaration);
     let told = answer_message(alloc, &image, &promised, &found, is_whole)?;
     put(&mut Writes::new(io::writer(rt)), told.as_bytes())?;

@@ -7,8 +7,9 @@ use command_parts::message::{Lines, Message};
 use command_parts::status::Fault;
 use declaration::Declaration;
 use fault_texts::{push_omissions, push_stuck_remedy};
-use search_commands::marked::MarkedAnswer;
-use search_commands::verifying::{Answer, Lack, draft_lines};
+use search_commands::messages::AnswerMessage;
+use search_commands::stuck::draft_message;
+use search_commands::verifying::{Answer, Lack};
 use std::alloc::{AllocError, Global};
 use std::fmt::Write;
 use turns::GuessFault;
@@ -64,7 +65,7 @@ pub fn stuck_message(
     is_whole: bool,
 ) -> Result<Message<Global>, AllocError> {
     let mut told = stuck_line(alloc, stuck.at)?;
-    let why = draft_lines(alloc, stuck.image, stuck.declaration, stuck.draft, stuck.at)?;
+    let why = draft_message(alloc, stuck.image, stuck.declaration, stuck.draft, stuck.at)?;
     if is_whole {
         push_stuck(alloc, &mut told, stuck, &why)?;
     } else {
@@ -79,12 +80,12 @@ pub fn answer_message(
     alloc: Global,
     image: &Image,
     declaration: &Declaration<Global>,
-    marked: &MarkedAnswer<Global>,
+    found: &AnswerMessage<Global>,
     is_whole: bool,
 ) -> Result<Message<Global>, AllocError> {
     let mut told = Message::new(alloc);
-    told.push_text(&marked.line)?;
-    match (&marked.answer, &marked.draft) {
+    told.push_text(&found.line)?;
+    match (&found.answer, &found.draft) {
         (Answer::NotKnown(Lack::Stuck(at)), Some(draft)) if is_whole => {
             let stuck = Stuck {
                 image,
@@ -92,9 +93,9 @@ pub fn answer_message(
                 at: *at,
                 draft,
             };
-            push_stuck(alloc, &mut told, &stuck, &marked.why)?;
+            push_stuck(alloc, &mut told, &stuck, &found.why)?;
         }
-        _ => told.push_message(&marked.why)?,
+        _ => told.push_message(&found.why)?,
     }
     Ok(told)
 }

@@ -9,14 +9,14 @@ use command_line::{Destination, Save, WatchedSession};
 use command_parts::inputs::{bytes_from, events_from};
 use command_parts::message::Message;
 use command_parts::status::{Fault, Status};
-use machine_commands::marked::{refute_marked, watch_marked, watch_session_marked};
+use machine_commands::messages::{refute_message, watch_message, watch_session_message};
 use machine_commands::refuting::RefuteOptions;
 use program_files::drafted::report_stuck;
 use program_files::files::{finish, open_input, open_output};
 use program_files::saving::{Saving, save_answer, save_proposed};
 use program_files::stuck::{Stuck, answer_message, stuck_message};
 use program_files::tellers::{open_input_if, report_to, tell_to};
-use search_commands::marked::{verify_marked, verify_proposed_marked};
+use search_commands::messages::{verify_message, verify_proposed_message};
 use search_commands::verifying::VerifyOptions;
 use std::alloc::Global;
 use std::io;
@@ -25,7 +25,7 @@ use streams::put;
 use streams::standard::Writes;
 use turns::GuessFault;
 use verdict_texts::certificates::certificate_from;
-use verdict_texts::marked::check_marked;
+use verdict_texts::messages::check_message;
 use wordset::WordSet;
 
 /// Writes to standard output what is told, with what the source says of its addresses.
@@ -51,7 +51,7 @@ pub fn verify_with_reasons<R: Files + Input + Print + Eprint>(
 ) -> Result<Status, Fault> {
     let image = source.map.image();
     let declaration = source.declaration(alloc)?;
-    let found = verify_marked(alloc, image, &declaration, &options.search)?;
+    let found = verify_message(alloc, image, &declaration, &options.search)?;
     let told = answer_message(alloc, image, &declaration, &found, true)?;
     tell_sourced(rt, alloc, source, &told)?;
     let saving = Saving {
@@ -71,7 +71,7 @@ pub fn verify_alone_with_reasons<R: Files + Input + Print + Eprint>(
     save: Option<Save<'_>>,
     options: &VerifyOptions,
 ) -> Result<Status, Fault> {
-    let found = verify_proposed_marked(alloc, source.map.image(), options)?;
+    let found = verify_proposed_message(alloc, source.map.image(), options)?;
     let mut told = Message::of(alloc, found.line);
     told.push_message(&found.why)?;
     let lines = with_source_lines(alloc, source, &told)?;
@@ -96,7 +96,7 @@ pub fn check_with_reasons<R: Files + Input + Print>(
     let image = source.map.image();
     let declaration = source.declaration(alloc)?;
     let claims = certificate_from(alloc, &mut claims)?;
-    let checked = check_marked(alloc, image, &declaration, &claims)?;
+    let checked = check_message(alloc, image, &declaration, &claims)?;
     tell_sourced(rt, alloc, source, &checked.told)?;
     Ok(checked.status)
 }
@@ -114,7 +114,7 @@ pub fn watch_with_reasons<R: Files + Input + Print>(
     let image = source.map.image();
     let declaration = source.declaration(alloc)?;
     let events = events_from(alloc, &mut list)?;
-    let watched = watch_marked(alloc, image, &declaration, &events, show)?;
+    let watched = watch_message(alloc, image, &declaration, &events, true, show)?;
     tell_sourced(rt, alloc, source, &watched.told)?;
     Ok(watched.status)
 }
@@ -134,7 +134,15 @@ pub fn watch_session_with_reasons<R: Files + Input + Print>(
     let options = &session.options;
     let frames = bytes_from(alloc, &mut reader, options.run.rounds)?;
     let struck = bytes_from(alloc, &mut keys, options.run.rounds)?;
-    let watched = watch_session_marked(alloc, image, &declaration, &frames, &struck, options)?;
+    let watched = watch_session_message(
+        alloc,
+        image,
+        &declaration,
+        &frames,
+        &struck,
+        options,
+        true,
+    )?;
     tell_sourced(rt, alloc, source, &watched.told)?;
     Ok(watched.status)
 }
@@ -206,7 +214,7 @@ pub fn refute_with_reasons<R: Files + Print + Eprint>(
     let mut file = open_output(rt, alloc, out)?;
     let image = source.map.image();
     let declaration = source.declaration(alloc)?;
-    let found = refute_marked(alloc, image, &declaration, options)?;
+    let found = refute_message(alloc, image, &declaration, &options)?;
     let text = with_source_lines(alloc, source, &found.told)?;
     put(&mut Writes::new(&mut file), &found.events)?;
     let status = finish(&mut file, found.status)?;

@@ -5,43 +5,23 @@ ghost use Rattle.std.specs.Io.KnownBytes.{Appends};
 ghost use Rattle.streams.specs.Bytes.{AppendsFront};
 ghost use Rattle.certificate.specs.Kept.{meaning as lines_of};
 ghost use Rattle.declaration.specs.Kept.{meaning};
-ghost use Rattle.judge.specs.Judged.{judged};
 ghost use Rattle.command_parts.specs.Answers.{IsLaterFault, IsMemoryFault, WritesAnswer, output};
 ghost use Rattle.command_parts.specs.Faults.{IsWriteFault};
 ghost use Rattle.command_parts.specs.Inputs.{input};
 ghost use Rattle.verdict_commands.specs.ExplainText.{IsExplainedBy};
 ghost use Rattle.verdict_texts.specs.CertificateFaults.{ReadsCertified};
 ghost use Rattle.verdict_texts.specs.CertificateInputs.{OfCertified};
-ghost use Rattle.verdict_texts.specs.WhyText.{IsExplanationOf, IsReason, fact_shown};
+ghost use Rattle.verdict_texts.specs.WhyText.{IsExplanationOf, fact_shown};
 
-use bin_tape::Image;
 use certificate::{Certificate, WriteFault};
 use command_parts::outcome::Outcome;
 use command_parts::status::{Fault, Status};
-use declaration::Declaration;
-use judge::{Claims, Refusal, judge};
-use reasons::{Reason, why};
+use judge::{Refusal, judge};
 use std::alloc::{AllocError, Allocator};
 use streams::{ByteSink, ByteSource, put};
 use verdict_texts::certificates::{Certified, certified_from};
-use verdict_texts::reason_text::push_why;
-use verdict_texts::verdict::{verdict_line, verdict_status};
-
-/// Why a verdict is no.
-fn reason_of<D: Allocator, C: Claims>(
-    image: &Image,
-    declaration: &Declaration<D>,
-    claims: &C,
-    verdict: &Result<(), Refusal>,
-) -> Option<Reason>
-    ensures { IsReason (judged image.now declaration.now (C.claims claims.now)) verdict.now
-        result }
-{
-    match verdict {
-        Ok(()) => None,
-        Err(refusal) => why(image, declaration, claims, refusal),
-    }
-}
+use verdict_texts::explanation::push_explanation;
+use verdict_texts::verdict::verdict_status;
 
 /// Writes the lines of the fact at the address of a refusal as the certificate has them.
 fn put_fact<A: Allocator, W: ByteSink>(
@@ -73,10 +53,15 @@ fn explained<A: Allocator + Copy>(
         verdict.now told.status told.text.items) }
 {
     let program = &certified.program;
-    let (image, declaration) = (&program.image, &program.declaration);
-    let reason = reason_of(image, declaration, &certified.certificate, verdict);
-    let mut text = verdict_line(alloc, declaration, verdict)?;
-    push_why(&mut text, declaration.profile(), image, verdict, &reason)?;
+    let mut text = Vec::new(alloc);
+    push_explanation(
+        alloc,
+        &mut text,
+        &program.image,
+        &program.declaration,
+        &certified.certificate,
+        verdict,
+    )?;
     let status = verdict_status(verdict);
     Ok(Outcome { text, status })
 }

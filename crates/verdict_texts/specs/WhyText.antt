@@ -170,3 +170,9 @@ pub record IsExplanationOf (image : List (Option ℕ)) (declaration : Declaratio
   pub why : IsReason (checked_case image declaration lines) verdict reason
   pub text_is : text ≡ (verdict_text declaration verdict ++ why_text declaration.profile image verdict reason) ++ fact_shown lines verdict
   pub status_is : status ≡ verdict_status verdict
+
+-- To a text were added the line of the verdict on an image, a declaration and the lines of a certificate, and why it is.
+pub record AddsExplanation (image : List (Option ℕ)) (declaration : Declaration) (lines : Lines) (verdict : Result (Unit {0}) Refusal) (old new : List ℕ) : Type 0 where
+  pub reason : Option Reason
+  pub why : IsReason (checked_case image declaration lines) verdict reason
+  pub text_is : new ≡ old ++ (verdict_text declaration verdict ++ why_text declaration.profile image verdict reason)

@@ -5,7 +5,7 @@ use Rattle.certificate.specs.Faults.{reading}
 use Rattle.judge.specs.declared.verdict.CertifyFault.TheVariants as fault
 use Rattle.judge.specs.Certifying.{Parts, AreRead, declaration_of}
 use Rattle.judge.proofs.ReadingLemmas.{are_read, first_too, none_fails, not_both, one_fault, one_refusal, valid_too}
-use Rattle.judge.proofs.VerdictLemmas.{ok_or_err, one_ok, same_fault}
+use Rattle.judge.proofs.VerdictLemmas.{ok_or_err, same_fault}
 use Rattle.judge.proofs.verdict.certify.Goals as goal
 
 -- the tape has a fault, so nothing of it can be good
@@ -103,7 +103,7 @@ returns-in-Ok-judge-clause-refusal_told g c =
     let read : AreRead c.args.tape.now c.args.declaration.now c.args.certificate.now q =
     are_read q c.in-Ok.ensures.tape c.in-Ok-parse.ensures.found c.in-Ok-parse.ensures.routines c.in-Ok-parse-2.ensures.read in
     λ r fails. absurd (none_fails c.in-Ok-judge.ensures.exact
-    (first_too fails.0 q (one_ok (c.read_tape.ensures.only fails.0.image fails.1.is_tape) c.in-Ok.is) fails.1 read r.condition r.address fails.2))
+    (first_too fails.0 q fails.1 read r fails.2))
 
 -- a condition refuses
 
@@ -119,11 +119,11 @@ returns-in-Err-judge-clause-refusal_told g c =
     let q : Parts = record { image = c.in-Ok.image; declaration = c.in-Ok-parse.declaration; certificate = c.in-Ok-parse-2.certificate } in
     let read : AreRead c.args.tape.now c.args.declaration.now c.args.certificate.now q =
     are_read q c.in-Ok.ensures.tape c.in-Ok-parse.ensures.found c.in-Ok-parse.ensures.routines c.in-Ok-parse-2.ensures.read in
-    λ r fails. inr (ap fault.Refused (one_refusal fails.0 q (one_ok (c.read_tape.ensures.only fails.0.image fails.1.is_tape) c.in-Ok.is) fails.1 read r c.in-Err-judge.refusal fails.2 c.in-Err-judge.ensures.exact))
+    λ r fails. inr (ap fault.Refused (one_refusal fails.0 q fails.1 read r c.in-Err-judge.refusal fails.2 c.in-Err-judge.ensures.exact))
 
 pub returns-in-Err-judge-clause-valid_told : goal.returns-in-Err-judge-clause-valid_told
 returns-in-Err-judge-clause-valid_told g c =
     let q : Parts = record { image = c.in-Ok.image; declaration = c.in-Ok-parse.declaration; certificate = c.in-Ok-parse-2.certificate } in
     let read : AreRead c.args.tape.now c.args.declaration.now c.args.certificate.now q =
     are_read q c.in-Ok.ensures.tape c.in-Ok-parse.ensures.found c.in-Ok-parse.ensures.routines c.in-Ok-parse-2.ensures.read in
-    λ valid. absurd (none_fails (valid_too valid.0 q (one_ok (c.read_tape.ensures.only valid.0.image valid.1.is_tape) c.in-Ok.is) valid.1 read valid.2) c.in-Err-judge.ensures.exact)
+    λ valid. absurd (none_fails (valid_too valid.0 q valid.1 read valid.2) c.in-Err-judge.ensures.exact)

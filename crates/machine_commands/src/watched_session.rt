@@ -44,9 +44,9 @@ fn write_watched<A: Allocator + Copy, D: Allocator, W: ByteSink>(
     ensures marks { W.mark out.new ≡ fails_to_write result }
 {
     match watch_session_message(alloc, image, declaration, frames, keys, options, explained) {
-        Ok(run) => {
-            put(out, run.told.as_bytes())?;
-            Ok(run.status)
+        Ok(seen) => {
+            put(out, seen.told.as_bytes())?;
+            Ok(seen.status)
         }
         Err(fault) => Err(fault),
     }

@@ -73,7 +73,7 @@ pub fn watch<A: Allocator + Copy, R: ByteSource, D: ByteSource, E: ByteSource, W
         (declaration.new ≡ declaration.old) (list.new ≡ list.old) result }
 {
     match program_run_from(alloc, tape, declaration, list) {
-        Ok(run) => deliver(watch_of(alloc, &run, explained, show), out),
+        Ok(given) => deliver(watch_of(alloc, &given, explained, show), out),
         Err(fault) => Err(fault),
     }
 }

@@ -6,18 +6,18 @@ use Rattle.machine_commands.proofs.watched_session.write_watched.Goals as goal
 
 pub returns-in_err-put-in-Ok-clause-front : goal.returns-in_err-put-in-Ok-clause-front
 returns-in_err-put-in-Ok-clause-front g c = λ marked.
-    let front : AppendsFront (g.W.ByteSink.taken c.args.out.now) (g.W.ByteSink.taken c.put.new.sink) (plain c.in-Ok.run.told) = search rules in
+    let front : AppendsFront (g.W.ByteSink.taken c.args.out.now) (g.W.ByteSink.taken c.put.new.sink) (plain c.in-Ok.seen.told) = search rules in
     record {
-      text = plain c.in-Ok.run.told;
-      is = (c.in-Ok.run.status, c.in-Ok.ensures.told);
+      text = plain c.in-Ok.seen.told;
+      is = (c.in-Ok.seen.status, c.in-Ok.ensures.told);
       front = front;
     }
 
-pub returns-in-Ok-clause-watched : goal.returns-in-Ok-clause-watched
-returns-in-Ok-clause-watched g c =
-    let written : Appends (g.W.ByteSink.taken c.args.out.now) (g.W.ByteSink.taken c.put.new.sink) (plain c.in-Ok.run.told) = search rules in
+pub returns-in_ok-put-in-Ok-clause-watched : goal.returns-in_ok-put-in-Ok-clause-watched
+returns-in_ok-put-in-Ok-clause-watched g c =
+    let written : Appends (g.W.ByteSink.taken c.args.out.now) (g.W.ByteSink.taken c.put.new.sink) (plain c.in-Ok.seen.told) = search rules in
     record {
-      text = plain c.in-Ok.run.told;
+      text = plain c.in-Ok.seen.told;
       is = c.in-Ok.ensures.told;
       written = written;
     }

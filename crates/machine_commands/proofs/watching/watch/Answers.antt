@@ -15,11 +15,11 @@ pub returns-in-Ok-clause-watched : goal.returns-in-Ok-clause-watched
 returns-in-Ok-clause-watched g c =
     delivered c.watch_of.result c.watch_of.ensures.told
     (λ status text is. record {
-      image = c.in-Ok.run.program.image;
+      image = c.in-Ok.given.program.image;
       tape = c.in-Ok.ensures.image;
-      declaration = meaning c.in-Ok.run.program.declaration;
+      declaration = meaning c.in-Ok.given.program.declaration;
       declares = c.in-Ok.ensures.declares;
-      events = c.in-Ok.run.events.items;
+      events = c.in-Ok.given.events.items;
       spells = c.in-Ok.ensures.spells;
       is = is;
     })

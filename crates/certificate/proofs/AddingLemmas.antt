@@ -11,7 +11,7 @@ use Rattle.certificate.specs.Gathered.{cells_under, equations_under}
 use Rattle.certificate.specs.Packed.{set_of_runs}
 use Rattle.certificate.specs.Found.{with_details, FitUnder, FitUnderFirst, IsSaid}
 use Rattle.certificate.specs.Adding.{with_line, HasRoomFor, HasRoomUnder}
-use Rattle.std.specs.Prelude.{◌<◌, ◌-◌, ◌&&◌, take, slice_range}
+use Rattle.std.specs.Prelude.{◌<◌, ◌-◌, take, slice_range}
 use Rattle.std.proofs.lemmas.List.{drop_more}
 use Rattle.certificate.proofs.PackedLemmas.{one_run}
 

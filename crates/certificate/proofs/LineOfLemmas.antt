@@ -1,5 +1,5 @@
 -- A line is read from its text.
-use Rattle.std.proofs.Common.{◌≡◌, ℕ, zero, suc, ◌+◌, ◌-◌, ◌/◌, ◌<◌, ◌≤◌, ◌==◌, Bool, true, false, ◌&&◌, ◌||◌, List, [], ◌∷◌, ◌++◌, length, map, take, drop, refl, ap, ◌∙◌, sym, subst, inl, inr, arith, append-nil, append_assoc}
+use Rattle.std.proofs.Common.{◌≡◌, ℕ, zero, suc, ◌+◌, ◌/◌, ◌<◌, ◌≤◌, ◌==◌, Bool, true, false, ◌&&◌, ◌||◌, List, [], ◌∷◌, ◌++◌, map, drop, refl, ap, ◌∙◌, sym, subst, inl, inr, arith, append-nil, append_assoc}
 use Rattle.std.specs.Prelude.{if◌then◌else◌, codes, nat_lt, not, Option, Some, None}
 use Rattle.std.specs.List.{slice_split, onto_first, list_any, join_with_byte}
 use Rattle.std.specs.Str.{bytes_eq}
@@ -13,7 +13,6 @@ use Rattle.std.proofs.lemmas.Slice.Eq.{bytes_eq-Decides}
 use Rattle.word12.specs.Words.{octal_text}
 use Rattle.word12.specs.Octal.{octal_value}
 use Rattle.wordset.specs.Words.{Words, nothing, all_words, between, some_below, has_some}
-use Rattle.wordset.specs.Links.{links_of}
 use Rattle.wordset.proofs.SetLemmas.{equal_words, all_past}
 use Rattle.wordset.proofs.Tests.{some_none_of, none_of_some}
 use Rattle.domain.specs.Facts.{Location, Ac, Cell, Equation}
@@ -22,7 +21,7 @@ use Rattle.certificate.specs.declared.Version.{Version}
 use Rattle.certificate.specs.declared.Version.TheVariants.{One, Two}
 use Rattle.certificate.specs.declared.packed.Run.{Run}
 use Rattle.certificate.specs.Spelling.{RoutineLine, Registers, Line, RoutineIs, FactIs, ExitIs, CellIs, EquationIs, End, digits, set_text, offsets_text, name_text, rank_text, mq_text, words_text, routine_line, cell_line, equation_line, line_text}
-use Rattle.certificate.specs.Reading.{Each, FitsVersion, place_of_name, IsEquation, EndsBefore, IsOfLinks, RegistersEnd, SetsEnd}
+use Rattle.certificate.specs.Reading.{Each, FitsVersion, place_of_name, EndsBefore, IsOfLinks, RegistersEnd, SetsEnd}
 use Rattle.certificate.specs.Line.{IsLine, IsRegisters}
 use Rattle.certificate.specs.Order.{Spells}
 use Rattle.certificate.specs.Fields.{run_text}
@@ -188,6 +187,7 @@ digits_have (suc n) d s =
         | inr t ↦ (let z : n ≡ d → ⊥ = t.1 in rw (le-ltb d n past, le-ltb d (suc n) (omega arith), t.0) refl)
       ]
     ]
+
 offsets_back : (s : Words) → EndsBefore 8 s → offsets_in (offsets_text s) ≡ s
 offsets_back s end = fun_ext (λ o. elim (cases_lt o 8) [
   | inl small ↦ rw (lt-ltb o 8 small) (elim (by_offsets s) [

@@ -1,5 +1,5 @@
 -- Lines packed, and the runs of their sets.
-use Rattle.std.proofs.Common.{◌≡◌, ℕ, ◌+◌, ◌-◌, ◌<◌, ◌≤◌, Bool, true, false, ◌&&◌, ◌||◌, List, [], ◌∷◌, ◌++◌, length, map, get_or, take, drop, refl, ap, ◌∙◌, sym, subst, inl, inr, arith, append_assoc, length-append}
+use Rattle.std.proofs.Common.{◌≡◌, ℕ, ◌+◌, ◌-◌, ◌<◌, ◌≤◌, Bool, true, false, ◌&&◌, ◌||◌, List, [], ◌∷◌, ◌++◌, length, map, get_or, take, drop, refl, ap, ◌∙◌, sym, subst, arith, append_assoc, length-append}
 use Rattle.std.specs.Prelude.{not, nat_le, slice_range}
 use Rattle.std.specs.List.{AllByRecursion}
 use Rattle.std.proofs.lemmas.Bool.{true≢false}
@@ -13,7 +13,7 @@ use Rattle.wordset.proofs.SetLemmas.{words_are, equal_words, lt_to, all_past}
 use Rattle.wordset.proofs.RangeLemmas.{all_between}
 use Rattle.domain.specs.Statements.{TrackedCell, cell_at}
 use Rattle.domain.specs.Meaning.{offsets_of}
-use Rattle.certificate.specs.Reading.{Each, EndsBefore, RegistersEnd, SetsEnd}
+use Rattle.certificate.specs.Reading.{Each, RegistersEnd, SetsEnd}
 use Rattle.certificate.specs.Found.{OffsetsEnd}
 use Rattle.certificate.specs.declared.packed.Run.{Run}
 use Rattle.certificate.specs.declared.packed.Counts.{Counts}
@@ -21,7 +21,7 @@ use Rattle.certificate.specs.declared.packed.PackedRegisters.{PackedRegisters}
 use Rattle.certificate.specs.declared.packed.PackedLine.{PackedLine}
 use Rattle.certificate.specs.declared.packed.PackedLine.TheVariants as packed
 use Rattle.certificate.specs.declared.packed.KeptLine.{KeptLine}
-use Rattle.certificate.specs.Spelling.{Line, Registers as SaidRegisters, RoutineIs, FactIs, ExitIs, CellIs}
+use Rattle.certificate.specs.Spelling.{Line, Registers as SaidRegisters, FactIs, ExitIs, CellIs}
 use Rattle.certificate.specs.Packed.{Begins, joined, set_of_runs, added, set_at, one_at, other_at, registers_at, said_at, kept_at, lines_in, AreWithin, LiesWithin, IsKept, AreLaid, IsPacked, HasEight}
 
 -- A run more.

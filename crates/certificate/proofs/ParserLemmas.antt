@@ -15,7 +15,7 @@ use Rattle.certificate.specs.Order.{any, is_end, may_stand, AreInOrder, front, o
 use Rattle.certificate.specs.Progress.{Tracks, Continues}
 use Rattle.certificate.specs.Gathered.{gathered}
 use Rattle.certificate.specs.Packed.{Packed, said_lines}
-use Rattle.certificate.specs.Found.{newest_first, Keeps, OffsetsEnd, IsWhole, unended}
+use Rattle.certificate.specs.Found.{Keeps, OffsetsEnd, IsWhole, unended}
 use Rattle.certificate.specs.Faults.{most_bytes, Progress as ReadingProgress, Start, After, Failed, after_line, at_last, answer_from, pieces, reading, AsksForMemory}
 use Rattle.certificate.specs.Serving.{Settles}
 use Rattle.certificate.specs.Kept.{Kept as KeptCertificate}

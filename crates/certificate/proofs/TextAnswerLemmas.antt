@@ -1,9 +1,9 @@
 -- What a text is read as, line by line.
-use Rattle.std.proofs.Common.{◌≡◌, ◌≢◌, ◌⊎◌, ℕ, suc, ◌+◌, ◌-◌, ◌<◌, ◌≤◌, ◌==◌, Bool, true, false, ◌&&◌, List, [], ◌∷◌, ◌++◌, length, take, Option, Some, None, Result, Ok, Err, refl, ap, ◌∙◌, sym, subst, inl, inr, arith, append_assoc, append-nil, length-append}
+use Rattle.std.proofs.Common.{◌≡◌, ◌≢◌, ◌⊎◌, ℕ, ◌+◌, ◌-◌, ◌<◌, ◌≤◌, ◌==◌, Bool, true, false, ◌&&◌, List, [], ◌∷◌, ◌++◌, length, take, Option, Some, None, Result, Ok, Err, refl, ap, ◌∙◌, sym, subst, inl, inr, arith, append_assoc, append-nil, length-append}
 use Rattle.std.specs.Prelude.{if◌then◌else◌, flat_map, nat_lt}
 use Rattle.std.specs.List.{join_with_byte}
 use Rattle.std.specs.Str.{bytes_eq}
-use Rattle.std.proofs.lemmas.Bool.{true≢false, false≢true, ne_eqb, eqb-true, cases_lt, cases_Bool, lt-ltb, le-ltb, ltb-true, le-leb, lt-leb, leb-true}
+use Rattle.std.proofs.lemmas.Bool.{ne_eqb, cases_lt, cases_Bool, lt-ltb, le-ltb, ltb-true, le-leb, lt-leb, leb-true}
 use Rattle.std.proofs.lemmas.List.{take_all}
 use Rattle.std.proofs.lemmas.List.Concat.{flat_map-append}
 use Rattle.std.proofs.lemmas.List.Splits.{length-slice_split, join_with_byte-slice_split}
@@ -15,8 +15,7 @@ use Rattle.certificate.specs.declared.CertificateFault.{CertificateFault}
 use Rattle.certificate.specs.declared.CertificateFault.TheVariants as faults
 use Rattle.certificate.specs.Spelling.{Lines, version_text, text, Line, RoutineIs, FactIs, ExitIs, CellIs, EquationIs, End, line_text, lines_of, ended}
 use Rattle.certificate.specs.Reading.{Each, AreLines, SetsEnd}
-use Rattle.certificate.specs.Line.{IsLine}
-use Rattle.certificate.specs.Order.{any, is_end, may_stand, comes_in_order, has_room, next_place, fellows, place, InOrder, HasRoom, IsNext, Spells, AreInOrder, front, oldest}
+use Rattle.certificate.specs.Order.{any, is_end, may_stand, comes_in_order, has_room, next_place, fellows, place, HasRoom, IsNext, Spells, AreInOrder, front, oldest}
 use Rattle.certificate.specs.Gathered.{gathered}
 use Rattle.certificate.specs.Found.{newest_first}
 use Rattle.certificate.specs.LineOf.{line_of}

@@ -4,7 +4,7 @@ use Rattle.std.specs.Prelude.{map, flat_map}
 use Rattle.domain.specs.Facts.{Equation}
 use Rattle.domain.specs.Statements.{TrackedCell, Statement}
 use Rattle.certificate.specs.declared.Version.{Version}
-use Rattle.certificate.specs.Spelling.{RoutineLine, FactLine, ExitLine, Lines, text, Line, RoutineIs, FactIs, ExitIs, CellIs, EquationIs, End, registers_of, details, lines_of_fact, lines_of_exit, lines_of}
+use Rattle.certificate.specs.Spelling.{RoutineLine, FactLine, ExitLine, Lines, Line, RoutineIs, FactIs, ExitIs, CellIs, EquationIs, End, registers_of, details, lines_of_fact, lines_of_exit, lines_of}
 use Rattle.certificate.specs.Reading.{RiseFrom, place_of_equation, Each, IsTracked, IsEquation, IsStatement, IsRoutine, IsFactLine, IsExit, SetsEnd, AreLines}
 use Rattle.certificate.specs.Line.{TextLaw}
 use Rattle.certificate.specs.Order.{is_end, has_details, any, how_many, is_routine, is_cell, is_equation, heads, details_of_last, next_place, IsNext, AreInOrder}

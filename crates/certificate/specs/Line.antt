@@ -1,5 +1,5 @@
 -- Which lines are of their form, and that a certificate's text is its lines.
-use Rattle.std.specs.Prelude.{◌≡◌, ℕ, ◌<◌, true, ◌++◌}
+use Rattle.std.specs.Prelude.{◌≡◌, ◌<◌, true, ◌++◌}
 use Rattle.wordset.specs.Words.{some_below, has_some}
 use Rattle.certificate.specs.declared.Version.{Version}
 use Rattle.certificate.specs.Spelling.{Lines, Registers, Line, RoutineIs, FactIs, ExitIs, CellIs, EquationIs, End, lines_of, ended, all_ended, version_text, text}

@@ -1,4 +1,4 @@
-use Rattle.std.proofs.Common.{◌≡◌, ◌∙◌, ℕ, List, Some, sym, refl, ap, arith}
+use Rattle.std.proofs.Common.{◌≡◌, ◌∙◌, List, Some, sym, refl, ap, arith}
 use Rattle.std.proofs.lemmas.Bool.{false≢true}
 use Rattle.certificate.specs.declared.CertificateFault.TheVariants as faults
 use Rattle.certificate.specs.declared.packed.Run.{Run}

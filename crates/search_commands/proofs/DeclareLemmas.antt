@@ -7,7 +7,6 @@ use Rattle.certificate.specs.Kept as certified
 use Rattle.proposer.specs.Proposals.{AreNeeded, Fits, IsListed, IsShown}
 use Rattle.proposer.specs.declared.Proposal.{Proposal}
 use Rattle.proposer.specs.declared.Verdict.TheVariants.{Safe}
-use Rattle.verdict_texts.proofs.CheckLemmas.{kept_sets}
 use Rattle.search_commands.specs.DeclareText.{IsBare, IsProposalOf}
 use Rattle.options.specs.declared.DeclareOptions.{DeclareOptions}
 use Rattle.command_parts.specs.declared.status.Status.{Status}
@@ -37,7 +36,7 @@ shown_proposal {A = A} options image p c fits shown listed needed unlisted is =
       bare = λ refused. done_not_refused refused;
       safe = λ done. kept.0;
       listed = λ done asked. let lists : IsListed {A = A} p.declaration (Safe c) = rw is at listed asked in lists;
-      needed = λ done asked. let all : AreNeeded {A = A} image p.declaration (Safe c) = rw is at needed asked in record { lines = certified.meaning c; lines_are = kept.1.0; of_words = kept_sets c; version_is = kept.1.1; valid = kept.2; needed = all };
+      needed = λ done asked. let all : AreNeeded {A = A} image p.declaration (Safe c) = rw is at needed asked in record { lines = certified.meaning c; lines_are = kept.1.0; version_is = kept.1.1; valid = kept.2; needed = all };
     }
 
 -- without one

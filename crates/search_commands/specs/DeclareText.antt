@@ -8,7 +8,6 @@ use Rattle.policy.specs.Runs.{IsSafe}
 use Rattle.certificate.specs.Reading.{AreLines, certificate_of}
 use Rattle.certificate.specs.Spelling.{Lines}
 use Rattle.judge.specs.Conditions.{IsValid}
-use Rattle.judge.specs.Laws.{SetsAreOfWords}
 use Rattle.proposer.specs.Needed.{ReadsAreNeeded}
 use Rattle.verdict_texts.specs.CheckText.{checked_case}
 use Rattle.options.specs.declared.DeclareOptions.{DeclareOptions}
@@ -28,12 +27,11 @@ pub record IsDeclarationFor (options : DeclareOptions) (text : List ℕ) : Type 
 abbrev pub IsBare : DeclareOptions → List ℕ → Type 0
 IsBare options text = (is : IsDeclarationFor options text) × (is.declaration.reads ≡ None)
 
--- Every condition holds of some certificate, in the version of the declared machine, whose sets are of words; and by its facts
+-- Every condition holds of some certificate, in the version of the declared machine; and by its facts
 -- some possible word may read each cell of the list of reads.
 pub record ListsNeeded (image : List (Option ℕ)) (d : Declaration) : Type 0 where
   pub lines : Lines
   pub lines_are : AreLines lines
-  pub of_words : SetsAreOfWords (certificate_of lines)
   pub version_is : lines.version ≡ version_of d.profile
   pub valid : IsValid (checked_case image d lines)
   pub needed : ReadsAreNeeded (checked_case image d lines)

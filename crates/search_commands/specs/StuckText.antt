@@ -7,7 +7,6 @@ use Rattle.analyser.specs.Versions.{version_of}
 use Rattle.certificate.specs.Reading.{AreLines, certificate_of}
 use Rattle.certificate.specs.Spelling.{Lines}
 use Rattle.declaration.specs.Declaration.{Declaration}
-use Rattle.judge.specs.Laws.{SetsAreOfWords}
 use Rattle.judge.specs.declared.judging.Refusal.{Refusal}
 use Rattle.reasons.specs.Reasons.{Explains}
 use Rattle.reasons.specs.Stuck.{EachFailsByLinesAlone, IsToldOf, NoneFailsBefore}
@@ -46,7 +45,7 @@ pub record IsReport (image : List (Option ℕ)) (d : Declaration) (draft : Lines
   pub report_is : report ≡ stuck_text at lines
 
 -- The frames are a tape, the text is that of a declaration; these are the lines of a search that is stuck, by some draft of a
--- certificate, in the version of the declared machine, whose sets are of words.
+-- certificate, in the version of the declared machine.
 pub record IsStuck (frames text : Option (List ℕ)) (report : List ℕ) : Type 0 where
   pub image : List (Option ℕ)
   pub tape : HasImage frames image
@@ -54,6 +53,5 @@ pub record IsStuck (frames text : Option (List ℕ)) (report : List ℕ) : Type 
   pub declares : HasDeclaration text declaration
   pub draft : Lines
   pub lines_are : AreLines draft
-  pub of_words : SetsAreOfWords (certificate_of draft)
   pub version_is : draft.version ≡ version_of declaration.profile
   pub is : IsReport image declaration draft report

@@ -5,7 +5,6 @@ use Rattle.certificate.specs.Spelling.{text as spelled}
 use Rattle.command_parts.specs.Faults.{fault_of_guess}
 use Rattle.command_parts.specs.declared.status.Status.TheVariants.{Done}
 use Rattle.command_parts.proofs.AnswerLemmas.{nothing_written, outcome_written, two_good, two_refused, write_follows}
-use Rattle.verdict_texts.proofs.CheckLemmas.{kept_sets}
 use Rattle.search_commands.proofs.guessing.guess.Goals as goal
 
 pub returns-in_err-program-clause-reads : goal.returns-in_err-program-clause-reads
@@ -42,7 +41,6 @@ returns-clause-guessed g c =
       is = record {
         lines = lines_of c.in_ok-claims.claims;
         lines_are = c.in_ok-claims.ensures.lines;
-        of_words = kept_sets c.in_ok-claims.claims;
         version_is = c.in_ok-claims.ensures.version;
         guess_is = refl;
         accepted = record { valid = c.in_ok-claims.ensures.accepted.valid; safe = c.in_ok-claims.ensures.accepted.safe };

@@ -76,10 +76,34 @@ in_main_end : RegistersEnd (record { ac = all_words; mq = all_words; link = all_
 in_main_end = (registers all_words all_past, λ o past. refl)
 
 all_end : Each SetsEnd (lines_of lines)
-all_end =
-    ((one_past 0o203 4096 (omega arith), λ v past. refl),
-    (in_main_end, ((registers (one 0) (one_past 0 4096 (omega arith)), λ o past. refl), (in_main_end, (one_past 0 4096 (omega arith), (in_main_end, (in_main_end, (in_main_end, (in_main_end,
-    ((registers all_words all_past, one_past 0 8 (omega arith)), (registers all_words all_past, (tt, tt))))))))))))
+all_end = (
+  (one_past 0o203 4096 (omega arith), λ v past. refl),
+  (
+    in_main_end,
+    (
+      (registers (one 0) (one_past 0 4096 (omega arith)), λ o past. refl),
+      (
+        in_main_end,
+        (
+          one_past 0 4096 (omega arith),
+          (
+            in_main_end,
+            (
+              in_main_end,
+              (
+                in_main_end,
+                (
+                  in_main_end,
+                  ((registers all_words all_past, one_past 0 8 (omega arith)), (registers all_words all_past, (tt, tt))),
+                ),
+              ),
+            ),
+          ),
+        ),
+      ),
+    ),
+  ),
+)
 
 ordered : AreLines lines
 ordered = record {

@@ -10,7 +10,7 @@ use command_parts::status::{Fault, Status};
 use machine_commands::refuting::refute;
 use machine_commands::watching::watch;
 use program_files::drafted::{need_rereading, report_stuck};
-use program_files::files::{Outlet, finish, is_read_once, open_input, open_output};
+use program_files::files::{Outlet, finish, open_input, open_output};
 use program_files::saving::{Saving, save_answer, save_proposed};
 use program_files::stuck::{Stuck, answer_message, stuck_message};
 use program_files::tellers::{report_to, tell_to};
@@ -166,8 +166,7 @@ fn tell_stuck<R: Files + Print + Eprint>(
     stuck: &Stuck<'_>,
 ) -> Result<Status, Fault> {
     if asked.explained {
-        let is_whole = is_told_whole(rt, asked.tape, asked.declaration);
-        let told = stuck_message(alloc, stuck, is_whole)?;
+        let told = stuck_message(alloc, stuck)?;
         let _ = put(&mut tell_to(rt), told.as_bytes());
     }
     if let Some(name) = asked.report {
@@ -177,11 +176,6 @@ fn tell_stuck<R: Files + Print + Eprint>(
         return Ok(Status::Refused);
     }
     Err(Fault::Guess(GuessFault::Stuck(stuck.at)))
-}
-
-/// Whether all is told of the program of these files where a search is stuck: not of standard input and pipes.
-fn is_told_whole<R: Files>(rt: &R, tape: &str, declaration: &str) -> bool {
-    !is_read_once(rt, tape) && !is_read_once(rt, declaration)
 }
 
 /// Says whether the program of a file's tape keeps its declaration, or the one that is proposed for it.
@@ -269,8 +263,7 @@ fn verify_with_reasons<R: Files + Input + Print + Eprint>(
     let image = tape_from(&mut frames)?;
     let promised = declaration_from(alloc, &mut text)?;
     let found = verify_message(alloc, &image, &promised, &asked.options.search)?;
-    let is_whole = is_told_whole(rt, asked.tape, declaration);
-    let told = answer_message(alloc, &image, &promised, &found, is_whole)?;
+    let told = answer_message(alloc, &image, &promised, &found)?;
     put(&mut Writes::new(io::writer(rt)), told.as_bytes())?;
     let saving = Saving {
         save: asked.save,

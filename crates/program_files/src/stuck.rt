@@ -57,20 +57,12 @@ fn stuck_line(alloc: Global, at: Word) -> Result<Message<Global>, AllocError> {
     Ok(Message::of(alloc, line.into_bytes()))
 }
 
-/// What is told of a search that is stuck; of standard input and of pipes its line, and why it is stuck, are all.
+/// What is told of a search that is stuck: its line, why it is stuck, and what to do.
 #[inline(never)]
-pub fn stuck_message(
-    alloc: Global,
-    stuck: &Stuck<'_>,
-    is_whole: bool,
-) -> Result<Message<Global>, AllocError> {
+pub fn stuck_message(alloc: Global, stuck: &Stuck<'_>) -> Result<Message<Global>, AllocError> {
     let mut told = stuck_line(alloc, stuck.at)?;
     let why = draft_message(alloc, stuck.image, stuck.declaration, stuck.draft, stuck.at)?;
-    if is_whole {
-        push_stuck(alloc, &mut told, stuck, &why)?;
-    } else {
-        told.push_message(&why)?;
-    }
+    push_stuck(alloc, &mut told, stuck, &why)?;
     Ok(told)
 }
 
@@ -81,12 +73,11 @@ pub fn answer_message(
     image: &Image,
     declaration: &Declaration<Global>,
     found: &AnswerMessage<Global>,
-    is_whole: bool,
 ) -> Result<Message<Global>, AllocError> {
     let mut told = Message::new(alloc);
     told.push_text(&found.line)?;
     match (&found.answer, &found.draft) {
-        (Answer::NotKnown(Lack::Stuck(at)), Some(draft)) if is_whole => {
+        (Answer::NotKnown(Lack::Stuck(at)), Some(draft)) => {
             let stuck = Stuck {
                 image,
                 declaration,

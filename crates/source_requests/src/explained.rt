@@ -52,7 +52,7 @@ pub fn verify_with_reasons<R: Files + Input + Print + Eprint>(
     let image = source.map.image();
     let declaration = source.declaration(alloc)?;
     let found = verify_message(alloc, image, &declaration, &options.search)?;
-    let told = answer_message(alloc, image, &declaration, &found, true)?;
+    let told = answer_message(alloc, image, &declaration, &found)?;
     tell_sourced(rt, alloc, source, &told)?;
     let saving = Saving {
         save,
@@ -189,7 +189,7 @@ fn tell_stuck<R: Files + Print + Eprint>(
     report: Option<&str>,
 ) -> Result<Status, Fault> {
     if explained {
-        let told = stuck_message(alloc, stuck, true)?;
+        let told = stuck_message(alloc, stuck)?;
         let lines = with_source_lines(alloc, source, &told)?;
         let _ = put(&mut tell_to(rt), &lines);
     }

@@ -3,18 +3,16 @@ use Rattle.std.specs.Prelude.{ℕ, ◌≡◌, ◌≤◌, true, IfSome, List, Opt
 use Rattle.streams.specs.Bytes.{Gave}
 use Rattle.certificate.specs.Spelling.{Lines}
 use Rattle.certificate.specs.Spelling as certificate
-use Rattle.certificate.specs.Reading.{AreLines, certificate_of}
+use Rattle.certificate.specs.Reading.{AreLines}
 use Rattle.certificate.specs.Faults.{most_bytes}
 use Rattle.certificate.specs.Serving.{IsUnanswered}
 use Rattle.certificate.specs.Serving as serving
-use Rattle.judge.specs.Laws.{SetsAreOfWords}
 use Rattle.declaration.specs.Declaration.{Declaration}
 use Rattle.command_parts.specs.Inputs.{HasDeclaration, HasImage, Input, TakesAtMost}
 
--- The bytes are the text of a certificate with these lines, whose sets are of words, and not too many.
+-- The bytes are the text of a certificate with these lines, and not too many.
 pub record IsTextOf (bytes : List ℕ) (lines : Lines) : Type 0 where
   pub lines_are : AreLines lines
-  pub of_words : SetsAreOfWords (certificate_of lines)
   pub text_is : bytes ≡ certificate.text lines
   pub few : length bytes ≤ most_bytes
 

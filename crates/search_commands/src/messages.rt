@@ -3,7 +3,9 @@
 
 ghost use Rattle.std.specs.Prelude.{◌≡◌, ◌++◌, false, [], IfOk, IfErr};
 ghost use Rattle.declaration.specs.Kept.{meaning};
-ghost use Rattle.analyser.specs.Attempts.{IsAcceptedIfFound, IsDraftIfStuck};
+ghost use Rattle.analyser.specs.Attempts.{IsAcceptedIfFound, IsDraftIfStuck, claimed_by};
+ghost use Rattle.certificate.specs.Kept.{meaning as lines_of};
+ghost use Rattle.certificate.specs.Reading.{AreLines};
 ghost use Rattle.command_parts.specs.Answers.{IsMemoryFault, ReadsTwo};
 ghost use Rattle.command_parts.specs.Faults.{fails_to_write};
 ghost use Rattle.command_parts.specs.Inputs.{HasDeclaration, HasImage, input};
@@ -194,7 +196,34 @@ fn answer_of<A: Allocator + Copy, D: Allocator>(
     }
 }
 
-/// The same, with the draft of a search that is stuck. One search is made for a certificate.
+/// The answer by what a search for a certificate came to.
+fn answer_by_attempt<A: Allocator + Copy, D: Allocator>(
+    alloc: A,
+    image: &Image,
+    declaration: &Declaration<D>,
+    options: &RefuteOptions,
+    attempt: Attempt<A>,
+) -> Result<Searched<A>, Fault>
+    requires accepted { IsAcceptedIfFound image.now declaration.now attempt }
+    requires lines { AreLines (lines_of (claimed_by attempt)) }
+    ensures answer { IfOk result (λ found.
+        IsAnswer image.now (meaning declaration.now) found.answer) }
+    ensures faults { IfErr result IsMemoryFault }
+{
+    match attempt {
+        Attempt::Found(certificate) => Ok(Searched {
+            answer: Answer::Yes(certificate),
+            draft: None,
+        }),
+        Attempt::Stuck(at, draft) => {
+            let lack = Lack::Stuck(at);
+            answer_on(alloc, image, declaration, options, lack, Some(draft))
+        }
+    }
+}
+
+/// The answer for a declaration that was given, with the draft of a search that is stuck. One search is made for a
+/// certificate.
 fn answer_with_draft<A: Allocator + Copy, D: Allocator>(
     alloc: A,
     image: &Image,
@@ -206,14 +235,7 @@ fn answer_with_draft<A: Allocator + Copy, D: Allocator>(
     ensures faults { IfErr result IsMemoryFault }
 {
     match guess_or_draft(alloc, image, declaration) {
-        Ok(Attempt::Found(certificate)) => Ok(Searched {
-            answer: Answer::Yes(certificate),
-            draft: None,
-        }),
-        Ok(Attempt::Stuck(at, draft)) => {
-            let lack = Lack::Stuck(at);
-            answer_on(alloc, image, declaration, options, lack, Some(draft))
-        }
+        Ok(attempt) => answer_by_attempt(alloc, image, declaration, options, attempt),
         Err(fault) => answer_after(alloc, image, declaration, options, fault),
     }
 }

@@ -82,47 +82,47 @@ impl Misuse {
     pub fn text(&self) -> &'static str {
         match self {
             Misuse::NotText =>
-                "an argument isn't text in UTF-8: rename the file, or give it on standard input",
+                "an argument is not text in UTF-8: rename the file, or give it on standard input",
             Misuse::Show =>
-                "bad value for '--show': it has octal addresses and ranges, such as 0324 0400-0417",
+                "bad value for '--show': expected octal addresses and ranges, such as 0324 0400-0417",
             Misuse::EventsAndOperator =>
-                "'--events' can't stand beside the options for the reader, the punch, the teletype and the switches",
+                "'--events' cannot be combined with the options for the reader, the punch, the teletype and the switches",
             Misuse::ListAndOperator =>
-                "EVENTS can't stand beside the options for the reader, the keys, the switches and the rounds",
+                "EVENTS cannot be combined with the options for the reader, the keys, the switches and the rounds",
             Misuse::DeclarationAndStart =>
-                "a declaration has its own start and machine: '--start' and '--profile' can't stand beside it",
+                "a declaration determines the start and the machine: '--start' and '--profile' cannot be combined with it",
             Misuse::TapeAndSource =>
-                "'--source' stands in place of TAPE: there is an operand too many",
+                "'--source' takes the place of TAPE: too many operands",
             Misuse::NoOutput =>
-                "'-o OUT' is missing: beside '--source' each operand here is taken for an input",
+                "'-o OUT' is missing: with '--source', each operand here is taken for an input",
             Misuse::NoEvents =>
-                "EVENTS is missing, or an option in its place, such as '--steps 1000'",
-            Misuse::PunchToOutput => "'--punch' takes the name of a file",
-            Misuse::Seed => "bad value for '--seed': it is a number from 0 to 99999999",
-            Misuse::Profile => "bad value for '--profile': it is 8i or 8e",
-            Misuse::BothStandardInput => "'-' stands for standard input in one place alone",
-            Misuse::OutputIsInput => "OUT is also an input: the result goes to a file of its own",
+                "EVENTS is missing, or an option that takes its place, such as '--steps 1000'",
+            Misuse::PunchToOutput => "'--punch' needs the name of a file",
+            Misuse::Seed => "bad value for '--seed': expected a number from 0 to 99999999",
+            Misuse::Profile => "bad value for '--profile': expected 8i or 8e",
+            Misuse::BothStandardInput => "'-' can stand for standard input in only one place",
+            Misuse::OutputIsInput => "OUT is also an input: the result needs a file of its own",
             Misuse::OutputIsSource =>
-                "OUT ends as the names of sources do: it takes the tape, and stands before the sources",
+                "OUT is named like a source: it receives the tape, and comes before the sources",
             Misuse::PlacedIsSource =>
-                "OUT ends as the names of sources do: it takes the declaration, and stands before the sources",
+                "OUT is named like a source: it receives the declaration, and comes before the sources",
             Misuse::ResultIsSource =>
-                "OUT ends as the names of sources do: the result goes to a file with another ending",
+                "OUT is named like a source: the result needs a file name with another ending",
             Misuse::SourceIsKept =>
-                "OUT is a file that this command didn't write: it stays; give OUT another name, or --force to replace it",
+                "OUT is a file that this command did not write, so it is kept: give OUT another name, or use --force to replace it",
             Misuse::ReportIsSource =>
-                "the report's name ends as those of sources do: it goes to a file with another ending",
+                "the file of '--report' is named like a source: the report needs a file name with another ending",
             Misuse::PunchIsTaken =>
-                "the punch's file is also an input: what is punched goes to a file of its own",
+                "the file of '--punch' is also an input: what is punched needs a file of its own",
             Misuse::PunchIsSource =>
-                "the punch's file ends as the names of sources do: what is punched goes to a file with another ending",
+                "the file of '--punch' is named like a source: what is punched needs a file name with another ending",
             Misuse::SaveIsFolder =>
-                "'--save NAME' has no name of a file: NAME is what the files' names begin with, such as found",
+                "'--save NAME' needs a file name: the names of the files begin with NAME, such as found",
             Misuse::SaveIsTaken => "'--save NAME' would replace an input: give another NAME",
             Misuse::ReportIsTaken =>
-                "the report is also an input or OUT: it goes to a file of its own",
+                "the file of '--report' is also an input or OUT: the report needs a file of its own",
             Misuse::ReportOfStandardInput =>
-                "'-' can't be read twice: with '--report' the inputs are files",
+                "'-' cannot be read twice: with '--report', the inputs must be files",
         }
     }
 }

@@ -73,7 +73,7 @@ pub struct Saving<'a> {
 /// Tells that a file stays as it is, since it isn't of the command's making.
 fn tell_kept<R: Eprint>(rt: &R, path: &str) -> Status {
     let told = eprintln!(rt;
-        "error: {path} is a file that this command didn't write: it stays; give another '--save NAME', or --force to replace it"
+        "error: {path} is a file that this command did not write, so it is kept: give another '--save NAME', or use --force to replace it"
     );
     match told {
         Ok(()) | Err(_) => Status::Usage,

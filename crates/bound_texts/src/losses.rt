@@ -26,11 +26,11 @@ impl Loss {
     /// What is told of it.
     pub(crate) fn told(self) -> &'static [u8] {
         match self {
-            Loss::ClearingSkip => b"a skip that clears tells nothing of it",
-            Loss::Complement => b"a complement on the way to a test drops what is known of it",
+            Loss::ClearingSkip => b"a skip that also clears shows nothing about it",
+            Loss::Complement => b"a complement before a test loses what is known about it",
             Loss::Call => b"the routine may write it",
             Loss::Store => b"the store through a pointer may reach it",
-            Loss::Meeting => b"on another way to the next place it may hold other words",
+            Loss::Meeting => b"on another path to the next address it may hold other words",
         }
     }
 }

@@ -91,8 +91,7 @@ impl Misuse {
                 "EVENTS cannot be combined with the options for the reader, the keys, the switches and the rounds",
             Misuse::DeclarationAndStart =>
                 "a declaration determines the start and the machine: '--start' and '--profile' cannot be combined with it",
-            Misuse::TapeAndSource =>
-                "'--source' takes the place of TAPE: too many operands",
+            Misuse::TapeAndSource => "'--source' takes the place of TAPE: too many operands",
             Misuse::NoOutput =>
                 "'-o OUT' is missing: with '--source', each operand here is taken for an input",
             Misuse::NoEvents =>

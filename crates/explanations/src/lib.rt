@@ -157,7 +157,9 @@ pub fn push_advice<A: Allocator>(text: &mut String<A>, code: &str) -> Result<(),
 ///
 /// `AllocError` if memory was refused.
 pub fn push_codes<A: Allocator>(text: &mut String<A>) -> Result<(), AllocError> {
-    text.push_str("pdp8 explain CODE says what a code asks or means, and what to do. The codes:\n")?;
+    text.push_str(
+        "pdp8 explain CODE says what a code asks or means, and what to do. The codes:\n",
+    )?;
     push_table(text, conditions())?;
     push_table(text, rules())?;
     push_table(text, faults())

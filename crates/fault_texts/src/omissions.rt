@@ -25,9 +25,9 @@ enum Omission {
     Stores(Word),
     /// It stores into this entry, and is no ISZ of the routine itself.
     StoresInEntry(Word),
-    /// It steps this pointer, which is no variable.
+    /// It steps this pointer, which is not a variable.
     Steps(Word),
-    /// It calls this address, which is no entry, in no body and no variable.
+    /// It calls this address, which is not an entry, in no body and no variable.
     Calls(Word),
     /// It calls this address, which is in a body or a variable.
     CallsIntoBody(Word),
@@ -195,13 +195,18 @@ fn push_breach<L: Lines>(text: &mut L, at: Word, omission: &Omission) -> Result<
                 text,
                 b"",
                 at,
-                b" is in a body, and the tape has no word there",
+                b" is in a body, but the tape has no word there",
             )
         }
-        Omission::Unsupported => text.push_text(b"it is no word that the machine has"),
-        Omission::OfThe8e => text.push_text(b"the PDP-8/E alone has this word"),
+        Omission::Unsupported => text.push_text(b"the machine does not implement this word"),
+        Omission::OfThe8e => text.push_text(b"only the PDP-8/E implements this word"),
         Omission::Stores(cell) => {
-            push_around(text, b"it stores into ", *cell, b", which is no variable")
+            push_around(
+                text,
+                b"it stores into ",
+                *cell,
+                b", which is not a variable",
+            )
         }
         Omission::StoresInEntry(entry) => {
             push_around(text, b"it stores into ", *entry, b", which is an entry")
@@ -209,27 +214,27 @@ fn push_breach<L: Lines>(text: &mut L, at: Word, omission: &Omission) -> Result<
         Omission::Steps(cell) => {
             push_around(
                 text,
-                b"it steps the pointer ",
+                b"it increments the pointer ",
                 *cell,
-                b", which is no variable",
+                b", which is not a variable",
             )
         }
         Omission::Calls(place) | Omission::CallsIntoBody(place) | Omission::CallsAutoIndex(place) =>
-            { push_around(text, b"it calls ", *place, b", which is no entry") }
+            { push_around(text, b"it calls ", *place, b", which is not an entry") }
         Omission::Jumps(place) | Omission::JumpsAcross(place) => {
             push_around(
                 text,
                 b"it jumps to ",
                 *place,
-                b", which isn't in the same body",
+                b", which is not in the same body",
             )
         }
         Omission::Halts => text.push_text(b"it halts, and no halt is declared there"),
         Omission::GoesOn(next) | Omission::GoesAcross(next) => push_around(
             text,
-            b"the operator may go on at ",
+            b"the operator may continue at ",
             *next,
-            b", which isn't in the same body",
+            b", which is not in the same body",
         ),
     }
 }
@@ -237,15 +242,15 @@ fn push_breach<L: Lines>(text: &mut L, at: Word, omission: &Omission) -> Result<
 /// What to do about what is omitted, where that names no address.
 fn fixed_remedy(omission: &Omission) -> Option<&'static [u8]> {
     match omission {
-        Omission::NoWord => Some(b"take it out, or end the program before it"),
-        Omission::Unsupported => Some(b"is it data? Then take it out of the body"),
+        Omission::NoWord => Some(b"remove it from the body, or end the program before it"),
+        Omission::Unsupported => Some(b"if it is data, remove it from the body"),
         Omission::OfThe8e => Some(b"add `profile 8e` if the program is for one"),
         Omission::StoresInEntry(_) => {
-            Some(b"let only a JMS write there, and an ISZ of its own routine")
+            Some(b"let only a JMS, or an ISZ of the routine itself, write there")
         }
         Omission::CallsAutoIndex(_) => Some(b"no routine can begin in 0010 to 0017"),
         Omission::Jumps(_) => Some(b"add it there"),
-        Omission::JumpsAcross(_) => Some(b"call a routine by JMS, and leave it by a return"),
+        Omission::JumpsAcross(_) => Some(b"call a routine with a JMS, and leave it with a return"),
         _ => None,
     }
 }
@@ -261,11 +266,11 @@ fn push_remedy<L: Lines>(text: &mut L, at: Word, omission: &Omission) -> Result<
             text,
             b"add `sub ",
             *entry,
-            b" body .. returns ..`, and take it out of the body and the variables",
+            b" body .. returns ..`, and remove it from the body and the variables",
         ),
         Omission::Halts => {
             push_advice(text, b"add `stop ", at, b"`, or `pause ")?;
-            push_advice(text, b"", at, b"` if the operator may go on")
+            push_advice(text, b"", at, b"` if the operator may continue")
         }
         Omission::GoesOn(_) => {
             push_advice(
@@ -321,7 +326,7 @@ pub fn push_stuck_remedy<L: Lines, D: Allocator>(
         | Omission::CallsIntoBody(_)
         | Omission::Jumps(_)
         | Omission::Halts
-        | Omission::GoesOn(_) => text.push_text(b"if that is meant, ")?,
+        | Omission::GoesOn(_) => text.push_text(b"if this is intended, ")?,
     }
     push_remedy(text, at, &omission)?;
     text.push_text(b"\n")
@@ -350,7 +355,7 @@ pub fn push_omissions<L: Lines, D: Allocator>(
             continue;
         };
         if found == 0 {
-            text.push_text(b"whatever a certificate says, if a run comes there:\n")?;
+            text.push_text(b"no certificate can fix these, if a run reaches them:\n")?;
         }
         found = found.saturating_add(1);
         if found > MOST {

@@ -83,7 +83,7 @@ fn tell_kept<R: Eprint>(rt: &R, path: &str) -> Status {
 /// Tells that a file can't be written, and which one, if that is asked for.
 fn tell_unwritten<R: Eprint>(rt: &R, fault: Fault, path: &str, explained: bool) -> Status {
     if explained {
-        tell_of(rt, fault, path, "can't be made or written")
+        tell_of(rt, fault, path, "cannot be created or written")
     } else {
         tell(rt, fault)
     }

@@ -45,10 +45,10 @@ pub fn tell_size<R: Eprint>(rt: &R, fault: PalFault, names: &[&str]) -> Status {
     let count = names.len();
     let told = match names.get(fault.part.wrapping_sub(1)) {
         Some(name) => eprintln!(rt;
-            "{name}: TL: the part has more than 65536 bytes\ncut it into parts, in order, each but the last with PAUSE at its end"
+            "{name}: TL: the part has more than 65536 bytes\nsplit it into parts, in order, each except the last with PAUSE at its end"
         ),
         None => eprintln!(rt;
-            "TL: the source has {count} parts, and 16 are the most\njoin some of them, without the PAUSE between them"
+            "TL: the source has {count} parts, and the maximum is 16\njoin some of them, without the PAUSE between them"
         ),
     };
     match told {

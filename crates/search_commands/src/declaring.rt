@@ -34,7 +34,7 @@ pub(crate) fn push_unfollowed<A: Allocator>(
     addresses: &WordSet,
 ) -> Result<(), AllocError> {
     for at in addresses.iter() {
-        push_place(text, b"/ It isn't known where the program goes on at ", at)?;
+        push_place(text, b"/ It is not known where the program goes on at ", at)?;
         text.extend_from_slice(b".\n")?;
     }
     Ok(())
@@ -45,7 +45,7 @@ pub(crate) fn push_lack<A: Allocator>(text: &mut Vec<u8, A>, lack: Lack) -> Resu
     match lack {
         Lack::Stuck(at) => push_place(text, b"/ No certificate is found: stuck at ", at)?,
         Lack::TurnsSpent => {
-            text.extend_from_slice(b"/ No certificate is found within the turns that there are")?
+            text.extend_from_slice(b"/ No certificate is found within the limit of turns")?
         }
     }
     text.extend_from_slice(b".\n")
@@ -75,7 +75,7 @@ pub(crate) fn push_seen<A: Allocator>(
     text.extend_from_slice(Buffer::new().format(seen.runs).as_bytes())?;
     text.extend_from_slice(b" runs of ")?;
     text.extend_from_slice(Buffer::new().format(seen.steps).as_bytes())?;
-    text.extend_from_slice(b" steps in all, and not shown.\n")
+    text.extend_from_slice(b" steps in all, but not proved.\n")
 }
 
 /// What is proposed for a tape's words, with a list of reads where one was asked for.

@@ -297,9 +297,9 @@ fn tell_unread<R: Eprint>(rt: &R, alloc: Global, names: &[&str], parts: &[&[u8]]
         return;
     };
     let _ = if names.len() > index.saturating_add(2) {
-        eprintln!(rt; "{name} ends the program by $: {unread} and what follows aren't read")
+        eprintln!(rt; "{name} ends the program with $: {unread} and what follows are not read")
     } else {
-        eprintln!(rt; "{name} ends the program by $: {unread} isn't read")
+        eprintln!(rt; "{name} ends the program with $: {unread} is not read")
     };
 }
 

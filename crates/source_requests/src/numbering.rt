@@ -155,9 +155,9 @@ fn given_declaration<R: Files + Input>(
 fn said_of(fault: PlaceFault) -> &'static str {
     match fault {
         PlaceFault::BadLine(_) =>
-            "a word with a capital letter is a symbol, a symbol and + or - a number, or two addresses with - between them",
+            "expected a symbol, a symbol and + or - a number, or two addresses with - between them, in each word with a capital letter",
         PlaceFault::NoSymbol(_) => "the source defines no such symbol",
-        PlaceFault::PastMemory(_) => "an address is from 0000 to 7777",
+        PlaceFault::PastMemory(_) => "an address must be from 0000 to 7777",
         PlaceFault::Backwards(_) => "the range ends below its first address",
         PlaceFault::TooMany => "the declaration has more than 16384 bytes",
         PlaceFault::NoMemory => "memory was refused",
@@ -277,7 +277,7 @@ fn is_asked_twice(task: &Task<'_>, promise: Promise) -> bool {
 ///
 /// # Errors
 ///
-/// `Device` where a file can't be opened or read, and `NoMemory`.
+/// `Device` where a file cannot be opened or read, and `NoMemory`.
 pub fn read_all<R: Files + Input + Eprint>(
     rt: &R,
     alloc: Global,
@@ -289,7 +289,7 @@ pub fn read_all<R: Files + Input + Eprint>(
             return Err(fault);
         }
         let name = unopened(&sourced.sources, parts.len());
-        return Ok(Prepared::Told(tell_of(rt, fault, name, "can't be opened or read")));
+        return Ok(Prepared::Told(tell_of(rt, fault, name, "cannot be opened or read")));
     }
     let Promised { text, promise } = given_declaration(rt, alloc, sourced, &parts)?;
     if is_asked_twice(&sourced.task, promise) {

@@ -90,7 +90,7 @@ pub fn verify_program<R: Files + Input + Print + Eprint>(
 /// Says on standard error that the declaration of an answer is proposed.
 pub(crate) fn tell_proposed<R: Eprint>(rt: &R) {
     let _ = eprintln!(rt;
-        "no declaration is given, and the source has no /: line: the answer is on one that is proposed"
+        "no declaration is given, and the source has no /: line: the answer is about a proposed declaration"
     );
 }
 

@@ -31,10 +31,10 @@ fn about_pause<A: Allocator + Copy>(
     Ok(Some(Finding {
         start: token.start,
         end: token.end,
-        wrong: String::from_str(alloc, "PAUSE says that a part follows, and none does")?,
+        wrong: String::from_str(alloc, "PAUSE says that another part follows, but none does")?,
         advice: String::from_str(
             alloc,
-            "write $ or leave it out, or name the part that follows as one more SOURCE",
+            "write $ in its place or remove it, or name the part that follows as another SOURCE",
         )?,
     }))
 }
@@ -301,5 +301,5 @@ pub fn push_faults<A: Allocator + Copy>(
             break;
         }
     }
-    text.push_str("there may be more: mend these first\n")
+    text.push_str("there may be more faults: fix these first\n")
 }

@@ -72,7 +72,10 @@ fn about_order_mark<A: Allocator + Copy>(alloc: A) -> Result<Finding<A>, AllocEr
     Ok(Finding {
         start: 0,
         end: 3,
-        wrong: String::from_str(alloc, "a byte order mark stands in front of the source")?,
+        wrong: String::from_str(
+            alloc,
+            "there is a byte order mark at the beginning of the source",
+        )?,
         advice: String::from_str(
             alloc,
             "save the file as ASCII, or as UTF-8 without a byte order mark",
@@ -111,10 +114,10 @@ fn about_digits<A: Allocator + Copy>(
     let digits = bytes_between(bytes, token.start, token.end);
     let mut wrong = String::new(alloc);
     push_characters(&mut wrong, digits)?;
-    wrong.push_str(" isn't octal")?;
+    wrong.push_str(" is not octal")?;
     let mut advice = String::from_str(
         alloc,
-        "numbers are octal until a statement DECIMAL: write ",
+        "numbers are octal until a DECIMAL statement: write ",
     )?;
     match number_of(true, digits) {
         Ok(word) => {
@@ -123,7 +126,7 @@ fn about_digits<A: Allocator + Copy>(
         }
         Err(_) => advice.push_str("digits up to 7")?,
     }
-    advice.push_str(", or that statement before it")?;
+    advice.push_str(", or put that statement before it")?;
     Ok(Finding {
         start: token.start,
         end: token.end,

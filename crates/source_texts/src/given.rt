@@ -24,17 +24,19 @@ fn push_other_advice<A: Allocator + Copy>(
     if first == second {
         text.push_str("it got that value on ")?;
         push_line_of(alloc, text, source, one, other.part)?;
-        return text.push_str("; a symbol has one in the whole source: use another symbol");
+        return text.push_str(
+            "; a symbol has only one value in the whole source: use another symbol",
+        );
     }
     let name = Name::new(first);
     let letters = letters_of(&name);
-    text.push_str("six characters of a symbol count: ")?;
+    text.push_str("only six characters of a symbol count: ")?;
     push_written(text, source, one)?;
     write!(text, " is {letters}, defined on ")?;
     push_line_of(alloc, text, source, one, other.part)?;
     text.push_str(", and so is ")?;
     push_written(text, source, other)?;
-    text.push_str(": use symbols that differ in their first six")
+    text.push_str(": use symbols that differ in the first six")
 }
 
 /// What is told of a symbol that is given another value than it has: this one.
@@ -53,7 +55,7 @@ fn about_other_value<A: Allocator + Copy>(
         Some(first) => {
             write!(
                 wrong,
-                " has the value {had} already, and would be {value} here"
+                " already has the value {had}, and would be {value} here"
             )?;
             push_other_advice(alloc, &mut advice, source, first, spot)?;
         }
@@ -82,12 +84,12 @@ fn about_direction<A: Allocator + Copy>(
 ) -> Result<Finding<A>, AllocError> {
     let mut wrong = String::new(alloc);
     push_written(&mut wrong, source, spot)?;
-    wrong.push_str(" can't be a symbol")?;
+    wrong.push_str(" cannot be a symbol")?;
     let mut advice = String::new(alloc);
     if count_characters(written(source, spot)) > direction.len() {
         write!(
             advice,
-            "six characters of a symbol count, so it is {direction}: "
+            "only six characters of a symbol count, so it is {direction}: "
         )?;
     }
     advice.push_str("use another symbol")?;
@@ -180,7 +182,7 @@ fn about_new<A: Allocator + Copy>(
     wrong.push_str(" would be the 1025th symbol")?;
     let advice = String::from_str(
         alloc,
-        "a source has at most 1024 symbols of its own: refer to cells near by .+1 or .-1",
+        "a source has at most 1024 symbols of its own: refer to nearby cells with .+1 or .-1",
     )?;
     Ok(Finding {
         start: spot.start,

@@ -27,7 +27,7 @@ fn about_undefined<A: Allocator + Copy>(
     if known.spot(&name).is_some() {
         wrong.push_str(" has no value yet")?;
         push_defined(alloc, &mut advice, source, known, &name, part)?;
-        advice.push_str(" has to stand before an origin or an assignment that uses it")?;
+        advice.push_str(" must come before an origin or an assignment that uses it")?;
     } else {
         wrong.push_str(" has no value")?;
         push_undefined_advice(alloc, &mut advice, source, known, &name, part)?;
@@ -160,9 +160,9 @@ fn wrong_of<A: Allocator>(
     let mut wrong = String::new(alloc);
     push_address(&mut wrong, bytes, address, value)?;
     if is_on_page_zero {
-        wrong.push_str(", and Z asks for page zero")?;
+        wrong.push_str(", but Z requires page zero")?;
     } else {
-        write!(wrong, ", and this word, at {here}, on ")?;
+        write!(wrong, ", but this word is at {here}, on ")?;
         push_page(&mut wrong, here)?;
     }
     Ok(wrong)
@@ -176,15 +176,15 @@ fn push_advice<A: Allocator>(
     operation: &[u8],
 ) -> Result<(), AllocError> {
     if reference.is_on_page_zero && is_same_page {
-        return text.push_str("leave out Z: the address is on the page of this word");
+        return text.push_str("remove Z: the address is on the page of this word");
     }
     if reference.is_indirect {
         return text.push_str(
-            "I goes by a word on this page or on page zero: write one there that has the address",
+            "I uses a word on this page or on page zero: write one there that holds the address",
         );
     }
     text.push_str(
-        "write a word with that address on this page, with a tag, and refer to it by I, as in ",
+        "write a word with that address on this page, with a tag, and refer to it with I, as in ",
     )?;
     push_characters(text, operation)?;
     text.push_str(" I TAG")

@@ -164,7 +164,9 @@ fn explain_code<R: Print + Eprint>(
         None => push_codes(&mut text)?,
         Some(code) => {
             if !push_explanations(&mut text, code)? {
-                let told = eprintln!(rt; "error: unknown code '{code}': 'pdp8 explain' lists all codes");
+                let told = eprintln!(rt;
+                    "error: unknown code '{code}': 'pdp8 explain' lists all codes"
+                );
                 return match told {
                     Ok(()) | Err(_) => Ok(Status::Usage),
                 };

@@ -60,7 +60,7 @@ pub(crate) fn write_routine<A: Allocator, B: Allocator, D: Allocator, C: Allocat
     pen.word(routine.entry());
     match report.certificate.routine(routine.entry()) {
         Some(claimed) => write_claimed(pen, &claimed),
-        None => pen.item(b"nothing is claimed of it"),
+        None => pen.item(b"nothing is claimed about it"),
     }
     pen.item(b"returns by ");
     write_offsets(pen, routine);

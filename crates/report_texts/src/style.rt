@@ -30,7 +30,7 @@ pub fn opening(form: ReportForm, verdict: &Result<(), Refusal>) -> &'static [u8]
     match form {
         ReportForm::Text => b"",
         ReportForm::Page => match verdict {
-            Ok(()) => b"</h1>\n<p>Shown is that no run breaks the declaration.",
+            Ok(()) => b"</h1>\n<p>Proved: no run violates the declaration.",
             Err(_) => b"</h1>\n<p>This certificate shows nothing.",
         },
     }

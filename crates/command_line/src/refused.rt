@@ -1,4 +1,4 @@
-//! Why a command line isn't carried out.
+//! Why a command line is not carried out.
 
 use clap::Error;
 use clap::error::ErrorKind;
@@ -10,15 +10,15 @@ use word12::OctalFault;
 pub enum Refused {
     /// The command line is bad, or asks for help.
     CommandLine(Error),
-    /// Its arguments are those of a command, but can't stand so.
+    /// Its arguments are those of a command, but cannot be combined in this way.
     Misuse(Misuse),
-    /// The value of `--start` is no address.
+    /// The value of `--start` is not an address.
     Start(OctalFault),
-    /// The value of `--switches` is no word.
+    /// The value of `--switches` is not a word.
     Switches(OctalFault),
     /// The operand of this name is missing.
     NoOperand(&'static str),
-    /// The value of `--steps` is no number from 1 to this one.
+    /// The value of `--steps` is not a number from 1 to this one.
     Steps(u32),
     /// Memory was refused.
     Memory,
@@ -27,7 +27,7 @@ pub enum Refused {
 /// What is wrong with the arguments of a command line.
 #[derive(Clone, Copy)]
 pub enum Misuse {
-    /// An argument is no text.
+    /// An argument is not text.
     NotText,
     /// The value of `--show` has no cell, or something else than addresses and ranges.
     Show,
@@ -45,7 +45,7 @@ pub enum Misuse {
     NoEvents,
     /// The punch is to go to standard output.
     PunchToOutput,
-    /// The value of `--seed` is no number from 0 to 99,999,999.
+    /// The value of `--seed` is not a number from 0 to 99,999,999.
     Seed,
     /// The value of `--profile` is neither `8i` nor `8e`.
     Profile,
@@ -53,32 +53,32 @@ pub enum Misuse {
     BothStandardInput,
     /// The result is to go to an input.
     OutputIsInput,
-    /// A tape is to go to a file that is named as a source.
+    /// A tape is to go to a file that is named like a source.
     OutputIsSource,
-    /// A declaration in numbers is to go to a file that is named as a source.
+    /// A declaration in numbers is to go to a file that is named like a source.
     PlacedIsSource,
-    /// Another result is to go to a file that is named as a source.
+    /// Another result is to go to a file that is named like a source.
     ResultIsSource,
-    /// A source is to go to a file that is named as one, is there, and isn't of this command's making.
+    /// A source is to go to a file that is named like one, exists, and was not written by this command.
     SourceIsKept,
     /// The report is to go to an input, or where the result goes.
     ReportIsTaken,
-    /// The report is to go to a file that is named as a source.
+    /// The report is to go to a file that is named like a source.
     ReportIsSource,
     /// The punched bytes are to go to an input.
     PunchIsTaken,
-    /// The punched bytes are to go to a file that is named as a source.
+    /// The punched bytes are to go to a file that is named like a source.
     PunchIsSource,
     /// What is found is to go to files without a name.
     SaveIsFolder,
     /// What is found is to go to an input.
     SaveIsTaken,
-    /// There is a report, and standard input, which can't be read twice.
+    /// There is a report, and standard input, which cannot be read twice.
     ReportOfStandardInput,
 }
 
 impl Misuse {
-    /// What is told of it.
+    /// What is said about it.
     pub fn text(&self) -> &'static str {
         match self {
             Misuse::NotText =>

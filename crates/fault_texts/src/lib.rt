@@ -1,5 +1,5 @@
-//! The lines for people below the line of a fault: which file, which place or line, and what may stand
-//! there; and what a declaration leaves out. They are tested and not proved.
+//! The lines for people below the line of a fault: which file, which place or line, and what may stand there; and
+//! what a declaration leaves out. They are tested, not proved.
 #![tactic(auto)]
 
 mod forms;
@@ -26,11 +26,11 @@ pub struct FaultyFile<'a> {
     pub bytes: &'a [u8],
 }
 
-/// Adds the lines on a fault of this file. Of a fault that is no input's it adds none.
+/// Adds the lines on a fault of this file. For a fault that is not about an input it adds none.
 ///
 /// # Errors
 ///
-/// `NoMemory` where a growth was refused.
+/// `NoMemory` if memory was refused.
 pub fn push_fault<A: Allocator>(
     text: &mut String<A>,
     fault: Fault,
@@ -45,7 +45,7 @@ pub fn push_fault<A: Allocator>(
     }
 }
 
-/// Adds a line that is the name of a file and what is said of it.
+/// Adds a line that is the name of a file and what is said about it.
 pub(crate) fn push_said<A: Allocator>(
     text: &mut String<A>,
     file: &FaultyFile<'_>,

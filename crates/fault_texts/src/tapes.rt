@@ -1,4 +1,4 @@
-//! What is said of a tape that is refused.
+//! What is said about a tape that is refused.
 
 use crate::{FaultyFile, push_said};
 use bin_tape::TapeFault;

@@ -1,5 +1,5 @@
-//! What is said below the line of a fault under `--why`. The file is looked at once more for it, if it can be
-//! read twice; it is tested and not proved.
+//! What is said below the line of a fault under `--why`. The file is looked at once more for it, if it can be read
+//! twice; this is tested, not proved.
 
 use crate::files::{is_read_once, open_input};
 use crate::source_faults::{NO_WORD, output_name};
@@ -14,7 +14,7 @@ use std::rt::Files;
 use streams::read_at_most;
 use turns::{GuessFault, ProposeFault};
 
-/// What is said of a run that ends at a word that the machine doesn't have.
+/// What is said about a run that ends at a word that the machine does not have.
 const UNSUPPORTED: &str =
     "the machine does not implement the word there\nwhat to do: look at it with `pdp8 dump`; a word of the PDP-8/E needs --profile 8e; otherwise execution ran into data\n";
 
@@ -76,7 +76,7 @@ fn push_source_hint(text: &mut String, fault: &Fault, file: &FaultyFile<'_>) {
     }
 }
 
-/// The lines on an input that has a fault. Of standard input or a pipe, which can't be read twice, there are none.
+/// The lines on an input that has a fault. Of standard input or a pipe, which cannot be read twice, there are none.
 fn input_lines<R: Files + Input>(
     rt: &R,
     alloc: Global,
@@ -99,7 +99,7 @@ fn input_lines<R: Files + Input>(
     text
 }
 
-/// A line that is a name and what is said of it, if there is a name.
+/// A line that is a name and what is said about it, if there is a name.
 fn line_of(alloc: Global, name: Option<&str>, said: &str) -> String {
     let mut text = String::new(alloc);
     if let Some(name) = name {
@@ -132,7 +132,7 @@ fn advice(alloc: Global, code: &str) -> String {
     text
 }
 
-/// The lines on what was found and can't be declared: why, and what to do.
+/// The lines on what was found and cannot be declared: why, and what to do.
 fn undeclarable_lines(alloc: Global, fault: DeclarationFault) -> String {
     let mut text = String::new(alloc);
     let found = FaultyFile {
@@ -174,8 +174,8 @@ pub fn fault_lines<R: Files + Input>(
     }
 }
 
-/// What is said below the answer of a command that is refused without a fault, where the command itself doesn't say
-/// why: of a run that ends at a word that the machine doesn't have.
+/// What is said below the answer of a command that is refused without a fault, where the command itself does not say
+/// why: of a run that ends at a word that the machine does not have.
 pub fn refusal_lines(request: &Request<'_>) -> &'static str {
     match request {
         Request::Run(_) | Request::Session(_) | Request::Teletype(_) => UNSUPPORTED,

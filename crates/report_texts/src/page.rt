@@ -12,22 +12,22 @@ use std::alloc::{AllocError, Allocator};
 use word12::Word;
 use wordset::WordSet;
 
-/// Which run a yes is about, behind its start.
+/// Which run a yes is about, after its start.
 const RUN: &[u8] =
     b" with these words in memory, whatever all other cells, AC, the link and MQ hold, and whenever keys and tape \
 frames come, devices complete and switches change:</p>\n<ul>\n";
 
-/// What a yes doesn't show.
+/// What a yes does not show.
 const NOT_SHOWN: &[u8] =
     b"</ul>\n<p>It is not proved that the program ends, that it prints or computes what was intended, or that the \
 declaration is a sensible one: if all cells may be written, a yes says little.</p>\n";
 
-/// What a no says behind its address.
+/// What a no says after its address.
 const REFUSED: &[u8] =
     b", which is marked below. The program may comply with its declaration all the same. Everything below is what \
 the certificate claims, and it may be wrong.</p>\n<pre>";
 
-/// What is said behind the address of a search that is stuck.
+/// What is said after the address of a search that is stuck.
 const STUCK: &[u8] =
     b", which is marked below. The program may comply with its declaration all the same. Everything below is the \
 draft of the search: what it had found until then, which may be wrong; it had not reached the addresses without a \
@@ -41,7 +41,7 @@ declaration can be checked.</p>\n\
 <p>On this page: <a href=#memory>memory</a>, <a href=#routines>routines</a>, \
 <a href=#variables>variables</a>, <a href=#listing>listing</a>.</p>\n";
 
-/// What stands behind the declared variables, above the table of those of which something is known.
+/// What stands after the declared variables, above the table of those of which something is known.
 const VARIABLES: &[u8] =
     b". According to the certificate, each of the variables below holds one of the words beside it at every address \
 where something is said about it; all others may hold any word:</p>\n<table>\n\
@@ -142,7 +142,7 @@ fn write_points<A: Allocator, D: Allocator>(pen: &mut Pen<A>, declaration: &Decl
     );
 }
 
-/// Writes the rest of what a yes says, and what it doesn't.
+/// Writes the rest of what a yes says, and what it does not.
 fn write_yes<A: Allocator, D: Allocator>(pen: &mut Pen<A>, declaration: &Declaration<D>) {
     pen.put(match declaration.profile() {
         Profile::Pdp8I => b" This holds for <b>every</b> run on a PDP-8/I that starts at ",
@@ -163,7 +163,7 @@ fn write_reason<A: Allocator>(pen: &mut Pen<A>, fails: &[u8], at: Word, means: &
     pen.put(b"</pre>\n");
 }
 
-/// Writes the verdict's meaning, behind what it opens with.
+/// Writes the verdict's meaning, after what it opens with.
 fn write_verdict<A: Allocator, B: Allocator, D: Allocator, C: Allocator>(
     pen: &mut Pen<A>,
     report: &Report<'_, B, D, C>,
@@ -234,8 +234,8 @@ fn listed_text(finding: Finding) -> &'static [u8] {
     }
 }
 
-/// The page behind the verdict and what `opening` or `stuck_opening` says of it. `why` is what is told of
-/// a no, or of a search that is stuck.
+/// The page after the verdict and what `opening` or `stuck_opening` says about it. `why` is what is said about a no,
+/// or of a search that is stuck.
 ///
 /// # Errors
 ///

@@ -1,9 +1,9 @@
-//! What has no place in a statement.
+//! What is not allowed in a statement.
 
 use crate::pieces::{count_front_tokens, count_tag_tokens, tokens_from, told_kind};
 use pal_text::{Kind, Token};
 
-/// What is wrong with a token, behind the token's text, and what to change.
+/// What is wrong with a token, after the token's text, and what to change.
 #[derive(Clone, Copy)]
 pub(crate) struct Words {
     pub(crate) wrong: &'static str,
@@ -54,7 +54,7 @@ pub(crate) fn misplaced(bytes: &[u8], tokens: &[Token]) -> Option<usize> {
     Some(front.saturating_add(at))
 }
 
-/// What is told of a character that means nothing.
+/// What is said about a character that means nothing.
 fn about_character(code: u8) -> Words {
     match code {
         b'a'..=b'z' => Words {
@@ -84,7 +84,7 @@ fn about_character(code: u8) -> Words {
     }
 }
 
-/// What is told of a token of this kind that has no place; of a character by its code.
+/// What is said about a token of this kind that has no place; of a character by its code.
 pub(crate) fn about(kind: Kind, code: u8) -> Words {
     match kind {
         Kind::Mixed => Words {
@@ -123,7 +123,7 @@ pub(crate) fn about(kind: Kind, code: u8) -> Words {
     }
 }
 
-/// What is told of a last token behind which a term is missing.
+/// What is said about a last token after which a term is missing.
 pub(crate) const UNFINISHED: Words = Words {
     wrong: "has no term after it",
     advice: "write a number or a symbol there, or remove it",

@@ -1,4 +1,4 @@
-//! What is wrong where a symbol is given a value.
+//! What is wrong when a symbol is given a value.
 
 use crate::findings::Finding;
 use crate::lines::count_characters;
@@ -39,7 +39,7 @@ fn push_other_advice<A: Allocator + Copy>(
     text.push_str(": use symbols that differ in the first six")
 }
 
-/// What is told of a symbol that is given another value than it has: this one.
+/// What is said about a symbol that is given another value than it has: this one.
 fn about_other_value<A: Allocator + Copy>(
     alloc: A,
     source: &Source<'_>,
@@ -75,7 +75,7 @@ fn about_other_value<A: Allocator + Copy>(
     })
 }
 
-/// What is told of DECIMAL, OCTAL or PAUSE where a symbol is given a value.
+/// What is said about DECIMAL, OCTAL or PAUSE where a symbol is given a value.
 fn about_direction<A: Allocator + Copy>(
     alloc: A,
     source: &Source<'_>,
@@ -101,7 +101,7 @@ fn about_direction<A: Allocator + Copy>(
     })
 }
 
-/// What is told of a symbol that is given this value, if it can't be.
+/// What is said about a symbol that is given this value, if it cannot be.
 fn about_given<A: Allocator + Copy>(
     alloc: A,
     source: &Source<'_>,
@@ -135,7 +135,7 @@ fn spot_of<A: Allocator>(faulty: &Faulty<A>, token: Token) -> Spot {
     }
 }
 
-/// What is told of the first tag of a statement that has another value.
+/// What is said about the first tag of a statement that has another value.
 pub(crate) fn about_tags<A: Allocator + Copy>(
     alloc: A,
     source: &Source<'_>,
@@ -154,7 +154,7 @@ pub(crate) fn about_tags<A: Allocator + Copy>(
     Ok(None)
 }
 
-/// What is told of an assignment of another value.
+/// What is said about an assignment of another value.
 pub(crate) fn about_assignment<A: Allocator + Copy>(
     alloc: A,
     source: &Source<'_>,
@@ -171,7 +171,7 @@ pub(crate) fn about_assignment<A: Allocator + Copy>(
     about_given(alloc, source, before, spot_of(faulty, *token), value)
 }
 
-/// What is told of one symbol too many.
+/// What is said about one symbol too many.
 fn about_new<A: Allocator + Copy>(
     alloc: A,
     source: &Source<'_>,
@@ -192,7 +192,7 @@ fn about_new<A: Allocator + Copy>(
     })
 }
 
-/// What is told of the first symbol of a statement for which there is no place.
+/// What is said about the first symbol of a statement for which there is no place.
 pub(crate) fn about_room<A: Allocator + Copy>(
     alloc: A,
     source: &Source<'_>,

@@ -1,4 +1,4 @@
-//! What is told of symbols.
+//! What is said about symbols.
 
 use crate::lines::{bytes_between, line_at, push_characters};
 use crate::meanings::{Meanings, Spot};
@@ -69,7 +69,7 @@ pub(crate) fn letters_of(name: &Name) -> &str {
     }
 }
 
-/// Adds the line on which a symbol stands, and its file where that isn't the one of this part.
+/// Adds the line on which a symbol stands, and its file if it is not the file of this part.
 pub(crate) fn push_line_of<A: Allocator + Copy>(
     alloc: A,
     text: &mut String<A>,

@@ -144,7 +144,7 @@ fn push_gap<L: Lines>(text: &mut L, gap: &Counterexample) -> Result<(), AllocErr
     }
 }
 
-/// Adds why a run doesn't land.
+/// Adds why a run does not land.
 fn push_landing<L: Lines>(text: &mut L, landing: &Landing) -> Result<(), AllocError>
     ensures { OnOk result (L.text text.new ≡ L.text text.old ++ landing_text landing.now) }
 {
@@ -159,7 +159,7 @@ fn push_landing<L: Lines>(text: &mut L, landing: &Landing) -> Result<(), AllocEr
     }
 }
 
-/// Adds why a call doesn't land where it enters.
+/// Adds why a call does not land where it enters.
 fn push_enters<L: Lines>(text: &mut L, landing: &Landing) -> Result<(), AllocError>
     ensures { OnOk result
         (L.text text.new ≡ L.text text.old ++ (codes " and enters it: " ++ landing_text landing.now)) }
@@ -169,7 +169,7 @@ fn push_enters<L: Lines>(text: &mut L, landing: &Landing) -> Result<(), AllocErr
     Ok(())
 }
 
-/// Adds why a run doesn't land after a return by an offset.
+/// Adds why a run does not land after a return by an offset.
 fn push_returns<L: Lines>(text: &mut L, offset: usize, landing: &Landing) -> Result<(), AllocError>
     ensures { OnOk result (L.text text.new ≡ L.text text.old
         ++ (around_number (codes ", which returns by offset ") offset (codes ": ")
@@ -242,7 +242,7 @@ fn push_write<L: Lines>(text: &mut L, cell: Word, wrong: &[u8]) -> Result<(), Al
     push_around(text, b"it may write ", cell, wrong)
 }
 
-/// Adds what a word breaks.
+/// Adds what a word violates.
 fn push_breach<L: Lines>(text: &mut L, breach: &Breach) -> Result<(), AllocError>
     ensures { OnOk result (L.text text.new ≡ L.text text.old ++ breach_text breach.now) }
 {
@@ -329,7 +329,7 @@ fn push_reason_line<L: Lines>(text: &mut L, reason: &Option<Reason>) -> Result<(
     text.push_text(b"\n")
 }
 
-/// The word that is shown: the one that breaks the condition, or else the tape's.
+/// The word that is shown: the one that violates the condition, or else the tape's.
 fn word_shown(image: &Image, at: Word, reason: &Option<Reason>) -> Option<Word>
     ensures { result ≡ word_shown image.now at reason.now }
 {

@@ -1,4 +1,4 @@
-//! The lines that say what a step that breaks a rule is about to do. They are tested and not proved.
+//! The lines that say what a step that violates a rule is about to do. They are tested, not proved.
 #![tactic(auto)]
 
 ghost use Rattle.std.specs.Prelude.{◌≡◌, false, [], IfOk};
@@ -64,7 +64,7 @@ fn push_advice<L: Lines>(
     text.push_text(b"\n")
 }
 
-/// Adds the rest of a line: a text, a word that is no address, and a text.
+/// Adds the rest of a line: a text, a word that is not an address, and a text.
 fn push_word_line<L: Lines>(
     text: &mut L,
     before: &[u8],
@@ -88,7 +88,7 @@ fn push_change<L: Lines>(
     push_word_line(text, b", and would hold ", then, b"")
 }
 
-/// Adds what else a cell is that is no variable, an entry or an instruction, and what to declare if the program
+/// Adds what else a cell is that is not a variable, an entry or an instruction, and what to declare if the program
 /// may write it.
 fn push_variable_advice<L: Lines, D: Allocator>(
     text: &mut L,
@@ -117,7 +117,7 @@ fn push_pointer<L: Lines>(text: &mut L, reference: &Reference) -> Result<(), All
     )
 }
 
-/// Adds the lines of a cell that is written: the pointer that is stepped, or what is stored into; and of the
+/// Adds the lines of a cell that is written: the pointer that is incremented, or what is stored into; and of the
 /// words there before and after.
 fn push_write<L: Lines, D: Allocator>(
     text: &mut L,
@@ -149,7 +149,7 @@ fn push_held<L: Lines>(text: &mut L, cpu: &Cpu, cell: Word) -> Result<(), AllocE
     push_word_line(text, b" holds ", cpu.memory.get(cell), b"")
 }
 
-/// Adds that a cell isn't on the list of reads, and what to declare if it may be read.
+/// Adds that a cell is not on the list of reads, and what to declare if it may be read.
 fn push_read_advice<L: Lines>(text: &mut L, cell: Word) -> Result<(), AllocError> {
     push_advice(
         text,
@@ -159,7 +159,7 @@ fn push_read_advice<L: Lines>(text: &mut L, cell: Word) -> Result<(), AllocError
     )
 }
 
-/// Adds the lines of a cell that is read and isn't on the list, the pointer or the operand, and of its word.
+/// Adds the lines of a cell that is read and is not on the list, the pointer or the operand, and of its word.
 fn push_read<L: Lines, D: Allocator>(
     text: &mut L,
     declaration: &Declaration<D>,
@@ -228,8 +228,8 @@ fn push_offset_advice<L: Lines>(
     push_advice(text, b" to the returns of `sub ", entry, b"`")
 }
 
-/// Adds the lines of a return through an entry: where it goes, the call that it doesn't return from, and where
-/// that may return to.
+/// Adds the lines of a return through an entry: where it goes, the call that it does not return from, and where that
+/// may return to.
 fn push_return<L: Lines, D: Allocator>(
     text: &mut L,
     declaration: &Declaration<D>,
@@ -283,7 +283,7 @@ fn push_body_advice<L: Lines>(text: &mut L, calls: &[Call], at: Word) -> Result<
     }
 }
 
-/// Adds the line of a JMS to an address that is no entry, and what to declare if a routine begins there.
+/// Adds the line of a JMS to an address that is not an entry, and what to declare if a routine begins there.
 fn push_no_entry<L: Lines, D: Allocator>(
     text: &mut L,
     declaration: &Declaration<D>,
@@ -340,7 +340,7 @@ fn push_stray<L: Lines, D: Allocator>(
     )
 }
 
-/// Adds the lines that say what a memory reference does that its rule doesn't allow.
+/// Adds the lines that say what a memory reference does that its rule does not allow.
 fn push_reference<L: Lines, D: Allocator>(
     text: &mut L,
     declaration: &Declaration<D>,
@@ -359,7 +359,7 @@ fn push_reference<L: Lines, D: Allocator>(
     }
 }
 
-/// Adds the lines that say what the step does that its rule doesn't allow.
+/// Adds the lines that say what the step does that its rule does not allow.
 fn push_act<L: Lines, D: Allocator>(
     text: &mut L,
     declaration: &Declaration<D>,
@@ -420,8 +420,8 @@ fn push_origin<L: Lines>(
     text.push_instruction(executed.at, Some(executed.word), profile)
 }
 
-/// What a step that breaks a rule is about to do: the instruction with its address, what the rule asks,
-/// what the step does in place of it, where control came from, and the routine that runs.
+/// What a step that violates a rule is about to do: the instruction with its address, what the rule asks, what the
+/// step does in place of it, where control came from, and the routine that runs.
 fn lines_of<A: Allocator + Copy, D: Allocator, C: Allocator>(
     alloc: A,
     declaration: &Declaration<D>,
@@ -441,8 +441,8 @@ fn lines_of<A: Allocator + Copy, D: Allocator, C: Allocator>(
     Ok(text)
 }
 
-/// The lines behind the verdict of a watched run: what the step is about to do that breaks a rule. There
-/// are none where they aren't asked for, or no rule is broken.
+/// The lines after the verdict of a watched run: what the step is about to do that violates a rule. There are none if
+/// they are not asked for, or no rule is violated.
 pub fn breach_lines<A: Allocator + Copy, D: Allocator>(
     alloc: A,
     image: &Image,

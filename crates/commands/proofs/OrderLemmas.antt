@@ -37,7 +37,7 @@ not_both : {A : Type 0} {a : Bool} → a ≡ true → a ≡ false → A
 not_both is isnt = absurd (true≢false (sym is ∙ isnt))
 
 -- that memory was refused is no other fault
-is_memory : Fault → Bool
+abbrev is_memory : Fault → Bool
 is_memory fault.NoMemory = true
 is_memory _ = false
 
@@ -67,11 +67,11 @@ ends_or {T = T} {F = F} {G = G} {one = one} {u = u} {X = X} {R = R} {result = re
     go (inr e) = on e
 
 -- the work reads nothing
-no_read : {T : Type 0} {W : Fault → Type 0} (result : Result T Fault) → NoRead W → FailsBy W result → fails_to_read result ≡ false
-no_read (Ok x) none is = refl
-no_read (Err (fault.Device device.Read)) none is = absurd (none is)
-no_read (Err (fault.Device device.Write)) none is = refl
-no_read (Err _) none is = refl
+no_read : {T : Type 0} (W : Fault → Type 0) (result : Result T Fault) → NoRead W → FailsBy W result → fails_to_read result ≡ false
+no_read W (Ok x) none is = refl
+no_read W (Err (fault.Device device.Read)) none is = absurd (none is)
+no_read W (Err (fault.Device device.Write)) none is = refl
+no_read W (Err _) none is = refl
 
 -- what comes behind a tape isn't a fault of it
 behind_tape : {A : Type 0} {W : Fault → Type 0} (text : Input) (f : Fault) → ComesBehind W → IsDeclarationInputFault text f ⊎ (IsGoodDeclaration text.had × W f) → is_fault_of_tape f ≡ true → A
@@ -91,7 +91,7 @@ pub one_in_order : {T : Type 0} {F : Input → Fault → Type 0} {G : Option (Li
     NoRead W → Reads {T = T} F G K one (Unit {0}) (FailsBy W) result → OneInOrder F G K W one result
 one_in_order {T = T} {F = F} {G = G} {K = K} {one = one} {W = W} result none h = record {
   faults = faults result h;
-  reads = ends_or (λ e. e.marks) (λ k. k.marks ∙ sym (no_read result none k.rest)) h;
+  reads = ends_or (λ e. e.marks) (λ k. k.marks ∙ sym (no_read W result none k.rest)) h;
   takes = h.takes;
 }
   where
@@ -116,7 +116,7 @@ two_in_order {T = T} {W = W} {tape = tape} {text = text} {u = u} result still no
     faults (Err f) is = then (first_fault is) (λ rest. first_fault rest)
 
     second : ReadsDeclaration {T = T} text (Unit {0}) (FailsBy W) result → text.failed ≡ fails_to_read result
-    second is = ends_or (λ e. e.marks) (λ k. k.marks ∙ sym (no_read result none k.rest)) is
+    second is = ends_or (λ e. e.marks) (λ k. k.marks ∙ sym (no_read W result none k.rest)) is
 
     reads : tape.failed || text.failed ≡ fails_to_read result
     reads = ends_or (λ e. rw (still e.rest).failed (or_false tape.failed ∙ e.marks)) (λ k. rw k.marks (second k.rest)) h
@@ -171,7 +171,7 @@ three_in_order {T = T} {F = F} {G = G} {K = K} {W = W} {tape = tape} {text = tex
     faults (Err f) is = then (first_fault is) (λ rest. then (first_fault rest) (λ more. first_fault more))
 
     last : Third result → third.failed ≡ fails_to_read result
-    last is = ends_or (λ e. e.marks) (λ k. k.marks ∙ sym (no_read result none k.rest)) is
+    last is = ends_or (λ e. e.marks) (λ k. k.marks ∙ sym (no_read W result none k.rest)) is
 
     second : ReadsDeclaration {T = T} text v (Reads F G K third (Unit {0}) (FailsBy W)) result → text.failed || third.failed ≡ fails_to_read result
     second is = ends_or (λ e. rw (still_third e.rest).failed (or_false text.failed ∙ e.marks)) (λ k. rw k.marks (last k.rest)) is

@@ -1,7 +1,7 @@
 -- Bytes have one verdict, and so has what a certificate is migrated to.
 use Rattle.std.proofs.Common.{ℕ, ◌≡◌, ◌≤◌, true, List, [], ◌∷◌, length, take, Option, Some, refl, sym, ap, ◌∙◌, subst, arith}
 use Rattle.std.specs.Prelude.{Result, Ok, Err}
-use Rattle.wordset.specs.Words.{Words, SameWords, everything, has_some}
+use Rattle.wordset.specs.Words.{Words, all_words, has_some}
 use Rattle.wordset.proofs.Tests.{some_from}
 use Rattle.bin_tape.proofs.OneAnswer.{one_tape}
 use Rattle.peripherals.specs.Loading.{image_of}
@@ -102,8 +102,8 @@ guess_is_read t d guess g few = (yes_text g.declaration, guess_checked t d guess
 
 -- ---- what is migrated
 
-any_word : (mq : Words) → SameWords mq everything → has_some mq ≡ true
-any_word mq same = some_from 4096 mq 0 (omega arith) (same 0 (omega arith))
+any_word : (mq : Words) → mq ≡ all_words → has_some mq ≡ true
+any_word mq same = some_from 4096 mq 0 (omega arith) (rw same refl)
 
 fits_two : (v : Version) (mq : Words) → FitsVersion v mq → FitsVersion Two mq
 fits_two One mq fits = any_word mq fits

@@ -58,7 +58,7 @@ fn verified_with_reasons<R: Files + Input + Print + Eprint>(
 
 /// What is done with a source that was assembled, where it is asked why, or for a report of a search that is stuck.
 #[derive(Clone, Copy)]
-enum Reasoned<'t> {
+enum ExplainedTask<'t> {
     Verify(Option<Save<'t>>, &'t VerifyOptions),
     Check(&'t str),
     Watch(&'t str, &'t WordSet),
@@ -68,28 +68,32 @@ enum Reasoned<'t> {
 }
 
 /// The task as one that says why, if it is.
-fn reasoned<'t>(task: &'t Task<'t>) -> Option<Reasoned<'t>> {
+fn explained_task<'t>(task: &'t Task<'t>) -> Option<ExplainedTask<'t>> {
     match task {
         Task::Verify { save, options, .. } if options.search.explained => {
-            Some(Reasoned::Verify(*save, options))
+            Some(ExplainedTask::Verify(*save, options))
         }
         Task::Check {
             certificate,
             explained: true,
-        } => Some(Reasoned::Check(certificate)),
+        } => Some(ExplainedTask::Check(certificate)),
         Task::Watch {
             events,
             explained: true,
             show,
-        } => Some(Reasoned::Watch(events, show)),
-        Task::WatchSession(session) if session.explained => Some(Reasoned::WatchSession(session)),
+        } => Some(ExplainedTask::Watch(events, show)),
+        Task::WatchSession(session) if session.explained => Some(ExplainedTask::WatchSession(
+            session,
+        )),
         Task::Guess {
             out,
             explained,
             report,
-        } if *explained || report.is_some() => Some(Reasoned::Guess(*out, *explained, *report)),
+        } if *explained || report.is_some() => Some(ExplainedTask::Guess(
+            *out, *explained, *report,
+        )),
         Task::Refute { out, options } if options.explained => {
-            Some(Reasoned::Refute(*out, options))
+            Some(ExplainedTask::Refute(*out, options))
         }
         _ => None,
     }
@@ -102,19 +106,23 @@ fn done_with_reasons<R: Files + Input + Print + Eprint>(
     alloc: Global,
     promise: Promise,
     source: &AssembledSource<'_>,
-    asked: &Reasoned<'_>,
+    asked: &ExplainedTask<'_>,
 ) -> Result<Status, Fault> {
     match asked {
-        Reasoned::Verify(save, options) => {
+        ExplainedTask::Verify(save, options) => {
             verified_with_reasons(rt, alloc, promise, source, *save, options)
         }
-        Reasoned::Check(certificate) => check_with_reasons(rt, alloc, source, certificate),
-        Reasoned::Watch(events, show) => watch_with_reasons(rt, alloc, source, events, show),
-        Reasoned::WatchSession(session) => watch_session_with_reasons(rt, alloc, source, session),
-        Reasoned::Guess(out, explained, report) => {
+        ExplainedTask::Check(certificate) => check_with_reasons(rt, alloc, source, certificate),
+        ExplainedTask::Watch(events, show) => watch_with_reasons(rt, alloc, source, events, show),
+        ExplainedTask::WatchSession(session) => watch_session_with_reasons(
+            rt, alloc, source, session,
+        ),
+        ExplainedTask::Guess(out, explained, report) => {
             guess_with_draft(rt, alloc, source, *out, *explained, *report)
         }
-        Reasoned::Refute(out, options) => refute_with_reasons(rt, alloc, source, *out, **options),
+        ExplainedTask::Refute(out, options) => refute_with_reasons(
+            rt, alloc, source, *out, **options,
+        ),
     }
 }
 
@@ -177,7 +185,7 @@ fn done_with<R: Files + Input + Print + Eprint>(
         names: &sourced.sources,
         promise: given.promise,
     };
-    if let Some(asked) = reasoned(&sourced.task) {
+    if let Some(asked) = explained_task(&sourced.task) {
         let program = assembled(alloc, &source)?;
         return Ok(done_with_reasons(rt, alloc, given.promise, &program, &asked)?);
     }

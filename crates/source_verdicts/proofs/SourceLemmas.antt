@@ -72,6 +72,19 @@ third_after {T = T} {tape = tape} {text = text} {u = u} {v = v} {R = R} {result 
     after (inl e) = inl e.rest.1
     after (inr e) = behind e.rest.ends
 
+-- of the third input no more is taken than may be, where that holds of what isn't touched
+pub third_takes : {T : Type 0} {F : Input → Fault → Type 0} {G : Option (List ℕ) → Type 0} {K : Option (List ℕ) → Option (List ℕ) → Type 0} {tape text third : Input} {u v w : Type 0} {R : Result T Fault → Type 0} {result : Result T Fault} →
+    (v → K third.had third.left) → ReadsTape {T = T} tape (u × v) (ReadsDeclaration text v (Reads F G K third w R)) result → K third.had third.left
+third_takes {T = T} {F = F} {G = G} {K = K} {tape = tape} {text = text} {third = third} {u = u} {v = v} {w = w} {R = R} {result = result} still h = after h.ends
+  where
+    behind : EndsAt IsDeclarationInputFault text v result ⊎ GoesOn IsGoodDeclaration text (Reads F G K third w R) result → K third.had third.left
+    behind (inl e) = still e.rest
+    behind (inr e) = e.rest.takes
+
+    after : EndsAt IsTapeInputFault tape (u × v) result ⊎ GoesOn IsGoodTape tape (ReadsDeclaration text v (Reads F G K third w R)) result → K third.had third.left
+    after (inl e) = still e.rest.1
+    after (inr e) = behind e.rest.ends
+
 -- of what isn't read nothing is taken
 pub takes_no_text : (most : ℕ) (had : Option (List ℕ)) → TakesAtMost most had had
 takes_no_text most had = inputs.takes_no_text most had

@@ -5,7 +5,7 @@ use Rattle.command_parts.specs.Inputs.{input}
 use Rattle.command_parts.specs.declared.status.Status.{Status}
 use Rattle.verdict_texts.specs.CheckText.{IsCheckedSo}
 use Rattle.source_verdicts.specs.Verdicts.{IsSourceChecked, IsSourceCheckedSo}
-use Rattle.source_verdicts.proofs.SourceLemmas.{after_program, check_fault, checked_so, front_on, held_by, some_checked_so, third_after, three_faults, writes_on}
+use Rattle.source_verdicts.proofs.SourceLemmas.{after_program, check_fault, checked_so, front_on, held_by, some_checked_so, takes_no_certificate, third_after, third_takes, three_faults, writes_on}
 use Rattle.source_verdicts.proofs.checking.check_source.Goals as goal
 
 pub returns-in-Ok-clause-checked : goal.returns-in-Ok-clause-checked
@@ -46,3 +46,6 @@ returns-clause-certificate_after_program g c =
     let h : IsNumbered (texts c.args.parts.now) c.args.declaration.now c.new-frames.result.rest.now c.new-numbers.result.rest.now =
     held_by (texts c.args.parts.now) c.args.declaration.now c.in_ok-numbered.numbered.tape.items c.in_ok-numbered.numbered.declaration.items _ _ _ _ c.new-frames.ensures.bytes c.deref.ensures.value c.new-numbers.ensures.bytes c.deref-2.ensures.value c.in_ok-numbered.ensures.numbered in
     after_program (texts c.args.parts.now) c.args.declaration.now c.new-frames.result.rest.now c.new-numbers.result.rest.now h (third_after c.check.ensures.reads)
+
+pub returns-clause-takes_certificate : goal.returns-clause-takes_certificate
+returns-clause-takes_certificate g c = third_takes (λ same. rw same (takes_no_certificate (g.C.ByteSource.remaining c.args.certificate.now))) c.check.ensures.reads

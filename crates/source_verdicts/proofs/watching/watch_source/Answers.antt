@@ -6,7 +6,7 @@ use Rattle.command_parts.specs.Inputs.{input}
 use Rattle.command_parts.specs.declared.status.Status.{Status}
 use Rattle.machine_commands.specs.WatchText.{IsWatchedSo}
 use Rattle.source_verdicts.specs.Verdicts.{IsSourceWatched, IsSourceWatchedSo}
-use Rattle.source_verdicts.proofs.SourceLemmas.{after_program, front_on, held_by, some_watched_so, third_after, three_faults, watch_fault, watched_so, writes_on}
+use Rattle.source_verdicts.proofs.SourceLemmas.{after_program, front_on, held_by, some_watched_so, takes_no_text, third_after, third_takes, three_faults, watch_fault, watched_so, writes_on}
 use Rattle.source_verdicts.proofs.watching.watch_source.Goals as goal
 
 pub returns-in-Ok-clause-watched : goal.returns-in-Ok-clause-watched
@@ -47,3 +47,6 @@ returns-clause-list_after_program g c =
     let h : IsNumbered (texts c.args.parts.now) c.args.declaration.now c.new-frames.result.rest.now c.new-numbers.result.rest.now =
     held_by (texts c.args.parts.now) c.args.declaration.now c.in_ok-numbered.numbered.tape.items c.in_ok-numbered.numbered.declaration.items _ _ _ _ c.new-frames.ensures.bytes c.deref.ensures.value c.new-numbers.ensures.bytes c.deref-2.ensures.value c.in_ok-numbered.ensures.numbered in
     after_program (texts c.args.parts.now) c.args.declaration.now c.new-frames.result.rest.now c.new-numbers.result.rest.now h (third_after c.watch.ensures.reads)
+
+pub returns-clause-takes_events : goal.returns-clause-takes_events
+returns-clause-takes_events g c = third_takes (λ same. rw same (takes_no_text 65537 (g.E.ByteSource.remaining c.args.list.now))) c.watch.ensures.reads

@@ -66,9 +66,9 @@ outside its variables, the verdict would be no (V5).";
 const NAMES: &[u8] = b"\n\
 <code>reads</code>, <code>writes</code>: the cells that the instruction may read through a pointer (the pointer \
 is one of them), and those that it may write.\n\
-All numbers are octal, except the numbers of items that are left out, which are decimal. <code>TAD Z010</code> names \
+All numbers are octal, except the numbers of omitted items, which are decimal. <code>TAD Z010</code> names \
 the cell 0010, and \
-<code>TAD C024</code> the cell 024 of the page that the instruction is on; after <code>I</code> comes the cell that \
+<code>TAD C024</code> the cell 024 of the page of the instruction; after <code>I</code> comes the cell that \
 holds the address, and a cell from 0010 to 0017 is incremented first. <code>ISZ</code> increments a word, and skips \
 if it is then 0000. <code>JMS</code> stores the address after it in the cell that it names, the entry of a routine, \
 and continues after that cell; <code>JMP I</code> through the entry continues at the address that is stored there: \

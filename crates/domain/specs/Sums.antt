@@ -4,3 +4,7 @@ pub mod Terms
 pub mod Shapes
 pub mod Chains
 pub mod Facts
+pub mod Adding
+pub mod Knowing
+pub mod Narrowing
+pub mod Moves

@@ -5,3 +5,7 @@ pub mod Stores
 pub mod Outcomes
 pub mod Operations
 pub mod Entailment
+pub mod Conditions
+pub mod Laws
+pub mod Equations
+pub mod Starts

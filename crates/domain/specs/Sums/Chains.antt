@@ -1,5 +1,5 @@
 -- Chains: what a run of instructions made of the word that is in a cell, when nothing else is known of the accumulator.
-use Rattle.std.specs.Prelude.{ℕ, ◌+◌, ◌/◌, ◌%◌, ◌==◌, Bool, ◌&&◌, List, [], ◌∷◌, ◌++◌, map, bit_and}
+use Rattle.std.specs.Prelude.{ℕ, ◌+◌, ◌/◌, ◌%◌, ◌==◌, Bool, ◌&&◌, if◌then◌else◌, List, [], ◌∷◌, ◌++◌, map, bit_and}
 use Rattle.instruct.specs.Operates.{operate1_of}
 use Rattle.wordset.specs.Words.{plus, minus, Words, some_below}
 

@@ -124,7 +124,7 @@ HoldsForWords j v r a f =
 
 -- A property of each fact of which conditions are asked at the address, in the routine whose body has it.
 abbrev pub OfEachFact : Case → ℕ → (Routine → Fact → Type 0) → Type 0
-OfEachFact j a p = (r : Routine) → j.declaration.body r a ≡ true → EachFact (p r) (asked_at j a)
+OfEachFact j a p = (r : Routine) → j.declaration.body r a ≡ true → EachFact (p r) (asked_at j r a)
 
 -- By each fact at most 64 words are possible.
 abbrev pub HasFewWords : Case → ℕ → Type 0

@@ -11,13 +11,13 @@ use Rattle.policy.specs.Runs.{DeclaredRun, DeclaredEvents}
 use Rattle.processor.specs.Cells.{Cells}
 use Rattle.domain.specs.Sums.Facts.{SomeMeans}
 use Rattle.facts.specs.declared.Condition.{Condition}
-use Rattle.judge.specs.Sums.Landing.{Case, place_in}
+use Rattle.judge.specs.Sums.Landing.{Case, place_in, facts_in}
 use Rattle.judge.specs.Sums.Conditions.{IsFirst, IsValid}
 
 -- One of the facts at the program counter holds of the memory at the start, this state and this call list, in the running
 -- routine. So there is one.
 abbrev pub IsTrueAt : Case → Cells → State → Calls → Type 0
-IsTrueAt j start t ls = SomeMeans (place_in j (current ls)) start (j.certificate.facts t.pc) t ls
+IsTrueAt j start t ls = SomeMeans (place_in j (current ls)) start (facts_in j (current ls) t.pc) t ls
 
 -- Where every condition holds, one of the facts is true wherever a declared run of the instruction table leads from a start.
 abbrev pub FactsHoldInRuns : Type 0

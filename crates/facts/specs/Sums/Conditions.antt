@@ -1,9 +1,9 @@
 -- What is asked of one word at the address of a fact before its outcomes are looked at.
-use Rattle.std.specs.Prelude.{◌≡◌, ℕ, ◌<◌, ◌==◌, Bool, true, false, ◌&&◌, ◌||◌, ◌⊎◌, Some, None}
+use Rattle.std.specs.Prelude.{◌≡◌, ℕ, ◌<◌, ◌≤◌, ◌==◌, true, false, ◌&&◌, ◌||◌, ◌⊎◌, Some}
 use Rattle.instruct.specs.Instructions.{Meaning, And, Tad, Isz, Dca, Jms, Jmp}
 use Rattle.wordset.specs.Words.{Words, only}
-use Rattle.declaration.specs.Declaration.{Routine, Declaration, IsListed}
-use Rattle.policy.specs.Rules.{pointer_of, IsSupported, HaltsDeclared}
+use Rattle.declaration.specs.Declaration.{IsListed}
+use Rattle.policy.specs.Rules.{pointer_of}
 use Rattle.domain.specs.Sums.Facts.{Fact, Place, Rules, OfEquations, OfSums}
 use Rattle.facts.specs.Conditions.{MayWrite}
 use Rattle.facts.specs.Sums.References.{targets, own_words}
@@ -39,10 +39,10 @@ WritesAreDeclared pl f m =
     (a : ℕ) → a < 4096 → may_write pl f m a ≡ true →
     (pl.declaration.variable a ≡ true) ⊎ (pl.declaration.entry a ≡ true)
 
--- The return word may be counted up once more. By the rules of equations it isn't seven up already. By those of sums it isn't 77
--- up already, and it isn't 7777, so that the ISZ doesn't skip.
+-- The return word may be counted up once more. By the rules of equations it isn't seven up already, or more. By those of sums it
+-- isn't 77 up already, and it isn't 7777, so that the ISZ doesn't skip.
 abbrev pub MayCount : Rules → Fact → Type 0
-MayCount OfEquations f = f.offsets 7 ≡ false
+MayCount OfEquations f = (o : ℕ) → 7 ≤ o → o < 64 → f.offsets o ≡ false
 MayCount OfSums f = (f.offsets 63 ≡ false) × (own_words f 4095 ≡ false)
 
 -- ISZ of the running routine's own entry alone, which may be counted up once more.

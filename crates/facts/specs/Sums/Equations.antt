@@ -12,6 +12,7 @@ use Rattle.domain.specs.Facts as former
 use Rattle.domain.specs.Sums.Terms.{difference_of, name_is_before}
 use Rattle.domain.specs.Sums.Facts.{Relation, Fact, Place, OfEquations, Means}
 use Rattle.domain.specs.Sums.Narrowing.{narrowed}
+use Rattle.domain.specs.Sums.Moves.{joined}
 use Rattle.facts.specs.Law.{IsState}
 use Rattle.facts.specs.Outcomes as before
 use Rattle.facts.specs.Sums.Outcomes.{Successor, Goes, CallsTo, Returns}
@@ -109,3 +110,9 @@ EntailsAsBefore =
     (pl : former.Place) (f g : former.Fact) → ArePlain f → ArePlain g →
     (former.Entails f g × former.EntailsOffsets f g) ↔
     Entails (place_with pl) (fact_with pl.sites f) (fact_with pl.sites g)
+
+-- What is joined after a call is what it was: the sites are those at the JMS.
+abbrev pub JoinedAsBefore : Type 0
+JoinedAsBefore =
+    (call exit : former.Fact) (sites of_exit written : Words) →
+    joined OfEquations (fact_with sites call) (fact_with of_exit exit) written ≡ fact_with sites (former.joined call exit written)

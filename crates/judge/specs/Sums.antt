@@ -2,3 +2,4 @@
 pub mod Landing
 pub mod Conditions
 pub mod Laws
+pub mod Equations

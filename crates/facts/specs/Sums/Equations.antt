@@ -1,6 +1,6 @@
 -- Facts with equations, as versions 1 and 2 of certificates have them, are facts with sums, by the rules of equations. These laws say
 -- that nothing is changed for them, so that what is proved of facts with sums is proved of them.
-use Rattle.std.specs.Prelude.{◌≡◌, ℕ, ◌<◌, true, false, ◌⊎◌, ◌↔◌, Some, List, [], ◌∷◌, map}
+use Rattle.std.specs.Prelude.{◌≡◌, ℕ, ◌<◌, true, false, ◌↔◌, None, List, [], ◌∷◌, map}
 use Rattle.std.specs.List.{AllByRecursion}
 use Rattle.instruct.specs.Instructions.{Meaning}
 use Rattle.wordset.specs.Words.{Words, SameWords, one}
@@ -15,9 +15,11 @@ use Rattle.domain.specs.Sums.Narrowing.{narrowed}
 use Rattle.domain.specs.Sums.Moves.{joined}
 use Rattle.facts.specs.Law.{IsState}
 use Rattle.facts.specs.Outcomes as before
+use Rattle.facts.specs.Starts.{AreTapeWords, TracksWords, HoldsOfStarts}
 use Rattle.facts.specs.Sums.Outcomes.{Successor, Goes, CallsTo, Returns}
 use Rattle.facts.specs.Sums.Operations.{outcomes_of}
 use Rattle.facts.specs.Sums.Entailment.{Entails, Among}
+use Rattle.facts.specs.Sums.Starts.{start_fact}
 
 -- The equation x = y + k as a relation: x - y is k.
 abbrev pub relation_of : Equation → Relation
@@ -116,3 +118,10 @@ abbrev pub JoinedAsBefore : Type 0
 JoinedAsBefore =
     (call exit : former.Fact) (sites of_exit written : Words) →
     joined OfEquations (fact_with sites call) (fact_with of_exit exit) written ≡ fact_with sites (former.joined call exit written)
+
+-- The fact of all starts entails, in main, what holds of all starts.
+abbrev pub StartsAsBefore : Type 0
+StartsAsBefore =
+    (pl : former.Place) (f : former.Fact) → AreTapeWords pl.image → TracksWords f → ArePlain f → pl.routine ≡ None →
+    pl.declaration.start < 4096 →
+    Entails (place_with pl) (start_fact pl.image) (fact_with pl.sites f) ↔ HoldsOfStarts pl f

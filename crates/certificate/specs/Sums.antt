@@ -5,3 +5,4 @@ pub mod Spelling
 pub mod LineOf
 pub mod Order
 pub mod Reading
+pub mod Laws

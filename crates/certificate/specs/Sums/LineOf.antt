@@ -2,7 +2,7 @@
 use Rattle.std.specs.Prelude.{ℕ, ◌+◌, ◌-◌, ◌==◌, nat_le, nat_lt, Bool, true, not, ◌&&◌, if◌then◌else◌, codes, List, [], ◌∷◌, length, take, drop, Option, Some, None}
 use Rattle.std.specs.List.{list_any, list_all, slice_split}
 use Rattle.std.specs.Str.{bytes_eq}
-use Rattle.instruct.specs.Bits.{has_bit}
+use Rattle.wordset.specs.Bits.{has_bit}
 use Rattle.word12.specs.Octal.{octal_value}
 use Rattle.wordset.specs.Words.{Words, nothing, all_words, between, one, some_below, has_some}
 use Rattle.domain.specs.Facts.{Location, Ac, Cell}

@@ -1,6 +1,6 @@
 -- Chains: what a run of instructions made of the word that is in a cell, when nothing else is known of the accumulator.
 use Rattle.std.specs.Prelude.{ℕ, ◌+◌, ◌/◌, ◌%◌, ◌==◌, Bool, ◌&&◌, if◌then◌else◌, List, [], ◌∷◌, ◌++◌, map, bit_and}
-use Rattle.instruct.specs.Operates.{operate1_of}
+use Rattle.wordset.specs.Operate.{accumulator_after, link_after}
 use Rattle.wordset.specs.Words.{plus, minus, Words, some_below}
 
 -- A step: a word of group 1, an AND of a word or a TAD of a word.
@@ -11,7 +11,7 @@ pub data Step : Type 0 where
 
 -- What a step makes of the accumulator and the link, as the machine does: a carry out of a sum complements the link.
 abbrev pub after_step : Step → ℕ × ℕ → ℕ × ℕ
-after_step (Operates w) s = operate1_of w s
+after_step (Operates w) s = (accumulator_after w s.0 s.1, link_after w s.0 s.1)
 after_step (Ands w) s = (bit_and s.0 w, s.1)
 after_step (Adds w) s = (plus s.0 w, (s.1 + (s.0 + w) / 4096) % 2)
 

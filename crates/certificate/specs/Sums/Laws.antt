@@ -1,5 +1,5 @@
 -- What is to be proved of the text of certificates: each line is read as what it was spelled for, and a text is its lines.
-use Rattle.std.specs.Prelude.{◌≡◌, ℕ, true, List, [], ◌∷◌, ◌++◌, flat_map, Some, Ok}
+use Rattle.std.specs.Prelude.{◌≡◌, ℕ, true, List, ◌++◌, flat_map, Some, Ok}
 use Rattle.wordset.specs.Words.{Words, all_words, nothing, one}
 use Rattle.domain.specs.Facts.{Location}
 use Rattle.domain.specs.Sums.Terms.{difference_of}

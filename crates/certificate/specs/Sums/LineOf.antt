@@ -5,11 +5,10 @@ use Rattle.std.specs.Str.{bytes_eq}
 use Rattle.wordset.specs.Bits.{has_bit}
 use Rattle.word12.specs.Octal.{octal_value}
 use Rattle.wordset.specs.Words.{Words, nothing, all_words, between, one, some_below, has_some}
-use Rattle.domain.specs.Facts.{Location, Ac, Cell}
-use Rattle.domain.specs.Sums.Terms.{Term, Holding, Behind, Summand, Sum, difference_of, arranged, same_sum}
-use Rattle.domain.specs.Sums.Chains.{Step, Operates, Ands, Adds, Chain}
+use Rattle.domain.specs.Facts.{Ac, Cell}
+use Rattle.domain.specs.Sums.Terms.{Term, Holding, Behind, Sum, difference_of, arranged, same_sum}
+use Rattle.domain.specs.Sums.Chains.{Step, Operates, Ands, Adds}
 use Rattle.domain.specs.Sums.Shapes.{has_shape}
-use Rattle.domain.specs.Sums.Facts.{Relation}
 use Rattle.certificate.specs.LineOf.{words_in, word_at, set_of, offsets_in, links_in, name_of}
 use Rattle.certificate.specs.Spelling.{Registers}
 use Rattle.certificate.specs.Sums.Lines.{Version, One, Two, Three, Line, RoutineIs, FactIs, ExitIs, CellIs, SumIs, ChainIs, End, is_of_sums}

@@ -1,5 +1,5 @@
 -- What the lines of a certificate's text say, in versions 1, 2 and 3.
-use Rattle.std.specs.Prelude.{ℕ, Bool, true, false, List}
+use Rattle.std.specs.Prelude.{ℕ, Bool, true, false}
 use Rattle.wordset.specs.Words.{Words}
 use Rattle.domain.specs.Statements.{TrackedCell}
 use Rattle.domain.specs.Sums.Chains.{Chain}

@@ -1,6 +1,6 @@
 -- What a text is read as, and which certificate its lines make.
 use Rattle.std.specs.Prelude.{ℕ, ◌+◌, ◌==◌, nat_lt, Bool, true, false, ◌&&◌, if◌then◌else◌, List, [], ◌∷◌, length, take, Option, Some, None, Result, Ok, Err}
-use Rattle.std.specs.List.{list_any, slice_split}
+use Rattle.std.specs.List.{list_any}
 use Rattle.std.specs.Str.{bytes_eq}
 use Rattle.wordset.specs.Words.{Words, nothing}
 use Rattle.domain.specs.Facts.{Location, Ac, Cell}

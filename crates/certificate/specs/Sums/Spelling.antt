@@ -1,9 +1,8 @@
 -- The one spelling of each line of a certificate's text, without its line feed.
-use Rattle.std.specs.Prelude.{ℕ, ◌+◌, ◌==◌, Bool, not, ◌&&◌, if◌then◌else◌, Option, Some, None, List, [], ◌∷◌, ◌++◌, codes, flat_map}
+use Rattle.std.specs.Prelude.{ℕ, ◌+◌, ◌==◌, not, ◌&&◌, if◌then◌else◌, Option, Some, None, List, [], ◌∷◌, ◌++◌, codes, flat_map}
 use Rattle.std.proofs.Common.{zero, suc}
 use Rattle.word12.specs.Words.{octal_text}
-use Rattle.wordset.specs.Words.{Words, some_below, has_some, only}
-use Rattle.domain.specs.Facts.{Location, Ac, Cell}
+use Rattle.wordset.specs.Words.{Words, some_below, only}
 use Rattle.domain.specs.Sums.Terms.{Term, Holding, Behind, Summand, Sum}
 use Rattle.domain.specs.Sums.Chains.{Step, Operates, Ands, Adds, Chain}
 use Rattle.domain.specs.Sums.Facts.{Relation}

@@ -1,8 +1,8 @@
 -- What a fact says of a sum of terms.
-use Rattle.std.specs.Prelude.{ℕ, ◌==◌, ◌&&◌, List, [], ◌∷◌}
-use Rattle.wordset.specs.Words.{plus, Words, one, some_below, shifted, sums, meet}
+use Rattle.std.specs.Prelude.{◌&&◌, [], ◌∷◌}
+use Rattle.wordset.specs.Words.{Words, one, some_below, shifted, sums, meet}
 use Rattle.processor.specs.Runs.{Image}
-use Rattle.domain.specs.Facts.{Location, Cell, tape_word}
+use Rattle.domain.specs.Facts.{Cell, tape_word}
 use Rattle.domain.specs.Sums.Terms.{Term, Holding, Behind, Sum}
 use Rattle.domain.specs.Sums.Facts.{Fact}
 use Rattle.domain.specs.Sums.Adding.{times, set_of_sum}

@@ -1,9 +1,9 @@
 -- What may happen to a fact: a cell's word is counted up, a name takes a new word, or one of several cells does.
-use Rattle.std.specs.Prelude.{ℕ, ◌+◌, ◌-◌, ◌*◌, ◌==◌, nat_lt, Bool, true, false, not, ◌&&◌, if◌then◌else◌, Option, Some, None, List, [], ◌∷◌, ◌++◌, map, filter, flat_map}
+use Rattle.std.specs.Prelude.{ℕ, ◌-◌, ◌==◌, nat_lt, Bool, false, not, ◌&&◌, if◌then◌else◌, Option, Some, None, List, [], ◌∷◌, ◌++◌, map, filter, flat_map}
 use Rattle.std.specs.List.{list_any}
-use Rattle.wordset.specs.Words.{plus, minus, Words, all_words, one, union, shifted, sums, meet, only}
+use Rattle.wordset.specs.Words.{minus, Words, one, union, shifted, sums, meet, only}
 use Rattle.domain.specs.Facts.{Location, Ac, Cell, same, has_cell, is_outside}
-use Rattle.domain.specs.Sums.Terms.{Term, Holding, Behind, Summand, Sum, coefficient_in, speaks_of}
+use Rattle.domain.specs.Sums.Terms.{Term, Holding, Behind, Sum, coefficient_in, speaks_of}
 use Rattle.domain.specs.Sums.Chains.{Chain, after_count}
 use Rattle.domain.specs.Sums.Facts.{Relation, Fact, Place, Rules, OfEquations, OfSums}
 use Rattle.domain.specs.Sums.Adding.{times, with_set, with_name, adding_all}

@@ -1,10 +1,10 @@
 -- Narrowing: each set of a fact is met once with what the relations and chains say of it, by the other sets as they stand.
-use Rattle.std.specs.Prelude.{ℕ, ◌*◌, ◌%◌, Bool, true, ◌&&◌, List, [], ◌∷◌, ◌++◌, flat_map}
+use Rattle.std.specs.Prelude.{ℕ, ◌*◌, ◌%◌, Bool, ◌&&◌, List, [], ◌∷◌, ◌++◌, flat_map}
 use Rattle.std.specs.List.{list_all}
-use Rattle.wordset.specs.Words.{plus, minus, Words, some_below}
+use Rattle.wordset.specs.Words.{plus, Words, some_below}
 use Rattle.processor.specs.Runs.{Image}
 use Rattle.domain.specs.Facts.{Location, Ac, Cell, tape_word}
-use Rattle.domain.specs.Sums.Terms.{Term, Holding, Behind, Summand, Sum, sum_of_name, difference_of}
+use Rattle.domain.specs.Sums.Terms.{Term, Holding, Behind, Sum, sum_of_name, difference_of}
 use Rattle.domain.specs.Sums.Chains.{Chain, gives}
 use Rattle.domain.specs.Sums.Facts.{Relation, Fact, Place, OfEquations, OfSums, Rules}
 use Rattle.domain.specs.Sums.Adding.{differences, adding_all}

@@ -1,5 +1,5 @@
 -- The sums of which relations may speak, and how any sum is spelled as one of them.
-use Rattle.std.specs.Prelude.{ℕ, ◌==◌, Bool, true, false, not, ◌&&◌, ◌||◌, if◌then◌else◌, Option, Some, None, List, [], ◌∷◌}
+use Rattle.std.specs.Prelude.{ℕ, ◌==◌, Bool, true, false, not, ◌&&◌, ◌||◌, if◌then◌else◌, Option, Some, None, [], ◌∷◌}
 use Rattle.domain.specs.Facts.{Location, Ac, Cell, same}
 use Rattle.domain.specs.Sums.Terms.{Term, Holding, Behind, Summand, Sum, is_sign, arranged, multiplied}
 

@@ -1,7 +1,7 @@
 -- Terms and sums of them: what relations speak of. All numbers are words, and sums and products are taken modulo 4096.
-use Rattle.std.specs.Prelude.{ℕ, ◌*◌, ◌%◌, ◌==◌, Bool, true, false, not, ◌&&◌, ◌||◌, if◌then◌else◌, Option, Some, None, List, [], ◌∷◌, ◌++◌, filter, map, nat_lt}
+use Rattle.std.specs.Prelude.{ℕ, ◌*◌, ◌%◌, ◌==◌, Bool, true, false, not, ◌&&◌, ◌||◌, if◌then◌else◌, List, [], ◌∷◌, ◌++◌, filter, map, nat_lt}
 use Rattle.std.specs.List.{list_any}
-use Rattle.wordset.specs.Words.{plus, minus}
+use Rattle.wordset.specs.Words.{plus}
 use Rattle.processor.specs.Cells.{Cells}
 use Rattle.domain.specs.Facts.{Location, Ac, Cell, same, Values}
 

@@ -1,13 +1,12 @@
 -- What is known of sums after TAD, and what CMA and IAC make of them.
-use Rattle.std.specs.Prelude.{ℕ, ◌+◌, ◌*◌, ◌-◌, ◌==◌, nat_lt, Bool, true, false, not, ◌&&◌, ◌||◌, if◌then◌else◌, Option, Some, None, List, [], ◌∷◌, ◌++◌, map, flat_map}
+use Rattle.std.specs.Prelude.{ℕ, ◌+◌, ◌*◌, ◌-◌, ◌==◌, nat_lt, Bool, not, ◌&&◌, ◌||◌, if◌then◌else◌, Option, Some, None, List, [], ◌∷◌, ◌++◌, map, flat_map}
 use Rattle.instruct.specs.Bits.{has_bit}
-use Rattle.wordset.specs.Words.{plus, minus, Words, all_words, one, some_below, shifted, mirrored, sums, only}
-use Rattle.domain.specs.Facts.{Location, Ac, Cell, same}
-use Rattle.domain.specs.Sums.Terms.{Term, Holding, Behind, Summand, Sum, sum_of_name, coefficient_in, without_term, multiplied, is_sign}
-use Rattle.domain.specs.Sums.Chains.{Chain, Step, Adds, all_longer}
-use Rattle.domain.specs.Sums.Facts.{Relation, Fact, Place, Rules, OfEquations, OfSums}
-use Rattle.domain.specs.Sums.Adding.{times, with_set, with_name, adding_all}
-use Rattle.domain.specs.Sums.Narrowing.{words_known}
+use Rattle.wordset.specs.Words.{Words, all_words, one, some_below, shifted, mirrored, sums, only}
+use Rattle.domain.specs.Facts.{Ac, same}
+use Rattle.domain.specs.Sums.Terms.{Term, Holding, Sum, sum_of_name, coefficient_in, without_term, multiplied, is_sign}
+use Rattle.domain.specs.Sums.Chains.{Chain, Adds, all_longer}
+use Rattle.domain.specs.Sums.Facts.{Relation, Fact, OfSums}
+use Rattle.domain.specs.Sums.Adding.{times, with_set, adding_all}
 use Rattle.domain.specs.Sums.Moves.{free_of}
 
 -- The sum with the accumulator.

@@ -1,13 +1,13 @@
 -- When one fact says at least as much as another, and when it lands among several.
-use Rattle.std.specs.Prelude.{◌≡◌, ℕ, ◌<◌, true, false, ◌&&◌, ◌⊎◌, Some, None, List, [], ◌∷◌}
+use Rattle.std.specs.Prelude.{◌≡◌, ℕ, ◌<◌, true, ◌⊎◌, Some, List, [], ◌∷◌}
 use Rattle.wordset.specs.Words.{minus, Words, one, meet, IsWithin, IsLinkWithin, SameWords, only}
 use Rattle.domain.specs.Facts.{Location, Ac, Cell}
-use Rattle.domain.specs.Sums.Terms.{Summand, Sum, name_of_term}
+use Rattle.domain.specs.Sums.Terms.{Sum, name_of_term}
 use Rattle.domain.specs.Sums.Chains.{Chain, gives}
 use Rattle.domain.specs.Sums.Facts.{Relation, Fact, Place, Rules, OfEquations, OfSums}
 use Rattle.domain.specs.Sums.Adding.{with_name, is_void}
 use Rattle.domain.specs.Sums.Knowing.{said_of}
-use Rattle.domain.specs.Sums.Narrowing.{narrowed, asked_by, words_known}
+use Rattle.domain.specs.Sums.Narrowing.{narrowed, words_known}
 
 -- The relation is one of the list: one has its sum and its words.
 abbrev pub Among : Relation → List Relation → Type 0

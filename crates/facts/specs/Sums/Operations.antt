@@ -1,11 +1,11 @@
 -- The outcomes of operate and device words, and of every instruction.
-use Rattle.std.specs.Prelude.{ℕ, ◌==◌, Bool, true, false, not, ◌&&◌, ◌||◌, if◌then◌else◌, List, [], ◌∷◌, ◌++◌, nat_lt, map, filter}
+use Rattle.std.specs.Prelude.{ℕ, ◌==◌, Bool, true, false, not, ◌&&◌, ◌||◌, if◌then◌else◌, List, [], ◌++◌, nat_lt, map, filter}
 use Rattle.instruct.specs.Bits.{has_bit}
 use Rattle.instruct.specs.Operates.{operate1_of, skips_of, is_halt, MqOperate, Mql, Mqa, Swp, Cam, ClaMqa, ClaSwp}
 use Rattle.instruct.specs.Instructions.{Meaning, And, Tad, Isz, Dca, Jms, Jmp, Group1, Group2, Group3, Device, Undefined, DeviceAction, Skips, Ors, Clears, Takes, Leaves}
 use Rattle.wordset.specs.Words.{plus, Words, all_words, one, some_below, has_some, ors, or_any, images, only}
 use Rattle.processor.specs.Machine.{next_pc}
-use Rattle.domain.specs.Facts.{Location, Ac, same}
+use Rattle.domain.specs.Facts.{Ac, same}
 use Rattle.domain.specs.Sums.Chains.{Operates, Chain, all_longer}
 use Rattle.domain.specs.Sums.Facts.{Relation, Fact, Place, Rules, OfEquations, OfSums}
 use Rattle.domain.specs.Sums.Adding.{with_name, is_kept, is_void}

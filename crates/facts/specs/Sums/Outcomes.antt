@@ -1,20 +1,16 @@
 -- The outcomes of a word: the facts that may hold after it, each with the addresses where the run may be then. By the rules of
 -- sums they are asked of a narrowed fact.
-use Rattle.std.specs.Prelude.{ℕ, ◌-◌, Bool, true, false, not, ◌&&◌, ◌||◌, if◌then◌else◌, Option, Some, None, List, [], ◌∷◌, ◌++◌, nat_lt, map, filter}
-use Rattle.instruct.specs.Bits.{has_bit}
-use Rattle.instruct.specs.Operates.{operate1_of, skips_of, is_halt, MqOperate, Mql, Mqa, Swp, Cam, ClaMqa, ClaSwp}
-use Rattle.instruct.specs.Instructions.{Meaning, And, Tad, Isz, Dca, Jms, Jmp, Group1, Group2, Group3, Device, Undefined, DeviceAction, Skips, Ors, Clears, Takes, Leaves}
-use Rattle.wordset.specs.Words.{plus, Words, all_words, one, some_below, has_some, has_link, without, shifted, sums, carries, toggled, meet, only, ands, ors, or_any, images, images_at}
-use Rattle.processor.specs.Machine.{next_pc}
-use Rattle.domain.specs.Facts.{Location, Ac, Cell, same, is_routine}
+use Rattle.std.specs.Prelude.{ℕ, Bool, ◌&&◌, if◌then◌else◌, Option, Some, None, List, [], ◌∷◌, ◌++◌}
+use Rattle.wordset.specs.Words.{plus, Words, all_words, one, some_below, has_some, has_link, without, shifted, carries, toggled, meet, only, ands}
+use Rattle.domain.specs.Facts.{Ac, Cell, is_routine}
 use Rattle.domain.specs.Sums.Terms.{Term}
-use Rattle.domain.specs.Sums.Chains.{Step, Operates, Ands, Chain, all_longer}
-use Rattle.domain.specs.Sums.Facts.{Relation, Fact, Place, Rules, OfEquations, OfSums}
-use Rattle.domain.specs.Sums.Adding.{with_name, is_kept, is_void}
-use Rattle.domain.specs.Sums.Narrowing.{narrowed, words_known}
-use Rattle.domain.specs.Sums.Moves.{without_relations, taking, counted, weakly_updated, counted_up}
-use Rattle.facts.specs.Sums.References.{stepped, targets, words_in, words_at, operand_term, one_target}
-use Rattle.facts.specs.Sums.Additions.{summed, equated, sums_under, chains_after_tad, turned}
+use Rattle.domain.specs.Sums.Chains.{Ands, Chain, all_longer}
+use Rattle.domain.specs.Sums.Facts.{Fact, Place, Rules, OfEquations, OfSums}
+use Rattle.domain.specs.Sums.Adding.{with_name}
+use Rattle.domain.specs.Sums.Narrowing.{words_known}
+use Rattle.domain.specs.Sums.Moves.{taking, counted, weakly_updated, counted_up}
+use Rattle.facts.specs.Sums.References.{words_at, operand_term, one_target}
+use Rattle.facts.specs.Sums.Additions.{summed, equated, sums_under, chains_after_tad}
 use Rattle.facts.specs.Sums.Stores.{stored, copied, with_begun}
 
 -- The run goes on at one of these addresses; or it calls one of these entries; or it returns.

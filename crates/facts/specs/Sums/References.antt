@@ -1,9 +1,9 @@
 -- To which cells a memory reference may refer, and what they may hold.
-use Rattle.std.specs.Prelude.{ℕ, ◌+◌, Bool, true, false, not, ◌&&◌, ◌||◌, if◌then◌else◌, Option, Some, None}
+use Rattle.std.specs.Prelude.{ℕ, ◌+◌, Bool, not, ◌&&◌, ◌||◌, if◌then◌else◌, Option, Some, None}
 use Rattle.wordset.specs.Words.{Words, all_words, one, some_below, shifted, only}
 use Rattle.processor.specs.Machine.{steps_pointer}
 use Rattle.declaration.specs.Declaration.{Declaration}
-use Rattle.domain.specs.Facts.{Location, Cell, is_routine, tape_word, has_cell}
+use Rattle.domain.specs.Facts.{Cell, is_routine, tape_word}
 use Rattle.domain.specs.Sums.Terms.{Term, Holding, Behind}
 use Rattle.domain.specs.Sums.Facts.{Fact, Place}
 use Rattle.domain.specs.Sums.Narrowing.{words_known}

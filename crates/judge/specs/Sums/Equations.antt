@@ -1,5 +1,5 @@
 -- A certificate of version 1 or 2, whose facts have equations, as one whose facts have sums. The law says that its verdict stays.
-use Rattle.std.specs.Prelude.{◌≡◌, ℕ, ◌<◌, true, ◌↔◌, if◌then◌else◌, List, [], ◌∷◌, nat_lt}
+use Rattle.std.specs.Prelude.{◌≡◌, ℕ, ◌<◌, true, ◌↔◌, if◌then◌else◌, [], ◌∷◌, nat_lt}
 use Rattle.wordset.specs.Words.{Words, nothing}
 use Rattle.declaration.specs.Declaration.{IsDeclared}
 use Rattle.domain.specs.Facts as former

@@ -9,7 +9,7 @@ use crate::losses::{Loss, loss_at, may_go_on, refers_to_memory};
 use crate::sets::push_set;
 use bin_tape::Image;
 use certificate::Certificate;
-use command_parts::text::push_place;
+use command_parts::message::{Lines, push_text_and_address};
 use declaration::Declaration;
 use facts::{Fact, Location, narrowed};
 use instruct::{name, refers_indirectly, target};
@@ -94,9 +94,9 @@ fn lost_before<A: Allocator + Copy, D: Allocator, C: Allocator>(
 /// # Errors
 ///
 /// `AllocError` where a growth was refused.
-pub fn push_bound<A: Allocator + Copy, D: Allocator, C: Allocator>(
+pub fn push_bound<A: Allocator + Copy, L: Lines, D: Allocator, C: Allocator>(
     alloc: A,
-    text: &mut Vec<u8, A>,
+    text: &mut L,
     image: &Image,
     declaration: &Declaration<D>,
     draft: &Certificate<C>,
@@ -109,20 +109,20 @@ pub fn push_bound<A: Allocator + Copy, D: Allocator, C: Allocator>(
     if !draft.fact_into(at, &mut fact) {
         return Ok(());
     }
-    push_place(text, b"the pointer ", pointer)?;
-    text.extend_from_slice(b" may hold ")?;
+    push_text_and_address(text, b"the pointer ", pointer)?;
+    text.push_text(b" may hold ")?;
     push_set(text, &narrowed(&fact, &Location::Cell(pointer)))?;
-    text.extend_from_slice(b" there\n")?;
+    text.push_text(b" there\n")?;
     let Some((from, loss)) = lost_before(alloc, image, declaration, draft, pointer, at)? else {
         return Ok(());
     };
-    push_place(text, b"the bound of ", pointer)?;
-    push_place(text, b" was lost at ", from)?;
-    text.extend_from_slice(b" ")?;
+    push_text_and_address(text, b"the bound of ", pointer)?;
+    push_text_and_address(text, b" was lost at ", from)?;
+    text.push_text(b" ")?;
     if let Some(word) = image.get(from) {
-        text.extend_from_slice(name(word, declaration.profile()).as_str().as_bytes())?;
+        text.push_text(name(word, declaration.profile()).as_str().as_bytes())?;
     }
-    text.extend_from_slice(b": ")?;
-    text.extend_from_slice(loss.told())?;
-    text.extend_from_slice(b"\n")
+    text.push_text(b": ")?;
+    text.push_text(loss.told())?;
+    text.push_text(b"\n")
 }

@@ -1,33 +1,30 @@
 //! Sets of words, as certificates write them.
 
-use command_parts::text::push_word;
-use std::alloc::{AllocError, Allocator};
+use command_parts::message::Lines;
+use std::alloc::AllocError;
 use wordset::WordSet;
 
 /// The most rows that are written of a set.
 const MOST_ROWS: usize = 8;
 
 /// Adds a set, row by row: `0000,0231-0240`. Of more than eight rows the others are left out.
-pub(crate) fn push_set<A: Allocator>(
-    text: &mut Vec<u8, A>,
-    set: &WordSet,
-) -> Result<(), AllocError> {
+pub(crate) fn push_set<L: Lines>(text: &mut L, set: &WordSet) -> Result<(), AllocError> {
     let mut rows = set.ranges();
     for count in 0..MOST_ROWS {
         let Some((first, last)) = rows.next() else {
             return Ok(());
         };
         if count > 0 {
-            text.extend_from_slice(b",")?;
+            text.push_text(b",")?;
         }
-        push_word(text, first)?;
+        text.push_text(&first.to_octal())?;
         if last != first {
-            text.extend_from_slice(b"-")?;
-            push_word(text, last)?;
+            text.push_text(b"-")?;
+            text.push_text(&last.to_octal())?;
         }
     }
     match rows.next() {
-        Some(_) => text.extend_from_slice(b" and more"),
+        Some(_) => text.push_text(b" and more"),
         None => Ok(()),
     }
 }

@@ -11,16 +11,9 @@ use Rattle.certificate.specs.Gathered.{cells_under, equations_under}
 use Rattle.certificate.specs.Packed.{set_of_runs}
 use Rattle.certificate.specs.Found.{with_details, FitUnder, FitUnderFirst, IsSaid}
 use Rattle.certificate.specs.Adding.{with_line, HasRoomFor, HasRoomUnder}
-use Rattle.std.specs.Prelude.{◌<◌, ◌-◌, ◌&&◌, take, slice_range}
+use Rattle.std.specs.Prelude.{◌<◌, ◌-◌, take, slice_range}
 use Rattle.std.proofs.lemmas.List.{drop_more}
-use Rattle.wordset.proofs.SetLemmas.{equal_words, all_everything}
-use Rattle.certificate.proofs.PackedLemmas.{runs_past, above_between}
-
--- The set of one run.
-pub one_run : (r : Run) → r.last < 4096 → set_of_runs (r ∷ []) ≡ between r.first r.last
-unfolding set_of_runs
-one_run r small = equal_words _ _ (runs_past (r ∷ [])) (λ v h. above_between r.first r.last v (omega arith))
-    (λ v h. ap (λ b. b && between r.first r.last v) (all_everything v h))
+use Rattle.certificate.proofs.PackedLemmas.{one_run}
 
 -- The set of the one run that lies at a place.
 pub row_there : (runs : List Run) (i n : ℕ) (d : Run) → n ≡ 1 → i + n ≤ length runs → d ≡ get_or runs i d → d.last < 4096 →

@@ -79,7 +79,7 @@ joined_or t (r ∷ rs) v =
     ap (λ x. t v || x) (sym (joined_or (union nothing (between r.first r.last)) rs v)))
 
 -- A word is in the first run or in the others.
-first_or : (r : Run) (rs : List Run) (v : ℕ) → joined nothing (r ∷ rs) v ≡ (between r.first r.last v || joined nothing rs v)
+pub first_or : (r : Run) (rs : List Run) (v : ℕ) → joined nothing (r ∷ rs) v ≡ (between r.first r.last v || joined nothing rs v)
 first_or r rs v = joined_or (union nothing (between r.first r.last)) rs v
 
 pub in_first : (r : Run) (rs : List Run) (v : ℕ) → r.first ≤ v → v ≤ r.last → joined nothing (r ∷ rs) v ≡ true

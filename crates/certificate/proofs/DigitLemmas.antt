@@ -1,11 +1,15 @@
 -- Digits in rising order, read one after another.
-use Rattle.std.proofs.Common.{◌≡◌, ◌≢◌, ◌⊎◌, ℕ, zero, suc, ◌+◌, ◌-◌, ◌<◌, ◌≤◌, ◌==◌, Bool, true, false, not, ◌&&◌, ◌||◌, List, [], ◌∷◌, ◌++◌, Option, Some, None, refl, ap, ◌∙◌, sym, subst, inl, inr, arith, append_assoc, append-nil}
+use Rattle.std.proofs.Common.{◌≡◌, ◌≢◌, ◌⊎◌, ℕ, zero, suc, ◌+◌, ◌-◌, ◌<◌, ◌≤◌, ◌==◌, Bool, true, false, not, ◌&&◌, ◌||◌, List, [], ◌∷◌, ◌++◌, length, Option, Some, None, refl, ap, ◌∙◌, sym, subst, inl, inr, arith, append_assoc, append-nil}
 use Rattle.std.specs.Prelude.{if◌then◌else◌, IfSome, IsTrue}
 use Rattle.std.specs.Option.{IsSomeAnd}
 use Rattle.std.proofs.lemmas.Bool.{true≢false, false≢true, eq-eqb, ne_eqb, cases_lt, cases_Bool}
+use Rattle.std.proofs.lemmas.List.{get_or_past}
 use Rattle.std.proofs.Math.Bool.{and-true, and-false, or-false}
-use Rattle.wordset.specs.Words.{Words, some_below}
+use Rattle.domain.specs.Meaning.{offsets_of}
+use Rattle.domain.specs.declared.offsets.CountedOffsets.{CountedOffsets}
+use Rattle.wordset.specs.Words.{Words, nothing, some_below}
 use Rattle.wordset.proofs.Tests.{some_none_of, none_of_some}
+use Rattle.certificate.specs.Reading.{EndsBefore}
 use Rattle.certificate.specs.Spelling.{digits, offsets_text}
 use Rattle.certificate.specs.Fields.{EndsField}
 
@@ -66,13 +70,13 @@ other_digit (suc k) n x s tail r ends low high e = elim (cases_Bool (s n)) [
 
 -- The digits below n are read, of c digits.
 pub record DigitsRead (c n : ℕ) (old now : Option (List ℕ)) (t : Words) : Type 0 where
-  pub none : (v : ℕ) → n ≤ v → v < 8 → t v ≡ false
+  pub none : EndsBefore n t
   pub read : IfSome now (λ r. old ≡ Some (digits n t ++ r))
   pub only : (s : Words) (tail : List ℕ) → EndsField tail → old ≡ Some (digits c s ++ tail) →
       ((v : ℕ) → v < n → t v ≡ s v) × (now ≡ Some (digits_from (c - n) n s ++ tail))
 
-pub no_digits : (c : ℕ) (old : Option (List ℕ)) (t : Words) → ((v : ℕ) → v < 8 → t v ≡ false) → DigitsRead c 0 old old t
-no_digits c old t none = record { none = λ v a b. none v b; read = reads old; only = only }
+pub no_digits : (c : ℕ) (old : Option (List ℕ)) (t : Words) → t ≡ nothing → DigitsRead c 0 old old t
+no_digits c old t none = record { none = λ v a. ap (λ (f : Words). f v) none; read = reads old; only = only }
   where
     reads : (o : Option (List ℕ)) → IfSome o (λ r. o ≡ Some (digits 0 t ++ r))
     reads None = tt
@@ -94,23 +98,23 @@ at_some P None x h e = absurd (cc)
 at_some P (Some y) x h e = let z : y ≡ x = cc in subst P z h
 
 -- The digit n is taken if it's next.
-pub digit_tried : (c n : ℕ) (old now next : Option (List ℕ)) (t u : Words) (b : Bool) → n < c → c ≤ 8 → DigitsRead c n old now t →
+pub digit_tried : (c n : ℕ) (old now next : Option (List ℕ)) (t u : Words) (b : Bool) → n < c → DigitsRead c n old now t →
     (b ≡ true → IsSomeAnd next (λ r. now ≡ Some ((48 + n) ∷ r))) → (b ≡ false → next ≡ now) →
     ((r : List ℕ) → now ≡ Some ((48 + n) ∷ r) → (b ≡ true) × (next ≡ Some r)) →
-    ((v : ℕ) → v < 8 → u v ≡ (t v || b && v == n)) → DigitsRead c (n + 1) old next u
-digit_tried c n old now next t u b small few h took kept begins more = record { none = none; read = reads b next here took kept; only = only }
+    u ≡ (λ v. t v || b && v == n) → DigitsRead c (n + 1) old next u
+digit_tried c n old now next t u b small h took kept begins more = record { none = none; read = reads b next here took kept; only = only }
   where
-    other : (v : ℕ) → v < 8 → v ≢ n → u v ≡ t v
-    other v a d = more v a ∙ rw (ne_eqb v n d, and-false b) (or-false (t v))
+    other : (v : ℕ) → v ≢ n → u v ≡ t v
+    other v d = ap (λ (f : Words). f v) more ∙ rw (ne_eqb v n d, and-false b) (or-false (t v))
 
     here : u n ≡ b
-    here = more n (omega arith) ∙ rw (h.none n (omega arith) (omega arith), eq-eqb n n refl) (and-true b)
+    here = ap (λ (f : Words). f n) more ∙ rw (h.none n (omega arith), eq-eqb n n refl) (and-true b)
 
-    none : (v : ℕ) → n + 1 ≤ v → v < 8 → u v ≡ false
-    none v a d = other v d (λ z. omega arith) ∙ h.none v (omega arith) d
+    none : EndsBefore (n + 1) u
+    none v a = other v (λ z. omega arith) ∙ h.none v (omega arith)
 
     grown : (d : Bool) → u n ≡ d → digits (n + 1) u ≡ digits n t ++ (if d then (48 + n) ∷ [] else [])
-    grown d e = digits_more n u ∙ rw (digits_same n u t (λ v a. other v (omega arith) (λ z. omega arith)), e) refl
+    grown d e = digits_more n u ∙ rw (digits_same n u t (λ v a. other v (λ z. omega arith)), e) refl
 
     reads : (d : Bool) (o : Option (List ℕ)) → u n ≡ d → (d ≡ true → IsSomeAnd o (λ r. now ≡ Some ((48 + n) ∷ r))) → (d ≡ false → o ≡ now) →
         IfSome o (λ r. old ≡ Some (digits (n + 1) u ++ r))
@@ -135,7 +139,7 @@ digit_tried c n old now next t u b small few h took kept begins more = record { 
 
         up : u n ≡ s n → (v : ℕ) → v < n + 1 → u v ≡ s v
         up same v a = elim (cases_lt v n) [
-          | inl d ↦ other v (omega arith) (λ z. omega arith) ∙ p.0 v d
+          | inl d ↦ other v (λ z. omega arith) ∙ p.0 v d
           | inr d ↦ (let z : v ≡ n = omega arith in rw z same)
         ]
 
@@ -156,13 +160,6 @@ all_digits c n old now t low high h s tail ends e =
     let z : c - n ≡ 0 = omega arith in
     (λ v a. p.0 v (omega arith), rw (z, from_none n s) at p.1)
 
-pub some_same : (n : ℕ) (s t : Words) → ((v : ℕ) → v < n → s v ≡ t v) → some_below n s ≡ some_below n t
-unfolding some_below
-some_same zero s t h = refl
-some_same (suc n) s t h =
-    let e : some_below n s ≡ some_below n t = some_same n s t (λ v a. h v (omega arith)) in
-    let f : s n ≡ t n = h n (omega arith) in rw (e, f) refl
-
 -- What a call that reads digits says.
 pub record DigitsAre (c : ℕ) (old now : Option (List ℕ)) (t : Words) : Type 0 where
   pub read : IfSome now (λ r. old ≡ Some (digits c t ++ r))
@@ -174,7 +171,7 @@ pub no_links : {X : Type 0} (old now : Option (List ℕ)) (t u : Words) → Digi
     some_below 2 u ≡ false → (s : Words) (tail : List ℕ) → some_below 2 s ≡ true → EndsField tail → old ≡ Some (digits 2 s ++ tail) → X
 no_links old now t u g same none s tail some ends e =
     let p : ((v : ℕ) → v < 2 → t v ≡ s v) × (now ≡ Some tail) = g.only s tail ends e in
-    absurd (true≢false (sym some ∙ (sym (some_same 2 u s (λ v h. same v h ∙ p.0 v h)) ∙ none)))
+    absurd (true≢false (sym some ∙ some_none_of 2 s (λ v h. sym (same v h ∙ p.0 v h) ∙ none_of_some 2 u none v h)))
 
 pub links_read : (old now : Option (List ℕ)) (t u : Words) → DigitsAre 2 old now t → ((v : ℕ) → v < 2 → u v ≡ t v) →
     IfSome now (λ r. old ≡ Some (digits 2 u ++ r))
@@ -193,21 +190,19 @@ by_offsets s = elim (cases_Bool (some_below 8 s)) [ inl e ↦ inl e | inr e ↦ 
 -- What a call that reads offsets says.
 pub record OffsetsRead (old now : Option (List ℕ)) (t : Words) : Type 0 where
   pub read : IfSome now (λ r. old ≡ Some (offsets_text t ++ r))
-  pub only : (s : Words) (tail : List ℕ) → EndsField tail → old ≡ Some (offsets_text s ++ tail) →
-      ((o : ℕ) → o < 8 → t o ≡ s o) × (now ≡ Some tail)
+  pub only : (s : Words) (tail : List ℕ) → EndsField tail → old ≡ Some (offsets_text s ++ tail) → now ≡ Some tail
 
-pub dash_read : (old now : Option (List ℕ)) (t : Words) → ((v : ℕ) → v < 8 → t v ≡ false) → IsSomeAnd now (λ r. old ≡ Some (45 ∷ r)) →
+pub dash_read : (old now : Option (List ℕ)) (t : Words) → t ≡ nothing → IsSomeAnd now (λ r. old ≡ Some (45 ∷ r)) →
     ((r : List ℕ) → old ≡ Some (45 ∷ r) → (true ≡ true) × (now ≡ Some r)) → OffsetsRead old now t
 dash_read old None t none took begins = absurd took
-dash_read old (Some r) t none took begins = record { read = rw (no_offsets t none) took; only = only }
+dash_read old (Some r) t none took begins = record { read = rw (no_offsets t (λ v h. ap (λ (f : Words). f v) none)) took; only = only }
   where
-    only : (s : Words) (tail : List ℕ) → EndsField tail → old ≡ Some (offsets_text s ++ tail) →
-        ((o : ℕ) → o < 8 → t o ≡ s o) × (Some r ≡ Some tail)
+    only : (s : Words) (tail : List ℕ) → EndsField tail → old ≡ Some (offsets_text s ++ tail) → Some r ≡ Some tail
     only s tail ends e = elim (by_offsets s) [
       | inl some ↦ absurd (other_digit 8 0 45 s tail r ends (omega arith) (omega arith) (
           let f : offsets_text s ≡ digits_from 8 0 s = some_offsets s some ∙ all_from 8 s in
           let g : old ≡ Some (digits_from 8 0 s ++ tail) = e ∙ ap (λ (x : List ℕ). Some (x ++ tail)) f in cc))
-      | inr empty ↦ (λ o h. none o h ∙ sym (empty o h), (begins tail (e ∙ ap (λ (x : List ℕ). Some (x ++ tail)) (no_offsets s empty))).1)
+      | inr empty ↦ (begins tail (e ∙ ap (λ (x : List ℕ). Some (x ++ tail)) (no_offsets s empty))).1
     ]
 
 pub offsets_read : (old mid now : Option (List ℕ)) (t : Words) → mid ≡ old → ((r : List ℕ) → old ≡ Some (45 ∷ r) → (false ≡ true) × (mid ≡ Some r)) →
@@ -215,7 +210,7 @@ pub offsets_read : (old mid now : Option (List ℕ)) (t : Words) → mid ≡ old
 offsets_read old mid now t same begins g some = record {
   read = rw (some_offsets t some, ← same) g.read;
   only = λ s tail ends e. elim (by_offsets s) [
-    | inl full ↦ g.only s tail ends (same ∙ (e ∙ ap (λ (x : List ℕ). Some (x ++ tail)) (some_offsets s full)))
+    | inl full ↦ (g.only s tail ends (same ∙ (e ∙ ap (λ (x : List ℕ). Some (x ++ tail)) (some_offsets s full)))).1
     | inr empty ↦ absurd (false≢true (begins tail (e ∙ ap (λ (x : List ℕ). Some (x ++ tail)) (no_offsets s empty))).0)
   ];
 }
@@ -236,3 +231,7 @@ not_true false e = refl
 -- Not each offset is missing.
 pub has_offset : (t : Words) → (((v : ℕ) → v < 8 → t v ≡ false) → IsTrue false) → some_below 8 t ≡ true
 has_offset t h = elim (by_offsets t) [ inl some ↦ some | inr none ↦ absurd (false≢true (h none)) ]
+
+-- Of eight offsets none is past 7.
+pub eight_alone : (o : CountedOffsets) → length o.known ≡ 8 → EndsBefore 8 (offsets_of o)
+eight_alone o e v past = get_or_past o.known v false (omega (arith, e))

@@ -7,13 +7,14 @@ use Rattle.domain.specs.Facts.{Equation}
 use Rattle.domain.specs.Statements.{TrackedCell}
 use Rattle.certificate.specs.declared.Version.{Version}
 use Rattle.certificate.specs.Spelling.{RoutineLine, FactLine, ExitLine, Lines, fact_text_in, fact_text_at, Line, RoutineIs, FactIs, CellIs, EquationIs, End, registers_of, lines_of_fact, lines_of_exit, all_ended}
-use Rattle.certificate.specs.Reading.{RiseFrom, Each, IsRoutine, AreLines}
+use Rattle.certificate.specs.Reading.{RiseFrom, Each, IsRoutine}
 use Rattle.certificate.specs.Order.{is_detail, details_of_last}
 use Rattle.certificate.specs.Gathered.{gathered}
 use Rattle.certificate.specs.Found.{from_place, first_with_details, IsWhole}
 use Rattle.certificate.specs.Kept.{Kept, meaning}
 use Rattle.certificate.specs.Packed.{Packed, said_lines}
 use Rattle.certificate.proofs.GatherLemmas.{body_of}
+use Rattle.certificate.proofs.TextOrderLemmas.{AreFormed}
 use Rattle.certificate.proofs.FormLemmas.{gathered_formed}
 use Rattle.certificate.proofs.MakerLemmas.{kept_body}
 
@@ -79,7 +80,7 @@ pub fact_found : (v : Version) (k : Packed) (c : Kept) (a n : ℕ) (rest said : 
 fact_found v k kept a n rest said w view small same at is =
     let c : Lines = gathered v (said_lines k) in
     let whole : said_lines k ≡ body_of c = kept_body v (said_lines k) w.order w.no_end in
-    let form : AreLines c = gathered_formed v (said_lines k) w.order in
+    let form : AreFormed c = gathered_formed v (said_lines k) w.order in
     let later : List Line = flat_map lines_of_fact c.facts ++ flat_map lines_of_exit c.exits in
     ap (all_ended v) (is ∙ ap first_with_details (at ∙ (ap (from_place (4096 + a))
     (whole ∙ append_assoc (map RoutineIs c.routines) (flat_map lines_of_fact c.facts) (flat_map lines_of_exit c.exits)) ∙

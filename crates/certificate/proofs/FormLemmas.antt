@@ -5,11 +5,12 @@ use Rattle.domain.specs.Facts.{Equation}
 use Rattle.domain.specs.Statements.{TrackedCell}
 use Rattle.certificate.specs.declared.Version.{Version}
 use Rattle.certificate.specs.Spelling.{RoutineLine, FactLine, ExitLine, Registers, Line, RoutineIs, FactIs, ExitIs, CellIs, EquationIs, End}
-use Rattle.certificate.specs.Reading.{RiseFrom, place_of_equation, Each, IsTracked, IsEquation, IsStatement, IsRoutine, IsFactLine, IsExit, AreLines}
+use Rattle.certificate.specs.Reading.{RiseFrom, place_of_equation, Each, IsTracked, IsEquation, IsStatement, IsRoutine, IsFactLine, IsExit}
 use Rattle.certificate.specs.Line.{IsRegisters}
 use Rattle.certificate.specs.Order.{how_many, is_routine, is_cell, is_equation, heads, details_of_last, next_place, AreInOrder}
 use Rattle.certificate.specs.Gathered.{cells_under, equations_under, stated, routines_of, facts_of, exits_of, gathered}
 use Rattle.certificate.specs.Found.{newest_first}
+use Rattle.certificate.proofs.TextOrderLemmas.{AreFormed}
 use Rattle.certificate.proofs.GatherLemmas.{Follow, follows}
 
 -- The cells and equations under a fact or an exit are formed, after others of which this is the next place and these the numbers.
@@ -162,7 +163,7 @@ heads_formed v before (End ∷ ls) f =
     lower (next_place (heads before)) (how_many is_routine before) (omega arith) (omega arith) (heads_formed v (End ∷ before) ls f.2)
 
 -- What is said together.
-pub gathered_formed : (v : Version) (ls : List Line) → AreInOrder v (newest_first [] ls) → AreLines (gathered v ls)
+pub gathered_formed : (v : Version) (ls : List Line) → AreInOrder v (newest_first [] ls) → AreFormed (gathered v ls)
 gathered_formed v ls h =
     let f = heads_formed v [] ls (follows v [] ls h) in
     record {

@@ -10,8 +10,9 @@ use Rattle.certificate.specs.declared.packed.PackedLine.TheVariants as packed
 use Rattle.certificate.specs.declared.packed.KeptLine.{KeptLine}
 use Rattle.certificate.specs.Spelling.{Line, End}
 use Rattle.certificate.specs.Packed.{Packed, said_at, kept_at, lines_in, said_lines}
+use Rattle.certificate.specs.Reading.{Each}
 use Rattle.certificate.specs.Order.{any, is_detail, is_end, heads, place, next_place, AreInOrder}
-use Rattle.certificate.specs.Found.{newest_first, from_place, past, AreRising, last_past, ArePast, IsSought, IsNextPlace, IsWhole, Keeps, unended}
+use Rattle.certificate.specs.Found.{newest_first, from_place, past, AreRising, last_past, ArePast, IsSought, IsNextPlace, OffsetsEnd, IsWhole, Keeps, unended}
 use Rattle.certificate.proofs.TextLemmas.{newest_both}
 use Rattle.certificate.proofs.GatherLemmas.{Follow, follows}
 
@@ -41,8 +42,9 @@ rising v before (l ∷ ls) n f h = elim (cases_Bool (is_detail l)) [
       rw d (omega arith, rising v (l ∷ before) ls (place l + 1) f.2 (rw d (omega arith)))
 ]
 
-pub whole : (v : Version) (k : Packed) → AreInOrder v (newest_first [] (said_lines k)) → any is_end (newest_first [] (said_lines k)) ≡ false → IsWhole v k
-whole v k order no_end = record { order = order; no_end = no_end; rising = rising v [] (said_lines k) 0 (follows v [] (said_lines k) order) (omega arith) }
+pub whole : (v : Version) (k : Packed) → AreInOrder v (newest_first [] (said_lines k)) → any is_end (newest_first [] (said_lines k)) ≡ false →
+    Each OffsetsEnd (said_lines k) → IsWhole v k
+whole v k order no_end eight = record { order = order; no_end = no_end; eight = eight; rising = rising v [] (said_lines k) 0 (follows v [] (said_lines k) order) (omega arith) }
 
 -- The place after a line isn't a matter of its sets.
 past_same : (n : ℕ) (runs more : List Run) (l : PackedLine) → past n (said_at runs l) ≡ past n (said_at more l)

@@ -8,7 +8,7 @@ use Rattle.certificate.specs.declared.Version.{Version}
 use Rattle.certificate.specs.Spelling.{RoutineLine, FactLine, ExitLine, Lines, version_text, text, Line, RoutineIs, FactIs, ExitIs, CellIs, EquationIs, End, details, lines_of_fact, lines_of_exit, lines_of, ended, all_ended}
 use Rattle.certificate.specs.Reading.{Each}
 use Rattle.certificate.specs.Line.{IsLine}
-use Rattle.certificate.specs.Order.{any, is_detail, is_end, has_details, heads, details_of_last, next_place, IsNext, AreInOrder, front}
+use Rattle.certificate.specs.Order.{any, is_detail, is_end, has_details, heads, details_of_last, next_place, IsNext, AreInOrder, front, oldest}
 use Rattle.certificate.specs.Gathered.{cells_under, equations_under, routines_of, facts_of, exits_of, gathered}
 use Rattle.certificate.specs.Found.{newest_first}
 use Rattle.certificate.proofs.TextLemmas.{newest_both, front_newest}
@@ -153,13 +153,8 @@ any_reversed before (l ∷ ls) = any_reversed (l ∷ before) ls ∙ turned (any 
     turned false true c = refl
     turned false false c = refl
 
--- Lines with the oldest first.
-pub oldest : List Line → List Line
-oldest [] = []
-oldest (l ∷ ls) = oldest ls ++ l ∷ []
-
+-- The order turned twice.
 pub newest_oldest : (b : List Line) → newest_first [] (oldest b) ≡ b
-unfolding oldest
 newest_oldest [] = refl
 newest_oldest (l ∷ ls) = newest_both [] (oldest ls) (l ∷ []) ∙ ap (λ (x : List Line). l ∷ x) (newest_oldest ls)
 

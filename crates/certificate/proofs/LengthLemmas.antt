@@ -10,7 +10,7 @@ use Rattle.certificate.specs.declared.Version.TheVariants.{One, Two}
 use Rattle.certificate.specs.declared.packed.Run.{Run}
 use Rattle.certificate.specs.Spelling.{digits, set_text, offsets_text, mq_text, name_text, version_text, Registers, Line, RoutineIs, FactIs, ExitIs, CellIs, EquationIs, End, words_text, rank_text, line_text}
 use Rattle.certificate.specs.Fields.{run_text}
-use Rattle.certificate.specs.Faults.{NoFeed}
+use Rattle.certificate.specs.Parser.{NoFeed}
 use Rattle.certificate.specs.Packed.{StandApart}
 use Rattle.certificate.proofs.ApartLemmas.{more_text}
 use Rattle.certificate.proofs.SetLemmas.{by_words, empty_text}

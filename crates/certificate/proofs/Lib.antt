@@ -4,16 +4,11 @@ pub mod SetLemmas
 pub mod RunLemmas
 pub mod DigitLemmas
 pub mod LineLemmas
+pub mod LineOfLemmas
 pub mod ParserLemmas
 pub mod LengthLemmas
-pub mod OneFieldLemmas
-pub mod OneLineLemmas
-pub mod OneTextLemmas
 pub mod TextOrderLemmas
-pub mod OneFaultLemmas
-pub mod FromOrderLemmas
-pub mod SameTextLemmas
-pub mod SameMeaningLemmas
+pub mod TextAnswerLemmas
 pub mod GatherLemmas
 pub mod FormLemmas
 pub mod PackedLemmas
@@ -23,8 +18,5 @@ pub mod SpelledLemmas
 pub mod MakerLemmas
 pub mod PutLemmas
 pub mod FactTextLemmas
-pub mod ReadLemmas
 pub mod ServedLemmas
 pub mod AddingLemmas
-pub mod DecideLemmas
-mod AnswerLemmas

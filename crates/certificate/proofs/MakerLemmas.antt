@@ -1,22 +1,25 @@
 -- Lines added to those of a certificate.
-use Rattle.std.proofs.Common.{◌≡◌, ℕ, ◌+◌, ◌*◌, ◌<◌, ◌≤◌, Bool, true, false, List, [], ◌∷◌, ◌++◌, length, refl, ap, ◌∙◌, sym, arith, append_assoc, append-nil, length-append}
+use Rattle.std.proofs.Common.{◌≡◌, ℕ, ◌+◌, ◌*◌, ◌<◌, ◌≤◌, Bool, true, false, List, [], ◌∷◌, ◌++◌, length, refl, ap, ◌∙◌, sym, subst, arith, append_assoc, append-nil, length-append}
 use Rattle.std.specs.Prelude.{if◌then◌else◌, map, flat_map, Result, Ok, Err, OnOk}
 use Rattle.std.proofs.lemmas.List.{map_push, append_cancel_right}
 use Rattle.std.proofs.lemmas.List.Concat.{flat_map-append}
 use Rattle.wordset.specs.Words.{Words}
+use Rattle.domain.specs.Facts.{Equation}
+use Rattle.domain.specs.Statements.{TrackedCell}
 use Rattle.wordset.proofs.Tests.{some_from}
 use Rattle.certificate.specs.declared.Version.{Version}
 use Rattle.certificate.specs.declared.Version.TheVariants.{One, Two}
 use Rattle.certificate.specs.Spelling.{RoutineLine, FactLine, ExitLine, Lines, version_text, text, Line, RoutineIs, FactIs, ExitIs, CellIs, EquationIs, End, line_text, lines_of_fact, lines_of_exit, ended, all_ended}
-use Rattle.certificate.specs.Reading.{RiseFrom, Each, FitsVersion, IsRoutine, IsFactLine, IsExit, AreLines}
+use Rattle.certificate.specs.Reading.{RiseFrom, Each, EndsBefore, SetsEnd, FitsVersion, IsRoutine, IsFactLine, IsExit, AreLines}
 use Rattle.certificate.specs.Line.{IsLine}
 use Rattle.certificate.specs.Order.{any, is_end, heads, next_place, IsNext, AreInOrder}
 use Rattle.certificate.specs.Gathered.{routines_of, facts_of, exits_of, gathered}
-use Rattle.certificate.specs.Found.{newest_first, IsWhole}
+use Rattle.certificate.specs.Found.{newest_first, OffsetsEnd, IsWhole}
 use Rattle.certificate.specs.Packed.{Packed, said_lines, Begins}
 use Rattle.certificate.specs.Made.{with_routine, with_fact, with_exit, MayAddRoutine, MayAddFact, MayAddExit}
 use Rattle.certificate.proofs.TextLemmas.{newest_both, both_ended, each_append}
-use Rattle.certificate.proofs.TextOrderLemmas.{body_order}
+use Rattle.certificate.proofs.TextOrderLemmas.{AreFormed, with_ends, body_order}
+use Rattle.certificate.proofs.PackedLemmas.{sets_end}
 use Rattle.certificate.proofs.GatherLemmas.{lines_set_out, body_of, gathered_body}
 use Rattle.certificate.proofs.FormLemmas.{gathered_formed}
 use Rattle.certificate.proofs.FoundLemmas.{whole}
@@ -70,7 +73,7 @@ rise_push : {A : Type 0} (f : A → ℕ) (xs : List A) (x : A) (low : ℕ) → R
 rise_push f [] x low h e b = (b, tt)
 rise_push f (y ∷ ys) x low h e b = (h.0, rise_push f ys x (f y + 1) h.1 e.1 (let z : f y < f x = e.0 in omega arith))
 
-form_routine : (c : Lines) (r : RoutineLine) → r.entry < 4096 → AreLines c → MayAddRoutine c r → AreLines (with_routine c r)
+form_routine : (c : Lines) (r : RoutineLine) → r.entry < 4096 → AreFormed c → MayAddRoutine c r → AreFormed (with_routine c r)
 form_routine c r small h m = record {
   routines = each_append IsRoutine c.routines (r ∷ []) h.routines (record { entry = small; rank = m.rank }, tt);
   routines_rise = rise_push (λ q. q.entry) c.routines r 0 h.routines_rise m.rises (omega arith);
@@ -81,7 +84,7 @@ form_routine c r small h m = record {
   exits_rise = h.exits_rise;
 }
 
-form_fact : (c : Lines) (f : FactLine) → f.address < 4096 → AreLines c → MayAddFact c f → AreLines (with_fact c f)
+form_fact : (c : Lines) (f : FactLine) → f.address < 4096 → AreFormed c → MayAddFact c f → AreFormed (with_fact c f)
 form_fact c f small h m = record {
   routines = h.routines;
   routines_rise = h.routines_rise;
@@ -92,7 +95,7 @@ form_fact c f small h m = record {
   exits_rise = h.exits_rise;
 }
 
-form_exit : (c : Lines) (x : ExitLine) → x.entry < 4096 → AreLines c → MayAddExit c x → AreLines (with_exit c x)
+form_exit : (c : Lines) (x : ExitLine) → x.entry < 4096 → AreFormed c → MayAddExit c x → AreFormed (with_exit c x)
 form_exit c x small h m = record {
   routines = h.routines;
   routines_rise = h.routines_rise;
@@ -131,35 +134,47 @@ body_exit rs fs xs x =
     rw (flat_push lines_of_exit xs x)
     (append_assoc (map RoutineIs rs ++ flat_map lines_of_fact fs) (flat_map lines_of_exit xs) (lines_of_exit x))
 
+details_eight : (cs : List TrackedCell) (es : List Equation) → Each OffsetsEnd (map CellIs cs ++ map EquationIs es)
+details_eight [] [] = tt
+details_eight [] (e ∷ es) = (tt, details_eight [] es)
+details_eight (c ∷ cs) es = (tt, details_eight cs es)
+
+-- What is kept has no larger numbers in its sets.
+pub lines_formed : (v : Version) (k : Packed) → IsWhole v k → AreLines (gathered v (said_lines k))
+lines_formed v k w =
+    with_ends (gathered v (said_lines k)) (gathered_formed v (said_lines k) w.order)
+    (subst (λ (x : List Line). Each SetsEnd (x ++ End ∷ [])) (kept_body v (said_lines k) w.order w.no_end)
+    (each_append SetsEnd (said_lines k) (End ∷ []) (sets_end k.runs k.list w.eight) (tt, tt)))
+
 -- What a line more makes of a certificate.
 pub record Added (v : Version) (new : Packed) (c : Lines) : Type 0 where
   pub whole : IsWhole v new
   pub is : gathered v (said_lines new) ≡ c
 
 -- Lines were added, so that all are those of a certificate, or none was.
-added : (c : Lines) (k new : Packed) (more : List Line) (b : Bool) → IsWhole c.version k → AreLines c → said_lines k ++ more ≡ body_of c →
+added : (c : Lines) (k new : Packed) (more : List Line) (b : Bool) → IsWhole c.version k → AreFormed c → Each OffsetsEnd more → said_lines k ++ more ≡ body_of c →
     said_lines new ≡ (if b then said_lines k ++ more else said_lines k) → Added c.version new (if b then c else gathered c.version (said_lines k))
-added c k new more true w h same e =
+added c k new more true w h eight same e =
     let o = body_order c h in
     let all : said_lines new ≡ body_of c = e ∙ same in
-    record { whole = whole c.version new (rw all o.0) (rw all o.1); is = ap (gathered c.version) all ∙ gathered_body c }
-added c k new more false w h same e = record { whole = whole c.version new (rw e w.order) (rw e w.no_end); is = ap (gathered c.version) e }
+    record { whole = whole c.version new (rw all o.0) (rw all o.1) (rw e (each_append OffsetsEnd (said_lines k) more w.eight eight)); is = ap (gathered c.version) all ∙ gathered_body c }
+added c k new more false w h eight same e = record { whole = whole c.version new (rw e w.order) (rw e w.no_end) (rw e w.eight); is = ap (gathered c.version) e }
 
 pub routine_added : (v : Version) (k new : Packed) (r : RoutineLine) (b : Bool) → IsWhole v k → r.entry < 4096 →
     MayAddRoutine (gathered v (said_lines k)) r → said_lines new ≡ (if b then said_lines k ++ RoutineIs r ∷ [] else said_lines k) →
     Added v new (if b then with_routine (gathered v (said_lines k)) r else gathered v (said_lines k))
 routine_added v k new r b w small m =
     added (with_routine (gathered v (said_lines k)) r) k new (RoutineIs r ∷ []) b w
-    (form_routine (gathered v (said_lines k)) r small (gathered_formed v (said_lines k) w.order) m)
+    (form_routine (gathered v (said_lines k)) r small (gathered_formed v (said_lines k) w.order) m) (tt, tt)
     (ap (λ (x : List Line). x ++ RoutineIs r ∷ []) (kept_body v (said_lines k) w.order w.no_end) ∙
     body_routine v (routines_of (said_lines k)) (facts_of (said_lines k)) (exits_of (said_lines k)) r m.facts m.exits)
 
-pub fact_added : (v : Version) (k new : Packed) (f : FactLine) (b : Bool) → IsWhole v k → f.address < 4096 →
+pub fact_added : (v : Version) (k new : Packed) (f : FactLine) (b : Bool) → IsWhole v k → f.address < 4096 → EndsBefore 8 f.offsets →
     MayAddFact (gathered v (said_lines k)) f → said_lines new ≡ (if b then said_lines k ++ lines_of_fact f else said_lines k) →
     Added v new (if b then with_fact (gathered v (said_lines k)) f else gathered v (said_lines k))
-fact_added v k new f b w small m =
+fact_added v k new f b w small eight m =
     added (with_fact (gathered v (said_lines k)) f) k new (lines_of_fact f) b w
-    (form_fact (gathered v (said_lines k)) f small (gathered_formed v (said_lines k) w.order) m)
+    (form_fact (gathered v (said_lines k)) f small (gathered_formed v (said_lines k) w.order) m) (eight, details_eight f.statement.cells f.statement.equations)
     (ap (λ (x : List Line). x ++ lines_of_fact f) (kept_body v (said_lines k) w.order w.no_end) ∙
     body_fact (routines_of (said_lines k)) (facts_of (said_lines k)) (exits_of (said_lines k)) f m.exits)
 
@@ -168,7 +183,7 @@ pub exit_added : (v : Version) (k new : Packed) (x : ExitLine) (b : Bool) → Is
     Added v new (if b then with_exit (gathered v (said_lines k)) x else gathered v (said_lines k))
 exit_added v k new x b w small m =
     added (with_exit (gathered v (said_lines k)) x) k new (lines_of_exit x) b w
-    (form_exit (gathered v (said_lines k)) x small (gathered_formed v (said_lines k) w.order) m)
+    (form_exit (gathered v (said_lines k)) x small (gathered_formed v (said_lines k) w.order) m) (tt, details_eight x.statement.cells x.statement.equations)
     (ap (λ (y : List Line). y ++ lines_of_exit x) (kept_body v (said_lines k) w.order w.no_end) ∙
     body_exit (routines_of (said_lines k)) (facts_of (said_lines k)) (exits_of (said_lines k)) x)
 
@@ -183,7 +198,7 @@ begins_both xs ys zs a b = (a.0 ++ b.0, b.1 ∙ (ap (λ l. l ++ b.0) a.1 ∙ app
 
 -- Lines in order are so in version 2 too.
 fits_two : (v : Version) (mq : Words) → FitsVersion v mq → FitsVersion Two mq
-fits_two One mq h = some_from 4096 mq 0 (omega arith) (h 0 (omega arith))
+fits_two One mq h = some_from 4096 mq 0 (omega arith) (ap (λ (f : Words). f 0) h)
 fits_two Two mq h = h
 
 line_two : (v : Version) (l : Line) → IsLine v l → IsLine Two l
@@ -196,4 +211,4 @@ order_two v [] h = tt
 order_two v (l ∷ ls) h = (line_two v l h.0, record { stands = h.1.stands; order = h.1.order; room = h.1.room }, order_two v ls h.2)
 
 pub whole_two : (v : Version) (k : Packed) → IsWhole v k → IsWhole Two k
-whole_two v k w = whole Two k (order_two v (newest_first [] (said_lines k)) w.order) w.no_end
+whole_two v k w = whole Two k (order_two v (newest_first [] (said_lines k)) w.order) w.no_end w.eight

@@ -1,26 +1,28 @@
 -- Lines packed, and the runs of their sets.
-use Rattle.std.proofs.Common.{◌≡◌, ℕ, ◌+◌, ◌-◌, ◌<◌, ◌≤◌, Bool, true, false, ◌&&◌, ◌||◌, List, [], ◌∷◌, ◌++◌, length, map, get_or, take, drop, refl, ap, ◌∙◌, sym, subst, inl, inr, arith, append_assoc, length-append}
+use Rattle.std.proofs.Common.{◌≡◌, ℕ, ◌+◌, ◌-◌, ◌<◌, ◌≤◌, Bool, true, false, ◌&&◌, ◌||◌, List, [], ◌∷◌, ◌++◌, length, map, get_or, take, drop, refl, ap, ◌∙◌, sym, subst, arith, append_assoc, length-append}
 use Rattle.std.specs.Prelude.{not, nat_le, slice_range}
 use Rattle.std.specs.List.{AllByRecursion}
-use Rattle.std.proofs.lemmas.Bool.{true≢false, cases_lt}
-use Rattle.std.proofs.Math.Bool.{or-true, and-false}
+use Rattle.std.proofs.lemmas.Bool.{true≢false}
+use Rattle.std.proofs.Math.Bool.{and-false}
 use Rattle.std.proofs.lemmas.Bool.Decides.{nat_tests}
 use Rattle.std.proofs.lemmas.List.{take_all, take_at, take_more, drop_at, drop-append-le, take-append-le, length-drop, length-map, drop-map, drop_more, map_push, map_more}
 use Rattle.std.proofs.lemmas.List.Elements.{All-from_recursion}
-use Rattle.wordset.specs.Words.{Words, SameWords, all_words, everything, difference, nothing, between, union}
+use Rattle.wordset.specs.Words.{Words, SameWords, all_words, difference, nothing, between, union}
 use Rattle.wordset.specs.Lanes.{words}
-use Rattle.wordset.proofs.SetLemmas.{words_are, all_past, all_everything}
+use Rattle.wordset.proofs.SetLemmas.{words_are, equal_words, lt_to, all_past}
+use Rattle.wordset.proofs.RangeLemmas.{all_between}
 use Rattle.domain.specs.Statements.{TrackedCell, cell_at}
 use Rattle.domain.specs.Meaning.{offsets_of}
+use Rattle.certificate.specs.Reading.{Each, RegistersEnd, SetsEnd}
+use Rattle.certificate.specs.Found.{OffsetsEnd}
 use Rattle.certificate.specs.declared.packed.Run.{Run}
 use Rattle.certificate.specs.declared.packed.Counts.{Counts}
 use Rattle.certificate.specs.declared.packed.PackedRegisters.{PackedRegisters}
 use Rattle.certificate.specs.declared.packed.PackedLine.{PackedLine}
 use Rattle.certificate.specs.declared.packed.PackedLine.TheVariants as packed
 use Rattle.certificate.specs.declared.packed.KeptLine.{KeptLine}
-use Rattle.certificate.specs.Spelling.{Line, Registers as SaidRegisters, RoutineIs, FactIs, ExitIs, CellIs}
-use Rattle.certificate.specs.Reading.{Each}
-use Rattle.certificate.specs.Packed.{Begins, joined, set_of_runs, added, set_at, one_at, other_at, registers_at, said_at, kept_at, lines_in, AreWithin, LiesWithin, IsKept, AreLaid, IsPacked}
+use Rattle.certificate.specs.Spelling.{Line, Registers as SaidRegisters, FactIs, ExitIs, CellIs}
+use Rattle.certificate.specs.Packed.{Begins, joined, set_of_runs, added, set_at, one_at, other_at, registers_at, said_at, kept_at, lines_in, AreWithin, LiesWithin, IsKept, AreLaid, IsPacked, HasEight}
 
 -- A run more.
 pub joined_more : (t : Words) (rs : List Run) (r : Run) → joined t (rs ++ r ∷ []) ≡ union (joined t rs) (between r.first r.last)
@@ -42,17 +44,10 @@ below_between low high v a = grind (arith, nat_tests)
 pub above_between : (low high v : ℕ) → high < v → between low high v ≡ false
 above_between low high v a = let e : nat_le v high ≡ false = grind (arith, nat_tests) in rw e (and-false (nat_le low v))
 
--- No run, and a run more.
+-- No run.
 pub no_run : (v : ℕ) → set_of_runs [] v ≡ false
 unfolding set_of_runs
 no_run v = and-false (all_words v)
-
-pub run_more : (rs : List Run) (r : Run) → r.last < 4096 → (v : ℕ) → set_of_runs (rs ++ r ∷ []) v ≡ (set_of_runs rs v || between r.first r.last v)
-unfolding set_of_runs
-run_more rs r small v = ap (λ (k : Words). all_words v && k v) (joined_more nothing rs r) ∙ elim (cases_lt v 4096) [
-  | inl h ↦ rw (all_everything v h) refl
-  | inr h ↦ rw (all_past v h, above_between r.first r.last v (omega arith)) refl
-]
 
 pub or_with : (a b c d : Bool) → a ≡ c → b ≡ d → (a || b) ≡ (c || d)
 or_with a b c d e f = ap (λ x. x || b) e ∙ ap (λ x. c || x) f
@@ -70,26 +65,33 @@ pub runs_past : (rs : List Run) (v : ℕ) → 4096 ≤ v → set_of_runs rs v �
 unfolding set_of_runs
 runs_past rs v h = ap (λ b. b && joined nothing rs v) (all_past v h)
 
--- So has none of a routine's sets that are kept.
-abbrev pub SetsEnd : Line → Type 0
-SetsEnd (RoutineIs r) = ((v : ℕ) → 4096 ≤ v → r.sites v ≡ false) × ((v : ℕ) → 4096 ≤ v → r.writes v ≡ false)
-SetsEnd _ = Unit {0}
+-- So has no set of a line that's kept.
+pub registers_end : (runs : List Run) (r : PackedRegisters) → RegistersEnd (registers_at runs r)
+registers_end runs r = record { ac = λ v h. runs_past _ v h; mq = λ v h. runs_past _ v h; link = refl }
 
-said_end : (runs : List Run) (l : PackedLine) → SetsEnd (said_at runs l)
-said_end runs (packed.Routine r) = (λ v h. runs_past _ v h, λ v h. runs_past _ v h)
-said_end runs (packed.Fact a r o) = tt
-said_end runs (packed.Exit e o r) = tt
-said_end runs (packed.Cell a n) = tt
-said_end runs (packed.Equation e) = tt
-said_end runs packed.End = tt
+pub said_end : (runs : List Run) (l : PackedLine) → HasEight l → SetsEnd (said_at runs l)
+said_end runs (packed.Routine r) h = (λ v h. runs_past _ v h, λ v h. runs_past _ v h)
+said_end runs (packed.Fact a r o) h = (registers_end runs r, h)
+said_end runs (packed.Exit e o r) h = registers_end runs r
+said_end runs (packed.Cell a n) h = λ v h. runs_past _ v h
+said_end runs (packed.Equation e) h = tt
+said_end runs packed.End h = tt
 
-pub sets_end : (runs : List Run) (ls : List KeptLine) → Each SetsEnd (lines_in runs ls)
-sets_end runs [] = tt
-sets_end runs (k ∷ ls) = (said_end (drop k.first runs) k.line, sets_end runs ls)
+eight_of : (runs : List Run) (l : PackedLine) → OffsetsEnd (said_at runs l) → HasEight l
+eight_of runs (packed.Routine r) h = tt
+eight_of runs (packed.Fact a r o) h = h
+eight_of runs (packed.Exit e o r) h = tt
+eight_of runs (packed.Cell a n) h = tt
+eight_of runs (packed.Equation e) h = tt
+eight_of runs packed.End h = tt
+
+pub sets_end : (runs : List Run) (ls : List KeptLine) → Each OffsetsEnd (lines_in runs ls) → Each SetsEnd (lines_in runs ls)
+sets_end runs [] h = tt
+sets_end runs (k ∷ ls) h = (said_end (drop k.first runs) k.line (eight_of (drop k.first runs) k.line h.0), sets_end runs ls h.1)
 
 pub runs_within : (rs : List Run) (v : ℕ) → v < 4096 → joined nothing rs v ≡ set_of_runs rs v
 unfolding set_of_runs
-runs_within rs v h = sym (ap (λ b. b && joined nothing rs v) (all_everything v h))
+runs_within rs v h = sym (ap (λ b. b && joined nothing rs v) (lt_to v h))
 
 pub set_is : (lanes : List ℕ) (rs : List Run) → SameWords (words lanes) (joined nothing rs) → words lanes ≡ set_of_runs rs
 set_is lanes rs same = words_are lanes (set_of_runs rs) (runs_past rs) (λ v h. same v h ∙ runs_within rs v h)
@@ -188,11 +190,17 @@ pub packed_after : (old new runs : List Run) (l : PackedLine) → new ≡ old ++
 packed_after old new runs l e w =
     subst (λ (rs : List Run). IsPacked rs l (said_at runs l)) (sym (ap (drop (length old)) e ∙ drop_at old runs (length old) refl)) (record { within = w; is = refl })
 
+-- The set of one run.
+pub one_run : (r : Run) → r.last < 4096 → set_of_runs (r ∷ []) ≡ between r.first r.last
+unfolding set_of_runs
+one_run r small = equal_words _ _ (runs_past (r ∷ [])) (λ v h. above_between r.first r.last v (omega arith))
+    (λ v h. ap (λ b. b && between r.first r.last v) (lt_to v h))
+
 -- The run of all words.
-pub all_added : (old new : List Run) (r : Run) → r.first ≡ 0 → r.last ≡ 4095 → new ≡ old ++ r ∷ [] → SameWords (added old new) everything
-all_added old new r first last e v h =
-    ap (λ (rs : List Run). set_of_runs rs v) (ap (drop (length old)) e ∙ drop_at old (r ∷ []) (length old) refl) ∙
-    (run_more [] r (omega arith) v ∙ rw (in_between r.first r.last v (omega arith) (omega arith)) (or-true (set_of_runs [] v)))
+pub all_added : (old new : List Run) (r : Run) → r.first ≡ 0 → r.last ≡ 4095 → new ≡ old ++ r ∷ [] → added old new ≡ all_words
+all_added old new r first last e =
+    ap set_of_runs (ap (drop (length old)) e ∙ drop_at old (r ∷ []) (length old) refl) ∙ (one_run r (omega arith) ∙
+    sym (all_between r.first r.last first last))
 
 -- The runs of two sets that were added one after the other.
 pub two_laid : (old mid new : List Run) (n m : ℕ) (one other : Words) → Begins old mid → Begins mid new → length old + n ≡ length mid →

@@ -1,46 +1,41 @@
 -- A certificate's text taken byte by byte.
-use Rattle.std.proofs.Common.{◌≡◌, ℕ, ◌+◌, ◌<◌, ◌≤◌, ◌==◌, Bool, true, false, List, [], ◌∷◌, ◌++◌, length, Option, Some, None, Result, Ok, Err, refl, ap, ◌∙◌, sym, subst, inl, inr, arith, append_assoc, append-nil, length-append}
-use Rattle.std.specs.Prelude.{IfSome, MatchResult, not, ◌&&◌, ◌||◌}
-use Rattle.std.proofs.lemmas.Bool.{true≢false, eqb-true, eq-eqb, cases_lt}
+use Rattle.std.proofs.Common.{◌≡◌, ◌≢◌, ◌⊎◌, ℕ, ◌+◌, ◌<◌, ◌≤◌, ◌==◌, Bool, true, false, List, [], ◌∷◌, ◌++◌, length, Option, Some, None, Result, Ok, Err, refl, ap, ◌∙◌, sym, subst, inl, inr, arith, append_assoc, append-nil, length-append}
+use Rattle.std.specs.Prelude.{IfSome, IfOk, IfErr, MatchResult, not, ◌&&◌, ◌||◌}
+use Rattle.std.proofs.lemmas.Bool.{true≢false, false≢true, eqb-true, eq-eqb, ne_eqb, cases_lt}
 use Rattle.certificate.specs.declared.Version.{Version}
+use Rattle.certificate.specs.declared.Version.TheVariants.{One, Two}
 use Rattle.certificate.specs.declared.CertificateFault.{CertificateFault}
 use Rattle.certificate.specs.declared.CertificateFault.TheVariants as faults
 use Rattle.certificate.specs.declared.progress.Progress.{Progress}
-use Rattle.certificate.specs.Spelling.{version_text, text as spelled, Line, End, line_text}
-use Rattle.certificate.specs.Order.{any, is_end, may_stand, AreInOrder, front, IsBad, IsMisplaced, IsOneTooMany, Continues}
-use Rattle.certificate.specs.Progress.{Tracks, Declines}
+use Rattle.certificate.specs.declared.parser.Parser.{Parser}
+use Rattle.certificate.specs.Spelling.{Lines, version_text, Line, FactIs, End, line_text}
+use Rattle.certificate.specs.Reading.{Each, SetsEnd}
+use Rattle.certificate.specs.LineOf.{line_of}
+use Rattle.certificate.specs.Order.{any, is_end, may_stand, AreInOrder, front, oldest}
+use Rattle.certificate.specs.Progress.{Tracks, Continues}
+use Rattle.certificate.specs.Gathered.{gathered}
 use Rattle.certificate.specs.Packed.{Packed, said_lines}
-use Rattle.certificate.specs.Found.{newest_first, Keeps, IsWhole, unended}
-use Rattle.certificate.specs.Faults.{most_bytes, NoFeed, HasLine, HasFaultyLine, HasRest, IsCut}
+use Rattle.certificate.specs.Found.{Keeps, OffsetsEnd, IsWhole, unended}
+use Rattle.certificate.specs.Faults.{most_bytes, Progress as ReadingProgress, Start, After, Failed, after_line, at_last, answer_from, pieces, reading, AsksForMemory}
+use Rattle.certificate.specs.Serving.{Settles}
+use Rattle.certificate.specs.Kept.{Kept as KeptCertificate}
+use Rattle.certificate.specs.Parser.{NoFeed, Reached, HasRead, WasRead, Parts, Seen, Refuses, IsParsed}
 use Rattle.certificate.proofs.LengthLemmas.{line_short, no_feed_both}
-use Rattle.certificate.proofs.TextLemmas.{newest_both}
-use Rattle.certificate.proofs.GatherLemmas.{text_of_gathered}
-use Rattle.certificate.proofs.FormLemmas.{gathered_formed}
+use Rattle.certificate.proofs.LineOfLemmas.{no_line_of}
+use Rattle.certificate.proofs.TextAnswerLemmas as answer
+use Rattle.certificate.proofs.TextAnswerLemmas.{bad_line, no_version, front_on, end_on, few_read, end_read, each_oldest, oldest_newest, fault_of_bytes, asks}
 use Rattle.certificate.proofs.FoundLemmas.{not_end, whole}
 use Rattle.certificate.proofs.MakerLemmas.{gathered_end}
-use Rattle.certificate.specs.Parser.{Reached, HasRead, WasRead, Parts, Seen, Refuses, IsParsed}
-use Rattle.certificate.specs.declared.parser.Parser.{Parser}
 
-long_bad : (v : Version) (before : List Line) (bytes : List ℕ) → 32768 < length bytes → IsBad v before bytes
-long_bad v before bytes h l spells stands =
+long_bad : (v : Version) (bytes : List ℕ) → 32768 < length bytes → line_of v bytes ≡ None
+long_bad v bytes h = no_line_of v bytes (λ l spells.
     let a : length (line_text v l) ≤ 32768 = line_short v l in
-    let b : length bytes ≡ length (line_text v l) = ap length spells.1 in omega arith
+    let b : length bytes ≡ length (line_text v l) = ap length spells.1 in omega arith)
 
--- What a call that keeps a line leaves.
-abbrev pub Kept : List ℕ → List ℕ → List ℕ → List ℕ → Option Progress → Bool → Progress → Type 0
-Kept text line new_text new_line new long p = (new_text ≡ text ++ line ++ 10 ∷ []) × (new_line ≡ []) × (new ≡ Some p) × (long ≡ false)
-
-kept_parts : (new_kept : Packed) (text line new_text new_line bytes : List ℕ) (new : Option Progress) (long : Bool) (p : Progress) →
-    bytes ≡ text ++ line → Kept text line new_text new_line new long p → Reached p new_text new_kept →
-    Parts new_text new_kept new new_line long (bytes ++ 10 ∷ [])
-kept_parts new_kept text line new_text new_line bytes new long p e k h = record {
-  tail = [];
-  split = rw (e, k.0) (sym (append-nil (text ++ line ++ 10 ∷ [])));
-  read = rw k.2 h;
-  feed = tt;
-  same = λ q. k.1;
-  long = λ q. absurd (true≢false (sym q ∙ k.3));
-}
+-- A fault that is settled isn't that memory was refused.
+pub settles_refuses : (bytes : List ℕ) (f : CertificateFault) → Settles bytes f → Refuses bytes f
+settles_refuses bytes faults.NoMemory h = absurd (false≢true (fault_of_bytes (bytes ++ []) faults.NoMemory (h [])))
+settles_refuses bytes f h = h
 
 -- The whole lines that were seen were read.
 pub was_read : {A : Type 0} (p : Parser A) (bytes : List ℕ) → Seen p bytes → WasRead p.progress p.kept
@@ -52,24 +47,6 @@ line_split kept text line bytes progress h = rw (h.same refl) h.split
 
 line_feed : (kept : Packed) (text line bytes : List ℕ) (progress : Option Progress) → (h : Parts text kept progress line false bytes) → NoFeed line
 line_feed kept text line bytes progress h = rw (h.same refl) h.feed
-
--- The first line.
-pub first_kept : (kept new_kept : Packed) (text line new_text new_line bytes : List ℕ) (new : Option Progress) (long : Bool) (p : Progress) (v : Version) →
-    Parts text kept None line false bytes → line ≡ version_text v → p.version ≡ v → Tracks p [] → Kept text line new_text new_line new long p →
-    new_kept ≡ kept → Parts new_text new_kept new new_line long (bytes ++ 10 ∷ [])
-first_kept kept new_kept text line new_text new_line bytes new long p v h e w t k same =
-    kept_parts new_kept text line new_text new_line bytes new long p (line_split kept text line bytes None h) k
-    (record { before = []; order = tt; tracks = t; keeps = rw same h.read.1; is = (let z : text ≡ [] = h.read.0 in k.0 ∙ rw (z, e, w) refl) })
-
--- A line at the end of what was seen.
-has_line : (text tail bytes whole rest : List ℕ) → bytes ≡ text ++ tail → text ≡ whole → NoFeed tail → length bytes < most_bytes →
-    HasLine (bytes ++ 10 ∷ [] ++ rest) whole tail
-has_line text tail bytes whole rest e f feed small = record {
-  rest = rest;
-  split = rw (e, f) (append_assoc (whole ++ tail) (10 ∷ []) rest);
-  feed = feed;
-  within = rw (← f) (let z : length bytes ≡ length (text ++ tail) = ap length e in omega (arith, length-append text tail));
-}
 
 -- Lines after which one may stand have no end.
 open_before : (before : List Line) → any is_end before ≡ false → unended before ≡ before
@@ -99,83 +76,117 @@ ended_last v (End ∷ ls) h e = record { is = refl; order = h.2; no_end = not_en
 ended_last v (l ∷ ls) h e = absurd (true≢false (sym e ∙ not_ended (any is_end ls) _ h.1.stands))
 
 -- A further line.
-pub next_kept : (kept mid new_kept : Packed) (text line new_text new_line bytes : List ℕ) (old new : Option Progress) (long : Bool)
-    (p q : Progress) (l : Line) → old ≡ Some p → Parts text kept old line false bytes → q.version ≡ p.version →
-    ((before : List Line) → Tracks p before → Continues p.version before line l × Tracks q (l ∷ before)) → Kept text line new_text new_line new long q →
-    ((before : List Line) → Keeps kept before → Keeps mid (unended (l ∷ before))) → new_kept ≡ mid →
-    Parts new_text new_kept new new_line long (bytes ++ 10 ∷ [])
-next_kept kept mid new_kept text line new_text new_line bytes old new long p q l is h w t k more same =
-    kept_parts new_kept text line new_text new_line bytes new long q (line_split kept text line bytes old h) k
-    (made (let z : HasRead (Some p) text kept = rw is at h.read in z))
+pub next_kept : (kept new : Packed) (text line bytes : List ℕ) (p q : Progress) (l : Line) → Parts text kept (Some p) line false bytes → q.version ≡ p.version →
+    ((before : List Line) → Tracks p before → Continues p.version before line l × Tracks q (l ∷ before)) →
+    ((before : List Line) → Keeps kept before → Keeps new (unended (l ∷ before))) →
+    Parts (text ++ line ++ 10 ∷ []) new (Some q) [] false (bytes ++ 10 ∷ [])
+next_kept kept new text line bytes p q l h w t more = record {
+  tail = [];
+  split = rw (line_split kept text line bytes (Some p) h) (sym (append-nil (text ++ line ++ 10 ∷ [])));
+  read = read h.read;
+  feed = tt;
+  same = λ e. refl;
+  long = λ e. absurd (false≢true e);
+}
   where
-    made : Reached p text kept → Reached q new_text new_kept
-    made g =
+    read : Reached p text kept → Reached q (text ++ line ++ 10 ∷ []) new
+    read g =
         let n = t g.before g.tracks in
         let e : line ≡ line_text p.version l = n.0.spells.1 in
         record {
           before = l ∷ g.before;
           order = subst (λ (v : Version). AreInOrder v (l ∷ g.before)) (sym w) (n.0.spells.0, n.0.next, g.order);
+          end = (n.0.ends, g.end);
           tracks = n.1;
-          keeps = rw same (more g.before (let k : unended g.before ≡ g.before = still_open g.before l n.0.next.stands in rw k at g.keeps));
-          is = subst (λ (v : Version). new_text ≡ front v (l ∷ g.before)) (sym w)
-              (k.0 ∙ rw (g.is, e) (append_assoc (front p.version g.before) (line_text p.version l) (10 ∷ [])));
+          keeps = more g.before (let k : unended g.before ≡ g.before = still_open g.before l n.0.next.stands in rw k at g.keeps);
+          is = subst (λ (v : Version). text ++ line ++ 10 ∷ [] ≡ front v (l ∷ g.before)) (sym w)
+              (rw (g.is, e) (append_assoc (front p.version g.before) (line_text p.version l) (10 ∷ [])));
         }
 
-faulty : (kept : Packed) (p : Progress) (text line bytes rest : List ℕ) (n : ℕ) (IsFaulty : Version → List Line → List ℕ → Type 0) → (g : Reached p text kept) →
-    bytes ≡ text ++ line → NoFeed line → length bytes < most_bytes → n ≡ length g.before + 2 → IsFaulty p.version g.before line →
-    HasFaultyLine (bytes ++ 10 ∷ [] ++ rest) n IsFaulty
-faulty kept p text line bytes rest n IsFaulty g e feed small number bad = record {
-  version = p.version;
-  before = g.before;
-  order = g.order;
-  number = number;
-  line = line;
-  place = has_line text line bytes (front p.version g.before) rest e g.is feed small;
-  faulty = bad;
-}
+-- A first line that is none.
+none_first : (kept : Packed) (text tail bytes : List ℕ) → HasRead None text kept → bytes ≡ text ++ tail → NoFeed tail → length bytes < most_bytes →
+    ((v : Version) → tail ≢ version_text v) → Refuses (bytes ++ 10 ∷ []) faults.Version
+none_first kept text tail bytes h split feed small none =
+    let e : bytes ≡ tail = split ∙ ap (λ (x : List ℕ). x ++ tail) h.0 in
+    rw e (answer.first_refused tail faults.Version feed (rw e at small) (no_version tail none))
 
-pub next_refused : (kept : Packed) (text line bytes : List ℕ) (old : Option Progress) (p q : Progress) (f : CertificateFault) → old ≡ Some p →
-    Parts text kept old line false bytes → length bytes < most_bytes →
-    ((before : List Line) → Tracks p before → Declines p.version before line f) → Refuses (bytes ++ 10 ∷ []) f
-next_refused kept text line bytes old p q f is h small t = go f t
-  where
-    e : bytes ≡ text ++ line
-    e = line_split kept text line bytes old h
+pub first_refused : (kept : Packed) (text line bytes : List ℕ) → Parts text kept None line false bytes → length bytes < most_bytes →
+    ((v : Version) → line ≢ version_text v) → Refuses (bytes ++ 10 ∷ []) faults.Version
+first_refused kept text line bytes h small none =
+    none_first kept text line bytes h.read (line_split kept text line bytes None h) (line_feed kept text line bytes None h) small none
 
-    feed : NoFeed line
-    feed = line_feed kept text line bytes old h
+version_short : (v : Version) → length (version_text v) ≤ 32768
+version_short One = omega arith
+version_short Two = omega arith
 
-    g : Reached p text kept
-    g = let z : HasRead (Some p) text kept = rw is at h.read in z
+pub long_first : (kept : Packed) (text line bytes : List ℕ) (o : Option Progress) (long : Bool) → o ≡ None → long ≡ true → Parts text kept o line long bytes →
+    length bytes < most_bytes → Refuses (bytes ++ 10 ∷ []) faults.Version
+long_first kept text line bytes o long is e h small =
+    none_first kept text h.tail bytes (let z : HasRead None text kept = rw is at h.read in z) h.split h.feed small (λ v same.
+    let a : length h.tail ≡ length (version_text v) = ap length same in
+    let b : 32768 < length h.tail = h.long e in
+    let d : length (version_text v) ≤ 32768 = version_short v in absurd (omega arith))
 
-    go : (f : CertificateFault) → ((before : List Line) → Tracks p before → Declines p.version before line f) → Refuses (bytes ++ 10 ∷ []) f
-    go (faults.BadLine n) t = let b = t g.before g.tracks in λ rest. inl (faulty kept p text line bytes rest n IsBad g e feed small b.0 b.1)
-    go (faults.Order n) t = let b = t g.before g.tracks in λ rest. faulty kept p text line bytes rest n IsMisplaced g e feed small b.0 b.1
-    go faults.TooMany t = λ rest. inl (length g.before + 2, faulty kept p text line bytes rest (length g.before + 2) IsOneTooMany g e feed small refl (t g.before g.tracks))
-    go faults.Version t = absurd (t g.before g.tracks)
-    go faults.NoMemory t = absurd (t g.before g.tracks)
-    go faults.ReadFault t = absurd (t g.before g.tracks)
+module _ (kept : Packed) (text bytes : List ℕ) (old : Option Progress) (p : Progress) (is : old ≡ Some p) (small : length bytes < most_bytes) where
+  there : HasRead old text kept → Reached p text kept
+  there h = let z : HasRead (Some p) text kept = rw is at h in z
 
--- A line that is too long.
-pub long_refused : (kept : Packed) (text line bytes : List ℕ) (old : Option Progress) (p : Progress) (long : Bool) (n : ℕ) → old ≡ Some p → long ≡ true →
-    Parts text kept old line long bytes → length bytes < most_bytes → n ≡ p.number → Refuses (bytes ++ 10 ∷ []) (faults.BadLine n)
-long_refused kept text line bytes old p long n is e h small number = λ rest.
-    inl (faulty kept p text h.tail bytes rest n IsBad g h.split h.feed small (number ∙ g.tracks.number) (long_bad p.version g.before h.tail (h.long e)))
-  where
-    g : Reached p text kept
-    g = let z : HasRead (Some p) text kept = rw is at h.read in z
+  -- A further line that has a fault.
+  line_refused : (tail : List ℕ) (f : CertificateFault) → HasRead old text kept → bytes ≡ text ++ tail → NoFeed tail →
+      ((before : List Line) → Tracks p before → after_line (After p.version before) tail ≡ Failed f) → Refuses (bytes ++ 10 ∷ []) f
+  line_refused tail f h e feed fails =
+      let g : Reached p text kept = there h in
+      let same : bytes ≡ front p.version g.before ++ tail = e ∙ ap (λ (x : List ℕ). x ++ tail) g.is in
+      settles_refuses (bytes ++ 10 ∷ []) f
+      (rw same (answer.line_refused p.version g.before tail f g.order g.end feed (rw same at small) (fails g.before g.tracks)))
 
--- The lines that were read, and the bytes after them.
-abbrev pub rest_of : (kept : Packed) (text line bytes : List ℕ) (long : Bool) (p : Progress) →
-    Parts text kept (Some p) line long bytes → HasRest bytes
-rest_of kept text line bytes long p h = record {
-  version = p.version;
-  before = h.read.before;
-  order = h.read.order;
-  rest = h.tail;
-  split = h.split ∙ ap (λ (x : List ℕ). x ++ h.tail) h.read.is;
-  feed = h.feed;
-}
+  pub next_refused : (line : List ℕ) (f : CertificateFault) → Parts text kept old line false bytes →
+      ((before : List Line) → Tracks p before → after_line (After p.version before) line ≡ Failed f) → Refuses (bytes ++ 10 ∷ []) f
+  next_refused line f h fails = line_refused line f h.read (line_split kept text line bytes old h) (line_feed kept text line bytes old h) fails
+
+  -- A line that is too long.
+  pub long_refused : (line : List ℕ) (long : Bool) (n : ℕ) → long ≡ true → Parts text kept old line long bytes → n ≡ p.number →
+      Refuses (bytes ++ 10 ∷ []) (faults.BadLine n)
+  long_refused line long n e h number = line_refused h.tail (faults.BadLine n) h.read h.split h.feed (λ before t.
+      bad_line p.version before h.tail (long_bad p.version h.tail (h.long e)) ∙ ap (λ k. Failed (faults.BadLine k)) (sym (number ∙ t.number)))
+
+-- A line more, for which memory was wanting.
+pub wanting : (kept : Packed) (text line bytes : List ℕ) (p q : Progress) (l : Line) → Parts text kept (Some p) line false bytes → length bytes < most_bytes →
+    ((before : List Line) → Tracks p before → Continues p.version before line l × Tracks q (l ∷ before)) → is_end l ≡ false →
+    AsksForMemory (bytes ++ 10 ∷ [])
+wanting kept text line bytes p q l h small t grows =
+    let g : Reached p text kept = h.read in
+    let n = t g.before g.tracks in
+    let same : bytes ≡ front p.version g.before ++ line_text p.version l = line_split kept text line bytes (Some p) h ∙ rw (g.is, n.0.spells.1) refl in
+    let whole : bytes ++ 10 ∷ [] ≡ front p.version (l ∷ g.before) ++ [] =
+    ap (λ (x : List ℕ). x ++ 10 ∷ []) same ∙ (append_assoc (front p.version g.before) (line_text p.version l) (10 ∷ []) ∙ sym (append-nil (front p.version (l ∷ g.before)))) in
+    let e : length (bytes ++ 10 ∷ []) ≡ length (front p.version (l ∷ g.before)) = ap length (whole ∙ append-nil (front p.version (l ∷ g.before))) in
+    asks p.version l g.before (bytes ++ 10 ∷ []) [] (n.0.spells.0, n.0.next, g.order) (n.0.ends, g.end) grows whole
+    (omega (arith, e, length-append bytes (10 ∷ []), small))
+
+-- Where reading stands after the whole lines, and what the bytes so far and more without a line feed are answered with.
+unfoldable pub place_at : (kept : Packed) (text : List ℕ) (o : Option Progress) → HasRead o text kept → ReadingProgress
+place_at kept text None h = Start
+place_at kept text (Some p) h = After p.version h.before
+
+pub seen_answer : (kept : Packed) (text line bytes : List ℕ) (o : Option Progress) (long : Bool) (h : Parts text kept o line long bytes) (b : Bool)
+    (more : List ℕ) → NoFeed more → answer_from b Start (pieces (bytes ++ more)) ≡ at_last b (place_at kept text o h.read) (h.tail ++ more)
+unfolding place_at
+seen_answer kept text line bytes None long h b more feed =
+    let none : text ≡ [] = h.read.0 in
+    let same : bytes ≡ h.tail = h.split ∙ ap (λ (x : List ℕ). x ++ h.tail) none in
+    ap (λ (x : List ℕ). answer_from b Start (pieces (x ++ more))) same ∙ end_on b Start (h.tail ++ more) (no_feed_both h.tail more h.feed feed)
+seen_answer kept text line bytes (Some p) long h b more feed =
+    ap (λ (x : List ℕ). answer_from b Start (pieces x)) (ap (λ (x : List ℕ). x ++ more) h.split ∙ (append_assoc text h.tail more ∙
+    ap (λ (x : List ℕ). x ++ (h.tail ++ more)) h.read.is)) ∙
+    (front_on b p.version h.read.before (h.tail ++ more) h.read.order h.read.end ∙
+    end_on b (After p.version h.read.before) (h.tail ++ more) (no_feed_both h.tail more h.feed feed))
+
+pub seen_read : (kept : Packed) (text line bytes : List ℕ) (o : Option Progress) (long : Bool) (h : Parts text kept o line long bytes) →
+    length bytes ≤ most_bytes → reading bytes ≡ at_last false (place_at kept text o h.read) h.tail
+seen_read kept text line bytes o long h few =
+    few_read bytes few ∙ (ap (λ (x : List ℕ). answer_from false Start (pieces x)) (sym (append-nil bytes)) ∙
+    (seen_answer kept text line bytes o long h false [] tt ∙ ap (at_last false (place_at kept text o h.read)) (append-nil h.tail)))
 
 -- What was seen once a line was taken.
 pub then_seen : {A U : Type 0} (p : Parser A) (text bytes : List ℕ) (r : Result U CertificateFault) → p.line.items ≡ [] → p.is_long ≡ false →
@@ -229,26 +240,50 @@ passed kept text line new_line bytes piece progress long h n fits = record {
 pub is_full : (n most : ℕ) → true ≡ (n == most) → most ≤ n
 is_full n most e = let z : n ≡ most = eqb-true n most (sym e) in omega arith
 
+-- The bytes have no whole line.
+pub no_lines : (kept : Packed) (text line bytes : List ℕ) (o : Option Progress) (long : Bool) → o ≡ None → Parts text kept o line long bytes → length bytes ≤ most_bytes →
+    reading bytes ≡ Err faults.Version
+unfolding place_at
+no_lines kept text line bytes o long is h few =
+    let k : Parts text kept None line long bytes = rw is at h in seen_read kept text line bytes None long k few
+
 -- The bytes end without the end, or with something after it.
+cut_at : (v : Version) (before : List Line) (tail : List ℕ) → (any is_end before ≡ true → tail ≡ [] → ⊥) →
+    at_last false (After v before) tail ≡ Err (faults.BadLine (length before + 2))
+cut_at v before tail lacks = go (any is_end before) refl tail refl
+  where
+    go : (b : Bool) → any is_end before ≡ b → (t : List ℕ) → tail ≡ t → at_last false (After v before) t ≡ Err (faults.BadLine (length before + 2))
+    go false e t f = rw e refl
+    go true e [] f = absurd (lacks e f)
+    go true e (x ∷ t) f = rw (e, ne_eqb (length (x ∷ t)) 0 (λ z. omega arith)) refl
+
 pub cut : (kept : Packed) (text line bytes : List ℕ) (long : Bool) (o : Option Progress) (p : Progress) (n : ℕ) → o ≡ Some p → Parts text kept o line long bytes →
     length bytes ≤ most_bytes → n ≡ p.number →
-    ((before : List Line) → Tracks p before → any is_end before ≡ true → long ≡ false → line ≡ [] → ⊥) → IsCut bytes n
-cut kept text line bytes long o p n is h few number lacks = record {
-  lines = rest_of kept text line bytes long p k;
-  few = few;
-  number = number ∙ k.read.tracks.number;
-  lacks = λ ended none. go long refl none (λ q e. lacks k.read.before k.read.tracks ended q e);
-}
+    ((before : List Line) → Tracks p before → any is_end before ≡ true → long ≡ false → line ≡ [] → ⊥) → reading bytes ≡ Err (faults.BadLine n)
+unfolding place_at
+cut kept text line bytes long o p n is h few number lacks =
+    let k : Parts text kept (Some p) line long bytes = rw is at h in
+    seen_read kept text line bytes (Some p) long k few ∙
+    (cut_at p.version k.read.before k.tail (λ ended none. go k long refl none (λ q e. lacks k.read.before k.read.tracks ended q e)) ∙
+    ap (λ i. Err (faults.BadLine i)) (sym (number ∙ k.read.tracks.number)))
   where
-    k : Parts text kept (Some p) line long bytes
-    k = rw is at h
-
-    go : (c : Bool) → long ≡ c → k.tail ≡ [] → (long ≡ false → line ≡ [] → ⊥) → ⊥
-    go false q none lacks = lacks q (k.same q ∙ none)
-    go true q none lacks = let a : 32768 < length k.tail = k.long q in let b : length k.tail ≡ 0 = ap length none in omega arith
+    go : (k : Parts text kept (Some p) line long bytes) (c : Bool) → long ≡ c → k.tail ≡ [] → (long ≡ false → line ≡ [] → ⊥) → ⊥
+    go k false q none lacks = lacks q (k.same q ∙ none)
+    go k true q none lacks = let a : 32768 < length k.tail = k.long q in let b : length k.tail ≡ 0 = ap length none in omega arith
 
 pub not_empty : (line : List ℕ) → false ≡ (length line == 0) → line ≡ [] → ⊥
 not_empty line e f = true≢false (sym (eq-eqb (length line) 0 (ap length f)) ∙ sym e)
+
+-- The lines before the end have no larger numbers in their sets, and so none in their offsets.
+open_ends : (before : List Line) → Each SetsEnd before → Each SetsEnd (unended before)
+open_ends [] h = tt
+open_ends (End ∷ ls) h = h.1
+open_ends (l ∷ ls) h = h
+
+offsets_end : (ls : List Line) → Each SetsEnd ls → Each OffsetsEnd ls
+offsets_end [] h = tt
+offsets_end (FactIs a r o ∷ ls) h = (h.0.1, offsets_end ls h.1)
+offsets_end (l ∷ ls) h = (tt, offsets_end ls h.1)
 
 -- The certificate that is kept.
 pub whole_kept : (kept : Packed) (text : List ℕ) (o : Option Progress) (p : Progress) → o ≡ Some p → HasRead o text kept → p.ended ≡ true →
@@ -257,32 +292,54 @@ whole_kept kept text o p is h done =
     let g : Reached p text kept = let z : HasRead (Some p) text kept = rw is at h in z in
     let e : Ended p.version g.before = ended_last p.version g.before g.order (sym g.tracks.others.ended ∙ done) in
     whole p.version kept (rw g.keeps e.order) (rw g.keeps e.no_end)
+    (subst (λ (x : List Line). Each OffsetsEnd x) (ap oldest (sym g.keeps) ∙ oldest_newest [] (said_lines kept))
+    (offsets_end (oldest (unended g.before)) (each_oldest (unended g.before) (open_ends g.before g.end))))
 
 pub whole_parsed : (kept : Packed) (text line bytes : List ℕ) (o : Option Progress) (p : Progress) (long : Bool) → o ≡ Some p → p.ended ≡ true →
     IsWhole p.version kept → Parts text kept o line long bytes → long ≡ false → line ≡ [] → length bytes ≤ most_bytes →
     IsParsed bytes (record { version = p.version; lines = kept })
+unfolding place_at
 whole_parsed kept text line bytes o p long is done w h short none few =
-    record {
-      found = all ∙ (sym (ap (front p.version) lines) ∙
-          (sym (text_of_gathered p.version (said_lines kept ++ End ∷ []) (rw lines g.order) (rw lines has_end)) ∙ ap spelled (gathered_end p.version (said_lines kept) w.order w.no_end)));
-      lines = gathered_formed p.version (said_lines kept) w.order;
-      is_text = record { lines = g.before; order = g.order; ended = has_end; text = all; few = few };
-    }
-  where
-    g : Reached p text kept
-    g = let z : HasRead (Some p) text kept = rw is at h.read in z
-
-    has_end : any is_end g.before ≡ true
-    has_end = sym g.tracks.others.ended ∙ done
-
-    all : bytes ≡ front p.version g.before
-    all = h.split ∙ (ap (λ (x : List ℕ). text ++ x) (sym (h.same short) ∙ none) ∙ (append-nil text ∙ g.is))
-
-    lines : newest_first [] (said_lines kept ++ End ∷ []) ≡ g.before
-    lines =
-        let e : Ended p.version g.before = ended_last p.version g.before g.order has_end in
-        newest_both [] (said_lines kept) (End ∷ []) ∙ (ap (λ (x : List Line). End ∷ x) g.keeps ∙ sym e.is)
+    let k : Parts text kept (Some p) line long bytes = rw is at h in
+    let g : Reached p text kept = k.read in
+    let has_end : any is_end g.before ≡ true = sym g.tracks.others.ended ∙ done in
+    let e : Ended p.version g.before = ended_last p.version g.before g.order has_end in
+    let lines : oldest g.before ≡ said_lines kept ++ End ∷ [] =
+    ap oldest e.is ∙ ap (λ (x : List Line). x ++ End ∷ []) (ap oldest (sym g.keeps) ∙ oldest_newest [] (said_lines kept)) in
+    seen_read kept text line bytes (Some p) long k few ∙
+    (ap (at_last false (After p.version g.before)) (sym (k.same short) ∙ none) ∙
+    (end_read p.version g.before has_end ∙
+    ap (λ (x : Lines). Ok x) (ap (gathered p.version) lines ∙ gathered_end p.version (said_lines kept) w.order w.no_end)))
 
 pub is_empty : (line : List ℕ) → true ≡ (length line == 0) → line ≡ []
 is_empty [] e = refl
 is_empty (b ∷ line) e = absurd (let z : length (b ∷ line) ≡ 0 = eqb-true (length (b ∷ line)) 0 (sym e) in omega arith)
+
+-- Memory was wanting for a line of the bytes, or they are read so.
+abbrev IsOf : List ℕ → CertificateFault → Type 0
+IsOf bytes faults.NoMemory = AsksForMemory bytes
+IsOf bytes fault = reading bytes ≡ Err fault
+
+abbrev pub Answers : List ℕ → Result KeptCertificate CertificateFault → Type 0
+Answers bytes r = MatchResult r (IsParsed bytes) (IsOf bytes)
+
+pub of_refused : (bytes : List ℕ) (fault : CertificateFault) → Refuses bytes fault → Answers bytes (Err fault)
+of_refused bytes faults.NoMemory h = h
+of_refused bytes fault h = ap reading (sym (append-nil bytes)) ∙ h []
+
+pub of_finished : (bytes : List ℕ) (r : Result KeptCertificate CertificateFault) → MatchResult r (IsParsed bytes) (λ f. reading bytes ≡ Err f) → Answers bytes r
+of_finished bytes (Ok c) h = h
+of_finished bytes (Err faults.NoMemory) h = absurd (false≢true (fault_of_bytes bytes faults.NoMemory h))
+of_finished bytes (Err fault) h = h
+
+pub answers_read : (bytes : List ℕ) (r : Result KeptCertificate CertificateFault) → Answers bytes r → IfOk r (IsParsed bytes)
+answers_read bytes (Ok c) h = h
+answers_read bytes (Err fault) h = tt
+
+pub answers_refused : (bytes : List ℕ) (r : Result KeptCertificate CertificateFault) → Answers bytes r → IfErr r (λ f. (f ≡ faults.NoMemory) ⊎ (reading bytes ≡ Err f))
+answers_refused bytes (Ok c) h = tt
+answers_refused bytes (Err faults.NoMemory) h = inl refl
+answers_refused bytes (Err fault) h = inr h
+
+pub taken_all : (bytes : List ℕ) (before after : ℕ) → before ≡ 0 → after ≡ before + length bytes → after ≡ length bytes
+taken_all bytes before after none e = omega arith

@@ -3,8 +3,8 @@ use Rattle.std.proofs.Common.{◌≡◌, ℕ, ◌+◌, ◌*◌, ◌<◌, ◌≤�
 use Rattle.std.specs.Prelude.{if◌then◌else◌, Some, ◌||◌, ◌⊎◌, min}
 use Rattle.std.proofs.lemmas.Bool.{ne_eqb, true≢false, cases_lt, lt-ltb, le-ltb}
 use Rattle.std.proofs.lemmas.Bool.Decides.{eqb_tells}
-use Rattle.wordset.specs.Words.{Words, everything, some_below, IsFirstFrom, HasNoneFrom}
-use Rattle.domain.specs.Statements.{Statement, fact_of}
+use Rattle.wordset.specs.Words.{Words, some_below, IsFirstFrom, HasNoneFrom}
+use Rattle.domain.specs.Statements.{Statement, fact_of, all_offsets}
 use Rattle.certificate.specs.declared.Version.{Version}
 use Rattle.certificate.specs.Packed.{Packed, said_lines}
 use Rattle.certificate.specs.Spelling.{RoutineLine, FactLine, ExitLine, Line, RoutineIs, FactIs, ExitIs, CellIs, EquationIs, End}
@@ -53,7 +53,7 @@ FactFound fs a ls = (begins has_details ls ≡ has_fact_in fs a) × ((s : Statem
 
 abbrev ExitFound : List ExitLine → ℕ → ℕ → List Line → Type 0
 ExitFound xs e p ls = (begins has_details ls ≡ has_exit_in xs e p) × ((s : Statement) (offsets : Words) → IsSaid ls s offsets →
-    (fact_of s everything ≡ exit_in xs e p) × (exit_statement_in xs e p ≡ Some s) × ((o : ℕ) → o < 8 → offsets o ≡ true))
+    (fact_of s offsets ≡ exit_in xs e p) × (exit_statement_in xs e p ≡ Some s) × (offsets ≡ all_offsets))
 
 facts_found : (v : Version) (ls : List Line) (a : ℕ) → Each (IsLine v) ls → a < 4096 → FactFound (facts_of ls) a (from_place (4096 + a) ls)
 facts_found v [] a h b = (refl, λ s o q. absurd q)
@@ -86,7 +86,7 @@ exits_found v (FactIs x r m ∷ ls) e p h b g =
     rw (ne_eqb (4096 + x) (8192 + (8 * e + p)) (λ q. let z : x < 4096 = h.0.0 in omega arith)) (exits_found v ls e p h.1 b g)
 exits_found v (ExitIs x o r ∷ ls) e p h b g = rw (exit_test x o e p h.0.1 g) (elim (eqb_tells x e) [
   | inl t ↦ rw t.0 (elim (eqb_tells o p) [
-    | inl u ↦ rw u.0 (refl, λ s m q. rw q.0 (refl, refl, q.1))
+    | inl u ↦ rw u.0 (refl, λ s m q. rw (q.0, q.1) (refl, refl, refl))
     | inr u ↦ rw u.0 (exits_found v ls e p h.1 b g)
   ])
   | inr t ↦ rw t.0 (exits_found v ls e p h.1 b g)

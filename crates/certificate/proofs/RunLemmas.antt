@@ -4,7 +4,7 @@ use Rattle.std.proofs.lemmas.List.{drop_at, drop_all}
 use Rattle.std.specs.Prelude.{IfSome}
 use Rattle.std.specs.Option.{IsSomeAnd}
 use Rattle.std.proofs.lemmas.Bool.{false≢true}
-use Rattle.wordset.specs.Words.{Words, SameWords, has_some}
+use Rattle.wordset.specs.Words.{Words, has_some}
 use Rattle.certificate.specs.Spelling.{marks, set_text}
 use Rattle.certificate.specs.Fields.{run_text, NoDash, EndsField}
 use Rattle.certificate.specs.declared.packed.Run.{Run}
@@ -146,7 +146,7 @@ pub record AllRead (old now : Option (List ℕ)) (before runs : List Run) : Type
   pub front : Begins before runs
   pub read : IfSome now (λ r. (has_some (added before runs) ≡ true) × (old ≡ Some (marks 4096 (added before runs) ++ r)))
   pub only : (s : Words) (tail : List ℕ) → length before ≤ 2048 → has_some s ≡ true → EndsField tail → old ≡ Some (marks 4096 s ++ tail) →
-      SameWords (added before runs) s × (now ≡ Some tail) × (length runs ≤ length before + 2048)
+      (now ≡ Some tail) × (length runs ≤ length before + 2048)
 
 -- The text of a set, by its runs.
 by_runs : (old : Option (List ℕ)) (s : Words) (tail : List ℕ) (r : RunsOf s) → old ≡ Some (marks 4096 s ++ tail) → old ≡ Some (runs_text (r.first ∷ r.more) ++ tail)
@@ -183,14 +183,13 @@ ending old now mid next before runs new n m run h g is below e same none = rw sa
         rw alike (some a.front a.last w.apart, w.text ∙ ap (λ (x : List ℕ). Some (x ++ r)) (sym (text_of more w.apart)))
 
     all : (s : Words) (tail : List ℕ) (r : RunsOf s) → length before ≤ 2048 → (others : List Run) → r.first ∷ r.more ≡ more ++ others → mid ≡ Some (more_text others ++ tail) →
-        SameWords (added before new) s × (mid ≡ Some tail) × (length new ≤ length before + 2048)
+        (mid ≡ Some tail) × (length new ≤ length before + 2048)
     all s tail r room (x ∷ xs) here left = absurd (false≢true (none _ left).0)
     all s tail r room [] here left =
-        let whole : r.first ∷ r.more ≡ more = here ∙ append-nil more in
         let few : 2 * length (r.first ∷ r.more) + 0 ≤ 4097 = few_apart 0 (r.first ∷ r.more) (omega arith) r.apart in
         let l : length new ≡ length before + length more = ap length a.is ∙ length-append before more in
-        let k : length (r.first ∷ r.more) ≡ length more = ap length whole in
-        (λ v b. ap (λ (f : Words). f v) (alike ∙ ap set_of_runs (sym whole)) ∙ r.same v b, left, omega (arith, few, l, k))
+        let k : length (r.first ∷ r.more) ≡ length more = ap length (here ∙ append-nil more) in
+        (left, omega (arith, few, l, k))
 
 -- There was no room for a run.
 pub no_room : (old now mid next : Option (List ℕ)) (before runs : List Run) (n : ℕ) (run : Run) → RunsRead old now before runs n →
@@ -241,7 +240,7 @@ first_digit s f tail r e =
 pub record FieldRead (old now : Option (List ℕ)) (before runs : List Run) : Type 0 where
   pub read : IfSome now (λ r. old ≡ Some (set_text (added before runs) ++ r))
   pub only : (s : Words) (tail : List ℕ) → length before ≤ 2048 → EndsField tail → old ≡ Some (set_text s ++ tail) →
-      SameWords (added before runs) s × (now ≡ Some tail) × (length runs ≤ length before + 2048)
+      (now ≡ Some tail) × (length runs ≤ length before + 2048)
 
 -- A dash.
 pub dash_read : (old now : Option (List ℕ)) (before : List Run) → IsSomeAnd now (λ r. old ≡ Some (45 ∷ r)) →
@@ -260,8 +259,8 @@ dash_read old now before took begins = record { read = reads now took; only = on
     dashed (Some r) a s tail full q = first_digit s full tail r (cc)
 
     only : (s : Words) (tail : List ℕ) → length before ≤ 2048 → EndsField tail → old ≡ Some (set_text s ++ tail) →
-        SameWords (added before before) s × (now ≡ Some tail) × (length before ≤ length before + 2048)
+        (now ≡ Some tail) × (length before ≤ length before + 2048)
     only s tail room ends q = elim (by_words s) [
       | inl full ↦ absurd (dashed now took s tail full q)
-      | inr empty ↦ (λ v h. none v ∙ sym (empty v h), (begins tail (rw (empty_text s empty) at q)).1, omega arith)
+      | inr empty ↦ ((begins tail (rw (empty_text s empty) at q)).1, omega arith)
     ]

@@ -1,26 +1,27 @@
 -- What a source gave, and what it brings.
 use Rattle.std.proofs.Common.{◌≡◌, ◌⊎◌, ℕ, zero, suc, ◌+◌, ◌-◌, ◌<◌, ◌≤◌, Bool, true, false, List, [], ◌∷◌, ◌++◌, length, take, drop, Option, Some, None, Result, Ok, Err, refl, ap, ◌∙◌, sym, subst, inl, inr, arith, append_assoc, append-nil, length-append, get_or, length-take-le}
-use Rattle.std.specs.Prelude.{slice_index, replicate, IfOk, IfErr, IfSome, IsErrAnd, MatchResult}
+use Rattle.std.specs.Prelude.{◌==◌, ◌&&◌, flat_map, slice_index, replicate, IfOk, IfErr, IfSome, MatchResult}
 use Rattle.std.specs.Io.KnownBytes.{Consumes, Keeps, IsAtEnd}
 use Rattle.std.proofs.KnownBytes.{Consumes-nil, Consumes-trans, Consumes-kept, Consumes-whole}
-use Rattle.std.proofs.lemmas.Bool.{true≢false}
+use Rattle.std.proofs.lemmas.Bool.{false≢true, cases_Bool, lt-ltb}
 use Rattle.std.proofs.lemmas.List.{take_more, take-append-le, take-append-drop, length-replicate}
 use Rattle.std.proofs.Math.Seq.{take-append-add, take-add}
 use Rattle.streams.specs.Bytes.{Gave}
-use Rattle.certificate.specs.declared.Version.{Version}
 use Rattle.certificate.specs.declared.CertificateFault.{CertificateFault}
 use Rattle.certificate.specs.declared.CertificateFault.TheVariants as faults
 use Rattle.certificate.specs.declared.progress.Progress.{Progress}
 use Rattle.certificate.specs.declared.parser.Parser.{Parser}
+use Rattle.certificate.specs.Spelling.{Lines, ended}
 use Rattle.certificate.specs.Packed.{Packed}
-use Rattle.certificate.specs.Order.{any, is_end}
-use Rattle.certificate.specs.Faults.{most_bytes, NoFeed, IsText, HasRest, HasFault, AsksForMemory}
-use Rattle.certificate.specs.Kept.{Kept, meaning}
-use Rattle.certificate.specs.Parser.{CameTo, Told, IsAnswered, Serves, Parts, Seen, IsSmall, Refuses, IsParsed}
+use Rattle.certificate.specs.Order.{any, is_end, oldest}
+use Rattle.certificate.specs.Gathered.{gathered}
+use Rattle.certificate.specs.Faults.{most_bytes, at_last, reading, AsksForMemory}
+use Rattle.certificate.specs.Kept.{Kept}
+use Rattle.certificate.specs.Parser.{NoFeed, HasRead, CameTo, Told, IsAnswered, Serves, Parts, Seen, IsSmall, Refuses, IsParsed}
 use Rattle.certificate.specs.Serving.{Settles, IsUnanswered, is_read_fault, failed_to_read}
-use Rattle.certificate.proofs.LengthLemmas.{no_feed_both, feed_taken}
-use Rattle.certificate.proofs.OneFaultLemmas.{no_fault, one_fault}
-use Rattle.certificate.proofs.ParserLemmas.{rest_of}
+use Rattle.certificate.proofs.LengthLemmas.{feed_taken}
+use Rattle.certificate.proofs.TextAnswerLemmas.{fault_of_bytes}
+use Rattle.certificate.proofs.ParserLemmas.{place_at, seen_answer, seen_read}
 
 -- Bytes with no line feed.
 zeros_feed : (n : ℕ) → NoFeed (replicate n 0)
@@ -43,49 +44,54 @@ piece_count before piece n i h e = sym (length-append before (take i piece) ∙ 
 -- What a front asks for the whole asks for.
 asks_on : (xs ys zs : List ℕ) → xs ++ ys ≡ zs → AsksForMemory xs → AsksForMemory zs
 asks_on xs ys zs e a = record {
+  lines = a.lines;
+  rest = a.rest ++ ys;
+  split = sym e ∙ (ap (λ (x : List ℕ). x ++ ys) a.split ∙ append_assoc (flat_map ended a.lines) a.rest ys);
+  few = a.few;
   version = a.version;
-  before = a.before;
-  order = a.order;
   line = a.line;
-  place = record {
-    rest = a.place.rest ++ ys;
-    split = sym e ∙ (ap (λ (x : List ℕ). x ++ ys) a.place.split ∙ append_assoc _ (10 ∷ a.place.rest) ys);
-    feed = a.place.feed;
-    within = a.place.within;
-  };
-  more = a.more;
+  before = a.before;
+  reached = a.reached;
+  grows = a.grows;
 }
+
+settled_on : (xs ys zs : List ℕ) (fault : CertificateFault) → xs ++ ys ≡ zs → Settles xs fault → Settles zs fault
+settled_on xs ys zs fault e settled = λ rest.
+    ap reading (ap (λ (x : List ℕ). x ++ rest) (sym e) ∙ append_assoc xs ys rest) ∙ settled (ys ++ rest)
 
 -- What a front refuses the whole refuses.
 pub refused_on : (xs ys zs : List ℕ) (fault : CertificateFault) → xs ++ ys ≡ zs → Refuses xs fault → Refuses zs fault
 refused_on xs ys zs faults.NoMemory e asks = asks_on xs ys zs e asks
-refused_on xs ys zs fault e settled = λ rest.
-    subst (λ (x : List ℕ). HasFault x fault) (sym (append_assoc xs ys rest) ∙ ap (λ (x : List ℕ). x ++ rest) e) (settled (ys ++ rest))
+refused_on xs ys zs fault e settled = settled_on xs ys zs fault e settled
+
+-- The last answer is that the text is too long where more bytes come than are read, and only then.
+last_long : (kept : Packed) (text : List ℕ) (o : Option Progress) (h : HasRead o text kept) (rest : List ℕ) →
+    at_last true (place_at kept text o h) rest ≡ Err faults.TooMany
+unfolding place_at
+last_long kept text None h rest = refl
+last_long kept text (Some p) h rest = refl
+
+other_faults : (f g : CertificateFault) → (f ≡ g → ⊥) → (let r : Result Lines CertificateFault = Err f in r) ≡ Err g → ⊥
+other_faults f g other e = other (cc)
+
+last_short : (kept : Packed) (text : List ℕ) (o : Option Progress) (h : HasRead o text kept) (rest : List ℕ) →
+    at_last false (place_at kept text o h) rest ≡ Err faults.TooMany → ⊥
+unfolding place_at
+last_short kept text None h rest e = other_faults faults.Version faults.TooMany (λ q. absurd (cc)) e
+last_short kept text (Some p) h rest e = elim (cases_Bool (any is_end h.before && length rest == 0)) [
+  | inl t ↦ absurd (let z : Ok (gathered p.version (oldest h.before)) ≡ Err faults.TooMany = rw t at e in cc)
+  | inr t ↦ other_faults (faults.BadLine (length h.before + 2)) faults.TooMany (λ q. absurd (cc)) (rw t at e)
+]
 
 -- What may follow the bytes that the parser took.
 module _ (kept : Packed) (text line bytes : List ℕ) (long : Bool) where
-  -- Bytes with no line feed go on with the line.
-  pub goes_on : (o : Option Progress) → Parts text kept o line long bytes → (more : List ℕ) → NoFeed more → NoFeed (bytes ++ more) ⊎ HasRest (bytes ++ more)
-  goes_on None h more feed =
-      let none : text ≡ [] = h.read.0 in
-      let same : bytes ≡ h.tail = h.split ∙ ap (λ (x : List ℕ). x ++ h.tail) none in
-      inl (no_feed_both bytes more (rw same h.feed) feed)
-  goes_on (Some p) h more feed = inr (record {
-    version = p.version;
-    before = h.read.before;
-    order = h.read.order;
-    rest = h.tail ++ more;
-    split = ap (λ (x : List ℕ). x ++ more) (h.split ∙ ap (λ (x : List ℕ). x ++ h.tail) h.read.is) ∙ append_assoc _ h.tail more;
-    feed = no_feed_both h.tail more h.feed feed;
-  })
-
   -- More bytes come than are read, and none of those that are is a line feed.
   pub full : (o : Option Progress) → Parts text kept o line long bytes → (k : ℕ) (piece : List ℕ) → length bytes + k ≡ most_bytes →
       k < length piece → NoFeed (take k piece) → Refuses (bytes ++ piece) faults.TooMany
-  full o h k piece most more feed = λ rest. inr (
-    omega (arith, length-append (bytes ++ piece) rest, length-append bytes piece),
-    subst (λ (x : List ℕ). NoFeed x ⊎ HasRest x) (sym (front rest)) (goes_on o h (take k piece) feed),
-  )
+  unfolding reading
+  full o h k piece most more feed = λ rest.
+      rw (lt-ltb most_bytes (length (bytes ++ piece ++ rest)) (omega (arith, length-append (bytes ++ piece) rest, length-append bytes piece)), front rest)
+      (seen_answer kept text line bytes o long h true (take k piece) feed ∙ last_long kept text o h.read (h.tail ++ take k piece))
     where
       front : (rest : List ℕ) → take most_bytes (bytes ++ piece ++ rest) ≡ bytes ++ take k piece
       front rest =
@@ -94,61 +100,24 @@ module _ (kept : Packed) (text line bytes : List ℕ) (long : Bool) where
           (take-append-add bytes (piece ++ rest) k ∙ ap (λ (x : List ℕ). bytes ++ x) (take-append-le k piece rest (omega arith))))
 
   -- There may follow too many,
-  too_long : (o : Option Progress) → Parts text kept o line long bytes → (k : ℕ) → length bytes + k ≡ most_bytes → HasFault (bytes ++ replicate (k + 1) 0) faults.TooMany
+  too_long : (o : Option Progress) → Parts text kept o line long bytes → (k : ℕ) → length bytes + k ≡ most_bytes →
+      reading (bytes ++ replicate (k + 1) 0) ≡ Err faults.TooMany
   too_long o h k most =
       let n : length (replicate {A = ℕ} (k + 1) 0) ≡ k + 1 = length-replicate (k + 1) 0 in
-      subst (λ (x : List ℕ). HasFault x faults.TooMany) (append-nil (bytes ++ replicate (k + 1) 0))
-      (full o h k (replicate (k + 1) 0) most (omega arith) (feed_taken k _ (zeros_feed (k + 1))) [])
+      ap reading (sym (append-nil (bytes ++ replicate (k + 1) 0))) ∙
+      full o h k (replicate (k + 1) 0) most (omega arith) (feed_taken k _ (zeros_feed (k + 1))) []
 
-  -- or nothing.
-  other_end : (p : Progress) → Parts text kept (Some p) line long bytes → length bytes ≤ most_bytes → HasFault bytes faults.TooMany → ⊥
-  other_end p h few most = go h.tail (any is_end h.read.before) refl refl
-    where
-      other : faults.BadLine (length h.read.before + 2) ≡ faults.TooMany → ⊥
-      other e = cc
-
-      lacking : (any is_end h.read.before ≡ true → h.tail ≡ [] → ⊥) → ⊥
-      lacking lacks = other (one_fault bytes (faults.BadLine (length h.read.before + 2)) faults.TooMany
-          (inr (record { lines = rest_of kept text line bytes long p h; few = few; number = refl; lacks = lacks })) most)
-
-      go : (tail : List ℕ) (ended : Bool) → h.tail ≡ tail → any is_end h.read.before ≡ ended → ⊥
-      go tail false e f = lacking (λ g none. true≢false (sym g ∙ f))
-      go (x ∷ tail) true e f = lacking (λ g none. let z : (x ∷ tail) ≡ [] = sym e ∙ none in absurd (cc))
-      go [] true e f = no_fault p.version bytes faults.TooMany
-          (record {
-            lines = h.read.before;
-            order = h.read.order;
-            ended = f;
-            few = few;
-            text = h.split ∙ (ap (λ (x : List ℕ). text ++ x) e ∙ (append-nil text ∙ h.read.is));
-          }) most
-
-  no_version : Parts text kept None line long bytes → length bytes ≤ most_bytes → HasFault bytes faults.TooMany → ⊥
-  no_version h few most =
-      let none : text ≡ [] = h.read.0 in
-      let same : bytes ≡ h.tail = h.split ∙ ap (λ (x : List ℕ). x ++ h.tail) none in
-      let e : faults.Version ≡ faults.TooMany = one_fault bytes faults.Version faults.TooMany (inr (rw same h.feed, few)) most in absurd (cc)
-
-  -- So they bring no answer.
+  -- or nothing. So they bring no answer.
   pub seen_open : (o : Option Progress) → Parts text kept o line long bytes → length bytes ≤ most_bytes → IsUnanswered bytes
-  seen_open o h few fault settled = go o h
-    where
-      k : ℕ
-      k = most_bytes - length bytes
-
-      many : (o : Option Progress) → Parts text kept o line long bytes → HasFault bytes faults.TooMany
-      many o h =
-          let e : fault ≡ faults.TooMany = one_fault _ fault faults.TooMany (settled (replicate (k + 1) 0)) (too_long o h k (omega arith)) in
-          subst (λ f. HasFault bytes f) e (subst (λ (x : List ℕ). HasFault x fault) (append-nil bytes) (settled []))
-
-      go : (o : Option Progress) → Parts text kept o line long bytes → ⊥
-      go None h = no_version h few (many None h)
-      go (Some p) h = other_end p h few (many (Some p) h)
+  seen_open o h few fault settled =
+      let k : ℕ = most_bytes - length bytes in
+      let long : Err fault ≡ Err faults.TooMany = sym (settled (replicate (k + 1) 0)) ∙ too_long o h k (omega arith) in
+      last_short kept text o h.read h.tail
+      (sym (seen_read kept text line bytes o _ h few) ∙ (ap reading (sym (append-nil bytes)) ∙ (settled [] ∙ long)))
 
 -- Nor does any front of them.
 pub front_open : (xs ys : List ℕ) → IsUnanswered (xs ++ ys) → IsUnanswered xs
-front_open xs ys h fault settled =
-    h fault (λ rest. subst (λ (x : List ℕ). HasFault x fault) (sym (append_assoc xs ys rest)) (settled (ys ++ rest)))
+front_open xs ys h fault settled = h fault (settled_on xs ys (xs ++ ys) fault refl settled)
 
 pub taken_open : (n : ℕ) (given : List ℕ) → IsUnanswered given → IsUnanswered (take n given)
 taken_open n given h = front_open (take n given) (drop n given) (subst IsUnanswered (sym (take-append-drop n given)) h)
@@ -159,17 +128,16 @@ prompt_after given piece h short n le =
     let within : n ≤ length given = (let e = length-append given piece in omega (arith, e)) in
     rw (take-append-le n given piece within) (taken_open n given h)
 
--- No such fault is that of a read.
-pub no_read : (bytes : List ℕ) (fault : CertificateFault) → HasFault bytes fault → is_read_fault fault ≡ false
-no_read bytes faults.NoMemory h = absurd h
-no_read bytes faults.ReadFault h = absurd h
+-- No fault of bytes is that of a read.
+pub no_read : (bytes : List ℕ) (fault : CertificateFault) → reading bytes ≡ Err fault → is_read_fault fault ≡ false
+no_read bytes faults.ReadFault h = absurd (false≢true (fault_of_bytes bytes faults.ReadFault h))
 no_read bytes fault h = refl
 
 pub no_read_refused : (bytes : List ℕ) (fault : CertificateFault) → Refuses bytes fault → is_read_fault fault ≡ false
 no_read_refused bytes faults.NoMemory h = refl
 no_read_refused bytes fault h = no_read (bytes ++ []) fault (h [])
 
-pub no_read_parsed : {X : Type 0} (P : X → Type 0) (bytes : List ℕ) (r : Result X CertificateFault) → MatchResult r P (HasFault bytes) → failed_to_read r ≡ false
+pub no_read_parsed : {X : Type 0} (P : X → Type 0) (bytes : List ℕ) (r : Result X CertificateFault) → MatchResult r P (λ f. reading bytes ≡ Err f) → failed_to_read r ≡ false
 no_read_parsed P bytes (Ok x) h = refl
 no_read_parsed P bytes (Err fault) h = no_read bytes fault h
 
@@ -194,20 +162,20 @@ module _ {A : Type 0} (a b c : Option (List ℕ)) (p : Parser A) where
   }
 
   pub serve_end : (r : Result Kept CertificateFault) → (came : CameTo a b p) → Consumes b c [] → IsAtEnd c →
-      MatchResult r (IsParsed came.given) (HasFault came.given) → Serves a c r
+      MatchResult r (IsParsed came.given) (λ f. reading came.given ≡ Err f) → Serves a c r
   serve_end r came taken end answer = record {
     given = came.given;
     taken = subst (Consumes a c) (append-nil came.given) (Consumes-trans a b c came.given [] came.taken taken);
     count = (let e : p.count ≡ length came.given = came.count in let few : p.count ≤ most_bytes = came.small.count in omega arith);
     prompt = λ n le. taken_open n came.given (came_open came);
-    answer = ended r answer;
+    answer = closed r answer;
   }
     where
-      ended : (r : Result Kept CertificateFault) → MatchResult r (IsParsed came.given) (HasFault came.given) → IsAnswered came.given c r
-      ended (Ok k) h = (h, end)
-      ended (Err faults.NoMemory) h = absurd h
-      ended (Err faults.ReadFault) h = absurd h
-      ended (Err fault) h = inr (h, end)
+      closed : (r : Result Kept CertificateFault) → MatchResult r (IsParsed came.given) (λ f. reading came.given ≡ Err f) → IsAnswered came.given c r
+      closed (Ok k) h = (h, end)
+      closed (Err faults.NoMemory) h = absurd (false≢true (fault_of_bytes came.given faults.NoMemory h))
+      closed (Err faults.ReadFault) h = absurd (false≢true (fault_of_bytes came.given faults.ReadFault h))
+      closed (Err fault) h = inr (h, end)
 
   module _ (piece : List ℕ) (came : CameTo a b p) (taken : Consumes b c piece) where
     both_count : length (came.given ++ piece) ≡ p.count + length piece
@@ -233,7 +201,7 @@ module _ {A : Type 0} (a b c : Option (List ℕ)) (p : Parser A) where
       where
         told : (fault : CertificateFault) → Refuses (came.given ++ piece) fault → Told (came.given ++ piece) c fault
         told faults.NoMemory h = h
-        told faults.ReadFault h = absurd (h [])
+        told faults.ReadFault h = absurd (false≢true (fault_of_bytes _ faults.ReadFault (h [])))
         told fault h = inl h
 
 -- What the answer says of the source's bytes.
@@ -241,12 +209,12 @@ abbrev pub Answer : Type 0
 Answer = Result Kept CertificateFault
 
 abbrev pub IsFaultOf : Option (List ℕ) → CertificateFault → Type 0
-IsFaultOf old fault = (fault ≡ faults.NoMemory) ⊎ ((fault ≡ faults.ReadFault) ⊎ IfSome old (λ bytes. HasFault bytes fault))
+IsFaultOf old fault = (fault ≡ faults.NoMemory) ⊎ ((fault ≡ faults.ReadFault) ⊎ IfSome old (λ bytes. reading bytes ≡ Err fault))
 
-of_front : (old new : Option (List ℕ)) (given : List ℕ) (fault : CertificateFault) → Consumes old new given → Settles given fault → IfSome old (λ bytes. HasFault bytes fault)
+of_front : (old new : Option (List ℕ)) (given : List ℕ) (fault : CertificateFault) → Consumes old new given → Settles given fault → IfSome old (λ bytes. reading bytes ≡ Err fault)
 of_front None new given fault t s = tt
 of_front (Some bytes) None given fault t s = absurd t
-of_front (Some bytes) (Some rest) given fault t s = subst (λ (x : List ℕ). HasFault x fault) (sym t) (s rest)
+of_front (Some bytes) (Some rest) given fault t s = ap reading t ∙ s rest
 
 module _ (old new : Option (List ℕ)) where
   pub gave : (r : Answer) (s : Serves old new r) (P : List ℕ → Type 0) → P s.given → Gave old new P
@@ -256,10 +224,9 @@ module _ (old new : Option (List ℕ)) where
       go None t = tt
       go (Some bytes) t = (s.given, t, h)
 
-  pub serves_found : (r : Answer) → Serves old new r → (P : List ℕ → Kept → Type 0) → ((bytes : List ℕ) (c : Kept) → IsParsed bytes c → P bytes c) →
-      IfOk r (λ c. IfSome old (λ bytes. P bytes c))
-  serves_found (Err fault) s P to = tt
-  serves_found (Ok c) s P to = Consumes-whole old new s.given (λ bytes. P bytes c) s.taken s.answer.1 (to s.given c s.answer.0)
+  pub serves_read : (r : Answer) → Serves old new r → IfOk r (λ c. IfSome old (λ bytes. IsParsed bytes c))
+  serves_read (Err fault) s = tt
+  serves_read (Ok c) s = Consumes-whole old new s.given (λ bytes. IsParsed bytes c) s.taken s.answer.1 s.answer.0
 
   pub serves_refused : (r : Answer) → Serves old new r → IfErr r (IsFaultOf old)
   serves_refused (Ok c) s = tt
@@ -269,33 +236,7 @@ module _ (old new : Option (List ℕ)) where
       go faults.NoMemory h = inl refl
       go faults.ReadFault h = inr (inl refl)
       go fault (inl h) = inr (inr (of_front old new s.given fault s.taken h))
-      go fault (inr h) = inr (inr (Consumes-whole old new s.given (λ bytes. HasFault bytes fault) s.taken h.1 h.0))
-
-  -- So no certificate is refused, and no fault is passed over.
-  pub serves_only : (r : Answer) → Serves old new r → IfSome old (λ bytes. (v : Version) → IsText v bytes →
-      IfErr r (λ fault. (fault ≡ faults.NoMemory) ⊎ (fault ≡ faults.ReadFault)))
-  serves_only r s = go old r (serves_refused r s)
-    where
-      go : (old : Option (List ℕ)) (r : Answer) → IfErr r (IsFaultOf old) → IfSome old (λ bytes. (v : Version) → IsText v bytes →
-          IfErr r (λ fault. (fault ≡ faults.NoMemory) ⊎ (fault ≡ faults.ReadFault)))
-      go None r h = tt
-      go (Some bytes) (Ok c) h = λ v t. tt
-      go (Some bytes) (Err fault) (inl e) = λ v t. inl e
-      go (Some bytes) (Err fault) (inr (inl e)) = λ v t. inr e
-      go (Some bytes) (Err fault) (inr (inr h)) = λ v t. absurd (no_fault v bytes fault t h)
-
-  pub serves_exact : (r : Answer) → Serves old new r → IfSome old (λ bytes. (fault : CertificateFault) → HasFault bytes fault →
-      IsErrAnd r (λ f. (f ≡ faults.NoMemory) ⊎ ((f ≡ faults.ReadFault) ⊎ (f ≡ fault))))
-  serves_exact r s = go old r (serves_refused r s) (serves_found r s (λ bytes c. IsText (meaning c).version bytes) (λ bytes c p. p.is_text))
-    where
-      go : (old : Option (List ℕ)) (r : Answer) → IfErr r (IsFaultOf old) → IfOk r (λ c. IfSome old (IsText (meaning c).version)) →
-          IfSome old (λ bytes. (fault : CertificateFault) → HasFault bytes fault →
-          IsErrAnd r (λ f. (f ≡ faults.NoMemory) ⊎ ((f ≡ faults.ReadFault) ⊎ (f ≡ fault))))
-      go None r h t = tt
-      go (Some bytes) (Ok c) h t = λ fault g. absurd (no_fault (meaning c).version bytes fault t g)
-      go (Some bytes) (Err f) (inl e) t = λ fault g. inl e
-      go (Some bytes) (Err f) (inr (inl e)) t = λ fault g. inr (inl e)
-      go (Some bytes) (Err f) (inr (inr h)) t = λ fault g. inr (inr (one_fault bytes f fault h g))
+      go fault (inr h) = inr (inr (Consumes-whole old new s.given (λ bytes. reading bytes ≡ Err fault) s.taken h.1 h.0))
 
 -- Bytes of which none is at a place of a line feed.
 pub no_feed_before : (bytes : List ℕ) (n : ℕ) → ((k : ℕ) → k < n → (slice_index bytes k ≡ 10) → ⊥) → NoFeed (take n bytes)

@@ -197,12 +197,6 @@ runs_down s (suc k) n e =
 set_runs : (s : Words) → RunsFrom s 0
 set_runs s = runs_down s 4096 0 (omega arith)
 
--- Sets with the same words are written alike.
-pub marks_same : (s t : Words) → SameWords s t → marks 4096 s ≡ marks 4096 t
-marks_same s t e =
-    let c : RunsFrom s 0 = set_runs s in
-    text_all s c.runs c.apart (λ v a. c.same v (omega arith) a) ∙ sym (text_all t c.runs c.apart (λ v a. sym (e v a) ∙ c.same v (omega arith) a))
-
 pub text_of : (rs : List Run) → StandApart 0 rs → marks 4096 (set_of_runs rs) ≡ runs_text rs
 text_of rs h = text_all (set_of_runs rs) rs h (λ v a. sym (runs_within rs v a))
 

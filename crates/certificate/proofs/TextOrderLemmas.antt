@@ -4,13 +4,12 @@ use Rattle.std.specs.Prelude.{map, flat_map}
 use Rattle.domain.specs.Facts.{Equation}
 use Rattle.domain.specs.Statements.{TrackedCell, Statement}
 use Rattle.certificate.specs.declared.Version.{Version}
-use Rattle.certificate.specs.Spelling.{RoutineLine, FactLine, ExitLine, Lines, text, Line, RoutineIs, FactIs, ExitIs, CellIs, EquationIs, End, registers_of, details, lines_of_fact, lines_of_exit, lines_of}
-use Rattle.certificate.specs.Reading.{RiseFrom, place_of_equation, Each, IsTracked, IsEquation, IsStatement, IsRoutine, IsFactLine, IsExit, AreLines}
+use Rattle.certificate.specs.Spelling.{RoutineLine, FactLine, ExitLine, Lines, Line, RoutineIs, FactIs, ExitIs, CellIs, EquationIs, End, registers_of, details, lines_of_fact, lines_of_exit, lines_of}
+use Rattle.certificate.specs.Reading.{RiseFrom, place_of_equation, Each, IsTracked, IsEquation, IsStatement, IsRoutine, IsFactLine, IsExit, SetsEnd, AreLines}
 use Rattle.certificate.specs.Line.{TextLaw}
 use Rattle.certificate.specs.Order.{is_end, has_details, any, how_many, is_routine, is_cell, is_equation, heads, details_of_last, next_place, IsNext, AreInOrder}
 use Rattle.certificate.specs.Found.{newest_first}
-use Rattle.certificate.specs.Faults.{most_bytes, IsText}
-use Rattle.certificate.proofs.TextLemmas.{registers_form, newest_both, front_newest}
+use Rattle.certificate.proofs.TextLemmas.{registers_form, newest_both}
 use Rattle.certificate.proofs.GatherLemmas.{body_of, follows, each_formed}
 
 -- Lines in order with no end, so that a line of this place may come next.
@@ -115,8 +114,41 @@ exits_after v (e ∷ es) before n h low each rise =
     (exits_after v es (newest_first before (lines_of_exit e)) (8 * e.entry + e.offset + 1) (weaker v _ 40960 _ (omega arith) p)
     (weaker v _ (8192 + (8 * e.entry + e.offset + 1)) _ (omega arith) p).next each.1 rise.1)
 
+-- The lines of a certificate, whichever larger numbers its sets have.
+pub record AreFormed (c : Lines) : Type 0 where
+  pub routines : Each IsRoutine c.routines
+  pub routines_rise : RiseFrom 0 (map (λ r. r.entry) c.routines)
+  pub few_routines : length c.routines ≤ 64
+  pub facts : Each (IsFactLine c.version) c.facts
+  pub facts_rise : RiseFrom 0 (map (λ f. f.address) c.facts)
+  pub exits : Each (IsExit c.version) c.exits
+  pub exits_rise : RiseFrom 0 (map (λ e. 8 * e.entry + e.offset) c.exits)
+
+pub with_ends : (c : Lines) → AreFormed c → Each SetsEnd (lines_of c) → AreLines c
+with_ends c h ends = record {
+  routines = h.routines;
+  routines_rise = h.routines_rise;
+  few_routines = h.few_routines;
+  facts = h.facts;
+  facts_rise = h.facts_rise;
+  exits = h.exits;
+  exits_rise = h.exits_rise;
+  ends = ends;
+}
+
+formed : (c : Lines) → AreLines c → AreFormed c
+formed c h = record {
+  routines = h.routines;
+  routines_rise = h.routines_rise;
+  few_routines = h.few_routines;
+  facts = h.facts;
+  facts_rise = h.facts_rise;
+  exits = h.exits;
+  exits_rise = h.exits_rise;
+}
+
 -- The lines of a certificate before the end, and all of them.
-body_after : (c : Lines) → AreLines c → Sofar c.version 40960 (newest_first [] (body_of c))
+body_after : (c : Lines) → AreFormed c → Sofar c.version 40960 (newest_first [] (body_of c))
 body_after c h =
     let few : length c.routines ≤ 64 = h.few_routines in
     let a : Sofar c.version 4096 (newest_first [] (map RoutineIs c.routines)) =
@@ -132,22 +164,13 @@ body_after c h =
     (exits_after c.version c.exits (newest_first (newest_first [] (map RoutineIs c.routines)) (flat_map lines_of_fact c.facts)) 0
     (weaker c.version 8192 40960 _ (omega arith) b) (weaker c.version 8192 (8192 + 0) _ (omega arith) b).next h.exits h.exits_rise)
 
-pub body_order : (c : Lines) → AreLines c → AreInOrder c.version (newest_first [] (body_of c)) × (any is_end (newest_first [] (body_of c)) ≡ false)
+pub body_order : (c : Lines) → AreFormed c → AreInOrder c.version (newest_first [] (body_of c)) × (any is_end (newest_first [] (body_of c)) ≡ false)
 body_order c h = let s = body_after c h in (s.order, s.no_end)
 
-all_after : (c : Lines) → AreLines c → AreInOrder c.version (newest_first [] (lines_of c))
+pub all_after : (c : Lines) → AreLines c → AreInOrder c.version (newest_first [] (lines_of c)) × (any is_end (newest_first [] (lines_of c)) ≡ true)
 all_after c h =
-    let s : Sofar c.version 40960 (newest_first [] (body_of c)) = body_after c h in
-    rw (newest_both [] (body_of c) (End ∷ [])) (tt, record { stands = rw s.no_end refl; order = s.next; room = tt }, s.order)
+    let s : Sofar c.version 40960 (newest_first [] (body_of c)) = body_after c (formed c h) in
+    rw (newest_both [] (body_of c) (End ∷ [])) ((tt, record { stands = rw s.no_end refl; order = s.next; room = tt }, s.order), refl)
 
 pub text_law : TextLaw
-text_law = record { lines = λ c. refl; form = λ c h. each_formed c.version [] (lines_of c) (follows c.version [] (lines_of c) (all_after c h)) }
-
-pub text_of_lines : (c : Lines) → AreLines c → length (text c) ≤ most_bytes → IsText c.version (text c)
-text_of_lines c h few = record {
-  lines = newest_first [] (lines_of c);
-  order = all_after c h;
-  ended = rw (newest_both [] (body_of c) (End ∷ [])) refl;
-  text = sym (front_newest c.version [] (lines_of c));
-  few = few;
-}
+text_law = record { lines = λ c. refl; form = λ c h. each_formed c.version [] (lines_of c) (follows c.version [] (lines_of c) (all_after c h).0) }

@@ -1,15 +1,15 @@
 -- How a line is found by its place, and what stands there; it serves private contracts.
-use Rattle.std.specs.Prelude.{◌≡◌, ℕ, ◌+◌, ◌-◌, ◌≤◌, ◌<◌, ◌==◌, get_or, Bool, true, false, if◌then◌else◌, List, [], ◌∷◌, ◌++◌, length, drop}
+use Rattle.std.specs.Prelude.{◌≡◌, ℕ, ◌+◌, ◌-◌, ◌≤◌, ◌<◌, ◌==◌, get_or, Bool, false, if◌then◌else◌, List, [], ◌∷◌, ◌++◌, length, drop}
 use Rattle.std.specs.List.{AllByRecursion}
 use Rattle.wordset.specs.Words.{Words}
-use Rattle.domain.specs.Statements.{Statement}
+use Rattle.domain.specs.Statements.{Statement, all_offsets}
 use Rattle.wordset.specs.Lanes.{words}
 use Rattle.certificate.specs.declared.Version.{Version}
 use Rattle.certificate.specs.declared.RoutineClaim.{RoutineClaim}
 use Rattle.certificate.specs.declared.packed.Run.{Run}
 use Rattle.certificate.specs.declared.packed.KeptLine.{KeptLine}
 use Rattle.certificate.specs.Spelling.{RoutineLine, Line, FactIs, ExitIs, End}
-use Rattle.certificate.specs.Reading.{rank_in, sites_in, writes_in}
+use Rattle.certificate.specs.Reading.{Each, EndsBefore, rank_in, sites_in, writes_in}
 use Rattle.certificate.specs.Order.{is_detail, place, any, is_end, details_of_last, AreInOrder}
 use Rattle.certificate.specs.Packed.{Packed, said_at, said_lines, IsKept}
 use Rattle.certificate.specs.Gathered.{cells_under, equations_under, stated}
@@ -71,11 +71,17 @@ pub record IsNextPlace (ls : List Line) (from next : ℕ) : Type 0 where
 abbrev pub Keeps : Packed → List Line → Type 0
 Keeps k before = newest_first [] (said_lines k) ≡ before
 
+-- The offsets of a fact are among eight.
+abbrev pub OffsetsEnd : Line → Type 0
+OffsetsEnd (FactIs a r offsets) = EndsBefore 8 offsets
+OffsetsEnd _ = Unit {0}
+
 -- The lines that are kept are in order, so their places don't fall, and the end isn't among them.
 pub record IsWhole (v : Version) (k : Packed) : Type 0 where
   pub order : AreInOrder v (newest_first [] (said_lines k))
   pub no_end : any is_end (newest_first [] (said_lines k)) ≡ false
   pub rising : AreRising 0 (said_lines k)
+  pub eight : Each OffsetsEnd (said_lines k)
 
 -- There is room in a fact for the cells and equations at the front.
 abbrev pub FitUnder : List Line → Type 0
@@ -101,7 +107,7 @@ begins test (l ∷ ls) = test l
 -- which doesn't speak of them, they are all.
 abbrev pub IsSaid : List Line → Statement → Words → Type 0
 IsSaid (FactIs a r known ∷ ls) s offsets = (s ≡ stated r ls) × (offsets ≡ known)
-IsSaid (ExitIs e o r ∷ ls) s offsets = (s ≡ stated r ls) × ((n : ℕ) → n < 8 → offsets n ≡ true)
+IsSaid (ExitIs e o r ∷ ls) s offsets = (s ≡ stated r ls) × (offsets ≡ all_offsets)
 IsSaid _ s offsets = ⊥
 
 -- A routine that is given is what the routines say of an entry.

@@ -3,6 +3,7 @@ pub mod Spelling
 pub mod Reading
 pub mod Sample
 pub mod Line
+pub mod LineOf
 pub mod Fields
 pub mod Order
 pub mod Progress

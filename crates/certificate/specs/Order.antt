@@ -1,5 +1,5 @@
 -- Which line may come after which lines. Lists of lines have the newest line first.
-use Rattle.std.specs.Prelude.{◌≡◌, ℕ, ◌+◌, ◌*◌, ◌<◌, ◌≤◌, Bool, true, false, not, ◌&&◌, ◌||◌, if◌then◌else◌, List, [], ◌∷◌, ◌++◌}
+use Rattle.std.specs.Prelude.{◌≡◌, ℕ, ◌+◌, ◌*◌, ◌<◌, ◌≤◌, nat_le, nat_lt, Bool, true, false, not, ◌&&◌, ◌||◌, if◌then◌else◌, List, [], ◌∷◌, ◌++◌}
 use Rattle.certificate.specs.declared.Version.{Version}
 use Rattle.certificate.specs.Spelling.{version_text, Line, RoutineIs, FactIs, ExitIs, CellIs, EquationIs, End, line_text, ended}
 use Rattle.certificate.specs.Reading.{place_of_equation}
@@ -64,9 +64,13 @@ next_place (l ∷ ls) = place l + 1
 abbrev pub fellows : List Line → Line → List Line
 fellows before l = if is_detail l then details_of_last before else heads before
 
--- A line comes in order after others.
+-- A line comes in order after others. It says in numbers what `comes_in_order` tests, for laws and private contracts alone.
 abbrev pub InOrder : List Line → Line → Type 0
 InOrder before l = next_place (fellows before l) ≤ place l
+
+-- A line comes in order after others: the least place after its fellows isn't past its own.
+abbrev pub comes_in_order : List Line → Line → Bool
+comes_in_order before l = nat_le (next_place (fellows before l)) (place l)
 
 -- The line is that of a routine: its entry, its rank, its sites and its written cells.
 abbrev pub is_routine : Line → Bool
@@ -83,14 +87,21 @@ abbrev pub is_equation : Line → Bool
 is_equation (EquationIs e) = true
 is_equation _ = false
 
--- There may be 64 routines, and a fact or an exit may have 64 cells and 32 equations.
+-- There is room for a line after others. It says in numbers what `has_room` tests, for laws and private contracts alone.
 abbrev pub HasRoom : List Line → Line → Type 0
 HasRoom before (RoutineIs r) = how_many is_routine before < 64
 HasRoom before (CellIs c) = how_many is_cell (details_of_last before) < 64
 HasRoom before (EquationIs e) = how_many is_equation (details_of_last before) < 32
 HasRoom before _ = Unit {0}
 
--- The line is spelled by these bytes.
+-- There is room for a line after others: there may be 64 routines, and a fact or an exit may have 64 cells and 32 equations.
+abbrev pub has_room : List Line → Line → Bool
+has_room before (RoutineIs r) = nat_lt (how_many is_routine before) 64
+has_room before (CellIs c) = nat_lt (how_many is_cell (details_of_last before)) 64
+has_room before (EquationIs e) = nat_lt (how_many is_equation (details_of_last before)) 32
+has_room before _ = true
+
+-- The line is of its form and these bytes spell it, as where `line_of` gives the line. It's for laws and private contracts alone.
 abbrev pub Spells : Version → Line → List ℕ → Type 0
 Spells v l bytes = IsLine v l × (bytes ≡ line_text v l)
 
@@ -110,32 +121,7 @@ abbrev pub front : Version → List Line → List ℕ
 front v [] = ended (version_text v)
 front v (l ∷ ls) = front v ls ++ ended (line_text v l)
 
--- The bytes are bad after the lines: no line that may stand there spells them.
-abbrev pub IsBad : Version → List Line → List ℕ → Type 0
-IsBad v before bytes = (l : Line) → Spells v l bytes → may_stand before l ≡ true → ⊥
-
--- The bytes spell a line that may stand after the lines but is out of order.
-pub record IsMisplaced (v : Version) (before : List Line) (bytes : List ℕ) : Type 0 where
-  pub line : Line
-  pub spells : Spells v line bytes
-  pub stands : may_stand before line ≡ true
-  pub order : InOrder before line → ⊥
-
--- The bytes spell a line that may stand after the lines, in order, but for which there is no room.
-pub record IsOneTooMany (v : Version) (before : List Line) (bytes : List ℕ) : Type 0 where
-  pub line : Line
-  pub spells : Spells v line bytes
-  pub stands : may_stand before line ≡ true
-  pub order : InOrder before line
-  pub room : HasRoom before line → ⊥
-
--- The bytes spell this line, which may come next after the lines.
-pub record Continues (v : Version) (before : List Line) (bytes : List ℕ) (l : Line) : Type 0 where
-  pub spells : Spells v l bytes
-  pub next : IsNext v before l
-
--- The bytes spell a line that may come next after the lines and isn't the end.
-pub record IsOneMore (v : Version) (before : List Line) (bytes : List ℕ) : Type 0 where
-  pub line : Line
-  pub continues : Continues v before bytes line
-  pub grows : is_end line ≡ false
+-- Lines with the oldest first.
+abbrev pub oldest : List Line → List Line
+oldest [] = []
+oldest (l ∷ ls) = oldest ls ++ l ∷ []

@@ -3,6 +3,7 @@ use Rattle.std.specs.Prelude.{◌≡◌, ℕ, ◌+◌, ◌-◌, ◌<◌, ◌≤�
 use Rattle.wordset.specs.Words.{Words, all_words, nothing, between, union, meet}
 use Rattle.wordset.specs.Links.{links_of}
 use Rattle.domain.specs.Meaning.{offsets_of, equation_of}
+use Rattle.certificate.specs.Reading.{EndsBefore}
 use Rattle.certificate.specs.declared.packed.Run.{Run}
 use Rattle.certificate.specs.declared.packed.Counts.{Counts}
 use Rattle.certificate.specs.declared.packed.PackedRoutine.{PackedRoutine}
@@ -94,6 +95,11 @@ LiesWithin n (packed.Exit e o r) = AreWithin n r.sets
 LiesWithin n (packed.Cell a count) = count ≤ n
 LiesWithin n (packed.Equation e) = Unit {0}
 LiesWithin n packed.End = Unit {0}
+
+-- The offsets of a packed fact are among eight.
+abbrev pub HasEight : PackedLine → Type 0
+HasEight (packed.Fact a r offsets) = EndsBefore 8 (offsets_of offsets)
+HasEight _ = Unit {0}
 
 -- So do those of a line that is kept, of which the first one is told.
 pub record IsKept (n : ℕ) (k : KeptLine) : Type 0 where

@@ -1,24 +1,30 @@
 -- What the parser of a certificate's text has seen, and what reading in pieces keeps; it serves private contracts.
-use Rattle.std.specs.Prelude.{◌≡◌, ℕ, ◌+◌, ◌<◌, ◌≤◌, ◌⊎◌, Bool, true, false, List, [], ◌++◌, length, take, Option, Some, None, IfSome, Result, MatchResult}
+use Rattle.std.specs.Prelude.{◌≡◌, ◌≢◌, ℕ, ◌+◌, ◌<◌, ◌≤◌, ◌⊎◌, Bool, true, false, List, [], ◌∷◌, ◌++◌, length, take, Option, Some, None, IfSome, Result, Ok, Err, MatchResult}
 use Rattle.std.specs.Io.KnownBytes.{Consumes, IsAtEnd}
 use Rattle.certificate.specs.declared.CertificateFault.{CertificateFault}
 use Rattle.certificate.specs.declared.CertificateFault.TheVariants.{NoMemory, ReadFault}
 use Rattle.certificate.specs.declared.progress.Progress.{Progress}
 use Rattle.certificate.specs.declared.parser.Parser.{Parser}
-use Rattle.certificate.specs.Spelling.{text, Line}
-use Rattle.certificate.specs.Reading.{AreLines}
+use Rattle.certificate.specs.Spelling.{Line}
+use Rattle.certificate.specs.Reading.{Each, SetsEnd}
 use Rattle.certificate.specs.Order.{AreInOrder, front}
 use Rattle.certificate.specs.Progress.{Tracks}
-use Rattle.certificate.specs.Faults.{NoFeed, HasFault, AsksForMemory, IsText, most_bytes}
+use Rattle.certificate.specs.Faults.{reading, AsksForMemory, most_bytes}
 use Rattle.certificate.specs.Packed.{Packed}
 use Rattle.certificate.specs.Found.{Keeps, unended}
 use Rattle.certificate.specs.Kept.{Kept, meaning}
 use Rattle.certificate.specs.Serving.{Settles, IsUnanswered}
 
+-- No byte is a line feed.
+abbrev pub NoFeed : List ℕ → Type 0
+NoFeed [] = Unit {0}
+NoFeed (c ∷ cs) = (c ≢ 10) × NoFeed cs
+
 -- Lines in order of which the text is this and what is kept is that.
 pub record Reached (p : Progress) (text : List ℕ) (kept : Packed) : Type 0 where
   pub before : List Line
   pub order : AreInOrder p.version before
+  pub end : Each SetsEnd before
   pub tracks : Tracks p before
   pub is : text ≡ front p.version before
   pub keeps : Keeps kept (unended before)
@@ -55,13 +61,11 @@ pub record IsSmall {A : Type 0} (p : Parser A) : Type 0 where
 -- Memory was wanting for a line of the bytes, or whatever follows them, the text has this fault.
 abbrev pub Refuses : List ℕ → CertificateFault → Type 0
 Refuses bytes NoMemory = AsksForMemory bytes
-Refuses bytes fault = (rest : List ℕ) → HasFault (bytes ++ rest) fault
+Refuses bytes fault = Settles bytes fault
 
--- The certificate is that of the bytes.
-pub record IsParsed (bytes : List ℕ) (c : Kept) : Type 0 where
-  pub found : bytes ≡ text (meaning c)
-  pub lines : AreLines (meaning c)
-  pub is_text : IsText (meaning c).version bytes
+-- The bytes are read as this certificate.
+abbrev pub IsParsed : List ℕ → Kept → Type 0
+IsParsed bytes c = reading bytes ≡ Ok (meaning c)
 
 -- The parser has seen what the source gave.
 pub record CameTo {A : Type 0} (old new : Option (List ℕ)) (p : Parser A) : Type 0 where
@@ -75,7 +79,7 @@ pub record CameTo {A : Type 0} (old new : Option (List ℕ)) (p : Parser A) : Ty
 abbrev pub Told : List ℕ → Option (List ℕ) → CertificateFault → Type 0
 Told given new ReadFault = IsUnanswered given
 Told given new NoMemory = AsksForMemory given
-Told given new fault = Settles given fault ⊎ (HasFault given fault × IsAtEnd new)
+Told given new fault = Settles given fault ⊎ ((reading given ≡ Err fault) × IsAtEnd new)
 
 -- What the bytes that a source gave are answered with.
 abbrev pub IsAnswered : List ℕ → Option (List ℕ) → Result Kept CertificateFault → Type 0

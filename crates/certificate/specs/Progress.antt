@@ -1,13 +1,14 @@
 -- What is kept of the lines that were read; it serves private contracts.
 use Rattle.std.specs.Prelude.{◌≡◌, ℕ, ◌+◌, ◌<◌, List, ◌∷◌, length, Result, Ok, Err}
+use Rattle.certificate.specs.Reading.{SetsEnd}
 use Rattle.certificate.specs.declared.CertificateFault.{CertificateFault}
-use Rattle.certificate.specs.declared.CertificateFault.TheVariants as faults
 use Rattle.certificate.specs.declared.Version.{Version}
 use Rattle.certificate.specs.declared.packed.Run.{Run}
 use Rattle.certificate.specs.declared.packed.PackedLine.{PackedLine}
 use Rattle.certificate.specs.declared.progress.Progress.{Progress}
 use Rattle.certificate.specs.Spelling.{Line, RoutineIs, FactIs, ExitIs, CellIs, EquationIs, End}
-use Rattle.certificate.specs.Order.{any, how_many, is_end, has_details, is_routine, is_cell, is_equation, heads, details_of_last, next_place, Continues, IsBad, IsMisplaced, IsOneTooMany}
+use Rattle.certificate.specs.Order.{any, how_many, is_end, has_details, is_routine, is_cell, is_equation, heads, details_of_last, next_place, Spells, IsNext}
+use Rattle.certificate.specs.Faults.{After, Failed, after_line}
 use Rattle.certificate.specs.Packed.{said_at}
 
 -- What is kept is that of these lines; their number apart.
@@ -33,16 +34,13 @@ Fits p (FactIs a r offsets) = Unit {0}
 Fits p (ExitIs e o r) = Unit {0}
 Fits p End = Unit {0}
 
--- The bytes after the lines are a line with this fault.
-abbrev pub Declines : Version → List Line → List ℕ → CertificateFault → Type 0
-Declines v before bytes (faults.BadLine n) = (n ≡ length before + 2) × IsBad v before bytes
-Declines v before bytes (faults.Order n) = (n ≡ length before + 2) × IsMisplaced v before bytes
-Declines v before bytes faults.TooMany = IsOneTooMany v before bytes
-Declines v before bytes faults.Version = ⊥
-Declines v before bytes faults.NoMemory = ⊥
-Declines v before bytes faults.ReadFault = ⊥
+-- The bytes spell this line, which may come next after the lines.
+pub record Continues (v : Version) (before : List Line) (bytes : List ℕ) (l : Line) : Type 0 where
+  pub spells : Spells v l bytes
+  pub next : IsNext v before l
+  pub ends : SetsEnd l
 
 -- What a call answers that takes the next line, whose runs are these.
 abbrev pub Takes : Version → List Line → List ℕ → Progress → List Run → Result PackedLine CertificateFault → Type 0
 Takes v before bytes after runs (Ok l) = Continues v before bytes (said_at runs l) × Tracks after (said_at runs l ∷ before)
-Takes v before bytes after runs (Err fault) = Declines v before bytes fault
+Takes v before bytes after runs (Err fault) = after_line (After v before) bytes ≡ Failed fault

@@ -1,11 +1,12 @@
 -- Which lines make a certificate, and which certificate they make.
 use Rattle.std.specs.Prelude.{◌≡◌, ℕ, ◌+◌, ◌*◌, ◌<◌, ◌≤◌, ◌==◌, Bool, true, false, if◌then◌else◌, List, [], ◌∷◌, length, map, Option, Some, None}
-use Rattle.wordset.specs.Words.{Words, SameWords, nothing, everything, some_below, has_some}
+use Rattle.wordset.specs.Words.{Words, nothing, all_words, some_below, has_some}
+use Rattle.wordset.specs.Links.{links_of}
 use Rattle.domain.specs.Facts.{Location, Ac, Cell, Equation, Fact}
-use Rattle.domain.specs.Statements.{TrackedCell, Statement, fact_of, unknown}
+use Rattle.domain.specs.Statements.{TrackedCell, Statement, fact_of, all_offsets, unknown}
 use Rattle.certificate.specs.declared.Version.{Version}
 use Rattle.certificate.specs.declared.Version.TheVariants.{One, Two}
-use Rattle.certificate.specs.Spelling.{RoutineLine, FactLine, ExitLine, Lines}
+use Rattle.certificate.specs.Spelling.{RoutineLine, FactLine, ExitLine, Lines, Registers, Line, RoutineIs, FactIs, ExitIs, CellIs, EquationIs, End, lines_of}
 use Rattle.certificate.specs.Certificate.{Certificate}
 
 -- The numbers rise, from a number on.
@@ -38,9 +39,9 @@ pub record IsEquation (e : Equation) : Type 0 where
   pub right : place_of_name e.right < 4097
   pub more : e.more < 4096
 
--- In version 1 nothing is said of MQ.
+-- In version 1 any word may be in MQ, since nothing is said of it; in version 2 its set has a word.
 abbrev pub FitsVersion : Version → Words → Type 0
-FitsVersion One mq = SameWords mq everything
+FitsVersion One mq = mq ≡ all_words
 FitsVersion Two mq = has_some mq ≡ true
 
 -- What is said is of its form, in order and within the limits.
@@ -71,7 +72,30 @@ pub record IsExit (v : Version) (e : ExitLine) : Type 0 where
   pub offset : e.offset < 8
   pub statement : IsStatement v e.statement
 
--- The lines of a certificate: each of its form, in rising order, within the limits on lines.
+-- No number from this one on is in the set.
+abbrev pub EndsBefore : ℕ → Words → Type 0
+EndsBefore n s = (v : ℕ) → n ≤ v → s v ≡ false
+
+-- The set is one of links: it's known by whether 0 and 1 are in it.
+abbrev pub IsOfLinks : Words → Type 0
+IsOfLinks s = s ≡ links_of (record { clear = s 0; set = s 1 })
+
+-- The sets of the registers have words and links alone.
+pub record RegistersEnd (r : Registers) : Type 0 where
+  pub ac : EndsBefore 4096 r.ac
+  pub mq : EndsBefore 4096 r.mq
+  pub link : IsOfLinks r.link
+
+-- The sets of the line have words, links and offsets alone, and no larger numbers.
+abbrev pub SetsEnd : Line → Type 0
+SetsEnd (RoutineIs r) = EndsBefore 4096 r.sites × EndsBefore 4096 r.writes
+SetsEnd (FactIs a r offsets) = RegistersEnd r × EndsBefore 8 offsets
+SetsEnd (ExitIs e o r) = RegistersEnd r
+SetsEnd (CellIs c) = EndsBefore 4096 c.set
+SetsEnd (EquationIs e) = Unit {0}
+SetsEnd End = Unit {0}
+
+-- The lines of a certificate: each of its form, in rising order, within the limits on lines, and its sets without larger numbers.
 -- A certificate may be longer than what is read of a text; that limit is the reader's.
 pub record AreLines (c : Lines) : Type 0 where
   pub routines : Each IsRoutine c.routines
@@ -81,6 +105,7 @@ pub record AreLines (c : Lines) : Type 0 where
   pub facts_rise : RiseFrom 0 (map (λ f. f.address) c.facts)
   pub exits : Each (IsExit c.version) c.exits
   pub exits_rise : RiseFrom 0 (map (λ e. 8 * e.entry + e.offset) c.exits)
+  pub ends : Each SetsEnd (lines_of c)
 
 -- A routine line has the entry.
 abbrev pub has_routine : List RoutineLine → Words
@@ -129,7 +154,7 @@ has_exit_in (x ∷ xs) e o = if is_exit x e o then true else has_exit_in xs e o
 -- The exit fact of an entry and an offset by its line. It has all offsets, since nothing is asked of them.
 abbrev pub exit_in : List ExitLine → ℕ → ℕ → Fact
 exit_in [] e o = unknown
-exit_in (x ∷ xs) e o = if is_exit x e o then fact_of x.statement everything else exit_in xs e o
+exit_in (x ∷ xs) e o = if is_exit x e o then fact_of x.statement all_offsets else exit_in xs e o
 
 -- The statement of an entry and an offset by its line, if they have one.
 abbrev pub exit_statement_in : List ExitLine → ℕ → ℕ → Option Statement

@@ -1,6 +1,7 @@
 -- A certificate line by line and the text that it has, as a sample of the spelling.
-use Rattle.std.specs.Prelude.{◌≡◌, ℕ, ◌==◌, ◌||◌, List, [], ◌∷◌, ◌++◌, codes}
-use Rattle.wordset.specs.Words.{one, nothing, everything, between}
+use Rattle.std.specs.Prelude.{◌≡◌, ℕ, ◌==◌, true, false, ◌||◌, List, [], ◌∷◌, ◌++◌, codes}
+use Rattle.wordset.specs.Words.{one, nothing, all_words, between}
+use Rattle.wordset.specs.Links.{links_of}
 use Rattle.domain.specs.Facts.{Cell}
 use Rattle.domain.specs.Statements.{Statement}
 use Rattle.certificate.specs.declared.Version.TheVariants.{Two}
@@ -11,8 +12,8 @@ use Rattle.certificate.specs.Reading.{AreLines}
 abbrev pub sample_statement : Statement
 sample_statement = record {
   ac = λ v. between 0o310 0o314 v || (v == 0o305);
-  mq = everything;
-  link = everything;
+  mq = all_words;
+  link = links_of (record { clear = true; set = true });
   cells = record { address = 0o10; set = between 0o225 0o231 } ∷ [];
   equations = record { left = Cell 0o10; right = Cell 0o224; more = 0o231 } ∷ [];
 }
@@ -23,7 +24,7 @@ sample = record {
   version = Two;
   routines = record { entry = 0o214; rank = 9; sites = one 0o207; writes = nothing } ∷ [];
   facts = record { address = 0o206; statement = sample_statement; offsets = nothing } ∷ [];
-  exits = record { entry = 0o214; offset = 1; statement = record sample_statement { cells = []; equations = []; link = one 1 } } ∷ [];
+  exits = record { entry = 0o214; offset = 1; statement = record sample_statement { cells = []; equations = []; link = links_of (record { clear = false; set = true }) } } ∷ [];
 }
 
 -- A line and what follows it.

@@ -1,12 +1,12 @@
 -- What reading a certificate takes from a source.
-use Rattle.std.specs.Prelude.{ℕ, ◌+◌, ◌≤◌, List, ◌++◌, length, take, Result, Ok, Err, Bool, true, false}
+use Rattle.std.specs.Prelude.{◌≡◌, ℕ, ◌+◌, ◌≤◌, List, ◌++◌, length, take, Result, Ok, Err, Bool, true, false}
 use Rattle.certificate.specs.declared.CertificateFault.{CertificateFault}
 use Rattle.certificate.specs.declared.CertificateFault.TheVariants as faults
-use Rattle.certificate.specs.Faults.{HasFault}
+use Rattle.certificate.specs.Faults.{reading}
 
 -- The bytes bring the answer that their text has this fault: whatever follows them, it has.
 abbrev pub Settles : List ℕ → CertificateFault → Type 0
-Settles bytes fault = (rest : List ℕ) → HasFault (bytes ++ rest) fault
+Settles bytes fault = (rest : List ℕ) → reading (bytes ++ rest) ≡ Err fault
 
 -- The bytes bring no answer. That a text is a certificate is never known of its front, since nothing may follow.
 abbrev pub IsUnanswered : List ℕ → Type 0
@@ -24,6 +24,15 @@ is_read_fault (faults.BadLine n) = false
 is_read_fault (faults.Order n) = false
 is_read_fault faults.TooMany = false
 is_read_fault faults.NoMemory = false
+
+-- This fault is one of the text's bytes: it isn't that memory was refused or that a read failed.
+abbrev pub is_of_bytes : CertificateFault → Bool
+is_of_bytes faults.ReadFault = false
+is_of_bytes faults.NoMemory = false
+is_of_bytes faults.Version = true
+is_of_bytes (faults.BadLine n) = true
+is_of_bytes (faults.Order n) = true
+is_of_bytes faults.TooMany = true
 
 -- The answer to reading a certificate is that a read of the source failed, and no other fault.
 abbrev pub failed_to_read : {T : Type 0} → Result T CertificateFault → Bool

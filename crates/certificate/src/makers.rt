@@ -60,6 +60,8 @@ impl<A: Allocator> Certificate<A> {
             with_fact (meaning self.old) (fact_at at fact.now)) }
         ensures same { OnErr result (meaning self.new ≡ meaning self.old) }
     {
+        // There are eight of them, as the proof has to know.
+        let _offsets = fact.offsets();
         let line = Claim::Fact(at, fact);
         match self.kept.keep_all(&line, fact.cells(), fact.equations()) {
             Ok(()) => Ok(()),

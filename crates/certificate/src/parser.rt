@@ -1,12 +1,12 @@
 //! The text of a certificate, a line at a time.
 
-ghost use Rattle.std.specs.Prelude.{ℕ, ◌≡◌, ◌+◌, ◌<◌, ◌≤◌, ◌⊎◌, ◌^◌, List, [], ◌∷◌, ◌++◌, length, take, get_or, IfOk, IfErr, MatchResult, Some, None};
+ghost use Rattle.std.specs.Prelude.{ℕ, ◌≡◌, ◌+◌, ◌<◌, ◌≤◌, ◌⊎◌, ◌^◌, List, [], ◌∷◌, ◌++◌, length, take, get_or, IfOk, MatchResult, Some, None, Err};
 ghost use Rattle.std.specs.Prelude.{IfSome, false, true};
 ghost use Rattle.certificate.specs.declared.Version.{Version as Spelled};
 ghost use Rattle.certificate.specs.Spelling.{version_text};
-ghost use Rattle.certificate.specs.Faults.{most_bytes, NoFeed, HasFault};
+ghost use Rattle.certificate.specs.Faults.{most_bytes, reading};
 ghost use Rattle.certificate.specs.Packed.{Packed};
-ghost use Rattle.certificate.specs.Parser.{WasRead, Parts, Seen, IsSmall, Refuses, IsParsed};
+ghost use Rattle.certificate.specs.Parser.{NoFeed, WasRead, Parts, Seen, IsSmall, Refuses, IsParsed};
 
 use crate::packed::{PackedLines, Runs};
 use crate::progress::Progress;
@@ -301,7 +301,7 @@ impl<A: Allocator> Parser<A> {
         requires small { IsSmall self }
         requires read { WasRead self.progress self.kept }
         ensures { (bytes : List ℕ) → Seen self bytes → self.count ≡ length bytes →
-            MatchResult result (IsParsed bytes) (HasFault bytes) }
+            MatchResult result (IsParsed bytes) (λ f. reading bytes ≡ Err f) }
     {
         let Parser {
             kept,

@@ -1,13 +1,9 @@
 //! A certificate read from a source, a piece at a time.
 
-ghost use Rattle.std.specs.Prelude.{ℕ, ◌≡◌, ◌⊎◌, ◌≤◌, Err, IfErr, IfOk, IfSome, IsErrAnd, false, length};
+ghost use Rattle.std.specs.Prelude.{◌≡◌, ◌⊎◌, ◌≤◌, Ok, Err, IfErr, IfOk, IfSome, false, length};
 ghost use Rattle.streams.specs.Bytes.{Gave};
-ghost use Rattle.certificate.specs.declared.Version.{Version as Spelled};
-ghost use Rattle.certificate.specs.declared.CertificateFault.{CertificateFault as Fault};
 ghost use Rattle.certificate.specs.declared.CertificateFault.TheVariants.{NoMemory, ReadFault};
-ghost use Rattle.certificate.specs.Spelling.{text};
-ghost use Rattle.certificate.specs.Reading.{AreLines};
-ghost use Rattle.certificate.specs.Faults.{HasFault, IsText, AsksForMemory};
+ghost use Rattle.certificate.specs.Faults.{reading, AsksForMemory};
 ghost use Rattle.certificate.specs.Kept.{meaning};
 ghost use Rattle.certificate.specs.Serving.{IsPrompt, IsUnanswered, failed_to_read};
 ghost use Rattle.certificate.specs.Parser.{Serves};
@@ -64,22 +60,12 @@ impl<A: Allocator + Copy> Certificate<A> {
         source: &mut R,
     ) -> Result<Certificate<A>, CertificateFault>
         requires unmarked { R.mark source.old ≡ false }
-        // What is read is the certificate of the source's bytes.
-        ensures found { IfOk result (λ c.
-            IfSome (R.remaining source.old) (λ bytes. bytes ≡ text (meaning c))) }
-        ensures lines { IfOk result (λ c. AreLines (meaning c)) }
-        ensures text { IfOk result (λ c.
-            IfSome (R.remaining source.old) (IsText (meaning c).version)) }
-        // Each certificate is read, unless memory is refused or a read fails.
-        ensures only { IfSome (R.remaining source.old) (λ bytes. (v : Spelled) → IsText v bytes →
-            IfErr result (λ fault. (fault ≡ NoMemory) ⊎ (fault ≡ ReadFault))) }
-        // Another fault comes where it is that of the source's bytes,
+        // The certificate that the source's bytes are read as,
+        ensures read { IfOk result (λ c.
+            IfSome (R.remaining source.old) (λ bytes. reading bytes ≡ Ok (meaning c))) }
+        // or the fault that they are read as, unless memory is refused or a read fails.
         ensures refused { IfErr result (λ fault. (fault ≡ NoMemory) ⊎ ((fault ≡ ReadFault) ⊎
-            IfSome (R.remaining source.old) (λ bytes. HasFault bytes fault))) }
-        // and whichever is that of the bytes comes, with the same exceptions.
-        ensures exact { IfSome (R.remaining source.old) (λ bytes. (fault : Fault) →
-            HasFault bytes fault →
-            IsErrAnd result (λ f. (f ≡ NoMemory) ⊎ ((f ≡ ReadFault) ⊎ (f ≡ fault)))) }
+            IfSome (R.remaining source.old) (λ bytes. reading bytes ≡ Err fault))) }
         // ReadFault comes exactly where a read failed,
         ensures failed { R.mark source.new ≡ failed_to_read result }
         // and the bytes given before it bring no answer.

@@ -1,26 +1,27 @@
 -- The certificate as it is written.
-use Rattle.std.proofs.Common.{◌≡◌, ◌≢◌, ℕ, ◌==◌, Bool, true, false, ◌&&◌, ◌||◌, ◌≤◌, List, [], ◌∷◌, length, map, refl, sym, ap, ◌∙◌, subst, inl, inr, arith}
+use Rattle.std.proofs.Common.{◌≡◌, ◌≢◌, ℕ, ◌==◌, Bool, true, false, ◌&&◌, ◌<◌, ◌≤◌, List, [], ◌∷◌, length, map, Ok, refl, sym, ap, ◌∙◌, subst, inl, inr, arith}
 use Rattle.std.specs.Prelude.{if◌then◌else◌}
-use Rattle.std.proofs.Math.Bool.{and-true}
-use Rattle.std.proofs.lemmas.Bool.{cases_eq, eq-eqb, ne_eqb}
+use Rattle.std.proofs.lemmas.Bool.{cases_eq, eq-eqb, le-ltb, ne_eqb}
 use Rattle.std.proofs.Math.Path.{fun_ext}
-use Rattle.wordset.specs.Words.{Words, nothing, everything, one, some_below}
-use Rattle.domain.specs.Facts.{Location, Ac, Cell, Fact}
-use Rattle.domain.specs.Statements.{TrackedCell, tracked, sets_of, fact_of}
+use Rattle.wordset.specs.Words.{Words, nothing, all_words, all_links, one, some_below}
+use Rattle.wordset.proofs.LinkLemmas.{two_are}
+use Rattle.wordset.proofs.SetLemmas.{all_past}
+use Rattle.domain.specs.Facts.{Location, Ac, Cell}
+use Rattle.domain.specs.Statements.{all_offsets, sets_of, fact_of}
 use Rattle.certificate.specs.Certificate.{Certificate}
 use Rattle.certificate.specs.declared.Version.TheVariants.{One}
-use Rattle.certificate.specs.Faults.{IsText}
-use Rattle.certificate.proofs.FromOrderLemmas.{reading_law}
-use Rattle.certificate.specs.Spelling.{marks, digits, text}
-use Rattle.certificate.specs.Reading.{AreLines, Each, IsStatement, IsFactLine, RiseFrom, certificate_of, exit_in, fact_in, has_exit_in, has_fact_in, has_routine, rank_in, sites_in, writes_in}
-use Rattle.certified_example.specs.Example.{any, certificate, changed, clear, fact, knowing, main_cells}
-use Rattle.certified_example.specs.Written.{IsWritten, certificate_text, in_main, knowing_of, lines}
+use Rattle.certificate.specs.Faults.{most_bytes, reading}
+use Rattle.certificate.proofs.TextAnswerLemmas.{reading_law}
+use Rattle.certificate.specs.Spelling.{lines_of, marks, digits, text}
+use Rattle.certificate.specs.Reading.{AreLines, Each, EndsBefore, RegistersEnd, SetsEnd, IsStatement, IsFactLine, RiseFrom, certificate_of, exit_in, fact_in, has_exit_in, has_fact_in, has_routine, rank_in, sites_in, writes_in}
+use Rattle.certified_example.specs.Example.{any, certificate, changed, clear, fact, knowing}
+use Rattle.certified_example.specs.Written.{IsWritten, certificate_text, knowing_of, lines}
 
-plain : IsStatement One (knowing_of everything [])
+plain : IsStatement One (knowing_of all_words [])
 unfolding some_below
 plain = record {
   ac = refl;
-  mq = λ v lt. refl;
+  mq = refl;
   link = refl;
   cells = tt;
   cells_rise = tt;
@@ -34,7 +35,7 @@ cleared : IsStatement One (knowing_of (one 0) [])
 unfolding some_below
 cleared = record {
   ac = refl;
-  mq = λ v lt. refl;
+  mq = refl;
   link = refl;
   cells = tt;
   cells_rise = tt;
@@ -44,11 +45,11 @@ cleared = record {
   few_equations = omega arith;
 }
 
-with_cell : IsStatement One (knowing_of everything (record { address = 0o202; set = one 0 } ∷ []))
+with_cell : IsStatement One (knowing_of all_words (record { address = 0o202; set = one 0 } ∷ []))
 unfolding some_below
 with_cell = record {
   ac = refl;
-  mq = λ v lt. refl;
+  mq = refl;
   link = refl;
   cells = (record { address = omega arith; set = refl }, tt);
   cells_rise = (omega arith, tt);
@@ -64,6 +65,46 @@ at_each = (record { address = omega arith; statement = plain }, (record { addres
 rising : RiseFrom 0 (map (λ f. f.address) lines.facts)
 rising = (omega arith, (omega arith, (omega arith, (omega arith, (omega arith, (omega arith, (omega arith, (omega arith, tt))))))))
 
+-- no set has a number past its last
+one_past : (w n : ℕ) → w < n → EndsBefore n (one w)
+one_past w n small v past = ne_eqb v w (λ q. omega arith)
+
+registers : (ac : Words) → EndsBefore 4096 ac → RegistersEnd (record { ac = ac; mq = all_words; link = all_links })
+registers ac past = record { ac = past; mq = all_past; link = sym (two_are true true all_links refl refl (λ k h. le-ltb k 2 h)) }
+
+in_main_end : RegistersEnd (record { ac = all_words; mq = all_words; link = all_links }) × EndsBefore 8 nothing
+in_main_end = (registers all_words all_past, λ o past. refl)
+
+all_end : Each SetsEnd (lines_of lines)
+all_end = (
+  (one_past 0o203 4096 (omega arith), λ v past. refl),
+  (
+    in_main_end,
+    (
+      (registers (one 0) (one_past 0 4096 (omega arith)), λ o past. refl),
+      (
+        in_main_end,
+        (
+          one_past 0 4096 (omega arith),
+          (
+            in_main_end,
+            (
+              in_main_end,
+              (
+                in_main_end,
+                (
+                  in_main_end,
+                  ((registers all_words all_past, one_past 0 8 (omega arith)), (registers all_words all_past, (tt, tt))),
+                ),
+              ),
+            ),
+          ),
+        ),
+      ),
+    ),
+  ),
+)
+
 ordered : AreLines lines
 ordered = record {
   routines = (record { entry = omega arith; rank = omega arith }, tt);
@@ -73,6 +114,7 @@ ordered = record {
   facts_rise = rising;
   exits = (record { entry = omega arith; offset = omega arith; statement = plain }, tt);
   exits_rise = (omega arith, tt);
+  ends = all_end;
 }
 
 spelled : text lines ≡ certificate_text
@@ -173,10 +215,10 @@ has_fact_same = by_address (λ a. has_fact_in lines.facts a ≡ certificate.has_
 with_sets : (s t : Location → Words) (offsets : Words) → ((n : Location) → s n ≡ t n) → knowing s offsets ≡ knowing t offsets
 with_sets s t offsets h = ap (λ (u : Location → Words). knowing u offsets) (fun_ext h)
 
-any_fact : (offsets : Words) → fact_of (knowing_of everything []) offsets ≡ knowing any offsets
-any_fact offsets = with_sets (sets_of (knowing_of everything [])) any offsets at
+any_fact : (offsets : Words) → fact_of (knowing_of all_words []) offsets ≡ knowing any offsets
+any_fact offsets = with_sets (sets_of (knowing_of all_words [])) any offsets at
   where
-    at : (n : Location) → sets_of (knowing_of everything []) n ≡ any n
+    at : (n : Location) → sets_of (knowing_of all_words []) n ≡ any n
     at Ac = refl
     at (Cell b) = refl
 
@@ -187,14 +229,14 @@ clear_fact = with_sets (sets_of (knowing_of (one 0) [])) clear nothing at
     at Ac = refl
     at (Cell b) = refl
 
-changed_fact : fact_of (knowing_of everything (record { address = 0o202; set = one 0 } ∷ [])) nothing ≡ knowing changed nothing
-changed_fact = with_sets (sets_of (knowing_of everything (record { address = 0o202; set = one 0 } ∷ []))) changed nothing at
+changed_fact : fact_of (knowing_of all_words (record { address = 0o202; set = one 0 } ∷ [])) nothing ≡ knowing changed nothing
+changed_fact = with_sets (sets_of (knowing_of all_words (record { address = 0o202; set = one 0 } ∷ []))) changed nothing at
   where
-    picked : (b : Bool) (v : ℕ) → ((if b then one 0 v else true) && true) ≡ (let s : Words = if b then one 0 else everything in s v)
-    picked true v = and-true (one 0 v)
+    picked : (b : Bool) (v : ℕ) → ((if b then one 0 v else true) && all_words v) ≡ (let s : Words = if b then one 0 else all_words in s v)
+    picked true v = elim (cases_eq v 0) [ inl e ↦ rw e refl | inr n ↦ rw (ne_eqb v 0 n) refl ]
     picked false v = refl
 
-    at : (n : Location) → sets_of (knowing_of everything (record { address = 0o202; set = one 0 } ∷ [])) n ≡ changed n
+    at : (n : Location) → sets_of (knowing_of all_words (record { address = 0o202; set = one 0 } ∷ [])) n ≡ changed n
     at Ac = refl
     at (Cell b) = fun_ext (λ v. rw (swapped 0o202 b) (picked (b == 0o202) v))
 
@@ -230,8 +272,8 @@ has_exit_same e o = rw (swapped 0o210 e, swapped 0 o) (picked (e == 0o210) (o ==
 exit_same : (e o : ℕ) → exit_in lines.exits e o ≡ certificate.exit e o
 exit_same e o = picked (if 0o210 == e then 0 == o else false)
   where
-    picked : (b : Bool) → (if b then fact_of (knowing_of everything []) everything else knowing any everything) ≡ knowing any everything
-    picked true = any_fact everything
+    picked : (b : Bool) → (if b then fact_of (knowing_of all_words []) all_offsets else knowing any all_offsets) ≡ knowing any all_offsets
+    picked true = any_fact all_offsets
     picked false = refl
 
 -- certificates that agree everywhere
@@ -255,10 +297,13 @@ one_certificate c d listed rank sites writes has_fact fact has_exit exit =
     ap (λ x. record { listed = d.listed; rank = d.rank; sites = d.sites; writes = d.writes; has_fact = d.has_fact; fact = d.fact; has_exit = x; exit = c.exit }) h7 ∙
     ap (λ x. record { listed = d.listed; rank = d.rank; sites = d.sites; writes = d.writes; has_fact = d.has_fact; fact = d.fact; has_exit = d.has_exit; exit = x }) h8
 
+read_as : (bytes : List ℕ) → text lines ≡ bytes → length bytes ≤ most_bytes → reading bytes ≡ Ok lines
+read_as bytes same few = subst (λ b. reading b ≡ Ok lines) same (reading_law.text lines ordered (subst (λ b. length b ≤ most_bytes) (sym same) few))
+
 pub is_written : IsWritten
 is_written = record {
   are_lines = ordered;
   text_is = spelled;
-  is_text = subst (λ bytes. IsText One bytes) spelled (reading_law.text lines ordered (subst (λ bytes. length bytes ≤ 1048576) (sym spelled) (omega arith)));
+  is_read = read_as certificate_text spelled (omega arith);
   makes = one_certificate (certificate_of lines) certificate listed_same rank_same sites_same writes_same has_fact_same fact_same has_exit_same exit_same;
 }

@@ -1,12 +1,14 @@
 -- The declaration keeps the overlap rules, and every condition holds of the certificate.
 use Rattle.std.proofs.Common.{◌≡◌, ℕ, ◌<◌, ◌≤◌, ◌==◌, Bool, true, false, ◌&&◌, ◌||◌, ◌⊎◌, Some, None, List, [], ◌∷◌, ◌++◌, refl, sym, ap, ◌∙◌, subst, inl, inr, arith}
 use Rattle.std.specs.Prelude.{if◌then◌else◌}
-use Rattle.std.proofs.lemmas.Bool.{and_parts, cases_Bool, eqb-true, true≢false, false≢true, or_cases}
+use Rattle.std.proofs.lemmas.Bool.{and_parts, cases_Bool, eqb-true, lt-ltb, true≢false, false≢true, or_cases}
 use Rattle.instruct.specs.declared.Profile.TheVariants.{Pdp8I}
 use Rattle.instruct.specs.Instructions.{meaning_of}
-use Rattle.wordset.specs.Words.{Words, plus, nothing, everything, one, some_below, how_many}
+use Rattle.wordset.specs.Words.{Words, plus, nothing, all_words, all_links, one, some_below, how_many}
+use Rattle.processor.specs.Machine.{State}
 use Rattle.declaration.specs.Declaration.{Routine, IsDeclared}
-use Rattle.domain.specs.Facts.{Location, Ac, Cell, Fact, narrowed, possible, Entails, joined}
+use Rattle.domain.specs.Facts.{Location, Ac, Cell, Fact, narrowed, possible, values, Entails, joined}
+use Rattle.domain.specs.Statements.{all_offsets}
 use Rattle.domain.specs.Changes.{moved, strongly_updated, copied, with_equations, with_offsets}
 use Rattle.facts.specs.Outcomes.{Successor, Goes, given, dca_case, part2, operated2}
 use Rattle.facts.specs.Starts.{HoldsOfStarts}
@@ -14,7 +16,7 @@ use Rattle.facts.specs.declared.Condition.TheVariants.{V1, V2, V3, V4, V5, V6, V
 use Rattle.facts.proofs.Numbers.{some_from}
 use Rattle.judge.specs.Conditions.{place_in, fact_at, LandsAt, IsPlaced, EachSuccessor, SuccessorLands, IsValid}
 use Rattle.judge.proofs.Fine.{Fine}
-use Rattle.certified_example.specs.Example.{main_cells, body, declaration, knowing, any, clear, changed, fact, certificate, example}
+use Rattle.certified_example.specs.Example.{main_cells, body, variables, declaration, knowing, any, clear, changed, fact, certificate, example}
 use Rattle.certified_example.proofs.Sets.{and_false, none_in, few, only_one}
 
 -- the addresses, one by one
@@ -81,7 +83,7 @@ is_declared = record {
 
 -- a fact that allows everything is entailed by each
 any_entailed : (f : Fact) (offsets : Words) → Entails f (knowing any offsets)
-any_entailed f offsets = record { sets = λ n v lt h. refl; mq = λ v lt h. refl; link = λ l lt h. refl; equations = tt }
+any_entailed f offsets = record { sets = λ n v lt h. lt-ltb v 4096 lt; mq = λ v lt h. lt-ltb v 4096 lt; link = λ l lt h. lt-ltb l 2 lt; equations = tt }
 
 each_given : (p : Successor → Type 0) (b : Bool) (o : Successor) → p o → EachSuccessor p (given b o)
 each_given p true o h = (h, tt)
@@ -107,6 +109,10 @@ each_append p (o ∷ os) qs h g = (h.0, each_append p os qs h.1 g)
 and_none : (a b : Bool) → a ≡ false → (a && b) ≡ false
 and_none true b e = absurd (true≢false e)
 and_none false b e = refl
+
+none_right : (a b : Bool) → b ≡ false → (a && b) ≡ false
+none_right true b e = e
+none_right false b e = refl
 
 -- a fact in main lands where nothing is known
 main_lands : (a : ℕ) (f : Fact) → certificate.has_fact a ≡ true → main_cells a ≡ true → fact a ≡ knowing any nothing → f.offsets ≡ nothing → LandsAt example None a f
@@ -144,13 +150,13 @@ first_fine = record {
 
     sets : (n : Location) (v : ℕ) → v < 4096 → narrowed after n v ≡ true → clear n v ≡ true
     sets Ac v lt g = (and_parts (v == 0) true g).0
-    sets (Cell a) v lt g = refl
+    sets (Cell a) v lt g = lt-ltb v 4096 lt
 
     lands : LandsAt example None 0o201 after
     lands = record {
       there = refl;
       inside = refl;
-      entails = record { sets = sets; mq = λ v lt g. refl; link = λ l lt g. refl; equations = tt };
+      entails = record { sets = sets; mq = λ v lt g. g; link = λ l lt g. g; equations = tt };
       offsets = λ n lt g. g;
     }
 
@@ -179,19 +185,19 @@ second_fine = record {
     after : Fact
     after = strongly_updated Ac (one 0) (with_equations (copied 0o202 []) (strongly_updated (Cell 0o202) (narrowed (fact 0o201) Ac) (fact 0o201)))
 
-    cell : (b : Bool) (v : ℕ) → (let c : Words = if b then narrowed (fact 0o201) Ac else everything in (c v && true) ≡ true) → (let c : Words = if b then one 0 else everything in c v ≡ true)
+    cell : (b : Bool) (v : ℕ) → (let c : Words = if b then narrowed (fact 0o201) Ac else all_words in (c v && true) ≡ true) → (let c : Words = if b then one 0 else all_words in c v ≡ true)
     cell true v g = (and_parts (v == 0) true (and_parts ((v == 0) && true) true g).0).0
-    cell false v g = refl
+    cell false v g = (and_parts (all_words v) true g).0
 
     sets : (n : Location) (v : ℕ) → v < 4096 → narrowed after n v ≡ true → changed n v ≡ true
-    sets Ac v lt g = refl
+    sets Ac v lt g = lt-ltb v 4096 lt
     sets (Cell a) v lt g = cell (a == 0o202) v g
 
     lands : LandsAt example None 0o202 after
     lands = record {
       there = refl;
       inside = refl;
-      entails = record { sets = sets; mq = λ v lt g. refl; link = λ l lt g. refl; equations = tt };
+      entails = record { sets = sets; mq = λ v lt g. g; link = λ l lt g. g; equations = tt };
       offsets = λ n lt g. g;
     }
 
@@ -229,7 +235,7 @@ fourth_fine = record {
   v8 = λ e lt h. tt;
   v9 = λ e lt h. (let q : e ≡ 0o210 = eqb-true e 0o210 h in rw q refl, omega arith);
   v10 = λ e lt h. subst (λ x. LandsAt example (Some x) (plus x 1) (with_offsets (one 0) (fact 0o203))) (sym (eqb-true e 0o210 h)) enters;
-  v11 = λ e lt h o lo g. subst (λ x. LandsAt example None (plus 0o204 x) (joined (fact 0o203) (knowing any everything) nothing)) (sym (eqb-true o 0 (and_parts (e == 0o210) (o == 0) g).1)) returns;
+  v11 = λ e lt h o lo g. subst (λ x. LandsAt example None (plus 0o204 x) (joined (fact 0o203) (knowing any all_offsets) nothing)) (sym (eqb-true o 0 (and_parts (e == 0o210) (o == 0) g).1)) returns;
   v12 = tt;
   v13 = tt;
   v14 = λ a lt h e. absurd (false≢true h);
@@ -239,7 +245,7 @@ fourth_fine = record {
     enters : LandsAt example (Some 0o210) 0o211 (with_offsets (one 0) (fact 0o203))
     enters = record { there = refl; inside = refl; entails = any_entailed _ _; offsets = λ n lt g. g }
 
-    returns : LandsAt example None 0o204 (joined (fact 0o203) (knowing any everything) nothing)
+    returns : LandsAt example None 0o204 (joined (fact 0o203) (knowing any all_offsets) nothing)
     returns = record { there = refl; inside = refl; entails = any_entailed _ _; offsets = λ n lt g. g }
 
 -- 0204: TAD I 10
@@ -290,7 +296,7 @@ sixth_fine = record {
     p = SuccessorLands example None
 
     skips : (l : ℕ) → EachSuccessor p (operated2 0o205 0o7402 (fact 0o205) l true)
-    skips l = none_given p _ _ (and_none _ _ (none_in 4096 (part2 0o7402 (fact 0o205) l true) (λ k lt. and_false (narrowed (fact 0o205) Ac k))))
+    skips l = none_given p _ _ (none_right (all_links l) _ (and_none _ _ (none_in 4096 (part2 0o7402 (fact 0o205) l true) (λ k lt. and_false (narrowed (fact 0o205) Ac k)))))
 
     stays : (l : ℕ) → EachSuccessor p (operated2 0o205 0o7402 (fact 0o205) l false)
     stays l = each_given p _ _ (one_lands 0o206 _ (main_lands 0o206 _ refl refl refl refl))
@@ -387,11 +393,19 @@ exits_of a h = elim (cases_Bool (a == 0o210)) [
   | inr e ↦ absurd (true≢false (sym h ∙ none_in 8 (certificate.has_exit a) (λ k lt. and_none _ _ e)))
 ]
 
+start_words : (s : State) → s.ac < 4096 → ((a : ℕ) → s.memory a < 4096) → (n : Location) → any n (values declaration s.memory s.ac s.memory n) ≡ true
+start_words s ac memory Ac = lt-ltb s.ac 4096 ac
+start_words s ac memory (Cell a) = either (variables a)
+  where
+    either : (b : Bool) → all_words (if b then s.memory a else s.memory a) ≡ true
+    either true = lt-ltb (s.memory a) 4096 (memory a)
+    either false = lt-ltb (s.memory a) 4096 (memory a)
+
 starts : HoldsOfStarts (place_in example None) (fact_at example 0o200)
 starts s st = record {
-  holds = record { sets = λ n. refl; equations = tt };
-  mq = refl;
-  link = refl;
+  holds = record { sets = start_words s st.ac st.words; equations = tt };
+  mq = lt-ltb s.mq 4096 st.mq;
+  link = lt-ltb s.link 2 st.link;
   rest = λ a v e. refl;
   stands = refl;
   own = tt;

@@ -1,10 +1,11 @@
 -- A small program, its declaration and a certificate for it.
 use Rattle.std.specs.Prelude.{ℕ, ◌==◌, ◌&&◌, ◌||◌, if◌then◌else◌, Some, None, []}
 use Rattle.instruct.specs.declared.Profile.TheVariants.{Pdp8I}
-use Rattle.wordset.specs.Words.{Words, nothing, everything, one}
+use Rattle.wordset.specs.Words.{Words, nothing, all_words, all_links, one}
 use Rattle.processor.specs.Runs.{Image}
 use Rattle.declaration.specs.Declaration.{Routine, Declaration}
 use Rattle.domain.specs.Facts.{Location, Ac, Cell, Fact}
+use Rattle.domain.specs.Statements.{all_offsets}
 use Rattle.certificate.specs.Certificate.{Certificate}
 use Rattle.judge.specs.Conditions.{Case}
 
@@ -53,21 +54,21 @@ declaration = record {
 
 -- A fact that allows everything, save for one name.
 abbrev pub knowing : (Location → Words) → Words → Fact
-knowing sets offsets = record { set = sets; mq = everything; link = everything; equations = []; offsets = offsets }
+knowing sets offsets = record { set = sets; mq = all_words; link = all_links; equations = []; offsets = offsets }
 
 -- Nothing is known of the accumulator, nor of any cell: each may hold any word.
 abbrev pub any : Location → Words
-any n = everything
+any n = all_words
 
 -- The accumulator is 0, and nothing is known of any cell.
 abbrev pub clear : Location → Words
 clear Ac = one 0
-clear (Cell a) = everything
+clear (Cell a) = all_words
 
 -- The cell 0202 is 0000, and nothing is known of the accumulator, nor of any other cell.
 abbrev pub changed : Location → Words
-changed Ac = everything
-changed (Cell a) = if a == 0o202 then one 0 else everything
+changed Ac = all_words
+changed (Cell a) = if a == 0o202 then one 0 else all_words
 
 -- The accumulator is known at 0201, and the changed cell at 0202; the routine's return word is its call's own. Elsewhere
 -- nothing is said.
@@ -76,7 +77,7 @@ fact a =
     if a == 0o201 then knowing clear nothing
     else (if a == 0o202 then knowing changed nothing
     else (if a == 0o211 then knowing any (one 0)
-    else (if main_cells a then knowing any nothing else knowing any everything)))
+    else (if main_cells a then knowing any nothing else knowing any all_offsets)))
 
 -- The routine has rank 0, is called from 0203 alone, and writes nothing.
 abbrev pub certificate : Certificate
@@ -88,7 +89,7 @@ certificate = record {
   has_fact = λ a. main_cells a || a == 0o211;
   fact = fact;
   has_exit = λ e o. e == 0o210 && o == 0;
-  exit = λ e o. knowing any everything;
+  exit = λ e o. knowing any all_offsets;
 }
 
 -- The tape, the declaration and the certificate.

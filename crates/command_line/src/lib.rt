@@ -17,7 +17,9 @@ mod values;
 
 pub use names::FileNames;
 pub use operator::{Joined, Session, TeletypeSession, WatchedSession};
-pub use outputs::{Destination, Save, is_source_name};
+pub use outputs::{
+    CERTIFICATE_ENDING, DECLARATION_ENDING, Destination, EVENTS_ENDING, Save, is_source_name,
+};
 pub use promises::{
     CheckRequest, GuessRequest, MigrateRequest, RefuteRequest, ReportRequest, VerifyRequest,
     WatchRequest,

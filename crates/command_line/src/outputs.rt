@@ -140,8 +140,17 @@ pub struct Save<'a> {
     pub forced: bool,
 }
 
-/// The endings of a declaration's, a certificate's and a list of events' name, as `verify --save` gives them.
-pub const SAVED_ENDINGS: [&str; 3] = [".declaration", ".certificate", ".events"];
+/// The ending of a declaration's name, as `verify --save` gives it.
+pub const DECLARATION_ENDING: &str = ".declaration";
+
+/// The ending of a certificate's name, as `verify --save` gives it.
+pub const CERTIFICATE_ENDING: &str = ".certificate";
+
+/// The ending of the name of a list of events, as `verify --save` gives it.
+pub const EVENTS_ENDING: &str = ".events";
+
+/// The endings of the files that `verify --save` writes; that of a declaration, which it may only propose, is first.
+const SAVED_ENDINGS: [&str; 3] = [DECLARATION_ENDING, CERTIFICATE_ENDING, EVENTS_ENDING];
 
 impl<'a> Save<'a> {
     /// The endings of the files that may be written.

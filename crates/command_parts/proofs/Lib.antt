@@ -1,2 +1,3 @@
 pub mod InputLemmas
 pub mod TextLemmas
+pub mod AnswerLemmas

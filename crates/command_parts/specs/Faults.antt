@@ -1,7 +1,6 @@
 -- Which faults a command may have: the first of its inputs that has one, and then its own work. Each table names the
 -- faults that can come; no other does.
 use Rattle.std.specs.Prelude.{ℕ, Bool, true, false, Result, Err, List, IfSome, ◌⊎◌}
-use Rattle.streams.specs.Bytes.{Gave}
 use Rattle.streams.specs.declared.input.InputFault.{InputFault}
 use Rattle.streams.specs.declared.input.InputFault.TheVariants as input_fault
 use Rattle.bin_tape.specs.Refuses.{Refuses}
@@ -143,19 +142,6 @@ IsTapeFault tape fault = IsTapeInputFault tape fault ⊎ (IsGoodTape tape.had ×
 abbrev pub IsEventRunFault : Input → Input → Fault → Type 0
 IsEventRunFault tape text fault =
     IsTapeInputFault tape fault ⊎ (IsGoodTape tape.had × (IsEventsInputFault text fault ⊎ (IsGoodEvents text.had × IsRunFault fault)))
-
--- Why a search for a run that breaks a declaration has no result: the tape's fault; after a good tape the declaration's; and
--- after a good declaration that of the work.
-abbrev pub IsRefuteFault : Input → Input → Fault → Type 0
-IsRefuteFault tape text fault =
-    IsTapeInputFault tape fault ⊎ (IsGoodTape tape.had × (IsDeclarationInputFault text fault ⊎ (IsGoodDeclaration text.had × IsRunFault fault)))
-
--- Why a watched run has no result: the fault of the tape, the declaration, the text of events, or the work. Each is
--- looked at, in this order, where those before it are good.
-abbrev pub IsWatchFault : Input → Input → Input → Fault → Type 0
-IsWatchFault tape text list fault =
-    IsTapeInputFault tape fault ⊎ (IsGoodTape tape.had × (IsDeclarationInputFault text fault
-    ⊎ (IsGoodDeclaration text.had × (IsEventsInputFault list fault ⊎ (IsGoodEvents list.had × IsRunFault fault)))))
 
 -- Why a session has no result: each input is looked at where those before it are good, and so many frames and keys at most.
 abbrev pub IsSessionFault : ℕ → Input → Input → Input → Fault → Type 0

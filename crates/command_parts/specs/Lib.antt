@@ -4,3 +4,5 @@ pub mod Faults
 pub mod Statuses
 pub mod LinkText
 pub mod Dumping
+pub mod Messages
+pub mod Answers

@@ -2,5 +2,8 @@
 #![tactic(auto)]
 
 pub mod inputs;
+pub mod message;
+pub mod outcome;
+pub mod programs;
 pub mod status;
 pub mod text;

@@ -4,3 +4,4 @@ pub mod SourceLaws
 pub mod OneLemmas
 mod VerdictLaws
 pub mod TableLaws
+mod OrderLemmas

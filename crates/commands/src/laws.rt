@@ -1,10 +1,17 @@
 //! Laws over the definitions alone. Each is the contract of a function that does nothing.
 
+ghost use Rattle.std.specs.Prelude.{◌≡◌, false, Result, ⊤};
+ghost use Rattle.command_parts.specs.Answers.{FailsBy, ReadsOne, ReadsRun, ReadsTwo};
+ghost use Rattle.command_parts.specs.Inputs.{Input, input};
+ghost use Rattle.command_parts.specs.declared.status.Fault.{Fault};
+ghost use Rattle.verdict_texts.specs.CertificateFaults.{ReadsCertificate, ReadsCertified};
+ghost use Rattle.commands.specs.InOrder.{CertificateInOrder, CertifiedInOrder, RunInOrder, TapeInOrder, TwoInOrder, Work, later_fault};
 ghost use Rattle.commands.specs.Laws.{AssembledIsWritten, ChecksAreOne, EmptyHasNoTape, FaultIsNotWritten, FaultIsTheOne, FaultIsTold, FollowsTheTable, GuessIsAccepted, GuessIsRead, MeantIsListed, MeantIsRead, MeantIsWritten, MigratedIsCheckedAlike, ReadIsMeant, RunsAreOne, RunsEnd, SessionsAreOne, SessionsEnd, TapeIsOne, TapeIsThere, TypedAreOne, WatchedAsRun, WrittenIsAssembled};
 
 use bin_tape::laws::tapes_have_one_answer;
 use pal_asm::laws::{meant_are_words, sources_have_one_answer};
 use peripherals::laws::events_are_runs;
+use streams::ByteSource;
 
 /// From every image each list of events has a run, with its text and its status, and has no other.
 /// So what a run is said to write is there, whatever the tape does.
@@ -89,4 +96,51 @@ pub fn checks_are_one()
     ensures guessed { GuessIsAccepted }
     ensures read { GuessIsRead }
     ensures migrated { MigratedIsCheckedAlike }
+{}
+
+/// Of a command that reads one input, and then does its work: a fault is that of the input, or after a good one
+/// that of the work; a read failed exactly where the answer says so; and no more is taken than may be.
+pub fn single_inputs_are_told<T>()
+    ensures tape { (work : Work) (tape : Input) (result : Result T Fault) →
+        ReadsOne (later_fault work) tape result → TapeInOrder (later_fault work) tape result }
+    ensures certificate { (work : Work) (certificate : Input) (result : Result T Fault) →
+        ReadsCertificate certificate ⊤ (FailsBy (later_fault work)) result →
+        CertificateInOrder (later_fault work) certificate result }
+{}
+
+/// Of a command that reads a tape and a declaration, and then does its work: a fault is that of the first input that
+/// has one, or after good ones that of the work; a read failed exactly where the answer says so; the declaration isn't
+/// touched after a tape that is refused or whose read failed, but only after a good one; and no more is taken than
+/// may be.
+pub fn two_inputs_are_read_in_order<D: ByteSource, T>()
+    ensures { (work : Work) (tape : Input) (old new : D) (result : Result T Fault) →
+        D.mark old ≡ false →
+        ReadsTwo (later_fault work) tape
+        (input (D.mark new) (D.remaining old) (D.remaining new)) (new ≡ old) result →
+        TwoInOrder (later_fault work) tape
+        (input (D.mark new) (D.remaining old) (D.remaining new)) (new ≡ old) result }
+{}
+
+/// The same of a command that reads a certificate after that, or a text of events.
+pub fn three_inputs_are_read_in_order<D: ByteSource, E: ByteSource, T>()
+    ensures certified { (work : Work) (tape : Input) (old new : D) (old_third new_third : E)
+        (result : Result T Fault) → D.mark old ≡ false → E.mark old_third ≡ false →
+        ReadsCertified (later_fault work) tape
+        (input (D.mark new) (D.remaining old) (D.remaining new))
+        (input (E.mark new_third) (E.remaining old_third) (E.remaining new_third))
+        (new ≡ old) (new_third ≡ old_third) result →
+        CertifiedInOrder (later_fault work) tape
+        (input (D.mark new) (D.remaining old) (D.remaining new))
+        (input (E.mark new_third) (E.remaining old_third) (E.remaining new_third))
+        (new ≡ old) (new_third ≡ old_third) result }
+    ensures run { (work : Work) (tape : Input) (old new : D) (old_third new_third : E)
+        (result : Result T Fault) → D.mark old ≡ false → E.mark old_third ≡ false →
+        ReadsRun (later_fault work) tape
+        (input (D.mark new) (D.remaining old) (D.remaining new))
+        (input (E.mark new_third) (E.remaining old_third) (E.remaining new_third))
+        (new ≡ old) (new_third ≡ old_third) result →
+        RunInOrder (later_fault work) tape
+        (input (D.mark new) (D.remaining old) (D.remaining new))
+        (input (E.mark new_third) (E.remaining old_third) (E.remaining new_third))
+        (new ≡ old) (new_third ≡ old_third) result }
 {}

@@ -1,11 +1,11 @@
 -- Tracked cells as they're kept in code.
-use Rattle.std.proofs.Common.{◌≡◌, ℕ, zero, suc, ◌+◌, ◌<◌, ◌≤◌, ◌==◌, Bool, true, false, ◌&&◌, List, [], ◌∷◌, ◌++◌, map, drop, get_or, length, refl, sym, ap, ◌∙◌, subst, arith}
-use Rattle.std.specs.Prelude.{if◌then◌else◌, not, ◌↔◌, IsTrue}
+use Rattle.std.proofs.Common.{◌≡◌, ℕ, zero, suc, ◌<◌, ◌≤◌, ◌==◌, Bool, true, false, ◌&&◌, List, [], ◌∷◌, ◌++◌, map, drop, get_or, length, refl, sym, ap, ◌∙◌, arith, inl, inr}
+use Rattle.std.specs.Prelude.{if◌then◌else◌, not}
 use Rattle.std.specs.List.{AllByRecursion}
-use Rattle.std.proofs.lemmas.Bool.{and_parts, eqb-true, eq-eqb, true≢false}
+use Rattle.std.proofs.lemmas.Bool.{and_parts, eqb-true, eq-eqb, true≢false, cases_lt}
 use Rattle.std.proofs.Math.ListN.{drop_of_length-le}
-use Rattle.std.proofs.lemmas.List.{drop_more, get_or-map, length-map, map-append}
-use Rattle.wordset.specs.Words.{Words, IsWithin}
+use Rattle.std.proofs.lemmas.List.{get_or-map, length-map, map-append}
+use Rattle.wordset.specs.Words.{Words, IsWithin, all_words}
 use Rattle.wordset.specs.Lanes.{words}
 use Rattle.domain.specs.Statements.{TrackedCell, tracked, cell_at}
 use Rattle.domain.specs.declared.tracking.TrackedCell.{TrackedCell as Whole}
@@ -13,6 +13,8 @@ use Rattle.domain.specs.declared.tracking.Held.{Held}
 use Rattle.domain.specs.declared.tracking.Held.TheVariants as held
 use Rattle.domain.specs.declared.tracking.Entry.{Entry}
 use Rattle.domain.specs.Tracking.{tracked_of, held_words, entry_of, IsPlaceBelow, IsEntryBelow, AreKept}
+use Rattle.std.proofs.Math.Path.{fun_ext}
+use Rattle.wordset.proofs.SetLemmas.{lt_to, words_past}
 
 -- Which one is given past the end makes no difference before it.
 pub get_any : {A : Type 0} (xs : List A) (i : ℕ) (d e : A) → i < length xs → get_or xs i d ≡ get_or xs i e
@@ -89,17 +91,35 @@ all_and_one : (n : ℕ) (es : List Entry) (e : Entry) → AllByRecursion (IsEntr
 all_and_one n [] e a b = (b, tt)
 all_and_one n (x ∷ es) e a b = (a.0, all_and_one n es e a.1 b)
 
--- The words of a cell, entry by entry.
-pub met_end : (whole : List Whole) (entries : List Entry) (i : ℕ) (cell : ℕ) (set all : Words) → length entries ≤ i →
-    ((v : ℕ) → v < 4096 → (set v && tracked cell (map (entry_of whole) (drop i entries)) v) ≡ all v) → (v : ℕ) → v < 4096 → set v ≡ all v
-met_end whole entries i cell set all h inv v l =
-    let d : drop i entries ≡ [] = drop_of_length-le entries h in
-    let q : (set v && tracked cell (map (entry_of whole) (drop i entries)) v) ≡ set v = rw d (and_true (set v)) in
-    sym q ∙ inv v l
+small_word : (lanes : List ℕ) (v : ℕ) → (words lanes v && all_words v) ≡ words lanes v
+small_word lanes v = elim (cases_lt v 4096) [
+  | inl l ↦ (let e : all_words v ≡ true = lt_to v l in rw e (and_true (words lanes v)))
+  | inr g ↦ ap (λ b. b && all_words v) (words_past lanes v g) ∙ sym (words_past lanes v g)
+]
   where
     and_true : (b : Bool) → (b && true) ≡ b
     and_true true = refl
     and_true false = refl
+
+-- The words of a cell, entry by entry: none of them is past the last word.
+pub tracked_words : (a : ℕ) (cells : List TrackedCell) (v : ℕ) → (all_words v && tracked a cells v) ≡ tracked a cells v
+tracked_words a [] v = twice (all_words v)
+  where
+    twice : (b : Bool) → (b && b) ≡ b
+    twice true = refl
+    twice false = refl
+tracked_words a (c ∷ cs) v = swap (all_words v) (if c.address == a then c.set v else true) (tracked a cs v) ∙ ap (λ p. (if c.address == a then c.set v else true) && p) (tracked_words a cs v)
+  where
+    swap : (p q r : Bool) → (p && (q && r)) ≡ (q && (p && r))
+    swap true q r = refl
+    swap false true r = refl
+    swap false false r = refl
+
+pub met_end : (whole : List Whole) (entries : List Entry) (i cell : ℕ) (lanes : List ℕ) (all : Words) → length entries ≤ i →
+    ((v : ℕ) → (words lanes v && tracked cell (map (entry_of whole) (drop i entries)) v) ≡ all v) → words lanes ≡ all
+met_end whole entries i cell lanes all h inv =
+    let d : drop i entries ≡ [] = drop_of_length-le entries h in
+    fun_ext (λ v. sym (rw d (small_word lanes v)) ∙ inv v)
 
 -- An entry here leaves the cell of one there no word that it may not hold there.
 pub within_entries : (whole wider : List Whole) (entries others : List Entry) (i j : ℕ) (e o : Entry) → i < length entries → j < length (map (entry_of wider) others) →

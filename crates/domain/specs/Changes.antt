@@ -1,5 +1,5 @@
 -- What may happen to a fact: a word that moves by a count, one that takes a new value, one of several cells that changes.
-use Rattle.std.specs.Prelude.{ℕ, ◌==◌, Bool, false, ◌||◌, if◌then◌else◌, List, [], ◌∷◌, ◌++◌, nat_lt}
+use Rattle.std.specs.Prelude.{ℕ, ◌-◌, ◌==◌, Bool, false, ◌&&◌, ◌||◌, if◌then◌else◌, List, [], ◌∷◌, ◌++◌, nat_lt}
 use Rattle.wordset.specs.Words.{plus, minus, Words, union, shifted}
 use Rattle.domain.specs.Facts.{Location, Ac, Cell, same, Equation, Fact, narrowed, has_cell}
 
@@ -90,6 +90,10 @@ with_link links f = record f { link = links }
 -- The fact with other offsets.
 abbrev pub with_offsets : Words → Fact → Fact
 with_offsets offsets f = record f { offsets = offsets }
+
+-- The offsets after the return word went up by one: each of them is one more then, and 7 is the last that is kept.
+abbrev pub counted_up : Words → Words
+counted_up offsets o = nat_lt o 8 && (if o == 0 then false else offsets (o - 1))
 
 -- The fact with another set of a name; its equations stay.
 abbrev pub with_name : Location → Words → Fact → Fact

@@ -1,6 +1,6 @@
 -- Facts: what is known of the machine whenever the program counter is at an address.
 use Rattle.std.specs.Prelude.{◌≡◌, ℕ, ◌+◌, ◌-◌, ◌<◌, ◌≤◌, ◌==◌, Bool, true, false, not, ◌&&◌, ◌⊎◌, if◌then◌else◌, Option, Some, None, List, [], ◌∷◌, ◌++◌, nat_lt}
-use Rattle.wordset.specs.Words.{plus, minus, Words, everything, one, some_below, IsWithin, IsLinkWithin, only}
+use Rattle.wordset.specs.Words.{plus, minus, Words, all_words, one, shifted, some_below, IsWithin, IsLinkWithin, only}
 use Rattle.processor.specs.Cells.{Cells}
 use Rattle.processor.specs.Machine.{State}
 use Rattle.processor.specs.Runs.{Image}
@@ -103,7 +103,7 @@ narrowed f n v = f.set n v && met_by f n f.equations v
 
 -- The words that the running routine's entry may hold: a site, one more, and an offset.
 abbrev pub own_words : Words → Fact → Words
-own_words sites f v = some_below 8 (λ o. f.offsets o && sites (minus v (o + 1)))
+own_words sites f v = some_below 8 (λ o. f.offsets o && shifted sites (o + 1) v)
 
 -- The routine's entry is this cell.
 abbrev pub is_routine : Routine → ℕ → Bool
@@ -112,7 +112,7 @@ is_routine (Some e) a = a == e
 
 -- The tape's word, or all words where the tape has none.
 abbrev pub tape_word : Option ℕ → Words
-tape_word None = everything
+tape_word None = all_words
 tape_word (Some w) = one w
 
 -- The words that a cell may hold: a variable's narrowed set, the running routine's own return words, any word in
@@ -121,7 +121,7 @@ unfoldable pub words_in : Place → Fact → ℕ → Words
 words_in pl f a =
     if pl.declaration.variable a then narrowed f (Cell a)
     else (if is_routine pl.routine a then own_words pl.sites f
-    else (if pl.declaration.entry a then everything
+    else (if pl.declaration.entry a then all_words
     else tape_word (pl.image a)))
 
 -- The words possible at an address of a body, where no entry is.

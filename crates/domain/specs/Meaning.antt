@@ -1,6 +1,6 @@
 -- Facts as they're kept in code, and what they mean.
-use Rattle.std.specs.Prelude.{◌≡◌, ℕ, ◌<◌, ◌==◌, false, ◌&&◌, if◌then◌else◌, [], ◌∷◌, slice_index_or, map}
-use Rattle.wordset.specs.Words.{Words, union, shifted}
+use Rattle.std.specs.Prelude.{ℕ, false, slice_index_or, map}
+use Rattle.wordset.specs.Words.{Words}
 use Rattle.wordset.specs.Lanes.{words}
 use Rattle.wordset.specs.Links.{links_of}
 use Rattle.domain.specs.Facts.{Ac, Cell, met_by, has_cell}

@@ -1,13 +1,12 @@
 //! Facts: what is known of the machine whenever the program counter is at an address.
 
 ghost use Rattle.std.specs.Prelude.{ℕ, ◌≡◌, ◌<◌, ◌≤◌, ◌↔◌, ◌∷◌, [], ◌++◌, length, map, IsTrue, false};
-ghost use Rattle.wordset.specs.Words.{SameWords, between, nothing};
+ghost use Rattle.wordset.specs.Words.{between, nothing};
 ghost use Rattle.wordset.specs.Lanes.{words};
 ghost use Rattle.wordset.specs.Links.{links_of};
 ghost use Rattle.domain.specs.Facts.{narrowed};
 ghost use Rattle.domain.specs.Changes.{with_offsets};
 ghost use Rattle.domain.specs.Statements.{unknown};
-ghost use Rattle.domain.specs.Same.{SameFact};
 ghost use Rattle.domain.specs.Meaning.{location_of, equation_of, tracked_cells, offsets_of, statement_of, cell_words, meaning};
 
 use crate::location::{Equation, Location};
@@ -36,7 +35,7 @@ pub struct Fact {
 impl Fact {
     /// The fact of which nothing is known: all words, both links, no cells, equations or offsets.
     pub fn any() -> Fact
-        ensures fact { SameFact (meaning result) (with_offsets nothing unknown) }
+        ensures fact { meaning result ≡ with_offsets nothing unknown }
         ensures cells { (statement_of result).cells ≡ [] }
         ensures equations { (statement_of result).equations ≡ [] }
     {
@@ -119,7 +118,7 @@ impl Fact {
 
     /// The words that a name may hold: all words for a cell that isn't tracked.
     pub fn set(&self, name: &Location) -> WordSet
-        ensures { SameWords (words result) ((meaning self.now).set (location_of name.now)) }
+        ensures { words result ≡ (meaning self.now).set (location_of name.now) }
     {
         let mut set = self.ac;
         if let Location::Cell(cell) = name {
@@ -130,7 +129,7 @@ impl Fact {
 
     /// Puts the words that a cell may hold into their place.
     pub fn put_set_of(&self, cell: Word, place: &mut WordSet)
-        ensures { SameWords (words place.new) (cell_words self.now cell) }
+        ensures { words place.new ≡ cell_words self.now cell }
     {
         self.cells.put_set_of(cell, place);
     }

@@ -1,6 +1,9 @@
 //! How far a return word may have been counted up.
 
-ghost use Rattle.std.specs.Prelude.{◌≡◌, ◌<◌, ◌==◌, ◌-◌, ◌↔◌, ◌||◌, ℕ, IsTrue, true, false, if◌then◌else◌};
+ghost use Rattle.std.specs.Prelude.{◌≡◌, ◌<◌, ◌↔◌, ℕ, IsTrue, true, false};
+ghost use Rattle.wordset.specs.Words.{nothing, with_word};
+ghost use Rattle.domain.specs.Changes.{counted_up};
+ghost use Rattle.domain.specs.Statements.{all_offsets};
 ghost use Rattle.domain.specs.Meaning.{offsets_of};
 
 /// Some of the offsets 0 to 7, by which a routine's return word may have been counted up.
@@ -14,14 +17,14 @@ pub struct CountedOffsets {
 impl CountedOffsets {
     /// No offset.
     pub fn none() -> CountedOffsets
-        ensures { (o : ℕ) → o < 8 → offsets_of result o ≡ false }
+        ensures { offsets_of result ≡ nothing }
     {
         CountedOffsets { known: [false; 8] }
     }
 
     /// All eight offsets.
     pub fn all() -> CountedOffsets
-        ensures { (o : ℕ) → o < 8 → offsets_of result o ≡ true }
+        ensures { offsets_of result ≡ all_offsets }
     {
         CountedOffsets { known: [true; 8] }
     }
@@ -37,7 +40,7 @@ impl CountedOffsets {
     /// Puts an offset in.
     pub fn insert(&mut self, offset: usize)
         requires { offset < 8 }
-        ensures { (o : ℕ) → o < 8 → offsets_of self.new o ≡ (offsets_of self.old o || o == offset) }
+        ensures { offsets_of self.new ≡ with_word offset (offsets_of self.old) }
     {
         self.known[offset] = true;
     }
@@ -69,8 +72,7 @@ impl CountedOffsets {
 
     /// The offsets after the return word went up by one.
     pub fn counted(self) -> CountedOffsets
-        ensures { (o : ℕ) → o < 8 →
-            offsets_of result o ≡ (if o == 0 then false else offsets_of self (o - 1)) }
+        ensures { offsets_of result ≡ counted_up (offsets_of self) }
     {
         let [a, b, c, d, e, f, g, _] = self.known;
         CountedOffsets {

@@ -2,7 +2,7 @@
 //! others stand in a list beside them.
 
 ghost use Rattle.std.specs.Prelude.{ℕ, ◌≡◌, ◌<◌, ◌≤◌, ◌↔◌, ◌∷◌, [], ◌++◌, length, IsTrue};
-ghost use Rattle.wordset.specs.Words.{SameWords, IsWithin, between, meet, nothing};
+ghost use Rattle.wordset.specs.Words.{IsWithin, between, meet, nothing};
 ghost use Rattle.wordset.specs.Lanes.{words};
 ghost use Rattle.domain.specs.Statements.{tracked, cell_at};
 ghost use Rattle.domain.specs.Tracking.{tracked_of, held_words, tracked_cells, IsPlaceBelow};
@@ -276,7 +276,7 @@ impl TrackedCells {
     /// Puts the words of a cell into their place: those that all its entries allow, or all words where
     /// it has none.
     pub fn put_set_of(&self, cell: Word, place: &mut WordSet)
-        ensures { SameWords (words place.new) (tracked cell (tracked_cells self.now)) }
+        ensures { words place.new ≡ tracked cell (tracked_cells self.now) }
     {
         *place = WordSet::all();
         for entry in self.entries.as_slice() {

@@ -1,37 +1,24 @@
--- Facts that agree entail alike.
-use Rattle.std.proofs.Common.{◌≡◌, ℕ, zero, suc, ◌<◌, ◌==◌, Bool, true, false, ◌&&◌, Option, Some, None, List, [], ◌∷◌, refl, sym, ap, ◌∙◌, subst, inl, inr, arith}
+-- Facts that say the same entail alike.
+use Rattle.std.proofs.Common.{◌≡◌, ◌≢◌, ℕ, ◌<◌, Bool, true, false, ◌&&◌, Some, List, [], ◌∷◌, refl, sym, ◌∙◌, subst, inl, inr, arith}
 use Rattle.std.specs.Prelude.{if◌then◌else◌}
-use Rattle.std.proofs.lemmas.Bool.{and_parts, and_from}
-use Rattle.wordset.specs.Words.{plus, minus, Words, SameWords, some_below, first_below, only_of, only, without}
+use Rattle.std.proofs.lemmas.Bool.{and_parts, and_from, false_from_ne_true}
+use Rattle.wordset.specs.Words.{plus, minus, Words, SameWords, only}
 use Rattle.domain.specs.Facts.{Location, same, Equation, Fact, met_by, narrowed, Among, Knows, KnowsAll}
 use Rattle.wordset.proofs.Tests.{both_ways}
+use Rattle.wordset.proofs.Firsts.{IsOnly, only_word, only_next}
 use Rattle.domain.specs.Same.{SameFact, SameLaw}
 use Rattle.facts.proofs.Numbers.{plus_lt, minus_lt}
 
-pub some_same : (n : ℕ) (a b : ℕ → Bool) → ((v : ℕ) → v < n → a v ≡ b v) → some_below n a ≡ some_below n b
-unfolding some_below
-some_same zero a b h = refl
-some_same (suc n) a b h =
-    let here : a n ≡ b n = h n (omega arith) in
-    let rest : some_below n a ≡ some_below n b = some_same n a b (λ v lt. h v (omega arith)) in
-    rw (here, rest) refl
-
-first_same : (n : ℕ) (a b : ℕ → Bool) → ((v : ℕ) → v < n → a v ≡ b v) → first_below n a ≡ first_below n b
-unfolding first_below
-first_same zero a b h = refl
-first_same (suc n) a b h =
-    let here : a n ≡ b n = h n (omega arith) in
-    let some : some_below n a ≡ some_below n b = some_same n a b (λ v lt. h v (omega arith)) in
-    let rest : first_below n a ≡ first_below n b = first_same n a b (λ v lt. h v (omega arith)) in
-    rw (here, some, rest) refl
-
-pub only_same : (a b : Words) → SameWords a b → only a ≡ only b
-unfolding only
-only_same a b h = ap (only_of a) (first_same 4096 a b h) ∙ go (first_below 4096 b)
+-- the only word of a set is that of each set with the same words
+only_kept : (a b : Words) (w : ℕ) → SameWords a b → only a ≡ Some w → only b ≡ Some w
+only_kept a b w same e =
+    let is : IsOnly a w = only_word a w e in
+    sym (only_next b w
+    (record { small = is.small; reached = omega arith; within = sym (same w is.small) ∙ is.within; before = λ v f h. others is v (omega (arith, is.small)) (omega arith) })
+    (λ v f h. others is v h (omega arith)))
   where
-    go : (o : Option ℕ) → only_of a o ≡ only_of b o
-    go None = refl
-    go (Some k) = ap (λ t. if t then None else Some k) (some_same 4096 (without k a) (without k b) (λ v lt. ap (λ x. if v == k then false else x) (h v lt)))
+    others : IsOnly a w → (v : ℕ) → v < 4096 → v ≢ w → b v ≡ false
+    others is v h apart = false_from_ne_true (b v) (λ t. apart (is.lone v h (same v h ∙ t)))
 
 -- what one equation leaves of a set, from its left and from its right
 abbrev pub left_met : Fact → Location → Equation → ℕ → Bool
@@ -81,7 +68,7 @@ narrowed_same {a} {b} h n v lt =
 known_same : {a b : Fact} → SameFact a b → (e : Equation) → Knows a e → Knows b e
 known_same {a} {b} h e k = elim k [
   | inl m ↦ inl (h.equations.to e m)
-  | inr p ↦ inr (p.0, p.1, sym (only_same _ _ (narrowed_same h e.left)) ∙ p.2, sym (only_same _ _ (narrowed_same h e.right)) ∙ p.3, p.4)
+  | inr p ↦ inr (p.0, p.1, only_kept _ _ p.0 (narrowed_same h e.left) p.2, only_kept _ _ p.1 (narrowed_same h e.right) p.3, p.4)
 ]
 
 knows_each : (f : Fact) (es : List Equation) → KnowsAll f es → (e : Equation) → Among e es → Knows f e

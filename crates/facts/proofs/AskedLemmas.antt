@@ -9,7 +9,7 @@ use Rattle.instruct.specs.Operates.{is_halt, MqOperate}
 use Rattle.instruct.specs.Bits.{is_indirect, named_cell}
 use Rattle.instruct.specs.Instructions.{Meaning, Group1, Group2, Group3, Device, DeviceAction, Undefined, kind_of, operation_of, reference}
 use Rattle.instruct.proofs.KindLemmas.{reference_meaning, group2_meaning}
-use Rattle.wordset.specs.Words.{Words, SameWords, IsWithin, nothing, only}
+use Rattle.wordset.specs.Words.{Words, IsWithin, nothing, only}
 use Rattle.wordset.proofs.LaneBits.{or_false}
 use Rattle.processor.specs.Machine.{steps_pointer}
 use Rattle.domain.specs.Facts.{Fact, Place, is_routine}
@@ -17,6 +17,7 @@ use Rattle.facts.specs.Outcomes.{targets, meaning_at}
 use Rattle.facts.specs.Conditions.{may_read, may_write, reads_operand, stores, counts, CountsItsReturn, MayWrite}
 use Rattle.policy.specs.Rules.{HaltsDeclared}
 use Rattle.facts.proofs.Numbers.{or_left, or_right}
+use Rattle.std.proofs.Math.Path.{fun_ext}
 
 pub no_reference : {r : Bool} {k : Type 0} → r ≡ false → (IsTrue r ↔ k) → k → ⊥
 no_reference e h k = false≢true (sym e ∙ h.1 k)
@@ -37,8 +38,8 @@ unless_memory P one two three device undefined _ h = absurd (h refl)
 pub refers_to : (pl : Place) (at w n : ℕ) (i : Bool) → kind_of (meaning_at pl at w) ≡ Memory → i ≡ is_indirect w → n ≡ named_cell w at → reference (operation_of w) i n ≡ meaning_at pl at w
 refers_to pl at w n i k ei en = rw (ei, en) (sym (reference_meaning pl.declaration.profile at w k))
 
-pub no_words : (s t : Words) → s ≡ nothing → ((v : ℕ) → t v ≡ false) → SameWords s t
-no_words s t e h v lt = ap (λ (x : Words). x v) e ∙ sym (h v)
+pub no_words : (s t : Words) → s ≡ nothing → ((v : ℕ) → t v ≡ false) → s ≡ t
+no_words s t e h = e ∙ fun_ext (λ v. sym (h v))
 
 -- the cells read
 read_by : (pl : Place) (f : Fact) (o : Operation) (i : Bool) (c a : ℕ) → ((i && (a == c)) || (reads_operand o && targets pl i c f a)) ≡ may_read pl f (reference o i c) a
@@ -51,8 +52,8 @@ pub reads_none : (pl : Place) (f : Fact) (m : Meaning) → (kind_of m ≡ Memory
 reads_none pl f m h a = unless_memory (λ m. may_read pl f m a ≡ false) (λ w. refl) (λ w. refl) (λ o. refl) (λ d. refl) refl m h
 
 pub reads_reference : (s p t : Words) (pl : Place) (f : Fact) (o : Operation) (n : ℕ) (i r : Bool) → r ≡ reads_operand o →
-    ((a : ℕ) → s a ≡ (p a || (r && t a))) → ((a : ℕ) → p a ≡ (i && (a == n))) → SameWords t (targets pl i n f) → SameWords s (may_read pl f (reference o i n))
-reads_reference s p t pl f o n i r er hs hp ht v lt = hs v ∙ rw (hp v, er, ht v lt) (read_by pl f o i n v)
+    ((a : ℕ) → s a ≡ (p a || (r && t a))) → ((a : ℕ) → p a ≡ (i && (a == n))) → t ≡ targets pl i n f → s ≡ may_read pl f (reference o i n)
+reads_reference s p t pl f o n i r er hs hp ht = fun_ext (λ v. hs v ∙ rw (hp v, er, ht) (read_by pl f o i n v))
 
 -- the cells written
 written_by : (pl : Place) (f : Fact) (o : Operation) (i : Bool) (c a : ℕ) → ((steps_pointer i c && (a == c)) || (stores o && targets pl i c f a)) ≡ may_write pl f (reference o i c) a
@@ -69,12 +70,12 @@ no_store pl f o n i r j er ej hr hj a =
     sym (written_by pl f o i n a) ∙ rw (ep, es) refl
 
 pub writes_reference : (s p t : Words) (pl : Place) (f : Fact) (o : Operation) (n : ℕ) (i j r : Bool) → r ≡ stores o → j ≡ steps_pointer i n →
-    ((a : ℕ) → s a ≡ (p a || (r && t a))) → ((a : ℕ) → p a ≡ (j && (a == n))) → SameWords t (targets pl i n f) → SameWords s (may_write pl f (reference o i n))
-writes_reference s p t pl f o n i j r er ej hs hp ht v lt = hs v ∙ rw (hp v, ej, er, ht v lt) (written_by pl f o i n v)
+    ((a : ℕ) → s a ≡ (p a || (r && t a))) → ((a : ℕ) → p a ≡ (j && (a == n))) → t ≡ targets pl i n f → s ≡ may_write pl f (reference o i n)
+writes_reference s p t pl f o n i j r er ej hs hp ht = fun_ext (λ v. hs v ∙ rw (hp v, ej, er, ht) (written_by pl f o i n v))
 
 pub writes_direct : (s : Words) (pl : Place) (f : Fact) (o : Operation) (n : ℕ) (i r : Bool) → i ≡ false → r ≡ stores o →
-    ((a : ℕ) → s a ≡ (r && (a == n))) → SameWords s (may_write pl f (reference o i n))
-writes_direct s pl f o n i r ei er hs v lt = hs v ∙ rw (er, ei) (written_by pl f o false n v)
+    ((a : ℕ) → s a ≡ (r && (a == n))) → s ≡ may_write pl f (reference o i n)
+writes_direct s pl f o n i r ei er hs = fun_ext (λ v. hs v ∙ rw (er, ei) (written_by pl f o false n v))
 
 -- an ISZ counts the return word up where all of these are so
 pub counts_at : {i : Bool} {n : ℕ} (pl : Place) (f : Fact) (at w a : ℕ) → kind_of (meaning_at pl at w) ≡ Memory → i ≡ is_indirect w → n ≡ named_cell w at →
@@ -107,8 +108,8 @@ listed_iff r cells listed writes e here h =
     ]
 
 -- what is asked of each cell, where they are the same cells or none
-pub over : {r : Bool} (s t : Words) (P : ℕ → Type 0) → SameWords s t → (IsTrue r ↔ ((a : ℕ) → a < 4096 → s a ≡ true → P a)) → IsTrue r ↔ ((a : ℕ) → a < 4096 → t a ≡ true → P a)
-over s t P e h = (λ q a lt w. h.0 q a lt (e a lt ∙ w), λ q. h.1 (λ a lt w. q a lt (sym (e a lt) ∙ w)))
+pub over : {r : Bool} (s t : Words) (P : ℕ → Type 0) → s ≡ t → (IsTrue r ↔ ((a : ℕ) → a < 4096 → s a ≡ true → P a)) → IsTrue r ↔ ((a : ℕ) → a < 4096 → t a ≡ true → P a)
+over {r} s t P e h = subst (λ (x : Words). IsTrue r ↔ ((a : ℕ) → a < 4096 → x a ≡ true → P a)) e h
 
 pub over_none : (t : Words) (P : ℕ → Type 0) → ((a : ℕ) → t a ≡ false) → IsTrue true ↔ ((a : ℕ) → a < 4096 → t a ≡ true → P a)
 over_none t P h = (λ q a lt w. absurd (false≢true (sym (h a) ∙ w)), λ q. refl)

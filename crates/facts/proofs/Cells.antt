@@ -1,6 +1,6 @@
 use Rattle.std.proofs.Common.{◌≡◌, ℕ, ◌+◌, ◌-◌, ◌<◌, ◌≤◌, Bool, true, false, ◌&&◌, ◌⊎◌, Option, Some, None, List, [], ◌∷◌, refl, sym, ap, ◌∙◌, inl, inr, arith}
-use Rattle.std.proofs.lemmas.Bool.{and_from, cond_both, eqb-true, eqb-false, eq-eqb, true≢false, false≢true, cases_eq}
-use Rattle.wordset.specs.Words.{plus, minus, Words, everything}
+use Rattle.std.proofs.lemmas.Bool.{and_from, cond_both, eqb-true, eqb-false, eq-eqb, true≢false, false≢true, cases_eq, lt-ltb}
+use Rattle.wordset.specs.Words.{plus, minus, Words, all_words, shifted}
 use Rattle.processor.specs.Cells.{Cells, updated}
 use Rattle.processor.specs.Machine.{State, seen, place, steps_pointer}
 pub use Rattle.processor.proofs.CellLemmas.{updated_same, updated_other}
@@ -8,7 +8,7 @@ use Rattle.declaration.specs.Declaration.{Declaration, IsDeclared}
 use Rattle.policy.specs.Calls.{Call, Calls}
 use Rattle.domain.specs.Facts.{Location, Ac, Cell, same, Equation, Fact, Values, AllTrue, Holds, narrowed, values, KeepsRest, Place, OwnWord, StandsIn, Means, own_words, is_routine, tape_word, words_in, possible}
 use Rattle.facts.specs.Law.{IsState, TopIsEntry}
-use Rattle.facts.proofs.Numbers.{if_below, plus_lt, some_from}
+use Rattle.facts.proofs.Numbers.{if_below, plus_lt, some_from, shift_true}
 use Rattle.facts.proofs.Laws.{WordsAre, OnlyAt, narrowed_at}
 
 pub words_updated : (m : Cells) (a v : ℕ) → v < 4096 → ((b : ℕ) → m b < 4096) → (b : ℕ) → updated m a v b < 4096
@@ -87,9 +87,9 @@ top_not d y dd var (l ∷ ks) t k rest e q =
     true≢false (sym var ∙ dd.entry_not_variable y en)
 
 module _ (pl : Place) (dd : IsDeclared pl.declaration) (start : Cells) (sw : (a : ℕ) → start a < 4096) (loaded : (a w : ℕ) → pl.image a ≡ Some w → start a ≡ w) where
-  pub tape_true : (o : Option ℕ) (x : ℕ) → ((w : ℕ) → o ≡ Some w → x ≡ w) → tape_word o x ≡ true
-  tape_true None x h = refl
-  tape_true (Some w) x h = eq-eqb x w (h w refl)
+  pub tape_true : (o : Option ℕ) (x : ℕ) → x < 4096 → ((w : ℕ) → o ≡ Some w → x ≡ w) → tape_word o x ≡ true
+  tape_true None x lt h = lt-ltb x 4096 lt
+  tape_true (Some w) x lt h = eq-eqb x w (h w refl)
 
   own_true : (f : Fact) (m : Cells) (ks : Calls) (a : ℕ) → StandsIn pl ks → OwnWord f m ks → is_routine pl.routine a ≡ true → own_words pl.sites f (m a) ≡ true
   own_true f m [] a st o e = absurd (false≢true (rw st at e))
@@ -100,7 +100,7 @@ module _ (pl : Place) (dd : IsDeclared pl.declaration) (start : Cells) (sw : (a 
       let pos : 0 < k.after = st.1 in
       let top : k.after ≤ 4088 = st.2 in
       let back : minus (k.after + o.0) (o.0 + 1) ≡ k.after - 1 = omega arith in
-      rw v (some_from 8 (λ n. f.offsets n && pl.sites (minus (k.after + o.0) (n + 1))) o.0 o.1 (and_from _ _ o.2 (rw back st.3)))
+      rw v (some_from 8 (λ n. f.offsets n && shifted pl.sites (n + 1) (k.after + o.0)) o.0 o.1 (and_from _ _ o.2 (shift_true pl.sites (o.0 + 1) (k.after + o.0) (omega arith) (rw back st.3))))
 
   -- a variable's word is in its narrowed set
   pub variable_true : (f : Fact) (s : State) (ks : Calls) (a : ℕ) → IsState s → Means pl start f s ks → pl.declaration.variable a ≡ true → narrowed f (Cell a) (s.memory a) ≡ true
@@ -112,7 +112,7 @@ module _ (pl : Place) (dd : IsDeclared pl.declaration) (start : Cells) (sw : (a 
   unfolding words_in
   word_true f s ks a ss h = cond_both (pl.declaration.variable a) (narrowed f (Cell a)) _ has (λ p. variable_true f s ks a ss h p)
       (λ p. cond_both (is_routine pl.routine a) (own_words pl.sites f) _ has (λ q. own_true f s.memory ks a h.stands h.own q)
-      (λ q. cond_both (pl.declaration.entry a) everything (tape_word (pl.image a)) has (λ r. refl) (λ r. tape_true (pl.image a) (s.memory a) (λ w t. h.rest a p r ∙ loaded a w t))))
+      (λ q. cond_both (pl.declaration.entry a) all_words (tape_word (pl.image a)) has (λ r. lt-ltb (s.memory a) 4096 (ss.words a)) (λ r. tape_true (pl.image a) (s.memory a) (ss.words a) (λ w t. h.rest a p r ∙ loaded a w t))))
     where
       has : Words → Type 0
       has chosen = chosen (s.memory a) ≡ true
@@ -120,4 +120,4 @@ module _ (pl : Place) (dd : IsDeclared pl.declaration) (start : Cells) (sw : (a 
   pub possible_true : (f : Fact) (s : State) (ks : Calls) (a : ℕ) → IsState s → Means pl start f s ks → pl.declaration.entry a ≡ false → possible pl f a (s.memory a) ≡ true
   unfolding possible
   possible_true f s ks a ss h r = cond_both (pl.declaration.variable a) (narrowed f (Cell a)) (tape_word (pl.image a)) (λ (chosen : Words). chosen (s.memory a) ≡ true)
-      (λ p. variable_true f s ks a ss h p) (λ p. tape_true (pl.image a) (s.memory a) (λ w t. h.rest a p r ∙ loaded a w t))
+      (λ p. variable_true f s ks a ss h p) (λ p. tape_true (pl.image a) (s.memory a) (ss.words a) (λ w t. h.rest a p r ∙ loaded a w t))

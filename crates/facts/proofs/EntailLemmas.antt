@@ -1,9 +1,9 @@
-use Rattle.std.proofs.Common.{◌≡◌, ℕ, ◌+◌, ◌<◌, ◌==◌, Bool, true, false, ◌&&◌, ◌||◌, ◌≤◌, Some, None, List, [], ◌∷◌, map, drop, get_or, length, refl, sym, ap, ◌∙◌, subst, arith}
+use Rattle.std.proofs.Common.{◌≡◌, ℕ, ◌+◌, ◌<◌, ◌==◌, Bool, true, false, ◌&&◌, ◌||◌, ◌≤◌, Some, None, List, [], ◌∷◌, map, drop, get_or, length, refl, sym, ap, ◌∙◌, subst, arith, inl, inr}
 use Rattle.std.specs.Prelude.{if◌then◌else◌, IsTrue, ◌↔◌}
-use Rattle.std.proofs.lemmas.Bool.{and_from, and_parts, cond_both, eqb-true, eq-eqb, true≢false, false≢true}
+use Rattle.std.proofs.lemmas.Bool.{and_from, and_parts, cond_both, eqb-true, eq-eqb, true≢false, false≢true, cases_lt}
 use Rattle.std.proofs.lemmas.List.{drop_more}
 use Rattle.std.proofs.Math.ListN.{drop_of_length-le}
-use Rattle.wordset.specs.Words.{plus, minus, Words, SameWords, IsWithin, only}
+use Rattle.wordset.specs.Words.{plus, minus, Words, IsWithin, only}
 use Rattle.domain.specs.Facts.{Location, Ac, Cell, same, Equation, Fact, narrowed, met_by, Knows, KnowsAll, Entails, EntailsOffsets}
 use Rattle.domain.specs.declared.fact.Fact.{Fact as CodeFact}
 use Rattle.domain.specs.declared.location.Equation.{Equation as CodeEquation}
@@ -11,18 +11,12 @@ use Rattle.domain.specs.Statements.{TrackedCell, tracked, cell_at}
 use Rattle.facts.specs.Showing.{Shows, EachWithin, EntailsRegisters}
 use Rattle.domain.specs.Meaning.{equation_of, statement_of, meaning}
 use Rattle.facts.specs.Knowing.{Meets}
+use Rattle.std.proofs.Math.Path.{fun_ext}
+use Rattle.wordset.specs.Lanes.{words}
+use Rattle.wordset.proofs.SetLemmas.{words_past, lt_to}
 
 pub back_twice : (v k : ℕ) → v < 4096 → minus v (minus 0 k) ≡ plus v k
 back_twice v k h = omega arith
-
-pub within_same : {a b c : Words} → SameWords a b → IsWithin b c → IsWithin a c
-within_same s w v lt h = w v lt (sym (s v lt) ∙ h)
-
-pub within_set : {a b c : Words} → b ≡ c → IsWithin a b → IsWithin a c
-within_set e w v lt h = ap (λ (s : Words). s v) (sym e) ∙ w v lt h
-
-pub same_flip : {a b : Words} → SameWords a b → SameWords b a
-same_flip s v lt = sym (s v lt)
 
 pub not_true : {A : Type 0} → (A → ⊥) → IsTrue false ↔ A
 not_true h = (λ t. absurd (false≢true t), λ a. absurd (h a))
@@ -41,7 +35,7 @@ meet_one f n e es old new m v lt = rw (m v lt) (go (old v) _ _ _)
 
 -- the entries, one by one or by cell
 pub each_tracked : (f : Fact) (cells : List TrackedCell) → EachWithin f cells → (a : ℕ) → IsWithin (narrowed f (Cell a)) (tracked a cells)
-each_tracked f [] w a v lt h = refl
+each_tracked f [] w a v lt h = lt_to v lt
 each_tracked f (t ∷ ts) w a v lt h = and_from _ _ (cond_both (t.address == a) (t.set v) true (λ x. x ≡ true)
     (λ e. w.0 v lt (let q : t.address ≡ a = eqb-true t.address a e in rw q h)) (λ e. refl)) (each_tracked f ts w.1 a v lt h)
 
@@ -87,12 +81,16 @@ pub narrowed_step : (f : Fact) (n : Location) (es : List CodeEquation) (i : ℕ)
 narrowed_step f n es i g old new h e m v lt =
     meet_one f n (equation_of g) (map equation_of (drop (i + 1) es)) old new m v lt ∙ ap (λ xs. old v && met_by f n (map equation_of xs) v) (sym (drop_item es i g h e))
 
-pub narrowed_end : (f : Fact) (n : Location) (es : List CodeEquation) (i : ℕ) (set old : Words) → length es ≤ i →
-    ((v : ℕ) → v < 4096 → (set v && met_by f n (map equation_of (drop i es)) v) ≡ old v) → (v : ℕ) → v < 4096 → set v ≡ old v
-narrowed_end f n es i set old h inv v lt =
-    let e : drop i es ≡ [] = drop_of_length-le es h in
-    let q : (set v && met_by f n (map equation_of (drop i es)) v) ≡ set v = rw e (and_true (set v)) in
-    sym q ∙ inv v lt
+pub narrowed_end : (f : Fact) (n : Location) (es : List CodeEquation) (i : ℕ) (set first : List ℕ) → length es ≤ i → f.equations ≡ map equation_of es → words first ≡ f.set n →
+    ((v : ℕ) → v < 4096 → (words set v && met_by f n (map equation_of (drop i es)) v) ≡ (f.set n v && met_by f n (map equation_of es) v)) → words set ≡ narrowed f n
+unfolding narrowed
+narrowed_end f n es i set first h same begun inv = fun_ext (λ v. elim (cases_lt v 4096) [
+  | inl lt ↦
+      (let e : drop i es ≡ [] = drop_of_length-le es h in
+      let q : (words set v && met_by f n (map equation_of (drop i es)) v) ≡ words set v = rw e (and_true (words set v)) in
+      rw same (sym q ∙ inv v lt))
+  | inr g ↦ words_past set v g ∙ sym (ap (λ b. b && met_by f n f.equations v) (ap (λ (s : Words). s v) (sym begun) ∙ words_past first v g))
+])
   where
     and_true : (b : Bool) → (b && true) ≡ b
     and_true true = refl

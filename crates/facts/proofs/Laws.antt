@@ -5,7 +5,7 @@ use Rattle.wordset.specs.Words.{plus, minus, Words, union, shifted}
 use Rattle.domain.specs.Facts.{Location, Ac, Cell, same, Equation, Fact, Values, IsTrueOf, AllTrue, Holds, met_by, narrowed, Among, Knows, KnowsAll, Entails, has_cell, is_outside, outside, joined}
 use Rattle.domain.specs.Changes.{moved_equations, with_set, moved, free_of, strongly_updated, cells_of, weakly_updated_sets, weakly_updated, oriented, copy_of, copied, with_equations}
 use Rattle.wordset.proofs.Firsts.{only_word}
-use Rattle.facts.proofs.Numbers.{minus_plus, moved_number, or_left, or_right}
+use Rattle.facts.proofs.Numbers.{minus_plus, moved_number, or_left, or_right, shift_true, plus_lt}
 
 pub same_true : (m n : Location) → same m n ≡ true → m ≡ n
 same_true Ac Ac e = refl
@@ -68,7 +68,7 @@ pub moved_holds : {n : Location} {f : Fact} {v w : Values} (k : ℕ) → WordsAr
 unfolding moved
 moved_holds {n} {f} {v} {w} k ws h o e = record {
   sets = set_at n (shifted (narrowed f n) k) f.set w
-      (let x : minus (w n) k ≡ v n = rw e (minus_plus (v n) k (ws.each n)) in rw x (narrowed_at ws h n))
+      (shift_true (narrowed f n) k (w n) (rw e (plus_lt (v n) k)) (let x : minus (w n) k ≡ v n = rw e (minus_plus (v n) k (ws.each n)) in rw x (narrowed_at ws h n)))
       (λ m q. rw (o.others m q) (h.sets m));
   equations = moved_all k ws o e f.equations h.equations;
 }

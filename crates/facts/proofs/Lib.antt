@@ -9,7 +9,6 @@ pub mod Alike
 pub mod EntailLemmas
 pub mod ChangeLemmas
 pub mod StartLemmas
-pub mod AgreeLemmas
 pub mod ChangingLemmas
 pub mod PlaceLemmas
 pub mod OutcomeLemmas

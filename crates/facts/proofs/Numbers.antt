@@ -1,7 +1,8 @@
 -- Sums and differences of words.
 use Rattle.std.proofs.Common.{◌≡◌, ℕ, ◌<◌, Bool, true, false, arith}
 use Rattle.std.specs.Prelude.{if◌then◌else◌}
-use Rattle.wordset.specs.Words.{plus, minus, Words}
+use Rattle.wordset.specs.Words.{plus, minus, Words, shifted}
+use Rattle.std.proofs.lemmas.Bool.{and_from, lt-ltb}
 pub use Rattle.wordset.proofs.Tests.{both_ways, or_left, or_right, some_from}
 
 pub minus_plus : (a k : ℕ) → a < 4096 → minus (plus a k) k ≡ a
@@ -28,7 +29,6 @@ moved_number true false xl xr yl yr k more hl hr el er e = omega arith
 moved_number false true xl xr yl yr k more hl hr el er e = omega arith
 moved_number false false xl xr yl yr k more hl hr el er e = omega arith
 
--- two conditionals on one test
-pub if_both : (b : Bool) (s t x y : Words) (v : ℕ) → s v ≡ x v → t v ≡ y v → (let l : Words = if b then s else t in let r : Words = if b then x else y in l v ≡ r v)
-if_both true s t x y v h g = h
-if_both false s t x y v h g = g
+-- a word that is k more than one of a set
+pub shift_true : (s : Words) (k v : ℕ) → v < 4096 → s (minus v k) ≡ true → shifted s k v ≡ true
+shift_true s k v h e = and_from _ _ (lt-ltb v 4096 h) e

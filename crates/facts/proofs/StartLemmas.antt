@@ -2,9 +2,9 @@
 use Rattle.std.proofs.Common.{◌≡◌, ℕ, ◌+◌, ◌<◌, ◌≤◌, ◌==◌, Bool, true, false, not, ◌&&◌, ◌||◌, Option, Some, None, List, [], ◌∷◌, drop, length, refl, sym, ap, ◌∙◌, subst, arith}
 use Rattle.std.specs.Prelude.{if◌then◌else◌, IsTrue, ◌↔◌, nat_lt}
 use Rattle.std.specs.Option.{ForSome}
-use Rattle.std.proofs.lemmas.Bool.{and_from, and_parts, cond_both, eqb-true, eq-eqb, true≢false}
+use Rattle.std.proofs.lemmas.Bool.{and_from, and_parts, cond_both, eqb-true, eq-eqb, true≢false, ne_eqb}
 use Rattle.std.proofs.Math.ListN.{drop_of_length-le}
-use Rattle.wordset.specs.Words.{Words, SameWords, everything, some_below}
+use Rattle.wordset.specs.Words.{Words, all_words, some_below}
 use Rattle.wordset.proofs.Tests.{both_ways}
 use Rattle.wordset.specs.Links.{links_of}
 use Rattle.wordset.specs.declared.links.Links.{Links}
@@ -19,9 +19,12 @@ use Rattle.facts.proofs.Starting.{each_from, each_at, start_law}
 use Rattle.facts.proofs.EntailLemmas.{not_true, cell_dropped}
 use Rattle.domain.specs.declared.fact.Fact.{Fact as CodeFact}
 use Rattle.domain.specs.Meaning.{statement_of, meaning}
+use Rattle.wordset.proofs.SetLemmas.{lt_to, words_are, all_past}
+use Rattle.wordset.specs.Lanes.{words}
 
-pub all_each : (t : Bool) (set : Words) → (IsTrue t ↔ SameWords set everything) → t ≡ each_below 4096 set
-all_each t set h = both_ways t (each_below 4096 set) (λ e. each_from 4096 set (h.0 e)) (λ e. h.1 (λ v lt. each_at 4096 set v lt e))
+pub all_each : (t : Bool) (lanes : List ℕ) → (IsTrue t ↔ (words lanes ≡ all_words)) → t ≡ each_below 4096 (words lanes)
+all_each t lanes h = both_ways t (each_below 4096 (words lanes)) (λ e. each_from 4096 (words lanes) (λ v lt. ap (λ (s : Words). s v) (h.0 e) ∙ lt_to v lt))
+    (λ e. h.1 (words_are lanes all_words all_past (λ v lt. each_at 4096 (words lanes) v lt e ∙ sym (lt_to v lt))))
 
 -- what has each word of two sets has those of both
 pub each_both : (o : Option ℕ) (a b : Words) → has_each o a ≡ true → has_each o b ≡ true → has_each o (λ v. a v && b v) ≡ true
@@ -36,9 +39,13 @@ pub each_right : (o : Option ℕ) (a b : Words) → has_each o (λ v. a v && b v
 each_right None a b h = each_from 4096 b (λ v lt. (and_parts _ _ (each_at 4096 (λ v. a v && b v) v lt h)).1)
 each_right (Some w) a b h = (and_parts _ _ h).1
 
-each_everything : (o : Option ℕ) → has_each o everything ≡ true
-each_everything None = each_from 4096 everything (λ v lt. refl)
-each_everything (Some w) = refl
+each_all : (o : Option ℕ) → ((w : ℕ) → o ≡ Some w → w < 4096) → has_each o all_words ≡ true
+each_all None h = each_from 4096 all_words (λ v lt. lt_to v lt)
+each_all (Some w) h = lt_to w (h w refl)
+
+each_true : (o : Option ℕ) → has_each o (λ v. true) ≡ true
+each_true None = each_from 4096 (λ v. true) (λ v lt. refl)
+each_true (Some w) = refl
 
 -- one entry more
 pub start_more : (image : Image) (t : TrackedCell) (ts : List TrackedCell) → has_each (image t.address) t.set ≡ true → MayStart image ts → MayStart image (t ∷ ts)
@@ -46,7 +53,7 @@ start_more image t ts h rest a lt = each_both (image a) (λ v. if t.address == a
   where
     go : (b : Bool) → (t.address == a) ≡ b → has_each (image a) (λ v. if b then t.set v else true) ≡ true
     go true e = (let q : t.address ≡ a = eqb-true t.address a e in subst (λ x. has_each (image x) t.set ≡ true) q h)
-    go false e = each_everything (image a)
+    go false e = each_true (image a)
 
 pub start_here : (image : Image) (t : TrackedCell) (ts : List TrackedCell) → t.address < 4096 → MayStart image (t ∷ ts) → has_each (image t.address) t.set ≡ true
 start_here image t ts lt h =
@@ -67,10 +74,11 @@ pub start_fails : (image : Image) (cells : List TrackedCell) (i : ℕ) → i < l
 start_fails image cells i lt small w h =
     not_true (λ a. true≢false (sym (start_here image (cell_at cells i) (drop (i + 1) cells) small (subst (MayStart image) (cell_dropped cells i lt) (h.1 a))) ∙ w))
 
-pub cells_tracked : (cells : List TrackedCell) → AreCells cells → (a v : ℕ) → 4096 ≤ a → tracked a cells v ≡ true
-cells_tracked [] h a v lt = refl
-cells_tracked (t ∷ ts) h a v lt = and_from _ _ (cond_both (t.address == a) (t.set v) true (λ x. x ≡ true)
-    (λ e. absurd (let q : t.address ≡ a = eqb-true t.address a e in let s : t.address < 4096 = h.0 in omega arith)) (λ e. refl)) (cells_tracked ts h.1 a v lt)
+pub cells_tracked : (cells : List TrackedCell) → AreCells cells → (a v : ℕ) → 4096 ≤ a → v < 4096 → tracked a cells v ≡ true
+cells_tracked [] h a v lt small = lt_to v small
+cells_tracked (t ∷ ts) h a v lt small =
+    let other : (t.address == a) ≡ false = ne_eqb t.address a (λ q. let s : t.address < 4096 = h.0 in omega arith) in
+    rw other (cells_tracked ts h.1 a v lt small)
 
 pub tape_words : (cells : List (Option ℕ)) → HoldsWords cells → AreTapeWords (image_of cells)
 tape_words cells h a w = cond_both (nat_lt a 4096) (word_at cells a) None (λ o. o ≡ Some w → w < 4096) (λ q. some (word_at cells a) (h.words a)) (λ q e. absurd (cc))
@@ -122,8 +130,8 @@ two_links l = go l.set l.clear
     go true true = refl
     go _ _ = refl
 
-pub start_end : (image : Image) (cells : List TrackedCell) (i : ℕ) → length cells ≤ i →
+pub start_end : (image : Image) (cells : List TrackedCell) (i : ℕ) → AreTapeWords image → length cells ≤ i →
     (MayStart image (drop i cells) ↔ MayStart image cells) → IsTrue true ↔ MayStart image cells
-start_end image cells i h inv =
+start_end image cells i tape h inv =
     let e : drop i cells ≡ [] = drop_of_length-le cells h in
-    (λ q. inv.0 (subst (MayStart image) (sym e) (λ a lt. each_everything (image a))), λ a. refl)
+    (λ q. inv.0 (subst (MayStart image) (sym e) (λ a lt. each_all (image a) (tape a))), λ a. refl)

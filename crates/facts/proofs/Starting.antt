@@ -178,7 +178,7 @@ module _ (pl : Place) (tape : AreTapeWords pl.image) (begin : pl.declaration.sta
       cell_set : each_below 4096 (λ x. has_each (pl.image x) (f.set (Cell x))) ≡ true → (x : ℕ) → f.set (Cell x) (s.memory x) ≡ true
       cell_set q x = elim (cases_Bool (nat_lt x 4096)) [
         | inl t ↦ on_tape (pl.image x) (f.set (Cell x)) (s.memory x) (each_at 4096 (λ y. has_each (pl.image y) (f.set (Cell y))) x (ltb-true x 4096 t) q) (st.words x) (λ w g. st.loaded x w g)
-        | inr t ↦ tracks x (s.memory x) (ltb-false x 4096 t)
+        | inr t ↦ tracks x (s.memory x) (ltb-false x 4096 t) (st.words x)
       ]
 
       sets : each_below 4096 (f.set Ac) ≡ true → each_below 4096 (λ x. has_each (pl.image x) (f.set (Cell x))) ≡ true → (n : Location) → f.set n (begun s n) ≡ true

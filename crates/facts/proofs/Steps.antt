@@ -1,21 +1,21 @@
 -- The step law for each instruction: from a state of a fact, a step lands in one of the instruction's outcomes.
 use Rattle.std.proofs.Common.{◌≡◌, ℕ, ◌+◌, ◌-◌, ◌/◌, ◌%◌, ◌<◌, ◌≤◌, ◌==◌, Bool, true, false, not, ◌&&◌, ◌⊎◌, Option, Some, None, List, [], ◌∷◌, ◌++◌, refl, sym, ap, ◌∙◌, subst, inl, inr, arith, lit<}
 use Rattle.std.specs.Prelude.{if◌then◌else◌, bit_and, bit_or}
-use Rattle.std.proofs.lemmas.Bool.{and_from, cond_both, eqb-true, eq-eqb, ne_eqb, true≢false, false≢true, cases_eq}
+use Rattle.std.proofs.lemmas.Bool.{and_from, cond_both, eqb-true, eq-eqb, ne_eqb, true≢false, false≢true, cases_eq, lt-ltb}
 use Rattle.instruct.specs.Bits.{has_bit}
 use Rattle.instruct.specs.Operates.{operate2_of, skips_of, MqOperate, Mql, Mqa, Swp, Cam, ClaMqa, ClaSwp, mq_operate}
 use Rattle.instruct.specs.Instructions.{Skips}
-use Rattle.wordset.specs.Words.{plus, minus, Words, everything, one, some_below, has_some, without, shifted, sums, carries, toggled, only, ands, ors, or_any, images_at, images}
+use Rattle.wordset.specs.Words.{plus, minus, Words, all_words, one, some_below, has_some, without, shifted, sums, carries, toggled, only, ands, ors, or_any, images_at, images}
 use Rattle.processor.specs.Cells.{Cells, updated}
 use Rattle.processor.specs.Machine.{State, seen, place, steps_pointer, next_pc}
 use Rattle.declaration.specs.Declaration.{IsDeclared}
 use Rattle.policy.specs.Calls.{Calls}
 use Rattle.domain.specs.Facts.{Ac, Cell, Fact, Values, Holds, narrowed, values, Place, OwnWord, StandsIn, Means, is_routine, words_in}
-use Rattle.domain.specs.Changes.{moved, strongly_updated, weakly_updated, with_equations, with_mq, with_link, with_offsets, with_name}
+use Rattle.domain.specs.Changes.{moved, strongly_updated, weakly_updated, with_equations, with_mq, with_link, with_offsets, with_name, counted_up}
 use Rattle.facts.specs.Outcomes.{stepped, targets, words_at, Successor, Goes, given, alive, goes, tad_word, tad_case, tad_fact, tad, isz_case, dca_case, jmp, anded, ac_after, link_after, changes_ac, related1, operated1, part2, related2, operated2, all_operated2, operated3, device_outcomes}
 use Rattle.facts.specs.Law.{IsState, TopIsEntry, LandsIn, SomeOutcome}
 use Rattle.wordset.proofs.Firsts.{only_word}
-use Rattle.facts.proofs.Numbers.{minus_plus, minus_other, plus_lt, or_left, or_right, some_from}
+use Rattle.facts.proofs.Numbers.{minus_plus, minus_other, plus_lt, or_left, or_right, some_from, shift_true}
 use Rattle.facts.proofs.Operates.{and_word, ac_after_word, link_after_bit, ac_kept, operate2_word, mq_words, ands_true, ors_true, or_word_true}
 use Rattle.facts.proofs.Laws.{WordsAre, OnlyAt, narrowed_at, moved_holds, assigned_holds, set_at, smeared_holds, copied_holds}
 use Rattle.facts.proofs.Cells.{updated_same, seen_words, values_words, value_of, updated_values, ac_values, hidden_values, holds_at, rest_updated, own_updated, own_like, top_not, variable_true, word_true}
@@ -127,7 +127,7 @@ module _ (pl : Place) (dd : IsDeclared pl.declaration) (start : Cells) (sw : (a 
   words_at_true f s ks p y ss h lt e = some_from 4096 (λ a. p a && words_in pl f a (s.memory y)) y lt (and_from _ _ e (word_true pl dd start sw loaded f s ks y ss h))
 
   sum_true : (a b : Words) (x y : ℕ) → x < 4096 → y < 4096 → a x ≡ true → b y ≡ true → sums a b (plus x y) ≡ true
-  sum_true a b x y hx hy p q = some_from 4096 (λ n. a n && b (minus (plus x y) n)) x hx (and_from _ _ p (let e : minus (plus x y) x ≡ y = minus_other x y hy hx in rw e q))
+  sum_true a b x y hx hy p q = and_from _ _ (lt-ltb (plus x y) 4096 (plus_lt x y)) (some_from 4096 (λ n. a n && b (minus (plus x y) n)) x hx (and_from _ _ p (let e : minus (plus x y) x ≡ y = minus_other x y hy hx in rw e q)))
 
   carry_number : (x y : ℕ) → x < 4096 → y < 4096 → ((x + y) / 4096 ≡ 0) ⊎ ((x + y) / 4096 ≡ 1)
   carry_number x y hx hy = elim (cases_eq ((x + y) / 4096) 0) [ inl e ↦ inl e | inr n ↦ inr (omega arith) ]
@@ -138,14 +138,14 @@ module _ (pl : Place) (dd : IsDeclared pl.declaration) (start : Cells) (sw : (a 
       (and_from _ _ p (some_from 4096 (λ m. b m && ((x + m) / 4096 == k)) y hy (and_from _ _ q (eq-eqb ((x + y) / 4096) k e))))
 
   toggle_true : (links a b : Words) (l x y : ℕ) → l < 2 → x < 4096 → y < 4096 → links l ≡ true → a x ≡ true → b y ≡ true → toggled links (carries a b) ((l + (x + y) / 4096) % 2) ≡ true
-  toggle_true links a b l x y hl hx hy hk p q = elim (carry_number x y hx hy) [
+  toggle_true links a b l x y hl hx hy hk p q = and_from _ _ (lt-ltb ((l + (x + y) / 4096) % 2) 2 (omega arith)) (elim (carry_number x y hx hy) [
     | inl e ↦
         (let same_link : (l + (x + y) / 4096) % 2 ≡ l = omega arith in
         rw same_link (or_left _ _ (and_from _ _ (carry_true a b x y 0 hx hy p q e) hk)))
     | inr e ↦
         (let back : 1 - (l + (x + y) / 4096) % 2 ≡ l = omega arith in
         or_right _ _ (and_from _ _ (carry_true a b x y 1 hx hy p q e) (rw back hk)))
-  ]
+  ])
 
   -- what holds where AC took the sum with a word of v
   sum_holds : (f : Fact) (s : State) (ks : Calls) (v : Words) (y : ℕ) → IsState s → Means pl start f s ks → v (s.memory y) ≡ true → Holds (strongly_updated Ac (sums (narrowed f Ac) v) f) (vals (plus s.ac (s.memory y)) s.memory)
@@ -189,7 +189,7 @@ module _ (pl : Place) (dd : IsDeclared pl.declaration) (start : Cells) (sw : (a 
       (λ z q. sym ((only_word p z q).lone y lt e)) (λ z q. sym ((only_word (narrowed f Ac) z q).lone s.ac ss.ac (ac_true f s ks ss h))) (λ z q. sym ((only_word v z q).lone x (ss.words y) vy)) in
       let link : toggled f.link (carries (narrowed f Ac) v) ((s.link + (s.ac + x) / 4096) % 2) ≡ true = toggle_true f.link (narrowed f Ac) v s.link s.ac x ss.link ss.ac (ss.words y) h.link (ac_true f s ks ss h) vy in
       let small : (s.link + (s.ac + s.memory y) / 4096) % 2 < 2 = omega arith in
-      goes_to p everything (one (plus s.pc 1)) f (tad_fact pl f p) s (added s y) ks y 0 ss h lt e (lit< tt) refl (plus_lt s.ac (s.memory y)) small ss.mq (eq-eqb (plus s.pc 1) (plus s.pc 1) refl)
+      goes_to p all_words (one (plus s.pc 1)) f (tad_fact pl f p) s (added s y) ks y 0 ss h lt e (lit< tt) refl (plus_lt s.ac (s.memory y)) small ss.mq (eq-eqb (plus s.pc 1) (plus s.pc 1) refl)
       (means_like f (tad_fact pl f p) s ks (plus s.ac x) ((s.link + (s.ac + x) / 4096) % 2) s.mq (plus s.pc 1) h (record { sets = holds.sets; equations = holds.equations }) h.mq link refl)
 
   -- ISZ
@@ -246,10 +246,10 @@ module _ (pl : Place) (dd : IsDeclared pl.declaration) (start : Cells) (sw : (a 
       moved_in : (plus (s.memory y) 1 == 0) ≡ false → without 0 (shifted (narrowed f (Cell y)) 1) (plus (s.memory y) 1) ≡ true
       moved_in e =
           let back : minus (plus (s.memory y) 1) 1 ≡ s.memory y = minus_plus (s.memory y) 1 (ss.words y) in
-          rw (e, back) (variable_true pl dd start sw loaded f s ks y ss h var)
+          rw e (shift_true (narrowed f (Cell y)) 1 (plus (s.memory y) 1) (plus_lt (s.memory y) 1) (rw back (variable_true pl dd start sw loaded f s ks y ss h var)))
 
   own_more : (f : Fact) (m : Cells) (y : ℕ) (ks : Calls) → StandsIn pl ks → OwnWord f m ks → pl.routine ≡ Some y → f.offsets 7 ≡ false →
-      (o : ℕ) × (o < 7) × (f.offsets o ≡ true) × (plus (m y) 1 ≡ m y + 1) × OwnWord (with_offsets (λ n. if n == 0 then false else f.offsets (n - 1)) f) (updated m y (plus (m y) 1)) ks
+      (o : ℕ) × (o < 7) × (f.offsets o ≡ true) × (plus (m y) 1 ≡ m y + 1) × OwnWord (with_offsets (counted_up f.offsets) f) (updated m y (plus (m y) 1)) ks
   own_more f m y [] st o r seven = absurd (let q : None ≡ Some y = sym st ∙ r in cc)
   own_more f m y (k ∷ ks) st o r seven =
       let q : Some k.entry ≡ Some y = sym st.0 ∙ r in
@@ -264,14 +264,14 @@ module _ (pl : Place) (dd : IsDeclared pl.declaration) (start : Cells) (sw : (a 
         small,
         o.2,
         up,
-        (o.0 + 1, omega arith, count_true o.0 o.2, rw ky (updated_same m y (plus (m y) 1)) ∙ (up ∙ omega arith)),
+        (o.0 + 1, omega arith, count_true o.0 small o.2, rw ky (updated_same m y (plus (m y) 1)) ∙ (up ∙ omega arith)),
       )
     where
-      count_true : (n : ℕ) → f.offsets n ≡ true → (if (n + 1) == 0 then false else f.offsets ((n + 1) - 1)) ≡ true
-      count_true n e =
+      count_true : (n : ℕ) → n < 7 → f.offsets n ≡ true → counted_up f.offsets (n + 1) ≡ true
+      count_true n lt e =
           let a : ((n + 1) == 0) ≡ false = ne_eqb (n + 1) 0 (let no : n + 1 ≡ 0 → ⊥ = omega arith in no) in
           let b : (n + 1) - 1 ≡ n = omega arith in
-          rw (a, b) e
+          and_from _ _ (lt-ltb (n + 1) 8 (omega arith)) (rw (a, b) e)
 
   isz_own : (f : Fact) (s : State) (ks : Calls) (p : Words) (y : ℕ) → IsState s → TopIsEntry pl.declaration ks → Means pl start f s ks → y < 4096 → p y ≡ true →
       pl.declaration.variable y ≡ false → pl.declaration.entry y ≡ true → pl.routine ≡ Some y → f.offsets 7 ≡ false → SomeOutcome (Lands (counted s y) ks) (isz_case pl s.pc f p (Some y))
@@ -279,7 +279,7 @@ module _ (pl : Place) (dd : IsDeclared pl.declaration) (start : Cells) (sw : (a 
       let w = own_more f s.memory y ks h.stands h.own r seven in
       let up : plus (s.memory y) 1 ≡ s.memory y + 1 = w.3 in
       let nz : (plus (s.memory y) 1 == 0) ≡ false = ne_eqb (plus (s.memory y) 1) 0 (let no : plus (s.memory y) 1 ≡ 0 → ⊥ = omega arith in no) in
-      rw var (goes_to p everything (one (plus s.pc 1)) f (with_offsets (λ o. if o == 0 then false else f.offsets (o - 1)) f) s (counted s y) ks y 0 ss h lt e (lit< tt) refl ss.ac ss.link ss.mq
+      rw var (goes_to p all_words (one (plus s.pc 1)) f (with_offsets (counted_up f.offsets) f) s (counted s y) ks y 0 ss h lt e (lit< tt) refl ss.ac ss.link ss.mq
       (rw nz (eq-eqb (plus s.pc 1) (plus s.pc 1) refl))
       (record {
         holds = let z : Holds f (values pl.declaration start s.ac (updated s.memory y (plus (s.memory y) 1))) =
@@ -300,14 +300,14 @@ module _ (pl : Place) (dd : IsDeclared pl.declaration) (start : Cells) (sw : (a 
         (some_given (Lands (counted s y) ks) _ _
         (and_from _ _
         (some_from 4096 (λ a. p a && narrowed f (Cell a) 4095) y lt (and_from _ _ e (let q : s.memory y ≡ 4095 = z.0 in rw q at (variable_true pl dd start sw loaded f s ks y ss h var))))
-        (alive_true p everything f _ s (counted s y) ks y 0 ss h lt e (lit< tt) refl ss.ac ss.link ss.mq (means _)))
+        (alive_true p all_words f _ s (counted s y) ks y 0 ss h lt e (lit< tt) refl ss.ac ss.link ss.mq (means _)))
         (rw z.1 (eq-eqb (plus s.pc 2) (plus s.pc 2) refl), means _))
     | inr z ↦ some_right (Lands (counted s y) ks) _ _
         (some_given (Lands (counted s y) ks) _ _
         (and_from _ _
         (some_from 4096 (λ a. p a && has_some (without 4095 (narrowed f (Cell a)))) y lt
         (and_from _ _ e (some_from 4096 (without 4095 (narrowed f (Cell y))) (s.memory y) (ss.words y) (let q : (s.memory y == 4095) ≡ false = ne_eqb (s.memory y) 4095 z.0 in rw q (variable_true pl dd start sw loaded f s ks y ss h var)))))
-        (alive_true p everything f _ s (counted s y) ks y 0 ss h lt e (lit< tt) refl ss.ac ss.link ss.mq (means _)))
+        (alive_true p all_words f _ s (counted s y) ks y 0 ss h lt e (lit< tt) refl ss.ac ss.link ss.mq (means _)))
         (rw z.1 (eq-eqb (plus s.pc 1) (plus s.pc 1) refl), means _))
   ]
     where
@@ -317,7 +317,7 @@ module _ (pl : Place) (dd : IsDeclared pl.declaration) (start : Cells) (sw : (a 
           value_of pl.declaration start s.ac (updated s.memory y (plus (s.memory y) 1)) y var ∙ updated_same s.memory y (plus (s.memory y) 1) in
           let back : minus (plus (s.memory y) 1) 1 ≡ s.memory y = minus_plus (s.memory y) 1 (ss.words y) in
           let was : vals s.ac s.memory (Cell y) ≡ s.memory y = value_of pl.declaration start s.ac s.memory y var in
-          rw (v, back) (rw was at (h.holds.sets (Cell y)))
+          rw v (shift_true (f.set (Cell y)) 1 (plus (s.memory y) 1) (plus_lt (s.memory y) 1) (rw back (rw was at (h.holds.sets (Cell y)))))
 
       means : (pc : ℕ) → Means pl start (weakly_updated p (λ a. shifted (f.set (Cell a)) 1) f) (record s { pc = pc; memory = updated s.memory y (plus (s.memory y) 1) }) ks
       means pc = means_updated f (weakly_updated p (λ a. shifted (f.set (Cell a)) 1) f) s ks y (plus (s.memory y) 1) s.ac pc top var h
@@ -364,7 +364,7 @@ module _ (pl : Place) (dd : IsDeclared pl.declaration) (start : Cells) (sw : (a 
           (means_updated f _ s ks y s.ac 0 (plus s.pc 1) top var h (assigned_holds (one 0) hg (ac_values pl.declaration start s.ac 0 (updated s.memory y s.ac)) refl) em el eo)
 
       go : (o : Option ℕ) → only p ≡ o → SomeOutcome (Lands (deposited s y) ks) (dca_case pl s.pc f p o)
-      go None q = ends everything _ 0 (lit< tt) refl refl refl refl (smeared_holds p (λ a. narrowed f Ac) y lt e h.holds moves has)
+      go None q = ends all_words _ 0 (lit< tt) refl refl refl refl (smeared_holds p (λ a. narrowed f Ac) y lt e h.holds moves has)
       go (Some z) q =
           let zy : z ≡ y = sym ((only_word p z q).lone y lt e) in
           rw zy (ends (narrowed f Ac) _ s.ac ss.ac (ac_true f s ks ss h) refl refl refl (copied_holds y (narrowed f Ac) (names_words f s ks ss h) h.holds moves here has))
@@ -376,7 +376,7 @@ module _ (pl : Place) (dd : IsDeclared pl.declaration) (start : Cells) (sw : (a 
   pub jmp_step : (f : Fact) (s : State) (ks : Calls) (i : Bool) (c : ℕ) (p : Words) (y : ℕ) → IsState s → Means pl start f s ks → y < 4096 → p y ≡ true →
       (i && is_routine pl.routine c) ≡ false →
       SomeOutcome (Lands (record s { pc = y }) ks) (jmp pl i c f p)
-  jmp_step f s ks i c p y ss h lt e r = rw r (goes_to p everything p f f s _ ks y 0 ss h lt e (lit< tt) refl ss.ac ss.link ss.mq e (same_step f s ks y h))
+  jmp_step f s ks i c p y ss h lt e r = rw r (goes_to p all_words p f f s _ ks y 0 ss h lt e (lit< tt) refl ss.ac ss.link ss.mq e (same_step f s ks y h))
 
   -- the accumulator takes a word of the set, and nothing else changes
   ac_means : (f : Fact) (s : State) (ks : Calls) (set : Words) (ac pc : ℕ) → IsState s → Means pl start f s ks → set ac ≡ true →
@@ -407,7 +407,7 @@ module _ (pl : Place) (dd : IsDeclared pl.declaration) (start : Cells) (sw : (a 
       let v : words_at pl f p (s.memory y) ≡ true = words_at_true f s ks p y ss h lt e in
       let a : ands (narrowed f Ac) (words_at pl f p) (bit_and s.ac (s.memory y)) ≡ true =
       ands_true (narrowed f Ac) (words_at pl f p) s.ac (s.memory y) ss.ac (ss.words y) (ac_true f s ks ss h) v in
-      goes_to p everything (one (plus s.pc 1)) f _ s _ ks y 0 ss h lt e (lit< tt) refl (and_word s.ac (s.memory y) ss.ac) ss.link ss.mq
+      goes_to p all_words (one (plus s.pc 1)) f _ s _ ks y 0 ss h lt e (lit< tt) refl (and_word s.ac (s.memory y) ss.ac) ss.link ss.mq
       (eq-eqb (plus s.pc 1) (plus s.pc 1) refl) (ac_means f s ks (ands (narrowed f Ac) (words_at pl f p)) (bit_and s.ac (s.memory y)) (plus s.pc 1) ss h a)
 
   -- group 1
@@ -420,8 +420,8 @@ module _ (pl : Place) (dd : IsDeclared pl.declaration) (start : Cells) (sw : (a 
 
   related1_means : (w : ℕ) (f : Fact) (s : State) (ks : Calls) (pc : ℕ) → IsState s → Means pl start f s ks →
       Means pl start (related1 w f) (record s { ac = ac_after w s.ac s.link; pc = pc }) ks
-  related1_means w f s ks pc ss h = cond_both (changes_ac w) (strongly_updated Ac everything f) (if has_bit 0 w then moved Ac 1 f else f) (λ (g : Fact). Means pl start g (at (ac_after w s.ac s.link)) ks)
-      (λ e. ac_means f s ks everything (ac_after w s.ac s.link) pc ss h refl) (λ e. up (has_bit 0 w) (ac_after w s.ac s.link) (ac_kept w s.ac s.link e))
+  related1_means w f s ks pc ss h = cond_both (changes_ac w) (strongly_updated Ac all_words f) (if has_bit 0 w then moved Ac 1 f else f) (λ (g : Fact). Means pl start g (at (ac_after w s.ac s.link)) ks)
+      (λ e. ac_means f s ks all_words (ac_after w s.ac s.link) pc ss h (lt-ltb (ac_after w s.ac s.link) 4096 (ac_after_word w s.ac s.link ss.ac ss.link))) (λ e. up (has_bit 0 w) (ac_after w s.ac s.link) (ac_kept w s.ac s.link e))
     where
       at : (x : ℕ) → State
       at x = record s { ac = x; pc = pc }
@@ -432,11 +432,11 @@ module _ (pl : Place) (dd : IsDeclared pl.declaration) (start : Cells) (sw : (a 
 
   pub operate1_step : (w : ℕ) (f : Fact) (s : State) (ks : Calls) → IsState s → Means pl start f s ks →
       SomeOutcome (Lands (record s { ac = ac_after w s.ac s.link; link = link_after w s.ac s.link; pc = plus s.pc 1 }) ks)
-      (goes everything f everything (one (plus s.pc 1)) (operated1 w f))
+      (goes all_words f all_words (one (plus s.pc 1)) (operated1 w f))
   operate1_step w f s ks ss h =
       let a : images (ac_after w) (narrowed f Ac) f.link (ac_after w s.ac s.link) ≡ true = image_true (ac_after w) f s ks ss h in
       let l : images (link_after w) (narrowed f Ac) f.link (link_after w s.ac s.link) ≡ true = image_true (link_after w) f s ks ss h in
-      goes_to everything everything (one (plus s.pc 1)) f (operated1 w f) s _ ks 0 0 ss h (lit< tt) refl (lit< tt) refl
+      goes_to all_words all_words (one (plus s.pc 1)) f (operated1 w f) s _ ks 0 0 ss h (lit< tt) refl (lit< tt) refl
       (ac_after_word w s.ac s.link ss.ac ss.link) (link_after_bit w s.ac s.link ss.ac ss.link) ss.mq (eq-eqb (plus s.pc 1) (plus s.pc 1) refl)
       (set_means (related1 w f) (record s { ac = ac_after w s.ac s.link }) ks (images (ac_after w) (narrowed f Ac) f.link) (images (link_after w) (narrowed f Ac) f.link)
       (link_after w s.ac s.link) (plus s.pc 1) (related1_means w f s ks s.pc ss h) a l)
@@ -473,7 +473,7 @@ module _ (pl : Place) (dd : IsDeclared pl.declaration) (start : Cells) (sw : (a 
       (related2_means w f s ks (part2 w f l b) v _ ss h lt part) (eq-eqb s.link l (sym el)) in
       some_given (Lands _ ks) _ _
       (and_from _ _ (rw el h.link) (and_from _ _ (some_from 4096 (part2 w f l b) s.ac ss.ac part)
-      (alive_true everything everything f _ s _ ks 0 0 ss h (lit< tt) refl (lit< tt) refl (operate2_word w s.ac v ss.ac lt) ss.link ss.mq m)))
+      (alive_true all_words all_words f _ s _ ks 0 0 ss h (lit< tt) refl (lit< tt) refl (operate2_word w s.ac v ss.ac lt) ss.link ss.mq m)))
       (eq-eqb (next_pc s.pc b) (next_pc s.pc b) refl, m)
 
   pub operate2_step : (w : ℕ) (f : Fact) (s : State) (ks : Calls) (v : ℕ) → IsState s → Means pl start f s ks → v < 4096 →
@@ -520,22 +520,22 @@ module _ (pl : Place) (dd : IsDeclared pl.declaration) (start : Cells) (sw : (a 
       (ac_means f s ks f.mq s.mq (plus s.pc 1) ss h h.mq) refl
 
   pub operate3_step : (o : MqOperate) (f : Fact) (s : State) (ks : Calls) → IsState s → Means pl start f s ks →
-      SomeOutcome (Lands (exchanged_state o s) ks) (goes everything f everything (one (plus s.pc 1)) (operated3 o f))
+      SomeOutcome (Lands (exchanged_state o s) ks) (goes all_words f all_words (one (plus s.pc 1)) (operated3 o f))
   operate3_step o f s ks ss h =
-      goes_to everything everything (one (plus s.pc 1)) f (operated3 o f) s (exchanged_state o s) ks 0 0 ss h (lit< tt) refl (lit< tt) refl
+      goes_to all_words all_words (one (plus s.pc 1)) f (operated3 o f) s (exchanged_state o s) ks 0 0 ss h (lit< tt) refl (lit< tt) refl
       (mq_words o s.ac s.mq ss.ac ss.mq).0 ss.link (mq_words o s.ac s.mq ss.ac ss.mq).1 (eq-eqb (plus s.pc 1) (plus s.pc 1) refl) (operated3_means o f s ks ss h)
 
   -- device words
-  pub go_step : (f : Fact) (s : State) (ks : Calls) (pc : ℕ) → IsState s → Means pl start f s ks → SomeOutcome (Lands (record s { pc = pc }) ks) (goes everything f everything (one pc) f)
-  go_step f s ks pc ss h = goes_to everything everything (one pc) f f s _ ks 0 0 ss h (lit< tt) refl (lit< tt) refl ss.ac ss.link ss.mq (eq-eqb pc pc refl) (same_step f s ks pc h)
+  pub go_step : (f : Fact) (s : State) (ks : Calls) (pc : ℕ) → IsState s → Means pl start f s ks → SomeOutcome (Lands (record s { pc = pc }) ks) (goes all_words f all_words (one pc) f)
+  go_step f s ks pc ss h = goes_to all_words all_words (one pc) f f s _ ks 0 0 ss h (lit< tt) refl (lit< tt) refl ss.ac ss.link ss.mq (eq-eqb pc pc refl) (same_step f s ks pc h)
 
   pub skip_step : (f : Fact) (s : State) (ks : Calls) (skip : Bool) → IsState s → Means pl start f s ks → SomeOutcome (Lands (record s { pc = next_pc s.pc skip }) ks) (device_outcomes s.pc f Skips)
-  skip_step f s ks true ss h = some_right (Lands (record s { pc = plus s.pc 2 }) ks) (goes everything f everything (one (plus s.pc 1)) f) _ (go_step f s ks (plus s.pc 2) ss h)
+  skip_step f s ks true ss h = some_right (Lands (record s { pc = plus s.pc 2 }) ks) (goes all_words f all_words (one (plus s.pc 1)) f) _ (go_step f s ks (plus s.pc 2) ss h)
   skip_step f s ks false ss h = some_left (Lands (record s { pc = plus s.pc 1 }) ks) _ _ (go_step f s ks (plus s.pc 1) ss h)
 
   -- the accumulator takes a word of the set
   pub ac_step : (f : Fact) (s : State) (ks : Calls) (set : Words) (ac : ℕ) → IsState s → Means pl start f s ks → ac < 4096 → set ac ≡ true →
-      SomeOutcome (Lands (record s { ac = ac; pc = plus s.pc 1 }) ks) (goes everything f everything (one (plus s.pc 1)) (strongly_updated Ac set f))
+      SomeOutcome (Lands (record s { ac = ac; pc = plus s.pc 1 }) ks) (goes all_words f all_words (one (plus s.pc 1)) (strongly_updated Ac set f))
   ac_step f s ks set ac ss h lt e =
-      goes_to everything everything (one (plus s.pc 1)) f (strongly_updated Ac set f) s _ ks 0 0 ss h (lit< tt) refl (lit< tt) refl lt ss.link ss.mq
+      goes_to all_words all_words (one (plus s.pc 1)) f (strongly_updated Ac set f) s _ ks 0 0 ss h (lit< tt) refl (lit< tt) refl lt ss.link ss.mq
       (eq-eqb (plus s.pc 1) _ refl) (ac_means f s ks set ac (plus s.pc 1) ss h e)

@@ -7,4 +7,3 @@ pub mod Places
 pub mod Slots
 pub mod Access
 pub mod Knowing
-pub mod Agreeing

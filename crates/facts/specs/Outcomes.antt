@@ -1,12 +1,12 @@
 -- The outcomes of a word: the facts that may hold after it, each with the addresses where the run may be then.
-use Rattle.std.specs.Prelude.{ℕ, ◌-◌, ◌==◌, Bool, true, false, not, ◌&&◌, ◌||◌, if◌then◌else◌, Option, Some, None, List, [], ◌∷◌, ◌++◌, nat_lt}
+use Rattle.std.specs.Prelude.{ℕ, Bool, true, false, not, ◌&&◌, ◌||◌, if◌then◌else◌, Option, Some, None, List, [], ◌∷◌, ◌++◌, nat_lt}
 use Rattle.instruct.specs.Bits.{has_bit}
 use Rattle.instruct.specs.Operates.{operate1_of, skips_of, is_halt, MqOperate, Mql, Mqa, Swp, Cam, ClaMqa, ClaSwp}
 use Rattle.instruct.specs.Instructions.{Meaning, meaning_of, And, Tad, Isz, Dca, Jms, Jmp, Group1, Group2, Group3, Device, Undefined, DeviceAction, Skips, Ors, Clears, Takes, Leaves}
-use Rattle.wordset.specs.Words.{plus, Words, everything, one, some_below, has_some, has_link, without, shifted, sums, carries, toggled, only, ands, ors, or_any, images}
+use Rattle.wordset.specs.Words.{plus, Words, all_words, one, some_below, has_some, has_link, without, shifted, sums, carries, toggled, only, ands, ors, or_any, images}
 use Rattle.processor.specs.Machine.{steps_pointer, next_pc}
 use Rattle.domain.specs.Facts.{Ac, Cell, Fact, Place, narrowed, words_in, is_routine}
-use Rattle.domain.specs.Changes.{moved, strongly_updated, weakly_updated, copied, with_equations, with_mq, with_link, with_offsets, with_name}
+use Rattle.domain.specs.Changes.{moved, strongly_updated, weakly_updated, copied, with_equations, with_mq, with_link, with_offsets, with_name, counted_up}
 
 -- The fact that the access sees: a stepped pointer counts up first.
 abbrev pub stepped : Bool → ℕ → Fact → Fact
@@ -45,7 +45,7 @@ goes p f changed next g = given (alive p f changed g) (Goes next g)
 -- AND: all a and v.
 abbrev pub anded : Place → ℕ → Fact → Words → List Successor
 anded pl at f p =
-    goes p f everything (one (plus at 1)) (strongly_updated Ac (ands (narrowed f Ac) (words_at pl f p)) f)
+    goes p f all_words (one (plus at 1)) (strongly_updated Ac (ands (narrowed f Ac) (words_at pl f p)) f)
 
 -- TAD with one word added moves the accumulator's equations by it; otherwise they are dropped.
 abbrev pub tad_word : Fact → Words → Option ℕ → Fact
@@ -73,7 +73,7 @@ tad_fact pl f p =
 
 -- TAD goes on at the next address.
 abbrev pub tad : Place → ℕ → Fact → Words → List Successor
-tad pl at f p = goes p f everything (one (plus at 1)) (tad_fact pl f p)
+tad pl at f p = goes p f all_words (one (plus at 1)) (tad_fact pl f p)
 
 -- ISZ of one variable: it skips where the variable was 7777, and otherwise leaves it not zero. ISZ of any other one cell
 -- counts the offsets up: the only such cell that the conditions let it write is the running routine's own entry. ISZ of
@@ -86,12 +86,12 @@ isz_case pl at f p (Some y) =
     (Goes (one (plus at 2)) (with_name (Cell y) (one 0) (moved (Cell y) 1 f))) ++
     goes p f (without 0 (shifted (narrowed f (Cell y)) 1)) (one (plus at 1))
     (with_name (Cell y) (without 0 (shifted (narrowed f (Cell y)) 1)) (moved (Cell y) 1 f))
-    else goes p f everything (one (plus at 1)) (with_offsets (λ o. if o == 0 then false else f.offsets (o - 1)) f)
+    else goes p f all_words (one (plus at 1)) (with_offsets (counted_up f.offsets) f)
 isz_case pl at f p None =
     let counted : Fact = weakly_updated p (λ y. shifted (f.set (Cell y)) 1) f in
-    given (some_below 4096 (λ y. p y && narrowed f (Cell y) 4095) && alive p f everything counted)
+    given (some_below 4096 (λ y. p y && narrowed f (Cell y) 4095) && alive p f all_words counted)
     (Goes (one (plus at 2)) counted) ++
-    given (some_below 4096 (λ y. p y && has_some (without 4095 (narrowed f (Cell y)))) && alive p f everything counted)
+    given (some_below 4096 (λ y. p y && has_some (without 4095 (narrowed f (Cell y)))) && alive p f all_words counted)
     (Goes (one (plus at 1)) counted)
 
 -- DCA: the one target takes the accumulator's words and equations, or an unknown one of several its words; then the
@@ -101,12 +101,12 @@ dca_case pl at f p (Some y) =
     goes p f (narrowed f Ac) (one (plus at 1))
     (strongly_updated Ac (one 0) (with_equations (copied y f.equations) (strongly_updated (Cell y) (narrowed f Ac) f)))
 dca_case pl at f p None =
-    goes p f everything (one (plus at 1)) (strongly_updated Ac (one 0) (weakly_updated p (λ y. narrowed f Ac) f))
+    goes p f all_words (one (plus at 1)) (strongly_updated Ac (one 0) (weakly_updated p (λ y. narrowed f Ac) f))
 
 -- JMP goes to each target; JMP I through the running routine's own entry returns.
 abbrev pub jmp : Place → Bool → ℕ → Fact → Words → List Successor
 jmp pl i c f p =
-    if i && is_routine pl.routine c then given (alive p f everything f) (Returns f) else goes p f everything p f
+    if i && is_routine pl.routine c then given (alive p f all_words f) (Returns f) else goes p f all_words p f
 
 -- The accumulator after a word of group 1.
 unfoldable pub ac_after : ℕ → ℕ → ℕ → ℕ
@@ -123,7 +123,7 @@ changes_ac w = has_bit 7 w || (has_bit 5 w || (has_bit 3 w || (has_bit 2 w || ha
 -- With IAC alone of these the equations move by one.
 abbrev pub related1 : ℕ → Fact → Fact
 related1 w f =
-    if changes_ac w then strongly_updated Ac everything f else (if has_bit 0 w then moved Ac 1 f else f)
+    if changes_ac w then strongly_updated Ac all_words f else (if has_bit 0 w then moved Ac 1 f else f)
 
 -- Group 1: the images of the words and links.
 abbrev pub operated1 : ℕ → Fact → Fact
@@ -145,7 +145,7 @@ related2 w part f =
 abbrev pub operated2 : ℕ → ℕ → Fact → ℕ → Bool → List Successor
 operated2 at w f l skip =
     let after : Fact = with_link (one l) (related2 w (part2 w f l skip) f) in
-    given (f.link l && (has_some (part2 w f l skip) && alive everything f everything after))
+    given (f.link l && (has_some (part2 w f l skip) && alive all_words f all_words after))
     (Goes (one (next_pc at skip)) after)
 
 -- Each link by itself, with and without a skip.
@@ -165,11 +165,11 @@ operated3 ClaSwp f = with_mq (one 0) (strongly_updated Ac f.mq f)
 -- Device words: a flag may be set or not, and a byte may be any.
 abbrev pub device_outcomes : ℕ → Fact → DeviceAction → List Successor
 device_outcomes at f Skips =
-    goes everything f everything (one (plus at 1)) f ++ goes everything f everything (one (plus at 2)) f
-device_outcomes at f Ors = goes everything f everything (one (plus at 1)) (strongly_updated Ac (or_any 255 (narrowed f Ac)) f)
-device_outcomes at f Clears = goes everything f everything (one (plus at 1)) (strongly_updated Ac (one 0) f)
-device_outcomes at f Takes = goes everything f everything (one (plus at 1)) (strongly_updated Ac (λ v. nat_lt v 256) f)
-device_outcomes at f Leaves = goes everything f everything (one (plus at 1)) f
+    goes all_words f all_words (one (plus at 1)) f ++ goes all_words f all_words (one (plus at 2)) f
+device_outcomes at f Ors = goes all_words f all_words (one (plus at 1)) (strongly_updated Ac (or_any 255 (narrowed f Ac)) f)
+device_outcomes at f Clears = goes all_words f all_words (one (plus at 1)) (strongly_updated Ac (one 0) f)
+device_outcomes at f Takes = goes all_words f all_words (one (plus at 1)) (strongly_updated Ac (λ v. nat_lt v 256) f)
+device_outcomes at f Leaves = goes all_words f all_words (one (plus at 1)) f
 
 -- The outcomes of an instruction at an address. A HLT at a stop has none.
 abbrev pub outcomes_of : Place → Fact → ℕ → Meaning → List Successor
@@ -178,11 +178,11 @@ outcomes_of pl f at (Tad i c) = tad pl at (stepped i c f) (targets pl i c f)
 outcomes_of pl f at (Isz i c) = isz_case pl at (stepped i c f) (targets pl i c f) (only (targets pl i c f))
 outcomes_of pl f at (Dca i c) = dca_case pl at (stepped i c f) (targets pl i c f) (only (targets pl i c f))
 outcomes_of pl f at (Jms i c) =
-    given (alive (targets pl i c f) (stepped i c f) everything (stepped i c f)) (CallsTo (targets pl i c f) (stepped i c f))
+    given (alive (targets pl i c f) (stepped i c f) all_words (stepped i c f)) (CallsTo (targets pl i c f) (stepped i c f))
 outcomes_of pl f at (Jmp i c) = jmp pl i c (stepped i c f) (targets pl i c f)
-outcomes_of pl f at (Group1 w) = goes everything f everything (one (plus at 1)) (operated1 w f)
+outcomes_of pl f at (Group1 w) = goes all_words f all_words (one (plus at 1)) (operated1 w f)
 outcomes_of pl f at (Group2 w) = if is_halt w && pl.declaration.stop at then [] else all_operated2 at w f
-outcomes_of pl f at (Group3 o) = goes everything f everything (one (plus at 1)) (operated3 o f)
+outcomes_of pl f at (Group3 o) = goes all_words f all_words (one (plus at 1)) (operated3 o f)
 outcomes_of pl f at (Device action) = device_outcomes at f action
 outcomes_of pl f at Undefined = []
 

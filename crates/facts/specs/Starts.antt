@@ -52,9 +52,9 @@ holds_before image f =
 abbrev pub AreTapeWords : Image → Type 0
 AreTapeWords image = (a w : ℕ) → image a ≡ Some w → w < 4096
 
--- The fact tracks no cell past the last.
+-- The fact tracks no cell past the last: there it allows every word.
 abbrev pub TracksWords : Fact → Type 0
-TracksWords f = (a v : ℕ) → 4096 ≤ a → f.set (Cell a) v ≡ true
+TracksWords f = (a v : ℕ) → 4096 ≤ a → v < 4096 → f.set (Cell a) v ≡ true
 
 -- The test is true exactly where the fact holds of every start.
 abbrev pub StartLaw : Type 0

@@ -1,14 +1,12 @@
 //! What is asked of one word at the address of a fact, each condition by itself.
 
 ghost use Rattle.std.specs.Prelude.{ℕ, ◌≡◌, ◌↔◌, true, IsTrue, MatchOption, IfOk, OnOk, IfErr};
-ghost use Rattle.wordset.specs.Words.{SameWords};
 ghost use Rattle.wordset.specs.Lanes.{words};
 ghost use Rattle.instruct.specs.declared.Instruction.TheVariants.{Operate2};
 ghost use Rattle.instruct.specs.Instructions.{kind_of, operation_of};
 ghost use Rattle.policy.specs.Rules.{IsSupported, HaltsDeclared};
 ghost use Rattle.domain.specs.Facts.{possible};
 ghost use Rattle.facts.specs.Outcomes.{meaning_at, outcomes_at};
-ghost use Rattle.facts.specs.Agreeing.{AgreeingSuccessors};
 ghost use Rattle.facts.specs.Conditions.{CountsItsReturn, KeepsConditions, BreaksFirst, WritesAreDeclared, EntriesAreKept, WritesAreListed, ReadsAreListed, calls, is_call, jumps, called, calls_through_index, returned_through};
 ghost use Rattle.domain.specs.Meaning.{meaning};
 ghost use Rattle.facts.specs.Places.{place_of, writes_of};
@@ -46,7 +44,7 @@ impl<A: Allocator> Place<'_, A> {
     /// The words that are possible at the address of a fact: a variable's narrowed set, else the
     /// tape's word.
     pub fn possible_words(&self, fact: &Fact, at: Word) -> WordSet
-        ensures { SameWords (words result) (possible (place_of self.now) (meaning fact.now) at) }
+        ensures { words result ≡ possible (place_of self.now) (meaning fact.now) at }
     {
         if self.declaration.is_variable(at) {
             return narrowed(fact, &Location::Cell(at));
@@ -179,8 +177,8 @@ impl<A: Allocator> Place<'_, A> {
 
     /// The cells that a word may call: the targets of a JMS; else none.
     pub fn calls(&self, fact: &Fact, at: Word, word: Word) -> WordSet
-        ensures { SameWords (words result) (called (place_of self.now) (meaning fact.now)
-            (meaning_at (place_of self.now) at word)) }
+        ensures { words result ≡ called (place_of self.now) (meaning fact.now)
+            (meaning_at (place_of self.now) at word) }
     {
         if !self.is_call(word) {
             return WordSet::empty();
@@ -259,8 +257,7 @@ pub fn post<'a, A: Allocator>(
     scratch: &'a mut Scratch,
 ) -> Result<Outcomes<'a>, Condition>
     ensures outcomes { IfOk result (λ given.
-        AgreeingSuccessors (slots given.all) (outcomes_at (place_of place.now) (meaning fact.now) at
-        word)) }
+        slots given.all ≡ outcomes_at (place_of place.now) (meaning fact.now) at word) }
     ensures kept { OnOk result (KeepsConditions (place_of place.now) (writes_of place.now.routine)
         (meaning fact.now) at (meaning_at (place_of place.now) at word)) }
     ensures broken { IfErr result (BreaksFirst (place_of place.now) (writes_of place.now.routine)

@@ -1,13 +1,12 @@
 //! What happens to what is known: a word that counts up or takes a new value, one of several cells
 //! that changes.
 
-ghost use Rattle.std.specs.Prelude.{◌≡◌, ◌≤◌, ◌+◌, ◌-◌, ◌==◌, ◌∷◌, [], if◌then◌else◌, false, map, length};
+ghost use Rattle.std.specs.Prelude.{◌≡◌, ◌≤◌, ◌+◌, ◌∷◌, [], map, length};
 ghost use Rattle.wordset.specs.Words.{one, shifted};
 ghost use Rattle.wordset.specs.Lanes.{words};
 ghost use Rattle.wordset.specs.Links.{links_of};
 ghost use Rattle.domain.specs.Facts.{Ac, Cell};
-ghost use Rattle.domain.specs.Changes.{copied, moved, strongly_updated, weakly_updated, with_equations, with_name, with_mq, with_link, with_offsets};
-ghost use Rattle.domain.specs.Same.{Agree};
+ghost use Rattle.domain.specs.Changes.{copied, moved, strongly_updated, weakly_updated, with_equations, with_name, with_mq, with_link, with_offsets, counted_up};
 ghost use Rattle.domain.specs.Meaning.{equation_of, offsets_of};
 ghost use Rattle.facts.specs.Knowing.{fact_of_state, IsUnchanged};
 
@@ -29,7 +28,7 @@ impl<'a> AbstractState<'a> {
         requires pointer { IsUnchanged self.now.pointer }
         requires target { IsUnchanged self.now.target }
         requires room { length self.now.equations.now ≤ 32 }
-        ensures same { Agree (fact_of_state result) (moved (Cell cell) 1 (fact_of_state self.now)) }
+        ensures same { fact_of_state result ≡ moved (Cell cell) 1 (fact_of_state self.now) }
         ensures target { IsUnchanged result.target }
         ensures len { length result.equations.now ≤ length self.now.equations.now }
     {
@@ -49,7 +48,7 @@ impl<'a> AbstractState<'a> {
     #[tactic(auto, using(crate::proofs::ChangingLemmas::assigned_ac))]
     pub(crate) fn with_ac(&self, set: &'a WordSet, list: &'a mut Equations) -> AbstractState<'a>
         requires room { length self.now.equations.now ≤ 64 }
-        ensures same { Agree (fact_of_state result) (strongly_updated Ac (words set.now) (fact_of_state self.now)) }
+        ensures same { fact_of_state result ≡ strongly_updated Ac (words set.now) (fact_of_state self.now) }
         ensures target { result.target ≡ self.now.target }
         ensures len { length result.equations.now ≤ length self.now.equations.now }
     {
@@ -71,8 +70,7 @@ impl<'a> AbstractState<'a> {
     ) -> AbstractState<'a>
         requires target { IsUnchanged self.now.target }
         requires room { length self.now.equations.now ≤ 32 }
-        ensures same { Agree (fact_of_state result)
-            (strongly_updated (Cell cell) (words set.now) (fact_of_state self.now)) }
+        ensures same { fact_of_state result ≡ strongly_updated (Cell cell) (words set.now) (fact_of_state self.now) }
         ensures len { length result.equations.now ≤ length self.now.equations.now }
     {
         free(&Location::Cell(cell), self.equations, list);
@@ -87,9 +85,8 @@ impl<'a> AbstractState<'a> {
     pub(crate) fn counted(&self, cells: &'a WordSet, list: &'a mut Equations) -> AbstractState<'a>
         requires target { IsUnchanged self.now.target }
         requires room { length self.now.equations.now ≤ 32 }
-        ensures same { Agree (fact_of_state result)
-            (weakly_updated (words cells.now) (λ y. shifted ((fact_of_state self.now).set (Cell y)) 1)
-            (fact_of_state self.now)) }
+        ensures same { fact_of_state result ≡ weakly_updated (words cells.now) (λ y. shifted ((fact_of_state self.now).set (Cell y)) 1)
+            (fact_of_state self.now) }
         ensures len { length result.equations.now ≤ length self.now.equations.now }
     {
         free_of_cells(cells, self.equations, list);
@@ -109,8 +106,7 @@ impl<'a> AbstractState<'a> {
     ) -> AbstractState<'a>
         requires target { IsUnchanged self.now.target }
         requires room { length self.now.equations.now ≤ 32 }
-        ensures same { Agree (fact_of_state result)
-            (weakly_updated (words cells.now) (λ y. words set.now) (fact_of_state self.now)) }
+        ensures same { fact_of_state result ≡ weakly_updated (words cells.now) (λ y. words set.now) (fact_of_state self.now) }
         ensures len { length result.equations.now ≤ length self.now.equations.now }
     {
         free_of_cells(cells, self.equations, list);
@@ -130,8 +126,7 @@ impl<'a> AbstractState<'a> {
     ) -> AbstractState<'a>
         requires target { IsUnchanged self.now.target }
         requires room { length self.now.equations.now ≤ 32 }
-        ensures same { Agree (fact_of_state result)
-            (with_name (Cell cell) (words set.now) (moved (Cell cell) 1 (fact_of_state self.now))) }
+        ensures same { fact_of_state result ≡ with_name (Cell cell) (words set.now) (moved (Cell cell) 1 (fact_of_state self.now)) }
         ensures len { length result.equations.now ≤ length self.now.equations.now }
     {
         let one = Word::ZERO.increment();
@@ -144,9 +139,8 @@ impl<'a> AbstractState<'a> {
     }
 
     /// What is known, unchanged.
-    #[tactic(auto, using(crate::proofs::AgreeLemmas::agree_refl))]
     pub(crate) fn same(&self) -> AbstractState<'a>
-        ensures same { Agree (fact_of_state result) (fact_of_state self.now) }
+        ensures same { fact_of_state result ≡ fact_of_state self.now }
         ensures target { result.target ≡ self.now.target }
         ensures len { length result.equations.now ≤ length self.now.equations.now }
     {
@@ -154,17 +148,16 @@ impl<'a> AbstractState<'a> {
     }
 
     /// With other words of the accumulator; its equations stay.
-    #[tactic(auto, using(crate::proofs::ChangingLemmas::holding_agrees))]
+    #[tactic(auto, using(crate::proofs::ChangingLemmas::holding_is))]
     pub(crate) fn holding(self, set: &'a WordSet) -> AbstractState<'a>
-        ensures { Agree (fact_of_state result) (with_name Ac (words set.now) (fact_of_state self.entry)) }
+        ensures { fact_of_state result ≡ with_name Ac (words set.now) (fact_of_state self.entry) }
     {
         AbstractState { ac: set, ..self }
     }
 
     /// With other links.
-    #[tactic(auto, using(crate::proofs::ChangingLemmas::link_agrees))]
     pub(crate) fn with_link(self, links: Links) -> AbstractState<'a>
-        ensures { Agree (fact_of_state result) (with_link (links_of links) (fact_of_state self.entry)) }
+        ensures { fact_of_state result ≡ with_link (links_of links) (fact_of_state self.entry) }
     {
         AbstractState {
             link: links,
@@ -173,28 +166,23 @@ impl<'a> AbstractState<'a> {
     }
 
     /// With other words of MQ.
-    #[tactic(auto, using(crate::proofs::ChangingLemmas::mq_agrees))]
     pub(crate) fn with_mq(self, set: &'a WordSet) -> AbstractState<'a>
-        ensures { Agree (fact_of_state result) (with_mq (words set.now) (fact_of_state self.entry)) }
+        ensures { fact_of_state result ≡ with_mq (words set.now) (fact_of_state self.entry) }
     {
         AbstractState { mq: set, ..self }
     }
 
     /// With other offsets.
-    #[tactic(auto, using(crate::proofs::ChangingLemmas::offsets_agree))]
     pub(crate) fn with_offsets(self, offsets: CountedOffsets) -> AbstractState<'a>
-        ensures { Agree (fact_of_state result)
-            (with_offsets (offsets_of offsets) (fact_of_state self.entry)) }
+        ensures { fact_of_state result ≡ with_offsets (offsets_of offsets) (fact_of_state self.entry) }
     {
         AbstractState { offsets, ..self }
     }
 
     /// After the running routine's return word went up by one.
-    #[tactic(auto, using(crate::proofs::ChangingLemmas::later_agrees))]
     pub(crate) fn returning_later(&self) -> AbstractState<'a>
-        ensures { Agree (fact_of_state result)
-            (with_offsets (λ o. if o == 0 then false else (fact_of_state self.now).offsets (o - 1))
-            (fact_of_state self.now)) }
+        ensures { fact_of_state result ≡ with_offsets (counted_up (fact_of_state self.now).offsets)
+            (fact_of_state self.now) }
     {
         AbstractState {
             offsets: self.offsets.counted(),
@@ -211,8 +199,8 @@ impl<'a> AbstractState<'a> {
         list: &'a mut Equations,
     ) -> AbstractState<'a>
         requires room { length self.now.equations.now ≤ 32 }
-        ensures { Agree (fact_of_state result) (with_name Ac (words set.now)
-            (moved Ac k (fact_of_state self.now))) }
+        ensures { fact_of_state result ≡ with_name Ac (words set.now)
+            (moved Ac k (fact_of_state self.now)) }
     {
         raise(&Location::Accumulator, k, self.equations, list);
         AbstractState {
@@ -225,7 +213,7 @@ impl<'a> AbstractState<'a> {
     /// After the accumulator became the sum of a cell's word and another, where these words of it
     /// are left.
     #[inline(never)]
-    #[tactic(auto, using(crate::proofs::ChangingLemmas::summed_agrees))]
+    #[tactic(auto, using(crate::proofs::ChangingLemmas::summed_is))]
     pub(crate) fn summed(
         &self,
         cell: Word,
@@ -234,9 +222,9 @@ impl<'a> AbstractState<'a> {
         list: &'a mut Equations,
     ) -> AbstractState<'a>
         requires room { length self.now.equations.now ≤ 32 }
-        ensures { Agree (fact_of_state result) (with_equations
+        ensures { fact_of_state result ≡ with_equations
             (record { left = Ac; right = Cell cell; more = more } ∷ [])
-            (strongly_updated Ac (words set.now) (fact_of_state self.now))) }
+            (strongly_updated Ac (words set.now) (fact_of_state self.now)) }
     {
         list.clear();
         list.push(Equation {
@@ -253,7 +241,6 @@ impl<'a> AbstractState<'a> {
     }
 
     /// With what the equations of another say of the accumulator, said of a cell, before its own.
-    #[tactic(auto, using(crate::proofs::ChangingLemmas::told_agrees))]
     pub(crate) fn told(
         &self,
         cell: Word,
@@ -261,8 +248,8 @@ impl<'a> AbstractState<'a> {
         list: &'a mut Equations,
     ) -> AbstractState<'a>
         requires { length equations.now + length self.now.equations.now ≤ 64 }
-        ensures same { Agree (fact_of_state result) (with_equations
-            (copied cell (map equation_of equations.now)) (fact_of_state self.now)) }
+        ensures same { fact_of_state result ≡ with_equations
+            (copied cell (map equation_of equations.now)) (fact_of_state self.now) }
         ensures len { length result.equations.now ≤ length equations.now +
             length self.now.equations.now }
     {

@@ -1,7 +1,6 @@
 //! The cells that one word at the address of a fact may read or write, and what is asked of them.
 
 ghost use Rattle.std.specs.Prelude.{ℕ, ◌≡◌, ◌<◌, ◌==◌, ◌&&◌, ◌||◌, ◌↔◌, ◌⊎◌, IsTrue, Some, true, false};
-ghost use Rattle.wordset.specs.Words.{SameWords};
 ghost use Rattle.wordset.specs.Lanes.{words};
 ghost use Rattle.instruct.specs.declared.Instruction.TheVariants.{Memory};
 ghost use Rattle.instruct.specs.Instructions.{kind_of, operation_of};
@@ -71,8 +70,7 @@ impl<A: Allocator> Place<'_, A> {
 
     /// The targets of a memory reference at the address of a fact.
     pub(crate) fn targets_at(&self, fact: &Fact, indirect: bool, named: Word) -> WordSet
-        ensures { SameWords (words result)
-            (targets (place_of self.now) indirect named (meaning fact.now)) }
+        ensures { words result ≡ targets (place_of self.now) indirect named (meaning fact.now) }
     {
         if !indirect {
             return WordSet::one(named);
@@ -182,9 +180,8 @@ impl<A: Allocator> Place<'_, A> {
 /// The cells that a word at the address of a fact may read, wherever the fact holds: an indirect
 /// reference's pointer, and the operands of AND, TAD and ISZ.
 pub fn reads<A: Allocator>(fact: &Fact, at: Word, word: Word, place: &Place<'_, A>) -> WordSet
-    ensures { SameWords (words result)
-        (may_read (place_of place.now) (meaning fact.now)
-        (meaning_at (place_of place.now) at word)) }
+    ensures { words result ≡ may_read (place_of place.now) (meaning fact.now)
+        (meaning_at (place_of place.now) at word) }
 {
     if !place.is_reference(word) {
         return WordSet::empty();
@@ -198,9 +195,8 @@ pub fn reads<A: Allocator>(fact: &Fact, at: Word, word: Word, place: &Place<'_, 
 /// The cells that a word at the address of a fact may write, wherever the fact holds: the targets of
 /// ISZ and DCA, and a pointer that is stepped. The cell that a JMS itself writes isn't among them.
 pub fn writes<A: Allocator>(fact: &Fact, at: Word, word: Word, place: &Place<'_, A>) -> WordSet
-    ensures { SameWords (words result)
-        (may_write (place_of place.now) (meaning fact.now)
-        (meaning_at (place_of place.now) at word)) }
+    ensures { words result ≡ may_write (place_of place.now) (meaning fact.now)
+        (meaning_at (place_of place.now) at word) }
 {
     if !place.is_reference(word) {
         return WordSet::empty();

@@ -2,15 +2,12 @@
 
 ghost use Rattle.std.specs.Prelude.{false, ◌≡◌, ◌≤◌, ◌++◌, List, [], length};
 ghost use Rattle.instruct.specs.declared.Instruction.TheVariants.{Iot};
-ghost use Rattle.wordset.specs.Words.{SameWords, only, one};
+ghost use Rattle.wordset.specs.Words.{only, one};
 ghost use Rattle.wordset.specs.Lanes.{words};
 ghost use Rattle.instruct.specs.Bits.{is_indirect, named_cell};
 ghost use Rattle.instruct.specs.Instructions.{kind_of, meaning_of, operation_of, reference_at, Group2};
 ghost use Rattle.domain.specs.Facts as said;
-ghost use Rattle.facts.specs.Outcomes as told;
 ghost use Rattle.facts.specs.Outcomes.{stepped, targets, all_operated2, outcomes_of, outcomes_at};
-ghost use Rattle.domain.specs.Same.{Agree};
-ghost use Rattle.facts.specs.Agreeing.{AgreeingSuccessors};
 ghost use Rattle.domain.specs.Meaning.{meaning};
 ghost use Rattle.facts.specs.Knowing.{fact_of_state, IsUnchanged};
 ghost use Rattle.facts.specs.Places.{place_of};
@@ -40,9 +37,7 @@ fn nowhere<'a>() -> Outcomes<'a>
 
 /// Two outcomes, so far as they are there.
 fn two<'a>(successors: (Option<Successor<'a>>, Option<Successor<'a>>)) -> Outcomes<'a>
-    ensures { (given : List told.Successor) → AgreeingSuccessors
-        (slot successors.entry.0 ++ slot successors.entry.1) given →
-        AgreeingSuccessors (slots result.all) given }
+    ensures { slots result.all ≡ slot successors.entry.0 ++ slot successors.entry.1 }
 {
     let (first, second) = successors;
     Outcomes {
@@ -59,8 +54,7 @@ fn branches<'a>(
     scratch: &'a mut Scratch,
 ) -> Outcomes<'a>
     requires room { length state.now.equations.now ≤ 32 }
-    ensures { (f : said.Fact) → Agree (fact_of_state state.now) f →
-        AgreeingSuccessors (slots result.all) (all_operated2 at word f) }
+    ensures { slots result.all ≡ all_operated2 at word (fact_of_state state.now) }
 {
     let first = branch(at, word, state, Link::CLEAR, true, &mut scratch.one);
     let second = branch(at, word, state, Link::CLEAR, false, &mut scratch.two);
@@ -73,7 +67,7 @@ fn branches<'a>(
 
 /// The one target of a reference, where it has one and no other: the named cell of a direct one.
 fn single_target(indirect: bool, named: Word, targets: &WordSet) -> Option<Word>
-    requires { indirect ≡ false → SameWords (words targets.now) (one named) }
+    requires { indirect ≡ false → words targets.now ≡ one named }
     ensures { result ≡ only (words targets.now) }
 {
     if indirect {
@@ -95,9 +89,8 @@ impl<A: Allocator> Place<'_, A> {
         requires pointer { IsUnchanged state.now.pointer }
         requires target { IsUnchanged state.now.target }
         requires room { length state.now.equations.now ≤ 32 }
-        ensures { (f : said.Fact) → Agree (fact_of_state state.now) f →
-            AgreeingSuccessors (slots result.all) (outcomes_of (place_of self.now) f at
-            (reference_at (operation_of word) word at)) }
+        ensures { slots result.all ≡ outcomes_of (place_of self.now) (fact_of_state state.now) at
+            (reference_at (operation_of word) word at) }
     {
         let indirect = refers_indirectly(word);
         let named = target(word, at);
@@ -127,11 +120,11 @@ impl<A: Allocator> Place<'_, A> {
         requires target { IsUnchanged seen.now.target }
         requires room { length seen.now.equations.now ≤ 32 }
         ensures { (f : said.Fact) →
-            Agree (fact_of_state seen.now) (stepped (is_indirect word) (named_cell word at) f) →
-            SameWords (words reached.now)
-            (targets (place_of self.now) (is_indirect word) (named_cell word at) f) →
-            AgreeingSuccessors (slots result.all) (outcomes_of (place_of self.now) f at
-            (reference_at (operation_of word) word at)) }
+            fact_of_state seen.now ≡ stepped (is_indirect word) (named_cell word at) f →
+            words reached.now ≡
+            targets (place_of self.now) (is_indirect word) (named_cell word at) f →
+            slots result.all ≡ outcomes_of (place_of self.now) f at
+            (reference_at (operation_of word) word at) }
     {
         let indirect = refers_indirectly(word);
         let named = target(word, at);
@@ -157,8 +150,8 @@ impl<A: Allocator> Place<'_, A> {
         scratch: &'a mut Scratch,
     ) -> Outcomes<'a>
         requires room { length state.now.equations.now ≤ 32 }
-        ensures { (f : said.Fact) → Agree (fact_of_state state.now) f →
-            AgreeingSuccessors (slots result.all) (outcomes_of (place_of self.now) f at (Group2 word)) }
+        ensures { slots result.all ≡
+            outcomes_of (place_of self.now) (fact_of_state state.now) at (Group2 word) }
     {
         if halts(word) && self.declaration.is_stop(at) {
             return nowhere();
@@ -176,8 +169,7 @@ impl<A: Allocator> Place<'_, A> {
     ) -> Outcomes<'a>
         requires kind { kind_of (meaning_of (place_of self.now).declaration.profile at word) ≡ Iot }
         requires room { length state.now.equations.now ≤ 32 }
-        ensures { (f : said.Fact) → Agree (fact_of_state state.now) f →
-            AgreeingSuccessors (slots result.all) (outcomes_at (place_of self.now) f at word) }
+        ensures { slots result.all ≡ outcomes_at (place_of self.now) (fact_of_state state.now) at word }
     {
         match DeviceOperation::of(word, self.declaration.profile()) {
             Some(operation) => {
@@ -202,8 +194,7 @@ pub fn outcomes<'a, A: Allocator>(
     place: &Place<'_, A>,
     scratch: &'a mut Scratch,
 ) -> Outcomes<'a>
-    ensures { AgreeingSuccessors (slots result.all)
-        (outcomes_at (place_of place.now) (meaning fact.now) at word) }
+    ensures { slots result.all ≡ outcomes_at (place_of place.now) (meaning fact.now) at word }
 {
     let state = AbstractState::of(fact);
     match decode(word, place.declaration.profile()) {

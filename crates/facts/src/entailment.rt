@@ -1,7 +1,6 @@
 //! Whether facts entail one another, and which hold of every start.
 
 ghost use Rattle.std.specs.Prelude.{◌≡◌, ◌<◌, ◌↔◌, IsTrue, None, map, true};
-ghost use Rattle.wordset.specs.Words.{SameWords};
 ghost use Rattle.wordset.specs.Lanes.{words};
 ghost use Rattle.bin_tape.specs.Image.{HoldsWords};
 ghost use Rattle.peripherals.specs.Loading.{image_of};
@@ -23,9 +22,8 @@ use wordset::WordSet;
 
 /// The words that the equations of a fact leave to a name: its set met with its partners' sets,
 /// shifted along the equations, one step only.
-#[tactic(auto, using(crate::proofs::AgreeLemmas::narrowed_agree))]
 pub fn narrowed(fact: &Fact, name: &Location) -> WordSet
-    ensures { SameWords (words result) (narrowed (meaning fact.now) (location_of name.now)) }
+    ensures { words result ≡ narrowed (meaning fact.now) (location_of name.now) }
 {
     AbstractState::of(fact).narrowed(name)
 }
@@ -139,6 +137,7 @@ pub(crate) fn word_of(image: &Image, at: Word) -> Option<Word>
 fn may_each_start(cells: &TrackedCells, image: &Image) -> bool
     ensures { IsTrue result ↔ MayStart (image_of image.now) (tracked_cells cells.now) }
 {
+    look_into(*image);
     for at in 0..cells.len() {
         let tracked = cells.get(at);
         if !may_start(&tracked.set, word_of(image, tracked.cell)) {

@@ -1,7 +1,7 @@
 //! Words that are worked out into places which are lent for them.
 
 ghost use Rattle.std.specs.Prelude.{◌≡◌};
-ghost use Rattle.wordset.specs.Words.{SameWords, one, all_words, has_some, shifted, without};
+ghost use Rattle.wordset.specs.Words.{one, all_words, has_some, shifted, without};
 ghost use Rattle.wordset.specs.Lanes.{words};
 
 use word12::Word;
@@ -42,7 +42,7 @@ pub(crate) fn put_all(place: &mut WordSet) -> &WordSet
 
 /// Puts what counting a cell up by one makes of its words, but for the word 0, into its place.
 pub(crate) fn put_counted<'b>(place: &'b mut WordSet, old: &'b WordSet) -> &'b WordSet
-    ensures { SameWords (words result.now) (without 0 (shifted (words old.now) 1)) }
+    ensures { words result.now ≡ without 0 (shifted (words old.now) 1) }
 {
     *place = old.shift(Word::ZERO.increment());
     place.remove(Word::ZERO);

@@ -99,8 +99,8 @@ pub fn start_law()
     ensures { StartLaw }
 {}
 
-/// Facts that agree on all words below 4096, on their equations as a set and on their offsets entail
-/// the same facts, and are entailed by the same.
+/// Facts with the same sets and the same equations, in whatever order, entail the same facts, and are
+/// entailed by the same.
 #[tactic(auto, using(crate::proofs::Alike::same_law))]
 pub fn same_law()
     ensures { SameLaw }

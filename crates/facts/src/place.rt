@@ -1,7 +1,7 @@
 //! Where a fact stands: the tape, the declaration and the running routine.
 
 ghost use Rattle.std.specs.Prelude.{ℕ, ◌≡◌, ◌<◌, ◌||◌, ◌&&◌};
-ghost use Rattle.wordset.specs.Words.{SameWords, only, shifted};
+ghost use Rattle.wordset.specs.Words.{only, shifted};
 ghost use Rattle.wordset.specs.Lanes.{words};
 ghost use Rattle.domain.specs.Facts.{is_routine, own_words, words_in, tape_word};
 ghost use Rattle.facts.specs.Outcomes.{words_at};
@@ -44,7 +44,7 @@ pub struct Place<'a, A: Allocator> {
 
 /// The tape's word, or all words where the tape has none, in a place for them.
 fn tape_words(word: Option<Word>, place: &mut WordSet) -> &WordSet
-    ensures { SameWords (words result.now) (tape_word word) }
+    ensures { words result.now ≡ tape_word word }
 {
     match word {
         None => put_all(place),
@@ -61,8 +61,8 @@ pub(crate) fn union_if(chosen: bool, set: &WordSet, more: &WordSet) -> WordSet
 
 /// Adds to a set the words that are k more than those of another, where it is chosen.
 fn add_shifted_if(chosen: bool, more: &WordSet, k: Word, set: &mut WordSet)
-    ensures { (v : ℕ) → v < 4096 →
-        words set.new v ≡ (words set.old v || (chosen && shifted (words more.now) k v)) }
+    ensures { (v : ℕ) → words set.new v ≡
+        (words set.old v || (chosen && shifted (words more.now) k v)) }
 {
     if chosen {
         *set = set.union(&more.shift(k));
@@ -93,8 +93,8 @@ impl<A: Allocator> Place<'_, A> {
     /// The words that the running routine's entry may hold, in a place for them: a site, one more, and
     /// an offset.
     fn own_words<'b>(&self, state: &AbstractState<'_>, place: &'b mut WordSet) -> &'b WordSet
-        ensures { SameWords (words result.now) (own_words (place_of self.now).sites
-            (fact_of_state state.now)) }
+        ensures { words result.now ≡ own_words (place_of self.now).sites
+            (fact_of_state state.now) }
     {
         let sites = self.sites();
         let offsets = state.offsets();
@@ -113,8 +113,8 @@ impl<A: Allocator> Place<'_, A> {
         cell: Word,
         place: &'b mut WordSet,
     ) -> &'b WordSet
-        ensures { SameWords (words result.now) (words_in (place_of self.now) (fact_of_state state.now)
-            cell) }
+        ensures { words result.now ≡ words_in (place_of self.now) (fact_of_state state.now)
+            cell }
     {
         if self.declaration.is_variable(cell) {
             return state.left_in(&Location::Cell(cell), place);
@@ -138,8 +138,7 @@ impl<A: Allocator> Place<'_, A> {
         place: &'b mut WordSet,
     ) -> &'b WordSet
         requires { single.now ≡ only (words cells.now) }
-        ensures { SameWords (words result.now)
-            (words_at (place_of self.now) (fact_of_state state.now) (words cells.now)) }
+        ensures { words result.now ≡ words_at (place_of self.now) (fact_of_state state.now) (words cells.now) }
     {
         match single {
             Some(cell) => self.words_in(state, *cell, place),
@@ -155,8 +154,7 @@ impl<A: Allocator> Place<'_, A> {
         cells: &WordSet,
         place: &'b mut WordSet,
     ) -> &'b WordSet
-        ensures { SameWords (words result.now)
-            (words_at (place_of self.now) (fact_of_state state.now) (words cells.now)) }
+        ensures { words result.now ≡ words_at (place_of self.now) (fact_of_state state.now) (words cells.now) }
     {
         let mut one = WordSet::all();
         let mut set = WordSet::empty();

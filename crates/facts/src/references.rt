@@ -1,14 +1,12 @@
 //! The outcomes of the words that refer to memory.
 
 ghost use Rattle.std.specs.Prelude.{◌≡◌, ◌≤◌, ◌++◌, ◌&&◌, true, false, length, Some, None};
-ghost use Rattle.wordset.specs.Words.{Words, SameWords, everything, only, sums, some_below};
+ghost use Rattle.wordset.specs.Words.{Words, all_words, only, sums, some_below};
 ghost use Rattle.wordset.specs.Lanes.{words};
 ghost use Rattle.processor.specs.Machine.{steps_pointer};
 ghost use Rattle.domain.specs.Facts as said;
 ghost use Rattle.domain.specs.Facts.{Ac, Cell, narrowed, is_routine};
 ghost use Rattle.facts.specs.Outcomes.{targets, alive, given, anded, tad_word, tad_case, tad, dca_case, isz_case, jmp, CallsTo};
-ghost use Rattle.domain.specs.Same.{Agree};
-ghost use Rattle.facts.specs.Agreeing.{AgreeingSuccessors};
 ghost use Rattle.facts.specs.Knowing.{fact_of_state, IsUnchanged};
 ghost use Rattle.facts.specs.Places.{place_of};
 ghost use Rattle.facts.specs.Showing.{has_last_or_other};
@@ -46,9 +44,8 @@ pub(crate) fn deposit<'a>(
     requires single { single.now ≡ only (words targets.now) }
     requires target { IsUnchanged state.now.target }
     requires room { length state.now.equations.now ≤ 32 }
-    ensures { (place : said.Place) (f : said.Fact) (p : Words) → Agree (fact_of_state state.now) f →
-        SameWords (words targets.now) p →
-        AgreeingSuccessors (slot result) (dca_case place at f p (only p)) }
+    ensures { (place : said.Place) → slot result ≡
+        dca_case place at (fact_of_state state.now) (words targets.now) (only (words targets.now)) }
 {
     let held = state.left_in(&Location::Accumulator, &mut scratch.held);
     let zero = put_one(&mut scratch.ac, Word::ZERO);
@@ -80,10 +77,9 @@ pub(crate) fn count_one<'a>(
 ) -> (Option<Successor<'a>>, Option<Successor<'a>>)
     requires target { IsUnchanged state.now.target }
     requires room { length state.now.equations.now ≤ 32 }
-    ensures { (place : said.Place) (f : said.Fact) (p : Words) → place.declaration.variable cell ≡
-        true →
-        Agree (fact_of_state state.now) f → SameWords (words targets.now) p →
-        AgreeingSuccessors (slot result.0 ++ slot result.1) (isz_case place at f p (Some cell)) }
+    ensures { (place : said.Place) → place.declaration.variable cell ≡ true →
+        slot result.0 ++ slot result.1 ≡
+        isz_case place at (fact_of_state state.now) (words targets.now) (Some cell) }
 {
     let held = state.left_in(&Location::Accumulator, &mut scratch.held);
     let old = state.left_in(&Location::Cell(cell), &mut scratch.read);
@@ -107,10 +103,8 @@ pub(crate) fn count_own<'a>(
     cell: Word,
     scratch: &'a mut SuccessorScratch,
 ) -> Option<Successor<'a>>
-    ensures { (place : said.Place) (f : said.Fact) (p : Words) → place.declaration.variable cell ≡
-        false →
-        Agree (fact_of_state state.now) f → SameWords (words targets.now) p →
-        AgreeingSuccessors (slot result) (isz_case place at f p (Some cell)) }
+    ensures { (place : said.Place) → place.declaration.variable cell ≡ false →
+        slot result ≡ isz_case place at (fact_of_state state.now) (words targets.now) (Some cell) }
 {
     let held = state.left_in(&Location::Accumulator, &mut scratch.held);
     let next = address_after(at, &mut scratch.next);
@@ -153,9 +147,8 @@ pub(crate) fn count_several<'a>(
 ) -> (Option<Successor<'a>>, Option<Successor<'a>>)
     requires target { IsUnchanged state.now.target }
     requires room { length state.now.equations.now ≤ 32 }
-    ensures { (place : said.Place) (f : said.Fact) (p : Words) → Agree (fact_of_state state.now) f →
-        SameWords (words targets.now) p →
-        AgreeingSuccessors (slot result.0 ++ slot result.1) (isz_case place at f p None) }
+    ensures { (place : said.Place) → slot result.0 ++ slot result.1 ≡
+        isz_case place at (fact_of_state state.now) (words targets.now) None }
 {
     let held = state.left_in(&Location::Accumulator, &mut scratch.held);
     let wraps = may_some_hold(state, targets, true);
@@ -177,9 +170,8 @@ fn after_sum<'a>(
     list: &'a mut Equations,
 ) -> AbstractState<'a>
     requires room { length state.now.equations.now ≤ 32 }
-    ensures { (f : said.Fact) (v : Words) → Agree (fact_of_state state.now) f →
-        SameWords (words set.now) (sums (narrowed f Ac) v) →
-        Agree (fact_of_state result) (tad_word f v added.now) }
+    ensures { (v : Words) → words set.now ≡ sums (narrowed (fact_of_state state.now) Ac) v →
+        fact_of_state result ≡ tad_word (fact_of_state state.now) v added.now }
 {
     match added {
         Some(word) => return state.raised_to(*word, set, list),
@@ -194,9 +186,9 @@ pub(crate) fn call<'a>(
     targets: &'a WordSet,
     scratch: &'a mut SuccessorScratch,
 ) -> Option<Successor<'a>>
-    ensures { (f : said.Fact) (p : Words) → Agree (fact_of_state state.now) f →
-        SameWords (words targets.now) p →
-        AgreeingSuccessors (slot result) (given (alive p f everything f) (CallsTo p f)) }
+    ensures { slot result ≡
+        given (alive (words targets.now) (fact_of_state state.now) all_words (fact_of_state state.now))
+        (CallsTo (words targets.now) (fact_of_state state.now)) }
 {
     let held = state.left_in(&Location::Accumulator, &mut scratch.held);
     let after = state.same();
@@ -219,8 +211,7 @@ impl<A: Allocator> Place<'_, A> {
     ) -> &'b WordSet
         requires pointer { IsUnchanged state.now.pointer }
         requires target { IsUnchanged state.now.target }
-        ensures { (f : said.Fact) → Agree (fact_of_state state.now) f →
-            SameWords (words result.now) (targets (place_of self.now) indirect named f) }
+        ensures { words result.now ≡ targets (place_of self.now) indirect named (fact_of_state state.now) }
     {
         if steps_pointer(indirect, named) {
             return state.shifted_in(&Location::Cell(named), Word::ZERO.increment(), place);
@@ -243,9 +234,7 @@ impl<A: Allocator> Place<'_, A> {
     ) -> Option<Successor<'a>>
         requires single { single.now ≡ only (words targets.now) }
         requires room { length state.now.equations.now ≤ 32 }
-        ensures { (f : said.Fact) (p : Words) → Agree (fact_of_state state.now) f →
-            SameWords (words targets.now) p →
-            AgreeingSuccessors (slot result) (anded (place_of self.now) at f p) }
+        ensures { slot result ≡ anded (place_of self.now) at (fact_of_state state.now) (words targets.now) }
     {
         let held = state.left_in(&Location::Accumulator, &mut scratch.held);
         let read: &'a WordSet = self.words_at(state, targets, single, &mut scratch.read);
@@ -267,9 +256,9 @@ impl<A: Allocator> Place<'_, A> {
         list: &'a mut Equations,
     ) -> AbstractState<'a>
         requires room { length state.now.equations.now ≤ 32 }
-        ensures { (f : said.Fact) (v : Words) → Agree (fact_of_state state.now) f →
-            SameWords (words set.now) (sums (narrowed f Ac) v) →
-            Agree (fact_of_state result) (tad_case (place_of self.now) f v target.now ac.now added.now) }
+        ensures { (v : Words) → words set.now ≡ sums (narrowed (fact_of_state state.now) Ac) v →
+            fact_of_state result ≡
+            tad_case (place_of self.now) (fact_of_state state.now) v target.now ac.now added.now }
     {
         if let Some(cell) = target {
             if let Some(word) = ac {
@@ -293,9 +282,7 @@ impl<A: Allocator> Place<'_, A> {
     ) -> Option<Successor<'a>>
         requires single { single.now ≡ only (words targets.now) }
         requires room { length state.now.equations.now ≤ 32 }
-        ensures { (f : said.Fact) (p : Words) → Agree (fact_of_state state.now) f →
-            SameWords (words targets.now) p →
-            AgreeingSuccessors (slot result) (tad (place_of self.now) at f p) }
+        ensures { slot result ≡ tad (place_of self.now) at (fact_of_state state.now) (words targets.now) }
     {
         let held = state.left_in(&Location::Accumulator, &mut scratch.held);
         let read: &'a WordSet = self.words_at(state, targets, single, &mut scratch.read);
@@ -325,9 +312,8 @@ impl<A: Allocator> Place<'_, A> {
         targets: &'a WordSet,
         scratch: &'a mut SuccessorScratch,
     ) -> Option<Successor<'a>>
-        ensures { (f : said.Fact) (p : Words) → Agree (fact_of_state state.now) f →
-            SameWords (words targets.now) p →
-            AgreeingSuccessors (slot result) (jmp (place_of self.now) indirect named f p) }
+        ensures { slot result ≡ jmp (place_of self.now) indirect named (fact_of_state state.now)
+            (words targets.now) }
     {
         let held = state.left_in(&Location::Accumulator, &mut scratch.held);
         let after = state.same();
@@ -353,10 +339,9 @@ impl<A: Allocator> Place<'_, A> {
         requires single { single.now ≡ only (words targets.now) }
         requires target { IsUnchanged state.now.target }
         requires room { length state.now.equations.now ≤ 32 }
-        ensures { (f : said.Fact) (p : Words) → Agree (fact_of_state state.now) f →
-            SameWords (words targets.now) p →
-            AgreeingSuccessors (slot result.0 ++ slot result.1)
-            (isz_case (place_of self.now) at f p (only p)) }
+        ensures { slot result.0 ++ slot result.1 ≡
+            isz_case (place_of self.now) at (fact_of_state state.now) (words targets.now)
+            (only (words targets.now)) }
     {
         match single {
             None => count_several(at, state, targets, scratch, other),

@@ -1,7 +1,7 @@
 //! The outcomes of operate words, which go on at the next address whatever memory holds.
 
 ghost use Rattle.std.specs.Prelude.{◌≡◌, ◌≤◌, ◌++◌, Some, length};
-ghost use Rattle.wordset.specs.Words.{Words, SameWords, everything, one, or_any, plus};
+ghost use Rattle.wordset.specs.Words.{all_words, one, or_any, plus};
 ghost use Rattle.wordset.specs.Lanes.{words};
 ghost use Rattle.instruct.specs.declared.Profile.TheVariants.{Pdp8E};
 ghost use Rattle.instruct.specs.declared.Instruction.TheVariants.{Operate1};
@@ -12,8 +12,6 @@ ghost use Rattle.domain.specs.Facts as said;
 ghost use Rattle.domain.specs.Facts.{Ac, narrowed};
 ghost use Rattle.domain.specs.Changes.{strongly_updated, with_mq, with_name};
 ghost use Rattle.facts.specs.Outcomes.{goes, changes_ac, related1, operated1, operated3, device_outcomes};
-ghost use Rattle.domain.specs.Same.{Agree};
-ghost use Rattle.facts.specs.Agreeing.{AgreeingSuccessors};
 ghost use Rattle.facts.specs.Knowing.{fact_of_state};
 ghost use Rattle.facts.specs.Slots.{slot};
 
@@ -34,9 +32,8 @@ pub(crate) fn go_on<'a>(
     after: AbstractState<'a>,
     next: &'a mut WordSet,
 ) -> Option<Successor<'a>>
-    ensures { (f h : said.Fact) → SameWords (words held.now) (narrowed f Ac) →
-        Agree (fact_of_state after.entry) h →
-        AgreeingSuccessors (slot result) (goes everything f everything (one (plus at 1)) h) }
+    ensures { (f h : said.Fact) → words held.now ≡ narrowed f Ac → fact_of_state after.entry ≡ h →
+        slot result ≡ goes all_words f all_words (one (plus at 1)) h }
 {
     let next = address_after(at, next);
     going(true, next, held, next, after)
@@ -71,9 +68,8 @@ fn related<'a>(
     list: &'a mut Equations,
 ) -> AbstractState<'a>
     requires room { length state.now.equations.now ≤ 32 }
-    ensures { (f : said.Fact) (s : Words) → Agree (fact_of_state state.now) f →
-        SameWords (words set.now) s →
-        Agree (fact_of_state result) (with_name Ac s (related1 word f)) }
+    ensures { fact_of_state result ≡
+        with_name Ac (words set.now) (related1 word (fact_of_state state.now)) }
 {
     if changes_accumulator(word) {
         return state.with_ac(set, list);
@@ -94,9 +90,8 @@ pub(crate) fn operate<'a>(
 ) -> Option<Successor<'a>>
     requires word { instruction_of Pdp8E word ≡ Operate1 }
     requires room { length state.now.equations.now ≤ 32 }
-    ensures { (f : said.Fact) → Agree (fact_of_state state.now) f →
-        AgreeingSuccessors (slot result) (goes everything f everything (one (plus at 1))
-        (operated1 word f)) }
+    ensures { slot result ≡ goes all_words (fact_of_state state.now) all_words (one (plus at 1))
+        (operated1 word (fact_of_state state.now)) }
 {
     let held = state.left_in(&Location::Accumulator, &mut scratch.held);
     let (images, links) = held.map_operate(word, state.link);
@@ -112,8 +107,8 @@ pub(crate) fn test_flag<'a>(
     scratch: &'a mut SuccessorScratch,
     other: &'a mut SuccessorScratch,
 ) -> (Option<Successor<'a>>, Option<Successor<'a>>)
-    ensures { (f : said.Fact) → Agree (fact_of_state state.now) f →
-        AgreeingSuccessors (slot result.0 ++ slot result.1) (device_outcomes at f Skips) }
+    ensures { slot result.0 ++ slot result.1 ≡
+        device_outcomes at (fact_of_state state.now) Skips }
 {
     let held = state.left_in(&Location::Accumulator, &mut scratch.held);
     let next = address_skipped_to(at, &mut other.next);
@@ -129,10 +124,8 @@ fn assign<'a>(
     scratch: &'a mut SuccessorScratch,
 ) -> Option<Successor<'a>>
     requires room { length state.now.equations.now ≤ 32 }
-    ensures { (f : said.Fact) (s : Words) → Agree (fact_of_state state.now) f →
-        SameWords (words set.now) s →
-        AgreeingSuccessors (slot result) (goes everything f everything (one (plus at 1))
-        (strongly_updated Ac s f)) }
+    ensures { slot result ≡ goes all_words (fact_of_state state.now) all_words (one (plus at 1))
+        (strongly_updated Ac (words set.now) (fact_of_state state.now)) }
 {
     let held = state.left_in(&Location::Accumulator, &mut scratch.held);
     let after = state.with_ac(put_set(&mut scratch.ac, set), &mut scratch.first);
@@ -141,8 +134,7 @@ fn assign<'a>(
 
 /// The accumulator's words, each with any bits of a byte.
 fn with_byte(state: &AbstractState<'_>) -> WordSet
-    ensures { (f : said.Fact) → Agree (fact_of_state state.now) f →
-        SameWords (words result) (or_any 255 (narrowed f Ac)) }
+    ensures { words result ≡ or_any 255 (narrowed (fact_of_state state.now) Ac) }
 {
     let held = state.narrowed(&Location::Accumulator);
     held.or_any(Word::from_byte(0o377))
@@ -154,8 +146,7 @@ pub(crate) fn leave<'a>(
     state: &AbstractState<'a>,
     scratch: &'a mut SuccessorScratch,
 ) -> Option<Successor<'a>>
-    ensures { (f : said.Fact) → Agree (fact_of_state state.now) f →
-        AgreeingSuccessors (slot result) (device_outcomes at f Leaves) }
+    ensures { slot result ≡ device_outcomes at (fact_of_state state.now) Leaves }
 {
     let held = state.left_in(&Location::Accumulator, &mut scratch.held);
     go_on(at, held, state.same(), &mut scratch.next)
@@ -171,10 +162,9 @@ fn take<'a>(
     scratch: &'a mut SuccessorScratch,
 ) -> Option<Successor<'a>>
     requires room { length state.now.equations.now ≤ 32 }
-    ensures { (f : said.Fact) (s t : Words) → Agree (fact_of_state state.now) f →
-        SameWords (words set.now) s → SameWords (words mq.now) t →
-        AgreeingSuccessors (slot result) (goes everything f everything (one (plus at 1))
-        (with_mq t (strongly_updated Ac s f))) }
+    ensures { slot result ≡ goes all_words (fact_of_state state.now) all_words (one (plus at 1))
+        (with_mq (words mq.now)
+        (strongly_updated Ac (words set.now) (fact_of_state state.now))) }
 {
     let held = state.left_in(&Location::Accumulator, &mut scratch.held);
     let after = state
@@ -192,10 +182,9 @@ pub(crate) fn exchange<'a>(
     scratch: &'a mut SuccessorScratch,
 ) -> Option<Successor<'a>>
     requires room { length state.now.equations.now ≤ 32 }
-    ensures { (o : MqOperate) (f : said.Fact) → mq_operate_of word ≡ Some o →
-        Agree (fact_of_state state.now) f →
-        AgreeingSuccessors (slot result) (goes everything f everything (one (plus at 1))
-        (operated3 o f)) }
+    ensures { (o : MqOperate) → mq_operate_of word ≡ Some o →
+        slot result ≡ goes all_words (fact_of_state state.now) all_words (one (plus at 1))
+        (operated3 o (fact_of_state state.now)) }
 {
     let ac = state.narrowed(&Location::Accumulator);
     let mq = *state.mq;
@@ -221,9 +210,8 @@ pub(crate) fn transfer<'a>(
     other: &'a mut SuccessorScratch,
 ) -> (Option<Successor<'a>>, Option<Successor<'a>>)
     requires room { length state.now.equations.now ≤ 32 }
-    ensures { (f : said.Fact) → Agree (fact_of_state state.now) f →
-        AgreeingSuccessors (slot result.0 ++ slot result.1)
-        (device_outcomes at f (processor_action operation)) }
+    ensures { slot result.0 ++ slot result.1 ≡
+        device_outcomes at (fact_of_state state.now) (processor_action operation) }
 {
     match operation {
         DeviceOperation::SkipOnReaderFlag

@@ -1,15 +1,12 @@
 //! The outcomes of the words of group 2, which skip by the accumulator and the link.
 
 ghost use Rattle.std.specs.Prelude.{ℕ, ◌≡◌, ◌<◌, ◌≤◌, length, ◌==◌, ◌&&◌, not, if◌then◌else◌};
-ghost use Rattle.wordset.specs.Words.{Words, SameWords, one, or_any};
+ghost use Rattle.wordset.specs.Words.{one, or_any};
 ghost use Rattle.wordset.specs.Lanes.{words};
 ghost use Rattle.instruct.specs.Bits.{has_bit};
 ghost use Rattle.instruct.specs.Operates.{any_test_holds, skips_of};
 ghost use Rattle.processor.specs.Machine.{next_pc};
-ghost use Rattle.domain.specs.Facts as said;
 ghost use Rattle.facts.specs.Outcomes.{related2, operated2};
-ghost use Rattle.domain.specs.Same.{Agree};
-ghost use Rattle.facts.specs.Agreeing.{AgreeingSuccessors};
 ghost use Rattle.facts.specs.Knowing.{fact_of_state};
 ghost use Rattle.facts.specs.Slots.{slot};
 
@@ -106,8 +103,7 @@ fn put_part<'b>(
 /// What CLA leaves of some words, with any bits of the switches, in a place for them.
 #[inline(never)]
 fn put_switched<'b>(word: Word, part: &WordSet, place: &'b mut WordSet) -> &'b WordSet
-    ensures { SameWords (words result.now)
-        (or_any 4095 (if has_bit 7 word then one 0 else words part.now)) }
+    ensures { words result.now ≡ or_any 4095 (if has_bit 7 word then one 0 else words part.now) }
 {
     let any = Word::from_index(0o7777);
     if clears(word) {
@@ -125,9 +121,7 @@ fn after_test<'a>(
     list: &'a mut Equations,
 ) -> AbstractState<'a>
     requires room { length state.now.equations.now ≤ 32 }
-    ensures { (f : said.Fact) (p : Words) → Agree (fact_of_state state.now) f →
-        SameWords (words part.now) p →
-        Agree (fact_of_state result) (related2 word p f) }
+    ensures { fact_of_state result ≡ related2 word (words part.now) (fact_of_state state.now) }
 {
     if reads_switches(word) {
         return state.with_ac(put_switched(word, part, place), list);
@@ -140,7 +134,7 @@ fn after_test<'a>(
 
 /// The next address, or the one after it.
 fn next_address(at: Word, skip: bool, place: &mut WordSet) -> &WordSet
-    ensures { SameWords (words result.now) (one (next_pc at skip)) }
+    ensures { words result.now ≡ one (next_pc at skip) }
 {
     if skip {
         return address_skipped_to(at, place);
@@ -159,8 +153,7 @@ pub(crate) fn branch<'a>(
 ) -> Option<Successor<'a>>
     requires link { link < 2 }
     requires room { length state.now.equations.now ≤ 32 }
-    ensures { (f : said.Fact) → Agree (fact_of_state state.now) f →
-        AgreeingSuccessors (slot result) (operated2 at word f link skip) }
+    ensures { slot result ≡ operated2 at word (fact_of_state state.now) link skip }
 {
     if !state.link.contains(link) {
         return None;

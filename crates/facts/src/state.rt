@@ -5,13 +5,12 @@
 //! asker lends.
 
 ghost use Rattle.std.specs.Prelude.{false, ◌≡◌, ◌<◌, ◌≤◌, ◌↔◌, ◌||◌, length, map, IsTrue};
-ghost use Rattle.wordset.specs.Words.{Words, SameWords, IsWithin, one, shifted, union};
+ghost use Rattle.wordset.specs.Words.{Words, IsWithin, one, shifted, union};
 ghost use Rattle.wordset.specs.Lanes.{words};
 ghost use Rattle.wordset.specs.Links.{links_of};
 ghost use Rattle.domain.specs.Facts.{Ac, Cell, same, narrowed, Among, Knows, KnowsAll, Entails, EntailsOffsets, joined};
 ghost use Rattle.domain.specs.Changes.{with_offsets};
 ghost use Rattle.domain.specs.Statements.{cell_at};
-ghost use Rattle.domain.specs.Same.{Agree};
 ghost use Rattle.domain.specs.Meaning.{location_of, equation_of, tracked_cells, offsets_of, meaning, cell_words};
 ghost use Rattle.facts.specs.Knowing.{source_words, changed, fact_of_state, Meets, IsUnchanged};
 ghost use Rattle.facts.specs.Showing.{Shows, EachWithin, EntailsRegisters};
@@ -74,14 +73,14 @@ fn teller<'a>(source: &Source<'a>, cell: Word) -> &'a Fact
 
 /// Puts the words of a cell into their place.
 fn put_source(source: &Source<'_>, cell: Word, place: &mut WordSet)
-    ensures { SameWords (words place.new) (source_words source.now cell) }
+    ensures { words place.new ≡ source_words source.now cell }
 {
     teller(source, cell).put_set_of(cell, place);
 }
 
 /// Adds to a set the words that are one more than those that it has.
 fn add_counted(set: &mut WordSet)
-    ensures { SameWords (words set.new) (union (words set.old) (shifted (words set.old) 1)) }
+    ensures { words set.new ≡ union (words set.old) (shifted (words set.old) 1) }
 {
     *set = set.union(&set.shift(Word::ZERO.increment()));
 }
@@ -95,7 +94,7 @@ fn add_stored(set: &mut WordSet, other: &WordSet)
 
 /// Makes of the words of a cell what a change makes of them.
 fn apply(change: &Update<'_>, cell: Word, set: &mut WordSet)
-    ensures { SameWords (words set.new) (changed change.now cell (words set.old)) }
+    ensures { words set.new ≡ changed change.now cell (words set.old) }
 {
     match change {
         Update::Unchanged => {}
@@ -198,7 +197,7 @@ impl AbstractState<'_> {
 
     /// The words that a name may hold.
     pub fn set(&self, name: &Location) -> WordSet
-        ensures { SameWords (words result) ((fact_of_state self.now).set (location_of name.now)) }
+        ensures { words result ≡ (fact_of_state self.now).set (location_of name.now) }
     {
         let mut set = WordSet::all();
         self.put_set(name, &mut set);
@@ -207,7 +206,7 @@ impl AbstractState<'_> {
 
     /// Puts the words that a name may hold into their place.
     fn put_set(&self, name: &Location, place: &mut WordSet)
-        ensures { SameWords (words place.new) ((fact_of_state self.now).set (location_of name.now)) }
+        ensures { words place.new ≡ (fact_of_state self.now).set (location_of name.now) }
     {
         match name {
             Location::Accumulator => *place = *self.ac,
@@ -221,7 +220,7 @@ impl AbstractState<'_> {
 
     /// The words that a name may hold, lent: a cell's are in the place for them.
     fn set_in<'b>(&'b self, name: &Location, place: &'b mut WordSet) -> &'b WordSet
-        ensures { SameWords (words result.now) ((fact_of_state self.now).set (location_of name.now)) }
+        ensures { words result.now ≡ (fact_of_state self.now).set (location_of name.now) }
     {
         if let Location::Accumulator = name {
             return self.ac;
@@ -232,7 +231,7 @@ impl AbstractState<'_> {
 
     /// The words that the equations leave to a name, in a place for them.
     pub(crate) fn left_in<'b>(&self, name: &Location, place: &'b mut WordSet) -> &'b WordSet
-        ensures { SameWords (words result.now) (narrowed (fact_of_state self.now) (location_of name.now)) }
+        ensures { words result.now ≡ narrowed (fact_of_state self.now) (location_of name.now) }
     {
         self.narrow_into(name, place);
         place
@@ -245,8 +244,8 @@ impl AbstractState<'_> {
         k: Word,
         place: &'b mut WordSet,
     ) -> &'b WordSet
-        ensures { SameWords (words result.now)
-            (shifted (narrowed (fact_of_state self.now) (location_of name.now)) k) }
+        ensures { words result.now ≡
+            shifted (narrowed (fact_of_state self.now) (location_of name.now)) k }
     {
         self.narrow_into(name, place);
         *place = place.shift(k);
@@ -273,7 +272,7 @@ impl AbstractState<'_> {
     /// The words that the equations leave to a name: its set met with its partners' sets, shifted
     /// along the equations, one step only.
     pub fn narrowed(&self, name: &Location) -> WordSet
-        ensures { SameWords (words result) (narrowed (fact_of_state self.now) (location_of name.now)) }
+        ensures { words result ≡ narrowed (fact_of_state self.now) (location_of name.now) }
     {
         let mut set = WordSet::all();
         self.narrow_into(name, &mut set);
@@ -282,7 +281,7 @@ impl AbstractState<'_> {
 
     /// Makes of a set the words that the equations leave to a name.
     fn narrow_into(&self, name: &Location, set: &mut WordSet)
-        ensures { SameWords (words set.new) (narrowed (fact_of_state self.now) (location_of name.now)) }
+        ensures { words set.new ≡ narrowed (fact_of_state self.now) (location_of name.now) }
     {
         self.put_set(name, set);
         for e in self.equations {
@@ -434,7 +433,7 @@ impl<'a> AbstractState<'a> {
     /// What a fact knows.
     #[inline(never)]
     pub fn of(fact: &'a Fact) -> AbstractState<'a>
-        ensures same { Agree (fact_of_state result) (meaning fact.now) }
+        ensures same { fact_of_state result ≡ meaning fact.now }
         ensures pointer { IsUnchanged result.pointer }
         ensures target { IsUnchanged result.target }
         ensures len { length result.equations.now ≤ 32 }
@@ -453,9 +452,8 @@ impl<'a> AbstractState<'a> {
 
     /// What is known at a routine's first address, where it is called with this fact: the return
     /// word isn't counted up.
-    #[tactic(auto, using(crate::proofs::ChangingLemmas::entered_agrees))]
     pub fn entering(fact: &'a Fact) -> AbstractState<'a>
-        ensures { Agree (fact_of_state result) (with_offsets (one 0) (meaning fact.now)) }
+        ensures { fact_of_state result ≡ with_offsets (one 0) (meaning fact.now) }
     {
         let mut offsets = CountedOffsets::none();
         offsets.insert(0);
@@ -470,8 +468,8 @@ impl<'a> AbstractState<'a> {
         written: &'a WordSet,
         scratch: &'a mut Scratch,
     ) -> AbstractState<'a>
-        ensures { Agree (fact_of_state result) (joined (meaning call.now) (meaning exit.now)
-            (words written.now)) }
+        ensures { fact_of_state result ≡ joined (meaning call.now) (meaning exit.now)
+            (words written.now) }
     {
         AbstractState::returned(call, exit, written, &mut scratch.list)
     }
@@ -483,8 +481,8 @@ impl<'a> AbstractState<'a> {
         written: &'a WordSet,
         list: &'a mut Equations,
     ) -> AbstractState<'a>
-        ensures { Agree (fact_of_state result) (joined (meaning call.now) (meaning exit.now)
-            (words written.now)) }
+        ensures { fact_of_state result ≡ joined (meaning call.now) (meaning exit.now)
+            (words written.now) }
     {
         keep_outside(written, call.equations(), list);
         add_all(list, exit.equations());

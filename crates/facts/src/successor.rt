@@ -1,12 +1,10 @@
 //! The outcomes of a word, and those of them that can come about.
 
 ghost use Rattle.std.specs.Prelude.{◌≡◌, ◌&&◌};
-ghost use Rattle.wordset.specs.Words.{Words, SameWords, has_some, has_link, everything, one, plus};
+ghost use Rattle.wordset.specs.Words.{Words, has_some, has_link, all_words, one, plus};
 ghost use Rattle.wordset.specs.Lanes.{words};
 ghost use Rattle.domain.specs.Facts.{Ac, Fact, narrowed};
 ghost use Rattle.facts.specs.Outcomes.{alive, given, Goes};
-ghost use Rattle.domain.specs.Same.{Agree};
-ghost use Rattle.facts.specs.Agreeing.{AgreeingSuccessors};
 ghost use Rattle.facts.specs.Knowing.{fact_of_state};
 ghost use Rattle.facts.specs.Slots.{slot};
 
@@ -58,9 +56,8 @@ pub(crate) fn going<'a>(
     after: AbstractState<'a>,
 ) -> Option<Successor<'a>>
     ensures { (p nexts : Words) (f h : Fact) → has_some (words targets.now) ≡ has_some p →
-        SameWords (words held.now) (narrowed f Ac) → SameWords (words next.now) nexts →
-        Agree (fact_of_state after.entry) h →
-        AgreeingSuccessors (slot result) (given (chosen && alive p f everything h) (Goes nexts h)) }
+        words held.now ≡ narrowed f Ac → words next.now ≡ nexts → fact_of_state after.entry ≡ h →
+        slot result ≡ given (chosen && alive p f all_words h) (Goes nexts h) }
 {
     if !chosen {
         return None;
@@ -72,17 +69,16 @@ pub(crate) fn going<'a>(
 }
 
 /// The address after another, in its place.
-#[tactic(auto, using(crate::proofs::OutcomeLemmas::one_at))]
 pub(crate) fn address_after(at: Word, place: &mut WordSet) -> &WordSet
-    ensures { SameWords (words result.now) (one (plus at 1)) }
+    ensures { words result.now ≡ one (plus at 1) }
 {
     put_one(place, at.increment())
 }
 
 /// The address that a skip goes to, in its place.
-#[tactic(auto, using(crate::proofs::OutcomeLemmas::one_at, crate::proofs::OutcomeLemmas::plus_two))]
+#[tactic(auto, using(crate::proofs::OutcomeLemmas::plus_two))]
 pub(crate) fn address_skipped_to(at: Word, place: &mut WordSet) -> &WordSet
-    ensures { SameWords (words result.now) (one (plus at 2)) }
+    ensures { words result.now ≡ one (plus at 2) }
 {
     put_one(place, at.increment().increment())
 }

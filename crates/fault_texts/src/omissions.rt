@@ -2,7 +2,7 @@
 //! certificate can fix it, if a run comes there.
 
 use bin_tape::Image;
-use command_parts::text::{push_dump_line, push_place};
+use command_parts::message::{Lines, push_text_and_address, push_text_and_advised};
 use declaration::{Declaration, Owner};
 use instruct::{Instruction, Operation, Profile, decode, halts, refers_indirectly, target};
 use processor::is_auto_index;
@@ -166,22 +166,29 @@ fn omitted_at<D: Allocator>(
 }
 
 /// Adds an address with what stands before it and behind it.
-fn push_around<A: Allocator>(
-    text: &mut Vec<u8, A>,
+fn push_around<L: Lines>(
+    text: &mut L,
     before: &[u8],
     place: Word,
     after: &[u8],
 ) -> Result<(), AllocError> {
-    push_place(text, before, place)?;
-    text.extend_from_slice(after)
+    push_text_and_address(text, before, place)?;
+    text.push_text(after)
+}
+
+/// Adds an address within a line of a declaration that is advised, with what stands before it and behind it.
+fn push_advice<L: Lines>(
+    text: &mut L,
+    before: &[u8],
+    place: Word,
+    after: &[u8],
+) -> Result<(), AllocError> {
+    push_text_and_advised(text, before, place)?;
+    text.push_text(after)
 }
 
 /// Adds what the instruction at an address would break.
-fn push_breach<A: Allocator>(
-    text: &mut Vec<u8, A>,
-    at: Word,
-    omission: &Omission,
-) -> Result<(), AllocError> {
+fn push_breach<L: Lines>(text: &mut L, at: Word, omission: &Omission) -> Result<(), AllocError> {
     match omission {
         Omission::NoWord => {
             push_around(
@@ -191,8 +198,8 @@ fn push_breach<A: Allocator>(
                 b" is in a body, and the tape has no word there",
             )
         }
-        Omission::Unsupported => text.extend_from_slice(b"it is no word that the machine has"),
-        Omission::OfThe8e => text.extend_from_slice(b"the PDP-8/E alone has this word"),
+        Omission::Unsupported => text.push_text(b"it is no word that the machine has"),
+        Omission::OfThe8e => text.push_text(b"the PDP-8/E alone has this word"),
         Omission::Stores(cell) => {
             push_around(text, b"it stores into ", *cell, b", which is no variable")
         }
@@ -217,7 +224,7 @@ fn push_breach<A: Allocator>(
                 b", which isn't in the same body",
             )
         }
-        Omission::Halts => text.extend_from_slice(b"it halts, and no halt is declared there"),
+        Omission::Halts => text.push_text(b"it halts, and no halt is declared there"),
         Omission::GoesOn(next) | Omission::GoesAcross(next) => push_around(
             text,
             b"the operator may go on at ",
@@ -244,53 +251,45 @@ fn fixed_remedy(omission: &Omission) -> Option<&'static [u8]> {
 }
 
 /// Adds what to do about what is omitted at an address.
-fn push_remedy<A: Allocator>(
-    text: &mut Vec<u8, A>,
-    at: Word,
-    omission: &Omission,
-) -> Result<(), AllocError> {
+fn push_remedy<L: Lines>(text: &mut L, at: Word, omission: &Omission) -> Result<(), AllocError> {
     match omission {
         Omission::Stores(cell) | Omission::Steps(cell) => {
-            push_around(text, b"add `var ", *cell, b"`")
+            push_advice(text, b"add `var ", *cell, b"`")
         }
-        Omission::Calls(entry) => push_around(text, b"add `sub ", *entry, b" body .. returns ..`"),
-        Omission::CallsIntoBody(entry) => push_around(
+        Omission::Calls(entry) => push_advice(text, b"add `sub ", *entry, b" body .. returns ..`"),
+        Omission::CallsIntoBody(entry) => push_advice(
             text,
             b"add `sub ",
             *entry,
             b" body .. returns ..`, and take it out of the body and the variables",
         ),
         Omission::Halts => {
-            push_around(text, b"add `stop ", at, b"`, or `pause ")?;
-            push_around(text, b"", at, b"` if the operator may go on")
+            push_advice(text, b"add `stop ", at, b"`, or `pause ")?;
+            push_advice(text, b"", at, b"` if the operator may go on")
         }
         Omission::GoesOn(_) => {
-            push_around(
+            push_advice(
                 text,
                 b"add it there, or declare `stop ",
                 at,
                 b"` in place of `pause ",
             )?;
-            push_around(text, b"", at, b"`")
+            push_advice(text, b"", at, b"`")
         }
         Omission::GoesAcross(_) => {
-            push_around(text, b"declare `stop ", at, b"` in place of `pause ")?;
-            push_around(text, b"", at, b"`")
+            push_advice(text, b"declare `stop ", at, b"` in place of `pause ")?;
+            push_advice(text, b"", at, b"`")
         }
-        _ => text.extend_from_slice(fixed_remedy(omission).unwrap_or(b"")),
+        _ => text.push_text(fixed_remedy(omission).unwrap_or(b"")),
     }
 }
 
 /// Adds the line of what the instruction at an address would break, and what to do about it.
-fn push_omission<A: Allocator>(
-    text: &mut Vec<u8, A>,
-    at: Word,
-    omission: &Omission,
-) -> Result<(), AllocError> {
+fn push_omission<L: Lines>(text: &mut L, at: Word, omission: &Omission) -> Result<(), AllocError> {
     push_breach(text, at, omission)?;
-    text.extend_from_slice(b": ")?;
+    text.push_text(b": ")?;
     push_remedy(text, at, omission)?;
-    text.extend_from_slice(b"\n")
+    text.push_text(b"\n")
 }
 
 /// Adds the line of what to do about the instruction at which a search is stuck, behind those on what a condition
@@ -299,8 +298,8 @@ fn push_omission<A: Allocator>(
 /// # Errors
 ///
 /// `AllocError` where a growth was refused.
-pub fn push_stuck_remedy<A: Allocator, D: Allocator>(
-    text: &mut Vec<u8, A>,
+pub fn push_stuck_remedy<L: Lines, D: Allocator>(
+    text: &mut L,
     image: &Image,
     declaration: &Declaration<D>,
     at: Word,
@@ -322,10 +321,10 @@ pub fn push_stuck_remedy<A: Allocator, D: Allocator>(
         | Omission::CallsIntoBody(_)
         | Omission::Jumps(_)
         | Omission::Halts
-        | Omission::GoesOn(_) => text.extend_from_slice(b"if that is meant, ")?,
+        | Omission::GoesOn(_) => text.push_text(b"if that is meant, ")?,
     }
     push_remedy(text, at, &omission)?;
-    text.extend_from_slice(b"\n")
+    text.push_text(b"\n")
 }
 
 /// Adds what the tape and the declaration show by themselves, of at most eight instructions in the order of
@@ -335,8 +334,8 @@ pub fn push_stuck_remedy<A: Allocator, D: Allocator>(
 /// # Errors
 ///
 /// `AllocError` where a growth was refused.
-pub fn push_omissions<A: Allocator, D: Allocator>(
-    text: &mut Vec<u8, A>,
+pub fn push_omissions<L: Lines, D: Allocator>(
+    text: &mut L,
     image: &Image,
     declaration: &Declaration<D>,
     left_out: Option<Word>,
@@ -351,13 +350,13 @@ pub fn push_omissions<A: Allocator, D: Allocator>(
             continue;
         };
         if found == 0 {
-            text.extend_from_slice(b"whatever a certificate says, if a run comes there:\n")?;
+            text.push_text(b"whatever a certificate says, if a run comes there:\n")?;
         }
         found = found.saturating_add(1);
         if found > MOST {
-            return text.extend_from_slice(b"and more\n");
+            return text.push_text(b"and more\n");
         }
-        push_dump_line(text, at, image.get(at), declaration.profile())?;
+        text.push_instruction(at, image.get(at), declaration.profile())?;
         push_omission(text, at, &omission)?;
     }
     Ok(())

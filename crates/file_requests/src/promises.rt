@@ -1,26 +1,29 @@
 //! Commands that work on a tape and its declaration, or on a certificate.
 
+use analyser::Attempt;
 use command_line::{
     CheckRequest, GuessRequest, MigrateRequest, RefuteRequest, ReportRequest, VerifyRequest,
     WatchRequest,
 };
+use command_parts::inputs::{declaration_from, tape_from};
 use command_parts::status::{Fault, Status};
 use machine_commands::refuting::refute;
 use machine_commands::watching::watch;
-use program_files::drafted::{is_stuck, need_rereading, report_stuck_files};
-use program_files::faults::{omissions, stuck_address, stuck_lines, with_omissions};
+use program_files::drafted::{need_rereading, report_stuck};
 use program_files::files::{Outlet, finish, open_input, open_output};
 use program_files::saving::{Saving, save_answer, save_proposed};
+use program_files::stuck::{Stuck, answer_message, stuck_message};
 use program_files::tellers::{report_to, tell_to};
 use report_commands::reporting::{ReportForm, report};
 use search_commands::guessing::guess;
-use search_commands::stuck::guess_or_explain;
-use search_commands::verifying::{Answer, Lack, verify, verify_proposed};
+use search_commands::messages::{seek, verify_message};
+use search_commands::verifying::{verify, verify_proposed};
 use std::alloc::Global;
 use std::io;
 use std::rt::Files;
 use streams::standard::Writes;
 use streams::{ByteSink, put};
+use turns::GuessFault;
 use verdict_commands::checking::check;
 use verdict_commands::explaining::explain;
 use verdict_commands::migrating::migrate;
@@ -106,8 +109,8 @@ pub fn report_from<R: Files + Input + Print>(
     finish(&mut file, status)
 }
 
-/// Guesses a certificate for the tape of a file, and where the search is stuck writes a report, if one is
-/// asked for: then the files are read twice.
+/// Guesses a certificate for the tape of a file. Where the search is stuck it says why on standard error and writes
+/// a report, each if it is asked for.
 #[inline(never)]
 pub fn guess_from<R: Files + Input + Print + Eprint>(
     rt: &R,
@@ -117,26 +120,9 @@ pub fn guess_from<R: Files + Input + Print + Eprint>(
     if asked.report.is_some() {
         need_rereading(rt, asked.tape, asked.declaration)?;
     }
-    let answer = if asked.explained {
-        guess_with_reasons(rt, alloc, asked)
-    } else {
-        guess_alone(rt, alloc, asked)
-    };
-    if let Some(name) = asked.report {
-        if is_stuck(&answer) {
-            report_stuck_files(rt, alloc, asked.tape, asked.declaration, name)?;
-        }
+    if asked.explained || asked.report.is_some() {
+        return guess_with_draft(rt, alloc, asked);
     }
-    answer
-}
-
-/// Guesses a certificate for the tape of a file.
-#[inline(never)]
-fn guess_alone<R: Files + Input + Print>(
-    rt: &R,
-    alloc: Global,
-    asked: &GuessRequest<'_>,
-) -> Result<Status, Fault> {
     let mut frames = open_input(rt, asked.tape)?;
     let mut text = open_input(rt, asked.declaration)?;
     let mut file = open_output(rt, alloc, asked.out)?;
@@ -144,9 +130,9 @@ fn guess_alone<R: Files + Input + Print>(
     finish(&mut file, status)
 }
 
-/// Guesses a certificate for the tape of a file, and says on standard error why the search is stuck.
+/// Guesses a certificate for the tape of a file, or tells and reports of the draft where the search is stuck.
 #[inline(never)]
-fn guess_with_reasons<R: Files + Input + Print + Eprint>(
+fn guess_with_draft<R: Files + Input + Print + Eprint>(
     rt: &R,
     alloc: Global,
     asked: &GuessRequest<'_>,
@@ -154,34 +140,42 @@ fn guess_with_reasons<R: Files + Input + Print + Eprint>(
     let mut frames = open_input(rt, asked.tape)?;
     let mut text = open_input(rt, asked.declaration)?;
     let mut file = open_output(rt, alloc, asked.out)?;
-    let mut certificate = Writes::new(&mut file);
-    let mut report = Vec::new(alloc);
-    let mut lines = Writes::new(&mut report);
-    let answer = guess_or_explain(alloc, &mut frames, &mut text, &mut certificate, &mut lines);
-    if lines.failed() {
-        return Err(Fault::NoMemory);
+    let sought = seek(alloc, &mut frames, &mut text)?;
+    match &sought.attempt {
+        Attempt::Found(found) => {
+            found.write(&mut Writes::new(&mut file))?;
+            finish(&mut file, Status::Done)
+        }
+        Attempt::Stuck(at, draft) => {
+            let stuck = Stuck {
+                image: &sought.image,
+                declaration: &sought.declaration,
+                at: *at,
+                draft,
+            };
+            tell_stuck(rt, alloc, asked, &stuck)
+        }
     }
-    let status = finish(&mut file, answer?)?;
-    if status == Status::Refused {
-        tell_reasons(rt, alloc, asked.tape, asked.declaration, &report)?;
-    }
-    Ok(status)
 }
 
-/// Tells on standard error the lines of a search that is stuck, with what the tape and the declaration of these
-/// files show by themselves, what to do, and what the draft tells of the pointer there.
-fn tell_reasons<R: Files + Input + Eprint>(
+/// Tells on standard error why a search is stuck, and writes a report of its draft, each if it is asked for.
+fn tell_stuck<R: Files + Print + Eprint>(
     rt: &R,
     alloc: Global,
-    tape: &str,
-    declaration: &str,
-    report: &[u8],
-) -> Result<(), Fault> {
-    let others = omissions(rt, alloc, tape, declaration, stuck_address(report))?;
-    let mut told = with_omissions(alloc, report, &others)?;
-    told.extend_from_slice(&stuck_lines(rt, alloc, tape, declaration)?)?;
-    let _ = put(&mut tell_to(rt), &told);
-    Ok(())
+    asked: &GuessRequest<'_>,
+    stuck: &Stuck<'_>,
+) -> Result<Status, Fault> {
+    if asked.explained {
+        let told = stuck_message(alloc, stuck)?;
+        let _ = put(&mut tell_to(rt), told.as_bytes());
+    }
+    if let Some(name) = asked.report {
+        report_stuck(rt, alloc, stuck, name, None)?;
+    }
+    if asked.explained {
+        return Ok(Status::Refused);
+    }
+    Err(Fault::Guess(GuessFault::Stuck(stuck.at)))
 }
 
 /// Says whether the program of a file's tape keeps its declaration, or the one that is proposed for it.
@@ -228,27 +222,14 @@ fn verify_declared<R: Files + Input + Print + Eprint>(
     asked: &VerifyRequest<'_>,
     declaration: &str,
 ) -> Result<Status, Fault> {
+    let search = asked.options.search;
+    if search.explained {
+        return verify_with_reasons(rt, alloc, asked, declaration);
+    }
     let mut frames = open_input(rt, asked.tape)?;
     let mut text = open_input(rt, declaration)?;
-    let search = asked.options.search;
-    let mut report = Vec::new(alloc);
-    let mut lines = Writes::new(&mut report);
-    let found = verify(alloc, &mut frames, &mut text, search, &mut lines);
-    if lines.failed() {
-        return Err(Fault::NoMemory);
-    }
-    let answer = found?;
-    let mut others = Vec::new(alloc);
-    let mut remedies = Vec::new(alloc);
-    if let Answer::NotKnown(Lack::Stuck(at)) = &answer {
-        if search.explained {
-            others = omissions(rt, alloc, asked.tape, declaration, Some(*at))?;
-            remedies = stuck_lines(rt, alloc, asked.tape, declaration)?;
-        }
-    }
-    let mut told = with_omissions(alloc, &report, &others)?;
-    told.extend_from_slice(&remedies)?;
-    put(&mut Writes::new(io::writer(rt)), &told)?;
+    let mut out = Writes::new(io::writer(rt));
+    let answer = verify(alloc, &mut frames, &mut text, search, &mut out)?;
     let saving = Saving {
         save: asked.save,
         explained: search.explained,
@@ -267,6 +248,28 @@ fn finish_events<R: Files + Print>(
         let _status = finish(file, Status::Done)?;
     }
     answer
+}
+
+/// Says whether the program of a file's tape keeps the declaration of a file, and why.
+#[inline(never)]
+fn verify_with_reasons<R: Files + Input + Print + Eprint>(
+    rt: &R,
+    alloc: Global,
+    asked: &VerifyRequest<'_>,
+    declaration: &str,
+) -> Result<Status, Fault> {
+    let mut frames = open_input(rt, asked.tape)?;
+    let mut text = open_input(rt, declaration)?;
+    let image = tape_from(&mut frames)?;
+    let promised = declaration_from(alloc, &mut text)?;
+    let found = verify_message(alloc, &image, &promised, &asked.options.search)?;
+    let told = answer_message(alloc, &image, &promised, &found)?;
+    put(&mut Writes::new(io::writer(rt)), told.as_bytes())?;
+    let saving = Saving {
+        save: asked.save,
+        explained: true,
+    };
+    save_answer(rt, alloc, &saving, &found.answer)
 }
 
 /// Looks for a run of the tape of a file that breaks its declaration.

@@ -1,13 +1,13 @@
 -- What is asked of calls and returns, from what the code found.
 use Rattle.std.proofs.Common.{◌≡◌, ℕ, ◌+◌, ◌%◌, ◌<◌, Bool, true, false, ◌&&◌, Option, Some, None, refl, sym, ap, ◌∙◌, subst, arith}
 use Rattle.std.specs.Prelude.{IsTrue, ◌↔◌, if◌then◌else◌}
-use Rattle.std.proofs.lemmas.Bool.{false≢true, true≢false}
-use Rattle.instruct.specs.Instructions.{Meaning, And, Tad, Isz, Dca, Jms, Jmp, Group1, Group2, Group3, Device, Undefined}
-use Rattle.wordset.specs.Words.{Words, SameWords, IsWithin, everything, plus}
+use Rattle.std.proofs.lemmas.Bool.{false≢true, lt-ltb, true≢false}
+use Rattle.instruct.specs.Instructions.{Meaning, Jms, Jmp}
+use Rattle.wordset.specs.Words.{Words, IsWithin, plus}
 use Rattle.wordset.specs.Lanes.{words}
 use Rattle.declaration.specs.Declaration.{Routine}
 use Rattle.domain.specs.Facts.{Fact, Entails, EntailsOffsets, joined}
-use Rattle.domain.specs.Changes.{with_offsets}
+use Rattle.domain.specs.Statements.{all_offsets}
 use Rattle.facts.specs.Conditions.{called, is_call, calls_through_index, returned_through}
 use Rattle.facts.specs.Places as kept
 use Rattle.facts.specs.declared.place.Context.{Context}
@@ -16,47 +16,23 @@ use Rattle.judge.specs.Conditions.{Case, fact_at, place_in, EachTarget, KeepsPoi
 use Rattle.judge.specs.Callees.{LandsBy, ReturnsBy, ReturnsThrough}
 
 -- Each of the cells that a word may call is each target of a JMS.
-pub each_target : (j : Case) (r : Routine) (a : ℕ) (m : Meaning) (p : ℕ → Type 0) (set : Words) (t : Bool) → SameWords set (called (place_in j r) (fact_at j a) m) →
+pub each_target : (j : Case) (r : Routine) (a : ℕ) (m : Meaning) (p : ℕ → Type 0) (set : Words) (t : Bool) → set ≡ called (place_in j r) (fact_at j a) m →
     (IsTrue t ↔ ((e : ℕ) → e < 4096 → set e ≡ true → p e)) → IsTrue t ↔ EachTarget j r a m p
-each_target j r a (Jms i c) p set t same told = (λ q e lt is. told.0 q e lt (same e lt ∙ is), λ each. told.1 (λ e lt is. each e lt (sym (same e lt) ∙ is)))
-each_target j r a (And i c) p set t same told = (λ q. tt, λ each. told.1 (λ e lt is. absurd (true≢false (sym is ∙ same e lt))))
-each_target j r a (Tad i c) p set t same told = (λ q. tt, λ each. told.1 (λ e lt is. absurd (true≢false (sym is ∙ same e lt))))
-each_target j r a (Isz i c) p set t same told = (λ q. tt, λ each. told.1 (λ e lt is. absurd (true≢false (sym is ∙ same e lt))))
-each_target j r a (Dca i c) p set t same told = (λ q. tt, λ each. told.1 (λ e lt is. absurd (true≢false (sym is ∙ same e lt))))
-each_target j r a (Jmp i c) p set t same told = (λ q. tt, λ each. told.1 (λ e lt is. absurd (true≢false (sym is ∙ same e lt))))
-each_target j r a (Group1 w) p set t same told = (λ q. tt, λ each. told.1 (λ e lt is. absurd (true≢false (sym is ∙ same e lt))))
-each_target j r a (Group2 w) p set t same told = (λ q. tt, λ each. told.1 (λ e lt is. absurd (true≢false (sym is ∙ same e lt))))
-each_target j r a (Group3 o) p set t same told = (λ q. tt, λ each. told.1 (λ e lt is. absurd (true≢false (sym is ∙ same e lt))))
-each_target j r a (Device d) p set t same told = (λ q. tt, λ each. told.1 (λ e lt is. absurd (true≢false (sym is ∙ same e lt))))
-each_target j r a Undefined p set t same told = (λ q. tt, λ each. told.1 (λ e lt is. absurd (true≢false (sym is ∙ same e lt))))
+each_target j r a m p set t is told = go m (subst (λ (s : Words). IsTrue t ↔ ((e : ℕ) → e < 4096 → s e ≡ true → p e)) is told)
+  where
+    go : (n : Meaning) → (IsTrue t ↔ ((e : ℕ) → e < 4096 → called (place_in j r) (fact_at j a) n e ≡ true → p e)) → IsTrue t ↔ EachTarget j r a n p
+    go (Jms i c) h = h
+    go _ h = (λ q. tt, λ each. h.1 (λ e lt has. absurd (false≢true has)))
 
 -- No word but a JMS has a target.
 pub no_target : (j : Case) (r : Routine) (a : ℕ) (m : Meaning) (p : ℕ → Type 0) → is_call m ≡ false → IsTrue true ↔ EachTarget j r a m p
 no_target j r a (Jms i c) p e = absurd (true≢false e)
-no_target j r a (And i c) p e = (λ q. tt, λ each. refl)
-no_target j r a (Tad i c) p e = (λ q. tt, λ each. refl)
-no_target j r a (Isz i c) p e = (λ q. tt, λ each. refl)
-no_target j r a (Dca i c) p e = (λ q. tt, λ each. refl)
-no_target j r a (Jmp i c) p e = (λ q. tt, λ each. refl)
-no_target j r a (Group1 w) p e = (λ q. tt, λ each. refl)
-no_target j r a (Group2 w) p e = (λ q. tt, λ each. refl)
-no_target j r a (Group3 o) p e = (λ q. tt, λ each. refl)
-no_target j r a (Device d) p e = (λ q. tt, λ each. refl)
-no_target j r a Undefined p e = (λ q. tt, λ each. refl)
+no_target j r a _ p e = (λ q. tt, λ each. refl)
 
 -- A word keeps the pointer where it isn't a JMS through an auto-index cell.
 pub keeps_pointer : (m : Meaning) (b : Bool) → b ≡ calls_through_index m → KeepsPointer m ↔ (b ≡ false)
 keeps_pointer (Jms i c) b e = (λ k. e ∙ k, λ k. sym e ∙ k)
-keeps_pointer (And i c) b e = (λ k. e, λ k. tt)
-keeps_pointer (Tad i c) b e = (λ k. e, λ k. tt)
-keeps_pointer (Isz i c) b e = (λ k. e, λ k. tt)
-keeps_pointer (Dca i c) b e = (λ k. e, λ k. tt)
-keeps_pointer (Jmp i c) b e = (λ k. e, λ k. tt)
-keeps_pointer (Group1 w) b e = (λ k. e, λ k. tt)
-keeps_pointer (Group2 w) b e = (λ k. e, λ k. tt)
-keeps_pointer (Group3 o) b e = (λ k. e, λ k. tt)
-keeps_pointer (Device d) b e = (λ k. e, λ k. tt)
-keeps_pointer Undefined b e = (λ k. e, λ k. tt)
+keeps_pointer _ b e = (λ k. e, λ k. tt)
 
 pub steps_pointer_first : {p : Type 0} (m : Meaning) (b : Bool) → b ≡ calls_through_index m → b ≡ true → IsTrue false ↔ (KeepsPointer m × p)
 steps_pointer_first m b e h = (λ q. absurd (false≢true q), λ k. absurd (true≢false (sym h ∙ (keeps_pointer m b e).0 k.0)))
@@ -92,13 +68,9 @@ lands_equally j {r} {s} {a} {b} {f} {g} t same at fact told =
 pub return_place : (a o i k n : ℕ) → i ≡ (a + 1) % 4096 → k ≡ o → n ≡ (i + k) % 4096 → n ≡ plus (a + 1) o
 return_place a o i k n first same next = omega (arith, first, same, next)
 
--- After a call an exit's offsets don't matter.
-pub joined_equally : (f g call exit : Fact) (written writes : Words) → f ≡ call → with_offsets everything g ≡ exit → written ≡ writes → joined f g written ≡ joined call exit writes
-unfolding joined
-joined_equally f g call exit written writes fact same cells =
-    let first : joined f (with_offsets everything g) written ≡ joined call (with_offsets everything g) written = ap (λ x. joined x (with_offsets everything g) written) fact in
-    let second : joined call (with_offsets everything g) written ≡ joined call exit written = ap (λ x. joined call x written) same in
-    first ∙ (second ∙ ap (λ w. joined call exit w) cells)
+-- What is known after a call, by equal parts.
+pub joined_equally : (f g call exit : Fact) (written writes : Words) → f ≡ call → g ≡ exit → written ≡ writes → joined f g written ≡ joined call exit writes
+joined_equally f g call exit written writes fact same cells = rw (fact, same, cells) refl
 
 pub lands_claimed : (j : Case) (r : Routine) (a e o : ℕ) (t : Bool) → true ≡ j.certificate.has_exit e o →
     IsTrue t ↔ LandsAt j r (plus (a + 1) o) (joined (fact_at j a) (j.certificate.exit e o) (j.certificate.writes e)) → IsTrue t ↔ LandsBy j r a e o
@@ -106,22 +78,19 @@ lands_claimed j r a e o t there told = (λ q h. told.0 q, λ l. told.1 (l (sym t
 
 -- A return by an offset.
 pub returns_claimed : (j : Case) (e o k : ℕ) {f call exit : Fact} (b t : Bool) → k ≡ o → b ≡ j.declaration.offset e k → b ≡ true → true ≡ j.certificate.has_exit e o →
-    f ≡ call → with_offsets everything exit ≡ j.certificate.exit e o → ((i : ℕ) → i < 8 → exit.offsets i ≡ true) →
+    f ≡ call → exit ≡ j.certificate.exit e o → exit.offsets ≡ all_offsets →
     (IsTrue t ↔ (Entails f exit × EntailsOffsets f exit)) → IsTrue t ↔ MayReturn j e call o
 returns_claimed j e o k {f} {call} {exit} b t same declared is there fact said all told = (
   λ q. record {
     declared = ap (λ i. j.declaration.offset e i) (sym same) ∙ (sym declared ∙ is);
     there = sym there;
-    entails = subst (λ x. Entails x (j.certificate.exit e o)) fact (subst (λ x. Entails f x) said (to_all (told.0 q).0));
+    entails = subst (λ x. Entails x (j.certificate.exit e o)) fact (subst (λ x. Entails f x) said (told.0 q).0);
   },
-  λ m. told.1 (from_all (subst (λ x. Entails f x) (sym said) (subst (λ x. Entails x (j.certificate.exit e o)) (sym fact) m.entails)), λ i lt h. all i lt),
+  λ m. told.1 (
+    subst (λ x. Entails f x) (sym said) (subst (λ x. Entails x (j.certificate.exit e o)) (sym fact) m.entails),
+    λ i lt h. ap (λ (s : Words). s i) all ∙ lt-ltb i 8 lt,
+  ),
 )
-  where
-    to_all : {x y : Fact} → Entails x y → Entails x (with_offsets everything y)
-    to_all en = record { sets = en.sets; mq = en.mq; link = en.link; equations = en.equations }
-
-    from_all : {x y : Fact} → Entails x (with_offsets everything y) → Entails x y
-    from_all en = record { sets = en.sets; mq = en.mq; link = en.link; equations = en.equations }
 
 -- A return by an offset that the fact lacks, or has.
 pub returns_lacking : (j : Case) (a c o : ℕ) (b : Bool) → b ≡ (fact_at j a).offsets o → b ≡ false → IsTrue true ↔ ReturnsBy j a c o
@@ -138,16 +107,7 @@ returns_none j r a (Jmp i c) h = (λ q is entry. absurd (none_there i (j.declara
     none_there true true p q e = cc
     none_there true false p q e = false≢true q
     none_there false y p q e = false≢true p
-returns_none j r a (And i c) h = (λ q. tt, λ w. refl)
-returns_none j r a (Tad i c) h = (λ q. tt, λ w. refl)
-returns_none j r a (Isz i c) h = (λ q. tt, λ w. refl)
-returns_none j r a (Dca i c) h = (λ q. tt, λ w. refl)
-returns_none j r a (Jms i c) h = (λ q. tt, λ w. refl)
-returns_none j r a (Group1 w) h = (λ q. tt, λ w. refl)
-returns_none j r a (Group2 w) h = (λ q. tt, λ w. refl)
-returns_none j r a (Group3 o) h = (λ q. tt, λ w. refl)
-returns_none j r a (Device d) h = (λ q. tt, λ w. refl)
-returns_none j r a Undefined h = (λ q. tt, λ w. refl)
+returns_none j r a _ h = (λ q. tt, λ w. refl)
 
 some_none : {e : ℕ} → Some e ≡ None → ⊥
 some_none h = cc
@@ -164,13 +124,4 @@ returns_some j r a e (Jmp i c) t h told =
     some_there true true p = (refl, refl, cc)
     some_there true false p = absurd cc
     some_there false y p = absurd cc
-returns_some j r a e (And i c) t h told = absurd (some_none h)
-returns_some j r a e (Tad i c) t h told = absurd (some_none h)
-returns_some j r a e (Isz i c) t h told = absurd (some_none h)
-returns_some j r a e (Dca i c) t h told = absurd (some_none h)
-returns_some j r a e (Jms i c) t h told = absurd (some_none h)
-returns_some j r a e (Group1 w) t h told = absurd (some_none h)
-returns_some j r a e (Group2 w) t h told = absurd (some_none h)
-returns_some j r a e (Group3 o) t h told = absurd (some_none h)
-returns_some j r a e (Device d) t h told = absurd (some_none h)
-returns_some j r a e Undefined t h told = absurd (some_none h)
+returns_some j r a e _ t h told = absurd (some_none h)

@@ -1,57 +1,23 @@
--- Where a fact lands, and the outcomes that agree.
-use Rattle.std.proofs.Common.{◌≡◌, ℕ, ◌+◌, ◌<◌, Bool, true, false, Option, Some, None, List, [], ◌∷◌, ◌++◌, length, get_or, drop, ◌≤◌, refl, sym, ◌∙◌, subst}
+-- Where a fact lands, and outcomes that are gone through.
+use Rattle.std.proofs.Common.{◌≡◌, ℕ, ◌+◌, ◌<◌, Bool, true, false, Option, Some, None, List, ◌++◌, length, get_or, drop, ◌≤◌, refl, sym, ◌∙◌, subst}
 use Rattle.std.specs.Prelude.{IsTrue, ◌↔◌}
 use Rattle.std.proofs.lemmas.Bool.{false≢true, true≢false}
 use Rattle.std.proofs.Math.ListN.{drop_of_length-le}
 use Rattle.declaration.specs.Declaration.{Routine}
 use Rattle.domain.specs.Facts.{Fact, Entails, EntailsOffsets}
-use Rattle.facts.specs.Outcomes.{Successor, Goes, CallsTo, Returns}
-use Rattle.domain.specs.Same.{Agree}
-use Rattle.facts.specs.Agreeing.{AgreeingSuccessor, AgreeingSuccessors}
+use Rattle.facts.specs.Outcomes.{Successor}
 use Rattle.facts.specs.Slots.{slot, slots}
 use Rattle.facts.specs.declared.successor.Successor.{Successor as Given}
-use Rattle.facts.proofs.Alike.{same_law}
-use Rattle.facts.proofs.AgreeLemmas.{agree_sym, same_fact, entails_agree}
 use Rattle.facts.proofs.EntailLemmas.{drop_item}
-use Rattle.judge.specs.Conditions.{Case, fact_at, LandsAt, SuccessorLands, EachSuccessor}
+use Rattle.judge.specs.Conditions.{Case, fact_at, LandsAt, EachSuccessor}
 
-pub lands_some : (j : Case) (r : Routine) (a : ℕ) {k f g : Fact} (t b : Bool) → b ≡ true → b ≡ j.declaration.body r a → true ≡ j.certificate.has_fact a → g ≡ fact_at j a →
-    (IsTrue t ↔ (Entails k g × EntailsOffsets k g)) → Agree k f → IsTrue t ↔ LandsAt j r a f
-lands_some j r a {k} {f} {g} t b inner body there same entails agree =
-    let here : IsTrue t ↔ (Entails f (fact_at j a) × EntailsOffsets f (fact_at j a)) =
-    entails_agree t agree (subst (λ x. IsTrue t ↔ (Entails k x × EntailsOffsets k x)) same entails) in (
+pub lands_some : (j : Case) (r : Routine) (a : ℕ) {f g : Fact} (t b : Bool) → b ≡ true → b ≡ j.declaration.body r a → true ≡ j.certificate.has_fact a → g ≡ fact_at j a →
+    (IsTrue t ↔ (Entails f g × EntailsOffsets f g)) → IsTrue t ↔ LandsAt j r a f
+lands_some j r a {f} {g} t b inner body there same entails =
+    let here : IsTrue t ↔ (Entails f (fact_at j a) × EntailsOffsets f (fact_at j a)) = subst (λ x. IsTrue t ↔ (Entails f x × EntailsOffsets f x)) same entails in (
       λ q. record { there = sym there; inside = sym body ∙ inner; entails = (here.0 q).0; offsets = (here.0 q).1 },
       λ l. here.1 (l.entails, l.offsets),
     )
-
-pub lands_alike : (j : Case) (r : Routine) (a : ℕ) {f g : Fact} → Agree f g → LandsAt j r a f → LandsAt j r a g
-lands_alike j r a {f} {g} agree l =
-    let alike = same_law f g (fact_at j a) (same_fact agree) in
-    record { there = l.there; inside = l.inside; entails = alike.left l.entails; offsets = alike.left_offsets l.offsets }
-
-outcome_alike : (j : Case) (r : Routine) (o p : Successor) → AgreeingSuccessor o p → SuccessorLands j r o ↔ SuccessorLands j r p
-outcome_alike j r (Goes n f) (Goes m g) h = (
-  λ l a lt q. lands_alike j r a h.1 (l a lt (h.0 a lt ∙ q)),
-  λ l a lt q. lands_alike j r a (agree_sym h.1) (l a lt (sym (h.0 a lt) ∙ q)),
-)
-outcome_alike j r (Goes n f) (CallsTo m g) h = absurd h
-outcome_alike j r (Goes n f) (Returns g) h = absurd h
-outcome_alike j r (CallsTo n f) (Goes m g) h = absurd h
-outcome_alike j r (CallsTo n f) (CallsTo m g) h = (λ l. tt, λ l. tt)
-outcome_alike j r (CallsTo n f) (Returns g) h = absurd h
-outcome_alike j r (Returns f) (Goes m g) h = absurd h
-outcome_alike j r (Returns f) (CallsTo m g) h = absurd h
-outcome_alike j r (Returns f) (Returns g) h = (λ l. tt, λ l. tt)
-
--- Outcomes that agree land alike.
-pub outcomes_alike : (j : Case) (r : Routine) (os ps : List Successor) → AgreeingSuccessors os ps → EachSuccessor (SuccessorLands j r) os ↔ EachSuccessor (SuccessorLands j r) ps
-outcomes_alike j r [] [] h = (λ l. tt, λ l. tt)
-outcomes_alike j r [] (p ∷ ps) h = absurd h
-outcomes_alike j r (o ∷ os) [] h = absurd h
-outcomes_alike j r (o ∷ os) (p ∷ ps) h =
-    let one = outcome_alike j r o p h.0 in
-    let rest = outcomes_alike j r os ps h.1 in
-    (λ l. (one.0 l.0, rest.0 l.1), λ l. (one.1 l.0, rest.1 l.1))
 
 -- Each outcome of the slots from one on.
 abbrev pub EachFrom : (Successor → Type 0) → ℕ → List (Option Given) → Type 0

@@ -12,8 +12,5 @@ pub mod WordLemmas
 pub mod Worlds
 pub mod ClaimsLemmas
 pub mod VerdictLemmas
-pub mod AgreeingLemmas
-pub mod RestatedLemmas
 pub mod ReadingLemmas
 mod TrueLemmas
-pub mod AlikeLaws

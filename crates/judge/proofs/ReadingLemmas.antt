@@ -1,138 +1,53 @@
--- Tape, declaration and certificate are read in one way: whatever parts the bytes have, the same conditions hold of them.
-use Rattle.std.proofs.Common.{◌≡◌, ℕ, ◌+◌, ◌*◌, ◌<◌, ◌≤◌, ◌==◌, Bool, true, false, List, [], ◌∷◌, length, refl, sym, ap, ◌∙◌, subst, inl, inr, arith}
-use Rattle.std.proofs.Math.Path.{fun_ext}
+-- Tape, declaration and certificate are read in one way: whatever parts the bytes have, they make one case, of which one
+-- condition fails first.
+use Rattle.std.proofs.Common.{◌≡◌, ℕ, ◌+◌, ◌*◌, ◌<◌, ◌≤◌, ◌==◌, List, Ok, Err, take, sym, refl, ap, ◌∙◌, subst, inl, inr, arith}
 use Rattle.std.proofs.lemmas.Bool.{cases_order}
 use Rattle.std.specs.Prelude.{if◌then◌else◌}
-use Rattle.wordset.specs.Words.{Words}
-use Rattle.wordset.proofs.SetLemmas.{equal_words}
+use Rattle.bin_tape.proofs.OneAnswer.{one_tape}
 use Rattle.processor.specs.Runs.{Image}
 use Rattle.peripherals.specs.Loading.{image_of}
 use Rattle.declaration.specs.Declaration.{Declaration}
 use Rattle.declaration.specs.Text.{Declares, ListsRoutines}
 use Rattle.declaration.proofs.AnswerLemmas.{one_declaration}
-use Rattle.domain.specs.Facts.{Fact}
 use Rattle.facts.specs.declared.Condition.{Condition}
 use Rattle.facts.specs.declared.Condition.TheVariants.{V1, V2, V3, V4, V5, V6, V7, V8, V9, V10, V11, V12, V13, V14, V15}
 use Rattle.certificate.specs.Certificate.{Certificate}
-use Rattle.certificate.specs.Exact.{SameLines, SameCertificate}
-use Rattle.certificate.specs.Faults.{IsText, most_bytes}
-use Rattle.certificate.specs.Gathered.{routines_of}
+use Rattle.certificate.specs.Faults.{reading}
 use Rattle.certificate.specs.Kept as certified
-use Rattle.certificate.specs.Packed.{said_lines}
-use Rattle.certificate.specs.Reading.{AreLines, Each, sites_in, writes_in}
-use Rattle.certificate.specs.Spelling.{Line, RoutineIs, text}
-use Rattle.certificate.specs.declared.Version.{Version}
-use Rattle.certificate.proofs.FromOrderLemmas.{reading_law}
-use Rattle.certificate.proofs.PackedLemmas.{SetsEnd, sets_end}
-use Rattle.certificate.proofs.SameMeaningLemmas.{meaning_law}
-use Rattle.certificate.proofs.SameTextLemmas.{spelling_law}
-use Rattle.judge.specs.Conditions.{Case, HoldsAt, IsAsked, IsAskedAs, IsFirst, IsValid, is_first_condition, order, place_among}
-use Rattle.judge.specs.Certifying.{Parts, AreRead, IsTapeOf, case_of, declaration_of, words_of}
-use Rattle.judge.specs.Laws.{SetsAreOfWords}
+use Rattle.certificate.specs.Reading.{certificate_of}
+use Rattle.certificate.specs.Spelling.{Lines}
+use Rattle.certificate.specs.declared.CertificateFault.{CertificateFault}
+use Rattle.judge.specs.Conditions.{Case, IsAsked, IsFirst, IsValid, order, place_among}
+use Rattle.judge.specs.Certifying.{Parts, AreRead, IsTapeOf, case_of, declaration_of}
+use Rattle.judge.specs.Laws.{TextsMakeOneCase}
 use Rattle.judge.specs.declared.judging.Refusal.{Refusal}
 use Rattle.judge.proofs.OrderLemmas.{IsLater, start_or_later, order_of}
-use Rattle.judge.proofs.RestatedLemmas.{Restates, restated, asked_as_to, holds_to}
 
--- ---- a text claims one certificate, but that facts have the same words alone
+-- ---- one case
 
--- sets that are kept by their runs have no number past the last word
-either_past : (b : Bool) (s t : Words) (v : ℕ) → s v ≡ false → t v ≡ false → (let x : Words = if b then s else t in x v ≡ false)
-either_past true s t v e f = e
-either_past false s t v e f = f
-
-sites_past : (ls : List Line) (e v : ℕ) → Each SetsEnd ls → 4096 ≤ v → sites_in (routines_of ls) e v ≡ false
-sites_past [] e v p h = refl
-sites_past (RoutineIs r ∷ ls) e v p h = either_past (r.entry == e) r.sites (sites_in (routines_of ls) e) v (p.0.0 v h) (sites_past ls e v p.1 h)
-sites_past (l ∷ ls) e v p h = sites_past ls e v p.1 h
-
-writes_past : (ls : List Line) (e v : ℕ) → Each SetsEnd ls → 4096 ≤ v → writes_in (routines_of ls) e v ≡ false
-writes_past [] e v p h = refl
-writes_past (RoutineIs r ∷ ls) e v p h = either_past (r.entry == e) r.writes (writes_in (routines_of ls) e) v (p.0.1 v h) (writes_past ls e v p.1 h)
-writes_past (l ∷ ls) e v p h = writes_past ls e v p.1 h
-
-abbrev judged : Image → Declaration → Words → (ℕ → ℕ) → (ℕ → Words) → (ℕ → Words) → Words → (ℕ → Fact) → (ℕ → Words) → (ℕ → ℕ → Fact) → Case
-judged i d l r s w h f x g = record {
-  image = i;
-  declaration = d;
-  certificate = record { listed = l; rank = r; sites = s; writes = w; has_fact = h; fact = f; has_exit = x; exit = g };
-}
-
-same_judged : {i i' : Image} {d d' : Declaration} {l l' : Words} {r r' : ℕ → ℕ} {s s' w w' : ℕ → Words} {h h' : Words} {x x' : ℕ → Words} (f : ℕ → Fact) (g : ℕ → ℕ → Fact)
-    → i ≡ i' → d ≡ d' → l ≡ l' → r ≡ r' → s ≡ s' → w ≡ w' → h ≡ h' → x ≡ x' → judged i d l r s w h f x g ≡ judged i' d' l' r' s' w' h' f x' g
-same_judged f g ei ed el er es ew eh ex = rw (ei, ed, el, er, es, ew, eh, ex) refl
-
--- ---- so what is judged is one but for facts that agree
-
--- the case of a tape's words, a declaration and what is claimed
 abbrev judged_by : Image → Declaration → Certificate → Case
 judged_by i d c = record { image = i; declaration = d; certificate = c }
 
-pub kept_of_words : (c : certified.Kept) → SetsAreOfWords (certified.claims c)
-kept_of_words c =
-    let ends : Each SetsEnd (said_lines c.lines) = sets_end c.lines.runs c.lines.list in
-    record { sites = λ e v past. sites_past (said_lines c.lines) e v ends past; writes = λ e v past. writes_past (said_lines c.lines) e v ends past }
+same_case : {i k : Image} {d e : Declaration} {c f : Certificate} → i ≡ k → d ≡ e → c ≡ f → judged_by i d c ≡ judged_by k e f
+same_case words promised claims = rw (words, promised, claims) refl
 
-restated_is : (i i' : Image) (d d' : Declaration) (c e : Certificate) → i ≡ i' → d ≡ d' → SetsAreOfWords c → SetsAreOfWords e → SameCertificate c e →
-    restated (judged_by i d c) e.fact e.exit ≡ judged_by i' d' e
-restated_is i i' d d' c e at promised one other same =
-    let listed : c.listed ≡ e.listed = fun_ext (λ r. same.listed r) in
-    let rank : c.rank ≡ e.rank = fun_ext (λ r. same.rank r) in
-    let sites : c.sites ≡ e.sites = fun_ext (λ r. equal_words (c.sites r) (e.sites r) (λ v past. one.sites r v past) (λ v past. other.sites r v past) (same.sites r)) in
-    let writes : c.writes ≡ e.writes = fun_ext (λ r. equal_words (c.writes r) (e.writes r) (λ v past. one.writes r v past) (λ v past. other.writes r v past) (same.writes r)) in
-    let there : c.has_fact ≡ e.has_fact = fun_ext (λ a. same.has_fact a) in
-    let exits : c.has_exit ≡ e.has_exit = fun_ext (λ r. fun_ext (λ o. same.has_exit r o)) in
-    same_judged e.fact e.exit at promised listed rank sites writes there exits
+same_claims : (c : List ℕ) (one other : Lines) → reading c ≡ Ok one → reading c ≡ Ok other → certificate_of one ≡ certificate_of other
+same_claims c one other read also =
+    let both : Ok one ≡ Ok other = sym read ∙ also in
+    let lines : one ≡ other = cc in
+    ap certificate_of lines
 
--- what is asked speaks of no facts
-asked_from : (j : Case) (fs : ℕ → Fact) (xs : ℕ → ℕ → Fact) (b : Bool) (a : ℕ) → IsAskedAs b (restated j fs xs) a → IsAskedAs b j a
-asked_from j fs xs true a h = h
-asked_from j fs xs false a h = h
+pub one_case : TextsMakeOneCase
+one_case t d c p q one other =
+    same_case (ap image_of (one_tape (take 65536 t) p.image q.image one.is_tape other.is_tape)) (one_declaration d (declaration_of p) (declaration_of q) one.declares other.declares)
+    (same_claims c (certified.meaning p.certificate) (certified.meaning q.certificate) one.is_certificate other.is_certificate)
 
-module _ (i i' : Image) (d d' : Declaration) (c e : Certificate) (at : i ≡ i') (promised : d ≡ d') (one : SetsAreOfWords c) (other : SetsAreOfWords e) (same : SameCertificate c e) where
-  restates : Restates (judged_by i d c) e.fact e.exit
-  restates = record { facts = same.fact; exits = same.exit }
+pub valid_too : {t d c : List ℕ} (p q : Parts) → AreRead t d c p → AreRead t d c q → IsValid (case_of p) → IsValid (case_of q)
+valid_too {t} {d} {c} p q one other = subst (λ j. IsValid j) (one_case t d c p q one other)
 
-  pub holds_alike : (v : Condition) (a : ℕ) → HoldsAt (judged_by i d c) v a → HoldsAt (judged_by i' d' e) v a
-  holds_alike v a h =
-      subst (λ j. HoldsAt j v a) (restated_is i i' d d' c e at promised one other same) (holds_to (judged_by i d c) e.fact e.exit restates v a h)
-
-  pub asked_alike : (v : Condition) (a : ℕ) → IsAsked (judged_by i d c) v a → IsAsked (judged_by i' d' e) v a
-  asked_alike v a h =
-      subst (λ j. IsAsked j v a) (restated_is i i' d d' c e at promised one other same) (asked_as_to (judged_by i d c) e.fact e.exit (is_first_condition v) a h)
-
-  pub asked_back : (v : Condition) (a : ℕ) → IsAsked (judged_by i' d' e) v a → IsAsked (judged_by i d c) v a
-  asked_back v a h =
-      asked_from (judged_by i d c) e.fact e.exit (is_first_condition v) a
-      (subst (λ j. IsAsked j v a) (sym (restated_is i i' d d' c e at promised one other same)) h)
-
--- ---- so whatever parts the bytes have, the same holds of them
-
-same_certificate : {t d c : List ℕ} (p q : Parts) → AreRead t d c p → AreRead t d c q → SameCertificate (certified.claims p.certificate) (certified.claims q.certificate)
-same_certificate p q one other =
-    let lines : SameLines (certified.meaning p.certificate) (certified.meaning q.certificate) =
-    spelling_law.lines (certified.meaning p.certificate) (certified.meaning q.certificate) one.are_lines other.are_lines (sym one.is_text ∙ other.is_text) in
-    meaning_law (certified.meaning p.certificate) (certified.meaning q.certificate) lines
-
-promised_is : {t d c : List ℕ} (p q : Parts) → AreRead t d c p → AreRead t d c q → declaration_of p ≡ declaration_of q
-promised_is {t} {d} {c} p q one other = one_declaration d (declaration_of p) (declaration_of q) one.declares other.declares
-
-holds_too : {t d c : List ℕ} (p q : Parts) → p.image ≡ q.image → AreRead t d c p → AreRead t d c q → (v : Condition) (a : ℕ) → HoldsAt (case_of p) v a → HoldsAt (case_of q) v a
-holds_too p q image one other v a h =
-    holds_alike (words_of p) (words_of q) (declaration_of p) (declaration_of q) (certified.claims p.certificate) (certified.claims q.certificate) (ap image_of image) (promised_is p q one other) (kept_of_words p.certificate) (kept_of_words q.certificate) (same_certificate p q one other) v a h
-
-asked_too : {t d c : List ℕ} (p q : Parts) → p.image ≡ q.image → AreRead t d c p → AreRead t d c q → (v : Condition) (a : ℕ) → IsAsked (case_of p) v a → IsAsked (case_of q) v a
-asked_too p q image one other v a h =
-    asked_alike (words_of p) (words_of q) (declaration_of p) (declaration_of q) (certified.claims p.certificate) (certified.claims q.certificate) (ap image_of image) (promised_is p q one other) (kept_of_words p.certificate) (kept_of_words q.certificate) (same_certificate p q one other) v a h
-
-pub valid_too : {t d c : List ℕ} (p q : Parts) → p.image ≡ q.image → AreRead t d c p → AreRead t d c q → IsValid (case_of p) → IsValid (case_of q)
-valid_too p q image one other valid v a asked = holds_too p q image one other v a (valid v a (asked_too q p (sym image) other one v a asked))
-
-pub first_too : {t d c : List ℕ} (p q : Parts) → p.image ≡ q.image → AreRead t d c p → AreRead t d c q → (v : Condition) (a : ℕ) → IsFirst (case_of p) v a → IsFirst (case_of q) v a
-first_too p q image one other v a first = record {
-  asked = asked_too p q image one other v a first.asked;
-  fails = λ h. first.fails (holds_too q p (sym image) other one v a h);
-  before = λ u b asked less. holds_too p q image one other u b (first.before u b (asked_too q p (sym image) other one u b asked) less);
-}
+pub first_too : {t d c : List ℕ} (p q : Parts) → AreRead t d c p → AreRead t d c q → (r : Refusal) → IsFirst (case_of p) r.condition r.address →
+    IsFirst (case_of q) r.condition r.address
+first_too {t} {d} {c} p q one other r = subst (λ j. IsFirst j r.condition r.address) (one_case t d c p q one other)
 
 -- ---- one condition is the first
 
@@ -208,11 +123,11 @@ refusal v a = record { condition = v; address = a }
 same_refusal : {v u : Condition} {a b : ℕ} → v ≡ u → a ≡ b → refusal v a ≡ refusal u b
 same_refusal e k = rw (e, k) refl
 
-pub one_refusal : {t d c : List ℕ} (p q : Parts) → p.image ≡ q.image → AreRead t d c p → AreRead t d c q → (r s : Refusal) →
+pub one_refusal : {t d c : List ℕ} (p q : Parts) → AreRead t d c p → AreRead t d c q → (r s : Refusal) →
     IsFirst (case_of p) r.condition r.address → IsFirst (case_of q) s.condition s.address → s ≡ r
-one_refusal p q image one other r s first found =
+one_refusal p q one other r s first found =
     let same : (s.condition ≡ r.condition) × (s.address ≡ r.address) =
-    one_first (case_of q) s.condition r.condition s.address r.address found (first_too p q image one other r.condition r.address first) in
+    one_first (case_of q) s.condition r.condition s.address r.address found (first_too p q one other r first) in
     let whole : refusal s.condition s.address ≡ refusal r.condition r.address = same_refusal same.0 same.1 in
     whole
 
@@ -220,13 +135,15 @@ one_refusal p q image one other r s first found =
 pub none_fails : {j : Case} {v : Condition} {a : ℕ} → IsValid j → IsFirst j v a → ⊥
 none_fails {j} {v} {a} valid first = first.fails (valid v a first.asked)
 
--- ---- the parts that are read, and that the certificate's text is one
+-- ---- the parts that are read
 
-pub are_read : {t d c : List ℕ} {v : Version} (p : Parts) → IsTapeOf t p.image → Declares d (declaration_of p) → ListsRoutines d p.declaration.routines →
-    AreLines (certified.meaning p.certificate) → c ≡ text (certified.meaning p.certificate) → IsText v c → AreRead t d c p
-are_read p tape declares lists lines spelled read = record { is_tape = tape; declares = declares; lists = lists; are_lines = lines; is_text = spelled; is_short = read.few }
+pub are_read : {t d c : List ℕ} (p : Parts) → IsTapeOf t p.image → Declares d (declaration_of p) → ListsRoutines d p.declaration.routines →
+    reading c ≡ Ok (certified.meaning p.certificate) → AreRead t d c p
+are_read p tape declares lists read = record { is_tape = tape; declares = declares; lists = lists; is_certificate = read }
 
-pub read_text : {t d c : List ℕ} (p : Parts) → AreRead t d c p → IsText (certified.meaning p.certificate).version c
-read_text p one =
-    subst (λ bytes. IsText (certified.meaning p.certificate).version bytes) (sym one.is_text)
-    (reading_law.text (certified.meaning p.certificate) one.are_lines (subst (λ bytes. length bytes ≤ most_bytes) one.is_text one.is_short))
+-- a text that is read as a certificate has no fault
+pub not_both : {A : Type 0} (c : List ℕ) (ls : Lines) (f : CertificateFault) → reading c ≡ Ok ls → reading c ≡ Err f → A
+not_both c ls f read fails = let both : Ok ls ≡ Err f = sym read ∙ fails in absurd (cc)
+
+pub one_fault : (c : List ℕ) (f g : CertificateFault) → reading c ≡ Err f → reading c ≡ Err g → f ≡ g
+one_fault c f g one other = let both : Err f ≡ Err g = sym one ∙ other in cc

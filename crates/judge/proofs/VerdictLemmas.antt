@@ -16,14 +16,6 @@ safe_of p declared valid = record { runs = runs_are_safe (case_of p) declared va
 pub ok_or_err : {X E : Type 0} {r : Result X E} {x : X} {e : E} → r ≡ Ok x → r ≡ Err e → ⊥
 ok_or_err good bad = false≢true (ap is_err (sym good ∙ bad))
 
--- two good answers that are one give one value
-pub one_ok : {X E : Type 0} {r : Result X E} {x y : X} → r ≡ Ok x → r ≡ Ok y → x ≡ y
-one_ok {X} {E} {r} {x} {y} one other = ap (value_or x) (sym one ∙ other)
-  where
-    value_or : X → Result X E → X
-    value_or d (Ok v) = v
-    value_or d (Err k) = d
-
 -- two answers that are faults and one are one fault
 pub same_fault : {X E : Type 0} {r s : Result X E} {e f : E} → r ≡ Err e → s ≡ Err f → r ≡ s → e ≡ f
 same_fault {X} {E} {r} {s} {e} {f} one other is = ap (fault_or e) (sym one ∙ is ∙ other)

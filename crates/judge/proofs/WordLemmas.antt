@@ -1,12 +1,12 @@
 -- What holds of each possible word at an address.
-use Rattle.std.proofs.Common.{◌≡◌, ℕ, ◌<◌, ◌≤◌, Bool, true, refl, sym, ◌∙◌, subst, zero, suc, arith}
+use Rattle.std.proofs.Common.{◌≡◌, ℕ, ◌<◌, ◌≤◌, Bool, true, refl, sym, ap, ◌∙◌, subst, zero, suc, arith}
 use Rattle.std.specs.Prelude.{IsTrue, ◌↔◌}
 use Rattle.std.proofs.Math.Dec.{leb}
 use Rattle.std.proofs.lemmas.Bool.{leb-true, le-leb}
 use Rattle.std.specs.Prelude.{◌==◌, Option, Some, None, IfSome}
 use Rattle.std.proofs.lemmas.Bool.{eq-eqb, eqb-true, ne_eqb, cases_eq}
 use Rattle.std.proofs.Common.{false, inl, inr}
-use Rattle.wordset.specs.Words.{Words, SameWords, how_many, one}
+use Rattle.wordset.specs.Words.{Words, how_many, one}
 use Rattle.instruct.specs.Instructions.{meaning_of}
 use Rattle.declaration.specs.Declaration.{Routine, IsDeclared}
 use Rattle.domain.specs.Facts.{Fact, Place, possible}
@@ -20,27 +20,18 @@ same_body : (j : Case) (a : ℕ) (r q : Routine) → IsDeclared j.declaration �
 same_body j a r q d here there = d.bodies_apart a r q here.body there.body
 
 -- how many words
-pub many_same : (n : ℕ) (s t : Words) → ((v : ℕ) → v < n → s v ≡ t v) → how_many n s ≡ how_many n t
-unfolding how_many
-many_same zero s t h = refl
-many_same (suc n) s t h =
-    let here : s n ≡ t n = h n (omega arith) in
-    let rest : how_many n s ≡ how_many n t = many_same n s t (λ v lt. h v (omega arith)) in
-    rw (here, rest) refl
-
-pub few_iff : (j : Case) (a : ℕ) (r : Routine) (s : Words) (b : Bool) (n : ℕ) → IsDeclared j.declaration → IsIn j r a → SameWords s (possible (place_in j r) (fact_at j a) a) →
+pub few_iff : (j : Case) (a : ℕ) (r : Routine) (s : Words) (b : Bool) (n : ℕ) → IsDeclared j.declaration → IsIn j r a → s ≡ possible (place_in j r) (fact_at j a) a →
     n ≡ how_many 4096 s → (IsTrue b ↔ (n ≤ 64)) → IsTrue b ↔ HasFewWords j a
-few_iff j a r s b n d here same count h = (
-  λ t q there. (let e : r ≡ q = same_body j a r q d here there in
-      let le : how_many 4096 (possible (place_in j r) (fact_at j a) a) ≤ 64 = subst (λ m. m ≤ 64) (count ∙ many_same 4096 s _ same) (h.0 t) in
-      subst (λ k. how_many 4096 (possible (place_in j k) (fact_at j a) a) ≤ 64) e le),
-  λ f. h.1 (subst (λ m. m ≤ 64) (sym (count ∙ many_same 4096 s _ same)) (f r here)),
-)
+few_iff j a r s b n d here is count h =
+    let many : n ≡ how_many 4096 (possible (place_in j r) (fact_at j a) a) = count ∙ ap (how_many 4096) is in (
+      λ t q there. subst (λ k. how_many 4096 (possible (place_in j k) (fact_at j a) a) ≤ 64) (same_body j a r q d here there) (subst (λ m. m ≤ 64) many (h.0 t)),
+      λ f. h.1 (subst (λ m. m ≤ 64) (sym many) (f r here)),
+    )
 
-pub few_where_asked : (j : Case) (v : Condition) (a : ℕ) (r : Routine) (s : Words) (n : ℕ) → IsDeclared j.declaration → IsIn j r a → SameWords s (possible (place_in j r) (fact_at j a) a) →
+pub few_where_asked : (j : Case) (v : Condition) (a : ℕ) (r : Routine) (s : Words) (n : ℕ) → IsDeclared j.declaration → IsIn j r a → s ≡ possible (place_in j r) (fact_at j a) a →
     n ≡ how_many 4096 s → asks_few v ≡ true → IsTrue (leb n 64) ↔ (asks_few v ≡ true → HasFewWords j a)
-few_where_asked j v a r s n d here same count asked =
-    let few : IsTrue (leb n 64) ↔ HasFewWords j a = few_iff j a r s (leb n 64) n d here same count (λ t. leb-true n 64 t, λ le. le-leb n 64 le) in
+few_where_asked j v a r s n d here is count asked =
+    let few : IsTrue (leb n 64) ↔ HasFewWords j a = few_iff j a r s (leb n 64) n d here is count (λ t. leb-true n 64 t, λ le. le-leb n 64 le) in
     (λ t e. few.0 t, λ h. few.1 (h asked))
 
 -- a condition at an address
@@ -59,11 +50,21 @@ holds_each j _ a le h = h
 pub holds_iff : (j : Case) (v : Condition) (a : ℕ) (b : Bool) → 2 ≤ place_among v → (asks_few v ≡ true → HasFewWords j a) → (IsTrue b ↔ HoldsForEach j v a) → IsTrue b ↔ HoldsAt j v a
 holds_iff j v a b le few h = (λ t. holds_from j v a le few (h.0 t), λ holds. h.1 (holds_each j v a le holds))
 
+-- each word that is possible
+pub each_possible : (j : Case) (v : Condition) (a : ℕ) (r : Routine) (s : Words) (b : Bool) → IsDeclared j.declaration → IsIn j r a → s ≡ possible (place_in j r) (fact_at j a) a →
+    (IsTrue b ↔ ((w : ℕ) → w < 4096 → s w ≡ true → HoldsFor j v r a (meaning_of j.declaration.profile a w))) → IsTrue b ↔ HoldsForEach j v a
+each_possible j v a r s b d here is told = (
+  λ t q w there lt has. (let e : r ≡ q = same_body j a r q d here there in
+      subst (λ k. HoldsFor j v k a (meaning_of j.declaration.profile a w)) e
+      (told.0 t w lt (ap (λ (x : Words). x w) is ∙ subst (λ k. possible (place_in j k) (fact_at j a) a w ≡ true) (sym e) has))),
+  λ all. told.1 (λ w lt has. all r w here lt (ap (λ (x : Words). x w) (sym is) ∙ has)),
+)
+
 -- the tape's word, where it's no variable
-pub only_there : (pl : Place) (f : Fact) (a : ℕ) (o : Option ℕ) → pl.declaration.variable a ≡ false → o ≡ pl.image a → IfSome o (λ w. SameWords (possible pl f a) (one w))
+pub only_there : (pl : Place) (f : Fact) (a : ℕ) (o : Option ℕ) → pl.declaration.variable a ≡ false → o ≡ pl.image a → IfSome o (λ w. possible pl f a ≡ one w)
 unfolding possible
 only_there pl f a None v e = tt
-only_there pl f a (Some w) v e = λ x lt. rw (v, ← e) refl
+only_there pl f a (Some w) v e = rw (v, ← e) refl
 
 -- one word alone is one word
 count_none : (n w : ℕ) → n ≤ w → how_many n (one w) ≡ 0
@@ -83,14 +84,10 @@ count_one (suc n) w lt = elim (cases_eq n w) [
 
 -- a condition of the only word that is possible
 pub holds_only : (j : Case) (v : Condition) (a : ℕ) (r : Routine) (w : ℕ) (b : Bool) → 2 ≤ place_among v → IsDeclared j.declaration → IsIn j r a →
-    SameWords (possible (place_in j r) (fact_at j a) a) (one w) → w < 4096 → (IsTrue b ↔ HoldsFor j v r a (meaning_of j.declaration.profile a w)) → IsTrue b ↔ HoldsAt j v a
-holds_only j v a r w b le d here same small told = holds_iff j v a b le few (each, λ all. told.1 (all r w here small (same w small ∙ eq-eqb w w refl)))
-  where
-    few : asks_few v ≡ true → HasFewWords j a
-    few asked = (few_iff j a r (one w) true 1 d here (λ x lt. sym (same x lt)) (sym (count_one 4096 w small)) (λ t. omega arith, λ le. refl)).0 refl
-
-    each : IsTrue b → HoldsForEach j v a
-    each t q x there lt is =
-        let e : x ≡ w = eqb-true x w (sym (same x lt) ∙ subst (λ k. possible (place_in j k) (fact_at j a) a x ≡ true) (sym (same_body j a r q d here there)) is) in
-        subst (λ k. HoldsFor j v k a (meaning_of j.declaration.profile a x)) (same_body j a r q d here there)
-        (subst (λ y. HoldsFor j v r a (meaning_of j.declaration.profile a y)) (sym e) (told.0 t))
+    possible (place_in j r) (fact_at j a) a ≡ one w → w < 4096 → (IsTrue b ↔ HoldsFor j v r a (meaning_of j.declaration.profile a w)) → IsTrue b ↔ HoldsAt j v a
+holds_only j v a r w b le d here is small told =
+    holds_iff j v a b le (λ asked. (few_iff j a r (one w) true 1 d here (sym is) (sym (count_one 4096 w small)) (λ t. omega arith, λ le. refl)).0 refl)
+    (each_possible j v a r (one w) b d here (sym is) (
+      λ t x lt has. subst (λ y. HoldsFor j v r a (meaning_of j.declaration.profile a y)) (sym (eqb-true x w has)) (told.0 t),
+      λ all. told.1 (all w small (eq-eqb w w refl)),
+    ))

@@ -1,5 +1,5 @@
 -- What is certified, and why something isn't.
-use Rattle.std.specs.Prelude.{◌≡◌, ◌≢◌, ℕ, ◌≤◌, ◌⊎◌, ⊤, Option, List, length, take}
+use Rattle.std.specs.Prelude.{◌≡◌, ◌≢◌, ℕ, ◌⊎◌, ⊤, Option, List, take, Ok, Err}
 use Rattle.bin_tape.specs.Tape.{IsTape}
 use Rattle.bin_tape.specs.Refuses.{Refuses}
 use Rattle.peripherals.specs.Loading.{image_of}
@@ -7,10 +7,8 @@ use Rattle.declaration.specs.Kept as declared
 use Rattle.declaration.specs.Text.{Declares, Fails, ListsRoutines}
 use Rattle.declaration.specs.Declaration.{Declaration}
 use Rattle.declaration.specs.declared.DeclarationFault.TheVariants as declaration
-use Rattle.certificate.specs.Spelling.{text}
-use Rattle.certificate.specs.Reading.{AreLines}
 use Rattle.certificate.specs.Kept as certified
-use Rattle.certificate.specs.Faults.{HasFault, AsksForMemory, most_bytes}
+use Rattle.certificate.specs.Faults.{reading, AsksForMemory}
 use Rattle.processor.specs.Runs.{Image}
 use Rattle.judge.specs.Conditions.{Case, IsFirst, IsValid}
 use Rattle.judge.specs.declared.judging.Refusal.{Refusal}
@@ -39,15 +37,13 @@ case_of p = record { image = words_of p; declaration = declaration_of p; certifi
 abbrev pub IsTapeOf : List ℕ → List (Option ℕ) → Type 0
 IsTapeOf tape image = IsTape (take 65536 tape) image
 
--- The bytes are a tape, the text of a declaration with these routines in its order, and the text of a certificate that
--- isn't too long, and say this.
+-- The bytes are a tape, the text of a declaration with these routines in its order, and a text that is read as a
+-- certificate, and say this.
 pub record AreRead (tape declaration certificate : List ℕ) (p : Parts) : Type 0 where
   pub is_tape : IsTapeOf tape p.image
   pub declares : Declares declaration (declaration_of p)
   pub lists : ListsRoutines declaration (declared.routines_of p.declaration)
-  pub are_lines : AreLines (certified.meaning p.certificate)
-  pub is_text : certificate ≡ text (certified.meaning p.certificate)
-  pub is_short : length certificate ≤ most_bytes
+  pub is_certificate : reading certificate ≡ Ok (certified.meaning p.certificate)
 
 -- The bytes are a tape, whichever words it has.
 abbrev pub IsSomeTape : List ℕ → Type 0
@@ -71,7 +67,7 @@ FailFirst t d c r = (p : Parts) × AreRead t d c p × IsFirst (case_of p) r.cond
 abbrev pub IsRefused : (tape declaration certificate : List ℕ) → CertifyFault → Type 0
 IsRefused t d c (fault.Tape f) = Refuses 65536 t f
 IsRefused t d c (fault.Declaration f) = IsSomeTape t × Fails d f × (f ≢ declaration.NoMemory)
-IsRefused t d c (fault.Certificate f) = IsSomeTape t × DeclaresSomething d × HasFault c f
+IsRefused t d c (fault.Certificate f) = IsSomeTape t × DeclaresSomething d × (reading c ≡ Err f)
 IsRefused t d c (fault.Refused r) = FailFirst t d c r
 IsRefused t d c fault.NoMemory = IsSomeTape t × (Fails d declaration.NoMemory ⊎ (DeclaresSomething d × AsksForMemory c))
 

@@ -1,10 +1,8 @@
 //! What is asked of calls and returns.
 
-ghost use Rattle.std.specs.Prelude.{ℕ, ◌≡◌, ◌<◌, ◌≤◌, ◌↔◌, Some, true, IsTrue};
+ghost use Rattle.std.specs.Prelude.{◌≡◌, ◌<◌, ◌↔◌, Some, true, IsTrue};
 ghost use Rattle.wordset.specs.Lanes.{words};
 ghost use Rattle.instruct.specs.Instructions.{meaning_of};
-ghost use Rattle.wordset.specs.Words.{everything};
-ghost use Rattle.domain.specs.Changes.{with_offsets};
 ghost use Rattle.domain.specs.Meaning.{meaning};
 ghost use Rattle.facts.specs.declared.Condition.TheVariants.{V7, V8, V9, V10, V11, V12};
 ghost use Rattle.judge.specs.Conditions.{MayCall, MayReturn, CoversCallee, LandsAfter, EachTarget, fact_at};
@@ -266,7 +264,7 @@ impl<A: Allocator, C: Claims> ProgramPoint<'_, A, C> {
         requires spot { IsProgramPoint C.claims self.now }
         requires offset { offset < 8 }
         requires there { (case_of C.claims self.now).certificate.has_exit entry offset ≡ true }
-        requires exit { with_offsets everything (meaning exit.now) ≡
+        requires exit { meaning exit.now ≡
             (case_of C.claims self.now).certificate.exit entry offset }
         ensures { IsTrue result ↔
             LandsBy (case_of C.claims self.now) (routine_at self.now) self.now.at entry offset }

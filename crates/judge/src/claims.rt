@@ -1,10 +1,10 @@
 //! What the checker asks of a certificate.
 
-ghost use Rattle.std.specs.Prelude.{ℕ, ◌≡◌, ◌<◌, true, false, is_some, IfSome, IfNone, MatchOption};
-ghost use Rattle.wordset.specs.Words.{everything, nothing, HasNoneFrom, IsFirstFrom};
+ghost use Rattle.std.specs.Prelude.{◌≡◌, true, false, is_some, IfSome, IfNone, MatchOption};
+ghost use Rattle.wordset.specs.Words.{nothing, HasNoneFrom, IsFirstFrom};
 ghost use Rattle.wordset.specs.Lanes.{words};
-ghost use Rattle.domain.specs.Changes.{with_offsets};
 ghost use Rattle.domain.specs.Meaning.{meaning};
+ghost use Rattle.domain.specs.Statements.{all_offsets};
 ghost use Rattle.certificate.specs.Certificate as said;
 ghost use Rattle.certificate.specs.Certificate.{names_routine, claimed};
 ghost use Rattle.certificate.specs.Kept.{claims};
@@ -65,9 +65,8 @@ pub trait Claims {
     /// lent fact then says; else it's left as it is. It has all offsets, since nothing is asked of them.
     fn exit_into(&self, entry: Word, offset: usize, exit: &mut Fact) -> bool
         ensures there { result ≡ (claims self.now).has_exit entry offset }
-        ensures fact { result ≡ true →
-            with_offsets everything (meaning exit.new) ≡ (claims self.now).exit entry offset }
-        ensures offsets { result ≡ true → (o : ℕ) → o < 8 → (meaning exit.new).offsets o ≡ true }
+        ensures fact { result ≡ true → meaning exit.new ≡ (claims self.now).exit entry offset }
+        ensures offsets { result ≡ true → (meaning exit.new).offsets ≡ all_offsets }
         ensures kept { result ≡ false → exit.new ≡ exit.old };
 }
 

@@ -2,8 +2,6 @@
 
 ghost use Rattle.std.specs.Prelude.{ℕ, ◌≡◌, ◌<◌, ◌↔◌, true, IsTrue};
 ghost use Rattle.wordset.specs.Lanes.{words};
-ghost use Rattle.domain.specs.Facts as said;
-ghost use Rattle.domain.specs.Same.{Agree};
 ghost use Rattle.facts.specs.Knowing.{fact_of_state};
 ghost use Rattle.facts.specs.Slots.{successor_of, slot, slots};
 ghost use Rattle.facts.specs.declared.Condition.TheVariants.{V4};
@@ -48,8 +46,8 @@ impl<A: Allocator, C: Claims> ProgramPoint<'_, A, C> {
         next: &mut Fact,
     ) -> bool
         requires { Shows (C.claims self.now.claims.now) self.now.following.now }
-        ensures { (f : said.Fact) → Agree (fact_of_state known.now) f →
-            IsTrue result ↔ LandsAt (case_of C.claims self.now) owner.now at f }
+        ensures { IsTrue result ↔
+            LandsAt (case_of C.claims self.now) owner.now at (fact_of_state known.now) }
     {
         if !self.is_inside(owner, at) {
             return false;

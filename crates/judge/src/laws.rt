@@ -1,6 +1,6 @@
 //! Laws over the definitions alone. Each is the contract of a function that does nothing.
 
-ghost use Rattle.judge.specs.Laws.{FactsHoldInEvents, FactsHoldInRuns, FirstIsOne, KeptSetsAreOfWords, SameClaimsAreValidAlike, SameClaimsHoldAlike, TextsAreValidAlike, TextsFailAlike};
+ghost use Rattle.judge.specs.Laws.{FactsHoldInEvents, FactsHoldInRuns, FirstIsOne, TextsMakeOneCase};
 
 /// The facts of a valid certificate are true: wherever a declared run may go on there is a fact, and
 /// it holds.
@@ -14,18 +14,9 @@ pub fn first_is_one()
     ensures { FirstIsOne }
 {}
 
-/// Of two certificates that claim the same, each condition holds of both or of neither, where their
-/// sets are of words, as they are of each certificate that is kept.
-pub fn same_claims_hold_alike()
-    ensures kept { KeptSetsAreOfWords }
-    ensures holds { SameClaimsHoldAlike }
-    ensures valid { SameClaimsAreValidAlike }
-{}
-
 /// The bytes of a tape, a declaration and a certificate are judged in one way, whatever parts they
 /// are read as. So where the text of a certificate of which every condition holds is read, it is
 /// accepted.
 pub fn texts_are_judged_alike()
-    ensures valid { TextsAreValidAlike }
-    ensures first { TextsFailAlike }
+    ensures { TextsMakeOneCase }
 {}

@@ -1,14 +1,14 @@
 //! Certified programs: a tape, a declaration and a certificate that meets every condition.
 
-ghost use Rattle.std.specs.Prelude.{◌≡◌, ◌≢◌, ◌⊎◌, Err, IfOk, IfErr, IsErrAnd, OnErr};
+ghost use Rattle.std.specs.Prelude.{◌≡◌, ◌≢◌, ◌⊎◌, Ok, Err, IfOk, IfErr, IsErrAnd, OnErr};
 ghost use Rattle.bin_tape.specs.Refuses.{Refuses};
 ghost use Rattle.bin_tape.specs.declared.fault.TapeFault.{TapeFault as TapesFault};
 ghost use Rattle.declaration.specs.Text.{Fails};
 ghost use Rattle.declaration.specs.declared.DeclarationFault.{DeclarationFault as DeclarationsFault};
 ghost use Rattle.declaration.specs.declared.DeclarationFault.TheVariants as declaration_fault;
-ghost use Rattle.certificate.specs.declared.Version.{Version};
 ghost use Rattle.certificate.specs.declared.CertificateFault.{CertificateFault as CertificatesFault};
-ghost use Rattle.certificate.specs.Faults.{IsText, HasFault};
+ghost use Rattle.certificate.specs.Spelling.{Lines};
+ghost use Rattle.certificate.specs.Faults.{reading};
 ghost use Rattle.judge.specs.declared.judging.Refusal.{Refusal as Refusals};
 ghost use Rattle.judge.specs.declared.verdict.CertifyFault.TheVariants as fault;
 ghost use Rattle.peripherals.specs.World.{view, profile_of};
@@ -171,11 +171,11 @@ pub fn certify<A: Allocator + Copy>(
         IsErrAnd result (λ g. (g ≡ fault.NoMemory) ⊎ (g ≡ fault.Declaration f)) }
     // Whichever fault the certificate has is told where the others are good, unless memory is refused.
     ensures certificate_told { (f : CertificatesFault) → IsSomeTape tape.now →
-        DeclaresSomething declaration.now → HasFault certificate.now f →
+        DeclaresSomething declaration.now → reading certificate.now ≡ Err f →
         IsErrAnd result (λ g. (g ≡ fault.NoMemory) ⊎ (g ≡ fault.Certificate f)) }
     // Where all three are good only a condition refuses, unless memory is.
-    ensures judged { (v : Version) → IsSomeTape tape.now → DeclaresSomething declaration.now →
-        IsText v certificate.now → IfErr result (λ g. (g ≡ fault.NoMemory) ⊎ IsRefusal g) }
+    ensures judged { (ls : Lines) → IsSomeTape tape.now → DeclaresSomething declaration.now →
+        reading certificate.now ≡ Ok ls → IfErr result (λ g. (g ≡ fault.NoMemory) ⊎ IsRefusal g) }
     // Whichever condition fails first of three that are good is told, unless memory is refused.
     ensures refusal_told { (r : Refusals) →
         FailFirst tape.now declaration.now certificate.now r →

@@ -2,7 +2,7 @@
 
 ghost use Rattle.std.specs.Prelude.{◌≡◌, ◌<◌, ◌≤◌, ◌↔◌, IsTrue, IfSome, MatchResult, true};
 ghost use Rattle.peripherals.specs.Loading.{image_of};
-ghost use Rattle.wordset.specs.Words.{SameWords, one};
+ghost use Rattle.wordset.specs.Words.{one};
 ghost use Rattle.wordset.specs.Lanes.{words};
 ghost use Rattle.facts.specs.declared.Condition.TheVariants.{V3, V5, V6, V13, V14, V15};
 ghost use Rattle.judge.specs.Conditions.{HoldsAt, HoldsForEach, HasFewWords, place_among};
@@ -74,7 +74,7 @@ impl<A: Allocator, C: Claims> ProgramPoint<'_, A, C> {
     /// The tape's word here, where no other one is possible.
     fn only_word(&self) -> Option<Word>
         requires { IsProgramPoint C.claims self.now }
-        ensures { IfSome result (λ w. SameWords (possible_at C.claims self.now) (one w)) }
+        ensures { IfSome result (λ w. possible_at C.claims self.now ≡ one w) }
     {
         if self.place.declaration.is_variable(self.at) {
             return None;
@@ -85,7 +85,7 @@ impl<A: Allocator, C: Claims> ProgramPoint<'_, A, C> {
     /// The first condition that fails here of the only word that is possible, if one does.
     fn check_word(&self, word: Word, others: &mut Others) -> Result<(), Condition>
         requires spot { IsProgramPoint C.claims self.now }
-        requires only { SameWords (possible_at C.claims self.now) (one word) }
+        requires only { possible_at C.claims self.now ≡ one word }
         ensures { MatchResult result
             (λ _. HoldsBetween (case_of C.claims self.now) 2 15 self.now.at)
             (λ v. FailsFirst (case_of C.claims self.now) 2 self.now.at v) }
@@ -102,7 +102,7 @@ impl<A: Allocator, C: Claims> ProgramPoint<'_, A, C> {
     /// Whether a condition holds here, where a word is the only one that is possible.
     fn holds_for_only(&self, condition: Condition, word: Word, others: &mut Others) -> bool
         requires spot { IsProgramPoint C.claims self.now }
-        requires only { SameWords (possible_at C.claims self.now) (one word) }
+        requires only { possible_at C.claims self.now ≡ one word }
         requires past { 2 ≤ place_among condition }
         ensures { IsTrue result ↔ HoldsAt (case_of C.claims self.now) condition self.now.at }
     {
@@ -133,7 +133,7 @@ impl<A: Allocator, C: Claims> ProgramPoint<'_, A, C> {
     /// The words that are possible here.
     fn possible_words(&self) -> WordSet
         requires { IsProgramPoint C.claims self.now }
-        ensures { SameWords (words result) (possible_at C.claims self.now) }
+        ensures { words result ≡ possible_at C.claims self.now }
     {
         self.place.possible_words(self.fact, self.at)
     }
@@ -141,7 +141,7 @@ impl<A: Allocator, C: Claims> ProgramPoint<'_, A, C> {
     /// Whether a condition holds here.
     fn holds(&self, condition: Condition, possible: &WordSet, others: &mut Others) -> bool
         requires spot { IsProgramPoint C.claims self.now }
-        requires possible { SameWords (words possible.now) (possible_at C.claims self.now) }
+        requires possible { words possible.now ≡ possible_at C.claims self.now }
         requires past { 2 ≤ place_among condition }
         ensures { IsTrue result ↔ HoldsAt (case_of C.claims self.now) condition self.now.at }
     {
@@ -154,7 +154,7 @@ impl<A: Allocator, C: Claims> ProgramPoint<'_, A, C> {
     /// Whether few enough words are possible here, where a condition asks for few.
     fn are_few(&self, condition: Condition, possible: &WordSet) -> bool
         requires spot { IsProgramPoint C.claims self.now }
-        requires possible { SameWords (words possible.now) (possible_at C.claims self.now) }
+        requires possible { words possible.now ≡ possible_at C.claims self.now }
         ensures { IsTrue result ↔
             (asks_few condition ≡ true → HasFewWords (case_of C.claims self.now) self.now.at) }
     {
@@ -168,7 +168,7 @@ impl<A: Allocator, C: Claims> ProgramPoint<'_, A, C> {
     /// Whether a condition holds of each word that is possible here.
     fn holds_for_each(&self, condition: Condition, possible: &WordSet, others: &mut Others) -> bool
         requires spot { IsProgramPoint C.claims self.now }
-        requires possible { SameWords (words possible.now) (possible_at C.claims self.now) }
+        requires possible { words possible.now ≡ possible_at C.claims self.now }
         ensures { IsTrue result ↔ HoldsForEach (case_of C.claims self.now) condition self.now.at }
     {
         self.place.declaration.is_declared();

@@ -57,13 +57,13 @@ eq_swap m n = both_ways (m == n) (n == m) (λ e. eq-eqb n m (sym (eqb-true m n e
 
 -- the images under the sum with k are the set shifted
 pub shifted-images : (a : Words) (k v : ℕ) → v < 4096 → some_below 4096 (λ x. a x && (v == plus x k)) ≡ shifted a k v
-shifted-images a k v h = both_ways (some_below 4096 (λ x. a x && (v == plus x k))) (shifted a k v)
+shifted-images a k v h = both_ways (some_below 4096 (λ x. a x && (v == plus x k))) (a (minus v k))
     (λ e. let s : IsSome 4096 (λ x. a x && (v == plus x k)) = some_to 4096 (λ x. a x && (v == plus x k)) e in
     let sum : v ≡ plus s.at k = eqb-true v (plus s.at k) (and_second (a s.at) (v == plus s.at k) s.holds) in
     let back : minus v k ≡ s.at = undone s.at s.small sum in
     ap a back ∙ and_first (a s.at) (v == plus s.at k) s.holds)
     (λ e. let small : minus v k < 4096 = omega arith in
-    some_from 4096 (λ x. a x && (v == plus x k)) (minus v k) small (and_both (a (minus v k)) (v == plus (minus v k) k) e (eq-eqb v (plus (minus v k) k) (done v k h))))
+    some_from 4096 (λ x. a x && (v == plus x k)) (minus v k) small (and_both (a (minus v k)) (v == plus (minus v k) k) e (eq-eqb v (plus (minus v k) k) (done v k h)))) ∙ sym (ap (λ p. p && a (minus v k)) (lt_to v 4096 h))
   where
     undone : (x : ℕ) → x < 4096 → v ≡ plus x k → minus v k ≡ x
     undone x l e = omega arith

@@ -2,7 +2,7 @@
 //! kernels' tests and timings are compared with.
 
 ghost use Rattle.std.specs.Prelude.{◌≡◌, ◌<◌, ◌+◌, ◌/◌, ◌==◌, ◌&&◌, ◌||◌, ◌↔◌, ℕ, IsTrue, bit_and, bit_or};
-ghost use Rattle.wordset.specs.Words.{SameWords, SameLinks, IsWithin, union, meet, difference, shifted, plus, images_at, how_many, some_below, sums, carries, ands, ors, or_any};
+ghost use Rattle.wordset.specs.Words.{SameWords, IsWithin, union, meet, difference, shifted, plus, images_at, how_many, some_below, sums, carries, ands, ors, or_any};
 ghost use Rattle.wordset.specs.Lanes.{words};
 ghost use Rattle.wordset.specs.Links.{carries_of};
 ghost use Rattle.wordset.specs.Bits.{ands_with, ors_with, ors_of_parts, has_sum_carrying};
@@ -87,7 +87,8 @@ pub fn shift(set: &WordSet, k: Word) -> WordSet
 /// carries with which they come.
 pub fn sums(a: &WordSet, b: &WordSet) -> (WordSet, Carries)
     ensures words { SameWords (words result.0) (sums (words a.now) (words b.now)) }
-    ensures carries { SameLinks (carries_of result.1) (carries (words a.now) (words b.now)) }
+    ensures carries { (k : ℕ) → k < 2 →
+        carries_of result.1 k ≡ carries (words a.now) (words b.now) k }
 {
     let carries = Carries {
         absent: has_carry(a, b, 0),

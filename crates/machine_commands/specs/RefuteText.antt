@@ -1,5 +1,5 @@
 -- What `refute` writes.
-use Rattle.std.specs.Prelude.{ℕ, ◌≡◌, ◌+◌, ◌++◌, ◌⊎◌, Bool, codes, decimal, length, List, Option}
+use Rattle.std.specs.Prelude.{ℕ, ◌≡◌, ◌+◌, ◌++◌, ◌⊎◌, Bool, codes, decimal, length, List, [], Option}
 use Rattle.std.specs.Io.KnownBytes.{Appends}
 use Rattle.peripherals.specs.declared.Event.{Event}
 use Rattle.peripherals.specs.EventText.{Spells}
@@ -9,7 +9,9 @@ use Rattle.policy.specs.declared.rules.Rule.{Rule}
 use Rattle.policy.specs.declared.watcher.Watched.TheVariants.{Broken}
 use Rattle.policy.specs.Watching.{BreaksAt}
 use Rattle.options.specs.declared.RefuteOptions.{RefuteOptions}
-use Rattle.command_parts.specs.Inputs.{HasDeclaration, HasImage}
+use Rattle.command_parts.specs.Answers.{OfProgram}
+use Rattle.command_parts.specs.declared.status.Status.{Status}
+use Rattle.command_parts.specs.declared.status.Status.TheVariants.{Done, Refused}
 use Rattle.machine_commands.specs.Running.{fresh}
 use Rattle.machine_commands.specs.WatchText.{IsTold}
 
@@ -17,14 +19,10 @@ use Rattle.machine_commands.specs.WatchText.{IsTold}
 abbrev pub unbroken_text : ℕ → List ℕ
 unbroken_text steps = codes "not broken in " ++ decimal steps ++ codes " steps\n"
 
--- The frames are a tape and the text is that of a declaration. The list spells a run that breaks it: of these events, from
--- the declared start with all registers and all cells that aren't on the tape 0, the last one is the first step that isn't
--- legal. What is told is what `watch` says of them: its place, and the least rule that it breaks.
-pub record IsWitness (frames text : Option (List ℕ)) (explained : Bool) (list told : List ℕ) : Type 0 where
-  pub image : List (Option ℕ)
-  pub tape : HasImage frames image
-  pub declaration : Declaration
-  pub declares : HasDeclaration text declaration
+-- The list spells a run that breaks the declaration: of these events, from the declared start with all registers and all cells
+-- that aren't on the tape 0, the last one is the first step that isn't legal. What is told is what `watch` says of them: its
+-- place, and the least rule that it breaks.
+pub record IsWitnessOf (explained : Bool) (image : List (Option ℕ)) (declaration : Declaration) (list told : List ℕ) : Type 0 where
   pub events : List Event
   pub spells : Spells list events
   pub event : ℕ
@@ -32,6 +30,17 @@ pub record IsWitness (frames text : Option (List ℕ)) (explained : Bool) (list 
   pub breaks : BreaksAt (image_of image) declaration events (fresh image declaration.start) event rule
   pub last : event + 1 ≡ length events
   pub is : IsTold (Broken event rule) explained told
+
+-- The frames are a tape and the text is that of a declaration; the list spells a run that breaks it, and this is told of it.
+abbrev pub IsWitness : Option (List ℕ) → Option (List ℕ) → Bool → List ℕ → List ℕ → Type 0
+IsWitness frames text explained list told = OfProgram frames text (IsWitnessOf explained) list told
+
+-- What is found in search of a run that breaks the declaration: the command is refused, and the list spells such a run of which
+-- this is told; or it is done, there is no list, and what is told says in how many steps none was found.
+abbrev pub IsRefutationOf : RefuteOptions → List (Option ℕ) → Declaration → Status → List ℕ → List ℕ → Type 0
+IsRefutationOf options image declaration Refused list told = IsWitnessOf options.explained image declaration list told
+IsRefutationOf options image declaration Done list told = (list ≡ []) × (told ≡ unbroken_text options.steps)
+IsRefutationOf options image declaration _ list told = ⊥
 
 -- The list spells such a run, whatever is told of it.
 abbrev pub IsWitnessText : Option (List ℕ) → Option (List ℕ) → Bool → List ℕ → Type 0

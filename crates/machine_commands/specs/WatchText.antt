@@ -11,7 +11,7 @@ use Rattle.policy.specs.declared.watcher.Watched.TheVariants.{Clean, Broken}
 use Rattle.policy.specs.Watching.{IsClean, BreaksAt, LeadsTo, number_of}
 use Rattle.command_parts.specs.declared.status.Status.{Status}
 use Rattle.command_parts.specs.declared.status.Status.TheVariants.{Done, Refused}
-use Rattle.command_parts.specs.Inputs.{HasImage, HasEvents, HasDeclaration}
+use Rattle.command_parts.specs.Answers.{OfRun}
 use Rattle.machine_commands.specs.Running.{fresh}
 use Rattle.machine_commands.specs.Summary.{cells_text}
 
@@ -68,20 +68,13 @@ pub record IsToldWithCells (image : List (Option ℕ)) (d : Declaration) (events
   pub shows : IsShown named image d events watched shown
   pub told_is : told ≡ seen ++ shown
 
--- The frames are a tape, the texts a declaration and a list of events; this is told of what is seen of them.
-pub record IsWatchedSo (frames text list : Option (List ℕ)) (explained : Bool) (named : ℕ → Bool) (told : List ℕ) (status : Status) : Type 0 where
-  pub image : List (Option ℕ)
-  pub tape : HasImage frames image
-  pub declaration : Declaration
-  pub declares : HasDeclaration text declaration
-  pub events : List Event
-  pub spells : HasEvents list events
+-- This is told of what is seen of the run of these events, with the cells that are named, and the status is that of what is seen.
+pub record IsWatchOf (explained : Bool) (named : ℕ → Bool) (image : List (Option ℕ)) (declaration : Declaration) (events : List Event) (status : Status) (told : List ℕ) : Type 0 where
   pub watched : Watched
   pub sees : IsSeen image declaration events watched
   pub is : IsToldWithCells image declaration events watched explained named told
   pub status_is : status ≡ watched_status watched
 
--- The frames are a tape, the texts a declaration and a list of events, and this is told of them, whichever status that
--- has.
-abbrev pub IsWatched : Option (List ℕ) → Option (List ℕ) → Option (List ℕ) → Bool → (ℕ → Bool) → List ℕ → Type 0
-IsWatched frames text list explained named told = (status : Status) × IsWatchedSo frames text list explained named told status
+-- The frames are a tape, the texts a declaration and a list of events; this is told of what is seen of them.
+abbrev pub IsWatchedSo : Option (List ℕ) → Option (List ℕ) → Option (List ℕ) → Bool → (ℕ → Bool) → List ℕ → Status → Type 0
+IsWatchedSo frames text list explained named told status = OfRun frames text list (IsWatchOf explained named) status told

@@ -3,6 +3,7 @@
 #![tactic(auto)]
 
 pub mod follow;
+pub mod messages;
 mod progress;
 pub mod refuting;
 pub mod running;

@@ -1,7 +1,7 @@
 //! The lines that say how far a watched run came. They are tested and not proved.
 
 use bin_tape::Image;
-use command_parts::text::push_place;
+use command_parts::message::{Lines, Message, push_text_and_address};
 use declaration::Declaration;
 use instruct::target;
 use itoa::Buffer;
@@ -82,13 +82,10 @@ fn awaited(panel: &Panel, word: Word) -> &'static [u8] {
 }
 
 /// Adds where a run stands: at which HLT, or where it waits and for which device, or at which address.
-fn push_standing<A: Allocator, B: Allocator>(
-    text: &mut Vec<u8, A>,
-    world: &World<B>,
-) -> Result<(), AllocError> {
+fn push_standing<L: Lines, B: Allocator>(text: &mut L, world: &World<B>) -> Result<(), AllocError> {
     if let Some(at) = world.halted_at() {
-        push_place(text, b"halted at ", at)?;
-        return text.extend_from_slice(b"\n");
+        push_text_and_address(text, b"halted at ", at)?;
+        return text.push_text(b"\n");
     }
     let cpu = world.cpu();
     let at = jump_from(cpu, cpu.pc).unwrap_or(cpu.pc);
@@ -97,28 +94,24 @@ fn push_standing<A: Allocator, B: Allocator>(
         _ => b"",
     };
     if device.is_empty() {
-        push_place(text, b"stands at ", cpu.pc)?;
+        push_text_and_address(text, b"stands at ", cpu.pc)?;
     } else {
-        push_place(text, b"waits at ", at)?;
-        text.extend_from_slice(b", for the ")?;
-        text.extend_from_slice(device)?;
+        push_text_and_address(text, b"waits at ", at)?;
+        text.push_text(b", for the ")?;
+        text.push_text(device)?;
     }
-    text.extend_from_slice(b"\n")
+    text.push_text(b"\n")
 }
 
 /// Adds a name and a count.
-fn push_count<A: Allocator>(
-    text: &mut Vec<u8, A>,
-    name: &[u8],
-    count: usize,
-) -> Result<(), AllocError> {
-    text.extend_from_slice(name)?;
-    text.extend_from_slice(Buffer::new().format(count).as_bytes())
+fn push_count<L: Lines>(text: &mut L, name: &[u8], count: usize) -> Result<(), AllocError> {
+    text.push_text(name)?;
+    text.push_text(Buffer::new().format(count).as_bytes())
 }
 
 /// Adds how far a run came, and where it stands.
-fn push_progress<A: Allocator, B: Allocator>(
-    text: &mut Vec<u8, A>,
+fn push_progress<L: Lines, B: Allocator>(
+    text: &mut L,
     world: &World<B>,
     came: &Progress,
     offered: Offered,
@@ -130,7 +123,7 @@ fn push_progress<A: Allocator, B: Allocator>(
     push_count(text, b" of ", offered.keys)?;
     push_count(text, b", bytes printed ", world.printed().len())?;
     push_count(text, b", bytes punched ", world.punched().len())?;
-    text.extend_from_slice(b"\n")?;
+    text.push_text(b"\n")?;
     push_standing(text, world)
 }
 
@@ -153,7 +146,7 @@ pub(crate) fn progress_lines<A: Allocator + Copy, D: Allocator>(
     declaration: &Declaration<D>,
     events: &[Event],
     offered: Offered,
-) -> Result<Vec<u8, A>, NoMemory> {
+) -> Result<Message<A>, NoMemory> {
     let start = Start::zero();
     let mut world = World::load(
         alloc,
@@ -173,7 +166,7 @@ pub(crate) fn progress_lines<A: Allocator + Copy, D: Allocator>(
             came.count(event, &seen);
         }
     }
-    let mut text = Vec::new(alloc);
+    let mut text = Message::new(alloc);
     push_progress(&mut text, &world, &came, offered)?;
     Ok(text)
 }

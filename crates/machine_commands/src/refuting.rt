@@ -1,34 +1,19 @@
 //! The command that looks for a run that breaks a declaration.
 
-ghost use Rattle.std.specs.Prelude.{◌≡◌, ◌||◌, ◌⊎◌, false, true, IfOk, IfErr, OnErr};
-ghost use Rattle.command_parts.specs.Faults.{IsRefuteFault, is_fault_of_tape, fails_to_read, fails_to_write};
-ghost use Rattle.command_parts.specs.Inputs.{IsGoodTape, TakesAtMost, TakesTape, input};
+ghost use Rattle.std.specs.Prelude.{◌≡◌, ◌||◌, ◌⊎◌, false, true, IfOk, OnErr};
+ghost use Rattle.command_parts.specs.Answers.{IsLaterFault, IsMemoryFault, ReadsTwo};
+ghost use Rattle.command_parts.specs.Faults.{fails_to_write};
+ghost use Rattle.command_parts.specs.Inputs.{input};
 ghost use Rattle.command_parts.specs.Writes.{FrontOf, Writes, WritesNothingOr};
 ghost use Rattle.command_parts.specs.declared.status.Status.TheVariants.{Done, Refused};
 ghost use Rattle.machine_commands.specs.RefuteText.{IsToldOfWitness, IsWitnessText, WritesWitness, unbroken_text};
 
-use crate::progress::offered_by;
-use crate::watching::told_of;
-use command_parts::inputs::{declaration_from, tape_from};
+use crate::messages::{told_witness, unbroken_line};
+use command_parts::programs::program_from;
 use command_parts::status::{Fault, Status};
-use itoa::Buffer;
 pub use options::RefuteOptions;
-use policy::Watched;
-use refuter::{Witness, refute_within};
-use std::alloc::{AllocError, Allocator};
+use std::alloc::Allocator;
 use streams::{ByteSink, ByteSource, put};
-use turns::Turns;
-
-/// The line that says in how many steps nothing was found.
-fn unbroken_line<A: Allocator>(alloc: A, steps: u32) -> Result<Vec<u8, A>, AllocError>
-    ensures { IfOk result (λ text. text.items ≡ unbroken_text steps) }
-{
-    let mut text = Vec::new(alloc);
-    text.extend_from_slice(b"not broken in ")?;
-    text.extend_from_slice(Buffer::new().format(steps).as_bytes())?;
-    text.extend_from_slice(b" steps\n")?;
-    Ok(text)
-}
 
 /// Looks for a run of a tape's program that breaks its declaration, and writes it: to `out` the text
 /// of its events, of which the last one breaks a rule, and to `report` the line that `watch` writes
@@ -63,11 +48,6 @@ pub fn refute<A: Allocator + Copy, R: ByteSource, D: ByteSource, W: ByteSink, P:
     ensures unbroken { IfOk result (λ status. status ≡ Done → Writes
         (λ line. line ≡ unbroken_text options.steps) (P.taken report.old) (P.taken report.new)) }
     ensures unwritten { IfOk result (λ status. status ≡ Done → out.new ≡ out.old) }
-    // A fault is that of the first input that has one, or else of a write or of memory.
-    ensures faults { IfErr result (IsRefuteFault
-        (input (R.mark tape.new) (R.remaining tape.old) (R.remaining tape.new))
-        (input (D.mark declaration.new) (D.remaining declaration.old)
-        (D.remaining declaration.new))) }
     // Where a write of the run failed, a front of one went out, and nothing is reported,
     ensures front { W.mark out.new ≡ true → FrontOf
         (IsWitnessText (R.remaining tape.old) (D.remaining declaration.old) options.explained)
@@ -86,53 +66,22 @@ pub fn refute<A: Allocator + Copy, R: ByteSource, D: ByteSource, W: ByteSink, P:
         W.taken out.new ≡ W.taken out.old) }
     ensures nothing_reported { OnErr result (P.mark report.new ≡ false →
         P.taken report.new ≡ P.taken report.old) }
-    // A write failed exactly where the answer says so, and so did a read.
+    // A write failed exactly where the answer says so.
     ensures marks { W.mark out.new || P.mark report.new ≡ fails_to_write result }
-    ensures reads { R.mark tape.new || D.mark declaration.new ≡ fails_to_read result }
-    // The declaration isn't read after a tape that is refused, or whose read failed,
-    ensures unread { IfErr result (λ fault. is_fault_of_tape fault ≡ true →
-        declaration.new ≡ declaration.old) }
-    ensures unread_after_failure { R.mark tape.new ≡ true → declaration.new ≡ declaration.old }
-    // but only after a good tape.
-    ensures declaration_after_tape { (declaration.new ≡ declaration.old) ⊎
-        IsGoodTape (R.remaining tape.old) }
-    // No input is read past its limit.
-    ensures takes_tape { TakesTape (R.remaining tape.old) (R.remaining tape.new) }
-    ensures takes_declaration { TakesAtMost 16385
-        (D.remaining declaration.old) (D.remaining declaration.new) }
+    // The inputs are read in order; after good ones a write may fail, or memory be refused.
+    ensures reads { ReadsTwo (IsLaterFault IsMemoryFault)
+        (input (R.mark tape.new) (R.remaining tape.old) (R.remaining tape.new))
+        (input (D.mark declaration.new) (D.remaining declaration.old) (D.remaining declaration.new))
+        (declaration.new ≡ declaration.old) result }
 {
-    let image = tape_from(tape)?;
-    let promised = declaration_from(alloc, declaration)?;
-    let mut turns = Turns::new(options.steps);
-    let Some(found) = refute_within(
-        alloc,
-        &image,
-        &promised,
-        u64::from(options.seed),
-        &mut turns,
-    )?
-    else {
+    let program = program_from(alloc, tape, declaration)?;
+    let (image, promised) = (&program.image, &program.declaration);
+    let Some(found) = told_witness(alloc, image, promised, &options)? else {
         let line = unbroken_line(alloc, options.steps)?;
         put(report, &line)?;
         return Ok(Status::Done);
     };
-    let Witness {
-        events,
-        text,
-        event,
-        rule,
-    } = found;
-    let watched = Watched::Broken { event, rule };
-    let told = told_of(
-        alloc,
-        &image,
-        &promised,
-        &events,
-        offered_by(&events),
-        watched,
-        options.explained,
-    )?;
-    put(out, &text)?;
-    put(report, &told)?;
+    put(out, &found.events)?;
+    put(report, found.told.as_bytes())?;
     Ok(Status::Refused)
 }

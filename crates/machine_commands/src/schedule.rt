@@ -1,19 +1,22 @@
 //! What comes in a run: which event is due next.
 
-ghost use Rattle.std.specs.Prelude.{ℕ, ◌≡◌, ◌+◌, ◌<◌, ◌≤◌, Bool, true, false, None, Ok, List, [], ◌∷◌, IfOk, IfErr, IfSome, OnErr, is_err};
+ghost use Rattle.std.specs.Prelude.{ℕ, ◌≡◌, ◌+◌, ◌++◌, ◌<◌, ◌≤◌, Bool, true, false, not, None, Ok, List, [], ◌∷◌, IfOk, IfErr, IfSome, OnErr, OnOk, is_err};
 ghost use Rattle.instruct.specs.declared.Profile.{Profile};
 ghost use Rattle.peripherals.specs.declared.Event.{Event};
 ghost use Rattle.peripherals.specs.declared.Event.TheVariants.{Step, PrinterDone, PunchDone};
 ghost use Rattle.peripherals.specs.Devices.{WorldState};
 ghost use Rattle.peripherals.specs.Events.{completed};
+ghost use Rattle.peripherals.specs.Operator.{plan_of};
 ghost use Rattle.peripherals.specs.World.{view, profile_of};
 ghost use Rattle.command_parts.specs.declared.status.Fault.TheVariants.{Device};
 ghost use Rattle.command_parts.specs.declared.status.DeviceFault.TheVariants.{Read};
-ghost use Rattle.machine_commands.specs.Schedule.{Extent, UpToAny, UpToRead};
+ghost use Rattle.machine_commands.specs.Follows.{goes_on};
+ghost use Rattle.machine_commands.specs.Schedule.{Extent, UpToAny, UpToRead, Whole};
+ghost use Rattle.machine_commands.specs.Session.{comes_by};
 ghost use Rattle.machine_commands.specs.SessionParts.{IsNext, steps_in};
 
 use command_parts::status::Fault;
-use peripherals::{Event, Operator, World};
+use peripherals::{Event, NoMemory, Operator, Seen, World};
 use std::alloc::Allocator;
 
 /// Says which event is due next.
@@ -97,4 +100,40 @@ impl Scheduler for Operator<'_> {
     fn complete_devices<A: Allocator>(&mut self, world: &mut World<A>) {
         self.complete(world);
     }
+}
+
+/// Adds an event.
+fn keep<A: Allocator>(events: &mut Vec<Event, A>, event: &Event) -> Result<(), NoMemory>
+    ensures { OnOk result (events.new.items ≡ events.old.items ++ event.now ∷ []) }
+{
+    events.push(*event).map_err(|_| NoMemory)
+}
+
+/// Whether a run ends with what was seen: at a halt and at an unsupported word.
+fn ends(seen: &Seen) -> bool
+    ensures { result ≡ not (goes_on true seen.now) }
+{
+    matches!(seen, Seen::Halted | Seen::Unsupported(_))
+}
+
+/// The events that come with an operator, each where it is due. They end early at a halt and at an
+/// unsupported word.
+pub(crate) fn events_of<A: Allocator, B: Allocator>(
+    alloc: A,
+    world: &mut World<B>,
+    operator: &mut Operator<'_>,
+) -> Result<Vec<Event, A>, NoMemory>
+    requires first { operator.old.last ≡ None }
+    ensures come { IfOk result (λ events.
+        comes_by (plan_of operator.old) (profile_of world.old) (view world.old) Whole events.items) }
+{
+    let mut events = Vec::new(alloc);
+    while let Some(event) = operator.next(world) {
+        let seen = world.apply(event)?;
+        keep(&mut events, &event)?;
+        if ends(&seen) {
+            return Ok(events);
+        }
+    }
+    Ok(events)
 }

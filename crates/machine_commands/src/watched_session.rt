@@ -1,114 +1,55 @@
 //! The command that watches a run with an operator.
 
-ghost use Rattle.std.specs.Prelude.{◌≡◌, ◌||◌, ◌⊎◌, ◌++◌, ◌∷◌, [], false, true, not, None, IfOk, IfErr, OnOk, OnErr};
+ghost use Rattle.std.specs.Prelude.{◌≡◌, ◌||◌, ◌⊎◌, false, true, IfOk, IfErr, OnErr};
 ghost use Rattle.streams.specs.Bytes.{Gave};
 ghost use Rattle.wordset.specs.Lanes.{words};
 ghost use Rattle.declaration.specs.Kept.{meaning};
-ghost use Rattle.peripherals.specs.Operator.{plan_of};
-ghost use Rattle.peripherals.specs.World.{view, profile_of};
 ghost use Rattle.command_parts.specs.Faults.{IsRunFault, is_fault_of_declaration, is_fault_of_tape, fails_to_read, fails_to_write};
 ghost use Rattle.command_parts.specs.Inputs.{AreFirst, IsGoodDeclaration, IsGoodTape, TakesAtMost, TakesTape, input};
 ghost use Rattle.command_parts.specs.Writes.{FrontOf, Writes};
-ghost use Rattle.machine_commands.specs.Follows.{goes_on};
-ghost use Rattle.machine_commands.specs.Schedule.{Whole};
-ghost use Rattle.machine_commands.specs.Session.{comes_by};
+ghost use Rattle.machine_commands.specs.Session.{plan_for};
 ghost use Rattle.machine_commands.specs.WatchedSession.{IsPlanWatched, IsPlanWatchedSo, IsSessionWatched, IsSessionWatchedSo, IsWatchedSessionFault};
 
-use crate::progress::Offered;
-use crate::watching::{told_with_cells, watched_status};
+use crate::messages::watch_session_message;
 use bin_tape::Image;
 use command_parts::inputs::{bytes_from, declaration_from, tape_from};
 use command_parts::status::{Fault, Status};
 use declaration::Declaration;
 pub use options::SessionOptions;
-use peripherals::{Event, NoMemory, Operator, Seen, Start, World};
 use std::alloc::Allocator;
 use streams::{ByteSink, ByteSource, put};
-use wordset::WordSet;
 
-/// Adds an event.
-fn keep<A: Allocator>(events: &mut Vec<Event, A>, event: &Event) -> Result<(), NoMemory>
-    ensures { OnOk result (events.new.items ≡ events.old.items ++ event.now ∷ []) }
-{
-    events.push(*event).map_err(|_| NoMemory)
-}
-
-/// Whether a run ends with what was seen: at a halt and at an unsupported word.
-fn ends(seen: &Seen) -> bool
-    ensures { result ≡ not (goes_on true seen.now) }
-{
-    matches!(seen, Seen::Halted | Seen::Unsupported(_))
-}
-
-/// The events that come with an operator, each where it is due. They end early at a halt and at an
-/// unsupported word.
-fn events_of<A: Allocator, B: Allocator>(
-    alloc: A,
-    world: &mut World<B>,
-    operator: &mut Operator<'_>,
-) -> Result<Vec<Event, A>, NoMemory>
-    requires first { operator.old.last ≡ None }
-    ensures come { IfOk result (λ events.
-        comes_by (plan_of operator.old) (profile_of world.old) (view world.old) Whole events.items) }
-{
-    let mut events = Vec::new(alloc);
-    while let Some(event) = operator.next(world) {
-        let seen = world.apply(event)?;
-        keep(&mut events, &event)?;
-        if ends(&seen) {
-            return Ok(events);
-        }
-    }
-    Ok(events)
-}
-
-/// Watches the run of an image with an operator, and writes what is seen.
-fn watch_operator<A: Allocator + Copy, D: Allocator, W: ByteSink>(
+/// Writes what is seen of the run of an image with an operator.
+fn write_watched<A: Allocator + Copy, D: Allocator, W: ByteSink>(
     alloc: A,
     image: &Image,
     declaration: &Declaration<D>,
-    operator: &mut Operator<'_>,
-    offered: Offered,
+    frames: &[u8],
+    keys: &[u8],
+    options: &SessionOptions,
     explained: bool,
-    show: &WordSet,
     out: &mut W,
 ) -> Result<Status, Fault>
     requires writable { W.mark out.old ≡ false }
-    requires first { operator.old.last ≡ None }
     ensures watched { IfOk result (λ status. Writes
-        (λ told. IsPlanWatchedSo (plan_of operator.old) image.now (meaning declaration.now)
-        explained (words show.now) told status)
+        (λ told. IsPlanWatchedSo (plan_for options.now frames.now keys.now) image.now
+        (meaning declaration.now) explained (words options.now.run.show) told status)
         (W.taken out.old) (W.taken out.new)) }
     ensures faults { IfErr result IsRunFault }
     ensures front { W.mark out.new ≡ true → FrontOf
-        (IsPlanWatched (plan_of operator.old) image.now (meaning declaration.now) explained
-        (words show.now))
+        (IsPlanWatched (plan_for options.now frames.now keys.now) image.now
+        (meaning declaration.now) explained (words options.now.run.show))
         (W.taken out.old) (W.taken out.new) }
     ensures nothing { OnErr result (W.mark out.new ≡ false → W.taken out.new ≡ W.taken out.old) }
     ensures marks { W.mark out.new ≡ fails_to_write result }
 {
-    let start = Start::zero();
-    let mut world = World::load(
-        alloc,
-        image,
-        declaration.start(),
-        &start,
-        declaration.profile(),
-    );
-    let happened = events_of(alloc, &mut world, operator)?;
-    let watched = policy::watch(alloc, image, declaration, &start, &happened)?;
-    let text = told_with_cells(
-        alloc,
-        image,
-        declaration,
-        &happened,
-        offered,
-        watched,
-        explained,
-        show,
-    )?;
-    put(out, &text)?;
-    Ok(watched_status(watched))
+    match watch_session_message(alloc, image, declaration, frames, keys, options, explained) {
+        Ok(seen) => {
+            put(out, seen.told.as_bytes())?;
+            Ok(seen.status)
+        }
+        Err(fault) => Err(fault),
+    }
 }
 
 /// Watches the run of a tape that an operator brings, on the declared machine and from the declared
@@ -197,25 +138,7 @@ pub fn watch_session<
     let promised = declaration_from(alloc, declaration)?;
     let frames = bytes_from(alloc, reader, options.run.rounds)?;
     let struck = bytes_from(alloc, keys, options.run.rounds)?;
-    let mut operator = Operator::new(
-        options.switches,
-        options.run.rounds,
-        &frames,
-        &struck,
-        options.mark,
-    );
-    let offered = Offered {
-        frames: frames.len(),
-        keys: struck.len(),
-    };
-    watch_operator(
-        alloc,
-        &image,
-        &promised,
-        &mut operator,
-        offered,
-        explained,
-        &options.run.show,
-        out,
+    write_watched(
+        alloc, &image, &promised, &frames, &struck, &options, explained, out,
     )
 }

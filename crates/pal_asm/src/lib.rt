@@ -10,6 +10,7 @@ pub mod fault;
 mod front;
 pub mod laws;
 mod listing;
+pub mod map;
 pub mod number;
 pub mod program;
 mod reading;
@@ -18,6 +19,7 @@ mod statement;
 pub mod translation;
 
 pub use fault::{AssembleFault, PalFault, WriteFault};
+pub use map::{MappedLine, SourceMap, map_source};
 pub use pal_acts::{Code, SymbolTable};
 pub use program::{Program, assemble};
 pub use translation::{Translation, translate};

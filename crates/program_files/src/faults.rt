@@ -3,21 +3,16 @@
 
 use crate::files::{is_read_once, open_input};
 use crate::source_faults::{NO_WORD, output_name};
-use analyser::{Attempt, guess_or_draft};
-use bin_tape::Image;
-use bound_texts::push_bound;
 use command_line::{FileNames, Request};
-use command_parts::inputs::{declaration_from, tape_from};
 use command_parts::status::{DeviceFault, Fault};
-use declaration::{Declaration, DeclarationFault};
+use declaration::DeclarationFault;
 use explanations::push_advice;
-use fault_texts::{FaultyFile, push_fault, push_omissions, push_stuck_remedy};
-use std::alloc::{AllocError, Global};
+use fault_texts::{FaultyFile, push_fault};
+use std::alloc::Global;
 use std::fmt::Write;
 use std::rt::Files;
 use streams::read_at_most;
 use turns::{GuessFault, ProposeFault};
-use word12::Word;
 
 /// What is said of a run that ends at a word that the machine doesn't have.
 const UNSUPPORTED: &str =
@@ -43,15 +38,6 @@ fn bytes_of<R: Files + Input>(rt: &R, alloc: Global, name: &str) -> Result<Vec<u
     Ok(read_at_most(alloc, &mut input, MOST)?)
 }
 
-/// Lines that are left out where an input has a fault, but not where memory was refused.
-fn if_found(alloc: Global, found: Result<Vec<u8>, Fault>) -> Result<Vec<u8>, Fault> {
-    match found {
-        Ok(text) => Ok(text),
-        Err(Fault::NoMemory) => Err(Fault::NoMemory),
-        Err(_) => Ok(Vec::new(alloc)),
-    }
-}
-
 /// The first of the inputs that can't be opened or read, of those that can be read twice.
 fn unread_input<'a, R: Files + Input>(
     rt: &R,
@@ -70,113 +56,6 @@ fn unread_input<'a, R: Files + Input>(
         }
     }
     None
-}
-
-/// What to do where a search for this program is stuck, if the tape and the declaration show it, and what its
-/// draft tells of the pointer there. The search is made once more for it.
-pub fn stuck_text(
-    alloc: Global,
-    image: &Image,
-    promised: &Declaration<Global>,
-) -> Result<Vec<u8>, Fault> {
-    let mut text = Vec::new(alloc);
-    if let Attempt::Stuck(at, draft) = guess_or_draft(alloc, image, promised)? {
-        push_stuck_remedy(&mut text, image, promised, at)?;
-        push_bound(alloc, &mut text, image, promised, &draft, at)?;
-    }
-    Ok(text)
-}
-
-/// The same of the program of these files.
-fn stuck_of<R: Files + Input>(
-    rt: &R,
-    alloc: Global,
-    tape: &str,
-    declaration: &str,
-) -> Result<Vec<u8>, Fault> {
-    let image = tape_from(&mut open_input(rt, tape)?)?;
-    let promised = declaration_from(alloc, &mut open_input(rt, declaration)?)?;
-    stuck_text(alloc, &image, &promised)
-}
-
-/// What to do where a search for the program of these files is stuck, and what its draft tells of the pointer
-/// there, as lines for people. The search is made once more for it. Of standard input or a pipe, which can't be read
-/// twice, and of a file with a fault it says nothing.
-///
-/// # Errors
-///
-/// `NoMemory`.
-pub fn stuck_lines<R: Files + Input>(
-    rt: &R,
-    alloc: Global,
-    tape: &str,
-    declaration: &str,
-) -> Result<Vec<u8>, Fault> {
-    if is_read_once(rt, tape) || is_read_once(rt, declaration) {
-        return Ok(Vec::new(alloc));
-    }
-    if_found(alloc, stuck_of(rt, alloc, tape, declaration))
-}
-
-/// What the tape and the declaration of these files show by themselves.
-fn omissions_of<R: Files + Input>(
-    rt: &R,
-    alloc: Global,
-    tape: &str,
-    declaration: &str,
-    stuck: Option<Word>,
-) -> Result<Vec<u8>, Fault> {
-    let image = tape_from(&mut open_input(rt, tape)?)?;
-    let promised = declaration_from(alloc, &mut open_input(rt, declaration)?)?;
-    let mut text = Vec::new(alloc);
-    push_omissions(&mut text, &image, &promised, stuck)?;
-    Ok(text)
-}
-
-/// What the tape and the declaration of these files show by themselves, as lines for people, apart from
-/// what is said of the address where a search is stuck. Of standard input or a pipe, which can't be read twice,
-/// and of a file with a fault it says nothing.
-///
-/// # Errors
-///
-/// `NoMemory`.
-pub fn omissions<R: Files + Input>(
-    rt: &R,
-    alloc: Global,
-    tape: &str,
-    declaration: &str,
-    stuck: Option<Word>,
-) -> Result<Vec<u8>, Fault> {
-    if is_read_once(rt, tape) || is_read_once(rt, declaration) {
-        return Ok(Vec::new(alloc));
-    }
-    if_found(alloc, omissions_of(rt, alloc, tape, declaration, stuck))
-}
-
-/// The lines of a search that is stuck, with these behind the first one: what the tape and the declaration show
-/// by themselves comes before why the search is stuck.
-pub fn with_omissions(
-    alloc: Global,
-    report: &[u8],
-    omissions: &[u8],
-) -> Result<Vec<u8>, AllocError> {
-    let first = report.split(|byte| *byte == b'\n').next().unwrap_or(b"");
-    let why = report.get(first.len().saturating_add(1)..).unwrap_or(b"");
-    let mut text = Vec::new(alloc);
-    text.extend_from_slice(first)?;
-    text.extend_from_slice(b"\n")?;
-    text.extend_from_slice(omissions)?;
-    if !omissions.is_empty() && !why.is_empty() {
-        text.extend_from_slice(b"where the search is stuck:\n")?;
-    }
-    text.extend_from_slice(why)?;
-    Ok(text)
-}
-
-/// The address in the line `pdp8: guess: Stuck 0210`.
-pub fn stuck_address(report: &[u8]) -> Option<Word> {
-    let digits = report.strip_prefix(b"pdp8: guess: Stuck ")?.get(..4)?;
-    Word::from_octal(digits).ok()
 }
 
 /// Whether these are the characters of a text, as a source has them and a tape hasn't.

@@ -53,6 +53,14 @@ pub fn is_read_once<R: Files>(rt: &R, name: &str) -> bool {
     }
 }
 
+/// Whether a plain file with this name is there and isn't empty.
+pub(crate) fn has_bytes<R: Files>(rt: &R, name: &str) -> bool {
+    match fs::metadata(rt, name) {
+        Ok(found) => found.is_file() && found.len() > 0,
+        Err(_) => false,
+    }
+}
+
 /// Opens the parts of a source in order, up to the first that can't be opened, and puts them behind those
 /// that are open.
 ///

@@ -1,5 +1,6 @@
 //! Outputs that are inputs under another name: files are compared, not their names. It is tested and not proved.
 
+use crate::files::has_bytes;
 use command_line::{Misuse, Request, Save, Task, is_source_name};
 use std::alloc::{AllocError, Global};
 use std::fs;
@@ -122,9 +123,8 @@ fn saves_over<R: Files>(rt: &R, alloc: Global, request: &Request<'_>) -> Result<
 
 /// Whether a file is there and isn't empty, and isn't a source that `source` wrote.
 fn is_foreign_source<R: Files>(rt: &R, name: &str) -> bool {
-    match fs::metadata(rt, name) {
-        Ok(found) if found.is_file() && found.len() > 0 => {}
-        _ => return false,
+    if !has_bytes(rt, name) {
+        return false;
     }
     let mut front = [0; 28];
     let Ok(mut file) = fs::open(rt, name) else {

@@ -9,5 +9,6 @@ pub mod inputs;
 pub mod replacing;
 pub mod saving;
 pub mod source_faults;
+pub mod stuck;
 pub mod tellers;
 pub mod telling;

@@ -1,14 +1,13 @@
 //! The files that `verify --save` writes.
 
-use crate::files::open_input;
+use crate::files::{has_bytes, open_input};
 use crate::replacing::ResultFile;
 use crate::source_faults::tell_of;
 use crate::telling::tell;
-use command_line::Save;
+use command_line::{CERTIFICATE_ENDING, DECLARATION_ENDING, EVENTS_ENDING, Save};
 use command_parts::status::{DeviceFault, Fault, Status};
 use search_commands::verifying::{Answer, Proposed, answer_status};
 use std::alloc::Global;
-use std::fs;
 use std::rt::Files;
 use streams::standard::Writes;
 use streams::{put, read_at_most};
@@ -39,9 +38,8 @@ impl Saved {
     /// Whether its file is there and wasn't made by this program, as far as its bytes show: it is neither empty nor a
     /// certificate, and says something else.
     fn is_foreign<R: Files + Input>(&self, rt: &R, alloc: Global) -> bool {
-        match fs::metadata(rt, &self.path) {
-            Ok(found) if found.is_file() && found.len() > 0 => {}
-            _ => return false,
+        if !has_bytes(rt, &self.path) {
+            return false;
         }
         let Ok(mut input) = open_input(rt, &self.path) else {
             return false;
@@ -133,11 +131,11 @@ fn push_answer(
     match answer {
         Answer::Yes(certificate) => {
             certificate.write(&mut Writes::new(&mut text))?;
-            push_saved(saved, Saved::new(alloc, name, ".certificate", text)?)?;
+            push_saved(saved, Saved::new(alloc, name, CERTIFICATE_ENDING, text)?)?;
         }
         Answer::No(found) => {
             text.extend_from_slice(&found.text)?;
-            push_saved(saved, Saved::new(alloc, name, ".events", text)?)?;
+            push_saved(saved, Saved::new(alloc, name, EVENTS_ENDING, text)?)?;
         }
         Answer::NotKnown(_) => {}
     }
@@ -181,7 +179,7 @@ pub fn save_proposed<R: Files + Input + Eprint>(
         text.extend_from_slice(&proposed.text)?;
         push_saved(
             &mut saved,
-            Saved::new(alloc, save.name, ".declaration", text)?,
+            Saved::new(alloc, save.name, DECLARATION_ENDING, text)?,
         )?;
         push_answer(alloc, save.name, &proposed.answer, &mut saved)?;
     }

@@ -2,7 +2,7 @@
 use Rattle.std.proofs.Common.{◌≡◌, ℕ, ◌+◌, ◌<◌, Bool, true, false, List, Some, inl, inr, sym, ap, ◌∙◌, subst, refl, arith}
 use Rattle.std.specs.Prelude.{◌↔◌, ◌&&◌, ◌||◌, not}
 use Rattle.std.proofs.lemmas.Bool.{cases_eq, or_cases, true≢false}
-use Rattle.wordset.specs.Words.{HasNoneFrom, SameWords, Words, nothing, some_below, union}
+use Rattle.wordset.specs.Words.{HasNoneFrom, Words, nothing, some_below, union}
 use Rattle.wordset.specs.Lanes.{words}
 use Rattle.wordset.specs.Iterating.{GoesFrom}
 use Rattle.wordset.specs.declared.iter.Iter.{Iter}
@@ -40,17 +40,18 @@ pub second_of : (r s t : Words) → r ≡ union s t → (cell : ℕ) → t cell 
 second_of r s t same cell is = ap (λ (u : Words). u cell) same ∙ in_second (s cell) (t cell) is
 
 -- The cells put together for all possible words are those that some possible word touches.
-pub touched_by : (access : Access) (pl : Place) (f : Fact) (at : ℕ) {lanes : List ℕ} {made begun it : Iter} {cells : Words} → SameWords (words lanes) (possible pl f at) → GoesFrom lanes 0 made → begun ≡ made
-    → Gathered 4096 (λ word. touches access pl f (meaning_at pl at word)) (words begun.set.now) nothing cells it → HasNoneFrom it.next (words it.set.now)
-    → (cell : ℕ) → cell < 4096 → (cells cell ≡ true) ↔ IsTouchedBy access pl f at cell
-touched_by access pl f at {lanes} {it = it} {cells} same begins is gathered none cell lt =
-    let test : ℕ → Bool = λ word. words lanes word && touches access pl f (meaning_at pl at word) cell in
-    let set : Gathered 4096 (λ word. touches access pl f (meaning_at pl at word)) (words lanes) nothing cells it = subst (λ s. Gathered 4096 (λ word. touches access pl f (meaning_at pl at word)) s nothing cells it) (ap (λ (i : Iter). words i.set.now) is ∙ ap (λ l. words l) begins.set) gathered in
-    let told : cells cell ≡ some_below 4096 test = all_gathered set none cell lt in (
+pub touched_by : (access : Access) (pl : Place) (f : Fact) (at : ℕ) {lanes : List ℕ} {made begun it : Iter} {cells : Words} → words lanes ≡ possible pl f at → GoesFrom lanes 0 made → begun ≡ made
+    → Gathered (λ word. touches access pl f (meaning_at pl at word)) (words begun.set.now) nothing cells it → HasNoneFrom it.next (words it.set.now)
+    → (cell : ℕ) → (cells cell ≡ true) ↔ IsTouchedBy access pl f at cell
+touched_by access pl f at {lanes} {it = it} {cells} same begins is gathered none cell =
+    let test : ℕ → Bool = λ word. possible pl f at word && touches access pl f (meaning_at pl at word) cell in
+    let set : Gathered (λ word. touches access pl f (meaning_at pl at word)) (possible pl f at) nothing cells it =
+    subst (λ s. Gathered (λ word. touches access pl f (meaning_at pl at word)) s nothing cells it) (ap (λ (i : Iter). words i.set.now) is ∙ ap (λ l. words l) begins.set ∙ same) gathered in
+    let told : cells cell ≡ some_below 4096 test = all_gathered set none cell in (
       λ e.
           let s : IsSome 4096 test = some_to 4096 test (sym told ∙ e) in
-          record { word = s.at; small = s.small; is_possible = sym (same s.at s.small) ∙ and_first _ _ s.holds; touched = and_second _ _ s.holds },
-      λ by. told ∙ some_from 4096 test by.word by.small (and_both _ _ (same by.word by.small ∙ by.is_possible) by.touched),
+          record { word = s.at; small = s.small; is_possible = and_first _ _ s.holds; touched = and_second _ _ s.holds },
+      λ by. told ∙ some_from 4096 test by.word by.small (and_both _ _ by.is_possible by.touched),
     )
 
 -- A cell that is in a set and isn't the own entry.

@@ -1,7 +1,6 @@
 //! Which cells a program may change, and which it may read.
 
 ghost use Rattle.std.specs.Prelude.{ℕ, ◌≡◌, ◌<◌, ◌↔◌, ◌&&◌, not, true, option_map, IfSome, Some};
-ghost use Rattle.wordset.specs.Words.{SameWords};
 ghost use Rattle.wordset.specs.Lanes.{words};
 ghost use Rattle.declaration.specs.Declaration.{Routine as MainOrEntry};
 ghost use Rattle.declaration.specs.Kept as declared;
@@ -107,8 +106,8 @@ enum Access {
 impl Access {
     /// The cells to which a word at the address of a fact may do it.
     fn cells<D: Allocator>(self, fact: &Fact, at: Word, word: Word, place: &Place<'_, D>) -> WordSet
-        ensures { SameWords (words result) (touches self (place_of place.now) (meaning fact.now)
-            (meaning_at (place_of place.now) at word)) }
+        ensures { words result ≡ touches self (place_of place.now) (meaning fact.now)
+            (meaning_at (place_of place.now) at word) }
     {
         match self {
             Access::Write => writes(fact, at, word, place),

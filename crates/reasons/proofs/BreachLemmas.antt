@@ -1,37 +1,28 @@
--- What is said of a breach by parts that agree.
-use Rattle.std.proofs.Common.{◌≡◌, ℕ, ◌+◌, ◌<◌, Option, Some, None, List, [], ◌∷◌, ◌++◌, length, get_or, drop, inl, inr, sym, ◌∙◌, subst, zero, suc}
+-- What is said of a breach by equal parts.
+use Rattle.std.proofs.Common.{◌≡◌, ℕ, ◌+◌, ◌<◌, Option, Some, None, List, [], ◌∷◌, ◌++◌, length, get_or, drop, inl, inr, sym, subst, zero, suc}
 use Rattle.std.specs.Prelude.{IfSome}
 use Rattle.declaration.specs.Declaration.{Routine, Declaration}
 use Rattle.domain.specs.Facts.{Fact, Place}
-use Rattle.domain.specs.Same.{Agree}
-use Rattle.facts.specs.Agreeing.{AgreeingSuccessor, AgreeingSuccessors}
-use Rattle.facts.specs.Outcomes.{Successor, Goes, CallsTo, Returns}
+use Rattle.facts.specs.Outcomes.{Successor}
 use Rattle.facts.specs.Slots.{slot, slots}
 use Rattle.facts.specs.declared.Condition.{Condition}
 use Rattle.facts.specs.declared.successor.Successor.{Successor as Given}
 use Rattle.facts.proofs.EntailLemmas.{drop_item}
 use Rattle.certificate.specs.Certificate.{Certificate}
 use Rattle.judge.specs.Conditions.{Case, IsIn, fact_at, place_in}
-use Rattle.reasons.specs.Breaches.{Misses, OutcomeMisses, SomeOutcome}
+use Rattle.reasons.specs.Breaches.{Misses, SomeOutcome}
 use Rattle.reasons.specs.Reasons.{IsWrongWord, HasWrongWord}
 use Rattle.reasons.specs.declared.reason.Reason.{Reason}
 use Rattle.reasons.specs.declared.breach.Landing.{Landing}
-use Rattle.reasons.specs.declared.breach.Landing.TheVariants.{NoFact, OtherBody, Excluded}
-use Rattle.reasons.proofs.GapLemmas.{gap_agrees}
 
 pub some_weaker : {T : Type 0} (o : Option T) (p q : T → Type 0) → ((x : T) → p x → q x) → IfSome o p → IfSome o q
 some_weaker None p q f h = tt
 some_weaker (Some x) p q f h = f x h
 
--- A run doesn't land by a fact, and so not by one that agrees.
-misses_agrees : (c : Certificate) (d : Declaration) (r : Routine) (a : ℕ) (k f : Fact) (l : Landing) → Agree k f → Misses c d r a k l → Misses c d r a f l
-misses_agrees c d r a k f NoFact agree h = h
-misses_agrees c d r a k f OtherBody agree h = h
-misses_agrees c d r a k f (Excluded g) agree h = (h.0, gap_agrees k f (c.fact a) g agree h.1)
-
-pub misses_equally : (c : Certificate) (d : Declaration) (r s : Routine) (a b : ℕ) (k f g : Fact) (l : Landing) → r ≡ s → a ≡ b → Agree k f → f ≡ g → Misses c d r a k l → Misses c d s b g l
-misses_equally c d r s a b k f g l same at agree fact h =
-    subst (λ x. Misses c d x b g l) same (subst (λ x. Misses c d r x g l) at (subst (λ x. Misses c d r a x l) fact (misses_agrees c d r a k f l agree h)))
+-- Where a run doesn't land, by equal parts.
+pub misses_equally : (c : Certificate) (d : Declaration) {r s : Routine} {a b : ℕ} {f g : Fact} (l : Landing) → r ≡ s → a ≡ b → f ≡ g → Misses c d r a f l → Misses c d s b g l
+misses_equally c d {r} {s} {a} {b} {f} {g} l same at fact h =
+    subst (λ x. Misses c d x b g l) same (subst (λ x. Misses c d r x g l) at (subst (λ x. Misses c d r a x l) fact h))
 
 some_right : (p : Successor → Type 0) (xs ys : List Successor) → SomeOutcome p ys → SomeOutcome p (xs ++ ys)
 some_right p [] ys h = h
@@ -53,19 +44,9 @@ pub some_slot : (p : Successor → Type 0) (os : List (Option Given)) (i : ℕ) 
 some_slot p os i o lt item h =
     some_drop p os i (subst (λ xs. SomeOutcome p (slots xs)) (sym (drop_item os i o lt item)) (some_left p (slot o) (slots (drop (i + 1) os)) h))
 
--- An outcome that agrees with one that misses.
-outcome_agrees : (c : Certificate) (pl : Place) (a : ℕ) (l : Landing) (o p : Successor) → AgreeingSuccessor o p → OutcomeMisses c pl a l o → OutcomeMisses c pl a l p
-outcome_agrees c pl a l (Goes n f) (Goes m g) h q = (q.0, sym (h.0 a q.0) ∙ q.1, misses_agrees c pl.declaration pl.routine a f g l h.1 q.2)
-outcome_agrees c pl a l (Goes n f) (CallsTo m g) h q = absurd h
-outcome_agrees c pl a l (Goes n f) (Returns g) h q = absurd h
-outcome_agrees c pl a l (CallsTo n f) p h q = absurd q
-outcome_agrees c pl a l (Returns f) p h q = absurd q
-
-pub outcomes_agree : (c : Certificate) (pl : Place) (a : ℕ) (l : Landing) (os ps : List Successor) → AgreeingSuccessors os ps → SomeOutcome (OutcomeMisses c pl a l) os → SomeOutcome (OutcomeMisses c pl a l) ps
-outcomes_agree c pl a l [] ps h q = absurd q
-outcomes_agree c pl a l (o ∷ os) [] h q = absurd h
-outcomes_agree c pl a l (o ∷ os) (p ∷ ps) h (inl q) = inl (outcome_agrees c pl a l o p h.0 q)
-outcomes_agree c pl a l (o ∷ os) (p ∷ ps) h (inr q) = inr (outcomes_agree c pl a l os ps h.1 q)
+-- What some outcome of a list has, some outcome of an equal one has.
+pub some_equally : (p : Successor → Type 0) {os ps : List Successor} → os ≡ ps → SomeOutcome p os → SomeOutcome p ps
+some_equally p same h = subst (SomeOutcome p) same h
 
 -- A wrong word, by the parts of the case.
 pub wrong_word : (j : Case) (r : Routine) (a : ℕ) (v : Condition) (reason : Reason) (c : Certificate) (pl : Place) (f : Fact) (at : ℕ) → IsIn j r a → c ≡ j.certificate → pl ≡ place_in j r → f ≡ fact_at j a → at ≡ a →

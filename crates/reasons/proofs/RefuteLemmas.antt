@@ -1,12 +1,13 @@
 -- Where it is explained that a condition fails, it doesn't hold.
 use Rattle.std.proofs.Common.{◌≡◌, ℕ, ◌+◌, ◌<◌, ◌≤◌, Bool, true, false, ◌&&◌, ◌||◌, ◌⊎◌, Option, Some, None, List, [], ◌∷◌, refl, sym, ◌∙◌, subst, inl, inr, arith, if◌then◌else◌}
-use Rattle.std.proofs.lemmas.Bool.{true≢false, and_parts, eqb-true}
+use Rattle.std.proofs.lemmas.Bool.{true≢false, and_parts, eqb-true, lt-ltb}
 use Rattle.instruct.specs.Instructions.{Meaning, Jms, Jmp, meaning_of}
-use Rattle.wordset.specs.Words.{Words, everything, how_many, one, plus, some_below}
+use Rattle.wordset.specs.Words.{Words, how_many, one, plus, some_below}
 use Rattle.wordset.proofs.Tests.{some_to}
 use Rattle.processor.specs.Runs.{Image}
 use Rattle.declaration.specs.Declaration.{Routine, IsDeclared}
 use Rattle.domain.specs.Changes.{with_offsets}
+use Rattle.domain.specs.Statements.{all_offsets}
 use Rattle.facts.specs.Conditions.{called, calls_through_index, returned_through}
 use Rattle.domain.specs.Facts.{Ac, Cell, Equation, Fact, Among, Entails, EntailsOffsets, Knows, KnowsAll, joined, possible, tape_word}
 use Rattle.domain.specs.Meaning.{equation_of}
@@ -125,7 +126,7 @@ own false x c e is = absurd (none_some e is)
     none_some : (x : ℕ) → None ≡ Some x → ⊥
     none_some x same = cc
 
-entails_exit : (a b : Fact) → Entails a b → Entails a (with_offsets everything b)
+entails_exit : (a b : Fact) → Entails a b → Entails a (with_offsets all_offsets b)
 entails_exit a b h = record { sets = h.sets; mq = h.mq; link = h.link; equations = h.equations }
 
 -- What a return through e must be.
@@ -137,7 +138,7 @@ own_refutes j r a e return.OtherRoutine h right = h right.0
 own_refutes j r a e (return.NotDeclared o) h right = both (j.declaration.offset e o) (right.1 o h.0 h.1).declared h.2
 own_refutes j r a e (return.NoExit o) h right = both (j.certificate.has_exit e o) (right.1 o h.0 h.1).there h.2
 own_refutes j r a e (return.Excluded o g) h right =
-    gap_refutes (fact_at j a) (with_offsets everything (j.certificate.exit e o)) g h.3 (entails_exit (fact_at j a) (j.certificate.exit e o) (right.1 o h.0 h.1).entails) (λ p lt is. refl)
+    gap_refutes (fact_at j a) (with_offsets all_offsets (j.certificate.exit e o)) g h.3 (entails_exit (fact_at j a) (j.certificate.exit e o) (right.1 o h.0 h.1).entails) (λ p lt is. lt-ltb p 8 lt)
 
 return_refutes : (j : Case) (r : Routine) (a e : ℕ) (b : ReturnBreach) (m : Meaning) → returned_through j.declaration m ≡ Some e →
     ReturnBreaks j.certificate (place_in j r) (fact_at j a) e b → ReturnsWell j r a m → ⊥

@@ -1,10 +1,11 @@
 -- What a possible word breaks at the address of a fact.
 use Rattle.std.specs.Prelude.{◌≡◌, ℕ, ◌+◌, ◌<◌, ◌≤◌, true, false, ◌⊎◌, Some, List, [], ◌∷◌}
-use Rattle.wordset.specs.Words.{everything, plus, one}
+use Rattle.wordset.specs.Words.{plus, one}
 use Rattle.declaration.specs.Declaration.{Routine, Declaration, IsListed}
 use Rattle.policy.specs.Rules.{IsSupported, HaltsDeclared}
 use Rattle.domain.specs.Facts.{Fact, Place, joined}
 use Rattle.domain.specs.Changes.{with_offsets}
+use Rattle.domain.specs.Statements.{all_offsets}
 use Rattle.facts.specs.Outcomes.{Successor, Goes, CallsTo, Returns, meaning_at, outcomes_at}
 use Rattle.facts.specs.Conditions.{MayWrite, EntriesAreKept, may_write, may_read, called, calls_through_index, returned_through}
 use Rattle.facts.specs.declared.Condition.{Condition}
@@ -66,7 +67,7 @@ ReturnBreaks c pl f e return.OtherRoutine = pl.routine ≡ Some e → ⊥
 ReturnBreaks c pl f e (return.NotDeclared o) = (o < 8) × (f.offsets o ≡ true) × (pl.declaration.offset e o ≡ false)
 ReturnBreaks c pl f e (return.NoExit o) = (o < 8) × (f.offsets o ≡ true) × (c.has_exit e o ≡ false)
 ReturnBreaks c pl f e (return.Excluded o g) =
-    (o < 8) × (f.offsets o ≡ true) × (c.has_exit e o ≡ true) × IsCounterexample f (with_offsets everything (c.exit e o)) g
+    (o < 8) × (f.offsets o ≡ true) × (c.has_exit e o ≡ true) × IsCounterexample f (with_offsets all_offsets (c.exit e o)) g
 
 -- The outcome goes on at this address, and doesn't land there.
 abbrev pub OutcomeMisses : Certificate → Place → ℕ → Landing → Successor → Type 0

@@ -1,6 +1,6 @@
 -- What one fact leaves possible and another excludes.
 use Rattle.std.specs.Prelude.{◌≡◌, ℕ, ◌<◌, true, false}
-use Rattle.wordset.specs.Words.{Words, everything}
+use Rattle.wordset.specs.Words.{Words, all_words, all_links}
 use Rattle.processor.specs.Runs.{Image}
 use Rattle.domain.specs.Facts.{Ac, Fact, Among, Knows, narrowed, tape_word}
 use Rattle.domain.specs.Facts as name
@@ -33,9 +33,9 @@ IsCounterexample a b (gap.Offset o) = (o < 8) × (a.offsets o ≡ true) × (b.of
 -- At a start of the tape this is possible, and the fact excludes it: whatever the registers hold, a cell holds the tape's
 -- word, or any word where the tape has none, and an equation holds of cells of the tape alone.
 abbrev pub IsStartCounterexample : Image → Fact → Counterexample → Type 0
-IsStartCounterexample image b (gap.Accumulator w) = IsBeyond everything (b.set Ac) w
-IsStartCounterexample image b (gap.Mq w) = IsBeyond everything b.mq w
-IsStartCounterexample image b (gap.Link l) = IsLinkBeyond everything b.link l
+IsStartCounterexample image b (gap.Accumulator w) = IsBeyond all_words (b.set Ac) w
+IsStartCounterexample image b (gap.Mq w) = IsBeyond all_words b.mq w
+IsStartCounterexample image b (gap.Link l) = IsLinkBeyond all_links b.link l
 IsStartCounterexample image b (gap.Cell c w) = IsBeyond (tape_word (image c)) (b.set (name.Cell c)) w
 IsStartCounterexample image b (gap.Equation e) = Among (equation_of e) b.equations × (is_always image (equation_of e) ≡ false)
 IsStartCounterexample image b (gap.Offset o) = ⊥

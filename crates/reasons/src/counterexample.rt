@@ -1,9 +1,10 @@
 //! What one fact leaves possible and another excludes.
 
 ghost use Rattle.std.specs.Prelude.{◌≡◌, ◌<◌, true, false, IfNone, IfSome};
-ghost use Rattle.wordset.specs.Words.{IsLinkWithin, IsWithin, SameWords};
+ghost use Rattle.wordset.specs.Words.{IsLinkWithin, IsWithin};
 ghost use Rattle.wordset.specs.Lanes.{words};
 ghost use Rattle.wordset.specs.Links.{links_of};
+ghost use Rattle.bin_tape.specs.Image.{HoldsWords};
 ghost use Rattle.processor.specs.Runs as runs;
 ghost use Rattle.peripherals.specs.Loading.{image_of};
 ghost use Rattle.domain.specs.Facts.{Entails, EntailsOffsets, KnowsAll, tape_word};
@@ -170,7 +171,7 @@ fn register_gap_at_start(fact: &Fact) -> Option<Counterexample>
 
 /// What a cell holds at a start: the tape's word, or any.
 fn words_at_start(image: &Image, cell: Word) -> WordSet
-    ensures same { SameWords (words result) (tape_word (image_of image.now cell)) }
+    ensures same { words result ≡ tape_word (image_of image.now cell) }
     ensures small { IfSome (image_of image.now cell) (λ word. word < 4096) }
 {
     match image.get(cell) {
@@ -179,12 +180,20 @@ fn words_at_start(image: &Image, cell: Word) -> WordSet
     }
 }
 
+/// The proof needs the image to be looked at, since it holds words.
+fn look_into(image: Image)
+    ensures { HoldsWords image }
+{
+    let _word = image.get(Word::ZERO);
+}
+
 /// What a tracked cell may hold at a start that a fact excludes.
 fn cell_gap_at_start(fact: &Fact, image: &Image) -> Option<Counterexample>
     ensures found { IfSome result (IsStartCounterexample (image_of image.now) (meaning fact.now)) }
     ensures none { IfNone result
         (MayStart (image_of image.now) (statement_of fact.now).cells) }
 {
+    look_into(*image);
     let cells = fact.cells();
     for at in 0..cells.len() {
         let tracked = cells.get(at);

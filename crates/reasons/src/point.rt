@@ -1,7 +1,6 @@
 //! A fact at an address of a body, of whose words it is asked what they break.
 
 ghost use Rattle.std.specs.Prelude.{◌≡◌, IfNone, IfSome};
-ghost use Rattle.wordset.specs.Words.{SameWords};
 ghost use Rattle.wordset.specs.Lanes.{words};
 ghost use Rattle.domain.specs.Meaning.{meaning};
 ghost use Rattle.facts.specs.Places.{routine_of, sites_of};
@@ -114,7 +113,7 @@ impl<A: Allocator, C: Claims> ProgramPoint<'_, A, C> {
 
     /// How many words are possible, where they are too many; else the first that isn't supported.
     fn too_many(&self, possible: &WordSet) -> Option<Reason>
-        requires { SameWords (words possible.now) (possible_at self.now) }
+        requires { words possible.now ≡ possible_at self.now }
         ensures found { IfSome result (IsWrongHere C.claims self.now V3) }
         ensures none { IfNone result (WordsKeepHere C.claims self.now V3) }
     {
@@ -127,7 +126,7 @@ impl<A: Allocator, C: Claims> ProgramPoint<'_, A, C> {
 
     /// The first possible word that breaks a condition, and what it breaks.
     fn first_word(&self, condition: Condition, possible: &WordSet) -> Option<Reason>
-        requires { SameWords (words possible.now) (possible_at self.now) }
+        requires { words possible.now ≡ possible_at self.now }
         ensures found { IfSome result (IsWrongHere C.claims self.now condition) }
         ensures none { IfNone result (EachKeepsHere C.claims self.now condition) }
     {

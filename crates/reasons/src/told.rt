@@ -1,10 +1,9 @@
 //! What is claimed at an address, of a return or of a routine, as a value of its own.
 
-ghost use Rattle.std.specs.Prelude.{ℕ, ◌≡◌, ◌<◌, true, is_some, IfSome};
-ghost use Rattle.wordset.specs.Words.{everything};
+ghost use Rattle.std.specs.Prelude.{◌≡◌, is_some, IfSome};
 ghost use Rattle.wordset.specs.Lanes.{words};
-ghost use Rattle.domain.specs.Changes.{with_offsets};
 ghost use Rattle.domain.specs.Meaning.{meaning};
+ghost use Rattle.domain.specs.Statements.{all_offsets};
 
 use facts::Fact;
 use judge::{Claims, RoutineClaim};
@@ -28,9 +27,8 @@ pub(crate) fn claimed_fact<C: Claims>(claims: &C, at: Word) -> Option<Fact>
 /// that is claimed.
 pub(crate) fn claimed_exit<C: Claims>(claims: &C, entry: Word, offset: usize) -> Option<Fact>
     ensures there { is_some result ≡ (C.claims claims.now).has_exit entry offset }
-    ensures fact { IfSome result
-        (λ f. with_offsets everything (meaning f) ≡ (C.claims claims.now).exit entry offset) }
-    ensures offsets { IfSome result (λ f. (o : ℕ) → o < 8 → (meaning f).offsets o ≡ true) }
+    ensures fact { IfSome result (λ f. meaning f ≡ (C.claims claims.now).exit entry offset) }
+    ensures offsets { IfSome result (λ f. (meaning f).offsets ≡ all_offsets) }
 {
     let mut exit = Fact::any();
     if claims.exit_into(entry, offset, &mut exit) {

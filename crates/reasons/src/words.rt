@@ -1,7 +1,6 @@
 //! What a possible word breaks by itself.
 
 ghost use Rattle.std.specs.Prelude.{ℕ, ◌≡◌, ◌<◌, true, false, IfNone, IfSome};
-ghost use Rattle.wordset.specs.Words.{SameWords};
 ghost use Rattle.wordset.specs.Lanes.{words};
 ghost use Rattle.facts.specs.Conditions.{may_write, may_read};
 ghost use Rattle.facts.specs.Outcomes.{meaning_at};
@@ -65,9 +64,8 @@ impl<A: Allocator, C: Claims> ProgramPoint<'_, A, C> {
 
     /// The cells that a word may write.
     fn written(&self, word: Word) -> WordSet
-        ensures { SameWords (words result)
-            (may_write (here self.now) (fact_of self.now)
-            (meaning_at (here self.now) self.now.at word)) }
+        ensures { words result ≡ may_write (here self.now) (fact_of self.now)
+            (meaning_at (here self.now) self.now.at word) }
     {
         writes(self.fact, self.at, word, &self.place)
     }

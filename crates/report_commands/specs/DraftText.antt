@@ -1,12 +1,12 @@
 -- What `guess --report` writes of a search that is stuck.
-use Rattle.std.specs.Prelude.{ℕ, ◌≡◌, ◌++◌, ◌⊎◌, codes, List, Option}
+use Rattle.std.specs.Prelude.{ℕ, ◌≡◌, ◌++◌, codes, List, Option}
 use Rattle.word12.specs.Words.{octal_text}
 use Rattle.analyser.specs.Attempts.{IsDraft}
 use Rattle.certificate.specs.Certificate.{Certificate}
 use Rattle.declaration.specs.Declaration.{Declaration}
 use Rattle.turns.specs.declared.GuessFault.TheVariants as guess_fault
-use Rattle.command_parts.specs.Faults.{IsDeclarationInputFault, IsRunFault, IsTapeInputFault}
-use Rattle.command_parts.specs.Inputs.{HasDeclaration, HasImage, Input, IsGoodDeclaration, IsGoodTape}
+use Rattle.command_parts.specs.Answers.{IsMemoryFault}
+use Rattle.command_parts.specs.Inputs.{HasDeclaration, HasImage}
 use Rattle.command_parts.specs.declared.status.Fault.{Fault}
 use Rattle.command_parts.specs.declared.status.Fault.TheVariants.{Guess}
 use Rattle.report_texts.specs.declared.pen.ReportForm.{ReportForm}
@@ -34,14 +34,8 @@ pub record IsDraftReport (form : ReportForm) (frames text : Option (List ℕ)) (
   pub is_draft : IsDraft declaration at draft
   pub is_page : IsDraftPage form at page
 
--- The inputs are good, and the search found nothing and has no draft, a write failed or memory was refused.
+-- The search found nothing and has no draft, or memory was refused.
 abbrev pub IsDraftWorkFault : Fault → Type 0
 IsDraftWorkFault (Guess guess_fault.NoMemory) = ⊥
 IsDraftWorkFault (Guess fault) = Unit {0}
-IsDraftWorkFault fault = IsRunFault fault
-
--- Why no draft is reported: the tape's fault, after a good tape that of the declaration, and then that of the work.
-abbrev pub IsDraftFault : Input → Input → Fault → Type 0
-IsDraftFault tape text fault =
-    IsTapeInputFault tape fault ⊎ (IsGoodTape tape.had × (IsDeclarationInputFault text fault
-    ⊎ (IsGoodDeclaration text.had × IsDraftWorkFault fault)))
+IsDraftWorkFault fault = IsMemoryFault fault

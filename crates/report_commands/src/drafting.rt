@@ -1,22 +1,23 @@
 //! The command that writes what a search for a certificate had found when it was stuck.
 
-ghost use Rattle.std.specs.Prelude.{◌≡◌, ◌||◌, ◌++◌, ◌⊎◌, false, true, IfOk, IfErr, OnErr};
+ghost use Rattle.std.specs.Prelude.{◌≡◌, ◌++◌, ◌⊎◌, false, true, IfOk, OnErr};
 ghost use Rattle.declaration.specs.Kept.{meaning};
 ghost use Rattle.analyser.specs.Attempts.{IsDraft};
 ghost use Rattle.certificate.specs.Kept.{claims};
-ghost use Rattle.command_parts.specs.Faults.{is_fault_of_tape, fails_to_read, fails_to_write};
-ghost use Rattle.command_parts.specs.Inputs.{TakesAtMost, TakesTape, input};
+ghost use Rattle.command_parts.specs.Answers.{IsLaterFault, ReadsTwo};
+ghost use Rattle.command_parts.specs.Faults.{fails_to_write};
+ghost use Rattle.command_parts.specs.Inputs.{input};
 ghost use Rattle.command_parts.specs.Writes.{FrontOf, Writes};
 ghost use Rattle.command_parts.specs.declared.status.Status.TheVariants.{Done, Refused};
 ghost use Rattle.report_texts.specs.Head.{head_of, stuck_opening};
-ghost use Rattle.report_commands.specs.DraftText.{IsDraftFault, IsDraftPage, IsDraftReport, stuck_line};
+ghost use Rattle.report_commands.specs.DraftText.{IsDraftPage, IsDraftReport, IsDraftWorkFault, stuck_line};
 
 use crate::reporting::below_lines;
 use analyser::{Attempt, guess_or_draft};
 use bin_tape::Image;
 use bound_texts::push_bound;
 use certificate::Certificate;
-use command_parts::inputs::{declaration_from, tape_from};
+use command_parts::programs::program_from;
 use command_parts::status::{Fault, Status};
 use command_parts::text::push_place;
 use declaration::Declaration;
@@ -101,7 +102,11 @@ fn joined<A: Allocator>(
 }
 
 /// The report of a draft.
-fn draft_page<A: Allocator + Copy, D: Allocator, C: Allocator>(
+///
+/// # Errors
+///
+/// Memory was refused.
+pub fn draft_page<A: Allocator + Copy, D: Allocator, C: Allocator>(
     alloc: A,
     image: &Image,
     declaration: &Declaration<D>,
@@ -129,7 +134,6 @@ fn draft_page<A: Allocator + Copy, D: Allocator, C: Allocator>(
 /// The fault of the tape or of the declaration: each is read and, if it has a fault, refused before
 /// the next is read; `Guess` where there is no draft; `Device` where a read or a write failed, after which a
 /// prefix of the page went out; `NoMemory`.
-#[tactic(auto, using(crate::proofs::UnreadLemmas::takes_no_text))]
 pub fn report_draft<A: Allocator + Copy, R: ByteSource, D: ByteSource, W: ByteSink>(
     alloc: A,
     tape: &mut R,
@@ -149,36 +153,27 @@ pub fn report_draft<A: Allocator + Copy, R: ByteSource, D: ByteSource, W: ByteSi
         (IsDraftReport form (R.remaining tape.old) (D.remaining declaration.old))
         (W.taken out.old) (W.taken out.new)) }
     ensures unreported { IfOk result (λ status. status ≡ Done → out.new ≡ out.old) }
-    // A fault is that of the first input that has one, or else of the search or of a write.
-    ensures faults { IfErr result (IsDraftFault
-        (input (R.mark tape.new) (R.remaining tape.old) (R.remaining tape.new))
-        (input (D.mark declaration.new) (D.remaining declaration.old)
-        (D.remaining declaration.new))) }
     // Where a write failed, a front of such a page went out,
     ensures front { W.mark out.new ≡ true → FrontOf
         (IsDraftReport form (R.remaining tape.old) (D.remaining declaration.old))
         (W.taken out.old) (W.taken out.new) }
     // and any other fault leaves the output as it was.
     ensures nothing { OnErr result (W.mark out.new ≡ false → W.taken out.new ≡ W.taken out.old) }
-    // A write failed exactly where the answer says so, and so did a read.
+    // A write failed exactly where the answer says so.
     ensures marks { W.mark out.new ≡ fails_to_write result }
-    ensures reads { R.mark tape.new || D.mark declaration.new ≡ fails_to_read result }
-    // The declaration isn't read after a tape that is refused, or whose read failed.
-    ensures unread { IfErr result (λ fault. is_fault_of_tape fault ≡ true →
-        declaration.new ≡ declaration.old) }
-    ensures unread_after_failure { R.mark tape.new ≡ true → declaration.new ≡ declaration.old }
-    // No input is read past its limit.
-    ensures takes_tape { TakesTape (R.remaining tape.old) (R.remaining tape.new) }
-    ensures takes_declaration { TakesAtMost 16385
-        (D.remaining declaration.old) (D.remaining declaration.new) }
+    // The inputs are read in order; after good ones nothing may be found, or a write may fail.
+    ensures reads { ReadsTwo (IsLaterFault IsDraftWorkFault)
+        (input (R.mark tape.new) (R.remaining tape.old) (R.remaining tape.new))
+        (input (D.mark declaration.new) (D.remaining declaration.old) (D.remaining declaration.new))
+        (declaration.new ≡ declaration.old) result }
 {
-    let image = tape_from(tape)?;
-    let promised = declaration_from(alloc, declaration)?;
-    let attempt = guess_or_draft(alloc, &image, &promised)?;
+    let program = program_from(alloc, tape, declaration)?;
+    let (image, promised) = (&program.image, &program.declaration);
+    let attempt = guess_or_draft(alloc, image, promised)?;
     match &attempt {
         Attempt::Found(_) => Ok(Status::Done),
         Attempt::Stuck(at, draft) => {
-            let page = draft_page(alloc, &image, &promised, draft, *at, form, notes)?;
+            let page = draft_page(alloc, image, promised, draft, *at, form, notes)?;
             put(out, &page)?;
             Ok(Status::Refused)
         }

@@ -1,29 +1,28 @@
 //! The command that writes what a certificate says.
 
-ghost use Rattle.std.specs.Prelude.{◌≡◌, ◌||◌, ◌++◌, ◌⊎◌, false, true, Err, IfOk, IfErr, OnErr};
-ghost use Rattle.streams.specs.Bytes.{Gave};
-ghost use Rattle.certificate.specs.Faults.{AsksForMemory};
-ghost use Rattle.command_parts.specs.Faults.{is_fault_of_declaration, is_fault_of_tape, fails_to_read, fails_to_write};
-ghost use Rattle.command_parts.specs.Inputs.{IsGoodDeclaration, IsGoodTape, TakesAtMost, TakesTape, input};
-ghost use Rattle.command_parts.specs.Writes.{FrontOf, Writes};
-ghost use Rattle.command_parts.specs.declared.status.Fault.TheVariants.{NoMemory};
-ghost use Rattle.verdict_texts.specs.CertificateFaults.{IsCheckFault};
-ghost use Rattle.verdict_texts.specs.CertificateInputs.{IsGoodCertificate, TakesCertificate};
+ghost use Rattle.std.specs.Prelude.{◌≡◌, ◌++◌, false, IfOk, IfErr};
+ghost use Rattle.certificate.specs.Kept.{meaning as lines_of};
+ghost use Rattle.declaration.specs.Kept.{meaning};
+ghost use Rattle.command_parts.specs.Answers.{IsLaterFault, IsMemoryFault, WritesAnswer, output};
+ghost use Rattle.command_parts.specs.Faults.{fails_to_write};
+ghost use Rattle.command_parts.specs.Inputs.{input};
+ghost use Rattle.verdict_texts.specs.CertificateFaults.{ReadsCertified};
+ghost use Rattle.verdict_texts.specs.CertificateInputs.{OfCertified};
 ghost use Rattle.report_texts.specs.Head.{head_of, opening};
-ghost use Rattle.report_commands.specs.ReportText.{IsReported, IsReportedSo};
+ghost use Rattle.report_commands.specs.ReportText.{IsReportOf};
 
 use bin_tape::Image;
 use certificate::Certificate;
-use command_parts::inputs::{declaration_from, tape_from};
+use command_parts::outcome::{Outcome, deliver};
 use command_parts::status::{Fault, Status};
 use declaration::Declaration;
 use judge::{Refusal, judge};
 use reasons::why;
 use report_texts::{Finding, Report, head_of, listing_below, opening, page_below};
-pub use report_texts::{ReportForm, SourceNote, SourceNotes, notes_of};
+pub use report_texts::{LinePlace, ReportForm, SourceNote, SourceNotes};
 use std::alloc::{AllocError, Allocator};
-use streams::{ByteSink, ByteSource, put};
-use verdict_texts::certificates::certificate_from;
+use streams::{ByteSink, ByteSource};
+use verdict_texts::certificates::{Certified, certified_from};
 use verdict_texts::reason_text::push_why;
 use verdict_texts::verdict::{condition_name, verdict_line, verdict_status};
 
@@ -111,6 +110,37 @@ fn joined<A: Allocator>(
     Ok(page)
 }
 
+/// The report on a certificate of a program, and the status of its verdict.
+pub fn report_of<A: Allocator + Copy>(
+    alloc: A,
+    certified: &Certified<A>,
+    form: ReportForm,
+    notes: Option<&SourceNotes<A>>,
+) -> Result<Outcome<A>, Fault>
+    ensures page { IfOk result (λ page. IsReportOf form certified.now.program.image
+        (meaning certified.now.program.declaration) (lines_of certified.now.certificate)
+        page.status page.text.items) }
+    ensures faults { IfErr result IsMemoryFault }
+    ensures unwritten { fails_to_write result ≡ false }
+{
+    let program = &certified.program;
+    let (image, declaration) = (&program.image, &program.declaration);
+    let verdict = judge(image, declaration, &certified.certificate);
+    let line = verdict_line(alloc, declaration, &verdict)?;
+    let rest = below(
+        alloc,
+        image,
+        declaration,
+        &certified.certificate,
+        &verdict,
+        form,
+        notes,
+    )?;
+    let text = joined(alloc, form, &verdict, &line, &rest)?;
+    let status = verdict_status(&verdict);
+    Ok(Outcome { text, status })
+}
+
 /// Writes what a certificate of a tape and a declaration says, to look at: the verdict as `check`
 /// writes it, why it is no if it is, and below it the listing with what is known at each address; as
 /// a page of HTML also what the verdict means, memory as a map, and the routines. After a yes the
@@ -122,7 +152,6 @@ fn joined<A: Allocator>(
 /// The fault of the tape, of the declaration or of the certificate's text: each is read and, if it
 /// has a fault, refused before the next is read; `Device` where a read or a write failed, after
 /// which a prefix of the page went out; `NoMemory`.
-#[tactic(auto, using(crate::proofs::UnreadLemmas::takes_no_text, crate::proofs::UnreadLemmas::takes_no_certificate))]
 pub fn report<A: Allocator + Copy, R: ByteSource, D: ByteSource, C: ByteSource, W: ByteSink>(
     alloc: A,
     tape: &mut R,
@@ -138,59 +167,19 @@ pub fn report<A: Allocator + Copy, R: ByteSource, D: ByteSource, C: ByteSource, 
     requires writable { W.mark out.old ≡ false }
     // What is written begins with the verdict; in a page its fixed head stands before that, and behind
     // it stands what a yes shows, or that a no shows nothing.
-    ensures reported { IfOk result (λ status. Writes
-        (λ page. IsReportedSo form (R.remaining tape.old) (D.remaining declaration.old)
-        (C.remaining certificate.old) page status)
-        (W.taken out.old) (W.taken out.new)) }
-    // A fault is that of the first input that has one.
-    ensures faults { IfErr result (IsCheckFault
+    ensures reported { WritesAnswer
+        (OfCertified (R.remaining tape.old) (D.remaining declaration.old)
+        (C.remaining certificate.old) (IsReportOf form))
+        (output (W.mark out.new) (W.taken out.old) (W.taken out.new)) result }
+    // The inputs are read in order; after good ones a write may fail, or memory be refused.
+    ensures reads { ReadsCertified (IsLaterFault IsMemoryFault)
         (input (R.mark tape.new) (R.remaining tape.old) (R.remaining tape.new))
         (input (D.mark declaration.new) (D.remaining declaration.old) (D.remaining declaration.new))
-        (input (C.mark certificate.new) (C.remaining certificate.old)
-        (C.remaining certificate.new))) }
-    // Where a write failed, a front of such a page went out,
-    ensures front { W.mark out.new ≡ true → FrontOf
-        (IsReported form (R.remaining tape.old) (D.remaining declaration.old)
-        (C.remaining certificate.old))
-        (W.taken out.old) (W.taken out.new) }
-    // and any other fault leaves the output as it was.
-    ensures nothing { OnErr result (W.mark out.new ≡ false → W.taken out.new ≡ W.taken out.old) }
-    // A write failed exactly where the answer says so, and so did a read.
-    ensures marks { W.mark out.new ≡ fails_to_write result }
-    ensures reads { R.mark tape.new || D.mark declaration.new || C.mark certificate.new ≡
-        fails_to_read result }
-    // An input isn't read after one that is refused, or whose read failed.
-    ensures unread { IfErr result (λ fault. is_fault_of_tape fault ≡ true →
-        (declaration.new ≡ declaration.old) × (certificate.new ≡ certificate.old)) }
-    ensures unread_certificate { IfErr result (λ fault. is_fault_of_declaration fault ≡ true →
-        certificate.new ≡ certificate.old) }
-    ensures unread_after_failure { R.mark tape.new ≡ true →
-        (declaration.new ≡ declaration.old) × (certificate.new ≡ certificate.old) }
-    ensures unread_certificate_after_failure { D.mark declaration.new ≡ true →
-        certificate.new ≡ certificate.old }
-    // It is read only after those before it are good,
-    ensures declaration_after_tape { (declaration.new ≡ declaration.old) ⊎
-        IsGoodTape (R.remaining tape.old) }
-    ensures certificate_after_declaration { (certificate.new ≡ certificate.old) ⊎
-        IsGoodDeclaration (D.remaining declaration.old) }
-    // and memory that is refused after the certificate was begun is wanted for it or after it.
-    ensures wanted { result ≡ Err NoMemory → (certificate.new ≡ certificate.old) ⊎
-        (Gave (C.remaining certificate.old) (C.remaining certificate.new) AsksForMemory ⊎
-        IsGoodCertificate (C.remaining certificate.old)) }
-    // No input is read past its limit.
-    ensures takes_tape { TakesTape (R.remaining tape.old) (R.remaining tape.new) }
-    ensures takes_declaration { TakesAtMost 16385
-        (D.remaining declaration.old) (D.remaining declaration.new) }
-    ensures takes_certificate { TakesCertificate
-        (C.remaining certificate.old) (C.remaining certificate.new) }
+        (input (C.mark certificate.new) (C.remaining certificate.old) (C.remaining certificate.new))
+        (declaration.new ≡ declaration.old) (certificate.new ≡ certificate.old) result }
 {
-    let image = tape_from(tape)?;
-    let promised = declaration_from(alloc, declaration)?;
-    let claims = certificate_from(alloc, certificate)?;
-    let verdict = judge(&image, &promised, &claims);
-    let line = verdict_line(alloc, &promised, &verdict)?;
-    let rest = below(alloc, &image, &promised, &claims, &verdict, form, notes)?;
-    let page = joined(alloc, form, &verdict, &line, &rest)?;
-    put(out, &page)?;
-    Ok(verdict_status(&verdict))
+    match certified_from(alloc, tape, declaration, certificate) {
+        Ok(certified) => deliver(report_of(alloc, &certified, form, notes), out),
+        Err(fault) => Err(fault),
+    }
 }

@@ -20,7 +20,7 @@ pub use page::page_below;
 use pen::Pen;
 pub use pen::ReportForm;
 pub use report::{Finding, Report};
-pub use source_notes::{SourceNote, SourceNotes, notes_of};
+pub use source_notes::{LinePlace, SourceNote, SourceNotes};
 use std::alloc::{AllocError, Allocator};
 pub use style::{head_of, opening, stuck_opening};
 

@@ -72,11 +72,6 @@ impl<A: Allocator> Pen<A> {
         }
     }
 
-    /// How many bytes were written.
-    pub(crate) fn len(&self) -> usize {
-        self.bytes.len()
-    }
-
     /// Whether an address has a line of the listing.
     pub(crate) fn has_line(&self, at: Word) -> bool {
         self.lines.contains(at)

@@ -1,12 +1,7 @@
 //! What the source of a program says of its addresses.
 
-use crate::pen::{Pen, ReportForm};
 use std::alloc::{AllocError, Allocator};
 use word12::Word;
-use wordset::WordSet;
-
-/// Where the text of a source's line stands in a row of a listing.
-const TEXT: usize = 12;
 
 /// Where bytes stand among those of all notes.
 #[derive(Clone, Copy)]
@@ -20,8 +15,18 @@ struct Span {
 struct Entry {
     label: Span,
     line: usize,
+    place: LinePlace,
     text: Span,
     is_first: bool,
+}
+
+/// Where a line of a source stands: its part, and the line in it, each from 1.
+#[derive(Clone, Copy, PartialEq, Eq, Debug)]
+pub struct LinePlace {
+    /// The number of the part.
+    pub part: usize,
+    /// The number of the line in the part.
+    pub line: usize,
 }
 
 /// What a source says of an address.
@@ -32,6 +37,8 @@ pub struct SourceNote<'n> {
     pub label: &'n [u8],
     /// The number of the line, from 1, counted over all parts.
     pub line: usize,
+    /// Its part, and its number there.
+    pub place: LinePlace,
     /// The line's text.
     pub text: &'n [u8],
     /// Whether the word is the first one of its line.
@@ -44,9 +51,119 @@ pub struct SourceNotes<A: Allocator> {
     bytes: Vec<u8, A>,
     /// One for each address.
     entries: Vec<Option<Entry>, A>,
+    /// The last line: its number, its place, its text, and whether a word of it was noted.
+    line: usize,
+    place: LinePlace,
+    text: Span,
+    has_word: bool,
+    /// The last label, and its address as soon as a word stands there.
+    label: Vec<u8, A>,
+    label_at: Option<Word>,
+}
+
+/// The label at the front of a line, or nothing.
+fn label_of(text: &[u8]) -> &[u8] {
+    for (place, byte) in text.iter().enumerate() {
+        if *byte == b',' {
+            return text.get(..place).unwrap_or(b"");
+        }
+        if !byte.is_ascii_alphanumeric() {
+            return b"";
+        }
+    }
+    b""
+}
+
+/// How far an address is behind a label, in as many octal digits as it needs.
+fn push_offset<A: Allocator>(bytes: &mut Vec<u8, A>, offset: Word) -> Result<(), AllocError> {
+    if offset == Word::ZERO {
+        return Ok(());
+    }
+    let skipped = match offset.value() {
+        0..=0o7 => 3,
+        0o10..=0o77 => 2,
+        0o100..=0o777 => 1,
+        _ => 0,
+    };
+    bytes.extend_from_slice(b"+")?;
+    bytes.extend_from_slice(offset.to_octal().get(skipped..).unwrap_or(b""))
+}
+
+impl<A: Allocator + Copy> SourceNotes<A> {
+    /// Notes on nothing yet: the lines of the source come next, in order, each with its words behind it.
+    ///
+    /// # Errors
+    ///
+    /// Memory was refused.
+    pub fn new(alloc: A) -> Result<SourceNotes<A>, AllocError> {
+        Ok(SourceNotes {
+            bytes: Vec::new(alloc),
+            entries: Vec::from_elem(alloc, None, 4096)?,
+            line: 0,
+            place: LinePlace { part: 1, line: 0 },
+            text: Span { from: 0, to: 0 },
+            has_word: false,
+            label: Vec::new(alloc),
+            label_at: None,
+        })
+    }
 }
 
 impl<A: Allocator> SourceNotes<A> {
+    /// Goes on to the next line, with its place and its text.
+    ///
+    /// # Errors
+    ///
+    /// Memory was refused.
+    pub fn next_line(&mut self, place: LinePlace, text: &[u8]) -> Result<(), AllocError> {
+        let from = self.bytes.len();
+        self.bytes.extend_from_slice(text)?;
+        self.line = self.line.saturating_add(1);
+        self.place = place;
+        self.text = Span {
+            from,
+            to: self.bytes.len(),
+        };
+        self.has_word = false;
+        let label = label_of(text);
+        if label.is_empty() {
+            return Ok(());
+        }
+        self.label_at = None;
+        self.label.clear();
+        self.label.extend_from_slice(label)
+    }
+
+    /// Notes that the line gives this address a word; of several words for one address that on the last counts.
+    ///
+    /// # Errors
+    ///
+    /// Memory was refused.
+    pub fn note(&mut self, at: Word) -> Result<(), AllocError> {
+        let label_at = self.label_at.unwrap_or(at);
+        self.label_at = Some(label_at);
+        let from = self.bytes.len();
+        if !self.label.is_empty() && label_at <= at {
+            self.bytes.extend_from_slice(&self.label)?;
+            push_offset(&mut self.bytes, at.add(label_at.complement().increment()))?;
+        }
+        let found = Entry {
+            label: Span {
+                from,
+                to: self.bytes.len(),
+            },
+            line: self.line,
+            place: self.place,
+            text: self.text,
+            is_first: !self.has_word,
+        };
+        self.has_word = true;
+        if let Some(entry) = self.entries.get_mut(at.index()) {
+            *entry = Some(found);
+        }
+        Ok(())
+    }
+
     /// The note on an address; none where the source gives it no word.
     pub fn at(&self, at: Word) -> Option<SourceNote<'_>> {
         let entry = self.entries.get(at.index()).copied().flatten()?;
@@ -56,6 +173,7 @@ impl<A: Allocator> SourceNotes<A> {
                 .get(entry.label.from..entry.label.to)
                 .unwrap_or(b""),
             line: entry.line,
+            place: entry.place,
             text: self
                 .bytes
                 .get(entry.text.from..entry.text.to)
@@ -63,144 +181,4 @@ impl<A: Allocator> SourceNotes<A> {
             is_first: entry.is_first,
         })
     }
-}
-
-/// How far a listing is read.
-#[derive(Clone, Copy)]
-struct Reached<'l> {
-    /// The number of the source's line, and its text.
-    line: usize,
-    text: &'l [u8],
-    /// The last label, and its address as soon as a word stands there.
-    label: &'l [u8],
-    label_at: Option<Word>,
-}
-
-/// The label at the front of a line.
-fn label_of(text: &[u8]) -> Option<&[u8]> {
-    for (place, byte) in text.iter().enumerate() {
-        if *byte == b',' {
-            return text.get(..place);
-        }
-        if !byte.is_ascii_alphanumeric() {
-            return None;
-        }
-    }
-    None
-}
-
-/// The address of a row of a listing, which a word follows.
-fn address_of(row: &[u8]) -> Option<Word> {
-    Word::from_octal(row.get(..4)?).ok()
-}
-
-/// How far an address is behind a label, in as many octal digits as it needs.
-fn write_offset<A: Allocator>(pen: &mut Pen<A>, offset: Word) {
-    let skipped = match offset.value() {
-        0..=0o7 => 3,
-        0o10..=0o77 => 2,
-        0o100..=0o777 => 1,
-        _ => 0,
-    };
-    if offset != Word::ZERO {
-        pen.put(b"+");
-        pen.put(offset.to_octal().get(skipped..).unwrap_or(b""));
-    }
-}
-
-impl<'l> Reached<'l> {
-    /// Goes on with a row: `text` is what the source says there, if a line of it begins.
-    fn go_on(&mut self, address: Option<Word>, text: &'l [u8]) {
-        if let Some(label) = label_of(text) {
-            self.label = label;
-            self.label_at = None;
-        }
-        if self.label_at.is_none() {
-            self.label_at = address;
-        }
-    }
-
-    /// Writes the last label, and how far behind it an address is, if it is behind it.
-    fn write_label<A: Allocator>(&self, pen: &mut Pen<A>, at: Word) {
-        if let Some(label_at) = self.label_at {
-            if !self.label.is_empty() && label_at <= at {
-                pen.put(self.label);
-                write_offset(pen, at.add(label_at.complement().increment()));
-            }
-        }
-    }
-
-    /// Writes the note on an address.
-    fn write<A: Allocator>(&self, pen: &mut Pen<A>, at: Word, is_first: bool) -> Entry {
-        let from = pen.len();
-        self.write_label(pen, at);
-        let middle = pen.len();
-        pen.put(self.text);
-        Entry {
-            label: Span { from, to: middle },
-            line: self.line,
-            text: Span {
-                from: middle,
-                to: pen.len(),
-            },
-            is_first,
-        }
-    }
-}
-
-/// Adds what a row of a listing says: a row with a word and no text goes on with the line above it.
-fn add_row<'l, A: Allocator>(
-    pen: &mut Pen<A>,
-    entries: &mut [Option<Entry>],
-    reached: &mut Reached<'l>,
-    row: &'l [u8],
-) {
-    let address = address_of(row);
-    let text = row.get(TEXT..).unwrap_or(b"").trim_ascii();
-    let is_first = !text.is_empty();
-    if address.is_none() || is_first {
-        reached.line = reached.line.saturating_add(1);
-        reached.text = text;
-    }
-    reached.go_on(address, text);
-    let Some(at) = address else {
-        return;
-    };
-    let found = reached.write(pen, at, is_first);
-    if let Some(entry) = entries.get_mut(at.index()) {
-        *entry = Some(found);
-    }
-}
-
-/// The notes of a source whose listing `Program::write_listing` wrote; of several words for one address that
-/// on the last counts.
-///
-/// # Errors
-///
-/// Memory was refused.
-pub fn notes_of<A: Allocator + Copy>(
-    alloc: A,
-    listing: &[u8],
-) -> Result<SourceNotes<A>, AllocError> {
-    let mut pen = Pen::new(alloc, ReportForm::Text, &WordSet::empty());
-    let mut entries = Vec::from_elem(alloc, None, 4096)?;
-    let mut reached = Reached {
-        line: 0,
-        text: b"",
-        label: b"",
-        label_at: None,
-    };
-    let mut start = 0usize;
-    for (end, byte) in listing.iter().enumerate() {
-        if *byte == b'\n' {
-            if let Some(row) = listing.get(start..end) {
-                add_row(&mut pen, &mut entries, &mut reached, row);
-            }
-            start = end.saturating_add(1);
-        }
-    }
-    Ok(SourceNotes {
-        bytes: pen.into_bytes()?,
-        entries,
-    })
 }

@@ -1,17 +1,15 @@
 -- What `complete` writes.
-use Rattle.std.proofs.Common.{ℕ, List, Option, refl}
+use Rattle.std.proofs.Common.{ℕ, List, Option, refl, inl, inr}
 use Rattle.std.specs.Prelude.{Some, None}
 use Rattle.wordset.specs.Words.{Words}
 use Rattle.peripherals.specs.Loading.{image_of}
 use Rattle.declaration.specs.Declaration.{Declaration}
 use Rattle.declaration.specs.Text.{Declares}
 use Rattle.policy.specs.Runs.{IsSafe}
-use Rattle.command_parts.specs.Inputs.{HasDeclaration, HasImage}
-use Rattle.command_parts.specs.declared.status.Status.{Status}
 use Rattle.command_parts.specs.declared.status.Status.TheVariants.{Done, Refused}
 use Rattle.search_commands.proofs.DeclareLemmas.{refused_not_done}
 use Rattle.search_commands.specs.Extending.{Extends, KeepsReads}
-use Rattle.search_commands.specs.CompleteText.{Completes, IsCompletion, IsExtension}
+use Rattle.search_commands.specs.CompleteText.{Completes, IsExtension}
 
 keeps_own : (reads : Option Words) → KeepsReads reads reads
 keeps_own None = refl
@@ -38,6 +36,7 @@ pub shown_completes : (image : List (Option ℕ)) (given d : Declaration) (text 
     IsSafe (image_of image) d → Completes image given Done text
 shown_completes image given d text declares extends safe = record {
   is = record { declaration = d; declares = declares; extends = extends };
+  ends = inl refl;
   safe = λ done. safe;
 }
 
@@ -49,9 +48,4 @@ own_completes image d text declares safe = shown_completes image d d text declar
 -- without one
 pub lacking_completes : (image : List (Option ℕ)) (given : Declaration) (text : List ℕ) → IsExtension given text →
     Completes image given Refused text
-lacking_completes image given text is = record { is = is; safe = λ done. refused_not_done done }
-
-pub completion : (frames text : Option (List ℕ)) (image : List (Option ℕ)) (given : Declaration) (status : Status) (written : List ℕ) →
-    HasImage frames image → HasDeclaration text given → Completes image given status written → IsCompletion frames text status written
-completion frames text image given status written tape declares completes =
-    record { image = image; tape = tape; given = given; declares = declares; completes = completes }
+lacking_completes image given text is = record { is = is; ends = inr refl; safe = λ done. refused_not_done done }

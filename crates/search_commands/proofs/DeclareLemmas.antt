@@ -1,5 +1,5 @@
 -- What `declare` writes.
-use Rattle.std.proofs.Common.{ℕ, ◌≡◌, Bool, true, false, List, Option, None, sym, ap}
+use Rattle.std.proofs.Common.{ℕ, ◌≡◌, Bool, true, false, List, Option, None, refl, sym, ap, inl, inr}
 use Rattle.std.proofs.lemmas.Bool.{true≢false}
 use Rattle.declaration.specs.Kept.{meaning}
 use Rattle.certificate.specs.declared.Certificate.{Certificate}
@@ -7,9 +7,7 @@ use Rattle.certificate.specs.Kept as certified
 use Rattle.proposer.specs.Proposals.{AreNeeded, Fits, IsListed, IsShown}
 use Rattle.proposer.specs.declared.Proposal.{Proposal}
 use Rattle.proposer.specs.declared.Verdict.TheVariants.{Safe}
-use Rattle.command_parts.specs.Inputs.{HasImage}
-use Rattle.verdict_texts.proofs.CheckLemmas.{kept_sets}
-use Rattle.search_commands.specs.DeclareText.{IsBare, IsProposal}
+use Rattle.search_commands.specs.DeclareText.{IsBare, IsProposalOf}
 use Rattle.options.specs.declared.DeclareOptions.{DeclareOptions}
 use Rattle.command_parts.specs.declared.status.Status.{Status}
 use Rattle.command_parts.specs.declared.status.Status.TheVariants.{Done, Refused}
@@ -25,30 +23,28 @@ pub refused_not_done : {A : Type 0} → Refused ≡ Done → A
 refused_not_done is = absurd (true≢false (sym (ap is_done is)))
 
 -- with a certificate
-pub shown_proposal : {A : Type 0} → (options : DeclareOptions) (frames : Option (List ℕ)) (image : List (Option ℕ)) (p : Proposal A) (c : Certificate A) →
-    HasImage frames image → Fits options.start options.profile p → IsShown image p.declaration p.verdict → (options.reads ≡ true → IsListed p.declaration p.verdict) →
+pub shown_proposal : {A : Type 0} → (options : DeclareOptions) (image : List (Option ℕ)) (p : Proposal A) (c : Certificate A) →
+    Fits options.start options.profile p → IsShown image p.declaration p.verdict → (options.reads ≡ true → IsListed p.declaration p.verdict) →
     (options.reads ≡ true → AreNeeded image p.declaration p.verdict) →
-    (options.reads ≡ false → (meaning p.declaration).reads ≡ None) → p.verdict ≡ Safe c → IsProposal options frames Done p.text.items
-shown_proposal {A = A} options frames image p c has fits shown listed needed unlisted is =
+    (options.reads ≡ false → (meaning p.declaration).reads ≡ None) → p.verdict ≡ Safe c → IsProposalOf options image Done p.text.items
+shown_proposal {A = A} options image p c fits shown listed needed unlisted is =
     let kept : IsShown {A = A} image p.declaration (Safe c) = rw is at shown in
     record {
-      image = image;
-      tape = has;
       is = record { declaration = meaning p.declaration; declares = fits.text; start_is = fits.start; profile_is = fits.profile };
+      ends = inl refl;
       unlisted = unlisted;
       bare = λ refused. done_not_refused refused;
       safe = λ done. kept.0;
       listed = λ done asked. let lists : IsListed {A = A} p.declaration (Safe c) = rw is at listed asked in lists;
-      needed = λ done asked. let all : AreNeeded {A = A} image p.declaration (Safe c) = rw is at needed asked in record { lines = certified.meaning c; lines_are = kept.1.0; of_words = kept_sets c; version_is = kept.1.1; valid = kept.2; needed = all };
+      needed = λ done asked. let all : AreNeeded {A = A} image p.declaration (Safe c) = rw is at needed asked in record { lines = certified.meaning c; lines_are = kept.1.0; version_is = kept.1.1; valid = kept.2; needed = all };
     }
 
 -- without one
-pub remarked_proposal : (options : DeclareOptions) (frames : Option (List ℕ)) (image : List (Option ℕ)) (text : List ℕ) →
-    HasImage frames image → IsBare options text → IsProposal options frames Refused text
-remarked_proposal options frames image text has is = record {
-  image = image;
-  tape = has;
+pub remarked_proposal : (options : DeclareOptions) (image : List (Option ℕ)) (text : List ℕ) →
+    IsBare options text → IsProposalOf options image Refused text
+remarked_proposal options image text is = record {
   is = is.0;
+  ends = inr refl;
   unlisted = λ asked. is.1;
   bare = λ refused. is.1;
   safe = λ done. refused_not_done done;

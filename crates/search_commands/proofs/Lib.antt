@@ -1,4 +1,3 @@
-pub mod UnreadLemmas
 pub mod DeclareLemmas
 pub mod CompleteLemmas
 pub mod StuckLemmas

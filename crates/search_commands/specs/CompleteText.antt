@@ -1,12 +1,11 @@
 -- What is written of a declaration to which what is missing is added.
-use Rattle.std.specs.Prelude.{ℕ, ◌≡◌, ⊤, List, Option}
+use Rattle.std.specs.Prelude.{ℕ, ◌≡◌, ◌⊎◌, ⊤, List, Option}
 use Rattle.peripherals.specs.Loading.{image_of}
 use Rattle.declaration.specs.Declaration.{Declaration}
 use Rattle.declaration.specs.Text.{Declares}
 use Rattle.policy.specs.Runs.{IsSafe}
 use Rattle.command_parts.specs.declared.status.Status.{Status}
-use Rattle.command_parts.specs.declared.status.Status.TheVariants.{Done}
-use Rattle.command_parts.specs.Inputs.{HasDeclaration, HasImage}
+use Rattle.command_parts.specs.declared.status.Status.TheVariants.{Done, Refused}
 use Rattle.search_commands.specs.declared.completing.Trial.{Trial}
 use Rattle.search_commands.specs.declared.completing.Trial.TheVariants.{Shown, Lacking, Unfit}
 use Rattle.search_commands.specs.Extending.{Extends}
@@ -21,6 +20,7 @@ pub record IsExtension (given : Declaration) (text : List ℕ) : Type 0 where
 -- these words breaks what it declares.
 pub record Completes (image : List (Option ℕ)) (given : Declaration) (status : Status) (text : List ℕ) : Type 0 where
   pub is : IsExtension given text
+  pub ends : (status ≡ Done) ⊎ (status ≡ Refused)
   pub safe : status ≡ Done → IsSafe (image_of image) is.declaration
 
 -- What is found of a text is true: it extends the declaration, and if it is shown no run of the program with these words
@@ -29,15 +29,3 @@ abbrev pub IsTried : List (Option ℕ) → Declaration → List ℕ → Trial �
 IsTried image given text Shown = Completes image given Done text
 IsTried image given text (Lacking lack) = IsExtension given text
 IsTried image given text Unfit = ⊤
-
--- The frames are a tape, the text that is read has a declaration, and the one that is written completes it.
-pub record IsCompletion (frames text : Option (List ℕ)) (status : Status) (written : List ℕ) : Type 0 where
-  pub image : List (Option ℕ)
-  pub tape : HasImage frames image
-  pub given : Declaration
-  pub declares : HasDeclaration text given
-  pub completes : Completes image given status written
-
--- The text completes what is read, whichever status the command has.
-abbrev pub IsCompleted : Option (List ℕ) → Option (List ℕ) → List ℕ → Type 0
-IsCompleted frames text written = (status : Status) × IsCompletion frames text status written

@@ -1,5 +1,5 @@
 -- What `declare` writes.
-use Rattle.std.specs.Prelude.{ℕ, ◌≡◌, List, Option, None, is_some, false, true}
+use Rattle.std.specs.Prelude.{ℕ, ◌≡◌, ◌⊎◌, List, Option, None, is_some, false, true}
 use Rattle.analyser.specs.Versions.{version_of}
 use Rattle.peripherals.specs.Loading.{image_of}
 use Rattle.declaration.specs.Declaration.{Declaration}
@@ -8,7 +8,6 @@ use Rattle.policy.specs.Runs.{IsSafe}
 use Rattle.certificate.specs.Reading.{AreLines, certificate_of}
 use Rattle.certificate.specs.Spelling.{Lines}
 use Rattle.judge.specs.Conditions.{IsValid}
-use Rattle.judge.specs.Laws.{SetsAreOfWords}
 use Rattle.proposer.specs.Needed.{ReadsAreNeeded}
 use Rattle.verdict_texts.specs.CheckText.{checked_case}
 use Rattle.options.specs.declared.DeclareOptions.{DeclareOptions}
@@ -28,28 +27,28 @@ pub record IsDeclarationFor (options : DeclareOptions) (text : List ℕ) : Type 
 abbrev pub IsBare : DeclareOptions → List ℕ → Type 0
 IsBare options text = (is : IsDeclarationFor options text) × (is.declaration.reads ≡ None)
 
--- Every condition holds of some certificate, in the version of the declared machine, whose sets are of words; and by its facts
+-- Every condition holds of some certificate, in the version of the declared machine; and by its facts
 -- some possible word may read each cell of the list of reads.
 pub record ListsNeeded (image : List (Option ℕ)) (d : Declaration) : Type 0 where
   pub lines : Lines
   pub lines_are : AreLines lines
-  pub of_words : SetsAreOfWords (certificate_of lines)
   pub version_is : lines.version ≡ version_of d.profile
   pub valid : IsValid (checked_case image d lines)
   pub needed : ReadsAreNeeded (checked_case image d lines)
 
--- The frames are a tape, and the text is such a declaration; where the command is done, no run of the tape's program breaks
--- it, and if a list of reads was asked for it has one, whose cells are needed. Else it has none.
-pub record IsProposal (options : DeclareOptions) (frames : Option (List ℕ)) (status : Status) (text : List ℕ) : Type 0 where
-  pub image : List (Option ℕ)
-  pub tape : HasImage frames image
+-- The text is such a declaration; where the command is done, no run of the program with these words breaks it, and if a list of
+-- reads was asked for it has one, whose cells are needed. Else it has none, and the command is refused.
+pub record IsProposalOf (options : DeclareOptions) (image : List (Option ℕ)) (status : Status) (text : List ℕ) : Type 0 where
   pub is : IsDeclarationFor options text
+  pub ends : (status ≡ Done) ⊎ (status ≡ Refused)
   pub safe : status ≡ Done → IsSafe (image_of image) is.declaration
   pub unlisted : options.reads ≡ false → is.declaration.reads ≡ None
   pub bare : status ≡ Refused → is.declaration.reads ≡ None
   pub listed : status ≡ Done → options.reads ≡ true → is_some is.declaration.reads ≡ true
   pub needed : status ≡ Done → options.reads ≡ true → ListsNeeded image is.declaration
 
--- The frames are a tape, and the text is a declaration proposed for it, whichever status the command has.
-abbrev pub IsProposed : DeclareOptions → Option (List ℕ) → List ℕ → Type 0
-IsProposed options frames text = (status : Status) × IsProposal options frames status text
+-- The frames are a tape, and the text is such a declaration for it.
+pub record IsProposal (options : DeclareOptions) (frames : Option (List ℕ)) (status : Status) (text : List ℕ) : Type 0 where
+  pub image : List (Option ℕ)
+  pub tape : HasImage frames image
+  pub is : IsProposalOf options image status text

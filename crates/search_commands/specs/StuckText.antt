@@ -7,7 +7,6 @@ use Rattle.analyser.specs.Versions.{version_of}
 use Rattle.certificate.specs.Reading.{AreLines, certificate_of}
 use Rattle.certificate.specs.Spelling.{Lines}
 use Rattle.declaration.specs.Declaration.{Declaration}
-use Rattle.judge.specs.Laws.{SetsAreOfWords}
 use Rattle.judge.specs.declared.judging.Refusal.{Refusal}
 use Rattle.reasons.specs.Reasons.{Explains}
 use Rattle.reasons.specs.Stuck.{EachFailsByLinesAlone, IsToldOf, NoneFailsBefore}
@@ -21,27 +20,32 @@ abbrev pub told_text : Profile → List (Option ℕ) → Option (Refusal × Reas
 told_text profile image None = []
 told_text profile image (Some found) = why_text profile image (Err found.0) (Some found.1)
 
--- The line of the fault, with the address, and those lines.
-abbrev pub stuck_text : Profile → List (Option ℕ) → ℕ → Option (Refusal × Reason) → List ℕ
-stuck_text profile image at told =
-    (codes "pdp8: guess: Stuck " ++ octal_text at) ++ codes "\n" ++ told_text profile image told
+-- The line of the fault, with the address, and these lines.
+abbrev pub stuck_text : ℕ → List ℕ → List ℕ
+stuck_text at lines = (codes "pdp8: guess: Stuck " ++ octal_text at) ++ codes "\n" ++ lines
 
--- These are the lines of a search that is stuck somewhere. The draft's facts stand in bodies and its routine and exit lines
--- at entries, and it has a fact there. The condition that is told fails by the draft at that address, since what is told is
--- so, and not because a line is missing or too narrow; none that is asked before it fails there but for that. Where none is
--- told, each that fails there does so for that alone.
-pub record IsReport (image : List (Option ℕ)) (d : Declaration) (draft : Lines) (report : List ℕ) : Type 0 where
-  pub at : ℕ
-  pub is_draft : IsDraft d at (certificate_of draft)
+-- These lines say why a search is stuck at an address, by a draft of a certificate. The condition that is told fails by the draft
+-- at that address, since what is told is so, and not because a line is missing or too narrow; none that is asked before it fails
+-- there but for that. Where none is told, each that fails there does so for that alone.
+pub record IsToldOfDraft (image : List (Option ℕ)) (d : Declaration) (draft : Lines) (at : ℕ) (lines : List ℕ) : Type 0 where
   pub told : Option (Refusal × Reason)
   pub why : IfSome told (λ found. Explains (checked_case image d draft) found.0.condition found.0.address found.1)
   pub place : IfSome told (λ found. IsToldOf at found.0 found.1)
   pub first : IfSome told (λ found. NoneFailsBefore (checked_case image d draft) at found.0.condition)
   pub none : IfNone told (EachFailsByLinesAlone (checked_case image d draft) at)
-  pub report_is : report ≡ stuck_text d.profile image at told
+  pub lines_are : lines ≡ told_text d.profile image told
+
+-- These are the lines of a search that is stuck somewhere. The draft's facts stand in bodies and its routine and exit lines
+-- at entries, and it has a fact there; and behind the line of the fault stands why the search is stuck there.
+pub record IsReport (image : List (Option ℕ)) (d : Declaration) (draft : Lines) (report : List ℕ) : Type 0 where
+  pub at : ℕ
+  pub is_draft : IsDraft d at (certificate_of draft)
+  pub lines : List ℕ
+  pub is : IsToldOfDraft image d draft at lines
+  pub report_is : report ≡ stuck_text at lines
 
 -- The frames are a tape, the text is that of a declaration; these are the lines of a search that is stuck, by some draft of a
--- certificate, in the version of the declared machine, whose sets are of words.
+-- certificate, in the version of the declared machine.
 pub record IsStuck (frames text : Option (List ℕ)) (report : List ℕ) : Type 0 where
   pub image : List (Option ℕ)
   pub tape : HasImage frames image
@@ -49,6 +53,5 @@ pub record IsStuck (frames text : Option (List ℕ)) (report : List ℕ) : Type 
   pub declares : HasDeclaration text declaration
   pub draft : Lines
   pub lines_are : AreLines draft
-  pub of_words : SetsAreOfWords (certificate_of draft)
   pub version_is : draft.version ≡ version_of declaration.profile
   pub is : IsReport image declaration draft report

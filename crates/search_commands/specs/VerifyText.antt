@@ -1,8 +1,9 @@
 -- What `verify` says, and when it is true.
-use Rattle.std.specs.Prelude.{ℕ, ◌≡◌, ◌++◌, ⊤, Bool, false, codes, decimal, List, [], Option, Some}
+use Rattle.std.specs.Prelude.{ℕ, ◌≡◌, ◌++◌, ⊤, Bool, false, codes, decimal, List, [], Option}
 use Rattle.word12.specs.Words.{octal_text}
 use Rattle.peripherals.specs.Loading.{image_of}
 use Rattle.declaration.specs.Declaration.{Declaration}
+use Rattle.declaration.specs.Text.{Declares}
 use Rattle.policy.specs.declared.rules.Rule.{Rule}
 use Rattle.policy.specs.Watching.{number_of}
 use Rattle.certificate.specs.Kept.{meaning}
@@ -12,9 +13,8 @@ use Rattle.verdict_texts.specs.CheckText.{IsYes, checked_case, yes_text}
 use Rattle.options.specs.declared.VerifyOptions.{VerifyOptions}
 use Rattle.command_parts.specs.declared.status.Status.{Status}
 use Rattle.command_parts.specs.declared.status.Status.TheVariants.{Done, Refused}
-use Rattle.command_parts.specs.declared.status.Fault.{Fault}
-use Rattle.command_parts.specs.declared.status.Fault.TheVariants as fault
-use Rattle.command_parts.specs.Inputs.{HasDeclaration, HasImage}
+use Rattle.command_parts.specs.Answers.{OfProgram}
+use Rattle.command_parts.specs.Inputs.{HasImage}
 use Rattle.search_commands.specs.declared.verifying.Lack.{Lack}
 use Rattle.search_commands.specs.declared.verifying.Lack.TheVariants.{Stuck, TurnsSpent}
 use Rattle.search_commands.specs.declared.verifying.Answer.{Answer}
@@ -56,30 +56,26 @@ pub record IsTold {A : Type 0} (d : Declaration) (answer : Answer A) (explained 
   pub plain : explained ≡ false → why ≡ []
   pub told_is : told ≡ answer_text d answer ++ why
 
--- Memory was refused.
-abbrev pub IsMemoryFault : Fault → Type 0
-IsMemoryFault f = f ≡ fault.NoMemory
-
--- The frames are a tape and the text is that of a declaration; the answer is true of them, and this is told of it.
-pub record IsVerified {A : Type 0} (frames text : Option (List ℕ)) (explained : Bool) (answer : Answer A) (told : List ℕ) : Type 0 where
-  pub image : List (Option ℕ)
-  pub tape : HasImage frames image
-  pub declaration : Declaration
-  pub declares : HasDeclaration text declaration
+-- The answer is true of a tape's words and a declaration, and this is told of it.
+pub record IsVerifiedOf {A : Type 0} (explained : Bool) (image : List (Option ℕ)) (declaration : Declaration) (answer : Answer A) (told : List ℕ) : Type 0 where
   pub answers : IsAnswer image declaration answer
   pub is : IsTold declaration answer explained told
 
--- This is told of the one or the other answer.
-abbrev pub IsSomeAnswer : (A : Type 0) → Option (List ℕ) → Option (List ℕ) → Bool → List ℕ → Type 0
-IsSomeAnswer A frames text explained told = (answer : Answer A) × IsVerified frames text explained answer told
+-- The frames are a tape and the text is that of a declaration; the answer is true of them, and this is told of it.
+abbrev pub IsVerified : {A : Type 0} → Option (List ℕ) → Option (List ℕ) → Bool → Answer A → List ℕ → Type 0
+IsVerified frames text explained answer told = OfProgram frames text (IsVerifiedOf explained) answer told
 
--- The frames are a tape, and the text that is proposed declares a program that starts where it was asked to, on the machine
--- that was asked for; the answer is true of them, and this is told of it.
-pub record IsProposedAnswer {A : Type 0} (frames : Option (List ℕ)) (options : VerifyOptions) (p : Proposed A) (told : List ℕ) : Type 0 where
-  pub verified : IsVerified frames (Some p.text.items) options.search.explained p.answer told
-  pub start_is : verified.declaration.start ≡ options.start
-  pub profile_is : verified.declaration.profile ≡ options.profile
+-- The text that is proposed declares a program that starts where it was asked to, on the machine that was asked for; the answer
+-- is true of the words and of what is declared, and this is told of it.
+pub record IsProposedAnswerOf {A : Type 0} (options : VerifyOptions) (image : List (Option ℕ)) (p : Proposed A) (told : List ℕ) : Type 0 where
+  pub declaration : Declaration
+  pub declares : Declares p.text.items declaration
+  pub start_is : declaration.start ≡ options.start
+  pub profile_is : declaration.profile ≡ options.profile
+  pub is : IsVerifiedOf options.search.explained image declaration p.answer told
 
--- This is told of the one or the other answer for a declaration that is proposed.
-abbrev pub IsSomeProposedAnswer : (A : Type 0) → Option (List ℕ) → VerifyOptions → List ℕ → Type 0
-IsSomeProposedAnswer A frames options told = (p : Proposed A) × IsProposedAnswer frames options p told
+-- The frames are a tape, and this is told of such an answer for it.
+pub record IsProposedAnswer {A : Type 0} (options : VerifyOptions) (frames : Option (List ℕ)) (p : Proposed A) (told : List ℕ) : Type 0 where
+  pub image : List (Option ℕ)
+  pub tape : HasImage frames image
+  pub is : IsProposedAnswerOf options image p told

@@ -1,14 +1,13 @@
 //! The command that adds to a declaration what is missing there.
 
-ghost use Rattle.std.specs.Prelude.{◌≡◌, ◌||◌, ◌⊎◌, false, true, Ok, Err, None, IfSome, IfOk, IfErr, OnErr};
+ghost use Rattle.std.specs.Prelude.{◌≡◌, ◌⊎◌, false, Ok, Err, None, IfSome, IfOk, IfErr};
+ghost use Rattle.command_parts.specs.Answers.{IsLaterFault, IsMemoryFault, NeverFails, OfProgram, ReadsTwo, WritesAnswer, output};
+ghost use Rattle.command_parts.specs.Faults.{IsDeclarationInputFault, fails_to_read, fails_to_write};
+ghost use Rattle.command_parts.specs.Inputs.{HasDeclaration, HasImage, TakesAtMost, input};
 ghost use Rattle.command_parts.specs.declared.status.Status.TheVariants.{Done, Refused};
-ghost use Rattle.search_commands.specs.CompleteText.{Completes, IsCompleted, IsCompletion, IsExtension, IsTried};
+ghost use Rattle.search_commands.specs.CompleteText.{Completes, IsExtension, IsTried};
 ghost use Rattle.search_commands.specs.Extending.{Extends};
-ghost use Rattle.search_commands.specs.SearchFaults.{IsCompleteFault};
-ghost use Rattle.search_commands.specs.VerifyText.{IsMemoryFault};
-ghost use Rattle.command_parts.specs.Faults.{IsDeclarationInputFault, is_fault_of_tape, fails_to_read, fails_to_write};
-ghost use Rattle.command_parts.specs.Inputs.{HasDeclaration, IsGoodTape, TakesAtMost, TakesTape, input};
-ghost use Rattle.command_parts.specs.Writes.{FrontOf, Writes};
+ghost use Rattle.search_commands.specs.SearchFaults.{IsProposeFault};
 ghost use Rattle.declaration.specs.Kept.{meaning};
 ghost use Rattle.declaration.specs.Text.{Declares};
 ghost use Rattle.peripherals.specs.Loading.{image_of};
@@ -22,12 +21,13 @@ use crate::verifying::{Lack, lack_of};
 use analyser::guess;
 use bin_tape::Image;
 use command_parts::inputs::tape_from;
+use command_parts::outcome::{Outcome, deliver};
 use command_parts::status::{Fault, Status};
 use declaration::{Declaration, DeclarationFault};
 use options::DeclareOptions;
 use proposer::{ObservedRuns, Proposal};
 use std::alloc::{AllocError, Allocator};
-use streams::{ByteSink, ByteSource, put, read_at_most};
+use streams::{ByteSink, ByteSource, read_at_most};
 use turns::{ProposeFault, Turns};
 use wordset::WordSet;
 
@@ -42,11 +42,11 @@ struct Given<A: Allocator> {
     declaration: Declaration<A>,
 }
 
-/// A text that is written, and the status behind it.
+/// The words of a tape, and a declaration with its text.
 #[derive(Drop)]
-struct Written<A: Allocator> {
-    text: Vec<u8, A>,
-    status: Status,
+struct GivenProgram<A: Allocator> {
+    image: Image,
+    given: Given<A>,
 }
 
 /// What is found of a text that may complete a declaration.
@@ -80,6 +80,30 @@ fn given_from<A: Allocator + Copy, R: ByteSource>(
         Ok(declaration) => Ok(Given { text, declaration }),
         Err(fault) => Err(Fault::from(fault)),
     }
+}
+
+/// Reads a tape, and after a good one a declaration, whose text it keeps.
+fn given_program_from<A: Allocator + Copy, R: ByteSource, D: ByteSource>(
+    alloc: A,
+    tape: &mut R,
+    declaration: &mut D,
+) -> Result<GivenProgram<A>, Fault>
+    requires readable { R.mark tape.old ≡ false }
+    requires declaration_readable { D.mark declaration.old ≡ false }
+    ensures image { IfOk result (λ program. HasImage (R.remaining tape.old) program.image) }
+    ensures declares { IfOk result (λ program.
+        HasDeclaration (D.remaining declaration.old) (meaning program.given.declaration)) }
+    ensures text { IfOk result (λ program.
+        Declares program.given.text.items (meaning program.given.declaration)) }
+    ensures reads { ReadsTwo NeverFails
+        (input (R.mark tape.new) (R.remaining tape.old) (R.remaining tape.new))
+        (input (D.mark declaration.new) (D.remaining declaration.old) (D.remaining declaration.new))
+        (declaration.new ≡ declaration.old) result }
+    ensures unwritten { fails_to_write result ≡ false }
+{
+    let image = tape_from(tape)?;
+    let given = given_from(alloc, declaration)?;
+    Ok(GivenProgram { image, given })
 }
 
 /// Why no certificate is found for a declaration, if none is.
@@ -208,13 +232,13 @@ fn proposal_by<A: Allocator + Copy>(
 }
 
 /// A text for which no certificate is found, if there is one.
-fn refused<A: Allocator>(text: Result<Vec<u8, A>, Fault>) -> Result<Written<A>, Fault>
+fn refused<A: Allocator>(text: Result<Vec<u8, A>, Fault>) -> Result<Outcome<A>, Fault>
     ensures text { IfOk result (λ c. text ≡ Ok c.text) }
     ensures status { IfOk result (λ c. c.status ≡ Refused) }
     ensures fault { IfErr result (λ fault. text ≡ Err fault) }
 {
     match text {
-        Ok(text) => Ok(Written {
+        Ok(text) => Ok(Outcome {
             text,
             status: Status::Refused,
         }),
@@ -230,17 +254,16 @@ fn completed<A: Allocator + Copy>(
     given: &Given<A>,
     lack: Lack,
     proposal: &Proposal<A>,
-) -> Result<Written<A>, Fault>
+) -> Result<Outcome<A>, Fault>
     requires { Declares given.now.text.items (meaning given.now.declaration) }
     ensures completes { IfOk result (λ c.
         Completes image.now (meaning given.now.declaration) c.status c.text.items) }
-    ensures statuses { IfOk result (λ c. (c.status ≡ Done) ⊎ (c.status ≡ Refused)) }
     ensures faults { IfErr result IsMemoryFault }
 {
     let promised = &given.declaration;
     let text = merged(alloc, &given.text, promised, &proposal.declaration)?;
     match tried(alloc, image, promised, &text)? {
-        Trial::Shown => Ok(Written {
+        Trial::Shown => Ok(Outcome {
             text,
             status: Status::Done,
         }),
@@ -254,6 +277,28 @@ fn completed<A: Allocator + Copy>(
             refused(remarked(alloc, promised, text, lack, None, &proposal.unfollowed))
         }
     }
+}
+
+/// The text that completes a declaration, and whether it is shown to be kept.
+fn completion_of<A: Allocator + Copy>(
+    alloc: A,
+    program: GivenProgram<A>,
+    reads: bool,
+) -> Result<Outcome<A>, Fault>
+    requires { Declares program.given.text.items (meaning program.given.declaration) }
+    ensures completes { IfOk result (λ told. Completes program.image
+        (meaning program.given.declaration) told.status told.text.items) }
+    ensures faults { IfErr result IsProposeFault }
+    ensures unwritten { fails_to_write result ≡ false }
+{
+    let GivenProgram { image, given } = program;
+    let Some(lack) = lack_in(alloc, &image, &given.declaration)? else {
+        let Given { text, .. } = given;
+        let status = Status::Done;
+        return Ok(Outcome { text, status });
+    };
+    let proposal = proposal_by(alloc, &image, &given.declaration, reads)?;
+    completed(alloc, &image, &given, lack, &proposal)
 }
 
 /// Adds to a declaration what is missing there, by the tape, and writes its text. What was written there
@@ -271,7 +316,6 @@ fn completed<A: Allocator + Copy>(
 /// the next is read; `Declare` where what is found can't be declared; `Device` where a read or a write
 /// failed, after which a prefix of the text went out; `NoMemory`. Nothing is written but where a write
 /// failed.
-#[tactic(auto, using(crate::proofs::UnreadLemmas::takes_no_text))]
 pub fn complete<A: Allocator + Copy, R: ByteSource, D: ByteSource, W: ByteSink>(
     alloc: A,
     tape: &mut R,
@@ -284,44 +328,17 @@ pub fn complete<A: Allocator + Copy, R: ByteSource, D: ByteSource, W: ByteSink>(
     requires writable { W.mark out.old ≡ false }
     // What is written declares a program, and it extends the declaration that is read; and where the
     // command is done no run of the tape's program breaks what is written.
-    ensures completed { IfOk result (λ status. Writes
-        (IsCompletion (R.remaining tape.old) (D.remaining declaration.old) status)
-        (W.taken out.old) (W.taken out.new)) }
-    ensures statuses { IfOk result (λ status. (status ≡ Done) ⊎ (status ≡ Refused)) }
-    // A fault is that of the first input that has one, or else of what was found or of a write.
-    ensures faults { IfErr result (IsCompleteFault
+    ensures completed { WritesAnswer
+        (OfProgram (R.remaining tape.old) (D.remaining declaration.old) Completes)
+        (output (W.mark out.new) (W.taken out.old) (W.taken out.new)) result }
+    // The inputs are read in order; after good ones what was found may be undeclarable, or a write fail.
+    ensures reads { ReadsTwo (IsLaterFault IsProposeFault)
         (input (R.mark tape.new) (R.remaining tape.old) (R.remaining tape.new))
-        (input (D.mark declaration.new) (D.remaining declaration.old)
-        (D.remaining declaration.new))) }
-    // Where a write failed, a front of such a text went out,
-    ensures front { W.mark out.new ≡ true → FrontOf
-        (IsCompleted (R.remaining tape.old) (D.remaining declaration.old))
-        (W.taken out.old) (W.taken out.new) }
-    // and any other fault leaves the output as it was.
-    ensures nothing { OnErr result (W.mark out.new ≡ false → W.taken out.new ≡ W.taken out.old) }
-    // A write failed exactly where the answer says so, and so did a read.
-    ensures marks { W.mark out.new ≡ fails_to_write result }
-    ensures reads { R.mark tape.new || D.mark declaration.new ≡ fails_to_read result }
-    // The declaration isn't read after a tape that is refused, or whose read failed.
-    ensures unread { IfErr result (λ fault. is_fault_of_tape fault ≡ true →
-        declaration.new ≡ declaration.old) }
-    ensures unread_after_failure { R.mark tape.new ≡ true → declaration.new ≡ declaration.old }
-    // It is read only after a good tape.
-    ensures declaration_after_tape { (declaration.new ≡ declaration.old) ⊎
-        IsGoodTape (R.remaining tape.old) }
-    // No input is read past its limit.
-    ensures takes_tape { TakesTape (R.remaining tape.old) (R.remaining tape.new) }
-    ensures takes_declaration { TakesAtMost 16385
-        (D.remaining declaration.old) (D.remaining declaration.new) }
+        (input (D.mark declaration.new) (D.remaining declaration.old) (D.remaining declaration.new))
+        (declaration.new ≡ declaration.old) result }
 {
-    let image = tape_from(tape)?;
-    let given = given_from(alloc, declaration)?;
-    let Some(lack) = lack_in(alloc, &image, &given.declaration)? else {
-        put(out, &given.text)?;
-        return Ok(Status::Done);
-    };
-    let proposal = proposal_by(alloc, &image, &given.declaration, reads)?;
-    let written = completed(alloc, &image, &given, lack, &proposal)?;
-    put(out, &written.text)?;
-    Ok(written.status)
+    match given_program_from(alloc, tape, declaration) {
+        Ok(program) => deliver(completion_of(alloc, program, reads), out),
+        Err(fault) => Err(fault),
+    }
 }

@@ -1,12 +1,11 @@
 //! The command that proposes a declaration.
 
-ghost use Rattle.std.specs.Prelude.{◌≡◌, ◌⊎◌, None, false, true, IfOk, IfErr, OnErr};
-ghost use Rattle.command_parts.specs.declared.status.Status.TheVariants.{Done, Refused};
-ghost use Rattle.search_commands.specs.DeclareText.{IsBare, IsProposal, IsProposed};
-ghost use Rattle.search_commands.specs.SearchFaults.{IsDeclareFault, IsProposeFault};
+ghost use Rattle.std.specs.Prelude.{◌≡◌, None, false, true, IfOk, IfErr};
+ghost use Rattle.command_parts.specs.Answers.{IsLaterFault, ReadsOne, WritesAnswer, output};
 ghost use Rattle.command_parts.specs.Faults.{fails_to_read, fails_to_write};
-ghost use Rattle.command_parts.specs.Inputs.{TakesTape, input};
-ghost use Rattle.command_parts.specs.Writes.{FrontOf, Writes};
+ghost use Rattle.command_parts.specs.Inputs.{input};
+ghost use Rattle.search_commands.specs.DeclareText.{IsBare, IsProposal, IsProposalOf};
+ghost use Rattle.search_commands.specs.SearchFaults.{IsProposeFault};
 ghost use Rattle.declaration.specs.Kept.{meaning};
 ghost use Rattle.declaration.specs.Text.{Declares};
 ghost use Rattle.proposer.specs.Proposals.{AreNeeded, Fits, IsListed, IsShown, IsTold};
@@ -14,6 +13,7 @@ ghost use Rattle.proposer.specs.Proposals.{AreNeeded, Fits, IsListed, IsShown, I
 use crate::verifying::Lack;
 use bin_tape::Image;
 use command_parts::inputs::tape_from;
+use command_parts::outcome::{Outcome, deliver};
 use command_parts::status::{Fault, Status};
 use command_parts::text::push_place;
 use declaration::{Declaration, DeclarationFault};
@@ -21,7 +21,7 @@ use itoa::Buffer;
 pub use options::DeclareOptions;
 use proposer::{ObservedRuns, Proposal, Verdict, propose, propose_with_reads};
 use std::alloc::{AllocError, Allocator};
-use streams::{ByteSink, ByteSource, put};
+use streams::{ByteSink, ByteSource};
 use turns::{ProposeFault, Turns};
 use wordset::WordSet;
 
@@ -169,6 +169,37 @@ fn remarked<A: Allocator + Copy>(
     Ok(copy_of(alloc, &proposal.text)?)
 }
 
+/// The text of a proposal.
+fn text_of<A: Allocator>(proposal: Proposal<A>) -> Vec<u8, A>
+    ensures { result ≡ proposal.text }
+{
+    let Proposal { text, .. } = proposal;
+    text
+}
+
+/// What is proposed for a tape's words: the text of a declaration, and whether it is shown to be kept.
+pub fn proposed<A: Allocator + Copy>(
+    alloc: A,
+    image: &Image,
+    options: &DeclareOptions,
+) -> Result<Outcome<A>, Fault>
+    ensures proposal { IfOk result (λ told.
+        IsProposalOf options.now image.now told.status told.text.items) }
+    ensures faults { IfErr result IsProposeFault }
+    ensures unwritten { fails_to_write result ≡ false }
+{
+    let mut turns = Turns::new(MOST_TURNS);
+    let proposal = proposal_for(alloc, image, options, &mut turns)?;
+    if let Verdict::Safe(_) = &proposal.verdict {
+        let text = text_of(proposal);
+        let status = Status::Done;
+        return Ok(Outcome { text, status });
+    }
+    let text = remarked(alloc, &proposal, options)?;
+    let status = Status::Refused;
+    Ok(Outcome { text, status })
+}
+
 /// Proposes what the program of a tape may do, by the tape, its start and the machine alone, and
 /// writes the text of that declaration. `Done` says that no run of the program breaks it. Else it's
 /// `Refused`: no certificate is found that shows that. Comments in front of the text say why then, if
@@ -190,31 +221,14 @@ pub fn declare<A: Allocator + Copy, R: ByteSource, W: ByteSink>(
     // What is written declares a program from that start, on that machine; and where the command is
     // done the tape's program is safe, and there is a list of reads if one was asked for, of cells that
     // by the facts of a certificate some possible word may read. Else there is no list.
-    ensures declared { IfOk result (λ status. Writes
-        (IsProposal options (R.remaining tape.old) status) (W.taken out.old) (W.taken out.new)) }
-    ensures statuses { IfOk result (λ status. (status ≡ Done) ⊎ (status ≡ Refused)) }
-    // A fault is that of the tape, or else of what was found or of a write.
-    ensures faults { IfErr result (IsDeclareFault
-        (input (R.mark tape.new) (R.remaining tape.old) (R.remaining tape.new))) }
-    // Where a write failed, a front of such a text went out,
-    ensures front { W.mark out.new ≡ true → FrontOf
-        (IsProposed options (R.remaining tape.old)) (W.taken out.old) (W.taken out.new) }
-    // and any other fault leaves the output as it was.
-    ensures nothing { OnErr result (W.mark out.new ≡ false → W.taken out.new ≡ W.taken out.old) }
-    // A write failed exactly where the answer says so, and so did a read.
-    ensures marks { W.mark out.new ≡ fails_to_write result }
-    ensures reads { R.mark tape.new ≡ fails_to_read result }
-    // The tape is not read past its limit.
-    ensures takes_tape { TakesTape (R.remaining tape.old) (R.remaining tape.new) }
+    ensures declared { WritesAnswer (IsProposal options (R.remaining tape.old))
+        (output (W.mark out.new) (W.taken out.old) (W.taken out.new)) result }
+    // The tape is read; after a good one what was found may be undeclarable, or a write fail.
+    ensures reads { ReadsOne (IsLaterFault IsProposeFault)
+        (input (R.mark tape.new) (R.remaining tape.old) (R.remaining tape.new)) result }
 {
-    let image = tape_from(tape)?;
-    let mut turns = Turns::new(MOST_TURNS);
-    let proposal = proposal_for(alloc, &image, &options, &mut turns)?;
-    if let Verdict::Safe(_) = &proposal.verdict {
-        put(out, &proposal.text)?;
-        return Ok(Status::Done);
+    match tape_from(tape) {
+        Ok(image) => deliver(proposed(alloc, &image, &options), out),
+        Err(fault) => Err(fault),
     }
-    let text = remarked(alloc, &proposal, &options)?;
-    put(out, &text)?;
-    Ok(Status::Refused)
 }

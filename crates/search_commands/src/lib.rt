@@ -7,5 +7,6 @@ pub mod declaring;
 mod extending;
 pub mod guessing;
 mod merging;
+pub mod messages;
 pub mod stuck;
 pub mod verifying;

@@ -1,21 +1,24 @@
 //! The command that guesses a certificate and says why the search is stuck.
 
-ghost use Rattle.std.specs.Prelude.{◌≡◌, ◌⊎◌, ◌||◌, ◌++◌, false, true, IfOk, IfErr, OnErr, OnOk, Ok};
+ghost use Rattle.std.specs.Prelude.{◌≡◌, ◌⊎◌, ◌++◌, false, true, IfOk, OnErr, OnOk, Ok};
 ghost use Rattle.declaration.specs.Kept.{meaning};
 ghost use Rattle.analyser.specs.Attempts.{IsDraft};
 ghost use Rattle.certificate.specs.Kept.{claims, meaning as lines_of};
 ghost use Rattle.search_commands.specs.GuessText.{IsGuess};
-ghost use Rattle.search_commands.specs.SearchFaults.{IsGuessFault};
-ghost use Rattle.command_parts.specs.Faults.{is_fault_of_tape, fails_to_read, fails_to_write};
-ghost use Rattle.command_parts.specs.Inputs.{TakesAtMost, TakesTape, input};
-ghost use Rattle.search_commands.specs.StuckText.{IsReport, IsStuck, stuck_text};
+ghost use Rattle.search_commands.specs.SearchFaults.{IsSearchFault};
+ghost use Rattle.command_parts.specs.Answers.{IsLaterFault, ReadsTwo};
+ghost use Rattle.command_parts.specs.Faults.{fails_to_write};
+ghost use Rattle.command_parts.specs.Inputs.{input};
+ghost use Rattle.command_parts.specs.Messages.{plain};
+ghost use Rattle.search_commands.specs.StuckText.{IsReport, IsStuck, IsToldOfDraft, stuck_text, told_text};
 ghost use Rattle.command_parts.specs.Writes.{FrontOf, Writes};
 ghost use Rattle.command_parts.specs.declared.status.Status.TheVariants.{Done, Refused};
 
 use analyser::{Attempt, guess_or_draft};
 use bin_tape::Image;
 use certificate::Certificate;
-use command_parts::inputs::{declaration_from, tape_from};
+use command_parts::message::{Lines, Message};
+use command_parts::programs::program_from;
 use command_parts::status::{Fault, Status};
 use command_parts::text::push_place;
 use declaration::Declaration;
@@ -27,27 +30,55 @@ use streams::{ByteSink, ByteSource, put};
 use verdict_texts::reason_text::push_why;
 use word12::Word;
 
-/// Adds the line of a search that is stuck at an address, and behind it why, as far as that is told.
-fn push_stuck<A: Allocator>(
-    text: &mut Vec<u8, A>,
+/// Adds the lines of the condition that is told, if one is.
+fn push_told<L: Lines>(
+    text: &mut L,
     profile: Profile,
     image: &Image,
-    at: Word,
     told: &Option<(Refusal, Reason)>,
 ) -> Result<(), AllocError>
-    ensures { OnOk result
-        (text.new.items ≡ text.old.items ++ stuck_text profile image.now at told.now) }
+    ensures { OnOk result (L.text text.new ≡ L.text text.old ++ told_text profile image.now told.now) }
 {
-    push_place(text, b"pdp8: guess: Stuck ", at)?;
-    text.extend_from_slice(b"\n")?;
     match told {
         None => Ok(()),
         Some((refusal, reason)) => push_why(text, profile, image, &Err(*refusal), &Some(*reason)),
     }
 }
 
+/// Why a search is stuck at an address, by the draft of what it found.
+///
+/// # Errors
+///
+/// Memory was refused.
+pub fn draft_message<A: Allocator + Copy, D: Allocator, C: Allocator>(
+    alloc: A,
+    image: &Image,
+    declaration: &Declaration<D>,
+    draft: &Certificate<C>,
+    at: Word,
+) -> Result<Message<A>, AllocError>
+    ensures { IfOk result (λ text. IsToldOfDraft image.now (meaning declaration.now)
+        (lines_of draft.now) at (plain text)) }
+{
+    let told = why_stuck(image, declaration, draft, at);
+    let mut text = Message::new(alloc);
+    push_told(&mut text, declaration.profile(), image, &told)?;
+    Ok(text)
+}
+
+/// The line of a search that is stuck at an address, and behind it these lines.
+fn stuck_line<A: Allocator>(alloc: A, at: Word, lines: &[u8]) -> Result<Vec<u8, A>, AllocError>
+    ensures { IfOk result (λ text. text.items ≡ stuck_text at lines.now) }
+{
+    let mut text = Vec::new(alloc);
+    push_place(&mut text, b"pdp8: guess: Stuck ", at)?;
+    text.extend_from_slice(b"\n")?;
+    text.extend_from_slice(lines)?;
+    Ok(text)
+}
+
 /// The lines of a search that is stuck at an address, and why, by the draft of what it found.
-fn stuck_lines<A: Allocator, D: Allocator, C: Allocator>(
+fn stuck_lines<A: Allocator + Copy, D: Allocator, C: Allocator>(
     alloc: A,
     image: &Image,
     declaration: &Declaration<D>,
@@ -58,14 +89,13 @@ fn stuck_lines<A: Allocator, D: Allocator, C: Allocator>(
     ensures { IfOk result (λ text. IsReport image.now (meaning declaration.now) (lines_of draft.now)
         text.items) }
 {
-    let told = why_stuck(image, declaration, draft, at);
-    let mut text = Vec::new(alloc);
-    push_stuck(&mut text, declaration.profile(), image, at, &told)?;
+    let why = draft_message(alloc, image, declaration, draft, at)?;
+    let text = stuck_line(alloc, at, why.as_bytes())?;
     Ok(text)
 }
 
 /// Reports that a search is stuck at an address, and why, by the draft of what it found.
-fn report_stuck<A: Allocator, D: Allocator, C: Allocator, E: ByteSink>(
+fn report_stuck<A: Allocator + Copy, D: Allocator, C: Allocator, E: ByteSink>(
     alloc: A,
     image: &Image,
     declaration: &Declaration<D>,
@@ -102,7 +132,6 @@ fn report_stuck<A: Allocator, D: Allocator, C: Allocator, E: ByteSink>(
 ///
 /// As of `guess`; `Guess` tells that the search is stuck where there is no draft, which no clause
 /// excludes.
-#[tactic(auto, using(crate::proofs::UnreadLemmas::takes_no_text))]
 pub fn guess_or_explain<
     A: Allocator + Copy,
     R: ByteSource,
@@ -131,11 +160,6 @@ pub fn guess_or_explain<
     ensures unreported { IfOk result (λ status. status ≡ Done → report.new ≡ report.old) }
     ensures unreported_fault { OnErr result (report.new ≡ report.old) }
     ensures unwritten { IfOk result (λ status. status ≡ Refused → out.new ≡ out.old) }
-    // A fault is that of the first input that has one, or else of the search or of a write.
-    ensures faults { IfErr result (IsGuessFault
-        (input (R.mark tape.new) (R.remaining tape.old) (R.remaining tape.new))
-        (input (D.mark declaration.new) (D.remaining declaration.old)
-        (D.remaining declaration.new))) }
     // Where a write failed, a front of such a text went out,
     ensures front { W.mark out.new ≡ true → FrontOf
         (IsGuess (R.remaining tape.old) (D.remaining declaration.old))
@@ -146,28 +170,24 @@ pub fn guess_or_explain<
         (E.taken report.old) (E.taken report.new) }
     // and any other fault leaves the output as it was.
     ensures nothing { OnErr result (W.mark out.new ≡ false → W.taken out.new ≡ W.taken out.old) }
-    // A write to the output failed exactly where the answer says so, and so did a read.
+    // A write to the output failed exactly where the answer says so.
     ensures marks { W.mark out.new ≡ fails_to_write result }
-    ensures reads { R.mark tape.new || D.mark declaration.new ≡ fails_to_read result }
-    // The declaration isn't read after a tape that is refused, or whose read failed.
-    ensures unread { IfErr result (λ fault. is_fault_of_tape fault ≡ true →
-        declaration.new ≡ declaration.old) }
-    ensures unread_after_failure { R.mark tape.new ≡ true → declaration.new ≡ declaration.old }
-    // No input is read past its limit.
-    ensures takes_tape { TakesTape (R.remaining tape.old) (R.remaining tape.new) }
-    ensures takes_declaration { TakesAtMost 16385
-        (D.remaining declaration.old) (D.remaining declaration.new) }
+    // The inputs are read in order; after good ones nothing may be found, or a write may fail.
+    ensures reads { ReadsTwo (IsLaterFault IsSearchFault)
+        (input (R.mark tape.new) (R.remaining tape.old) (R.remaining tape.new))
+        (input (D.mark declaration.new) (D.remaining declaration.old) (D.remaining declaration.new))
+        (declaration.new ≡ declaration.old) result }
 {
-    let image = tape_from(tape)?;
-    let promised = declaration_from(alloc, declaration)?;
-    let attempt = guess_or_draft(alloc, &image, &promised)?;
+    let program = program_from(alloc, tape, declaration)?;
+    let (image, promised) = (&program.image, &program.declaration);
+    let attempt = guess_or_draft(alloc, image, promised)?;
     match &attempt {
         Attempt::Found(certificate) => {
             certificate.write(out)?;
             Ok(Status::Done)
         }
         Attempt::Stuck(at, draft) => {
-            report_stuck(alloc, &image, &promised, draft, *at, report)?;
+            report_stuck(alloc, image, promised, draft, *at, report)?;
             Ok(Status::Refused)
         }
     }

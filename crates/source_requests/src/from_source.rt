@@ -1,24 +1,30 @@
 //! Commands that work on a source and its declaration in place of a tape.
 
+use crate::assembled::{AssembledSource, assembled};
+use crate::explained::{
+    check_with_reasons, guess_with_draft, refute_with_reasons, verify_alone_with_reasons,
+    verify_with_reasons, watch_session_with_reasons, watch_with_reasons,
+};
 use crate::numbering::{Given, Prepared, Promise, lend, read_all, tell_refused};
 use crate::programs::{
-    SourceText, check_program, declare_program, explain_program, guess_program, refute_program,
-    report_numbered, verify_alone, verify_program, watch_program, watch_session_program,
-    write_numbered,
+    SourceText, check_program, declare_program, guess_program, refute_program, report_numbered,
+    verify_alone, verify_program, watch_program, watch_session_program, write_numbered,
 };
 use crate::spots::{Spot, behind_lines, line_counts, line_of, on_line, spot_of};
 use crate::wordless::number_for;
-use command_line::{Save, Sourced, Task};
+use command_line::{Destination, Save, Sourced, Task, WatchedSession};
 use command_parts::status::{Fault, Status};
 use declaration::DeclarationFault;
 use fault_texts::{FaultyFile, push_fault};
 use labels::Numbered;
+use machine_commands::refuting::RefuteOptions;
 use pal_text::{Ending, statements};
 use program_files::telling::tell_with;
 use search_commands::verifying::VerifyOptions;
 use source_verdicts::SourcedFault;
 use std::alloc::Global;
 use std::rt::Files;
+use wordset::WordSet;
 
 /// Says whether a program keeps its declaration, or the one that is proposed.
 fn verified<R: Files + Input + Print + Eprint>(
@@ -30,28 +36,112 @@ fn verified<R: Files + Input + Print + Eprint>(
     options: &VerifyOptions,
 ) -> Result<Status, SourcedFault> {
     match source.promise {
-        Promise::Proposed => Ok(verify_alone(rt, alloc, source, numbered, save, options)?),
-        _ => verify_program(rt, alloc, source, numbered, save, options),
+        Promise::Proposed => Ok(verify_alone(rt, alloc, numbered, save, options)?),
+        _ => verify_program(rt, alloc, source, save, options),
     }
 }
 
-/// Checks the certificate of a file, and says why the verdict is no where that is asked for.
-fn checked<R: Files + Input + Print>(
+/// The same, and why.
+fn verified_with_reasons<R: Files + Input + Print + Eprint>(
+    rt: &R,
+    alloc: Global,
+    promise: Promise,
+    source: &AssembledSource<'_>,
+    save: Option<Save<'_>>,
+    options: &VerifyOptions,
+) -> Result<Status, Fault> {
+    match promise {
+        Promise::Proposed => verify_alone_with_reasons(rt, alloc, source, save, options),
+        _ => verify_with_reasons(rt, alloc, source, save, options),
+    }
+}
+
+/// What is done with a source that was assembled, where it is asked why, or for a report of a search that is stuck.
+#[derive(Clone, Copy)]
+enum ExplainedTask<'t> {
+    Verify(Option<Save<'t>>, &'t VerifyOptions),
+    Check(&'t str),
+    Watch(&'t str, &'t WordSet),
+    WatchSession(&'t WatchedSession<'t>),
+    Guess(Destination<'t>, bool, Option<&'t str>),
+    Refute(Destination<'t>, &'t RefuteOptions),
+}
+
+/// The task as one that says why, if it is.
+fn explained_task<'t>(task: &'t Task<'t>) -> Option<ExplainedTask<'t>> {
+    match task {
+        Task::Verify { save, options, .. } if options.search.explained => {
+            Some(ExplainedTask::Verify(*save, options))
+        }
+        Task::Check {
+            certificate,
+            explained: true,
+        } => Some(ExplainedTask::Check(certificate)),
+        Task::Watch {
+            events,
+            explained: true,
+            show,
+        } => Some(ExplainedTask::Watch(events, show)),
+        Task::WatchSession(session) if session.explained => Some(ExplainedTask::WatchSession(
+            session,
+        )),
+        Task::Guess {
+            out,
+            explained,
+            report,
+        } if *explained || report.is_some() => Some(ExplainedTask::Guess(
+            *out, *explained, *report,
+        )),
+        Task::Refute { out, options } if options.explained => {
+            Some(ExplainedTask::Refute(*out, options))
+        }
+        _ => None,
+    }
+}
+
+/// Does what is asked for where it is asked why. It works on the source as it was assembled, and on the declaration
+/// in numbers.
+fn done_with_reasons<R: Files + Input + Print + Eprint>(
+    rt: &R,
+    alloc: Global,
+    promise: Promise,
+    source: &AssembledSource<'_>,
+    asked: &ExplainedTask<'_>,
+) -> Result<Status, Fault> {
+    match asked {
+        ExplainedTask::Verify(save, options) => {
+            verified_with_reasons(rt, alloc, promise, source, *save, options)
+        }
+        ExplainedTask::Check(certificate) => check_with_reasons(rt, alloc, source, certificate),
+        ExplainedTask::Watch(events, show) => watch_with_reasons(rt, alloc, source, events, show),
+        ExplainedTask::WatchSession(session) => watch_session_with_reasons(
+            rt, alloc, source, session,
+        ),
+        ExplainedTask::Guess(out, explained, report) => {
+            guess_with_draft(rt, alloc, source, *out, *explained, *report)
+        }
+        ExplainedTask::Refute(out, options) => refute_with_reasons(
+            rt, alloc, source, *out, **options,
+        ),
+    }
+}
+
+/// Writes what the certificate of a file says.
+fn reported<R: Files + Input + Print>(
     rt: &R,
     alloc: Global,
     source: &SourceText<'_>,
     numbered: &Numbered<Global>,
     certificate: &str,
-    explained: bool,
+    out: Destination<'_>,
+    text: bool,
 ) -> Result<Status, SourcedFault> {
-    if explained {
-        return Ok(explain_program(rt, alloc, source, numbered, certificate)?);
-    }
-    check_program(rt, alloc, source, certificate)
+    let AssembledSource { notes, .. } = assembled(alloc, source)?;
+    Ok(report_numbered(rt, alloc, numbered, &notes, certificate, out, text)?)
 }
 
-/// Does what is asked for with a program and its declaration, which are also there in numbers. The commands
-/// whose answers on a source are proved work on the source: `check` without reasons, `watch` with the events of a
+/// Does what is asked for with a program and its declaration, which are also there in numbers, where it isn't asked
+/// why. The commands whose answers on a source are proved work on the source: `check`, `watch` with the events of a
 /// file, `guess`, `refute`, and `verify` of a declaration that is given. The others work on the numbers.
 fn done_with_numbers<R: Files + Input + Print + Eprint>(
     rt: &R,
@@ -62,29 +152,16 @@ fn done_with_numbers<R: Files + Input + Print + Eprint>(
 ) -> Result<Status, SourcedFault> {
     match task {
         Task::Verify { save, options, .. } => verified(rt, alloc, source, numbered, *save, options),
-        Task::Check {
-            certificate,
-            explained,
-        } => { checked(rt, alloc, source, numbered, certificate, *explained) }
+        Task::Check { certificate, .. } => check_program(rt, alloc, source, certificate),
         Task::Report {
             certificate,
             out,
             text,
             ..
-        } => Ok(report_numbered(rt, alloc, source, numbered, certificate, *out, *text)?),
-        Task::Watch {
-            events,
-            explained,
-            show,
-        } => watch_program(rt, alloc, source, events, *explained, show),
-        Task::WatchSession(session) => {
-            Ok(watch_session_program(rt, alloc, source, numbered, session)?)
-        }
-        Task::Guess {
-            out,
-            explained,
-            report,
-        } => guess_program(rt, alloc, source, numbered, *out, *explained, *report),
+        } => reported(rt, alloc, source, numbered, certificate, *out, *text),
+        Task::Watch { events, show, .. } => watch_program(rt, alloc, source, events, show),
+        Task::WatchSession(session) => Ok(watch_session_program(rt, alloc, numbered, session)?),
+        Task::Guess { out, .. } => guess_program(rt, alloc, source, *out),
         Task::Refute { out, options } => refute_program(rt, alloc, source, *out, *options),
         Task::Declare { out, options, .. } => {
             declare_program(rt, alloc, source, numbered, *out, *options)
@@ -102,13 +179,17 @@ fn done_with<R: Files + Input + Print + Eprint>(
     given: &Given,
     sourced: &Sourced<'_>,
 ) -> Result<Status, SourcedFault> {
-    let numbered = number_for(alloc, parts, &given.text, &sourced.task)?;
     let source = SourceText {
         parts,
         declaration: &given.text,
         names: &sourced.sources,
         promise: given.promise,
     };
+    if let Some(asked) = explained_task(&sourced.task) {
+        let program = assembled(alloc, &source)?;
+        return Ok(done_with_reasons(rt, alloc, given.promise, &program, &asked)?);
+    }
+    let numbered = number_for(alloc, parts, &given.text, &sourced.task)?;
     done_with_numbers(rt, alloc, &source, &numbered, &sourced.task)
 }
 

@@ -2,6 +2,8 @@
 //! within the source. It is tested and not proved.
 #![tactic(auto)]
 
+mod assembled;
+mod explained;
 mod from_source;
 mod numbering;
 mod programs;

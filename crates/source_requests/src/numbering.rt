@@ -79,8 +79,8 @@ pub fn lend<'t>(alloc: Global, parts: &'t [Vec<u8>]) -> Result<Vec<&'t [u8]>, Al
     Ok(slices)
 }
 
-/// Whether a declaration says something.
-fn says_something(declaration: &[u8]) -> bool {
+/// Whether a declaration says something, apart from comments.
+pub(crate) fn says_something(declaration: &[u8]) -> bool {
     for line in Lines::of(declaration) {
         if Words::of(line).next().is_some() {
             return true;

@@ -1,14 +1,10 @@
 //! Declarations of sources that have no word: `place` writes them too. It is tested and not proved.
 
+use crate::numbering::says_something;
 use command_line::Task;
 use labels::{Numbered, NumberingFault, PlaceFault, machine_of, number, place};
 use pal_asm::translate;
 use std::alloc::Global;
-
-/// Whether a declaration says something.
-fn says_something(declaration: &[u8]) -> bool {
-    declaration.iter().any(|byte| !byte.is_ascii_whitespace())
-}
 
 /// The declaration in numbers of a source that has no fault and no word, and no tape.
 fn wordless(

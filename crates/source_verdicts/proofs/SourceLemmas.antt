@@ -1,10 +1,12 @@
 -- A verdict on the tape and the numbers of a program is one on the program.
-use Rattle.std.proofs.Common.{ℕ, ◌≡◌, ◌∙◌, ap, sym, subst, List, Option, Some, Bool, Bor, true, false, Ok, inl, inr}
-use Rattle.std.specs.Prelude.{◌⊎◌}
+use Rattle.std.proofs.Common.{ℕ, ◌≡◌, ◌∙◌, arith, refl, ap, sym, subst, List, [], Option, Some, None, Bool, Bor, true, false, Ok, inl, inr}
+use Rattle.std.specs.Prelude.{◌⊎◌, Result, Err}
 use Rattle.labels.specs.Lines.{placed_text}
 use Rattle.labels.specs.Programs.{IsNumbered, NumberedIsMeant, NumberedIsTape}
-use Rattle.command_parts.specs.Faults.{IsDeclarationInputFault, IsEventsInputFault, IsRefuteFault, IsRunFault, IsTapeInputFault, IsWatchFault}
-use Rattle.command_parts.specs.Inputs.{Input, IsGoodDeclaration, TakesAtMost, input}
+use Rattle.command_parts.specs.Faults.{IsDeclarationInputFault, IsEventsInputFault, IsTapeInputFault}
+use Rattle.command_parts.specs.Answers.{EndsAt, FailsBy, GoesOn, IsLaterFault, IsMemoryFault, OfProgram, Reads, ReadsDeclaration, ReadsTape, ReadsTwo}
+use Rattle.command_parts.proofs.AnswerLemmas.{refused, same_fault}
+use Rattle.command_parts.specs.Inputs.{Input, IsGoodDeclaration, IsGoodEvents, IsGoodTape, TakesAtMost, input}
 use Rattle.command_parts.proofs.InputLemmas as inputs
 use Rattle.command_parts.specs.Writes.{FrontOf, Writes, WritesNothingOr}
 use Rattle.command_parts.specs.declared.status.Fault.{Fault}
@@ -12,17 +14,16 @@ use Rattle.command_parts.specs.declared.status.Fault.TheVariants as fault
 use Rattle.command_parts.specs.declared.status.DeviceFault.TheVariants as device
 use Rattle.command_parts.specs.declared.status.Status.{Status}
 use Rattle.machine_commands.specs.RefuteText.{IsToldOfWitness, IsWitness, IsWitnessText, WritesWitness}
-use Rattle.machine_commands.specs.WatchText.{IsWatched, IsWatchedSo}
+use Rattle.machine_commands.specs.WatchText.{IsWatchedSo}
 use Rattle.options.specs.declared.RefuteOptions.{RefuteOptions}
-use Rattle.search_commands.specs.GuessText.{IsGuess}
-use Rattle.search_commands.specs.SearchFaults.{IsGuessFault, IsSearchFault}
+use Rattle.search_commands.specs.GuessText.{IsGuessOf}
+use Rattle.search_commands.specs.SearchFaults.{IsSearchFault}
 use Rattle.search_commands.specs.StuckText.{IsStuck}
-use Rattle.search_commands.specs.VerifyText.{IsSomeAnswer, IsVerified}
+use Rattle.search_commands.specs.VerifyText.{IsVerified}
 use Rattle.search_commands.specs.declared.verifying.Answer.{Answer}
-use Rattle.verdict_texts.specs.CertificateFaults.{IsCertificateInputFault, IsCheckFault}
-use Rattle.verdict_texts.specs.CertificateInputs.{TakesCertificate}
-use Rattle.verdict_texts.specs.CheckText.{IsChecked, IsCheckedSo}
-use Rattle.verdict_texts.proofs.CertificateLemmas as certificates
+use Rattle.verdict_texts.specs.CertificateFaults.{IsCertificateInputFault}
+use Rattle.verdict_texts.specs.CertificateInputs.{IsGoodCertificate, TakesCertificate}
+use Rattle.verdict_texts.specs.CheckText.{IsCheckedSo}
 use Rattle.source_verdicts.specs.Faults.{IsGoodProgram, IsProgramFault}
 use Rattle.source_verdicts.specs.Verdicts.{IsSomeSourceAnswer, IsSourceChecked, IsSourceCheckedSo, IsSourceGuess, IsSourceStuck, IsSourceVerified, IsSourceWatched, IsSourceWatchedSo, IsSourceWitness, IsSourceWitnessText, IsToldOfSourceWitness, WritesSourceWitness}
 
@@ -37,12 +38,60 @@ pub nothing_or_on : (P Q : List ℕ → Type 0) (old new : Option (List ℕ)) �
 nothing_or_on P Q old new on (inl same) = inl same
 nothing_or_on P Q old new on (inr w) = inr (writes_on P Q old new on w)
 
+-- the fault is that of the first input that has one
+first_fault : {T : Type 0} {F : Input → Fault → Type 0} {G : Option (List ℕ) → Type 0} {K : Option (List ℕ) → Option (List ℕ) → Type 0} {one : Input} {u : Type 0} {R : Result T Fault → Type 0} {f : Fault} →
+    Reads {T = T} F G K one u R (Err f) → F one f ⊎ (G one.had × R (Err f))
+first_fault {T = T} {F = F} {G = G} {one = one} {u = u} {R = R} {f = f} h = told h.ends
+  where
+    told : EndsAt F one u (refused T f) ⊎ GoesOn G one R (refused T f) → F one f ⊎ (G one.had × R (refused T f))
+    told (inl e) = let same : f ≡ e.fault = same_fault T f e.fault e.is in inl (subst (λ (x : Fault). F one x) (sym same) e.has)
+    told (inr e) = inr (e.good, e.rest)
+
+then : {A B C D : Type 0} → A ⊎ (B × C) → (C → D) → A ⊎ (B × D)
+then (inl a) on = inl a
+then (inr (b, c)) on = inr (b, on c)
+
+pub two_faults : {T : Type 0} {tape text : Input} {u : Type 0} {W : Fault → Type 0} {f : Fault} → ReadsTwo {T = T} W tape text u (Err f) →
+    IsTapeInputFault tape f ⊎ (IsGoodTape tape.had × (IsDeclarationInputFault text f ⊎ (IsGoodDeclaration text.had × W f)))
+two_faults h = then (first_fault h) (λ rest. first_fault rest)
+
+pub three_faults : {T : Type 0} {F : Input → Fault → Type 0} {G : Option (List ℕ) → Type 0} {K : Option (List ℕ) → Option (List ℕ) → Type 0} {tape text third : Input} {u v w : Type 0} {W : Fault → Type 0} {f : Fault} →
+    ReadsTape {T = T} tape u (ReadsDeclaration text v (Reads F G K third w (FailsBy W))) (Err f) →
+    IsTapeInputFault tape f ⊎ (IsGoodTape tape.had × (IsDeclarationInputFault text f ⊎ (IsGoodDeclaration text.had × (F third f ⊎ (G third.had × W f)))))
+three_faults h = then (first_fault h) (λ rest. then (first_fault rest) (λ more. first_fault more))
+
+-- the third input is touched only after a good declaration
+pub third_after : {T : Type 0} {tape text : Input} {u v : Type 0} {R : Result T Fault → Type 0} {result : Result T Fault} → ReadsTape {T = T} tape (u × v) (ReadsDeclaration text v R) result → v ⊎ IsGoodDeclaration text.had
+third_after {T = T} {tape = tape} {text = text} {u = u} {v = v} {R = R} {result = result} h = after h.ends
+  where
+    behind : EndsAt IsDeclarationInputFault text v result ⊎ GoesOn IsGoodDeclaration text R result → v ⊎ IsGoodDeclaration text.had
+    behind (inl e) = inl e.rest
+    behind (inr e) = inr e.good
+
+    after : EndsAt IsTapeInputFault tape (u × v) result ⊎ GoesOn IsGoodTape tape (ReadsDeclaration text v R) result → v ⊎ IsGoodDeclaration text.had
+    after (inl e) = inl e.rest.1
+    after (inr e) = behind e.rest.ends
+
+-- of the third input no more is taken than may be, where that holds of what isn't touched
+pub third_takes : {T : Type 0} {F : Input → Fault → Type 0} {G : Option (List ℕ) → Type 0} {K : Option (List ℕ) → Option (List ℕ) → Type 0} {tape text third : Input} {u v w : Type 0} {R : Result T Fault → Type 0} {result : Result T Fault} →
+    (v → K third.had third.left) → ReadsTape {T = T} tape (u × v) (ReadsDeclaration text v (Reads F G K third w R)) result → K third.had third.left
+third_takes {T = T} {F = F} {G = G} {K = K} {tape = tape} {text = text} {third = third} {u = u} {v = v} {w = w} {R = R} {result = result} still h = after h.ends
+  where
+    behind : EndsAt IsDeclarationInputFault text v result ⊎ GoesOn IsGoodDeclaration text (Reads F G K third w R) result → K third.had third.left
+    behind (inl e) = still e.rest
+    behind (inr e) = e.rest.takes
+
+    after : EndsAt IsTapeInputFault tape (u × v) result ⊎ GoesOn IsGoodTape tape (ReadsDeclaration text v (Reads F G K third w R)) result → K third.had third.left
+    after (inl e) = still e.rest.1
+    after (inr e) = behind e.rest.ends
+
 -- of what isn't read nothing is taken
 pub takes_no_text : (most : ℕ) (had : Option (List ℕ)) → TakesAtMost most had had
 takes_no_text most had = inputs.takes_no_text most had
 
 pub takes_no_certificate : (had : Option (List ℕ)) → TakesCertificate had had
-takes_no_certificate had = certificates.takes_no_certificate had
+takes_no_certificate None = record { limit = tt; prompt = tt }
+takes_no_certificate (Some bytes) = record { limit = ([], refl, omega arith); prompt = ([], refl, λ n more. absurd (omega (arith, more))) }
 
 -- the same frames and the same numbers
 pub held : (parts : List (List ℕ)) (text tape numbers frames words : List ℕ) → frames ≡ tape → words ≡ numbers → IsNumbered parts text tape numbers → IsNumbered parts text frames words
@@ -70,7 +119,7 @@ module _ (parts : List (List ℕ)) (text tape numbers : List ℕ) (h : IsNumbere
       program = meant parts text tape numbers v.image v.declaration h v.tape v.declares;
     }
 
-    pub some_verified_so : (A : Type 0) (explained : Bool) (told : List ℕ) → IsSomeAnswer A (Some tape) (Some numbers) explained told → IsSomeSourceAnswer A parts text explained told
+    pub some_verified_so : (A : Type 0) (explained : Bool) (told : List ℕ) → (answer : Answer A) × IsVerified (Some tape) (Some numbers) explained answer told → IsSomeSourceAnswer A parts text explained told
     some_verified_so A explained told (answer, v) = (answer, verified_so explained answer told v)
 
     pub checked_so : (certificate : Option (List ℕ)) (line : List ℕ) (status : Status) → IsCheckedSo (Some tape) (Some numbers) certificate line status → IsSourceCheckedSo parts text certificate line status
@@ -81,7 +130,7 @@ module _ (parts : List (List ℕ)) (text tape numbers : List ℕ) (h : IsNumbere
       program = meant parts text tape numbers v.image v.declaration h v.tape v.declares;
     }
 
-    pub some_checked_so : (certificate : Option (List ℕ)) (line : List ℕ) → IsChecked (Some tape) (Some numbers) certificate line → IsSourceChecked parts text certificate line
+    pub some_checked_so : (certificate : Option (List ℕ)) (line : List ℕ) → (status : Status) × IsCheckedSo (Some tape) (Some numbers) certificate line status → IsSourceChecked parts text certificate line
     some_checked_so certificate line (status, v) = (status, checked_so certificate line status v)
 
     pub watched_so : (list : Option (List ℕ)) (explained : Bool) (named : ℕ → Bool) (told : List ℕ) (status : Status) → IsWatchedSo (Some tape) (Some numbers) list explained named told status → IsSourceWatchedSo parts text list explained named told status
@@ -92,16 +141,19 @@ module _ (parts : List (List ℕ)) (text tape numbers : List ℕ) (h : IsNumbere
       program = meant parts text tape numbers v.image v.declaration h v.tape v.declares;
     }
 
-    pub some_watched_so : (list : Option (List ℕ)) (explained : Bool) (named : ℕ → Bool) (told : List ℕ) → IsWatched (Some tape) (Some numbers) list explained named told → IsSourceWatched parts text list explained named told
+    pub some_watched_so : (list : Option (List ℕ)) (explained : Bool) (named : ℕ → Bool) (told : List ℕ) → (status : Status) × IsWatchedSo (Some tape) (Some numbers) list explained named told status → IsSourceWatched parts text list explained named told
     some_watched_so list explained named told (status, v) = (status, watched_so list explained named told status v)
 
-    pub guess_so : (guess : List ℕ) → IsGuess (Some tape) (Some numbers) guess → IsSourceGuess parts text guess
-    guess_so guess v = record {
+    pub guess_so : (status : Status) (guess : List ℕ) → OfProgram (Some tape) (Some numbers) IsGuessOf status guess → IsSourceGuess parts text guess
+    guess_so status guess v = record {
       tape = tape;
       numbers = numbers;
-      guessed = v;
+      guessed = record { image = v.image; tape = v.tape; declaration = v.declaration; declares = v.declares; is = subst (λ (s : Status). IsGuessOf v.image v.declaration s guess) v.is.status_is v.is };
       program = meant parts text tape numbers v.image v.declaration h v.tape v.declares;
     }
+
+    pub some_guess_so : (guess : List ℕ) → (status : Status) × OfProgram (Some tape) (Some numbers) IsGuessOf status guess → IsSourceGuess parts text guess
+    some_guess_so guess (status, v) = guess_so status guess v
 
     pub stuck_so : (report : List ℕ) → IsStuck (Some tape) (Some numbers) report → IsSourceStuck parts text report
     stuck_so report v = record {
@@ -175,40 +227,44 @@ module _ (parts : List (List ℕ)) (text tape numbers : List ℕ) (h : IsNumbere
   declared_fault more (fault.Device device.Write) is = absurd is
   declared_fault more fault.NoMemory is = tt
 
-  work_fault : (f : Fault) → IsRunFault f → IsProgramFault parts text f
-  work_fault (fault.Tape e) is = is
-  work_fault fault.EmptyImage is = is
-  work_fault (fault.Source e) is = is
-  work_fault (fault.Declared e) is = absurd is
-  work_fault (fault.Certificate e) is = is
-  work_fault (fault.Events e) is = is
-  work_fault (fault.Guess e) is = is
-  work_fault (fault.Declare e) is = is
-  work_fault (fault.Device device.Read) is = is
-  work_fault (fault.Device device.Write) is = is
-  work_fault fault.NoMemory is = is
+  -- what follows good inputs is a fault of the work
+  later_fault : (f : Fault) → IsLaterFault IsMemoryFault f → IsProgramFault parts text f
+  later_fault f (inl is) = subst (λ (x : Fault). IsProgramFault parts text x) (sym is) tt
+  later_fault (fault.Device device.Write) (inr is) = tt
+  later_fault (fault.Device device.Read) (inr is) = absurd is
+  later_fault _ (inr is) = absurd is
 
-  pub verify_fault : NumberedIsTape → (left more : Option (List ℕ)) (f : Fault) → IsRefuteFault (input false (Some tape) left) (input false (Some numbers) more) f → IsProgramFault parts text f
+  pub verify_fault : NumberedIsTape → (left more : Option (List ℕ)) (f : Fault) →
+      IsTapeInputFault (input false (Some tape) left) f ⊎ (IsGoodTape (Some tape) × (IsDeclarationInputFault (input false (Some numbers) more) f
+      ⊎ (IsGoodDeclaration (Some numbers) × IsLaterFault IsMemoryFault f))) →
+      IsProgramFault parts text f
   verify_fault is_tape left more f (inl is) = absurd (no_tape_fault is_tape left f is)
   verify_fault is_tape left more f (inr (good, inl is)) = declared_fault more f is
-  verify_fault is_tape left more f (inr (good, inr (declared, is))) = work_fault f is
+  verify_fault is_tape left more f (inr (good, inr (declared, is))) = later_fault f is
 
-  pub check_fault : NumberedIsTape → (left more : Option (List ℕ)) (certificate : Input) (f : Fault) → IsCheckFault (input false (Some tape) left) (input false (Some numbers) more) certificate f →
+  pub check_fault : NumberedIsTape → (left more : Option (List ℕ)) (certificate : Input) (f : Fault) →
+      IsTapeInputFault (input false (Some tape) left) f ⊎ (IsGoodTape (Some tape) × (IsDeclarationInputFault (input false (Some numbers) more) f
+      ⊎ (IsGoodDeclaration (Some numbers) × (IsCertificateInputFault certificate f ⊎ (IsGoodCertificate certificate.had × IsLaterFault IsMemoryFault f))))) →
       IsProgramFault parts text f ⊎ (IsGoodProgram parts text × IsCertificateInputFault certificate f)
   check_fault is_tape left more certificate f (inl is) = absurd (no_tape_fault is_tape left f is)
   check_fault is_tape left more certificate f (inr (good, inl is)) = inl (declared_fault more f is)
   check_fault is_tape left more certificate f (inr (good, inr (declared, inl is))) = inr (good_program declared, is)
-  check_fault is_tape left more certificate f (inr (good, inr (declared, inr (claims, is)))) = inl (work_fault f is)
+  check_fault is_tape left more certificate f (inr (good, inr (declared, inr (claims, is)))) = inl (later_fault f is)
 
-  pub watch_fault : NumberedIsTape → (left more : Option (List ℕ)) (list : Input) (f : Fault) → IsWatchFault (input false (Some tape) left) (input false (Some numbers) more) list f →
+  pub watch_fault : NumberedIsTape → (left more : Option (List ℕ)) (list : Input) (f : Fault) →
+      IsTapeInputFault (input false (Some tape) left) f ⊎ (IsGoodTape (Some tape) × (IsDeclarationInputFault (input false (Some numbers) more) f
+      ⊎ (IsGoodDeclaration (Some numbers) × (IsEventsInputFault list f ⊎ (IsGoodEvents list.had × IsLaterFault IsMemoryFault f))))) →
       IsProgramFault parts text f ⊎ (IsGoodProgram parts text × IsEventsInputFault list f)
   watch_fault is_tape left more list f (inl is) = absurd (no_tape_fault is_tape left f is)
   watch_fault is_tape left more list f (inr (good, inl is)) = inl (declared_fault more f is)
   watch_fault is_tape left more list f (inr (good, inr (declared, inl is))) = inr (good_program declared, is)
-  watch_fault is_tape left more list f (inr (good, inr (declared, inr (events, is)))) = inl (work_fault f is)
+  watch_fault is_tape left more list f (inr (good, inr (declared, inr (events, is)))) = inl (later_fault f is)
 
-  pub guess_fault : NumberedIsTape → (left more : Option (List ℕ)) (f : Fault) → IsGuessFault (input false (Some tape) left) (input false (Some numbers) more) f →
+  pub guess_fault : NumberedIsTape → (left more : Option (List ℕ)) (f : Fault) →
+      IsTapeInputFault (input false (Some tape) left) f ⊎ (IsGoodTape (Some tape) × (IsDeclarationInputFault (input false (Some numbers) more) f
+      ⊎ (IsGoodDeclaration (Some numbers) × IsLaterFault IsSearchFault f))) →
       IsProgramFault parts text f ⊎ (IsGoodProgram parts text × IsSearchFault f)
   guess_fault is_tape left more f (inl is) = absurd (no_tape_fault is_tape left f is)
   guess_fault is_tape left more f (inr (good, inl is)) = inl (declared_fault more f is)
-  guess_fault is_tape left more f (inr (good, inr (declared, is))) = inr (good_program declared, is)
+  guess_fault is_tape left more f (inr (good, inr (declared, inl is))) = inr (good_program declared, is)
+  guess_fault is_tape left more f (inr (good, inr (declared, inr is))) = inl (later_fault f (inr is))

@@ -1,1 +1,2 @@
+pub mod ExplainText
 pub mod MigrateText

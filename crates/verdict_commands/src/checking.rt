@@ -1,23 +1,40 @@
 //! The command that checks a certificate.
 
-ghost use Rattle.std.specs.Prelude.{◌≡◌, ◌||◌, ◌⊎◌, false, true, Err, IfOk, IfErr, OnErr};
-ghost use Rattle.streams.specs.Bytes.{Gave};
-ghost use Rattle.certificate.specs.Faults.{AsksForMemory};
-ghost use Rattle.command_parts.specs.Faults.{is_fault_of_declaration, is_fault_of_tape, fails_to_read, fails_to_write};
-ghost use Rattle.command_parts.specs.Inputs.{IsGoodDeclaration, IsGoodTape, TakesAtMost, TakesTape, input};
-ghost use Rattle.command_parts.specs.Writes.{FrontOf, Writes};
-ghost use Rattle.command_parts.specs.declared.status.Fault.TheVariants.{NoMemory};
-ghost use Rattle.verdict_texts.specs.CertificateFaults.{IsCheckFault};
-ghost use Rattle.verdict_texts.specs.CertificateInputs.{IsGoodCertificate, TakesCertificate};
-ghost use Rattle.verdict_texts.specs.CheckText.{IsChecked, IsCheckedSo};
+ghost use Rattle.std.specs.Prelude.{◌≡◌, false, IfOk, IfErr};
+ghost use Rattle.certificate.specs.Kept.{meaning as lines_of};
+ghost use Rattle.declaration.specs.Kept.{meaning};
+ghost use Rattle.command_parts.specs.Answers.{IsLaterFault, IsMemoryFault, WritesAnswer, output};
+ghost use Rattle.command_parts.specs.Faults.{fails_to_write};
+ghost use Rattle.command_parts.specs.Inputs.{input};
+ghost use Rattle.verdict_texts.specs.CertificateFaults.{ReadsCertified};
+ghost use Rattle.verdict_texts.specs.CertificateInputs.{OfCertified};
+ghost use Rattle.verdict_texts.specs.CheckText.{IsVerdictOf};
 
-use command_parts::inputs::{declaration_from, tape_from};
+use command_parts::outcome::{Outcome, deliver};
 use command_parts::status::{Fault, Status};
 use judge::judge;
 use std::alloc::Allocator;
-use streams::{ByteSink, ByteSource, put};
-use verdict_texts::certificates::certificate_from;
+use streams::{ByteSink, ByteSource};
+use verdict_texts::certificates::{Certified, certified_from};
 use verdict_texts::verdict::{verdict_line, verdict_status};
+
+/// The verdict on a certificate of a program: its line, and its status.
+pub fn verdict_of<A: Allocator + Copy>(
+    alloc: A,
+    certified: &Certified<A>,
+) -> Result<Outcome<A>, Fault>
+    ensures verdict { IfOk result (λ verdict. IsVerdictOf certified.now.program.image
+        (meaning certified.now.program.declaration) (lines_of certified.now.certificate)
+        verdict.status verdict.text.items) }
+    ensures faults { IfErr result IsMemoryFault }
+    ensures unwritten { fails_to_write result ≡ false }
+{
+    let program = &certified.program;
+    let verdict = judge(&program.image, &program.declaration, &certified.certificate);
+    let text = verdict_line(alloc, &program.declaration, &verdict)?;
+    let status = verdict_status(&verdict);
+    Ok(Outcome { text, status })
+}
 
 /// Checks a certificate of a tape and a declaration, and writes the verdict: yes, with the numbers of
 /// cells in bodies, of variables, of entries, of declared halts and, where they are listed, of cells
@@ -29,7 +46,6 @@ use verdict_texts::verdict::{verdict_line, verdict_status};
 /// The fault of the tape, of the declaration or of the certificate's text: each is read and, if it
 /// has a fault, refused before the next is read; `Device` where a read or a write failed, after
 /// which a prefix of the line went out; `NoMemory`.
-#[tactic(auto, using(crate::proofs::UnreadLemmas::takes_no_text, crate::proofs::UnreadLemmas::takes_no_certificate))]
 pub fn check<A: Allocator + Copy, R: ByteSource, D: ByteSource, C: ByteSource, W: ByteSink>(
     alloc: A,
     tape: &mut R,
@@ -42,57 +58,19 @@ pub fn check<A: Allocator + Copy, R: ByteSource, D: ByteSource, C: ByteSource, W
     requires certificate_readable { C.mark certificate.old ≡ false }
     requires writable { W.mark out.old ≡ false }
     // What is written is the verdict.
-    ensures checked { IfOk result (λ status. Writes
-        (λ line. IsCheckedSo (R.remaining tape.old) (D.remaining declaration.old)
-        (C.remaining certificate.old) line status)
-        (W.taken out.old) (W.taken out.new)) }
-    // A fault is that of the first input that has one.
-    ensures faults { IfErr result (IsCheckFault
+    ensures checked { WritesAnswer
+        (OfCertified (R.remaining tape.old) (D.remaining declaration.old)
+        (C.remaining certificate.old) IsVerdictOf)
+        (output (W.mark out.new) (W.taken out.old) (W.taken out.new)) result }
+    // The inputs are read in order; after good ones a write may fail, or memory be refused.
+    ensures reads { ReadsCertified (IsLaterFault IsMemoryFault)
         (input (R.mark tape.new) (R.remaining tape.old) (R.remaining tape.new))
         (input (D.mark declaration.new) (D.remaining declaration.old) (D.remaining declaration.new))
-        (input (C.mark certificate.new) (C.remaining certificate.old)
-        (C.remaining certificate.new))) }
-    // Where a write failed, a front of the line went out,
-    ensures front { W.mark out.new ≡ true → FrontOf
-        (IsChecked (R.remaining tape.old) (D.remaining declaration.old)
-        (C.remaining certificate.old))
-        (W.taken out.old) (W.taken out.new) }
-    // and any other fault leaves the output as it was.
-    ensures nothing { OnErr result (W.mark out.new ≡ false → W.taken out.new ≡ W.taken out.old) }
-    // A write failed exactly where the answer says so, and so did a read.
-    ensures marks { W.mark out.new ≡ fails_to_write result }
-    ensures reads { R.mark tape.new || D.mark declaration.new || C.mark certificate.new ≡
-        fails_to_read result }
-    // An input isn't read after one that is refused, or whose read failed.
-    ensures unread { IfErr result (λ fault. is_fault_of_tape fault ≡ true →
-        (declaration.new ≡ declaration.old) × (certificate.new ≡ certificate.old)) }
-    ensures unread_certificate { IfErr result (λ fault. is_fault_of_declaration fault ≡ true →
-        certificate.new ≡ certificate.old) }
-    ensures unread_after_failure { R.mark tape.new ≡ true →
-        (declaration.new ≡ declaration.old) × (certificate.new ≡ certificate.old) }
-    ensures unread_certificate_after_failure { D.mark declaration.new ≡ true →
-        certificate.new ≡ certificate.old }
-    // It is read only after those before it are good,
-    ensures declaration_after_tape { (declaration.new ≡ declaration.old) ⊎
-        IsGoodTape (R.remaining tape.old) }
-    ensures certificate_after_declaration { (certificate.new ≡ certificate.old) ⊎
-        IsGoodDeclaration (D.remaining declaration.old) }
-    // and memory that is refused after the certificate was begun is wanted for it or after it.
-    ensures wanted { result ≡ Err NoMemory → (certificate.new ≡ certificate.old) ⊎
-        (Gave (C.remaining certificate.old) (C.remaining certificate.new) AsksForMemory ⊎
-        IsGoodCertificate (C.remaining certificate.old)) }
-    // No input is read past its limit.
-    ensures takes_tape { TakesTape (R.remaining tape.old) (R.remaining tape.new) }
-    ensures takes_declaration { TakesAtMost 16385
-        (D.remaining declaration.old) (D.remaining declaration.new) }
-    ensures takes_certificate { TakesCertificate
-        (C.remaining certificate.old) (C.remaining certificate.new) }
+        (input (C.mark certificate.new) (C.remaining certificate.old) (C.remaining certificate.new))
+        (declaration.new ≡ declaration.old) (certificate.new ≡ certificate.old) result }
 {
-    let image = tape_from(tape)?;
-    let promised = declaration_from(alloc, declaration)?;
-    let claims = certificate_from(alloc, certificate)?;
-    let verdict = judge(&image, &promised, &claims);
-    let text = verdict_line(alloc, &promised, &verdict)?;
-    put(out, &text)?;
-    Ok(verdict_status(&verdict))
+    match certified_from(alloc, tape, declaration, certificate) {
+        Ok(certified) => deliver(verdict_of(alloc, &certified), out),
+        Err(fault) => Err(fault),
+    }
 }

@@ -1,18 +1,16 @@
 //! The command that migrates a certificate.
 
-ghost use Rattle.std.specs.Prelude.{◌≡◌, false, true, IfOk, IfErr, OnErr, OnOk};
-ghost use Rattle.verdict_texts.specs.CertificateFaults.{IsMigrateFault};
-ghost use Rattle.command_parts.specs.Faults.{fails_to_read, fails_to_write};
-ghost use Rattle.verdict_texts.specs.CertificateInputs.{TakesCertificate};
+ghost use Rattle.std.specs.Prelude.{◌≡◌, false, ⊤};
+ghost use Rattle.command_parts.specs.Answers.{FailsBy, IsLaterFault, NeverFails, WritesAnswer, output};
 ghost use Rattle.command_parts.specs.Inputs.{input};
-ghost use Rattle.verdict_commands.specs.MigrateText.{IsMigrated};
-ghost use Rattle.command_parts.specs.Writes.{FrontOf, Writes};
 ghost use Rattle.command_parts.specs.declared.status.Status.TheVariants.{Done};
+ghost use Rattle.verdict_texts.specs.CertificateFaults.{ReadsCertificate};
+ghost use Rattle.verdict_commands.specs.MigrateText.{IsMigrated};
 
 use command_parts::status::{Fault, Status};
 use std::alloc::Allocator;
 use streams::{ByteSink, ByteSource};
-use verdict_texts::certificates::certificate_from;
+use verdict_texts::certificates::{certificate_from, write_certificate};
 
 /// Migrates a certificate to version 2 and writes its text. It claims what it claimed before; of MQ
 /// a certificate of version 1 says then that it may hold any word. One of version 2 is written as it
@@ -29,29 +27,16 @@ pub fn migrate<A: Allocator + Copy, C: ByteSource, W: ByteSink>(
 ) -> Result<Status, Fault>
     requires readable { C.mark certificate.old ≡ false }
     requires writable { W.mark out.old ≡ false }
-    // What is written is the text of the migrated certificate.
-    ensures done { IfOk result (λ status. status ≡ Done) }
-    ensures migrated { OnOk result (Writes (IsMigrated (C.remaining certificate.old))
-        (W.taken out.old) (W.taken out.new)) }
-    // A fault is that of the certificate, or else a write failed.
-    ensures faults { IfErr result (IsMigrateFault
-        (input (C.mark certificate.new) (C.remaining certificate.old)
-        (C.remaining certificate.new))) }
-    // Where a write failed, a front of the text went out,
-    ensures front { W.mark out.new ≡ true →
-        FrontOf (IsMigrated (C.remaining certificate.old))
-        (W.taken out.old) (W.taken out.new) }
-    // and any other fault leaves the output as it was.
-    ensures nothing { OnErr result (W.mark out.new ≡ false → W.taken out.new ≡ W.taken out.old) }
-    // A write failed exactly where the answer says so, and so did a read.
-    ensures marks { W.mark out.new ≡ fails_to_write result }
-    ensures reads { C.mark certificate.new ≡ fails_to_read result }
-    // It is not read past its limit.
-    ensures takes_certificate { TakesCertificate
-        (C.remaining certificate.old) (C.remaining certificate.new) }
+    // What is written is the text of the migrated certificate, and then the command is done.
+    ensures migrated { WritesAnswer
+        (λ status text. (status ≡ Done) × IsMigrated (C.remaining certificate.old) text)
+        (output (W.mark out.new) (W.taken out.old) (W.taken out.new)) result }
+    // The certificate is read, and after a good one a write may fail.
+    ensures reads { ReadsCertificate
+        (input (C.mark certificate.new) (C.remaining certificate.old) (C.remaining certificate.new))
+        ⊤ (FailsBy (IsLaterFault NeverFails)) result }
 {
     let claims = certificate_from(alloc, certificate)?;
     let migrated = claims.migrated();
-    migrated.write(out)?;
-    Ok(Status::Done)
+    write_certificate(&migrated, out)
 }

@@ -6,9 +6,7 @@ use Rattle.std.proofs.lemmas.Bool.{true≢false, eq-eqb}
 use Rattle.wordset.specs.Words.{Words, SameWords, some_below}
 use Rattle.policy.specs.Runs.{IsSafe}
 use Rattle.judge.specs.Conditions.{Case, IsValid, IsFirst}
-use Rattle.judge.specs.Laws.{SetsAreOfWords}
 use Rattle.judge.specs.declared.judging.Refusal.{Refusal}
-use Rattle.judge.proofs.ReadingLemmas.{kept_of_words}
 use Rattle.verdict_texts.specs.CheckText.{counted, IsVerdict}
 use Rattle.wordset.specs.Lanes.{words}
 use Rattle.wordset.proofs.Counts.{how_many_same}
@@ -17,32 +15,26 @@ use Rattle.declaration.specs.declared.Routine.{Routine}
 use Rattle.declaration.specs.Kept.{bodies, entries}
 use Rattle.certificate.specs.declared.CertificateFault.{CertificateFault}
 use Rattle.certificate.specs.declared.CertificateFault.TheVariants as faults
-use Rattle.certificate.specs.declared.Version.{Version}
 use Rattle.certificate.specs.Kept.{Kept, meaning}
-use Rattle.certificate.specs.Spelling.{text}
-use Rattle.certificate.specs.Reading.{AreLines, certificate_of}
-use Rattle.certificate.specs.Faults.{AsksForMemory, HasFault, IsText}
+use Rattle.certificate.specs.Faults.{reading, AsksForMemory}
+use Rattle.certificate.proofs.TextAnswerLemmas.{reading_law}
 use Rattle.streams.specs.Bytes.{Gave}
 use Rattle.verdict_texts.specs.CertificateFaults.{IsCertificateInputFault}
 use Rattle.command_parts.specs.Faults.{fault_of_certificate}
 use Rattle.verdict_texts.specs.CertificateInputs.{FailsInCertificate, HasCertificate}
 use Rattle.command_parts.specs.Inputs.{input}
 
--- the sets of a certificate that is kept
-pub kept_sets : (c : Kept) → SetsAreOfWords (certificate_of (meaning c))
-kept_sets c = kept_of_words c
-
-pub has_certificate : (had : Option (List ℕ)) (c : Kept) (v : Version) → AreLines (meaning c) → IfSome had (λ bytes. bytes ≡ text (meaning c)) → IfSome had (IsText v) →
-    HasCertificate had (meaning c)
-has_certificate None c v lines same whole = tt
-has_certificate (Some bytes) c v lines same whole = record { lines_are = lines; of_words = kept_sets c; text_is = same; few = whole.few }
+pub has_certificate : (had : Option (List ℕ)) (c : Kept) → IfSome had (λ bytes. reading bytes ≡ Ok (meaning c)) → HasCertificate had (meaning c)
+has_certificate None c read = tt
+has_certificate (Some bytes) c read =
+    let t = reading_law.lines bytes (meaning c) read in record { lines_are = t.form; text_is = t.text; few = t.few }
 
 -- the fault of what a source had
 abbrev pub Told : Option (List ℕ) → CertificateFault → Type 0
-Told had fault = (fault ≡ faults.NoMemory) ⊎ ((fault ≡ faults.ReadFault) ⊎ IfSome had (λ bytes. HasFault bytes fault))
+Told had fault = (fault ≡ faults.NoMemory) ⊎ ((fault ≡ faults.ReadFault) ⊎ IfSome had (λ bytes. reading bytes ≡ Err fault))
 
 told_of : (had : Option (List ℕ)) (fault : CertificateFault) → (fault ≡ faults.NoMemory → ⊥) → (fault ≡ faults.ReadFault → ⊥) → Told had fault →
-    IfSome had (λ bytes. HasFault bytes fault)
+    IfSome had (λ bytes. reading bytes ≡ Err fault)
 told_of had fault memory read (inl e) = absurd (memory e)
 told_of had fault memory read (inr (inl e)) = absurd (read e)
 told_of had fault memory read (inr (inr h)) = h

@@ -1,2 +1,2 @@
-pub mod CertificateLemmas
 pub mod CheckLemmas
+pub mod ReasonLemmas

@@ -1,32 +1,28 @@
--- Which faults a command of a certificate may have: the first of its inputs that has one, and then its own work.
-use Rattle.std.specs.Prelude.{IfSome, ◌⊎◌}
+-- Which faults a certificate that is read may have, and how a command reads it.
+use Rattle.std.specs.Prelude.{◌≡◌, IfSome, Result, Err, ⊤}
 use Rattle.streams.specs.Bytes.{Gave}
-use Rattle.certificate.specs.Faults.{HasFault, AsksForMemory}
+use Rattle.certificate.specs.Faults.{reading, AsksForMemory}
 use Rattle.command_parts.specs.declared.status.Fault.{Fault}
 use Rattle.command_parts.specs.declared.status.Fault.TheVariants.{Certificate, Device}
 use Rattle.command_parts.specs.declared.status.Fault.TheVariants as fault
 use Rattle.command_parts.specs.declared.status.DeviceFault.TheVariants.{Read}
-use Rattle.command_parts.specs.Faults.{IsDeclarationInputFault, IsRunFault, IsTapeInputFault, IsWriteFault}
-use Rattle.command_parts.specs.Inputs.{Input, IsGoodDeclaration, IsGoodTape}
-use Rattle.verdict_texts.specs.CertificateInputs.{FailsInCertificate, IsGoodCertificate}
+use Rattle.command_parts.specs.Answers.{FailsBy, Reads, ReadsDeclaration, ReadsTape}
+use Rattle.command_parts.specs.Inputs.{Input}
+use Rattle.verdict_texts.specs.CertificateInputs.{FailsInCertificate, IsGoodCertificate, TakesCertificate}
 
 -- Why a certificate's text wasn't read: it has this fault, a read failed before the bytes given brought an answer, or
 -- memory was refused once a line had come that is kept.
 abbrev pub IsCertificateInputFault : Input → Fault → Type 0
-IsCertificateInputFault text (Certificate fault) = IfSome text.had (λ bytes. HasFault bytes fault)
+IsCertificateInputFault text (Certificate fault) = IfSome text.had (λ bytes. reading bytes ≡ Err fault)
 IsCertificateInputFault text (Device Read) = FailsInCertificate text
 IsCertificateInputFault text fault.NoMemory = Gave text.had text.left AsksForMemory
 IsCertificateInputFault text _ = ⊥
 
--- Why a program isn't checked: the fault of the tape, the declaration, the certificate, or the work. Each is looked at,
--- in this order, where those before it are good.
-abbrev pub IsCheckFault : Input → Input → Input → Fault → Type 0
-IsCheckFault tape text certificate fault =
-    IsTapeInputFault tape fault ⊎ (IsGoodTape tape.had × (IsDeclarationInputFault text fault
-    ⊎ (IsGoodDeclaration text.had × (IsCertificateInputFault certificate fault
-    ⊎ (IsGoodCertificate certificate.had × IsRunFault fault)))))
+-- How a command reads a certificate, with what comes after it.
+abbrev pub ReadsCertificate : {T : Type 0} → Input → Type 0 → (Result T Fault → Type 0) → Result T Fault → Type 0
+ReadsCertificate certificate untouched Rest result = Reads IsCertificateInputFault IsGoodCertificate TakesCertificate certificate untouched Rest result
 
--- Why a certificate isn't migrated: its fault, or after a good one a write failed. Migrating takes no memory.
-abbrev pub IsMigrateFault : Input → Fault → Type 0
-IsMigrateFault certificate fault =
-    IsCertificateInputFault certificate fault ⊎ (IsGoodCertificate certificate.had × IsWriteFault fault)
+-- How a command reads a tape, a declaration and a certificate.
+abbrev pub ReadsCertified : {T : Type 0} → (Fault → Type 0) → Input → Input → Input → Type 0 → Type 0 → Result T Fault → Type 0
+ReadsCertified IsLater tape text certificate text_untouched certificate_untouched result =
+    ReadsTape tape (text_untouched × certificate_untouched) (ReadsDeclaration text certificate_untouched (ReadsCertificate certificate ⊤ (FailsBy IsLater))) result

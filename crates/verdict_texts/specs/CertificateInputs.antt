@@ -3,17 +3,16 @@ use Rattle.std.specs.Prelude.{ℕ, ◌≡◌, ◌≤◌, true, IfSome, List, Opt
 use Rattle.streams.specs.Bytes.{Gave}
 use Rattle.certificate.specs.Spelling.{Lines}
 use Rattle.certificate.specs.Spelling as certificate
-use Rattle.certificate.specs.Reading.{AreLines, certificate_of}
+use Rattle.certificate.specs.Reading.{AreLines}
 use Rattle.certificate.specs.Faults.{most_bytes}
 use Rattle.certificate.specs.Serving.{IsUnanswered}
 use Rattle.certificate.specs.Serving as serving
-use Rattle.judge.specs.Laws.{SetsAreOfWords}
-use Rattle.command_parts.specs.Inputs.{Input, TakesAtMost}
+use Rattle.declaration.specs.Declaration.{Declaration}
+use Rattle.command_parts.specs.Inputs.{HasDeclaration, HasImage, Input, TakesAtMost}
 
--- The bytes are the text of a certificate with these lines, whose sets are of words, and not too many.
+-- The bytes are the text of a certificate with these lines, and not too many.
 pub record IsTextOf (bytes : List ℕ) (lines : Lines) : Type 0 where
   pub lines_are : AreLines lines
-  pub of_words : SetsAreOfWords (certificate_of lines)
   pub text_is : bytes ≡ certificate.text lines
   pub few : length bytes ≤ most_bytes
 
@@ -35,3 +34,13 @@ pub record FailsInCertificate (certificate : Input) : Type 0 where
 pub record TakesCertificate (had left : Option (List ℕ)) : Type 0 where
   pub limit : TakesAtMost 1048577 had left
   pub prompt : Gave had left (serving.IsPrompt 511)
+
+-- The frames are a tape, the texts a declaration and a certificate; by what they hold the answer and what is written are right.
+pub record OfCertified {T : Type 0} (frames text certificate : Option (List ℕ)) (IsRight : List (Option ℕ) → Declaration → Lines → T → List ℕ → Type 0) (answer : T) (written : List ℕ) : Type 0 where
+  pub image : List (Option ℕ)
+  pub tape : HasImage frames image
+  pub declaration : Declaration
+  pub declares : HasDeclaration text declaration
+  pub lines : Lines
+  pub claims : HasCertificate certificate lines
+  pub is : IsRight image declaration lines answer written

@@ -13,8 +13,7 @@ use Rattle.judge.specs.Conditions.{Case, IsValid, IsFirst}
 use Rattle.judge.specs.declared.judging.Refusal.{Refusal}
 use Rattle.command_parts.specs.declared.status.Status.{Status}
 use Rattle.command_parts.specs.declared.status.Status.TheVariants.{Done, Refused}
-use Rattle.command_parts.specs.Inputs.{HasImage, HasDeclaration}
-use Rattle.verdict_texts.specs.CertificateInputs.{HasCertificate}
+use Rattle.verdict_texts.specs.CertificateInputs.{OfCertified}
 
 -- The name of a condition.
 abbrev pub condition_text : Condition → List ℕ
@@ -87,20 +86,13 @@ abbrev pub verdict_status : Result (Unit {0}) Refusal → Status
 verdict_status (Ok _) = Done
 verdict_status (Err r) = Refused
 
--- The frames are a tape, the texts a declaration and a certificate; the text is the line of their verdict.
-pub record IsCheckedSo (frames text certificate : Option (List ℕ)) (line : List ℕ) (status : Status) : Type 0 where
-  pub image : List (Option ℕ)
-  pub tape : HasImage frames image
-  pub declaration : Declaration
-  pub declares : HasDeclaration text declaration
-  pub lines : Lines
-  pub claims : HasCertificate certificate lines
+-- The line is that of the verdict on an image, a declaration and the lines of a certificate, and the status is that of the verdict.
+pub record IsVerdictOf (image : List (Option ℕ)) (declaration : Declaration) (lines : Lines) (status : Status) (line : List ℕ) : Type 0 where
   pub verdict : Result (Unit {0}) Refusal
   pub is : IsVerdict (checked_case image declaration lines) verdict
   pub line_is : line ≡ verdict_text declaration verdict
   pub status_is : status ≡ verdict_status verdict
 
--- The frames are a tape, the texts a declaration and a certificate, and the text is the line of their verdict,
--- whichever status that has.
-abbrev pub IsChecked : Option (List ℕ) → Option (List ℕ) → Option (List ℕ) → List ℕ → Type 0
-IsChecked frames text certificate line = (status : Status) × IsCheckedSo frames text certificate line status
+-- The frames are a tape, the texts a declaration and a certificate; the text is the line of their verdict.
+abbrev pub IsCheckedSo : Option (List ℕ) → Option (List ℕ) → Option (List ℕ) → List ℕ → Status → Type 0
+IsCheckedSo frames text certificate line status = OfCertified frames text certificate IsVerdictOf status line

@@ -29,8 +29,6 @@ use Rattle.reasons.specs.declared.reason.Reason.TheVariants as reason
 use Rattle.command_parts.specs.declared.status.Status.{Status}
 use Rattle.verdict_texts.specs.CheckText.{IsVerdict, checked_case, condition_text, verdict_status, verdict_text}
 use Rattle.command_parts.specs.Dumping.{dump_line}
-use Rattle.command_parts.specs.Inputs.{HasImage, HasDeclaration}
-use Rattle.verdict_texts.specs.CertificateInputs.{HasCertificate}
 use Rattle.command_parts.specs.LinkText.{link_text}
 
 -- What each condition asks, as `check --why` says it.
@@ -163,23 +161,18 @@ abbrev pub IsReason : Case → Result (Unit {0}) Refusal → Option Reason → T
 IsReason j (Ok _) reason = reason ≡ None
 IsReason j (Err r) reason = IsReasonFor j r reason
 
--- The frames are a tape, the texts a declaration and a certificate; the text is the line of their verdict, why it is, and the
--- fact there.
-pub record IsExplainedSo (frames text certificate : Option (List ℕ)) (line : List ℕ) (status : Status) : Type 0 where
-  pub image : List (Option ℕ)
-  pub tape : HasImage frames image
-  pub declaration : Declaration
-  pub declares : HasDeclaration text declaration
-  pub lines : Lines
-  pub claims : HasCertificate certificate lines
+-- The text is the line of the verdict on an image, a declaration and the lines of a certificate, why it is, and the fact there; and
+-- the status is that of the verdict.
+pub record IsExplanationOf (image : List (Option ℕ)) (declaration : Declaration) (lines : Lines) (status : Status) (text : List ℕ) : Type 0 where
   pub verdict : Result (Unit {0}) Refusal
   pub is : IsVerdict (checked_case image declaration lines) verdict
   pub reason : Option Reason
   pub why : IsReason (checked_case image declaration lines) verdict reason
-  pub line_is : line ≡ verdict_text declaration verdict ++ why_text declaration.profile image verdict reason ++ fact_shown lines verdict
+  pub text_is : text ≡ (verdict_text declaration verdict ++ why_text declaration.profile image verdict reason) ++ fact_shown lines verdict
   pub status_is : status ≡ verdict_status verdict
 
--- The frames are a tape, the texts a declaration and a certificate, and the text is the line of their verdict, why it
--- is, and the fact there, whichever status the verdict has.
-abbrev pub IsExplained : Option (List ℕ) → Option (List ℕ) → Option (List ℕ) → List ℕ → Type 0
-IsExplained frames text certificate line = (status : Status) × IsExplainedSo frames text certificate line status
+-- To a text were added the line of the verdict on an image, a declaration and the lines of a certificate, and why it is.
+pub record AddsExplanation (image : List (Option ℕ)) (declaration : Declaration) (lines : Lines) (verdict : Result (Unit {0}) Refusal) (old new : List ℕ) : Type 0 where
+  pub reason : Option Reason
+  pub why : IsReason (checked_case image declaration lines) verdict reason
+  pub text_is : new ≡ old ++ (verdict_text declaration verdict ++ why_text declaration.profile image verdict reason)

@@ -2,5 +2,8 @@
 #![tactic(auto)]
 
 pub mod certificates;
+pub mod explanation;
+mod gathered;
+pub mod messages;
 pub mod reason_text;
 pub mod verdict;

@@ -9,13 +9,13 @@ ghost use Rattle.verdict_texts.specs.WhyText.{around, around_number, asked_text,
 
 use crate::verdict::condition_name;
 use bin_tape::Image;
-use command_parts::text::{push_dump_line, push_place, push_word};
+use command_parts::message::{Lines, push_text_and_address, push_text_and_word};
 use facts::{Equation, Location};
 use instruct::Profile;
 use itoa::Buffer;
 use judge::{Condition, Refusal};
 use reasons::{Breach, CallBreach, Counterexample, Landing, Reason, ReturnBreach};
-use std::alloc::{AllocError, Allocator};
+use std::alloc::AllocError;
 use word12::{Link, Word};
 
 /// What a condition asks.
@@ -51,86 +51,89 @@ fn asked(condition: Condition) -> &'static [u8]
 }
 
 /// Adds a text, an address and a text.
-fn push_around<A: Allocator>(
-    text: &mut Vec<u8, A>,
+fn push_around<L: Lines>(
+    text: &mut L,
     before: &[u8],
     at: Word,
     after: &[u8],
 ) -> Result<(), AllocError>
     ensures { OnOk result
-        (text.new.items ≡ text.old.items ++ around before.now at after.now) }
+        (L.text text.new ≡ L.text text.old ++ around before.now at after.now) }
 {
-    text.extend_from_slice(before)?;
-    push_word(text, at)?;
-    text.extend_from_slice(after)
+    text.push_text(before)?;
+    text.push_address(at)?;
+    text.push_text(after)
 }
 
 /// Adds a text, a number and a text.
-fn push_around_number<A: Allocator>(
-    text: &mut Vec<u8, A>,
+fn push_around_number<L: Lines>(
+    text: &mut L,
     before: &[u8],
     number: usize,
     after: &[u8],
 ) -> Result<(), AllocError>
     ensures { OnOk result
-        (text.new.items ≡ text.old.items ++ around_number before.now number after.now) }
+        (L.text text.new ≡ L.text text.old ++ around_number before.now number after.now) }
 {
     let mut digits = Buffer::new();
-    text.extend_from_slice(before)?;
-    text.extend_from_slice(digits.format(number).as_bytes())?;
-    text.extend_from_slice(after)
+    text.push_text(before)?;
+    text.push_text(digits.format(number).as_bytes())?;
+    text.push_text(after)
 }
 
 /// Adds the digit of a link.
-fn push_link_digit<A: Allocator>(text: &mut Vec<u8, A>, link: Link) -> Result<(), AllocError>
-    ensures { OnOk result (text.new.items ≡ text.old.items ++ link_text link) }
+fn push_link_digit<L: Lines>(text: &mut L, link: Link) -> Result<(), AllocError>
+    ensures { OnOk result (L.text text.new ≡ L.text text.old ++ link_text link) }
 {
-    text.extend_from_slice(if link.is_set() { b"1" } else { b"0" })
+    text.push_text(if link.is_set() { b"1" } else { b"0" })
 }
 
 /// Adds what the link may be.
-fn push_link<A: Allocator>(text: &mut Vec<u8, A>, link: Link) -> Result<(), AllocError>
+fn push_link<L: Lines>(text: &mut L, link: Link) -> Result<(), AllocError>
     ensures { OnOk result
-        (text.new.items ≡ text.old.items ++ (codes "the link may be " ++ link_text link)) }
+        (L.text text.new ≡ L.text text.old ++ (codes "the link may be " ++ link_text link)) }
 {
-    text.extend_from_slice(b"the link may be ")?;
-    push_link_digit(text, link)
+    text.push_text(b"the link may be ")?;
+    push_link_digit(text, link)?;
+    Ok(())
 }
 
 /// Adds AC, or the address of a cell.
-fn push_name<A: Allocator>(text: &mut Vec<u8, A>, name: &Location) -> Result<(), AllocError>
-    ensures { OnOk result (text.new.items ≡ text.old.items ++ name_text name.now) }
+fn push_name<L: Lines>(text: &mut L, name: &Location) -> Result<(), AllocError>
+    ensures { OnOk result (L.text text.new ≡ L.text text.old ++ name_text name.now) }
 {
     match name {
-        Location::Accumulator => text.extend_from_slice(b"AC"),
-        Location::Cell(cell) => push_word(text, *cell),
+        Location::Accumulator => text.push_text(b"AC"),
+        Location::Cell(cell) => text.push_address(*cell),
     }
 }
 
 /// Adds an equation.
-fn push_equation<A: Allocator>(text: &mut Vec<u8, A>, equation: &Equation) -> Result<(), AllocError>
-    ensures { OnOk result (text.new.items ≡ text.old.items ++ equation_text equation.now) }
+fn push_equation<L: Lines>(text: &mut L, equation: &Equation) -> Result<(), AllocError>
+    ensures { OnOk result (L.text text.new ≡ L.text text.old ++ equation_text equation.now) }
 {
     push_name(text, &equation.left)?;
-    push_place(text, b" = ", equation.right)?;
-    push_place(text, b" + ", equation.more)
+    push_text_and_address(text, b" = ", equation.right)?;
+    push_text_and_word(text, b" + ", equation.more)
 }
 
 /// Adds what is possible.
-fn push_gap<A: Allocator>(text: &mut Vec<u8, A>, gap: &Counterexample) -> Result<(), AllocError>
-    ensures { OnOk result (text.new.items ≡ text.old.items ++ gap_text gap.now) }
+fn push_gap<L: Lines>(text: &mut L, gap: &Counterexample) -> Result<(), AllocError>
+    ensures { OnOk result (L.text text.new ≡ L.text text.old ++ gap_text gap.now) }
 {
     match gap {
-        Counterexample::Accumulator(word) => push_place(text, b"AC may be ", *word),
-        Counterexample::Mq(word) => push_place(text, b"MQ may be ", *word),
+        Counterexample::Accumulator(word) => push_text_and_word(text, b"AC may be ", *word),
+        Counterexample::Mq(word) => push_text_and_word(text, b"MQ may be ", *word),
         Counterexample::Link(link) => push_link(text, *link),
         Counterexample::Cell(cell, word) => {
-            push_place(text, b"the cell ", *cell)?;
-            push_place(text, b" may be ", *word)
+            push_text_and_address(text, b"the cell ", *cell)?;
+            push_text_and_word(text, b" may be ", *word)?;
+            Ok(())
         }
         Counterexample::Equation(equation) => {
             push_equation(text, equation)?;
-            text.extend_from_slice(b" may be wrong as far as is known")
+            text.push_text(b" may be wrong as far as is known")?;
+            Ok(())
         }
         Counterexample::Offset(offset) => push_around_number(
             text,
@@ -142,49 +145,48 @@ fn push_gap<A: Allocator>(text: &mut Vec<u8, A>, gap: &Counterexample) -> Result
 }
 
 /// Adds why a run doesn't land.
-fn push_landing<A: Allocator>(text: &mut Vec<u8, A>, landing: &Landing) -> Result<(), AllocError>
-    ensures { OnOk result (text.new.items ≡ text.old.items ++ landing_text landing.now) }
+fn push_landing<L: Lines>(text: &mut L, landing: &Landing) -> Result<(), AllocError>
+    ensures { OnOk result (L.text text.new ≡ L.text text.old ++ landing_text landing.now) }
 {
     match landing {
-        Landing::NoFact => text.extend_from_slice(b"no fact is there"),
-        Landing::OtherBody => text.extend_from_slice(b"that isn't in the body"),
+        Landing::NoFact => text.push_text(b"no fact is there"),
+        Landing::OtherBody => text.push_text(b"that isn't in the body"),
         Landing::Excluded(gap) => {
             push_gap(text, gap)?;
-            text.extend_from_slice(b", which the fact there excludes")
+            text.push_text(b", which the fact there excludes")?;
+            Ok(())
         }
     }
 }
 
 /// Adds why a call doesn't land where it enters.
-fn push_enters<A: Allocator>(text: &mut Vec<u8, A>, landing: &Landing) -> Result<(), AllocError>
+fn push_enters<L: Lines>(text: &mut L, landing: &Landing) -> Result<(), AllocError>
     ensures { OnOk result
-        (text.new.items ≡ text.old.items ++ (codes " and enters it: " ++ landing_text landing.now)) }
+        (L.text text.new ≡ L.text text.old ++ (codes " and enters it: " ++ landing_text landing.now)) }
 {
-    text.extend_from_slice(b" and enters it: ")?;
-    push_landing(text, landing)
+    text.push_text(b" and enters it: ")?;
+    push_landing(text, landing)?;
+    Ok(())
 }
 
 /// Adds why a run doesn't land after a return by an offset.
-fn push_returns<A: Allocator>(
-    text: &mut Vec<u8, A>,
-    offset: usize,
-    landing: &Landing,
-) -> Result<(), AllocError>
-    ensures { OnOk result (text.new.items ≡ text.old.items
+fn push_returns<L: Lines>(text: &mut L, offset: usize, landing: &Landing) -> Result<(), AllocError>
+    ensures { OnOk result (L.text text.new ≡ L.text text.old
         ++ (around_number (codes ", which returns by offset ") offset (codes ": ")
         ++ landing_text landing.now)) }
 {
     push_around_number(text, b", which returns by offset ", offset, b": ")?;
-    push_landing(text, landing)
+    push_landing(text, landing)?;
+    Ok(())
 }
 
 /// Adds what a call breaks.
-fn push_call<A: Allocator>(text: &mut Vec<u8, A>, breach: &CallBreach) -> Result<(), AllocError>
-    ensures { OnOk result (text.new.items ≡ text.old.items ++ call_text breach.now) }
+fn push_call<L: Lines>(text: &mut L, breach: &CallBreach) -> Result<(), AllocError>
+    ensures { OnOk result (L.text text.new ≡ L.text text.old ++ call_text breach.now) }
 {
     match breach {
-        CallBreach::NoEntry => text.extend_from_slice(b", which isn't an entry"),
-        CallBreach::NotListed => text.extend_from_slice(b", which has no routine line"),
+        CallBreach::NoEntry => text.push_text(b", which isn't an entry"),
+        CallBreach::NotListed => text.push_text(b", which has no routine line"),
         CallBreach::NotLower(rank, own) => {
             let mut digits = Buffer::new();
             push_around_number(
@@ -193,7 +195,7 @@ fn push_call<A: Allocator>(text: &mut Vec<u8, A>, breach: &CallBreach) -> Result
                 *rank,
                 b", which isn't below the caller's, ",
             )?;
-            text.extend_from_slice(digits.format(*own).as_bytes())
+            text.push_text(digits.format(*own).as_bytes())
         }
         CallBreach::Writes(cell) => push_around(
             text,
@@ -202,26 +204,22 @@ fn push_call<A: Allocator>(text: &mut Vec<u8, A>, breach: &CallBreach) -> Result
             b", and the caller's written set doesn't have it",
         ),
         CallBreach::EntryNotWritten => {
-            text.extend_from_slice(b", which the caller's written set doesn't have")
+            text.push_text(b", which the caller's written set doesn't have")
         }
-        CallBreach::WritesCaller => {
-            text.extend_from_slice(b", which may write the caller's entry")
-        }
-        CallBreach::NoSite => {
-            text.extend_from_slice(b", and the address isn't one of its sites")
-        }
-        CallBreach::TooHigh => text.extend_from_slice(b", from an address past 7767"),
+        CallBreach::WritesCaller => { text.push_text(b", which may write the caller's entry") }
+        CallBreach::NoSite => { text.push_text(b", and the address isn't one of its sites") }
+        CallBreach::TooHigh => text.push_text(b", from an address past 7767"),
         CallBreach::Enters(landing) => push_enters(text, landing),
         CallBreach::Returns(offset, landing) => push_returns(text, *offset, landing),
     }
 }
 
 /// Adds what a return breaks.
-fn push_return<A: Allocator>(text: &mut Vec<u8, A>, breach: &ReturnBreach) -> Result<(), AllocError>
-    ensures { OnOk result (text.new.items ≡ text.old.items ++ return_text breach.now) }
+fn push_return<L: Lines>(text: &mut L, breach: &ReturnBreach) -> Result<(), AllocError>
+    ensures { OnOk result (L.text text.new ≡ L.text text.old ++ return_text breach.now) }
 {
     match breach {
-        ReturnBreach::OtherRoutine => text.extend_from_slice(b", which isn't its own entry"),
+        ReturnBreach::OtherRoutine => text.push_text(b", which isn't its own entry"),
         ReturnBreach::NotDeclared(offset) => {
             push_around_number(text, b" by offset ", *offset, b", which isn't declared")
         }
@@ -231,29 +229,25 @@ fn push_return<A: Allocator>(text: &mut Vec<u8, A>, breach: &ReturnBreach) -> Re
         ReturnBreach::Excluded(offset, gap) => {
             push_around_number(text, b" by offset ", *offset, b": ")?;
             push_gap(text, gap)?;
-            text.extend_from_slice(b", which the exit line excludes")
+            text.push_text(b", which the exit line excludes")
         }
     }
 }
 
 /// Adds a cell that may be written, and what is wrong with that.
-fn push_write<A: Allocator>(
-    text: &mut Vec<u8, A>,
-    cell: Word,
-    wrong: &[u8],
-) -> Result<(), AllocError>
+fn push_write<L: Lines>(text: &mut L, cell: Word, wrong: &[u8]) -> Result<(), AllocError>
     ensures { OnOk result
-        (text.new.items ≡ text.old.items ++ around (codes "it may write ") cell wrong.now) }
+        (L.text text.new ≡ L.text text.old ++ around (codes "it may write ") cell wrong.now) }
 {
     push_around(text, b"it may write ", cell, wrong)
 }
 
 /// Adds what a word breaks.
-fn push_breach<A: Allocator>(text: &mut Vec<u8, A>, breach: &Breach) -> Result<(), AllocError>
-    ensures { OnOk result (text.new.items ≡ text.old.items ++ breach_text breach.now) }
+fn push_breach<L: Lines>(text: &mut L, breach: &Breach) -> Result<(), AllocError>
+    ensures { OnOk result (L.text text.new ≡ L.text text.old ++ breach_text breach.now) }
 {
     match breach {
-        Breach::NotSupported => text.extend_from_slice(b"it isn't supported"),
+        Breach::NotSupported => text.push_text(b"it isn't supported"),
         Breach::WritesUndeclared(cell) => {
             push_write(text, *cell, b", which is neither a variable nor an entry")
         }
@@ -261,18 +255,14 @@ fn push_breach<A: Allocator>(text: &mut Vec<u8, A>, breach: &Breach) -> Result<(
         Breach::WritesUnlisted(cell) => {
             push_write(text, *cell, b", which isn't in the routine's written set")
         }
-        Breach::HaltsUndeclared => {
-            text.extend_from_slice(b"it halts, and no halt is declared there")
-        }
-        Breach::CallsThroughIndex => {
-            text.extend_from_slice(b"it calls through an auto-index cell")
-        }
+        Breach::HaltsUndeclared => { text.push_text(b"it halts, and no halt is declared there") }
+        Breach::CallsThroughIndex => { text.push_text(b"it calls through an auto-index cell") }
         Breach::Calls(entry, call) => {
-            push_place(text, b"it calls ", *entry)?;
+            push_text_and_address(text, b"it calls ", *entry)?;
             push_call(text, call)
         }
         Breach::Returns(entry, back) => {
-            push_place(text, b"it returns through ", *entry)?;
+            push_text_and_address(text, b"it returns through ", *entry)?;
             push_return(text, back)
         }
         Breach::GoesOn(at, landing) => {
@@ -289,22 +279,20 @@ fn push_breach<A: Allocator>(text: &mut Vec<u8, A>, breach: &Breach) -> Result<(
 }
 
 /// Adds why a condition fails.
-fn push_reason<A: Allocator>(text: &mut Vec<u8, A>, reason: &Reason) -> Result<(), AllocError>
-    ensures { OnOk result (text.new.items ≡ text.old.items ++ reason_text reason.now) }
+fn push_reason<L: Lines>(text: &mut L, reason: &Reason) -> Result<(), AllocError>
+    ensures { OnOk result (L.text text.new ≡ L.text text.old ++ reason_text reason.now) }
 {
     match reason {
-        Reason::NoFact => text.extend_from_slice(b"no fact is there"),
+        Reason::NoFact => text.push_text(b"no fact is there"),
         Reason::StartExcluded(gap) => {
-            text.extend_from_slice(b"at a start ")?;
+            text.push_text(b"at a start ")?;
             push_gap(text, gap)?;
-            text.extend_from_slice(b", which the fact there excludes")
+            text.push_text(b", which the fact there excludes")
         }
-        Reason::LineAtNoEntry => text.extend_from_slice(
+        Reason::LineAtNoEntry => text.push_text(
             b"a routine or exit line names the address, which isn't an entry",
         ),
-        Reason::InNoBody => {
-            text.extend_from_slice(b"a fact is there, and the address is in no body")
-        }
+        Reason::InNoBody => { text.push_text(b"a fact is there, and the address is in no body") }
         Reason::OffsetInMain(offset) => push_around_number(
             text,
             b"the fact is in main's body, and has the offset ",
@@ -331,17 +319,14 @@ fn push_reason<A: Allocator>(text: &mut Vec<u8, A>, reason: &Reason) -> Result<(
 }
 
 /// Adds the line of a reason, if there is one.
-fn push_reason_line<A: Allocator>(
-    text: &mut Vec<u8, A>,
-    reason: &Option<Reason>,
-) -> Result<(), AllocError>
-    ensures { OnOk result (text.new.items ≡ text.old.items ++ reason_line reason.now) }
+fn push_reason_line<L: Lines>(text: &mut L, reason: &Option<Reason>) -> Result<(), AllocError>
+    ensures { OnOk result (L.text text.new ≡ L.text text.old ++ reason_line reason.now) }
 {
     let Some(reason) = reason else {
         return Ok(());
     };
     push_reason(text, reason)?;
-    text.extend_from_slice(b"\n")
+    text.push_text(b"\n")
 }
 
 /// The word that is shown: the one that breaks the condition, or else the tape's.
@@ -355,34 +340,34 @@ fn word_shown(image: &Image, at: Word, reason: &Option<Reason>) -> Option<Word>
 }
 
 /// Adds the line of what a condition asks.
-fn push_asked<A: Allocator>(text: &mut Vec<u8, A>, condition: Condition) -> Result<(), AllocError>
-    ensures { OnOk result (text.new.items ≡ text.old.items
+fn push_asked<L: Lines>(text: &mut L, condition: Condition) -> Result<(), AllocError>
+    ensures { OnOk result (L.text text.new ≡ L.text text.old
         ++ (condition_text condition ++ codes " asks: " ++ asked_text condition ++ codes "\n")) }
 {
-    text.extend_from_slice(condition_name(condition).as_bytes())?;
-    text.extend_from_slice(b" asks: ")?;
-    text.extend_from_slice(asked(condition))?;
-    text.extend_from_slice(b"\n")
+    text.push_text(condition_name(condition).as_bytes())?;
+    text.push_text(b" asks: ")?;
+    text.push_text(asked(condition))?;
+    text.push_text(b"\n")
 }
 
 /// Adds why a verdict is no: the address with its word and its name, what the condition asks, and
 /// the reason, if one is given. To a yes it adds nothing.
-pub fn push_why<A: Allocator>(
-    text: &mut Vec<u8, A>,
+pub fn push_why<L: Lines>(
+    text: &mut L,
     profile: Profile,
     image: &Image,
     verdict: &Result<(), Refusal>,
     reason: &Option<Reason>,
 ) -> Result<(), AllocError>
     ensures { OnOk result
-        (text.new.items ≡ text.old.items
+        (L.text text.new ≡ L.text text.old
         ++ why_text profile image.now verdict.now reason.now) }
 {
     let Err(refusal) = verdict else {
         return Ok(());
     };
     let shown = word_shown(image, refusal.address, reason);
-    push_dump_line(text, refusal.address, shown, profile)?;
+    text.push_instruction(refusal.address, shown, profile)?;
     push_asked(text, refusal.condition)?;
     push_reason_line(text, reason)
 }

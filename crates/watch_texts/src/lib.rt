@@ -2,9 +2,12 @@
 #![tactic(auto)]
 
 ghost use Rattle.std.specs.Prelude.{◌≡◌, false, [], IfOk};
+ghost use Rattle.command_parts.specs.Messages.{plain};
 
 use bin_tape::Image;
-use command_parts::text::{push_dump_line, push_place, push_word};
+use command_parts::message::{
+    Lines, Message, push_text_and_address, push_text_and_advised, push_text_and_word,
+};
 use declaration::{Declaration, Owner};
 use instruct::{Operation, Profile};
 use itoa::Buffer;
@@ -29,59 +32,80 @@ fn asked(rule: Rule) -> &'static [u8] {
 }
 
 /// Adds the line that says what a rule asks.
-fn push_asked<A: Allocator>(text: &mut Vec<u8, A>, rule: Rule) -> Result<(), AllocError> {
-    text.extend_from_slice(b"rule ")?;
-    text.extend_from_slice(Buffer::new().format(rule.number()).as_bytes())?;
-    text.extend_from_slice(b": ")?;
-    text.extend_from_slice(asked(rule))?;
-    text.extend_from_slice(b"\n")
+fn push_asked<L: Lines>(text: &mut L, rule: Rule) -> Result<(), AllocError> {
+    text.push_text(b"rule ")?;
+    text.push_text(Buffer::new().format(rule.number()).as_bytes())?;
+    text.push_text(b": ")?;
+    text.push_text(asked(rule))?;
+    text.push_text(b"\n")
 }
 
 /// Adds a line that is a text, an address and a text.
-fn push_line<A: Allocator>(
-    text: &mut Vec<u8, A>,
+fn push_line<L: Lines>(
+    text: &mut L,
     before: &[u8],
     at: Word,
     after: &[u8],
 ) -> Result<(), AllocError> {
-    push_place(text, before, at)?;
-    text.extend_from_slice(after)?;
-    text.extend_from_slice(b"\n")
+    push_text_and_address(text, before, at)?;
+    text.push_text(after)?;
+    text.push_text(b"\n")
+}
+
+/// Adds the rest of a line: a text, an address within a line of a declaration that is advised, and a text.
+fn push_advice<L: Lines>(
+    text: &mut L,
+    before: &[u8],
+    at: Word,
+    after: &[u8],
+) -> Result<(), AllocError> {
+    push_text_and_advised(text, before, at)?;
+    text.push_text(after)?;
+    text.push_text(b"\n")
+}
+
+/// Adds the rest of a line: a text, a word that is no address, and a text.
+fn push_word_line<L: Lines>(
+    text: &mut L,
+    before: &[u8],
+    word: Word,
+    after: &[u8],
+) -> Result<(), AllocError> {
+    push_text_and_word(text, before, word)?;
+    text.push_text(after)?;
+    text.push_text(b"\n")
 }
 
 /// Adds the line of what a cell holds, and of the word that would take its place.
-fn push_change<A: Allocator>(
-    text: &mut Vec<u8, A>,
+fn push_change<L: Lines>(
+    text: &mut L,
     cpu: &Cpu,
     cell: Word,
     then: Word,
 ) -> Result<(), AllocError> {
-    push_place(text, b"", cell)?;
-    push_place(text, b" holds ", cpu.memory.get(cell))?;
-    push_line(text, b", and would hold ", then, b"")
+    text.push_address(cell)?;
+    push_text_and_word(text, b" holds ", cpu.memory.get(cell))?;
+    push_word_line(text, b", and would hold ", then, b"")
 }
 
 /// Adds what else a cell is that is no variable, an entry or an instruction, and what to declare if the program
 /// may write it.
-fn push_variable_advice<A: Allocator, D: Allocator>(
-    text: &mut Vec<u8, A>,
+fn push_variable_advice<L: Lines, D: Allocator>(
+    text: &mut L,
     declaration: &Declaration<D>,
     cell: Word,
 ) -> Result<(), AllocError> {
     if declaration.is_entry(cell) {
-        return text.extend_from_slice(b", but an entry\n");
+        return text.push_text(b", but an entry\n");
     }
     if declaration.owner_of(cell).is_some() {
-        return push_line(text, b", but code; if it may change, add `var ", cell, b"`");
+        return push_advice(text, b", but code; if it may change, add `var ", cell, b"`");
     }
-    push_line(text, b"; if it may be written, add `var ", cell, b"`")
+    push_advice(text, b"; if it may be written, add `var ", cell, b"`")
 }
 
 /// Adds the line of the pointer from which an address comes, if the reference is indirect.
-fn push_pointer<A: Allocator>(
-    text: &mut Vec<u8, A>,
-    reference: &Reference,
-) -> Result<(), AllocError> {
+fn push_pointer<L: Lines>(text: &mut L, reference: &Reference) -> Result<(), AllocError> {
     if !reference.indirect {
         return Ok(());
     }
@@ -95,22 +119,22 @@ fn push_pointer<A: Allocator>(
 
 /// Adds the lines of a cell that is written: the pointer that is stepped, or what is stored into; and of the
 /// words there before and after.
-fn push_write<A: Allocator, D: Allocator>(
-    text: &mut Vec<u8, A>,
+fn push_write<L: Lines, D: Allocator>(
+    text: &mut L,
     declaration: &Declaration<D>,
     cpu: &Cpu,
     reference: &Reference,
 ) -> Result<(), AllocError> {
     let named = reference.named;
     if reference.steps_pointer() && !declaration.is_variable(named) {
-        push_place(text, b"it steps the pointer ", named)?;
-        text.extend_from_slice(b", which is no variable")?;
+        push_text_and_address(text, b"it steps the pointer ", named)?;
+        text.push_text(b", which is no variable")?;
         push_variable_advice(text, declaration, named)?;
         return push_change(text, cpu, named, cpu.memory.get(named).increment());
     }
     let place = reference.place;
-    push_place(text, b"it stores into ", place)?;
-    text.extend_from_slice(b", which is no variable")?;
+    push_text_and_address(text, b"it stores into ", place)?;
+    text.push_text(b", which is no variable")?;
     push_variable_advice(text, declaration, place)?;
     push_pointer(text, reference)?;
     match reference.operation {
@@ -120,14 +144,14 @@ fn push_write<A: Allocator, D: Allocator>(
 }
 
 /// Adds the line of what a cell holds.
-fn push_held<A: Allocator>(text: &mut Vec<u8, A>, cpu: &Cpu, cell: Word) -> Result<(), AllocError> {
-    push_place(text, b"", cell)?;
-    push_line(text, b" holds ", cpu.memory.get(cell), b"")
+fn push_held<L: Lines>(text: &mut L, cpu: &Cpu, cell: Word) -> Result<(), AllocError> {
+    text.push_address(cell)?;
+    push_word_line(text, b" holds ", cpu.memory.get(cell), b"")
 }
 
 /// Adds that a cell isn't on the list of reads, and what to declare if it may be read.
-fn push_read_advice<A: Allocator>(text: &mut Vec<u8, A>, cell: Word) -> Result<(), AllocError> {
-    push_line(
+fn push_read_advice<L: Lines>(text: &mut L, cell: Word) -> Result<(), AllocError> {
+    push_advice(
         text,
         b", which isn't on the list of reads; if it may be read, add `read ",
         cell,
@@ -136,8 +160,8 @@ fn push_read_advice<A: Allocator>(text: &mut Vec<u8, A>, cell: Word) -> Result<(
 }
 
 /// Adds the lines of a cell that is read and isn't on the list, the pointer or the operand, and of its word.
-fn push_read<A: Allocator, D: Allocator>(
-    text: &mut Vec<u8, A>,
+fn push_read<L: Lines, D: Allocator>(
+    text: &mut L,
     declaration: &Declaration<D>,
     calls: &[Call],
     cpu: &Cpu,
@@ -146,19 +170,19 @@ fn push_read<A: Allocator, D: Allocator>(
     let named = reference.named;
     let own = calls.last().is_some_and(|call| call.entry == named);
     if reference.indirect && !declaration.may_read(named) && !own {
-        push_place(text, b"it reads the pointer ", named)?;
+        push_text_and_address(text, b"it reads the pointer ", named)?;
         push_read_advice(text, named)?;
         return push_held(text, cpu, named);
     }
-    push_place(text, b"it reads ", reference.place)?;
+    push_text_and_address(text, b"it reads ", reference.place)?;
     push_read_advice(text, reference.place)?;
     push_held(text, cpu, reference.place)
 }
 
 /// Adds the line of the addresses to which a call may return: those by the offsets that are declared of its
 /// routine.
-fn push_returns<A: Allocator, D: Allocator>(
-    text: &mut Vec<u8, A>,
+fn push_returns<L: Lines, D: Allocator>(
+    text: &mut L,
     declaration: &Declaration<D>,
     call: &Call,
 ) -> Result<(), AllocError> {
@@ -167,17 +191,17 @@ fn push_returns<A: Allocator, D: Allocator>(
         let offset = Word::from_index(index);
         if declaration.has_offset(call.entry, offset) {
             if is_one_told {
-                text.extend_from_slice(b" or ")?;
+                text.push_text(b" or ")?;
             } else {
-                push_place(text, b"the routine ", call.entry)?;
-                text.extend_from_slice(b" may return to ")?;
+                push_text_and_address(text, b"the routine ", call.entry)?;
+                text.push_text(b" may return to ")?;
             }
-            push_word(text, call.after.add(offset))?;
+            text.push_address(call.after.add(offset))?;
             is_one_told = true;
         }
     }
     if is_one_told {
-        return text.extend_from_slice(b"\n");
+        return text.push_text(b"\n");
     }
     push_line(
         text,
@@ -189,8 +213,8 @@ fn push_returns<A: Allocator, D: Allocator>(
 
 /// Adds what to declare of a return through the running routine's own entry, if it goes to one of the eight
 /// addresses from the call on.
-fn push_offset_advice<A: Allocator>(
-    text: &mut Vec<u8, A>,
+fn push_offset_advice<L: Lines>(
+    text: &mut L,
     call: &Call,
     entry: Word,
     to: Word,
@@ -199,26 +223,26 @@ fn push_offset_advice<A: Allocator>(
     if call.entry != entry || offset > 7 {
         return Ok(());
     }
-    text.extend_from_slice(b"if it may return there, add ")?;
-    text.extend_from_slice(Buffer::new().format(offset).as_bytes())?;
-    push_line(text, b" to the returns of `sub ", entry, b"`")
+    text.push_text(b"if it may return there, add ")?;
+    text.push_text(Buffer::new().format(offset).as_bytes())?;
+    push_advice(text, b" to the returns of `sub ", entry, b"`")
 }
 
 /// Adds the lines of a return through an entry: where it goes, the call that it doesn't return from, and where
 /// that may return to.
-fn push_return<A: Allocator, D: Allocator>(
-    text: &mut Vec<u8, A>,
+fn push_return<L: Lines, D: Allocator>(
+    text: &mut L,
     declaration: &Declaration<D>,
     calls: &[Call],
     cpu: &Cpu,
     entry: Word,
 ) -> Result<(), AllocError> {
-    push_place(text, b"it goes to ", cpu.memory.get(entry))?;
-    push_place(text, b" by the word in the entry ", entry)?;
+    push_text_and_address(text, b"it goes to ", cpu.memory.get(entry))?;
+    push_text_and_address(text, b" by the word in the entry ", entry)?;
     match calls.last() {
-        None => text.extend_from_slice(b"; no call is open\n"),
+        None => text.push_text(b"; no call is open\n"),
         Some(call) => {
-            push_place(text, b"; the last call is of ", call.entry)?;
+            push_text_and_address(text, b"; the last call is of ", call.entry)?;
             push_line(text, b", and the address after it is ", call.after, b"")?;
             push_returns(text, declaration, call)?;
             push_offset_advice(text, call, entry, cpu.memory.get(entry))
@@ -228,16 +252,16 @@ fn push_return<A: Allocator, D: Allocator>(
 
 /// Adds the line of an address that isn't in the running routine's body: what it is, or what to declare if it is
 /// code of that routine.
-fn push_outside<A: Allocator, D: Allocator>(
-    text: &mut Vec<u8, A>,
+fn push_outside<L: Lines, D: Allocator>(
+    text: &mut L,
     declaration: &Declaration<D>,
     calls: &[Call],
     at: Word,
 ) -> Result<(), AllocError> {
-    push_place(text, b"", at)?;
-    text.extend_from_slice(b" isn't in the running routine's body")?;
+    text.push_address(at)?;
+    text.push_text(b" isn't in the running routine's body")?;
     if declaration.is_entry(at) {
-        return text.extend_from_slice(
+        return text.push_text(
             b": it is an entry, which holds a return address and is never executed\n",
         );
     }
@@ -245,57 +269,53 @@ fn push_outside<A: Allocator, D: Allocator>(
         return push_body_advice(text, calls, at);
     };
     match owner {
-        Owner::Main => text.extend_from_slice(b": it is in main's\n"),
-        Owner::Routine(entry) => push_line(text, b": it is in the body of `sub ", entry, b"`"),
+        Owner::Main => text.push_text(b": it is in main's\n"),
+        Owner::Routine(entry) => push_advice(text, b": it is in the body of `sub ", entry, b"`"),
     }
 }
 
 /// Adds what to declare of an address that is in no body, if it is code of the running routine.
-fn push_body_advice<A: Allocator>(
-    text: &mut Vec<u8, A>,
-    calls: &[Call],
-    at: Word,
-) -> Result<(), AllocError> {
-    text.extend_from_slice(b"; if it belongs there, add ")?;
+fn push_body_advice<L: Lines>(text: &mut L, calls: &[Call], at: Word) -> Result<(), AllocError> {
+    text.push_text(b"; if it belongs there, add ")?;
     match calls.last() {
-        None => push_line(text, b"`main ", at, b"`"),
-        Some(call) => push_line(text, b"it to the body of `sub ", call.entry, b"`"),
+        None => push_advice(text, b"`main ", at, b"`"),
+        Some(call) => push_advice(text, b"it to the body of `sub ", call.entry, b"`"),
     }
 }
 
 /// Adds the line of a JMS to an address that is no entry, and what to declare if a routine begins there.
-fn push_no_entry<A: Allocator, D: Allocator>(
-    text: &mut Vec<u8, A>,
+fn push_no_entry<L: Lines, D: Allocator>(
+    text: &mut L,
     declaration: &Declaration<D>,
     place: Word,
 ) -> Result<(), AllocError> {
-    push_place(text, b"it goes to ", place)?;
-    text.extend_from_slice(b", which is no entry; ")?;
+    push_text_and_address(text, b"it goes to ", place)?;
+    text.push_text(b", which is no entry; ")?;
     if is_auto_index(place) {
-        return text.extend_from_slice(b"no routine can begin in 0010 to 0017\n");
+        return text.push_text(b"no routine can begin in 0010 to 0017\n");
     }
-    push_place(text, b"if a routine begins there, add `sub ", place)?;
-    text.extend_from_slice(b" body .. returns ..`")?;
+    push_text_and_advised(text, b"if a routine begins there, add `sub ", place)?;
+    text.push_text(b" body .. returns ..`")?;
     if declaration.owner_of(place).is_some() || declaration.is_variable(place) {
-        text.extend_from_slice(b", and take it out of the body and the variables")?;
+        text.push_text(b", and take it out of the body and the variables")?;
     }
-    text.extend_from_slice(b"\n")
+    text.push_text(b"\n")
 }
 
 /// Adds the line of a HLT at an address where none is declared, and what to declare if it may stand there.
-fn push_no_halt<A: Allocator>(text: &mut Vec<u8, A>, at: Word) -> Result<(), AllocError> {
-    push_place(text, b"", at)?;
-    push_place(
+fn push_no_halt<L: Lines>(text: &mut L, at: Word) -> Result<(), AllocError> {
+    text.push_address(at)?;
+    push_text_and_advised(
         text,
         b" is no declared halt; if it may halt there, add `stop ",
         at,
     )?;
-    push_line(text, b"`, or `pause ", at, b"` if the operator may go on")
+    push_advice(text, b"`, or `pause ", at, b"` if the operator may go on")
 }
 
 /// Adds the line of a step that leaves the running routine's body, or is at no instruction.
-fn push_stray<A: Allocator, D: Allocator>(
-    text: &mut Vec<u8, A>,
+fn push_stray<L: Lines, D: Allocator>(
+    text: &mut L,
     declaration: &Declaration<D>,
     calls: &[Call],
     cpu: &Cpu,
@@ -307,7 +327,7 @@ fn push_stray<A: Allocator, D: Allocator>(
     if !inside {
         return push_outside(text, declaration, calls, cpu.pc);
     }
-    push_line(
+    push_word_line(
         text,
         b"the word ",
         cpu.memory.get(cpu.pc),
@@ -316,8 +336,8 @@ fn push_stray<A: Allocator, D: Allocator>(
 }
 
 /// Adds the lines that say what a memory reference does that its rule doesn't allow.
-fn push_reference<A: Allocator, D: Allocator>(
-    text: &mut Vec<u8, A>,
+fn push_reference<L: Lines, D: Allocator>(
+    text: &mut L,
     declaration: &Declaration<D>,
     calls: &[Call],
     cpu: &Cpu,
@@ -335,8 +355,8 @@ fn push_reference<A: Allocator, D: Allocator>(
 }
 
 /// Adds the lines that say what the step does that its rule doesn't allow.
-fn push_act<A: Allocator, D: Allocator>(
-    text: &mut Vec<u8, A>,
+fn push_act<L: Lines, D: Allocator>(
+    text: &mut L,
     declaration: &Declaration<D>,
     calls: &[Call],
     cpu: &Cpu,
@@ -352,11 +372,11 @@ fn push_act<A: Allocator, D: Allocator>(
 }
 
 /// Adds the line of the routine that runs, and where it was called from.
-fn push_running<A: Allocator>(text: &mut Vec<u8, A>, calls: &[Call]) -> Result<(), AllocError> {
+fn push_running<L: Lines>(text: &mut L, calls: &[Call]) -> Result<(), AllocError> {
     match calls.last() {
-        None => text.extend_from_slice(b"the main program runs\n"),
+        None => text.push_text(b"the main program runs\n"),
         Some(call) => {
-            push_place(text, b"the routine ", call.entry)?;
+            push_text_and_address(text, b"the routine ", call.entry)?;
             let site = call.after.add(Word::from_index(0o7777));
             push_line(text, b" runs, called at ", site, b"")
         }
@@ -379,8 +399,8 @@ fn next_of(cpu: &Cpu) -> Executed {
 }
 
 /// Adds the instruction from which control came, for a step that leaves the running routine's body.
-fn push_origin<A: Allocator>(
-    text: &mut Vec<u8, A>,
+fn push_origin<L: Lines>(
+    text: &mut L,
     profile: Profile,
     rule: Rule,
     last: Option<Executed>,
@@ -391,24 +411,24 @@ fn push_origin<A: Allocator>(
     if rule != Rule::StaysInBody {
         return Ok(());
     }
-    text.extend_from_slice(b"control came from:\n")?;
-    push_dump_line(text, executed.at, Some(executed.word), profile)
+    text.push_text(b"control came from:\n")?;
+    text.push_instruction(executed.at, Some(executed.word), profile)
 }
 
 /// What a step that breaks a rule is about to do: the instruction with its address, what the rule asks,
 /// what the step does in place of it, where control came from, and the routine that runs.
-fn lines_of<A: Allocator, D: Allocator, C: Allocator>(
+fn lines_of<A: Allocator + Copy, D: Allocator, C: Allocator>(
     alloc: A,
     declaration: &Declaration<D>,
     watcher: &Watcher<C>,
     rule: Rule,
     last: Option<Executed>,
-) -> Result<Vec<u8, A>, AllocError> {
+) -> Result<Message<A>, AllocError> {
     let cpu = watcher.world().cpu();
     let calls = watcher.calls();
     let word = cpu.memory.get(cpu.pc);
-    let mut text = Vec::new(alloc);
-    push_dump_line(&mut text, cpu.pc, Some(word), declaration.profile())?;
+    let mut text = Message::new(alloc);
+    text.push_instruction(cpu.pc, Some(word), declaration.profile())?;
     push_asked(&mut text, rule)?;
     push_act(&mut text, declaration, calls, cpu, rule)?;
     push_origin(&mut text, declaration.profile(), rule, last)?;
@@ -425,14 +445,14 @@ pub fn breach_lines<A: Allocator + Copy, D: Allocator>(
     events: &[Event],
     watched: Watched,
     explained: bool,
-) -> Result<Vec<u8, A>, NoMemory>
-    ensures { IfOk result (λ text. explained ≡ false → text.items ≡ []) }
+) -> Result<Message<A>, NoMemory>
+    ensures { IfOk result (λ text. explained ≡ false → plain text ≡ []) }
 {
     let Watched::Broken { event, rule } = watched else {
-        return Ok(Vec::new(alloc));
+        return Ok(Message::new(alloc));
     };
     if !explained {
-        return Ok(Vec::new(alloc));
+        return Ok(Message::new(alloc));
     }
     let mut watcher = Watcher::new(alloc, image, declaration, &Start::zero());
     let mut last = None;

@@ -6,7 +6,7 @@ use Rattle.std.proofs.lemmas.Nat.{pow_pos, mod-pow-add, leading_top}
 use Rattle.std.proofs.lemmas.Nat.Bits.{bit_at-zero, bit_at-lt, bit_at_above}
 use native.Mathlib.Nat.{mod-eq_of_lt}
 use lib.Count.{count_leading_zeros}
-use Rattle.wordset.specs.Words.{Words, SameWords, nothing, some_below, carries, IsFirstFrom, IsGreatest}
+use Rattle.wordset.specs.Words.{Words, nothing, some_below, carries, IsFirstFrom, IsGreatest}
 use Rattle.wordset.specs.Lanes.{words, AreLanes}
 use Rattle.wordset.proofs.LaneBits.{words_at}
 use Rattle.wordset.proofs.Tests.{true_false, some_from, some_to, IsSome, and_both, and_first, and_second}
@@ -86,11 +86,14 @@ false_unless : (p : Bool) → (p ≡ true → ⊥) → false ≡ p
 false_unless true f = absurd (f refl)
 false_unless false f = refl
 
-pub no_left : (a b : Words) (k : ℕ) → SameWords a nothing → false ≡ carries a b k
-no_left a b k none = false_unless (carries a b k) (λ e. let s : IsSum a b k = from_carries a b k e in true_false (sym s.x_in ∙ none s.x s.x_small))
+pub carries_past : (a b : Words) (k : ℕ) → 2 ≤ k → carries a b k ≡ false
+carries_past a b k h = sym (false_unless (carries a b k) (λ e. let s : IsSum a b k = from_carries a b k e in let x : s.x < 4096 = s.x_small in let y : s.y < 4096 = s.y_small in let is : (s.x + s.y) / 4096 ≡ k = s.is in omega arith))
 
-pub no_right : (a b : Words) (k : ℕ) → SameWords b nothing → false ≡ carries a b k
-no_right a b k none = false_unless (carries a b k) (λ e. let s : IsSum a b k = from_carries a b k e in true_false (sym s.y_in ∙ none s.y s.y_small))
+pub no_left : (a b : Words) (k : ℕ) → a ≡ nothing → false ≡ carries a b k
+no_left a b k none = false_unless (carries a b k) (λ e. let s : IsSum a b k = from_carries a b k e in true_false (sym s.x_in ∙ ap (λ t. t s.x) none))
+
+pub no_right : (a b : Words) (k : ℕ) → b ≡ nothing → false ≡ carries a b k
+no_right a b k none = false_unless (carries a b k) (λ e. let s : IsSum a b k = from_carries a b k e in true_false (sym s.y_in ∙ ap (λ t. t s.y) none))
 
 not_below : (a : Words) (w x : ℕ) → IsFirstFrom 0 a w → a x ≡ true → w ≤ x
 not_below a w x is t = elim (cases_lt x w) [ inl l ↦ absurd (true_false (sym t ∙ is.before x (omega arith) l)) | inr g ↦ g ]

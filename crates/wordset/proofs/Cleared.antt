@@ -1,8 +1,9 @@
 -- Images under a word that clears the accumulator first: they are the same for every word of a set.
-use Rattle.std.proofs.Common.{◌≡◌, ℕ, ◌<◌, ◌==◌, zero, suc, Bool, true, false, not, ◌&&◌, ◌||◌, refl, sym, ap, ◌∙◌, lit<}
+use Rattle.std.proofs.Common.{◌≡◌, ℕ, ◌==◌, zero, suc, Bool, true, false, not, ◌&&◌, ◌||◌, refl, sym, ap, ◌∙◌, lit<}
 use Rattle.std.specs.Prelude.{if◌then◌else◌}
+use Rattle.std.proofs.Math.Path.{fun_ext}
 use Rattle.instruct.specs.Bits.{has_bit}
-use Rattle.instruct.specs.Operates.{cleared, complemented, counted, rotated, operate1_of}
+use Rattle.instruct.specs.Operates.{complemented, counted, rotated, operate1_of}
 use Rattle.wordset.specs.Words.{Words, some_below, has_some, one, images_at, images}
 use Rattle.wordset.proofs.Tests.{some_from}
 
@@ -30,15 +31,15 @@ some_constant (suc n) a p b h =
     ∙ both_or (a n) (some_below n a) b
 
 -- the images of two sets that have a word
-pub images_same : (f : ℕ → ℕ → ℕ) (a b links : Words) → ((x l : ℕ) → f x l ≡ f 0 l) → has_some a ≡ true → has_some b ≡ true → (v : ℕ) → images f a links v ≡ images f b links v
+pub images_same : (f : ℕ → ℕ → ℕ) (a b links : Words) → ((x l : ℕ) → f x l ≡ f 0 l) → has_some a ≡ true → has_some b ≡ true → images f a links ≡ images f b links
 unfolding some_below
-images_same f a b links same some other v =
+images_same f a b links same some other = fun_ext (λ v.
     let at : (l : ℕ) → images_at (λ x. f x l) a v ≡ images_at (λ x. f x l) b v = λ l.
     some_constant 4096 a (λ x. v == f x l) (v == f 0 l) (λ x. ap (λ n. v == n) (same x l))
     ∙ ap (λ p. p && (v == f 0 l)) (some ∙ sym other)
     ∙ sym (some_constant 4096 b (λ x. v == f x l) (v == f 0 l) (λ x. ap (λ n. v == n) (same x l))) in
     ap (λ p. (links 1 && p) || ((links 0 && images_at (λ x. f x 0) a v) || false)) (at 1)
-    ∙ ap (λ p. (links 1 && images_at (λ x. f x 1) b v) || ((links 0 && p) || false)) (at 0)
+    ∙ ap (λ p. (links 1 && images_at (λ x. f x 1) b v) || ((links 0 && p) || false)) (at 0))
 
 -- one word is some
 pub one_some : has_some (one 0) ≡ true

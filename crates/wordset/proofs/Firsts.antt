@@ -2,15 +2,14 @@
 use Rattle.std.proofs.Common.{◌≡◌, ◌≢◌, ℕ, zero, suc, ◌+◌, ◌-◌, ◌*◌, ◌/◌, ◌%◌, ◌^◌, ◌<◌, ◌≤◌, ◌==◌, Bool, true, false, List, get_or, refl, sym, ◌∙◌, ap, inl, inr, arith, w64}
 use Rattle.std.specs.Prelude.{if◌then◌else◌, Option, Some, None, MatchOption}
 use Rattle.std.specs.Int.{bit_at, trailing_zeros}
-use Rattle.std.proofs.lemmas.Bool.{cases_eq, cases_lt, eq-eqb, ne_eqb, eqb-true}
+use Rattle.std.proofs.lemmas.Bool.{cases_eq, cases_lt, eq-eqb, ne_eqb}
 use Rattle.std.proofs.lemmas.Nat.Bits.{bit_at-trailing_zeros, bit_at-zero, bit_at_above}
 use Rattle.std.proofs.Math.Nat.{div-le_self}
-use Rattle.wordset.specs.Words.{Words, how_many, some_below, first_below, only, only_of, without, IsFirstFrom, HasNoneFrom}
+use Rattle.wordset.specs.Words.{Words, some_below, first_below, only, only_of, without, IsFirstFrom, HasNoneFrom}
 use Rattle.wordset.specs.Lanes.{words, AreLanes}
 use Rattle.wordset.proofs.SetLemmas.{words_past}
 use Rattle.wordset.proofs.LaneBits.{words_at}
-use Rattle.wordset.proofs.Tests.{true_false, both_ways, some_from, some_none_of, none_of_some}
-use Rattle.wordset.proofs.Counts.{how_many_same}
+use Rattle.wordset.proofs.Tests.{true_false, some_from, some_none_of, none_of_some}
 use Rattle.wordset.proofs.Shifts.{bit_div}
 
 -- ---- lane by lane

@@ -60,36 +60,36 @@ all_pass {it = it} before none a lt is = elim (cases_lt a it.next) [
 
 -- ---- images of the words are put together
 
--- Below a number, a set has what it had at the start and the images of those words of another set that the iterator has given.
-pub record Gathered (most : ℕ) (image : ℕ → Words) (set start found : Words) (it : Iter) : Type 0 where
+-- A set has what it had at the start and the images of those words of another set that the iterator has given.
+pub record Gathered (image : ℕ → Words) (set start found : Words) (it : Iter) : Type 0 where
   pub same : words it.set.now ≡ set
   pub inside : it.next ≤ 4096
-  pub so_far : (v : ℕ) → v < most → found v ≡ (start v || some_below it.next (λ x. set x && image x v))
+  pub so_far : (v : ℕ) → found v ≡ (start v || some_below it.next (λ x. set x && image x v))
 
-pub none_gathered : {most : ℕ} {image : ℕ → Words} {start found : Words} {lanes : List ℕ} {made it : Iter} → GoesFrom lanes 0 made → it ≡ made → ((v : ℕ) → v < most → found v ≡ start v)
-    → Gathered most image (words lanes) start found it
-none_gathered {most} {image} {start} {found} {lanes} {made} {it} begins is same =
+pub none_gathered : {image : ℕ → Words} {start found : Words} {lanes : List ℕ} {made it : Iter} → GoesFrom lanes 0 made → it ≡ made → ((v : ℕ) → found v ≡ start v)
+    → Gathered image (words lanes) start found it
+none_gathered {image} {start} {found} {lanes} {made} {it} begins is same =
     let next : it.next ≡ 0 = ap (λ (i : Iter). i.next) is ∙ begins.next in
     record {
       same = ap (λ (i : Iter). words i.set.now) is ∙ ap (λ l. words l) begins.set;
       inside = omega (arith, next);
-      so_far = λ v h. same v h ∙ sym (ap (λ n. start v || some_below n (λ x. words lanes x && image x v)) next ∙ ap (λ p. start v || p) (some_none (λ x. words lanes x && image x v)) ∙ or_false (start v));
+      so_far = λ v. same v ∙ sym (ap (λ n. start v || some_below n (λ x. words lanes x && image x v)) next ∙ ap (λ p. start v || p) (some_none (λ x. words lanes x && image x v)) ∙ or_false (start v));
     }
 
-pub image_gathered : {most : ℕ} {image : ℕ → Words} {set start found more : Words} {it after : Iter} {w : ℕ} → Gathered most image set start found it → GivesFirst it (Some w) after
-    → ((v : ℕ) → v < most → more v ≡ (found v || image w v)) → Gathered most image set start more after
-image_gathered {most} {image} {set} {start} {found} {more} {it} {after} {w} before gives put =
+pub image_gathered : {image : ℕ → Words} {set start found more : Words} {it after : Iter} {w : ℕ} → Gathered image set start found it → GivesFirst it (Some w) after
+    → ((v : ℕ) → more v ≡ (found v || image w v)) → Gathered image set start more after
+image_gathered {image} {set} {start} {found} {more} {it} {after} {w} before gives put =
     let first : IsFirstFrom it.next set w = subst (λ s. IsFirstFrom it.next s w) before.same gives.0 in
     record {
       same = ap (λ l. words l) gives.1.set ∙ before.same;
       inside = omega (arith, gives.1.next, gives.0.small);
-      so_far = λ v h. put v h ∙ ap (λ p. p || image w v) (before.so_far v h) ∙ or_assoc (start v) (some_below it.next (λ x. set x && image x v)) (image w v)
+      so_far = λ v. put v ∙ ap (λ p. p || image w v) (before.so_far v) ∙ or_assoc (start v) (some_below it.next (λ x. set x && image x v)) (image w v)
           ∙ ap (λ p. start v || p) (some_next it.next w set (λ x. image x v) _ _ first refl refl)
           ∙ ap (λ n. start v || some_below n (λ x. set x && image x v)) (sym gives.1.next);
     }
 
-pub all_gathered : {most : ℕ} {image : ℕ → Words} {set start found : Words} {it : Iter} → Gathered most image set start found it → HasNoneFrom it.next (words it.set.now)
-    → (v : ℕ) → v < most → found v ≡ (start v || some_below 4096 (λ x. set x && image x v))
-all_gathered {most} {image} {set} {start} {found} {it} before none v h =
+pub all_gathered : {image : ℕ → Words} {set start found : Words} {it : Iter} → Gathered image set start found it → HasNoneFrom it.next (words it.set.now)
+    → (v : ℕ) → found v ≡ (start v || some_below 4096 (λ x. set x && image x v))
+all_gathered {image} {set} {start} {found} {it} before none v =
     let left : HasNoneFrom it.next set = subst (λ s. HasNoneFrom it.next s) before.same none in
-    before.so_far v h ∙ ap (λ p. start v || p) (some_last it.next set (λ x. image x v) _ before.inside left refl)
+    before.so_far v ∙ ap (λ p. start v || p) (some_last it.next set (λ x. image x v) _ before.inside left refl)

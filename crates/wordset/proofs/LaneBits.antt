@@ -12,9 +12,9 @@ use Rattle.std.specs.Int.Bits.{or_zero_l}
 use lib.Bits.{or_add_and}
 use lib.Lanes.{zip2, fold_l}
 use Rattle.std.specs.Prelude.{if◌then◌else◌}
-use Rattle.wordset.specs.Words.{Words, SameWords, nothing, everything, all_words, with_word, without, union, meet, difference, one, IsWithin, has_some}
+use Rattle.wordset.specs.Words.{Words, nothing, all_words, with_word, without, union, meet, difference, one, IsWithin, has_some}
 use Rattle.wordset.proofs.Tests.{both_ways, some_none_of, none_of_some}
-use Rattle.wordset.proofs.SetLemmas.{words_bit, words_past, words_are, all_past, all_everything}
+use Rattle.wordset.proofs.SetLemmas.{words_bit, words_past, words_are, all_past, lt_to}
 use Rattle.wordset.specs.Lanes.{words, AreLanes}
 
 -- ---- one bit
@@ -157,7 +157,7 @@ pub empty_is : words (replicate 64 0) ≡ nothing
 empty_is = words_are (replicate 64 0) nothing (λ v g. refl) words-none
 
 pub all_is : words (replicate 64 (2 ^ 64 - 1)) ≡ all_words
-all_is = words_are (replicate 64 (2 ^ 64 - 1)) all_words all_past (λ v h. words-all v h ∙ sym (all_everything v h))
+all_is = words_are (replicate 64 (2 ^ 64 - 1)) all_words all_past (λ v h. words-all v h ∙ sym (lt_to v h))
 
 pub union_is : (a b : List ℕ) → length a ≡ 64 → length b ≡ 64 → words (zip2 bit_or a b) ≡ union (words a) (words b)
 union_is a b la lb = words_are (zip2 bit_or a b) (union (words a) (words b)) (λ v g. rw (words_past a v g, words_past b v g) refl) (words-or a b la lb)
@@ -284,6 +284,3 @@ difference-one a w = fun_ext (λ v. go (a v) (v == w))
     go true false = refl
     go false true = refl
     go false false = refl
-
-pub everything-within : (a : Words) → IsWithin everything a ↔ SameWords a everything
-everything-within a = ((λ f v h. f v h refl), (λ f v h t. f v h))

@@ -1,5 +1,6 @@
 pub mod Tests
 pub mod SetLemmas
+pub mod LinkLemmas
 pub mod LaneBits
 pub mod Counts
 pub mod Shifts

@@ -1,13 +1,13 @@
 -- A word put into each word of a set, bit by bit.
-use Rattle.std.proofs.Common.{◌≡◌, ◌≢◌, ℕ, ◌+◌, ◌%◌, ◌^◌, ◌<◌, ◌==◌, true, ◌&&◌, ◌||◌, sym, ◌∙◌, ap, inl, inr, arith, ◌⊎◌, not}
-use Rattle.std.specs.Prelude.{bit_or, bit_and}
+use Rattle.std.proofs.Common.{◌≡◌, ◌≢◌, ℕ, ◌+◌, ◌%◌, ◌^◌, ◌<◌, ◌==◌, true, ◌&&◌, ◌||◌, sym, ◌∙◌, ap, inl, inr, arith, ◌⊎◌, not, ◌≤◌, false}
+use Rattle.std.specs.Prelude.{bit_or}
 use Rattle.std.specs.Int.{bit_at}
 use Rattle.std.specs.Int.Bits.{or_zero_r}
 use Rattle.std.proofs.lemmas.Bool.{cases_eq, eqb-true, eq-eqb}
-use Rattle.std.proofs.lemmas.Nat.{or_lt, and_le_l}
-use Rattle.std.proofs.lemmas.Nat.Bits.{bit_at-lt, bit_at_or, bit_at_and, bit_at_ones, same_from_bits, same_from_bits_below, bit_at-pow_same, bit_at-pow_other}
+use Rattle.std.proofs.lemmas.Nat.{or_lt}
+use Rattle.std.proofs.lemmas.Nat.Bits.{bit_at-lt, bit_at_or, same_from_bits, bit_at-pow_same, bit_at-pow_other}
 use Rattle.wordset.specs.Bits.{has_bit, put_bit, ors_with}
-use Rattle.wordset.specs.Words.{Words, SameWords, some_below, ors, or_any, minus, everything}
+use Rattle.wordset.specs.Words.{Words, SameWords, minus}
 use Rattle.wordset.proofs.Parts.{weight_small, add_bit, NextMask, next_mask}
 use Rattle.wordset.proofs.Tests.{true_false, both_ways, some_from, some_to, IsSome, and_both, and_first, and_second, or_left, or_right, or_cases}
 
@@ -27,6 +27,11 @@ from_with x b v e = let s : IsSome 4096 (λ y. b y && (bit_or x y == v)) = some_
 
 to_with : (x : ℕ) (b : Words) (v : ℕ) → IsWith x b v → ors_with x b v ≡ true
 to_with x b v s = some_from 4096 (λ y. b y && (bit_or x y == v)) s.word s.small (and_both (b s.word) (bit_or x s.word == v) s.within (eq-eqb _ _ (or_swap x s.word ∙ s.whole)))
+
+pub with_past : (x : ℕ) (b : Words) → x < 4096 → (v : ℕ) → 4096 ≤ v → ors_with x b v ≡ false
+with_past x b h v g = both_ways (ors_with x b v) false
+    (λ t. let s : IsWith x b v = from_with x b v t in let less : bit_or s.word x < 4096 = or_lt 12 s.word x s.small h in let is : bit_or s.word x ≡ v = s.whole in absurd (omega arith))
+    (λ e. absurd (let z : ⊥ = cc in z))
 
 -- one bit more
 more_bit : (at x next y : ℕ) → NextMask at x next → bit_or y next ≡ bit_or (bit_or y x) (2 ^ at)
@@ -112,32 +117,3 @@ with_none mask b v h =
 pub put_bit_same : (at : ℕ) (a b : Words) → at < 12 → SameWords a b → SameWords (put_bit at a) (put_bit at b)
 put_bit_same at a b h same v g = ap (λ p. (p && has_bit at v) || (a (minus v (2 ^ at)) && not (has_bit at (minus v (2 ^ at))))) (same v g)
     ∙ ap (λ p. (b v && has_bit at v) || (p && not (has_bit at (minus v (2 ^ at))))) (same (minus v (2 ^ at)) (omega arith))
-
--- ---- two sets
-
-half : (a b : Words) (v : ℕ) → ors a b v ≡ true → ors b a v ≡ true
-half a b v t =
-    let s : IsSome 4096 (λ x. a x && ors_with x b v) = some_to 4096 (λ x. a x && ors_with x b v) t in
-    let w : IsWith s.at b v = from_with s.at b v (and_second (a s.at) (ors_with s.at b v) s.holds) in
-    some_from 4096 (λ x. b x && ors_with x a v) w.word w.small (and_both (b w.word) (ors_with w.word a v) w.within
-    (to_with w.word a v (record { word = s.at; small = s.small; within = and_first (a s.at) (ors_with s.at b v) s.holds; whole = or_swap s.at w.word ∙ w.whole })))
-
-pub ors_swap : (a b : Words) → SameWords (ors a b) (ors b a)
-ors_swap a b v h = both_ways (ors a b v) (ors b a v) (half a b v) (half b a v)
-
--- all words as the one set: every word is a part of the mask of all bits
-pub ors_all : (a b : Words) → SameWords b everything → SameWords (or_any 4095 a) (ors a b)
-ors_all a b every v h = both_ways (or_any 4095 a v) (ors a b v)
-    (λ t. let s : IsSome 4096 (λ x. a x && some_below 4096 (λ m. (bit_and m 4095 == m) && (bit_or x m == v))) = some_to 4096 (λ x. a x && some_below 4096 (λ m. (bit_and m 4095 == m) && (bit_or x m == v))) t in
-    let m : IsSome 4096 (λ m. (bit_and m 4095 == m) && (bit_or s.at m == v)) = some_to 4096 (λ m. (bit_and m 4095 == m) && (bit_or s.at m == v)) (and_second (a s.at) (some_below 4096 (λ m. (bit_and m 4095 == m) && (bit_or s.at m == v))) s.holds) in
-    some_from 4096 (λ x. a x && ors_with x b v) s.at s.small (and_both (a s.at) (ors_with s.at b v) (and_first (a s.at) (some_below 4096 (λ m. (bit_and m 4095 == m) && (bit_or s.at m == v))) s.holds)
-    (some_from 4096 (λ y. b y && (bit_or s.at y == v)) m.at m.small (and_both (b m.at) (bit_or s.at m.at == v) (every m.at m.small) (and_second (bit_and m.at 4095 == m.at) (bit_or s.at m.at == v) m.holds)))))
-    (λ t. let s : IsSome 4096 (λ x. a x && ors_with x b v) = some_to 4096 (λ x. a x && ors_with x b v) t in
-    let y : IsSome 4096 (λ y. b y && (bit_or s.at y == v)) = some_to 4096 (λ y. b y && (bit_or s.at y == v)) (and_second (a s.at) (ors_with s.at b v) s.holds) in
-    some_from 4096 (λ x. a x && some_below 4096 (λ m. (bit_and m 4095 == m) && (bit_or x m == v))) s.at s.small
-    (and_both (a s.at) (some_below 4096 (λ m. (bit_and m 4095 == m) && (bit_or s.at m == v))) (and_first (a s.at) (ors_with s.at b v) s.holds)
-    (some_from 4096 (λ m. (bit_and m 4095 == m) && (bit_or s.at m == v)) y.at y.small
-    (and_both (bit_and y.at 4095 == y.at) (bit_or s.at y.at == v) (eq-eqb _ _ (whole_part y.at y.small)) (and_second (b y.at) (bit_or s.at y.at == v) y.holds)))))
-  where
-    whole_part : (m : ℕ) → m < 4096 → bit_and m 4095 ≡ m
-    whole_part m h = same_from_bits_below 12 (bit_and m 4095) m (omega (arith, and_le_l m 4095)) h (λ j g. omega (arith, bit_at_and m 4095 j, bit_at_ones 12 j g, bit_at-lt m j))

@@ -7,7 +7,7 @@ use Rattle.std.proofs.lemmas.Nat.{shr-shr}
 use Rattle.std.proofs.lemmas.Nat.Bits.{bit_at_ones, bit_at_cat_high, bit_at-zero}
 use Rattle.wordset.specs.Words.{between, union, all_words}
 use Rattle.wordset.specs.Lanes.{words}
-use Rattle.wordset.proofs.SetLemmas.{words_bit, words_past, equal_words, all_past, all_everything}
+use Rattle.wordset.proofs.SetLemmas.{words_bit, words_past, equal_words, all_past}
 use Rattle.wordset.proofs.LaneBits.{and_bit, not_bit, or_false}
 use Rattle.wordset.proofs.Tests.{both_ways, and_both, and_first, and_second}
 
@@ -109,4 +109,4 @@ union_past old low high h v g = ap (λ p. p || between low high v) (words_past o
 -- all words, from the first one to the last one
 pub all_between : (low high : ℕ) → low ≡ 0 → high ≡ 4095 → all_words ≡ between low high
 all_between low high z e = equal_words all_words (between low high) all_past (λ v g. range_past low high v (omega arith) g)
-    (λ v h. all_everything v h ∙ sym (and_both (nat_le low v) (nat_le v high) (le_to low v (omega arith)) (le_to v high (omega arith))))
+    (λ v h. lt_to v 4096 h ∙ sym (and_both (nat_le low v) (nat_le v high) (le_to low v (omega arith)) (le_to v high (omega arith))))

@@ -4,7 +4,7 @@ use Rattle.std.proofs.lemmas.Bool.{cases_eq}
 use Rattle.wordset.specs.Words.{Words, difference, all_words, IsFirstFrom, HasNoneFrom}
 use Rattle.wordset.specs.Ranging.{IsLastFrom}
 use Rattle.wordset.proofs.Tests.{true_false, and_second}
-use Rattle.wordset.proofs.SetLemmas.{all_everything}
+use Rattle.wordset.proofs.SetLemmas.{lt_to}
 
 not_true : (p : Bool) → not p ≡ true → p ≡ false
 not_true true e = absurd (true_false (sym e))
@@ -16,7 +16,7 @@ not_false false e = absurd (true_false e)
 
 -- a word that isn't among the others is in the set
 in_set : (set others : Words) (v : ℕ) → others ≡ difference all_words set → v < 4096 → others v ≡ false → set v ≡ true
-in_set set others v is h e = not_false (set v) (ap (λ p. p && not (set v)) (sym (all_everything v h)) ∙ sym (ap (λ s. s v) is) ∙ e)
+in_set set others v is h e = not_false (set v) (ap (λ p. p && not (set v)) (sym (lt_to v h)) ∙ sym (ap (λ s. s v) is) ∙ e)
 
 within : (set others : Words) (first : ℕ) → others ≡ difference all_words set → set first ≡ true → (v : ℕ) → first ≤ v → v < 4096 → (first + 1 ≤ v → others v ≡ false) → set v ≡ true
 within set others first is has v from small none = elim (cases_eq v first) [

@@ -9,7 +9,7 @@ use Rattle.std.proofs.Math.Nat.{div-div-eq-div-mul}
 use Rattle.std.proofs.lemmas.List.{get_or-map, length-map}
 use Rattle.std.proofs.lemmas.Simd.{get_or-zip2, zip2_splat, map-map, get_or-put_chunk_below, get_or-put_chunk_at, length-put_chunk, get_or-chunk, length-chunk}
 use lib.Lanes.{zip2, chunk, put_chunk}
-use Rattle.wordset.specs.Words.{shifted, minus}
+use Rattle.wordset.specs.Words.{minus}
 use Rattle.wordset.specs.Lanes.{words, AreLanes, twice}
 use Rattle.wordset.proofs.SetLemmas.{words_bit}
 use Rattle.wordset.proofs.LaneBits.{or_bit, or_false}
@@ -77,7 +77,7 @@ length-turned x at h = length-chunk at 64 (twice x) (omega (arith, length-put_ch
 abbrev pub moved : List ℕ → ℕ → List ℕ
 moved x k = zip2 bit_or (map (up (k % 64)) (chunk (64 - k / 64) 64 (twice x))) (map (down (k % 64)) (chunk (63 - k / 64) 64 (twice x)))
 
-pub words-moved : (x : List ℕ) (k : ℕ) → AreLanes x → k < 4096 → (v : ℕ) → v < 4096 → words (moved x k) v ≡ shifted (words x) k v
+pub words-moved : (x : List ℕ) (k : ℕ) → AreLanes x → k < 4096 → (v : ℕ) → v < 4096 → words (moved x k) v ≡ words x (minus v k)
 words-moved x k is small v h = words_bit (moved x k) v h ∙ ap (λ y. bit_at y (v % 64) == 1) lane ∙ or_bit (up r n) (down r f) j ∙ cases (cases_lt j r) ∙ sym (words_bit x (minus v k) (omega arith))
   where
     r : ℕ
@@ -132,7 +132,7 @@ words-moved x k is small v h = words_bit (moved x k) v h ∙ ap (λ y. bit_at y 
 pub words-shift : (x near far lanes : List ℕ) (k : ℕ) → AreLanes x → k < 4096
     → near ≡ chunk (64 - k / 64) 64 (twice x) → far ≡ chunk (63 - k / 64) 64 (twice x)
     → lanes ≡ zip2 bit_or (map (up (k % 64)) near) (map (down (k % 64)) far)
-    → (v : ℕ) → v < 4096 → words lanes v ≡ shifted (words x) k v
+    → (v : ℕ) → v < 4096 → words lanes v ≡ words x (minus v k)
 words-shift x near far lanes k is small c d e v h =
     let lanes_is : lanes ≡ moved x k = e ∙ ap (λ t. zip2 bit_or (map (up (k % 64)) t) (map (down (k % 64)) far)) c
     ∙ ap (λ t. zip2 bit_or (map (up (k % 64)) (chunk (64 - k / 64) 64 (twice x))) (map (down (k % 64)) t)) d in

@@ -1,6 +1,5 @@
--- Sets of words as tests on numbers, and the mathematical image of each call. Words are the numbers below 4096: two sets
--- have the same words where they agree below 4096, whatever the tests say of larger numbers. A set that is kept by lanes
--- has no larger number, so an image that has none either is equal to it.
+-- Sets of words as tests on numbers, and the mathematical image of each call. Words are the numbers below 4096. No set
+-- here has a larger number, where its arguments and f give words alone: so two sets with the same words are equal.
 use Rattle.std.specs.Prelude.{◌≡◌, ℕ, ◌+◌, ◌-◌, ◌/◌, ◌%◌, ◌<◌, ◌≤◌, ◌==◌, nat_le, nat_lt, Bool, true, false, not, ◌&&◌, ◌||◌, if◌then◌else◌, Option, Some, None, bit_and, bit_or}
 use Rattle.std.proofs.Common.{zero, suc}
 
@@ -16,17 +15,13 @@ minus a b = (a + (4096 - b % 4096)) % 4096
 abbrev pub Words : Type 0
 Words = ℕ → Bool
 
--- The two sets have the same words.
+-- The two sets have the same words; larger numbers don't matter.
 abbrev pub SameWords : Words → Words → Type 0
 SameWords a b = (v : ℕ) → v < 4096 → a v ≡ b v
 
--- Each word of the one set is in the other.
+-- Each word of the one set is in the other; larger numbers don't matter.
 abbrev pub IsWithin : Words → Words → Type 0
 IsWithin a b = (v : ℕ) → v < 4096 → a v ≡ true → b v ≡ true
-
--- The two sets have the same links: they agree on 0 and 1, whatever they say of larger numbers.
-abbrev pub SameLinks : Words → Words → Type 0
-SameLinks a b = (k : ℕ) → k < 2 → a k ≡ b k
 
 -- Each link of the one set, 0 or 1, is in the other; larger numbers don't matter.
 abbrev pub IsLinkWithin : Words → Words → Type 0
@@ -60,13 +55,13 @@ has_link set = some_below 2 set
 abbrev pub nothing : Words
 nothing v = false
 
--- The set of all numbers, those from 4096 on too.
-abbrev pub everything : Words
-everything v = true
-
 -- The set of all words, and of no number from 4096 on.
 abbrev pub all_words : Words
 all_words v = nat_lt v 4096
+
+-- The set of both links, 0 and 1.
+abbrev pub all_links : Words
+all_links k = nat_lt k 2
 
 -- One word alone.
 abbrev pub one : ℕ → Words
@@ -105,17 +100,17 @@ only_of set (Some k) = if some_below 4096 (without k set) then None else Some k
 unfoldable pub only : Words → Option ℕ
 only set = only_of set (first_below 4096 set)
 
--- All a + k for a in the set.
+-- All a + k, modulo 4096, for a in the set: the words v for which v - k is in the set.
 abbrev pub shifted : Words → ℕ → Words
-shifted set k v = set (minus v k)
+shifted set k v = nat_lt v 4096 && set (minus v k)
 
 -- The complements 4095 - a of the words of the set.
 abbrev pub mirrored : Words → Words
-mirrored set v = set (4095 - v)
+mirrored set v = nat_lt v 4096 && set (4095 - v)
 
 -- The words that are sums a + b, modulo 4096, of a word a of the one set and a word b of the other.
 abbrev pub sums : Words → Words → Words
-sums a b v = some_below 4096 (λ x. a x && b (minus v x))
+sums a b v = nat_lt v 4096 && some_below 4096 (λ x. a x && b (minus v x))
 
 -- The carries of all a + b: 1 where one of these sums is 4096 or more, 0 where one is less.
 abbrev pub carries : Words → Words → Words
@@ -123,7 +118,7 @@ carries a b k = some_below 4096 (λ x. a x && some_below 4096 (λ y. b y && ((x 
 
 -- The links after such a sum: without a carry the link stays, and a carry complements it.
 abbrev pub toggled : Words → Words → Words
-toggled links carried k = (carried 0 && links k) || (carried 1 && links (1 - k))
+toggled links carried k = nat_lt k 2 && ((carried 0 && links k) || (carried 1 && links (1 - k)))
 
 -- All a and b, bit by bit.
 abbrev pub ands : Words → Words → Words

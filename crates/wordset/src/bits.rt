@@ -5,7 +5,7 @@
 
 ghost use Rattle.std.specs.Prelude.{◌≡◌, ◌<◌, ◌+◌, ◌*◌, ◌^◌, ◌==◌, ◌&&◌, ◌||◌, bit_and, ℕ};
 ghost use Rattle.std.specs.Int.{bit_at};
-ghost use Rattle.wordset.specs.Words.{SameWords, some_below, ands, ors, or_any, everything};
+ghost use Rattle.wordset.specs.Words.{SameWords, some_below, ands, ors, or_any, all_words};
 ghost use Rattle.wordset.specs.Lanes.{words};
 ghost use Rattle.wordset.specs.Bits.{has_bit, doubled, halved, put_bit, ors_with};
 
@@ -19,7 +19,7 @@ impl WordSet {
     /// The words a or m, for the words a of the set and all parts m of the mask: the words with
     /// bits of the mask alone.
     pub fn or_any(&self, mask: Word) -> WordSet
-        ensures { SameWords (words result) (or_any mask (words self.now)) }
+        ensures { words result ≡ or_any mask (words self.now) }
     {
         let parts = mask.index();
         let mut found = *self;
@@ -33,7 +33,7 @@ impl WordSet {
 
     /// The words a or b, for the words a of this set and b of the other.
     pub fn ors(&self, other: &WordSet) -> WordSet
-        ensures { SameWords (words result) (ors (words self.now) (words other.now)) }
+        ensures { words result ≡ ors (words self.now) (words other.now) }
     {
         if self.count() <= other.count() {
             self.ors_by_word(other)
@@ -45,7 +45,7 @@ impl WordSet {
     /// The words a and b, for the words a of this set and b of the other: the complement of `a and
     /// b` is the `or` of the complements.
     pub fn ands(&self, other: &WordSet) -> WordSet
-        ensures { SameWords (words result) (ands (words self.now) (words other.now)) }
+        ensures { words result ≡ ands (words self.now) (words other.now) }
     {
         if other.is_all() {
             return self.ands_with_all();
@@ -62,14 +62,14 @@ impl WordSet {
     /// The words a and b, by the complements of both sets.
     #[inline(never)]
     fn ands_by_complements(&self, other: &WordSet) -> WordSet
-        ensures { SameWords (words result) (ands (words self.now) (words other.now)) }
+        ensures { words result ≡ ands (words self.now) (words other.now) }
     {
         self.complements().ors(&other.complements()).complements()
     }
 
     /// The words a and b, pair by pair; quick where there are few.
     fn ands_of_few(&self, other: &WordSet) -> WordSet
-        ensures { SameWords (words result) (ands (words self.now) (words other.now)) }
+        ensures { words result ≡ ands (words self.now) (words other.now) }
     {
         let mut found = WordSet::empty();
         for word in self.iter() {
@@ -80,7 +80,7 @@ impl WordSet {
 
     /// Puts the words a and b into a set, for one word a and each word b of this set.
     fn put_ands_with(&self, word: Word, found: &mut WordSet)
-        ensures { (v : ℕ) → v < 4096 → words found.new v ≡
+        ensures { (v : ℕ) → words found.new v ≡
             (words found.old v || some_below 4096 (λ y. words self.now y && (bit_and word y == v))) }
     {
         for other in self.iter() {
@@ -90,7 +90,7 @@ impl WordSet {
 
     /// The words a and b, for the words a of the set and all words b.
     fn ands_with_all(&self) -> WordSet
-        ensures { SameWords (words result) (ands (words self.now) everything) }
+        ensures { words result ≡ ands (words self.now) all_words }
     {
         let mut found = *self;
         for at in 0..12usize {
@@ -101,7 +101,7 @@ impl WordSet {
 
     /// The words a or b, for each word a of this set; quick where the other set is all words.
     fn ors_by_word(&self, other: &WordSet) -> WordSet
-        ensures { SameWords (words result) (ors (words self.now) (words other.now)) }
+        ensures { words result ≡ ors (words self.now) (words other.now) }
     {
         if other.is_all() {
             return self.or_any(Word::from_index(0o7777));
@@ -115,7 +115,7 @@ impl WordSet {
 
     /// The words a or b, for one word a and the words b of the set.
     fn or_word(&self, word: Word) -> WordSet
-        ensures { SameWords (words result) (ors_with word (words self.now)) }
+        ensures { words result ≡ ors_with word (words self.now) }
     {
         let bits = word.index();
         let mut found = *self;

@@ -7,7 +7,7 @@
 ghost use Rattle.std.specs.Prelude.{◌≡◌, ◌<◌, ◌≤◌, ◌+◌, ◌-◌, ◌*◌, ◌/◌, ◌%◌, ◌^◌, ◌==◌, ◌↔◌, ℕ, nat_lt, map, bit_and, bit_or, length, not, slice_index, IsTrue, MatchOption};
 ghost use Rattle.std.specs.Int.{bit_at};
 ghost use Rattle.std.specs.Simd.Lanes.{zip2, chunk, put_chunk};
-ghost use Rattle.wordset.specs.Words.{SameWords, IsWithin, nothing, everything, all_words, one, between, with_word, without, union, meet, difference, shifted, has_some, how_many, first_below, only, mirrored, IsFirstFrom, HasNoneFrom, IsGreatest};
+ghost use Rattle.wordset.specs.Words.{IsWithin, nothing, all_words, one, between, with_word, without, union, meet, difference, shifted, has_some, how_many, first_below, only, mirrored, IsFirstFrom, HasNoneFrom, IsGreatest};
 ghost use Rattle.wordset.specs.Lanes.{words, twice};
 
 use std::marker::Model;
@@ -143,7 +143,7 @@ impl WordSet {
 
     /// Whether every word is in the set.
     pub fn is_all(&self) -> bool
-        ensures { IsTrue result ↔ SameWords (words self.now) everything }
+        ensures { IsTrue result ↔ (words self.now ≡ all_words) }
     {
         WordSet::all().is_subset(self)
     }
@@ -201,7 +201,7 @@ impl WordSet {
     /// The greatest word.
     pub fn greatest(&self) -> Option<Word>
         ensures { MatchOption result
-            (SameWords (words self.now) nothing)
+            (words self.now ≡ nothing)
             (λ w. IsGreatest (words self.now) w) }
     {
         for n in 0..64usize {
@@ -266,7 +266,7 @@ impl WordSet {
 
     /// The words a + k, modulo 4096, for the words a of the set.
     pub fn shift(&self, k: Word) -> WordSet
-        ensures { SameWords (words result) (shifted (words self.now) k) }
+        ensures { words result ≡ shifted (words self.now) k }
     {
         if k.index() == 0 {
             return *self;
@@ -276,7 +276,7 @@ impl WordSet {
 
     /// Keeps the words that are a + k, modulo 4096, for a word a of another set.
     pub fn keep_shifted(&mut self, other: &WordSet, k: Word)
-        ensures { SameWords (words self.new) (meet (words self.old) (shifted (words other.now) k)) }
+        ensures { words self.new ≡ meet (words self.old) (shifted (words other.now) k) }
     {
         let shifted = other.shift(k);
         let both = u64x64::from_array(self.lanes) & u64x64::from_array(shifted.lanes);
@@ -297,7 +297,7 @@ impl WordSet {
     /// The same shift, from the lanes of the set stored twice.
     fn shift_from(&self, lanes: &[u64; 128], k: Word) -> WordSet
         requires { lanes.now ≡ twice self.now }
-        ensures { SameWords (words result) (shifted (words self.now) k) }
+        ensures { words result ≡ shifted (words self.now) k }
     {
         // The proof needs the lanes of the set itself.
         let _set = &self.lanes;
@@ -311,7 +311,7 @@ impl WordSet {
 
     /// The complements 7777 - a of the words a of the set.
     pub fn complements(&self) -> WordSet
-        ensures { SameWords (words result) (mirrored (words self.now)) }
+        ensures { words result ≡ mirrored (words self.now) }
     {
         let mut lanes = [0u64; 64];
         for i in 0..64usize {

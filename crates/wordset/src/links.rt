@@ -1,7 +1,7 @@
 //! Sets of links and of carries.
 
 ghost use Rattle.std.specs.Prelude.{◌≡◌, ◌<◌, ◌==◌, ◌||◌, ◌↔◌, ℕ, IsTrue, not};
-ghost use Rattle.wordset.specs.Words.{SameLinks, IsLinkWithin, nothing, everything, one, has_link, toggled, union, with_word};
+ghost use Rattle.wordset.specs.Words.{IsLinkWithin, nothing, all_links, one, has_link, toggled, union, with_word};
 
 use word12::Link;
 
@@ -19,7 +19,7 @@ impl Links {
 
     /// The set with no link.
     pub fn none() -> Links
-        ensures { SameLinks (links_of result) nothing }
+        ensures { links_of result ≡ nothing }
     {
         Links {
             clear: false,
@@ -29,7 +29,7 @@ impl Links {
 
     /// The set of both links.
     pub fn both() -> Links
-        ensures { SameLinks (links_of result) everything }
+        ensures { links_of result ≡ all_links }
     {
         Links {
             clear: true,
@@ -39,7 +39,7 @@ impl Links {
 
     /// The set of one link.
     pub fn one(link: Link) -> Links
-        ensures { SameLinks (links_of result) (one link) }
+        ensures { links_of result ≡ one link }
     {
         Links {
             clear: !link.is_set(),
@@ -70,14 +70,14 @@ impl Links {
 
     /// The set with a link more.
     pub fn with(self, link: Link) -> Links
-        ensures { SameLinks (links_of result) (with_word link (links_of self)) }
+        ensures { links_of result ≡ with_word link (links_of self) }
     {
         self.union(Links::one(link))
     }
 
     /// The links of either set.
     pub fn union(self, other: Links) -> Links
-        ensures { SameLinks (links_of result) (union (links_of self) (links_of other)) }
+        ensures { links_of result ≡ union (links_of self) (links_of other) }
     {
         Links {
             clear: self.clear || other.clear,
@@ -88,7 +88,7 @@ impl Links {
     /// The links after sums with these carries: a carry complements the link, and without one it
     /// stays.
     pub fn toggled(self, carries: Carries) -> Links
-        ensures { SameLinks (links_of result) (toggled (links_of self) (carries_of carries)) }
+        ensures { links_of result ≡ toggled (links_of self) (carries_of carries) }
     {
         Links {
             clear: carries.absent && self.clear || carries.present && self.set,

@@ -1,7 +1,7 @@
 //! Sums of words of two sets, and their carries.
 
 ghost use Rattle.std.specs.Prelude.{◌≡◌, ℕ};
-ghost use Rattle.wordset.specs.Words.{SameWords, SameLinks, sums, carries};
+ghost use Rattle.wordset.specs.Words.{sums, carries};
 ghost use Rattle.wordset.specs.Lanes.{words};
 ghost use Rattle.wordset.specs.Links.{carries_of};
 
@@ -11,9 +11,8 @@ impl WordSet {
     /// The sums a + b, modulo 4096, of the words a of this set and b of the other, and the carries
     /// with which they come.
     pub fn sums(&self, other: &WordSet) -> (WordSet, Carries)
-        ensures words { SameWords (words result.0) (sums (words self.now) (words other.now)) }
-        ensures carries { SameLinks (carries_of result.1)
-            (carries (words self.now) (words other.now)) }
+        ensures words { words result.0 ≡ sums (words self.now) (words other.now) }
+        ensures carries { carries_of result.1 ≡ carries (words self.now) (words other.now) }
     {
         let carries = Carries {
             absent: self.has_sum_without_carry(other),
@@ -24,7 +23,7 @@ impl WordSet {
 
     /// The sums; quick where one of the sets has one word.
     fn all_sums(&self, other: &WordSet) -> WordSet
-        ensures { SameWords (words result) (sums (words self.now) (words other.now)) }
+        ensures { words result ≡ sums (words self.now) (words other.now) }
     {
         if let Some(word) = self.only() {
             return other.shift(word);
@@ -43,7 +42,7 @@ impl WordSet {
     /// is all words.
     #[inline(never)]
     fn sums_by_word(&self, other: &WordSet) -> WordSet
-        ensures { SameWords (words result) (sums (words self.now) (words other.now)) }
+        ensures { words result ≡ sums (words self.now) (words other.now) }
     {
         if other.is_all() && !self.is_empty() {
             return WordSet::all();

@@ -1,16 +1,13 @@
 use Rattle.certificate.specs.Faults.{AsksForMemory}
 use Rattle.certificate.specs.Serving.{IsUnanswered}
-use Rattle.certificate.proofs.ServedLemmas.{gave, serves_refused, serves_only, serves_exact}
+use Rattle.certificate.proofs.ServedLemmas.{gave, serves_read, serves_refused}
 use Rattle.certificate.proofs.Certificate.read_from.Goals as goal
 
-pub returns-clause-only : goal.returns-clause-only
-returns-clause-only g c = serves_only _ _ c.read_source.result c.read_source.ensures.serves
+pub returns-clause-read : goal.returns-clause-read
+returns-clause-read g c = serves_read _ _ c.read_source.result c.read_source.ensures.serves
 
 pub returns-clause-refused : goal.returns-clause-refused
 returns-clause-refused g c = serves_refused _ _ c.read_source.result c.read_source.ensures.serves
-
-pub returns-clause-exact : goal.returns-clause-exact
-returns-clause-exact g c = serves_exact _ _ c.read_source.result c.read_source.ensures.serves
 
 pub returns-clause-unanswered : goal.returns-clause-unanswered
 returns-clause-unanswered g c = λ e.

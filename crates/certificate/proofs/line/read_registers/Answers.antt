@@ -37,8 +37,7 @@ returns c =
           let none : length c.args.runs.now.items ≡ 0 = ap length c.requires in
           let first = c.skip.ensures.only _ (e ∙ ap (λ (x : List ℕ). Some x) (words_fields c.args.version r rest)) in
           let set = c.some_set-one.ensures.only r.ac _ (omega arith) form.ac (mq_space c.args.version r.mq _) first in
-          let few : length c.some_set-one.new.runs.items ≤ length c.args.runs.now.items + 2048 = set.2 in
-          let after = c.read_mq-other.ensures.only r.mq _ (omega arith) form.mq refl set.1 in
-          let last = c.links-link.ensures.only r.link rest form.link ends (c.skip-2.ensures.only _ after.1) in
-          (record { ac = rw l.one_is set.0; mq = rw l.other_is after.0; link = last.0 }, last.1);
+          let few : length c.some_set-one.new.runs.items ≤ length c.args.runs.now.items + 2048 = set.1 in
+          let after = c.read_mq-other.ensures.only r.mq _ (omega arith) form.mq refl set.0 in
+          c.links-link.ensures.only r.link rest form.link ends (c.skip-2.ensures.only _ after);
     }

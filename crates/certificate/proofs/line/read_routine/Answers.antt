@@ -1,6 +1,5 @@
-use Rattle.std.proofs.Common.{◌≡◌, ◌+◌, ◌≤◌, refl, ap, ◌∙◌, sym, List, ℕ, [], Some, length, arith}
+use Rattle.std.proofs.Common.{◌≡◌, ◌+◌, ◌≤◌, refl, ap, ◌∙◌, List, ℕ, [], Some, length, arith}
 use Rattle.std.specs.Prelude.{codes, ◌++◌}
-use Rattle.std.proofs.lemmas.Bool.{false≢true}
 use Rattle.word12.specs.Words.{octal_text}
 use Rattle.certificate.specs.Fields.{left}
 use Rattle.certificate.proofs.PackedLemmas.{from_none}
@@ -8,7 +7,6 @@ use Rattle.certificate.proofs.LineLemmas.{both, whole, routine_fields}
 use Rattle.certificate.specs.Spelling.{RoutineLine, RoutineIs, set_text, rank_text}
 use Rattle.certificate.specs.Order.{Spells}
 use Rattle.certificate.specs.Packed.{added, routine_at}
-use Rattle.certificate.proofs.OneLineLemmas.{line_one}
 use Rattle.certificate.proofs.line.read_routine.Goals as goal
 
 pub returns-then-is_done : goal.returns-then-is_done
@@ -34,7 +32,7 @@ returns-then-is_done c =
           (both f0 f1 f2 (codes "routine ") (octal_text c.word-entry.result)
           c.skip.ensures.read c.word-entry.ensures.read) c.skip-2.ensures.read) c.rank-rank.ensures.read) c.skip-3.ensures.read) c.set-one.ensures.read) c.skip-4.ensures.read) c.set-other.ensures.read),
     ) in
-    record { within = l.within; read = spells; only = λ r form e. line_one c.args.version (RoutineIs said) (RoutineIs r) spells.0 form (sym spells.1 ∙ e) }
+    record { within = l.within; eight = tt; read = spells; only = λ r form e. refl }
 
 pub returns-else-is_done-clause-only : goal.returns-else-is_done-clause-only
 returns-else-is_done-clause-only c = λ r form e.
@@ -43,6 +41,6 @@ returns-else-is_done-clause-only c = λ r form e.
     (c.skip.ensures.only _ (c.of-fields.ensures ∙ ap (λ (x : List ℕ). Some x) (e ∙ routine_fields r))) in
     let rank = c.rank-rank.ensures.only r.rank _ form.rank (c.skip-2.ensures.only _ entry.1) in
     let sites = c.set-one.ensures.only r.sites _ (omega arith) refl (c.skip-3.ensures.only _ rank.1) in
-    let few : length c.set-one.new.runs.items ≤ length c.args.runs.now.items + 2048 = sites.2 in
-    let writes = c.set-other.ensures.only r.writes [] (omega arith) tt (c.skip-4.ensures.only _ sites.1) in
-    false≢true (c.if-is_done.ensures.1 writes.1)
+    let few : length c.set-one.new.runs.items ≤ length c.args.runs.now.items + 2048 = sites.1 in
+    let writes = c.set-other.ensures.only r.writes [] (omega arith) tt (c.skip-4.ensures.only _ sites.0) in
+    c.if-is_done.ensures.1 writes.0

@@ -1,5 +1,4 @@
-use Rattle.std.proofs.Common.{◌∙◌, ap}
-use Rattle.wordset.specs.Words.{Words}
+use Rattle.std.proofs.Common.{◌∙◌}
 use Rattle.certificate.proofs.packed.begin_said.Goals as goal
 
 pub returns-in-Fact-clause-says : goal.returns-in-Fact-clause-says
@@ -7,4 +6,4 @@ returns-in-Fact-clause-says c = rw c.in-Fact.is (λ here. (c.begin.ensures.state
 
 pub returns-in-Exit-clause-says : goal.returns-in-Exit-clause-says
 returns-in-Exit-clause-says c =
-    rw c.in-Exit.is (λ here. (c.begin-in-Exit.ensures.statement, λ o h. ap (λ (f : Words). f o) c.begin-in-Exit.ensures.offsets ∙ c.all.ensures o h))
+    rw c.in-Exit.is (λ here. (c.begin-in-Exit.ensures.statement, c.begin-in-Exit.ensures.offsets ∙ c.all.ensures))

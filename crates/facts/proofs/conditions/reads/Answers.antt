@@ -1,5 +1,4 @@
-use Rattle.std.proofs.Common.{subst}
-use Rattle.wordset.specs.Words.{SameWords}
+use Rattle.std.proofs.Common.{subst, ◌≡◌}
 use Rattle.wordset.specs.Lanes.{words}
 use Rattle.instruct.specs.Instructions.{operation_of}
 use Rattle.facts.specs.Conditions.{may_read}
@@ -14,6 +13,6 @@ returns-then-not-is_reference g c = no_words _ _ c.empty.ensures (reads_none (pl
 pub returns : goal.returns
 returns g c =
     let pl = place_of c.args.place.now in
-    subst (λ m. SameWords (words c.union_if.result) (may_read pl (meaning c.args.fact.now) m))
+    subst (λ m. words c.union_if.result ≡ may_read pl (meaning c.args.fact.now) m)
     (refers_to pl c.args.at c.args.word _ _ ((c.is_reference.ensures c.args.at).0 c.if-not-is_reference.false) c.refers_indirectly-indirect.ensures c.target-named.ensures)
     (reads_reference _ _ _ pl (meaning c.args.fact.now) (operation_of c.args.word) _ _ _ c.reads_operand.ensures c.union_if.ensures c.named_if.ensures c.targets_at-targets.ensures)

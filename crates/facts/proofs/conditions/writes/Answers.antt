@@ -1,5 +1,5 @@
-use Rattle.std.proofs.Common.{refl, sym, ap, subst}
-use Rattle.wordset.specs.Words.{Words, SameWords}
+use Rattle.std.proofs.Common.{refl, sym, ap, subst, ◌≡◌}
+use Rattle.wordset.specs.Words.{Words}
 use Rattle.wordset.specs.Lanes.{words}
 use Rattle.wordset.proofs.LaneBits.{or_false}
 use Rattle.instruct.specs.Instructions.{operation_of}
@@ -16,22 +16,22 @@ returns-then-not-is_reference g c = no_words _ _ c.empty.ensures (writes_none (p
 pub returns-then-not-indirect : goal.returns-then-not-indirect
 returns-then-not-indirect g c =
     let pl = place_of c.args.place.now in
-    subst (λ m. SameWords (words c.named_if.result) (may_write pl (meaning c.args.fact.now) m))
+    subst (λ m. words c.named_if.result ≡ may_write pl (meaning c.args.fact.now) m)
     (refers_to pl c.args.at c.args.word _ _ ((c.is_reference.ensures c.args.at).0 c.if-not-is_reference.false) c.refers_indirectly-indirect.ensures c.target-named.ensures)
     (writes_direct _ pl (meaning c.args.fact.now) (operation_of c.args.word) _ _ _ c.if-not-indirect.true c.stores-is_stored.ensures c.named_if.ensures)
 
 pub returns-then-not-is_stored : goal.returns-then-not-is_stored
 returns-then-not-is_stored g c =
     let pl = place_of c.args.place.now in
-    subst (λ m. SameWords (words c.named_if-pointer.result) (may_write pl (meaning c.args.fact.now) m))
+    subst (λ m. words c.named_if-pointer.result ≡ may_write pl (meaning c.args.fact.now) m)
     (refers_to pl c.args.at c.args.word _ _ ((c.is_reference.ensures c.args.at).0 c.if-not-is_reference.false) c.refers_indirectly-indirect.ensures c.target-named.ensures)
     (writes_reference _ _ (targets pl c.refers_indirectly-indirect.result c.target-named.result (meaning c.args.fact.now)) pl (meaning c.args.fact.now) (operation_of c.args.word) _ _ _ _ c.stores-is_stored.ensures c.steps_pointer.ensures
-    (λ a. rw c.if-not-is_stored.true (sym (or_false _))) c.named_if-pointer.ensures (λ v lt. refl))
+    (λ a. rw c.if-not-is_stored.true (sym (or_false _))) c.named_if-pointer.ensures refl)
 
 pub returns : goal.returns
 returns g c =
     let pl = place_of c.args.place.now in
-    subst (λ m. SameWords (words c.union.result) (may_write pl (meaning c.args.fact.now) m))
+    subst (λ m. words c.union.result ≡ may_write pl (meaning c.args.fact.now) m)
     (refers_to pl c.args.at c.args.word _ _ ((c.is_reference.ensures c.args.at).0 c.if-not-is_reference.false) c.refers_indirectly-indirect.ensures c.target-named.ensures)
     (writes_reference _ _ _ pl (meaning c.args.fact.now) (operation_of c.args.word) _ _ _ _ c.stores-is_stored.ensures c.steps_pointer.ensures
     (λ a. rw c.if-not-is_stored.false (ap (λ (x : Words). x a) c.union.ensures)) c.named_if-pointer.ensures c.targets_at.ensures)

@@ -1,8 +1,6 @@
-use Rattle.facts.proofs.OutcomeLemmas.{append_agree, keeps_agreeing}
 use Rattle.facts.proofs.dispatch.branches.Goals as goal
+use Rattle.facts.proofs.OutcomeLemmas.{append_none, append_both}
+use Rattle.std.proofs.Common.{◌∙◌}
 
 pub returns : goal.returns
-returns c = λ f h.
-    append_agree _ _ _ _ (c.branch-first.ensures f h)
-    (append_agree _ _ _ _ (c.branch-second.ensures f h)
-    (append_agree _ _ _ _ (c.branch-third.ensures f h) (keeps_agreeing _ _ (c.branch-fourth.ensures f h))))
+returns c = append_both c.branch-first.ensures (append_both c.branch-second.ensures (append_both c.branch-third.ensures (append_none _ ∙ c.branch-fourth.ensures)))

@@ -1,7 +1,6 @@
 use Rattle.std.proofs.Common.{◌<◌, subst}
-use Rattle.wordset.specs.Lanes.{words}
 use Rattle.facts.proofs.OneTarget.{direct_only}
 use Rattle.facts.proofs.dispatch.single_target.Goals as goal
 
 pub returns : goal.returns
-returns c = direct_only (words c.args.targets.now) c.args.named (subst (λ n. n < 4096) c.index-index.ensures.same c.index-index.ensures.small) (c.requires c.if-indirect.false)
+returns c = rw (c.requires c.if-indirect.false) (direct_only c.args.named (subst (λ n. n < 4096) c.index-index.ensures.same c.index-index.ensures.small))

@@ -1,30 +1,28 @@
 use Rattle.std.proofs.Common.{refl, ap, sym, ◌∙◌}
-use Rattle.wordset.specs.Words.{Words, SameWords, one, ors}
+use Rattle.wordset.specs.Words.{Words, one, ors, all_words, plus}
 use Rattle.wordset.specs.Lanes.{words}
 use Rattle.instruct.specs.Operates.{Mql, Mqa, Swp, ClaMqa}
-use Rattle.domain.specs.Facts.{Ac, narrowed}
-use Rattle.facts.proofs.PlaceLemmas.{ors_same}
-use Rattle.facts.proofs.AgreeLemmas.{narrowed_agree}
-use Rattle.facts.proofs.RegisterLemmas.{exchange_is, kept_mq}
+use Rattle.domain.specs.Facts.{Ac, Fact, narrowed}
+use Rattle.facts.proofs.RegisterLemmas.{exchange_is, same_mq}
 use Rattle.facts.proofs.registers.exchange.Goals as goal
+use Rattle.facts.specs.Outcomes.{goes}
+use Rattle.domain.specs.Changes.{strongly_updated, with_mq}
+use Rattle.facts.specs.Knowing.{fact_of_state}
 
 pub returns-in-3857 : goal.returns-in-3857
-returns-in-3857 c = λ o f is h.
-    exchange_is _ c.args.at c.args.word 3857 Mql o f (sym c.value.ensures.same ∙ c.in-3857.is) refl is
-    (c.take.ensures f (one 0) (narrowed f Ac) h (λ v lt. ap (λ (x : Words). x v) c.one-zero.ensures) (λ v lt. c.narrowed-ac.ensures v lt ∙ narrowed_agree h Ac v lt))
+returns-in-3857 c = λ o is. exchange_is c.args.at c.args.word 3857 Mql o (fact_of_state c.args.state.now) (sym c.value.ensures.same ∙ c.in-3857.is) refl is
+    (c.take.ensures ∙ ap (λ (x : Words). goes all_words (fact_of_state c.args.state.now) all_words (one (plus c.args.at 1)) (with_mq x (strongly_updated Ac (words c.one-zero.result) (fact_of_state c.args.state.now)))) c.narrowed-ac.ensures
+    ∙ ap (λ (x : Words). goes all_words (fact_of_state c.args.state.now) all_words (one (plus c.args.at 1)) (with_mq (narrowed (fact_of_state c.args.state.now) Ac) (strongly_updated Ac x (fact_of_state c.args.state.now)))) c.one-zero.ensures)
 
 pub returns-in-3905 : goal.returns-in-3905
-returns-in-3905 c = λ o f is h.
-    let ac : SameWords (words c.narrowed-ac.result) (narrowed f Ac) = λ v lt. c.narrowed-ac.ensures v lt ∙ narrowed_agree h Ac v lt in
-    exchange_is _ c.args.at c.args.word 3905 Mqa o f (sym c.value.ensures.same ∙ c.in-3905.is) refl is
-    (kept_mq _ c.args.at f (ors (narrowed f Ac) f.mq) (c.take-in-3905.ensures f (ors (narrowed f Ac) f.mq) f.mq h (λ v lt. c.ors.ensures v lt ∙ ors_same ac h.mq v lt) h.mq))
+returns-in-3905 c = λ o is. exchange_is c.args.at c.args.word 3905 Mqa o (fact_of_state c.args.state.now) (sym c.value.ensures.same ∙ c.in-3905.is) refl is
+    (c.take-in-3905.ensures ∙ ap (λ (x : Fact). goes all_words (fact_of_state c.args.state.now) all_words (one (plus c.args.at 1)) x) (same_mq (fact_of_state c.args.state.now) _
+    ∙ ap (λ (x : Words). strongly_updated Ac x (fact_of_state c.args.state.now)) (c.ors.ensures ∙ ap (λ (x : Words). ors x (words c.args.state.now.mq.now)) c.narrowed-ac.ensures)))
 
 pub returns-in-3921 : goal.returns-in-3921
-returns-in-3921 c = λ o f is h.
-    exchange_is _ c.args.at c.args.word 3921 Swp o f (sym c.value.ensures.same ∙ c.in-3921.is) refl is
-    (c.take-in-3921.ensures f f.mq (narrowed f Ac) h h.mq (λ v lt. c.narrowed-ac.ensures v lt ∙ narrowed_agree h Ac v lt))
+returns-in-3921 c = λ o is. exchange_is c.args.at c.args.word 3921 Swp o (fact_of_state c.args.state.now) (sym c.value.ensures.same ∙ c.in-3921.is) refl is
+    (c.take-in-3921.ensures ∙ ap (λ (x : Words). goes all_words (fact_of_state c.args.state.now) all_words (one (plus c.args.at 1)) (with_mq x (strongly_updated Ac (words c.args.state.now.mq.now) (fact_of_state c.args.state.now)))) c.narrowed-ac.ensures)
 
 pub returns-in-4033 : goal.returns-in-4033
-returns-in-4033 c = λ o f is h.
-    exchange_is _ c.args.at c.args.word 4033 ClaMqa o f (sym c.value.ensures.same ∙ c.in-4033.is) refl is
-    (kept_mq _ c.args.at f f.mq (c.take-in-4033.ensures f f.mq f.mq h h.mq h.mq))
+returns-in-4033 c = λ o is. exchange_is c.args.at c.args.word 4033 ClaMqa o (fact_of_state c.args.state.now) (sym c.value.ensures.same ∙ c.in-4033.is) refl is
+    (c.take-in-4033.ensures ∙ ap (λ (x : Fact). goes all_words (fact_of_state c.args.state.now) all_words (one (plus c.args.at 1)) x) (same_mq (fact_of_state c.args.state.now) _))

@@ -1,7 +1,5 @@
-use Rattle.std.proofs.Common.{◌∙◌}
-use Rattle.domain.specs.Facts.{Ac}
-use Rattle.facts.proofs.AgreeLemmas.{agree_trans, narrowed_agree}
 use Rattle.facts.proofs.registers.leave.Goals as goal
+use Rattle.facts.specs.Knowing.{fact_of_state}
 
 pub returns : goal.returns
-returns c = λ f h. c.go_on.ensures f f (λ v lt. c.left_in-held.ensures v lt ∙ narrowed_agree h Ac v lt) (agree_trans c.same.ensures.same h)
+returns c = c.go_on.ensures (fact_of_state c.args.state.now) _ c.left_in-held.ensures c.same.ensures.same

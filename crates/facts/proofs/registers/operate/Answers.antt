@@ -1,17 +1,18 @@
-use Rattle.std.proofs.Common.{ap, ◌∙◌}
-use Rattle.wordset.specs.Words.{Words, SameWords, images}
+use Rattle.std.proofs.Common.{ap, ◌∙◌, ◌≡◌}
+use Rattle.wordset.specs.Words.{Words, images}
 use Rattle.wordset.specs.Lanes.{words}
-use Rattle.domain.specs.Facts.{narrowed, Ac}
-use Rattle.facts.specs.Outcomes.{operated1, ac_after, link_after}
-use Rattle.facts.proofs.PlaceLemmas.{images_same}
-use Rattle.facts.proofs.AgreeLemmas.{agree_trans, narrowed_agree}
-use Rattle.facts.proofs.ChangingLemmas.{link_agree}
+use Rattle.domain.specs.Facts.{narrowed, Ac, Fact}
+use Rattle.facts.specs.Outcomes.{operated1, ac_after, link_after, related1}
 use Rattle.facts.proofs.registers.operate.Goals as goal
+use Rattle.wordset.specs.Links.{links_of}
+use Rattle.domain.specs.Changes.{with_link, with_name}
+use Rattle.facts.specs.Knowing.{fact_of_state}
 
 pub returns : goal.returns
 unfolding ac_after link_after
-returns c = λ f h.
-    let ac : SameWords (words c.left_in-held.result.now) (narrowed f Ac) = λ v lt. c.left_in-held.ensures v lt ∙ narrowed_agree h Ac v lt in
-    c.go_on.ensures f (operated1 c.args.word f) ac (agree_trans c.with_link-after.ensures (link_agree
-    (c.related.ensures f (images (ac_after c.args.word) (narrowed f Ac) f.link) h (λ v lt. ap (λ (x : Words). x v) c.put_set-ac.ensures ∙ c.map_operate-images.ensures.words v lt ∙ images_same (ac_after c.args.word) ac h.link v))
-    (λ v lt. c.map_operate-images.ensures.links v lt ∙ images_same (link_after c.args.word) ac h.link v)))
+returns c =
+    let f : Fact = fact_of_state c.args.state.now in
+    let ac : words c.put_set-ac.result.now ≡ images (ac_after c.args.word) (narrowed f Ac) f.link = c.put_set-ac.ensures ∙ c.map_operate-images.ensures.words ∙ ap (λ (x : Words). images (ac_after c.args.word) x f.link) c.left_in-held.ensures in
+    let links : links_of c.map_operate-images.result.1 ≡ images (link_after c.args.word) (narrowed f Ac) f.link = c.map_operate-images.ensures.links ∙ ap (λ (x : Words). images (link_after c.args.word) x f.link) c.left_in-held.ensures in
+    c.go_on.ensures f (operated1 c.args.word f) c.left_in-held.ensures (c.with_link-after.ensures ∙ ap (λ (x : Words). with_link x (fact_of_state c.related.result)) links
+    ∙ ap (with_link (images (link_after c.args.word) (narrowed f Ac) f.link)) (c.related.ensures ∙ ap (λ (x : Words). with_name Ac x (related1 c.args.word f)) ac))

@@ -1,22 +1,18 @@
-use Rattle.std.proofs.Common.{◌∙◌, sym, subst}
+use Rattle.std.proofs.Common.{◌∙◌, sym, ap}
 use Rattle.wordset.specs.Lanes.{words}
 use Rattle.domain.specs.Facts.{Ac}
 use Rattle.domain.specs.Changes.{moved, with_name}
-use Rattle.domain.specs.Same.{Agree}
 use Rattle.facts.specs.Knowing.{fact_of_state}
-use Rattle.facts.proofs.AgreeLemmas.{agree_trans}
-use Rattle.facts.proofs.ChangingLemmas.{assigned_agree, moved_agree, name_agree}
 use Rattle.facts.proofs.RegisterLemmas.{related_none}
 use Rattle.facts.proofs.registers.related.Goals as goal
 
 pub returns-then-changes_accumulator : goal.returns-then-changes_accumulator
-returns-then-changes_accumulator c = λ f s h e. related_none c.args.word f s (sym c.changes_accumulator.ensures ∙ c.if-changes_accumulator.true)
-    (agree_trans c.with_ac.ensures.same (assigned_agree Ac h e))
+returns-then-changes_accumulator c = c.with_ac.ensures.same ∙ related_none c.args.word (fact_of_state c.args.state.now) (words c.args.set.now) (sym c.changes_accumulator.ensures ∙ c.if-changes_accumulator.true)
 
 pub returns-then-increments : goal.returns-then-increments
-returns-then-increments c = λ f s h e. rw (sym c.changes_accumulator.ensures ∙ c.if-changes_accumulator.false, sym c.increments.ensures ∙ c.if-increments.true)
-    (agree_trans (subst (λ k. Agree (fact_of_state c.raised_to.result) (with_name Ac (words c.args.set.now) (moved Ac k (fact_of_state c.args.state.now)))) c.increment.ensures c.raised_to.ensures) (name_agree Ac (moved_agree Ac 1 h) e))
+returns-then-increments c = rw (sym c.changes_accumulator.ensures ∙ c.if-changes_accumulator.false, sym c.increments.ensures ∙ c.if-increments.true)
+    (c.raised_to.ensures ∙ ap (λ k. with_name Ac (words c.args.set.now) (moved Ac k (fact_of_state c.args.state.now))) c.increment.ensures)
 
 pub returns : goal.returns
-returns c = λ f s h e. rw (sym c.changes_accumulator.ensures ∙ c.if-changes_accumulator.false, sym c.increments.ensures ∙ c.if-increments.false)
-    (agree_trans c.holding.ensures (name_agree Ac (agree_trans c.same.ensures.same h) e))
+returns c = rw (sym c.changes_accumulator.ensures ∙ c.if-changes_accumulator.false, sym c.increments.ensures ∙ c.if-increments.false)
+    (c.holding.ensures ∙ ap (with_name Ac (words c.args.set.now)) c.same.ensures.same)

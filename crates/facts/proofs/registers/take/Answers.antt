@@ -2,10 +2,11 @@ use Rattle.std.proofs.Common.{◌∙◌, ap}
 use Rattle.wordset.specs.Words.{Words}
 use Rattle.domain.specs.Facts.{Ac}
 use Rattle.domain.specs.Changes.{strongly_updated, with_mq}
-use Rattle.facts.proofs.AgreeLemmas.{agree_trans, narrowed_agree}
-use Rattle.facts.proofs.ChangingLemmas.{assigned_agree, mq_agree}
 use Rattle.facts.proofs.registers.take.Goals as goal
+use Rattle.facts.specs.Knowing.{fact_of_state}
+use Rattle.wordset.specs.Lanes.{words}
 
 pub returns : goal.returns
-returns c = λ f s t h a m. c.go_on.ensures f (with_mq t (strongly_updated Ac s f)) (λ v lt. c.left_in-held.ensures v lt ∙ narrowed_agree h Ac v lt)
-    (agree_trans c.with_mq-after.ensures (mq_agree (agree_trans c.with_ac.ensures.same (assigned_agree Ac h (λ v lt. ap (λ (x : Words). x v) c.put_set.ensures ∙ a v lt))) (λ v lt. ap (λ (x : Words). x v) c.put_set-2.ensures ∙ m v lt)))
+returns c = c.go_on.ensures (fact_of_state c.args.state.now) _ c.left_in-held.ensures
+    (c.with_mq-after.ensures ∙ ap (λ (x : Words). with_mq x (fact_of_state c.with_ac.result)) c.put_set-2.ensures
+    ∙ ap (with_mq (words c.args.mq.now)) (c.with_ac.ensures.same ∙ ap (λ (x : Words). strongly_updated Ac x (fact_of_state c.args.state.now)) c.put_set.ensures))

@@ -1,5 +1,5 @@
-use Rattle.judge.proofs.AlikeLaws.{texts_are_valid, texts_fail}
+use Rattle.judge.proofs.ReadingLemmas.{one_case}
 use Rattle.judge.proofs.laws.texts_are_judged_alike.Goals as goal
 
 pub returns : goal.returns
-returns c = record { valid = texts_are_valid; first = texts_fail }
+returns c = one_case

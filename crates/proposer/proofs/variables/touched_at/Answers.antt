@@ -11,12 +11,13 @@ use Rattle.proposer.proofs.variables.touched_at.Goals as goal
 
 pub loop-word-init : goal.loop-word-init
 loop-word-init g c =
-    none_gathered (record { set = refl; next = ap (λ (i : Iter). i.next) c.into_iter-word-iterator.ensures.into_iter_gives ∙ c.iter-word-items.ensures.next }) refl (λ cell lt. ap (λ (s : Words). s cell) c.empty-cells.ensures)
+    none_gathered (record { set = refl; next = ap (λ (i : Iter). i.next) c.into_iter-word-iterator.ensures.into_iter_gives ∙ c.iter-word-items.ensures.next }) refl (λ cell. ap (λ (s : Words). s cell) c.empty-cells.ensures)
 
 pub loop-word-preserved : goal.loop-word-preserved
 loop-word-preserved g c =
     image_gathered c.loop-word.invariant c.in-Some.ensures.steps
-    (λ cell lt. ap (λ (s : Words). s cell) c.union-cells.ensures ∙ ap (λ p. words c.loop-word.cells cell || p) (c.cells.ensures cell lt))
+    (λ cell. ap (λ (s : Words). s cell) c.union-cells.ensures ∙ ap (λ p. words c.loop-word.cells cell || p) (ap (λ (s : Words). s cell) c.cells.ensures))
 
 pub returns : goal.returns
-returns g c = touched_by c.args.access (place_of c.args.place.now) (meaning c.args.fact.now) c.args.at c.possible_words-possible.ensures c.iter-word-items.ensures c.into_iter-word-iterator.ensures.into_iter_gives c.loop-word.invariant c.in-None.ensures.steps
+returns g c = λ cell lt.
+    touched_by c.args.access (place_of c.args.place.now) (meaning c.args.fact.now) c.args.at c.possible_words-possible.ensures c.iter-word-items.ensures c.into_iter-word-iterator.ensures.into_iter_gives c.loop-word.invariant c.in-None.ensures.steps cell

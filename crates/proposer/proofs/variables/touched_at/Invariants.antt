@@ -9,4 +9,4 @@ use Rattle.proposer.proofs.variables.touched_at.Given as goal
 
 abbrev pub invariant-loop-word : goal.invariant-loop-word
 invariant-loop-word g l =
-    Gathered 4096 (λ word. touches l.access (place_of l.place) (meaning l.fact) (meaning_at (place_of l.place) l.at word)) (words l.initial.word-iterator.set.now) nothing (words l.cells) l.word-iterator
+    Gathered (λ word. touches l.access (place_of l.place) (meaning l.fact) (meaning_at (place_of l.place) l.at word)) (words l.initial.word-iterator.set.now) nothing (words l.cells) l.word-iterator

@@ -2,8 +2,11 @@ use Rattle.domain.specs.Meaning.{meaning}
 use Rattle.facts.specs.Knowing.{fact_of_state}
 use Rattle.wordset.specs.Lanes.{words}
 use Rattle.wordset.specs.Links.{links_of}
-use Rattle.reasons.proofs.GapLemmas.{link_gap, registers_within}
+use Rattle.reasons.proofs.GapLemmas.{link_gap, registers_within, word_gap}
 use Rattle.reasons.proofs.counterexample.register_gap.Goals as goal
+
+pub returns-in-Some-clause-found : goal.returns-in-Some-clause-found
+returns-in-Some-clause-found c = word_gap c.narrowed.ensures c.accumulator.ensures c.in-Some.ensures.found
 
 pub returns-in-Some-link_beyond-clause-found : goal.returns-in-Some-link_beyond-clause-found
 returns-in-Some-link_beyond-clause-found c = link_gap c.link.ensures c.link-2.ensures c.in-Some-link_beyond.ensures.found

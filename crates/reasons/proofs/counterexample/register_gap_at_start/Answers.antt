@@ -1,11 +1,11 @@
 use Rattle.wordset.specs.Lanes.{words}
 use Rattle.wordset.specs.Links.{links_of}
 use Rattle.domain.specs.Meaning.{meaning}
-use Rattle.reasons.proofs.GapLemmas.{registers_allowed, start_link}
+use Rattle.reasons.proofs.GapLemmas.{registers_allowed, link_gap}
 use Rattle.reasons.proofs.counterexample.register_gap_at_start.Goals as goal
 
 pub returns-in-Some-link_beyond-clause-found : goal.returns-in-Some-link_beyond-clause-found
-returns-in-Some-link_beyond-clause-found c = λ i. start_link c.link.ensures c.in-Some-link_beyond.ensures.found
+returns-in-Some-link_beyond-clause-found c = λ i. link_gap c.both.ensures c.link.ensures c.in-Some-link_beyond.ensures.found
 
 pub returns-in-None-clause-none : goal.returns-in-None-clause-none
 returns-in-None-clause-none c =

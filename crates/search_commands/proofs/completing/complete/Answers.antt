@@ -1,24 +1,24 @@
-use Rattle.std.proofs.Common.{◌≡◌, None, rules}
 use Rattle.declaration.specs.Kept.{meaning}
-use Rattle.command_parts.specs.declared.status.Status.TheVariants.{Done}
-use Rattle.search_commands.specs.CompleteText.{IsCompletion}
-use Rattle.search_commands.proofs.CompleteLemmas.{completion, own_completes}
+use Rattle.command_parts.proofs.AnswerLemmas.{delivered, delivers_by, nothing_written, two_good, two_refused}
 use Rattle.search_commands.proofs.completing.complete.Goals as goal
 
-pub returns-in_err-put-clause-front : goal.returns-in_err-put-clause-front
-returns-in_err-put-clause-front g c =
-    let none : c.in_ok-lack.field-0 ≡ None = search rules in
-    let is : IsCompletion (g.R.ByteSource.remaining c.args.tape.now) (g.D.ByteSource.remaining c.args.declaration.now) Done c.in_ok-given.given.text.items =
-    completion _ _ c.in_ok-image.image (meaning c.in_ok-given.given.declaration) Done c.in_ok-given.given.text.items c.in_ok-image.ensures.tape c.in_ok-given.ensures.declares
-    (own_completes c.in_ok-image.image (meaning c.in_ok-given.given.declaration) c.in_ok-given.given.text.items c.in_ok-given.ensures.text (c.in_ok-lack.ensures.shown none)) in
-    λ marked. record { text = c.in_ok-given.given.text.items; is = (Done, is); front = search rules }
+pub returns-in-Err-clause-reads : goal.returns-in-Err-clause-reads
+returns-in-Err-clause-reads g c = two_refused c.in-Err.ensures.reads
 
-pub returns-in_default-clause-completed : goal.returns-in_default-clause-completed
-returns-in_default-clause-completed g c =
-    let none : c.in_ok-lack.field-0 ≡ None = search rules in
-    record {
-      text = c.in_ok-given.given.text.items;
-      is = completion _ _ c.in_ok-image.image (meaning c.in_ok-given.given.declaration) Done c.in_ok-given.given.text.items c.in_ok-image.ensures.tape c.in_ok-given.ensures.declares
-          (own_completes c.in_ok-image.image (meaning c.in_ok-given.given.declaration) c.in_ok-given.given.text.items c.in_ok-given.ensures.text (c.in_ok-lack.ensures.shown none));
-      written = search rules;
-    }
+pub returns-in-Err-clause-completed : goal.returns-in-Err-clause-completed
+returns-in-Err-clause-completed g c = nothing_written c.in-Err.fault c.requires.writable c.in-Err.ensures.unwritten
+
+pub returns-in-Ok-clause-reads : goal.returns-in-Ok-clause-reads
+returns-in-Ok-clause-reads g c = two_good c.deliver.result (delivers_by _ c.completion_of.result c.deliver.result c.completion_of.ensures.faults c.deliver.ensures.faults) c.in-Ok.ensures.reads
+
+pub returns-in-Ok-clause-completed : goal.returns-in-Ok-clause-completed
+returns-in-Ok-clause-completed g c =
+    delivered c.completion_of.result c.completion_of.ensures.completes
+    (λ status text is. record {
+      image = c.in-Ok.program.image;
+      tape = c.in-Ok.ensures.image;
+      declaration = meaning c.in-Ok.program.given.declaration;
+      declares = c.in-Ok.ensures.declares;
+      is = is;
+    })
+    c.deliver.ensures.writes

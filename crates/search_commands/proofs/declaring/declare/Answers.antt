@@ -1,31 +1,18 @@
-use Rattle.std.proofs.Common.{rules}
-use Rattle.search_commands.specs.DeclareText.{IsProposal}
-use Rattle.command_parts.specs.declared.status.Status.TheVariants.{Done, Refused}
-use Rattle.search_commands.proofs.DeclareLemmas.{remarked_proposal, shown_proposal}
+use Rattle.std.proofs.Common.{rules, Err}
+use Rattle.command_parts.proofs.AnswerLemmas.{delivered, delivers_by, good_alone, nothing_written, read_alone}
 use Rattle.search_commands.proofs.declaring.declare.Goals as goal
 
-pub returns-in_err-put-clause-front : goal.returns-in_err-put-clause-front
-returns-in_err-put-clause-front g c =
-    let is : IsProposal c.args.options (g.R.ByteSource.remaining c.args.tape.now) Done c.in_ok-proposal.proposal.text.items =
-    shown_proposal c.args.options (g.R.ByteSource.remaining c.args.tape.now) c.in_ok-image.image c.in_ok-proposal.proposal c.in-Safe.field-0 c.in_ok-image.ensures.tape c.in_ok-proposal.ensures.fits c.in_ok-proposal.ensures.shown c.in_ok-proposal.ensures.listed c.in_ok-proposal.ensures.needed c.in_ok-proposal.ensures.unlisted c.in-Safe.is in
-    λ marked. record { text = c.in_ok-proposal.proposal.text.items; is = (Done, is); front = search rules }
+pub returns-in-Err-clause-reads : goal.returns-in-Err-clause-reads
+returns-in-Err-clause-reads g c = read_alone (Err _) c.in-Err.ensures.faults tt (search rules) c.in-Err.ensures.takes tt
 
-pub returns-in-Safe-clause-declared : goal.returns-in-Safe-clause-declared
-returns-in-Safe-clause-declared g c = record {
-  text = c.in_ok-proposal.proposal.text.items;
-  is = shown_proposal c.args.options (g.R.ByteSource.remaining c.args.tape.now) c.in_ok-image.image c.in_ok-proposal.proposal c.in-Safe.field-0 c.in_ok-image.ensures.tape c.in_ok-proposal.ensures.fits c.in_ok-proposal.ensures.shown c.in_ok-proposal.ensures.listed c.in_ok-proposal.ensures.needed c.in_ok-proposal.ensures.unlisted c.in-Safe.is;
-  written = search rules;
-}
+pub returns-in-Err-clause-declared : goal.returns-in-Err-clause-declared
+returns-in-Err-clause-declared g c = nothing_written c.in-Err.fault c.requires.writable (search rules)
 
-pub returns-in_err-put-2-clause-front : goal.returns-in_err-put-2-clause-front
-returns-in_err-put-2-clause-front g c =
-    let is : IsProposal c.args.options (g.R.ByteSource.remaining c.args.tape.now) Refused c.in_ok-text.text.items =
-    remarked_proposal c.args.options (g.R.ByteSource.remaining c.args.tape.now) c.in_ok-image.image c.in_ok-text.text.items c.in_ok-image.ensures.tape c.in_ok-text.ensures.declares in
-    λ marked. record { text = c.in_ok-text.text.items; is = (Refused, is); front = search rules }
+pub returns-in-Ok-clause-reads : goal.returns-in-Ok-clause-reads
+returns-in-Ok-clause-reads g c =
+    good_alone c.deliver.result (delivers_by _ c.proposed.result c.deliver.result c.proposed.ensures.faults c.deliver.ensures.faults)
+    (record { image = c.in-Ok.image; tape = c.in-Ok.ensures.tape }) c.in-Ok.ensures.marks c.in-Ok.ensures.takes
 
-pub returns-clause-declared : goal.returns-clause-declared
-returns-clause-declared g c = record {
-  text = c.in_ok-text.text.items;
-  is = remarked_proposal c.args.options (g.R.ByteSource.remaining c.args.tape.now) c.in_ok-image.image c.in_ok-text.text.items c.in_ok-image.ensures.tape c.in_ok-text.ensures.declares;
-  written = search rules;
-}
+pub returns-in-Ok-clause-declared : goal.returns-in-Ok-clause-declared
+returns-in-Ok-clause-declared g c =
+    delivered c.proposed.result c.proposed.ensures.proposal (λ status text is. record { image = c.in-Ok.image; tape = c.in-Ok.ensures.tape; is = is }) c.deliver.ensures.writes

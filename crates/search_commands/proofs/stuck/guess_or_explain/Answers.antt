@@ -1,37 +1,39 @@
-use Rattle.std.proofs.Common.{refl}
+use Rattle.std.proofs.Common.{◌≡◌, rules, refl, Err, Ok}
+use Rattle.command_parts.proofs.AnswerLemmas.{two_good, two_refused}
 use Rattle.declaration.specs.Kept.{meaning}
 use Rattle.certificate.specs.Spelling.{text as spelled}
 use Rattle.certificate.specs.Kept.{meaning as lines_of}
-use Rattle.verdict_texts.proofs.CheckLemmas.{kept_sets}
 use Rattle.search_commands.proofs.StuckLemmas.{writes_stuck, front_of_stuck}
 use Rattle.search_commands.proofs.stuck.guess_or_explain.Goals as goal
 
 pub returns-clause-stuck : goal.returns-clause-stuck
 returns-clause-stuck g c = λ refused unmarked.
-    writes_stuck _ _ c.in_ok-image.image (meaning c.in_ok-promised.promised) (lines_of c.in-Stuck.draft) _ _ c.in_ok-image.ensures.tape c.in_ok-promised.ensures.declares
-    (rw c.in-Stuck.is at c.in_ok-attempt.ensures.lines) (kept_sets c.in-Stuck.draft) (rw c.in-Stuck.is at c.in_ok-attempt.ensures.version) (c.in_ok-report_stuck-in-Stuck.ensures.told unmarked)
+    writes_stuck _ _ c.in_ok-program.program.image (meaning c.in_ok-program.program.declaration) (lines_of c.in-Stuck.draft) _ _ c.in_ok-program.ensures.image c.in_ok-program.ensures.declares
+    (rw c.in-Stuck.is at c.in_ok-attempt.ensures.lines) (rw c.in-Stuck.is at c.in_ok-attempt.ensures.version) (c.in_ok-report_stuck-in-Stuck.ensures.told unmarked)
 
 pub returns-clause-front_of_report : goal.returns-clause-front_of_report
 returns-clause-front_of_report g c = λ marked.
-    front_of_stuck _ _ c.in_ok-image.image (meaning c.in_ok-promised.promised) (lines_of c.in-Stuck.draft) _ _ c.in_ok-image.ensures.tape c.in_ok-promised.ensures.declares
-    (rw c.in-Stuck.is at c.in_ok-attempt.ensures.lines) (kept_sets c.in-Stuck.draft) (rw c.in-Stuck.is at c.in_ok-attempt.ensures.version) (c.report_stuck.ensures.front marked)
+    front_of_stuck _ _ c.in_ok-program.program.image (meaning c.in_ok-program.program.declaration) (lines_of c.in-Stuck.draft) _ _ c.in_ok-program.ensures.image c.in_ok-program.ensures.declares
+    (rw c.in-Stuck.is at c.in_ok-attempt.ensures.lines) (rw c.in-Stuck.is at c.in_ok-attempt.ensures.version) (c.report_stuck.ensures.front marked)
 
 pub returns-in-Found-clause-guessed : goal.returns-in-Found-clause-guessed
 returns-in-Found-clause-guessed g c = λ done. record {
   text = spelled (lines_of c.in-Found.certificate);
   is = record {
-    image = c.in_ok-image.image;
-    tape = c.in_ok-image.ensures.tape;
-    declaration = meaning c.in_ok-promised.promised;
-    declares = c.in_ok-promised.ensures.declares;
-    lines = lines_of c.in-Found.certificate;
-    lines_are = rw c.in-Found.is at c.in_ok-attempt.ensures.lines;
-    of_words = kept_sets c.in-Found.certificate;
-    version_is = rw c.in-Found.is at c.in_ok-attempt.ensures.version;
-    guess_is = refl;
-    accepted = record {
-      valid = (rw c.in-Found.is at c.in_ok-attempt.ensures.accepted).valid;
-      safe = (rw c.in-Found.is at c.in_ok-attempt.ensures.accepted).safe;
+    image = c.in_ok-program.program.image;
+    tape = c.in_ok-program.ensures.image;
+    declaration = meaning c.in_ok-program.program.declaration;
+    declares = c.in_ok-program.ensures.declares;
+    is = record {
+      lines = lines_of c.in-Found.certificate;
+      lines_are = rw c.in-Found.is at c.in_ok-attempt.ensures.lines;
+      version_is = rw c.in-Found.is at c.in_ok-attempt.ensures.version;
+      guess_is = refl;
+      accepted = record {
+        valid = (rw c.in-Found.is at c.in_ok-attempt.ensures.accepted).valid;
+        safe = (rw c.in-Found.is at c.in_ok-attempt.ensures.accepted).safe;
+      };
+      status_is = refl;
     };
   };
   written = c.in_ok-write-in-Found.ensures.whole;
@@ -41,18 +43,20 @@ pub returns-in_err-write-in-Found-clause-front : goal.returns-in_err-write-in-Fo
 returns-in_err-write-in-Found-clause-front g c = λ marked. record {
   text = spelled (lines_of c.in-Found.certificate);
   is = record {
-    image = c.in_ok-image.image;
-    tape = c.in_ok-image.ensures.tape;
-    declaration = meaning c.in_ok-promised.promised;
-    declares = c.in_ok-promised.ensures.declares;
-    lines = lines_of c.in-Found.certificate;
-    lines_are = rw c.in-Found.is at c.in_ok-attempt.ensures.lines;
-    of_words = kept_sets c.in-Found.certificate;
-    version_is = rw c.in-Found.is at c.in_ok-attempt.ensures.version;
-    guess_is = refl;
-    accepted = record {
-      valid = (rw c.in-Found.is at c.in_ok-attempt.ensures.accepted).valid;
-      safe = (rw c.in-Found.is at c.in_ok-attempt.ensures.accepted).safe;
+    image = c.in_ok-program.program.image;
+    tape = c.in_ok-program.ensures.image;
+    declaration = meaning c.in_ok-program.program.declaration;
+    declares = c.in_ok-program.ensures.declares;
+    is = record {
+      lines = lines_of c.in-Found.certificate;
+      lines_are = rw c.in-Found.is at c.in_ok-attempt.ensures.lines;
+      version_is = rw c.in-Found.is at c.in_ok-attempt.ensures.version;
+      guess_is = refl;
+      accepted = record {
+        valid = (rw c.in-Found.is at c.in_ok-attempt.ensures.accepted).valid;
+        safe = (rw c.in-Found.is at c.in_ok-attempt.ensures.accepted).safe;
+      };
+      status_is = refl;
     };
   };
   front = c.in_err-write-in-Found.ensures.front;
@@ -60,3 +64,28 @@ returns-in_err-write-in-Found-clause-front g c = λ marked. record {
 
 pub report_stuck-requires : goal.report_stuck-requires
 report_stuck-requires g c = record { unmarked = c.requires.reportable; draft = rw c.in-Stuck.is at c.in_ok-attempt.ensures.draft }
+
+pub returns-in_err-program-clause-reads : goal.returns-in_err-program-clause-reads
+returns-in_err-program-clause-reads g c =
+    let told : c.from_residual.result ≡ Err c.in_err-program.field-0.0 = search rules in
+    rw told (two_refused c.in_err-program.ensures.reads)
+
+pub returns-in_err-attempt-clause-reads : goal.returns-in_err-attempt-clause-reads
+returns-in_err-attempt-clause-reads g c =
+    two_good c.from_residual-in_err-attempt.result (search rules) c.in_ok-program.ensures.reads
+
+pub returns-in_err-write-in-Found-clause-reads : goal.returns-in_err-write-in-Found-clause-reads
+returns-in_err-write-in-Found-clause-reads g c =
+    two_good c.from_residual-in_err-write-in-Found.result (search rules) c.in_ok-program.ensures.reads
+
+pub returns-in-Found-clause-reads : goal.returns-in-Found-clause-reads
+returns-in-Found-clause-reads g c =
+    two_good (Ok _) tt c.in_ok-program.ensures.reads
+
+pub returns-in_err-report_stuck-in-Stuck-clause-reads : goal.returns-in_err-report_stuck-in-Stuck-clause-reads
+returns-in_err-report_stuck-in-Stuck-clause-reads g c =
+    two_good c.from_residual-in_err-report_stuck-in-Stuck.result (search rules) c.in_ok-program.ensures.reads
+
+pub returns-clause-reads : goal.returns-clause-reads
+returns-clause-reads g c =
+    two_good (Ok _) tt c.in_ok-program.ensures.reads

@@ -3,7 +3,7 @@ use Rattle.pal_asm.specs.Sources.{texts}
 use Rattle.labels.specs.Programs.{IsNumbered}
 use Rattle.machine_commands.specs.RefuteText.{IsToldOfWitness, IsWitnessText}
 use Rattle.source_verdicts.specs.Verdicts.{IsSourceWitnessText, IsToldOfSourceWitness}
-use Rattle.source_verdicts.proofs.SourceLemmas.{front_on, held_by, nothing_or_on, told_so, verify_fault, witness_text_so, writes_witness_so}
+use Rattle.source_verdicts.proofs.SourceLemmas.{front_on, held_by, nothing_or_on, told_so, two_faults, verify_fault, witness_text_so, writes_witness_so}
 use Rattle.source_verdicts.proofs.refuting.refute_source.Goals as goal
 
 pub returns-in-Ok-clause-broken : goal.returns-in-Ok-clause-broken
@@ -17,7 +17,7 @@ pub returns-clause-faults : goal.returns-clause-faults
 returns-clause-faults g c =
     let h : IsNumbered (texts c.args.parts.now) c.args.declaration.now c.new-frames.result.rest.now c.new-numbers.result.rest.now =
     held_by (texts c.args.parts.now) c.args.declaration.now c.in_ok-numbered.numbered.tape.items c.in_ok-numbered.numbered.declaration.items _ _ _ _ c.new-frames.ensures.bytes c.deref.ensures.value c.new-numbers.ensures.bytes c.deref-2.ensures.value c.in_ok-numbered.ensures.numbered in
-    verify_fault (texts c.args.parts.now) c.args.declaration.now c.new-frames.result.rest.now c.new-numbers.result.rest.now h c.numbered_programs_are_meant.ensures.tape (Some c.refute.new.tape.rest.now) (Some c.refute.new.declaration.rest.now) c.in-Err.fault c.in-Err.ensures.faults
+    verify_fault (texts c.args.parts.now) c.args.declaration.now c.new-frames.result.rest.now c.new-numbers.result.rest.now h c.numbered_programs_are_meant.ensures.tape (Some c.refute.new.tape.rest.now) (Some c.refute.new.declaration.rest.now) c.in-Err.fault (two_faults c.in-Err.ensures.reads)
 
 pub returns-clause-front : goal.returns-clause-front
 returns-clause-front g c = λ marked.

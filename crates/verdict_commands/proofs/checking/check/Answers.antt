@@ -1,53 +1,27 @@
-use Rattle.std.proofs.Common.{rules, refl}
-use Rattle.std.specs.Io.KnownBytes.{Appends}
-use Rattle.streams.specs.Bytes.{AppendsFront}
 use Rattle.declaration.specs.Kept.{meaning}
 use Rattle.certificate.specs.Kept.{meaning as lines_of}
-use Rattle.verdict_texts.specs.CheckText.{checked_case, verdict_status, verdict_text}
-use Rattle.verdict_texts.proofs.CheckLemmas.{verdict_is}
+use Rattle.command_parts.proofs.AnswerLemmas.{delivered, delivers_by, nothing_written, three_good, three_refused}
 use Rattle.verdict_commands.proofs.checking.check.Goals as goal
 
-pub returns-in_err-put-clause-front : goal.returns-in_err-put-clause-front
-returns-in_err-put-clause-front g c = λ marked.
-    let d = meaning c.in_ok-promised.promised in
-    let front : AppendsFront (g.W.ByteSink.taken c.args.out.now) (g.W.ByteSink.taken c.put.new.sink) (verdict_text d c.judge-verdict.result) = search rules in
-    record {
-      text = verdict_text d c.judge-verdict.result;
-      is = (
-        verdict_status c.judge-verdict.result,
-        record {
-          image = c.in_ok-image.image;
-          tape = c.in_ok-image.ensures.tape;
-          declaration = d;
-          declares = c.in_ok-promised.ensures.declares;
-          lines = lines_of c.in_ok-claims.claims;
-          claims = c.in_ok-claims.ensures.claims;
-          verdict = c.judge-verdict.result;
-          is = verdict_is (checked_case c.in_ok-image.image d (lines_of c.in_ok-claims.claims)) c.judge-verdict.result c.judge-verdict.ensures.exact c.judge-verdict.ensures.safe;
-          line_is = refl;
-          status_is = refl;
-        },
-      );
-      front = front;
-    }
+pub returns-in-Err-clause-reads : goal.returns-in-Err-clause-reads
+returns-in-Err-clause-reads g c = three_refused c.in-Err.ensures.reads
 
-pub returns-clause-checked : goal.returns-clause-checked
-returns-clause-checked g c =
-    let d = meaning c.in_ok-promised.promised in
-    let written : Appends (g.W.ByteSink.taken c.args.out.now) (g.W.ByteSink.taken c.put.new.sink) (verdict_text d c.judge-verdict.result) = search rules in
-    record {
-      text = verdict_text d c.judge-verdict.result;
-      is = record {
-        image = c.in_ok-image.image;
-        tape = c.in_ok-image.ensures.tape;
-        declaration = d;
-        declares = c.in_ok-promised.ensures.declares;
-        lines = lines_of c.in_ok-claims.claims;
-        claims = c.in_ok-claims.ensures.claims;
-        verdict = c.judge-verdict.result;
-        is = verdict_is (checked_case c.in_ok-image.image d (lines_of c.in_ok-claims.claims)) c.judge-verdict.result c.judge-verdict.ensures.exact c.judge-verdict.ensures.safe;
-        line_is = refl;
-        status_is = c.verdict_status.ensures;
-      };
-      written = written;
-    }
+pub returns-in-Err-clause-checked : goal.returns-in-Err-clause-checked
+returns-in-Err-clause-checked g c = nothing_written c.in-Err.fault c.requires.writable c.in-Err.ensures.unwritten
+
+pub returns-in-Ok-clause-reads : goal.returns-in-Ok-clause-reads
+returns-in-Ok-clause-reads g c = three_good c.deliver.result (delivers_by _ c.verdict_of.result c.deliver.result c.verdict_of.ensures.faults c.deliver.ensures.faults) c.in-Ok.ensures.reads
+
+pub returns-in-Ok-clause-checked : goal.returns-in-Ok-clause-checked
+returns-in-Ok-clause-checked g c =
+    delivered c.verdict_of.result c.verdict_of.ensures.verdict
+    (λ status text is. record {
+      image = c.in-Ok.certified.program.image;
+      tape = c.in-Ok.ensures.image;
+      declaration = meaning c.in-Ok.certified.program.declaration;
+      declares = c.in-Ok.ensures.declares;
+      lines = lines_of c.in-Ok.certified.certificate;
+      claims = c.in-Ok.ensures.claims;
+      is = is;
+    })
+    c.deliver.ensures.writes

@@ -1,95 +1,56 @@
-use Rattle.std.proofs.Common.{rules, refl, ◌++◌}
-use Rattle.std.specs.Io.KnownBytes.{Appends}
-use Rattle.std.proofs.KnownBytes.{Appends-trans}
-use Rattle.streams.specs.Bytes.{AppendsFront}
+use Rattle.std.proofs.Common.{ℕ, ◌≡◌, ◌++◌, List, rules, refl, ap, Err, inl}
 use Rattle.declaration.specs.Kept.{meaning}
 use Rattle.certificate.specs.Kept.{meaning as lines_of}
-use Rattle.verdict_texts.specs.CheckText.{checked_case, verdict_status, verdict_text}
-use Rattle.verdict_texts.specs.WhyText.{why_text, fact_shown}
+use Rattle.command_parts.specs.declared.status.Fault.TheVariants.{NoMemory}
+use Rattle.command_parts.proofs.AnswerLemmas.{nothing_written, outcome_written, three_good, three_refused, write_follows}
+use Rattle.verdict_texts.specs.CheckText.{checked_case}
+use Rattle.verdict_texts.specs.WhyText.{fact_shown}
 use Rattle.verdict_texts.proofs.CheckLemmas.{verdict_is}
-use Rattle.streams.proofs.BytesLemmas.{front_after}
-use Rattle.certificate.proofs.SpelledLemmas.{front_more}
 use Rattle.verdict_commands.proofs.explaining.explain.Goals as goal
 
-pub returns-in_err-put-clause-front : goal.returns-in_err-put-clause-front
-returns-in_err-put-clause-front g c = λ marked.
-    let d = meaning c.in_ok-promised.promised in
-    let first = verdict_text d c.judge-verdict.result ++ why_text d.profile c.in_ok-image.image c.judge-verdict.result c.reason_of-reason.result in
-    let shown = fact_shown (lines_of c.in_ok-claims.claims) c.judge-verdict.result in
-    let front : AppendsFront (g.W.ByteSink.taken c.args.out.now) (g.W.ByteSink.taken c.put.new.sink) first = search rules in
-    record {
-      text = first ++ shown;
-      is = (
-        verdict_status c.judge-verdict.result,
-        record {
-          image = c.in_ok-image.image;
-          tape = c.in_ok-image.ensures.tape;
-          declaration = d;
-          declares = c.in_ok-promised.ensures.declares;
-          lines = lines_of c.in_ok-claims.claims;
-          claims = c.in_ok-claims.ensures.claims;
-          verdict = c.judge-verdict.result;
-          is = verdict_is (checked_case c.in_ok-image.image d (lines_of c.in_ok-claims.claims)) c.judge-verdict.result c.judge-verdict.ensures.exact c.judge-verdict.ensures.safe;
-          reason = c.reason_of-reason.result;
-          why = c.reason_of-reason.ensures;
-          line_is = refl;
-          status_is = refl;
-        },
-      );
-      front = front_more (g.W.ByteSink.taken c.args.out.now) (g.W.ByteSink.taken c.put.new.sink) first shown front;
-    }
+pub returns-in_err-certified-clause-reads : goal.returns-in_err-certified-clause-reads
+returns-in_err-certified-clause-reads g c =
+    let told : c.from_residual.result ≡ Err c.in_err-certified.field-0.0 = search rules in
+    rw told (three_refused c.in_err-certified.ensures.reads)
 
-pub returns-in_err-put_fact-clause-front : goal.returns-in_err-put_fact-clause-front
-returns-in_err-put_fact-clause-front g c = λ marked.
-    let d = meaning c.in_ok-promised.promised in
-    let first = verdict_text d c.judge-verdict.result ++ why_text d.profile c.in_ok-image.image c.judge-verdict.result c.reason_of-reason.result in
-    let shown = fact_shown (lines_of c.in_ok-claims.claims) c.judge-verdict.result in
-    let written : Appends (g.W.ByteSink.taken c.args.out.now) (g.W.ByteSink.taken c.put.new.sink) first = search rules in
-    let front : AppendsFront (g.W.ByteSink.taken c.put.new.sink) (g.W.ByteSink.taken c.put_fact.new.out) shown = search rules in
-    record {
-      text = first ++ shown;
-      is = (
-        verdict_status c.judge-verdict.result,
-        record {
-          image = c.in_ok-image.image;
-          tape = c.in_ok-image.ensures.tape;
-          declaration = d;
-          declares = c.in_ok-promised.ensures.declares;
-          lines = lines_of c.in_ok-claims.claims;
-          claims = c.in_ok-claims.ensures.claims;
-          verdict = c.judge-verdict.result;
-          is = verdict_is (checked_case c.in_ok-image.image d (lines_of c.in_ok-claims.claims)) c.judge-verdict.result c.judge-verdict.ensures.exact c.judge-verdict.ensures.safe;
-          reason = c.reason_of-reason.result;
-          why = c.reason_of-reason.ensures;
-          line_is = refl;
-          status_is = refl;
-        },
-      );
-      front = front_after (g.W.ByteSink.taken c.args.out.now) (g.W.ByteSink.taken c.put.new.sink) (g.W.ByteSink.taken c.put_fact.new.out) first shown written front;
-    }
+pub returns-in_err-certified-clause-explained : goal.returns-in_err-certified-clause-explained
+returns-in_err-certified-clause-explained g c =
+    let told : c.from_residual.result ≡ Err c.in_err-certified.field-0.0 = search rules in
+    rw told (nothing_written c.in_err-certified.field-0.0 c.requires.writable c.in_err-certified.ensures.unwritten)
+
+pub returns-in_err-told-clause-reads : goal.returns-in_err-told-clause-reads
+returns-in_err-told-clause-reads g c =
+    let told : c.from_residual-in_err-told.result ≡ Err NoMemory = search rules in
+    rw told (three_good (Err NoMemory) (inl refl) c.in_ok-certified.ensures.reads)
+
+pub returns-in_err-told-clause-explained : goal.returns-in_err-told-clause-explained
+returns-in_err-told-clause-explained g c =
+    let told : c.from_residual-in_err-told.result ≡ Err NoMemory = search rules in
+    rw told (nothing_written NoMemory c.requires.writable refl)
+
+pub returns-clause-reads : goal.returns-clause-reads
+returns-clause-reads g c = three_good c.write_with_fact.result (write_follows _ c.write_with_fact.result c.write_with_fact.ensures.faults) c.in_ok-certified.ensures.reads
 
 pub returns-clause-explained : goal.returns-clause-explained
 returns-clause-explained g c =
-    let d = meaning c.in_ok-promised.promised in
-    let first = verdict_text d c.judge-verdict.result ++ why_text d.profile c.in_ok-image.image c.judge-verdict.result c.reason_of-reason.result in
-    let shown = fact_shown (lines_of c.in_ok-claims.claims) c.judge-verdict.result in
-    let written : Appends (g.W.ByteSink.taken c.args.out.now) (g.W.ByteSink.taken c.put.new.sink) first = search rules in
-    let more : Appends (g.W.ByteSink.taken c.put.new.sink) (g.W.ByteSink.taken c.put_fact.new.out) shown = search rules in
-    record {
-      text = first ++ shown;
+    let d = meaning c.in_ok-certified.certified.program.declaration in
+    let lines = lines_of c.in_ok-certified.certified.certificate in
+    let told = c.in_ok-told.ensures in
+    outcome_written c.in_ok-told.told.status (c.in_ok-told.told.text.items ++ fact_shown lines c.judge-verdict.result)
+    (record {
+      image = c.in_ok-certified.certified.program.image;
+      tape = c.in_ok-certified.ensures.image;
+      declaration = d;
+      declares = c.in_ok-certified.ensures.declares;
+      lines = lines;
+      claims = c.in_ok-certified.ensures.claims;
       is = record {
-        image = c.in_ok-image.image;
-        tape = c.in_ok-image.ensures.tape;
-        declaration = d;
-        declares = c.in_ok-promised.ensures.declares;
-        lines = lines_of c.in_ok-claims.claims;
-        claims = c.in_ok-claims.ensures.claims;
         verdict = c.judge-verdict.result;
-        is = verdict_is (checked_case c.in_ok-image.image d (lines_of c.in_ok-claims.claims)) c.judge-verdict.result c.judge-verdict.ensures.exact c.judge-verdict.ensures.safe;
-        reason = c.reason_of-reason.result;
-        why = c.reason_of-reason.ensures;
-        line_is = refl;
-        status_is = c.verdict_status.ensures;
+        is = verdict_is (checked_case c.in_ok-certified.certified.program.image d lines) c.judge-verdict.result c.judge-verdict.ensures.exact c.judge-verdict.ensures.safe;
+        reason = told.reason;
+        why = told.why;
+        text_is = ap (λ (t : List ℕ). t ++ fact_shown lines c.judge-verdict.result) told.text_is;
+        status_is = told.status_is;
       };
-      written = Appends-trans (g.W.ByteSink.taken c.args.out.now) (g.W.ByteSink.taken c.put.new.sink) (g.W.ByteSink.taken c.put_fact.new.out) first shown written more;
-    }
+    })
+    c.write_with_fact.ensures.writes

@@ -1,13 +1,11 @@
 use Rattle.std.proofs.Common.{Err, ap, ◌∙◌}
-use Rattle.certificate.specs.Kept.{meaning}
 use Rattle.certificate.specs.Serving.{is_read_fault}
 use Rattle.verdict_texts.proofs.CheckLemmas.{has_certificate, certificate_fault_is}
 use Rattle.verdict_texts.proofs.certificates.certificate_from.Goals as goal
 
 pub returns-in-Ok-clause-claims : goal.returns-in-Ok-clause-claims
 returns-in-Ok-clause-claims g c =
-    has_certificate (g.R.ByteSource.remaining c.args.source.now) c.in-Ok.certificate (meaning c.in-Ok.certificate).version
-    c.in-Ok.ensures.lines c.in-Ok.ensures.found c.in-Ok.ensures.text
+    has_certificate (g.R.ByteSource.remaining c.args.source.now) c.in-Ok.certificate c.in-Ok.ensures.read
 
 pub returns-in-Err-clause-faults : goal.returns-in-Err-clause-faults
 returns-in-Err-clause-faults g c =

@@ -5,4 +5,4 @@ use Rattle.wordset.proofs.IterLemmas.{Gathered}
 use Rattle.wordset.proofs.WordSet.ands_of_few.Given as goal
 
 abbrev pub invariant-loop-word : goal.invariant-loop-word
-invariant-loop-word l = Gathered 4096 (λ x. ands_with x (words l.other)) (words l.self) nothing (words l.found) l.word-iterator
+invariant-loop-word l = Gathered (λ x. ands_with x (words l.other)) (words l.self) nothing (words l.found) l.word-iterator

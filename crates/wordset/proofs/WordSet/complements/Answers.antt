@@ -2,6 +2,7 @@ use Rattle.std.proofs.Common.{◌<◌, ◌≢◌, length, arith, lit<, get_or-se
 use Rattle.wordset.proofs.WordSet.complements.Goals as goal
 use Rattle.wordset.proofs.LaneBits.{filled, AreLanes-set}
 use Rattle.wordset.proofs.Complements.{words-mirrored}
+use Rattle.wordset.proofs.SetLemmas.{words_that}
 
 pub loop-i-init : goal.loop-i-init
 loop-i-init c = record { are = filled 0 (lit< tt); done = λ k h. absurd (omega arith) }
@@ -18,4 +19,4 @@ pub invariant_of-result : goal.invariant_of-result
 invariant_of-result c = c.loop-i.invariant.are
 
 pub returns : goal.returns
-returns c = λ v h. rw (← c.self.view_is) (words-mirrored c.self.inside.lanes c.loop-i.lanes (λ i g. c.loop-i.invariant.done i (omega arith)) v h)
+returns c = words_that c.loop-i.lanes _ (λ v h. rw (← c.self.view_is) (words-mirrored c.self.inside.lanes c.loop-i.lanes (λ i g. c.loop-i.invariant.done i (omega arith)) v h))

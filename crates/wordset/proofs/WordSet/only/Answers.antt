@@ -1,5 +1,4 @@
 use Rattle.std.proofs.Common.{◌+◌}
-use Rattle.std.specs.Prelude.{Some, None}
 use Rattle.wordset.specs.Words.{IsFirstFrom, HasNoneFrom}
 use Rattle.wordset.specs.Lanes.{words}
 use Rattle.wordset.proofs.WordSet.only.Goals as goal

@@ -8,6 +8,6 @@ use Rattle.wordset.proofs.WordSet.operate_at.Given as goal
 
 abbrev pub invariant-loop-ac : goal.invariant-loop-ac
 invariant-loop-ac l = record {
-  images : Gathered 4096 (λ x v. v == (operate1_of l.word (x, l.link)).0) (words l.self) nothing (words l.found) l.ac-iterator;
-  afters : Gathered 2 (λ x k. k == (operate1_of l.word (x, l.link)).1) (words l.self) nothing (links_of l.links) l.ac-iterator;
+  images : Gathered (λ x v. v == (operate1_of l.word (x, l.link)).0) (words l.self) nothing (words l.found) l.ac-iterator;
+  afters : Gathered (λ x k. k == (operate1_of l.word (x, l.link)).1) (words l.self) nothing (links_of l.links) l.ac-iterator;
 }

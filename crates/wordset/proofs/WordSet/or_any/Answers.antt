@@ -4,6 +4,8 @@ use Rattle.wordset.specs.Lanes.{words}
 use Rattle.wordset.proofs.WordSet.or_any.Goals as goal
 use Rattle.wordset.proofs.WordSet.or_any.Goals.{then-parts-at-eq1, else-parts-at-eq1}
 use Rattle.wordset.proofs.Parts.{any_none, step_with, step_without, bit_test, doubled_same}
+use Rattle.wordset.proofs.SetLemmas.{words_are}
+use Rattle.wordset.proofs.Complements.{any_past}
 
 pub loop-at-init : goal.loop-at-init
 loop-at-init c = λ v h. any_none c.index-parts.result (words c.args.self.now) v h
@@ -29,4 +31,4 @@ returns c =
     let done : c.loop-at.at ≡ 12 = omega arith in
     let same : c.index-parts.result ≡ c.args.mask = c.index-parts.ensures.same in
     let whole : c.index-parts.result % 2 ^ 12 ≡ c.index-parts.result = omega arith in
-    λ v h. c.loop-at.invariant v h ∙ ap (λ at. or_any (c.index-parts.result % 2 ^ at) a v) done ∙ ap (λ k. or_any k a v) (whole ∙ same)
+    words_are c.loop-at.found (or_any c.args.mask a) (any_past c.args.mask a) (λ v h. c.loop-at.invariant v h ∙ ap (λ at. or_any (c.index-parts.result % 2 ^ at) a v) done ∙ ap (λ k. or_any k a v) (whole ∙ same))

@@ -1,10 +1,11 @@
-use Rattle.std.proofs.Common.{◌≡◌, ◌%◌, ◌^◌, sym, ap, ◌∙◌, arith}
+use Rattle.std.proofs.Common.{◌≡◌, ◌%◌, ◌^◌, sym, ap, ◌∙◌, arith, subst, ◌<◌}
 use Rattle.wordset.specs.Bits.{ors_with}
 use Rattle.wordset.specs.Lanes.{words}
 use Rattle.wordset.proofs.WordSet.or_word.Goals as goal
 use Rattle.wordset.proofs.WordSet.or_word.Goals.{then-bits-at-eq1, else-bits-at-eq1}
 use Rattle.wordset.proofs.Parts.{step_without, bit_test}
-use Rattle.wordset.proofs.Ors.{with_none, with_step, put_bit_same}
+use Rattle.wordset.proofs.Ors.{with_none, with_step, put_bit_same, with_past}
+use Rattle.wordset.proofs.SetLemmas.{words_are}
 
 pub loop-at-init : goal.loop-at-init
 loop-at-init c = λ v h. with_none c.index-bits.result (words c.args.self.now) v h
@@ -30,4 +31,5 @@ returns c =
     let done : c.loop-at.at ≡ 12 = omega arith in
     let same : c.index-bits.result ≡ c.args.word = c.index-bits.ensures.same in
     let whole : c.index-bits.result % 2 ^ 12 ≡ c.index-bits.result = omega arith in
-    λ v h. c.loop-at.invariant v h ∙ ap (λ at. ors_with (c.index-bits.result % 2 ^ at) a v) done ∙ ap (λ k. ors_with k a v) (whole ∙ same)
+    words_are c.loop-at.found (ors_with c.args.word a) (with_past c.args.word a (subst (λ n. n < 4096) same c.index-bits.ensures.small))
+    (λ v h. c.loop-at.invariant v h ∙ ap (λ at. ors_with (c.index-bits.result % 2 ^ at) a v) done ∙ ap (λ k. ors_with k a v) (whole ∙ same))

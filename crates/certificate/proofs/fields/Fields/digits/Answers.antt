@@ -1,5 +1,6 @@
 use Rattle.std.proofs.Common.{true, false, sym}
 use Rattle.std.proofs.Math.Bool.{or-false}
+use Rattle.std.proofs.Math.Path.{fun_ext}
 use Rattle.domain.specs.Meaning.{offsets_of}
 use Rattle.certificate.specs.Fields.{left}
 use Rattle.certificate.proofs.DigitLemmas.{no_digits, digit_tried, all_digits}
@@ -11,10 +12,10 @@ loop-digit-init c = no_digits c.args.count (left c.args.self.now) (offsets_of c.
 
 pub loop-digit-preserved : goal.loop-digit-preserved
 loop-digit-preserved c = elim c.if-takes.branch [
-  | then-takes w ↦ rw w.found-is (digit_tried _ _ _ _ _ _ _ true c.loop-digit-test.true c.requires c.loop-digit.invariant
+  | then-takes w ↦ rw w.found-is (digit_tried _ _ _ _ _ _ _ true c.loop-digit-test.true c.loop-digit.invariant
       w.if-takes.ensures.taken w.if-takes.ensures.kept w.if-takes.ensures.only w.insert.ensures)
-  | else-takes w ↦ rw w.found-is (digit_tried _ _ _ _ _ _ _ false c.loop-digit-test.true c.requires c.loop-digit.invariant
-      w.if-takes.ensures.taken w.if-takes.ensures.kept w.if-takes.ensures.only (λ v h. sym (or-false _)))
+  | else-takes w ↦ rw w.found-is (digit_tried _ _ _ _ _ _ _ false c.loop-digit-test.true c.loop-digit.invariant
+      w.if-takes.ensures.taken w.if-takes.ensures.kept w.if-takes.ensures.only (fun_ext (λ v. sym (or-false _))))
 ]
 
 pub returns-clause-only : goal.returns-clause-only

@@ -1,4 +1,5 @@
-use Rattle.std.proofs.Common.{refl}
+use Rattle.std.proofs.Common.{refl, ap}
+use Rattle.wordset.specs.Words.{Words}
 use Rattle.domain.specs.Meaning.{offsets_of}
 use Rattle.certificate.specs.Fields.{left}
 use Rattle.certificate.proofs.DigitLemmas.{dash_read, offsets_read, offsets_fail, has_offset}
@@ -8,7 +9,7 @@ pub returns-then-takes : goal.returns-then-takes
 returns-then-takes c =
     let d = dash_read (left c.args.self.now) (left c.takes.new.self) (offsets_of c.none.result) c.none.ensures
     (c.if-takes.ensures.taken refl) c.if-takes.ensures.only in
-    record { read = d.read; only = d.only }
+    record { ends = λ v past. ap (λ (f : Words). f v) c.none.ensures; read = d.read; only = d.only }
 
 pub returns-then-is_empty-clause-only : goal.returns-then-is_empty-clause-only
 returns-then-is_empty-clause-only c = λ s rest ends e.
@@ -22,4 +23,4 @@ returns-else-is_empty c =
     (c.if-takes.ensures.kept refl) c.if-takes.ensures.only
     (record { read = c.digits-offsets.ensures.read; only = c.digits-offsets.ensures.only })
     (has_offset (offsets_of c.digits-offsets.result) c.if-is_empty.ensures.1) in
-    record { read = d.read; only = d.only }
+    record { ends = c.digits-offsets.ensures.ends; read = d.read; only = d.only }

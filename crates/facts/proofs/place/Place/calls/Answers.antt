@@ -1,5 +1,4 @@
-use Rattle.std.proofs.Common.{◌∙◌, sym, subst}
-use Rattle.wordset.specs.Words.{SameWords}
+use Rattle.std.proofs.Common.{◌∙◌, sym, subst, ◌≡◌}
 use Rattle.wordset.specs.Lanes.{words}
 use Rattle.facts.specs.Conditions.{called}
 use Rattle.domain.specs.Meaning.{meaning}
@@ -13,5 +12,5 @@ returns-then-not-is_call g c = no_words _ _ c.empty.ensures ((calls_none _ (sym 
 
 pub returns : goal.returns
 returns g c =
-    subst (λ m. SameWords (words c.targets_at.result) (called (place_of c.args.self.now) (meaning c.args.fact.now) m))
+    subst (λ m. words c.targets_at.result ≡ called (place_of c.args.self.now) (meaning c.args.fact.now) m)
     (call_meaning (place_of c.args.self.now) c.args.at c.args.word _ _ c.refers_indirectly.ensures c.target.ensures (sym (c.is_call.ensures c.args.at) ∙ c.if-not-is_call.false)) c.targets_at.ensures

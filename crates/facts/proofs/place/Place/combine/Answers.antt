@@ -1,18 +1,12 @@
-use Rattle.std.proofs.Common.{ap, ◌∙◌}
-use Rattle.wordset.specs.Words.{Words, SameWords, one, plus}
+use Rattle.std.proofs.Common.{ap, ◌∙◌, refl}
+use Rattle.wordset.specs.Words.{Words, ands}
 use Rattle.wordset.specs.Lanes.{words}
 use Rattle.domain.specs.Facts.{narrowed, Ac}
-use Rattle.facts.specs.Outcomes.{words_at}
-use Rattle.facts.specs.Places.{place_of}
-use Rattle.facts.proofs.PlaceLemmas.{at_agree, ands_same}
-use Rattle.facts.proofs.AgreeLemmas.{agree_trans, narrowed_agree}
-use Rattle.facts.proofs.ChangingLemmas.{assigned_agree}
-use Rattle.facts.proofs.OutcomeLemmas.{has_same}
 use Rattle.facts.proofs.place.Place.combine.Goals as goal
+use Rattle.domain.specs.Changes.{strongly_updated}
+use Rattle.facts.specs.Knowing.{fact_of_state}
 
 pub returns : goal.returns
-returns g c = λ f p h e.
-    let ac : SameWords (words c.left_in-held.result.now) (narrowed f Ac) = λ v lt. c.left_in-held.ensures v lt ∙ narrowed_agree h Ac v lt in
-    let read : SameWords (words c.words_at-read.result.now) (words_at (place_of c.args.self.now) f p) = λ v lt. c.words_at-read.ensures v lt ∙ at_agree (place_of c.args.self.now) h e v lt in
-    c.going.ensures p (one (plus c.args.at 1)) f _ (has_same e) ac c.address_after-next.ensures
-    (agree_trans c.with_ac-after.ensures.same (assigned_agree Ac h (λ v lt. ap (λ (x : Words). x v) c.put_set-both.ensures ∙ c.ands.ensures v lt ∙ ands_same ac read v lt)))
+returns g c = c.going.ensures (words c.args.targets.now) _ (fact_of_state c.args.state.now) _ refl c.left_in-held.ensures c.address_after-next.ensures
+    (c.with_ac-after.ensures.same ∙ ap (λ (x : Words). strongly_updated Ac x (fact_of_state c.args.state.now))
+    (c.put_set-both.ensures ∙ c.ands.ensures ∙ ap (λ (x : Words). ands x (words c.words_at-read.result.now)) c.left_in-held.ensures ∙ ap (ands (narrowed (fact_of_state c.args.state.now) Ac)) c.words_at-read.ensures))

@@ -4,7 +4,6 @@ use Rattle.wordset.specs.Words.{only}
 use Rattle.facts.specs.Outcomes.{targets}
 use Rattle.domain.specs.Meaning.{meaning}
 use Rattle.facts.specs.Places.{place_of}
-use Rattle.facts.proofs.Alike.{only_same}
 use Rattle.facts.proofs.AskedLemmas.{counts_at, false_iff}
 use Rattle.facts.proofs.place.Place.counts_its_return.Goals as goal
 
@@ -19,7 +18,7 @@ returns-then-contains g c = false_iff (λ q. sym (sym c.if-contains.true ∙ c.c
 pub returns-in-Some : goal.returns-in-Some
 returns-in-Some g c =
     let parts = counts_at (place_of c.args.self.now) (meaning c.args.fact.now) c.args.at c.args.word c.args.entry ((c.is_reference.ensures c.args.at).0 c.if-not-is_reference.false) c.refers_indirectly.ensures c.target.ensures in
-    let one : Some c.in-Some.cell ≡ only (targets (place_of c.args.self.now) c.refers_indirectly.result c.target.result (meaning c.args.fact.now)) = c.in-Some.ensures ∙ only_same _ _ c.targets_at-targets.ensures in (
+    let one : Some c.in-Some.cell ≡ only (targets (place_of c.args.self.now) c.refers_indirectly.result c.target.result (meaning c.args.fact.now)) = c.in-Some.ensures ∙ ap only c.targets_at-targets.ensures in (
       λ t. parts.1 (
         sym c.counts.ensures ∙ c.if-not-counts.false,
         sym c.is_own.ensures ∙ c.if-not-is_own.false,
@@ -30,5 +29,5 @@ returns-in-Some g c =
     )
 
 pub returns-in-None : goal.returns-in-None
-returns-in-None g c = false_iff (λ q. absurd (let z : None ≡ Some c.args.entry = c.in-None.ensures ∙ only_same _ _ c.targets_at-targets.ensures ∙
+returns-in-None g c = false_iff (λ q. absurd (let z : None ≡ Some c.args.entry = c.in-None.ensures ∙ ap only c.targets_at-targets.ensures ∙
     ((counts_at (place_of c.args.self.now) (meaning c.args.fact.now) c.args.at c.args.word c.args.entry ((c.is_reference.ensures c.args.at).0 c.if-not-is_reference.false) c.refers_indirectly.ensures c.target.ensures).0 q).2 in cc))

@@ -1,21 +1,20 @@
-use Rattle.std.proofs.Common.{◌∙◌, sym}
-use Rattle.domain.specs.Facts.{Ac}
-use Rattle.facts.specs.Outcomes.{Returns}
+use Rattle.std.proofs.Common.{◌∙◌, sym, ap, refl}
+use Rattle.facts.specs.Outcomes.{Returns, alive}
 use Rattle.facts.specs.Knowing.{fact_of_state}
-use Rattle.facts.proofs.AgreeLemmas.{agree_trans, narrowed_agree}
-use Rattle.facts.proofs.OutcomeLemmas.{alive_same, given_none, has_same, given_some}
+use Rattle.facts.proofs.OutcomeLemmas.{given_none, given_some, alive_is}
 use Rattle.facts.proofs.place.Place.jump.Goals as goal
+use Rattle.domain.specs.Facts.{Fact}
+use Rattle.wordset.specs.Words.{all_words}
+use Rattle.wordset.specs.Lanes.{words}
 
 pub returns-then-not-is_returning : goal.returns-then-not-is_returning
-returns-then-not-is_returning g c = λ f p h e. rw (sym c.is_returning.ensures ∙ c.if-not-is_returning.true)
-    (c.going.ensures p p f f (has_same e) (λ v lt. c.left_in-held.ensures v lt ∙ narrowed_agree h Ac v lt) e (agree_trans c.same-after.ensures.same h))
+returns-then-not-is_returning g c = rw (sym c.is_returning.ensures ∙ c.if-not-is_returning.true)
+    (c.going.ensures (words c.args.targets.now) _ (fact_of_state c.args.state.now) _ refl c.left_in-held.ensures refl c.same-after.ensures.same)
 
 pub returns-then-not-is_alive : goal.returns-then-not-is_alive
-returns-then-not-is_alive g c = λ f p h e. rw (sym c.is_returning.ensures ∙ c.if-not-is_returning.false)
-    (given_none (Returns f) c.if-not-is_alive.true (c.is_alive.ensures ∙ alive_same p _ f (has_same e) (λ v lt. c.left_in-held.ensures v lt ∙ narrowed_agree h Ac v lt) (agree_trans c.same-after.ensures.same h)))
+returns-then-not-is_alive g c = rw (sym c.is_returning.ensures ∙ c.if-not-is_returning.false)
+    (given_none _ c.if-not-is_alive.true (alive_is (words c.args.targets.now) (words c.args.targets.now) (fact_of_state c.args.state.now) (fact_of_state c.same-after.result) c.is_alive.ensures refl c.left_in-held.ensures ∙ ap (λ (x : Fact). alive (words c.args.targets.now) (fact_of_state c.args.state.now) all_words x) c.same-after.ensures.same))
 
 pub returns : goal.returns
-returns g c = λ f p h e.
-    let after = agree_trans c.same-after.ensures.same h in
-    rw (sym c.is_returning.ensures ∙ c.if-not-is_returning.false)
-    (given_some (Returns (fact_of_state c.same-after.result)) (Returns f) c.if-not-is_alive.false (c.is_alive.ensures ∙ alive_same p _ f (has_same e) (λ v lt. c.left_in-held.ensures v lt ∙ narrowed_agree h Ac v lt) after) after)
+returns g c = rw (sym c.is_returning.ensures ∙ c.if-not-is_returning.false)
+    (given_some c.if-not-is_alive.false (alive_is (words c.args.targets.now) (words c.args.targets.now) (fact_of_state c.args.state.now) (fact_of_state c.same-after.result) c.is_alive.ensures refl c.left_in-held.ensures ∙ ap (λ (x : Fact). alive (words c.args.targets.now) (fact_of_state c.args.state.now) all_words x) c.same-after.ensures.same) (ap (λ (x : Fact). Returns x) c.same-after.ensures.same))

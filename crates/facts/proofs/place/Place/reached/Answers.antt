@@ -1,20 +1,13 @@
-use Rattle.std.proofs.Common.{◌∙◌, ap, sym, subst}
-use Rattle.wordset.specs.Words.{Words, SameWords, shifted}
-use Rattle.wordset.specs.Lanes.{words}
+use Rattle.std.proofs.Common.{◌∙◌, ap, sym}
+use Rattle.wordset.specs.Words.{shifted}
 use Rattle.domain.specs.Facts.{Cell, narrowed}
 use Rattle.facts.specs.Knowing.{fact_of_state}
-use Rattle.facts.specs.Places.{place_of}
-use Rattle.facts.proofs.AgreeLemmas.{narrowed_agree}
-use Rattle.facts.proofs.ChangeLemmas.{shifts_same}
-use Rattle.facts.proofs.PlaceLemmas.{in_agree}
 use Rattle.facts.proofs.ReachLemmas.{moved_here}
 use Rattle.facts.proofs.place.Place.reached.Goals as goal
 
 pub returns-then-steps_pointer : goal.returns-then-steps_pointer
-returns-then-steps_pointer g c = λ f h. rw (sym c.steps_pointer.ensures ∙ c.if-steps_pointer.true)
-    (λ v lt. subst (λ k. SameWords (words c.shifted_in.result.now) (shifted (narrowed (fact_of_state c.args.state.now) (Cell c.args.named)) k)) c.increment.ensures c.shifted_in.ensures v lt
-    ∙ shifts_same 1 (narrowed_agree h (Cell c.args.named)) v lt ∙ ap (λ (s : Words). s v) (sym (moved_here f c.args.named)))
+returns-then-steps_pointer g c = rw (sym c.steps_pointer.ensures ∙ c.if-steps_pointer.true)
+    (c.shifted_in.ensures ∙ ap (shifted (narrowed (fact_of_state c.args.state.now) (Cell c.args.named))) c.increment.ensures ∙ sym (moved_here (fact_of_state c.args.state.now) c.args.named))
 
 pub returns-then-indirect : goal.returns-then-indirect
-returns-then-indirect g c = λ f h. rw (sym c.steps_pointer.ensures ∙ c.if-steps_pointer.false, c.if-indirect.true)
-    (λ v lt. c.words_in.ensures v lt ∙ in_agree (place_of c.args.self.now) c.args.named h v lt)
+returns-then-indirect g c = rw (sym c.steps_pointer.ensures ∙ c.if-steps_pointer.false, c.if-indirect.true) c.words_in.ensures

@@ -4,13 +4,14 @@ use Rattle.wordset.specs.Words.{Words}
 use Rattle.wordset.specs.Lanes.{words}
 use Rattle.wordset.proofs.IterLemmas.{none_gathered, image_gathered, all_gathered}
 use Rattle.facts.proofs.place.Place.words_at_each.Goals as goal
+use Rattle.std.proofs.Math.Path.{fun_ext}
 
 pub loop-cell-init : goal.loop-cell-init
-loop-cell-init g c = none_gathered c.iter-cell-items.ensures c.into_iter-cell-iterator.ensures.into_iter_gives (λ v lt. ap (λ (s : Words). s v) c.empty-set.ensures)
+loop-cell-init g c = none_gathered c.iter-cell-items.ensures c.into_iter-cell-iterator.ensures.into_iter_gives (λ v. ap (λ (s : Words). s v) c.empty-set.ensures)
 
 pub loop-cell-preserved : goal.loop-cell-preserved
 loop-cell-preserved g c = image_gathered c.loop-cell.invariant c.in-Some.ensures.steps
-    (λ v lt. ap (λ (s : Words). s v) c.union-set.ensures ∙ ap (λ p. words c.loop-cell.set v || p) (c.words_in.ensures v lt))
+    (λ v. ap (λ (s : Words). s v) c.union-set.ensures ∙ ap (λ (s : Words). words c.loop-cell.set v || s v) c.words_in.ensures)
 
 pub returns : goal.returns
-returns g c = λ v lt. ap (λ (s : Words). s v) c.put_set.ensures ∙ all_gathered c.loop-cell.invariant c.in-None.ensures.steps v lt
+returns g c = c.put_set.ensures ∙ fun_ext (all_gathered c.loop-cell.invariant c.in-None.ensures.steps)

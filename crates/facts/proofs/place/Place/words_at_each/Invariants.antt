@@ -7,4 +7,4 @@ use Rattle.facts.specs.Places.{place_of}
 use Rattle.facts.proofs.place.Place.words_at_each.Given as goal
 
 abbrev pub invariant-loop-cell : goal.invariant-loop-cell
-invariant-loop-cell g l = Gathered 4096 (words_in (place_of l.self) (fact_of_state l.state)) (words l.cells) nothing (words l.set) l.cell-iterator
+invariant-loop-cell g l = Gathered (words_in (place_of l.self) (fact_of_state l.state)) (words l.cells) nothing (words l.set) l.cell-iterator

@@ -1,20 +1,19 @@
 use Rattle.std.proofs.Common.{◌∙◌, sym}
 use Rattle.domain.specs.Facts.{words_in}
-use Rattle.facts.proofs.PlaceLemmas.{all_same}
 use Rattle.facts.proofs.place.Place.words_in.Goals as goal
 
 pub returns-then-is_variable : goal.returns-then-is_variable
 unfolding words_in
-returns-then-is_variable g c = λ v lt. rw (sym c.is_variable.ensures ∙ c.if-is_variable.true) (c.left_in.ensures v lt)
+returns-then-is_variable g c = rw (sym c.is_variable.ensures ∙ c.if-is_variable.true) c.left_in.ensures
 
 pub returns-then-is_own : goal.returns-then-is_own
 unfolding words_in
-returns-then-is_own g c = λ v lt. rw (sym c.is_variable.ensures ∙ c.if-is_variable.false, sym c.is_own.ensures ∙ c.if-is_own.true) (c.own_words.ensures v lt)
+returns-then-is_own g c = rw (sym c.is_variable.ensures ∙ c.if-is_variable.false, sym c.is_own.ensures ∙ c.if-is_own.true) c.own_words.ensures
 
 pub returns-then-is_entry : goal.returns-then-is_entry
 unfolding words_in
-returns-then-is_entry g c = λ v lt. rw (sym c.is_variable.ensures ∙ c.if-is_variable.false, sym c.is_own.ensures ∙ c.if-is_own.false, sym c.is_entry.ensures ∙ c.if-is_entry.true) (all_same c.put_all.ensures v lt)
+returns-then-is_entry g c = rw (sym c.is_variable.ensures ∙ c.if-is_variable.false, sym c.is_own.ensures ∙ c.if-is_own.false, sym c.is_entry.ensures ∙ c.if-is_entry.true) c.put_all.ensures
 
 pub returns : goal.returns
 unfolding words_in
-returns g c = λ v lt. rw (sym c.is_variable.ensures ∙ c.if-is_variable.false, sym c.is_own.ensures ∙ c.if-is_own.false, sym c.is_entry.ensures ∙ c.if-is_entry.false, ← c.word_of.ensures.word) (c.tape_words.ensures v lt)
+returns g c = rw (sym c.is_variable.ensures ∙ c.if-is_variable.false, sym c.is_own.ensures ∙ c.if-is_own.false, sym c.is_entry.ensures ∙ c.if-is_entry.false, ← c.word_of.ensures.word) c.tape_words.ensures

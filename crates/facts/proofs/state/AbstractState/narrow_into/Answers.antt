@@ -1,5 +1,4 @@
-use Rattle.std.proofs.Common.{◌∙◌, sym}
-use Rattle.domain.specs.Facts.{narrowed}
+use Rattle.std.proofs.Common.{◌∙◌, sym, refl}
 use Rattle.wordset.specs.Lanes.{words}
 use Rattle.domain.specs.Meaning.{location_of, equation_of}
 use Rattle.facts.specs.Knowing.{fact_of_state}
@@ -16,5 +15,4 @@ loop-e-preserved-then-not-speaks_of c = λ v lt.
     (unspoken (fact_of_state c.args.self.now) (location_of c.args.name.now) (equation_of c.e-item.result) (words c.loop-e.set) (sym c.speaks_of.ensures ∙ c.if-not-speaks_of.true)) v lt ∙ c.loop-e.invariant v lt
 
 pub returns : goal.returns
-unfolding narrowed
-returns c = narrowed_end (fact_of_state c.args.self.now) (location_of c.args.name.now) c.args.self.now.equations.now c.loop-e.e-index _ _ c.loop-e-test.false c.loop-e.invariant
+returns c = narrowed_end (fact_of_state c.args.self.now) (location_of c.args.name.now) c.args.self.now.equations.now c.loop-e.e-index c.loop-e.set c.put_set.new.place c.loop-e-test.false refl c.put_set.ensures c.loop-e.invariant

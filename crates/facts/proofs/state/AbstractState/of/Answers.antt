@@ -2,7 +2,7 @@ use Rattle.std.proofs.Common.{refl}
 use Rattle.facts.specs.declared.state.AbstractState.{AbstractState}
 use Rattle.facts.specs.declared.state.Source.TheVariants.{One}
 use Rattle.facts.specs.declared.state.Update.TheVariants.{Unchanged}
-use Rattle.facts.proofs.ChangeLemmas.{fact_agrees}
+use Rattle.facts.proofs.ChangeLemmas.{meaning_is}
 use Rattle.facts.proofs.state.AbstractState.of.Goals as goal
 
 pub returns-clause-same : goal.returns-clause-same
@@ -17,4 +17,4 @@ returns-clause-same c =
       equations = c.equations.result;
       offsets = c.offsets.result;
     } in
-    fact_agrees c.args.fact.now k (λ a. refl) refl refl c.accumulator_lent.ensures c.mq_lent.ensures c.link.ensures c.offsets.ensures c.equations.ensures.equations
+    meaning_is c.args.fact.now k (λ a. refl) refl refl c.accumulator_lent.ensures c.mq_lent.ensures c.link.ensures c.offsets.ensures c.equations.ensures.equations

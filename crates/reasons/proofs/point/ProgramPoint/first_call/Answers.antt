@@ -1,4 +1,5 @@
-use Rattle.std.proofs.Common.{◌∙◌}
+use Rattle.std.proofs.Common.{◌∙◌, ap}
+use Rattle.wordset.specs.Words.{Words}
 use Rattle.wordset.proofs.IterLemmas.{of_set, one_more, all_pass}
 use Rattle.reasons.specs.Keeping.{KeepsCallHere}
 use Rattle.reasons.proofs.point.ProgramPoint.first_call.Goals as goal
@@ -9,4 +10,4 @@ loop-entry-preserved g c = one_more {p = KeepsCallHere g.C.Claims.claims c.args.
 pub returns-clause-none : goal.returns-clause-none
 returns-clause-none g c = λ e lt is.
     let p = KeepsCallHere g.C.Claims.claims c.args.self.now c.args.condition in
-    all_pass {p = p} (of_set {p = p} c.iter-entry-items.ensures c.into_iter-entry-iterator.ensures.into_iter_gives c.loop-entry.invariant) c.in-None.ensures.steps e lt (c.calls-callees.ensures e lt ∙ is)
+    all_pass {p = p} (of_set {p = p} c.iter-entry-items.ensures c.into_iter-entry-iterator.ensures.into_iter_gives c.loop-entry.invariant) c.in-None.ensures.steps e lt (ap (λ (s : Words). s e) c.calls-callees.ensures ∙ is)

@@ -15,9 +15,9 @@ returns-in-None-first_from-clause-none g c = λ a lt is.
     let r = routine_of c.args.self.now.place.routine in
     read_in (meaning c.args.self.now.place.declaration.now).reads listed r a (sym c.in_ok-listed.ensures)
     (elim c.match-owner.branch [
-      | in-None w ↦ inl (none_left (words c.match-owner.rest) (words c.reads-read.result) listed c.in-None-first_from.ensures (ap words w.rest-is ∙ w.minus-rest.ensures) a lt (c.reads-read.ensures a lt ∙ is))
+      | in-None w ↦ inl (none_left (words c.match-owner.rest) (words c.reads-read.result) listed c.in-None-first_from.ensures (ap words w.rest-is ∙ w.minus-rest.ensures) a lt (ap (λ (u : Words). u a) c.reads-read.ensures ∙ is))
       | in-Some w ↦ elim (in_union (words w.union.result) listed (words w.one.result) w.union.ensures a
-          (none_left (words c.match-owner.rest) (words c.reads-read.result) (words w.union.result) c.in-None-first_from.ensures (ap words w.rest-is ∙ w.minus-rest-in-Some.ensures) a lt (c.reads-read.ensures a lt ∙ is))) [
+          (none_left (words c.match-owner.rest) (words c.reads-read.result) (words w.union.result) c.in-None-first_from.ensures (ap words w.rest-is ∙ w.minus-rest-in-Some.ensures) a lt (ap (λ (u : Words). u a) c.reads-read.ensures ∙ is))) [
             | inl h ↦ inl h
             | inr h ↦ inr (sym c.owner.ensures ∙ w.in-Some.is ∙ ap Some (sym (eqb-true a w.in-Some.entry (ap (λ (u : Words). u a) (sym w.one.ensures) ∙ h))))
           ]

@@ -2,9 +2,8 @@ use Rattle.std.proofs.Common.{sym, ap, ◌∙◌}
 use Rattle.std.proofs.lemmas.Bool.{true≢false}
 use Rattle.wordset.specs.Words.{Words}
 use Rattle.domain.specs.Meaning.{meaning}
-use Rattle.facts.specs.Knowing.{fact_of_state}
-use Rattle.reasons.specs.Spots.{claimed_by, fact_of}
-use Rattle.reasons.proofs.GapLemmas.{exit_entailed, exit_gap, gap_agrees}
+use Rattle.reasons.specs.Spots.{fact_of}
+use Rattle.reasons.proofs.GapLemmas.{entails_equally, exit_gap, gap_equally}
 use Rattle.reasons.proofs.point.ProgramPoint.returns_by.Goals as goal
 
 pub returns-then-not-contains-clause-none : goal.returns-then-not-contains-clause-none
@@ -45,7 +44,7 @@ returns-in-Some-gap_between-clause-found g c = (
     ap (λ (s : Words). s c.args.offset) (sym c.offsets.ensures) ∙ sym c.contains.ensures ∙ c.if-not-contains.false,
     sym c.in-Some.ensures.there,
     exit_gap (fact_of c.args.self.now) (meaning c.in-Some.exit) _ _ c.in-Some.ensures.offsets c.in-Some.ensures.fact
-        (gap_agrees (fact_of_state c.of.result) (fact_of c.args.self.now) (meaning c.in-Some.exit) _ c.of.ensures.same c.in-Some-gap_between.ensures.found),
+        (gap_equally (meaning c.in-Some.exit) _ c.of.ensures.same c.in-Some-gap_between.ensures.found),
   ),
 )
 
@@ -54,6 +53,6 @@ returns-in-None-clause-none g c = λ has. record {
   declared = sym (rw c.from_index-declared.ensures at c.has_offset.ensures) ∙ c.if-not-has_offset.false;
   exit = λ lines. record {
     there = sym c.in-Some.ensures.there;
-    entails = exit_entailed (fact_of_state c.of.result) (fact_of c.args.self.now) (meaning c.in-Some.exit) ((claimed_by g.C.Claims.claims c.args.self.now).exit c.args.entry c.args.offset) c.of.ensures.same c.in-Some.ensures.fact c.in-None.ensures.none.0;
+    entails = entails_equally c.of.ensures.same c.in-Some.ensures.fact c.in-None.ensures.none.0;
   };
 }

@@ -13,7 +13,7 @@ returns-in-None-clause-none g c = λ lines a lt is.
     let entry = c.in_ok-entry.entry in
     may_write_in claims (routine_of c.args.self.now.place.routine) entry a (sym c.in_ok-entry.ensures)
     (elim (in_union (words c.union-listed.result) (words c.claimed_routine.result.writes) (words c.one.result) c.union-listed.ensures a
-    (none_left (words c.minus.result) (words c.written.result) (words c.union-listed.result) c.in-None.ensures c.minus.ensures a lt (c.written.ensures a lt ∙ is))) [
+    (none_left (words c.minus.result) (words c.written.result) (words c.union-listed.result) c.in-None.ensures c.minus.ensures a lt (ap (λ (u : Words). u a) c.written.ensures ∙ is))) [
       | inl h ↦ inl (ap (λ (u : Words). u a) (sym c.claimed_routine.ensures.writes) ∙ h)
       | inr h ↦ inr (eqb-true a entry (ap (λ (u : Words). u a) (sym c.one.ensures) ∙ h))
     ])

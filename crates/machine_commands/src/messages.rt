@@ -1,0 +1,390 @@
+//! What is told of runs, with its addresses marked for whoever has the program's source. The commands write the same
+//! as plain text.
+
+ghost use Rattle.std.specs.Prelude.{◌≡◌, [], false, IfOk, IfErr, IfSome};
+ghost use Rattle.wordset.specs.Lanes.{words};
+ghost use Rattle.declaration.specs.Kept.{meaning};
+ghost use Rattle.peripherals.specs.Loading.{image_of};
+ghost use Rattle.refuter.specs.Witnesses.{Breaks, IsLast, IsSpelled};
+ghost use Rattle.command_parts.specs.Answers.{IsMemoryFault};
+ghost use Rattle.command_parts.specs.Messages.{plain};
+ghost use Rattle.machine_commands.specs.RefuteText.{IsRefutationOf, IsWitnessOf, unbroken_text};
+ghost use Rattle.machine_commands.specs.Session.{plan_for};
+ghost use Rattle.machine_commands.specs.WatchText.{IsTold, IsToldWithCells, IsWatchOf, broken_text, watched_status, watched_text};
+ghost use Rattle.machine_commands.specs.WatchedSession.{IsPlanWatchedSo};
+
+use crate::progress::{Offered, offered_by, progress_lines};
+use crate::schedule::events_of;
+use crate::shown::shown_of;
+use bin_tape::Image;
+use command_parts::message::{Lines, Message};
+use command_parts::outcome::Outcome;
+use command_parts::status::{Fault, Status};
+use declaration::Declaration;
+use itoa::Buffer;
+use options::{RefuteOptions, SessionOptions};
+use peripherals::{Event, NoMemory, Operator, Start, World};
+use policy::{Rule, Watched};
+use refuter::{Witness, refute_within};
+use std::alloc::{AllocError, Allocator};
+use turns::Turns;
+use watch_texts::breach_lines;
+use wordset::WordSet;
+
+/// What is told of a run, and how the command ends.
+#[derive(Drop)]
+pub struct RunMessage<A: Allocator> {
+    /// What is told.
+    pub told: Message<A>,
+    /// How the command ends.
+    pub status: Status,
+}
+
+/// What is found in search of a run that breaks a declaration.
+#[derive(Drop)]
+pub struct RefutationMessage<A: Allocator> {
+    /// The text of the run's events; empty where none is found.
+    pub events: Vec<u8, A>,
+    /// What is told.
+    pub told: Message<A>,
+    /// How the command ends.
+    pub status: Status,
+}
+
+/// A run that breaks a declaration, and what is told of it.
+#[derive(Drop)]
+pub(crate) struct ToldWitness<A: Allocator> {
+    /// The text of its events.
+    pub events: Vec<u8, A>,
+    /// What is told.
+    pub told: Message<A>,
+}
+
+impl<A: Allocator> RunMessage<A> {
+    ghost use Rattle.command_parts.specs.Messages.{plain};
+
+    /// The same as it reads without a source.
+    pub(crate) fn into_outcome(self) -> Outcome<A>
+        ensures text { result.text.items ≡ plain self.told }
+        ensures status { result.status ≡ self.status }
+    {
+        let RunMessage { told, status } = self;
+        Outcome {
+            text: told.into_bytes(),
+            status,
+        }
+    }
+}
+
+/// The line for a broken rule.
+fn broken_line<A: Allocator>(alloc: A, event: usize, rule: Rule) -> Result<Vec<u8, A>, AllocError>
+    ensures { IfOk result (λ text. text.items ≡ broken_text event rule) }
+{
+    let mut text = Vec::new(alloc);
+    text.extend_from_slice(b"broken: event ")?;
+    text.extend_from_slice(Buffer::new().format(event).as_bytes())?;
+    text.extend_from_slice(b" rule ")?;
+    text.extend_from_slice(Buffer::new().format(rule.number()).as_bytes())?;
+    text.extend_from_slice(b"\n")?;
+    Ok(text)
+}
+
+/// The line that says what was seen.
+fn watched_line<A: Allocator>(alloc: A, watched: Watched) -> Result<Vec<u8, A>, AllocError>
+    ensures { IfOk result (λ text. text.items ≡ watched_text watched) }
+{
+    match watched {
+        Watched::Clean => {
+            let mut text = Vec::new(alloc);
+            text.extend_from_slice(b"clean\n")?;
+            Ok(text)
+        }
+        Watched::Broken { event, rule } => broken_line(alloc, event, rule),
+    }
+}
+
+/// The line that says in how many steps nothing was found.
+pub(crate) fn unbroken_line<A: Allocator>(alloc: A, steps: u32) -> Result<Vec<u8, A>, AllocError>
+    ensures { IfOk result (λ text. text.items ≡ unbroken_text steps) }
+{
+    let mut text = Vec::new(alloc);
+    text.extend_from_slice(b"not broken in ")?;
+    text.extend_from_slice(Buffer::new().format(steps).as_bytes())?;
+    text.extend_from_slice(b" steps\n")?;
+    Ok(text)
+}
+
+/// A run that breaks a rule is refused.
+fn watched_status(watched: Watched) -> Status
+    ensures { result ≡ watched_status watched }
+{
+    match watched {
+        Watched::Clean => Status::Done,
+        Watched::Broken { .. } => Status::Refused,
+    }
+}
+
+/// The lines behind the verdict of a watched run, if it is to be explained: how far a run came that keeps
+/// the rules, and what the step is about to do that breaks one.
+fn why_of<A: Allocator + Copy, D: Allocator>(
+    alloc: A,
+    image: &Image,
+    declaration: &Declaration<D>,
+    events: &[Event],
+    offered: Offered,
+    watched: Watched,
+    explained: bool,
+) -> Result<Message<A>, NoMemory>
+    ensures { IfOk result (λ text. explained ≡ false → plain text ≡ []) }
+{
+    match watched {
+        Watched::Clean if explained => progress_lines(alloc, image, declaration, events, offered),
+        _ => breach_lines(alloc, image, declaration, events, watched, explained),
+    }
+}
+
+/// What is told of a watched run: the line that says what was seen, and behind it, if it is to be explained, how far
+/// the run came, or what the step is about to do that breaks a rule.
+fn seen_message<A: Allocator + Copy, D: Allocator>(
+    alloc: A,
+    image: &Image,
+    declaration: &Declaration<D>,
+    events: &[Event],
+    offered: Offered,
+    watched: Watched,
+    explained: bool,
+) -> Result<Message<A>, NoMemory>
+    ensures { IfOk result (λ text. IsTold watched explained (plain text)) }
+{
+    let mut text = Message::of(alloc, watched_line(alloc, watched)?);
+    let why = why_of(
+        alloc,
+        image,
+        declaration,
+        events,
+        offered,
+        watched,
+        explained,
+    )?;
+    text.push_message(&why)?;
+    Ok(text)
+}
+
+/// What is told of a watched run, and behind it the cells that are to be shown.
+fn seen_with_cells<A: Allocator + Copy, D: Allocator>(
+    alloc: A,
+    image: &Image,
+    declaration: &Declaration<D>,
+    events: &[Event],
+    offered: Offered,
+    watched: Watched,
+    explained: bool,
+    show: &WordSet,
+) -> Result<Message<A>, NoMemory>
+    ensures { IfOk result (λ text. IsToldWithCells image.now (meaning declaration.now) events.now
+        watched explained (words show.now) (plain text)) }
+{
+    let mut text = seen_message(
+        alloc,
+        image,
+        declaration,
+        events,
+        offered,
+        watched,
+        explained,
+    )?;
+    let shown = shown_of(alloc, image, declaration, events, watched, show)?;
+    text.push_text(&shown)?;
+    Ok(text)
+}
+
+/// What is told of the run of some events, by what there was to come, and the cells that are to be shown.
+fn watch_offered<A: Allocator + Copy, D: Allocator>(
+    alloc: A,
+    image: &Image,
+    declaration: &Declaration<D>,
+    events: &[Event],
+    offered: Offered,
+    explained: bool,
+    show: &WordSet,
+) -> Result<RunMessage<A>, Fault>
+    ensures told { IfOk result (λ run. IsWatchOf explained (words show.now) image.now
+        (meaning declaration.now) events.now run.status (plain run.told)) }
+    ensures faults { IfErr result IsMemoryFault }
+{
+    let watched = policy::watch(alloc, image, declaration, &Start::zero(), events)?;
+    let told = seen_with_cells(
+        alloc,
+        image,
+        declaration,
+        events,
+        offered,
+        watched,
+        explained,
+        show,
+    )?;
+    let status = watched_status(watched);
+    Ok(RunMessage { told, status })
+}
+
+/// What `watch` tells of a list of events, with the cells that are to be shown.
+///
+/// # Errors
+///
+/// `NoMemory`.
+#[inline(never)]
+pub fn watch_message<A: Allocator + Copy, D: Allocator>(
+    alloc: A,
+    image: &Image,
+    declaration: &Declaration<D>,
+    events: &[Event],
+    explained: bool,
+    show: &WordSet,
+) -> Result<RunMessage<A>, Fault>
+    ensures told { IfOk result (λ run. IsWatchOf explained (words show.now) image.now
+        (meaning declaration.now) events.now run.status (plain run.told)) }
+    ensures faults { IfErr result IsMemoryFault }
+{
+    let offered = offered_by(events);
+    watch_offered(alloc, image, declaration, events, offered, explained, show)
+}
+
+/// What `watch` tells of a run with an operator, by the frames in the reader and the keys to strike.
+///
+/// # Errors
+///
+/// `NoMemory`.
+#[inline(never)]
+pub fn watch_session_message<A: Allocator + Copy, D: Allocator>(
+    alloc: A,
+    image: &Image,
+    declaration: &Declaration<D>,
+    frames: &[u8],
+    keys: &[u8],
+    options: &SessionOptions,
+    explained: bool,
+) -> Result<RunMessage<A>, Fault>
+    ensures told { IfOk result (λ run. IsPlanWatchedSo (plan_for options.now frames.now keys.now)
+        image.now (meaning declaration.now) explained (words options.now.run.show) (plain run.told)
+        run.status) }
+    ensures faults { IfErr result IsMemoryFault }
+{
+    let mut operator = Operator::new(
+        options.switches,
+        options.run.rounds,
+        frames,
+        keys,
+        options.mark,
+    );
+    let mut world = World::load(
+        alloc,
+        image,
+        declaration.start(),
+        &Start::zero(),
+        declaration.profile(),
+    );
+    let events = events_of(alloc, &mut world, &mut operator)?;
+    let offered = Offered {
+        frames: frames.len(),
+        keys: keys.len(),
+    };
+    let show = &options.run.show;
+    watch_offered(alloc, image, declaration, &events, offered, explained, show)
+}
+
+/// The text of the events of a run that breaks the declaration, and what is told of it.
+fn witness_message<A: Allocator + Copy, D: Allocator>(
+    alloc: A,
+    image: &Image,
+    declaration: &Declaration<D>,
+    found: Witness<A>,
+    explained: bool,
+) -> Result<ToldWitness<A>, Fault>
+    requires broken { Breaks (image_of image.now) (meaning declaration.now) found }
+    requires spelled { IsSpelled found }
+    requires last { IsLast found }
+    ensures told { IfOk result (λ told. IsWitnessOf explained image.now (meaning declaration.now)
+        told.events.items (plain told.told)) }
+    ensures faults { IfErr result IsMemoryFault }
+{
+    let Witness {
+        events,
+        text,
+        event,
+        rule,
+    } = found;
+    let watched = Watched::Broken { event, rule };
+    let offered = offered_by(&events);
+    let told = seen_message(
+        alloc,
+        image,
+        declaration,
+        &events,
+        offered,
+        watched,
+        explained,
+    )?;
+    Ok(ToldWitness { events: text, told })
+}
+
+/// Looks for a run that breaks the declaration, and says what is told of it if one is found.
+pub(crate) fn told_witness<A: Allocator + Copy, D: Allocator>(
+    alloc: A,
+    image: &Image,
+    declaration: &Declaration<D>,
+    options: &RefuteOptions,
+) -> Result<Option<ToldWitness<A>>, Fault>
+    ensures told { IfOk result (λ found. IfSome found (λ told. IsWitnessOf options.now.explained
+        image.now (meaning declaration.now) told.events.items (plain told.told))) }
+    ensures faults { IfErr result IsMemoryFault }
+{
+    let mut turns = Turns::new(options.steps);
+    let seed = u64::from(options.seed);
+    match refute_within(alloc, image, declaration, seed, &mut turns)? {
+        None => Ok(None),
+        Some(found) => {
+            match witness_message(alloc, image, declaration, found, options.explained) {
+                Ok(told) => Ok(Some(told)),
+                Err(fault) => Err(fault),
+            }
+        }
+    }
+}
+
+/// What `refute` finds and tells: a run that breaks the declaration, or that none is found in so many steps.
+///
+/// # Errors
+///
+/// `NoMemory`.
+#[inline(never)]
+pub fn refute_message<A: Allocator + Copy, D: Allocator>(
+    alloc: A,
+    image: &Image,
+    declaration: &Declaration<D>,
+    options: &RefuteOptions,
+) -> Result<RefutationMessage<A>, Fault>
+    ensures told { IfOk result (λ found. IsRefutationOf options.now image.now
+        (meaning declaration.now) found.status found.events.items (plain found.told)) }
+    ensures faults { IfErr result IsMemoryFault }
+{
+    match told_witness(alloc, image, declaration, options) {
+        Ok(Some(found)) => {
+            let ToldWitness { events, told } = found;
+            let status = Status::Refused;
+            Ok(RefutationMessage {
+                events,
+                told,
+                status,
+            })
+        }
+        Ok(None) => {
+            let line = unbroken_line(alloc, options.steps)?;
+            Ok(RefutationMessage {
+                events: Vec::new(alloc),
+                told: Message::of(alloc, line),
+                status: Status::Done,
+            })
+        }
+        Err(fault) => Err(fault),
+    }
+}

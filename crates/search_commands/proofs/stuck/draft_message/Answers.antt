@@ -1,0 +1,17 @@
+use Rattle.std.proofs.Common.{◌≡◌, rules}
+use Rattle.declaration.specs.Kept.{meaning}
+use Rattle.command_parts.specs.Messages.{plain}
+use Rattle.search_commands.specs.StuckText.{told_text}
+use Rattle.search_commands.proofs.stuck.draft_message.Goals as goal
+
+pub returns : goal.returns
+returns g c =
+    let is : plain c.push_told.new.text ≡ told_text (meaning c.args.declaration.now).profile c.args.image.now c.why_stuck-told.result = search rules in
+    record {
+      told = c.why_stuck-told.result;
+      why = c.why_stuck-told.ensures.explained;
+      place = c.why_stuck-told.ensures.place;
+      first = c.why_stuck-told.ensures.first;
+      none = c.why_stuck-told.ensures.none;
+      lines_are = is;
+    }

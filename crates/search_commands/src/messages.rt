@@ -1,0 +1,485 @@
+//! Whether a program keeps its declaration, and why, with the addresses of what is told marked for whoever has the
+//! program's source. The commands write the same as plain text.
+
+ghost use Rattle.std.specs.Prelude.{◌≡◌, ◌++◌, false, [], IfOk, IfErr};
+ghost use Rattle.declaration.specs.Kept.{meaning};
+ghost use Rattle.analyser.specs.Attempts.{IsAcceptedIfFound, IsDraftIfStuck, claimed_by};
+ghost use Rattle.certificate.specs.Kept.{meaning as lines_of};
+ghost use Rattle.certificate.specs.Reading.{AreLines};
+ghost use Rattle.command_parts.specs.Answers.{IsMemoryFault, ReadsTwo};
+ghost use Rattle.command_parts.specs.Faults.{fails_to_write};
+ghost use Rattle.command_parts.specs.Inputs.{HasDeclaration, HasImage, input};
+ghost use Rattle.command_parts.specs.Messages.{plain};
+ghost use Rattle.proposer.specs.Proposals.{IsShown};
+ghost use Rattle.search_commands.specs.SearchFaults.{IsProposeFault, IsSearchFault};
+ghost use Rattle.search_commands.specs.VerifyText.{IsAnswer, IsProposedAnswerOf, IsVerifiedOf, answer_text, lack_text, no_text};
+
+use crate::stuck::draft_message;
+use crate::verifying::{Answer, Lack, MOST_TURNS, Proposed, RefuteOptions, VerifyOptions, lack_of};
+use analyser::{Attempt, GuessFault, guess, guess_or_draft};
+use bin_tape::Image;
+use certificate::Certificate;
+use command_parts::message::Message;
+use command_parts::programs::{Program, program_from};
+use command_parts::status::Fault;
+use command_parts::text::push_place;
+use declaration::Declaration;
+use itoa::Buffer;
+use policy::{Rule, Watched};
+use proposer::{Proposal, Verdict, propose};
+use refuter::{Witness, refute_within};
+use std::alloc::{AllocError, Allocator};
+use streams::ByteSource;
+use turns::Turns;
+use verdict_texts::verdict::verdict_line;
+use watch_texts::breach_lines;
+use word12::Word;
+
+/// A program and its declaration, and what a search for a certificate came to.
+#[derive(Drop)]
+pub struct Sought<A: Allocator> {
+    /// The words of the program.
+    pub image: Image,
+    /// Its declaration.
+    pub declaration: Declaration<A>,
+    /// What the search came to.
+    pub attempt: Attempt<A>,
+}
+
+/// An answer, and what the search for a certificate had found where it was stuck, if that is known.
+#[derive(Drop)]
+struct Searched<A: Allocator> {
+    answer: Answer<A>,
+    draft: Option<Certificate<A>>,
+}
+
+/// An answer, its line, and why.
+#[derive(Drop)]
+pub struct AnswerMessage<A: Allocator> {
+    /// Whether the program keeps its declaration.
+    pub answer: Answer<A>,
+    /// The line of the answer.
+    pub line: Vec<u8, A>,
+    /// The lines that say why, where that is asked for; there are none behind a yes.
+    pub why: Message<A>,
+    /// What the search had found where it was stuck, if that is the answer and it is to be explained.
+    pub draft: Option<Certificate<A>>,
+}
+
+/// An answer on a declaration that is proposed, its line, and why.
+#[derive(Drop)]
+pub struct ProposalMessage<A: Allocator> {
+    /// The declaration, and whether the program keeps it.
+    pub proposed: Proposed<A>,
+    /// The line of the answer.
+    pub line: Vec<u8, A>,
+    /// The lines that say why, where that is asked for; there are none behind a yes.
+    pub why: Message<A>,
+}
+
+/// Reads a tape and then a declaration, and looks for a certificate as `guess` does.
+///
+/// # Errors
+///
+/// The fault of the tape or of the declaration; `Guess` where there is neither a certificate nor a draft; `NoMemory`.
+#[inline(never)]
+pub fn seek<A: Allocator + Copy, T: ByteSource, D: ByteSource>(
+    alloc: A,
+    tape: &mut T,
+    declaration: &mut D,
+) -> Result<Sought<A>, Fault>
+    requires readable { T.mark tape.old ≡ false }
+    requires declaration_readable { D.mark declaration.old ≡ false }
+    // The judge accepts what is found, for the words of the tape and the declaration that were read.
+    ensures tape { IfOk result (λ sought. HasImage (T.remaining tape.old) sought.image) }
+    ensures declares { IfOk result (λ sought.
+        HasDeclaration (D.remaining declaration.old) (meaning sought.declaration)) }
+    ensures accepted { IfOk result (λ sought.
+        IsAcceptedIfFound sought.image sought.declaration sought.attempt) }
+    // A draft's lines are where they may be, and it has a fact where the search is stuck.
+    ensures draft { IfOk result (λ sought.
+        IsDraftIfStuck (meaning sought.declaration) sought.attempt) }
+    // The inputs are read in order; after good ones nothing may be found, or memory be refused.
+    ensures reads { ReadsTwo IsSearchFault
+        (input (T.mark tape.new) (T.remaining tape.old) (T.remaining tape.new))
+        (input (D.mark declaration.new) (D.remaining declaration.old) (D.remaining declaration.new))
+        (declaration.new ≡ declaration.old) result }
+{
+    let program = program_from(alloc, tape, declaration)?;
+    let attempt = guess_or_draft(alloc, &program.image, &program.declaration)?;
+    let Program { image, declaration } = program;
+    Ok(Sought {
+        image,
+        declaration,
+        attempt,
+    })
+}
+
+/// Looks for a run that breaks a declaration, for which no certificate was found.
+fn refuted<A: Allocator + Copy, D: Allocator>(
+    alloc: A,
+    image: &Image,
+    declaration: &Declaration<D>,
+    options: &RefuteOptions,
+    lack: Lack,
+) -> Result<Answer<A>, Fault>
+    ensures answer { IfOk result (IsAnswer image.now (meaning declaration.now)) }
+    ensures faults { IfErr result IsMemoryFault }
+{
+    let mut turns = Turns::new(options.steps);
+    match refute_within(
+        alloc,
+        image,
+        declaration,
+        u64::from(options.seed),
+        &mut turns,
+    )? {
+        Some(found) => Ok(Answer::No(found)),
+        None => Ok(Answer::NotKnown(lack)),
+    }
+}
+
+/// The same, with what the search for a certificate had found, if that is known.
+fn answer_on<A: Allocator + Copy, D: Allocator>(
+    alloc: A,
+    image: &Image,
+    declaration: &Declaration<D>,
+    options: &RefuteOptions,
+    lack: Lack,
+    draft: Option<Certificate<A>>,
+) -> Result<Searched<A>, Fault>
+    ensures answer { IfOk result (λ found.
+        IsAnswer image.now (meaning declaration.now) found.answer) }
+    ensures faults { IfErr result IsMemoryFault }
+{
+    match refuted(alloc, image, declaration, options, lack) {
+        Ok(answer) => Ok(Searched { answer, draft }),
+        Err(fault) => Err(fault),
+    }
+}
+
+/// The same by the fault of the search for a certificate.
+fn answer_after<A: Allocator + Copy, D: Allocator>(
+    alloc: A,
+    image: &Image,
+    declaration: &Declaration<D>,
+    options: &RefuteOptions,
+    fault: GuessFault,
+) -> Result<Searched<A>, Fault>
+    ensures answer { IfOk result (λ found.
+        IsAnswer image.now (meaning declaration.now) found.answer) }
+    ensures faults { IfErr result IsMemoryFault }
+{
+    match lack_of(fault) {
+        Ok(lack) => answer_on(alloc, image, declaration, options, lack, None),
+        Err(fault) => Err(fault),
+    }
+}
+
+/// The answer for a declaration that was given.
+fn answer_of<A: Allocator + Copy, D: Allocator>(
+    alloc: A,
+    image: &Image,
+    declaration: &Declaration<D>,
+    options: &RefuteOptions,
+) -> Result<Searched<A>, Fault>
+    ensures answer { IfOk result (λ found.
+        IsAnswer image.now (meaning declaration.now) found.answer) }
+    ensures faults { IfErr result IsMemoryFault }
+{
+    match guess(alloc, image, declaration) {
+        Ok(certificate) => Ok(Searched {
+            answer: Answer::Yes(certificate),
+            draft: None,
+        }),
+        Err(fault) => answer_after(alloc, image, declaration, options, fault),
+    }
+}
+
+/// The answer by what a search for a certificate came to.
+fn answer_by_attempt<A: Allocator + Copy, D: Allocator>(
+    alloc: A,
+    image: &Image,
+    declaration: &Declaration<D>,
+    options: &RefuteOptions,
+    attempt: Attempt<A>,
+) -> Result<Searched<A>, Fault>
+    requires accepted { IsAcceptedIfFound image.now declaration.now attempt }
+    requires lines { AreLines (lines_of (claimed_by attempt)) }
+    ensures answer { IfOk result (λ found.
+        IsAnswer image.now (meaning declaration.now) found.answer) }
+    ensures faults { IfErr result IsMemoryFault }
+{
+    match attempt {
+        Attempt::Found(certificate) => Ok(Searched {
+            answer: Answer::Yes(certificate),
+            draft: None,
+        }),
+        Attempt::Stuck(at, draft) => {
+            let lack = Lack::Stuck(at);
+            answer_on(alloc, image, declaration, options, lack, Some(draft))
+        }
+    }
+}
+
+/// The answer for a declaration that was given, with the draft of a search that is stuck. One search is made for a
+/// certificate.
+fn answer_with_draft<A: Allocator + Copy, D: Allocator>(
+    alloc: A,
+    image: &Image,
+    declaration: &Declaration<D>,
+    options: &RefuteOptions,
+) -> Result<Searched<A>, Fault>
+    ensures answer { IfOk result (λ found.
+        IsAnswer image.now (meaning declaration.now) found.answer) }
+    ensures faults { IfErr result IsMemoryFault }
+{
+    match guess_or_draft(alloc, image, declaration) {
+        Ok(attempt) => answer_by_attempt(alloc, image, declaration, options, attempt),
+        Err(fault) => answer_after(alloc, image, declaration, options, fault),
+    }
+}
+
+/// The answer for a declaration that was proposed with this verdict.
+fn answer_by<A: Allocator + Copy>(
+    alloc: A,
+    image: &Image,
+    declaration: &Declaration<A>,
+    verdict: Verdict<A>,
+    options: &RefuteOptions,
+) -> Result<Searched<A>, Fault>
+    requires { IsShown image.now declaration.now verdict }
+    ensures answer { IfOk result (λ found.
+        IsAnswer image.now (meaning declaration.now) found.answer) }
+    ensures faults { IfErr result IsMemoryFault }
+{
+    let lack = match verdict {
+        Verdict::Safe(certificate) => {
+            return Ok(Searched {
+                answer: Answer::Yes(certificate),
+                draft: None,
+            });
+        }
+        Verdict::Stuck(at) => Lack::Stuck(at),
+        Verdict::TurnsSpent => Lack::TurnsSpent,
+    };
+    answer_on(alloc, image, declaration, options, lack, None)
+}
+
+/// The line that says why it isn't known.
+fn lack_line<A: Allocator>(alloc: A, lack: Lack) -> Result<Vec<u8, A>, AllocError>
+    ensures { IfOk result (λ text. text.items ≡ lack_text lack) }
+{
+    let mut text = Vec::new(alloc);
+    match lack {
+        Lack::Stuck(at) => push_place(&mut text, b"not known: stuck at ", at)?,
+        Lack::TurnsSpent => text.extend_from_slice(b"not known: turns spent")?,
+    }
+    text.extend_from_slice(b"\n")?;
+    Ok(text)
+}
+
+/// The line of a run that breaks the declaration.
+fn no_line<A: Allocator>(alloc: A, event: usize, rule: Rule) -> Result<Vec<u8, A>, AllocError>
+    ensures { IfOk result (λ text. text.items ≡ no_text event rule) }
+{
+    let mut text = Vec::new(alloc);
+    text.extend_from_slice(b"no: event ")?;
+    text.extend_from_slice(Buffer::new().format(event).as_bytes())?;
+    text.extend_from_slice(b" rule ")?;
+    text.extend_from_slice(Buffer::new().format(rule.number()).as_bytes())?;
+    text.extend_from_slice(b"\n")?;
+    Ok(text)
+}
+
+/// The line of an answer.
+fn answer_line<A: Allocator + Copy, D: Allocator>(
+    alloc: A,
+    declaration: &Declaration<D>,
+    answer: &Answer<A>,
+) -> Result<Vec<u8, A>, AllocError>
+    ensures { IfOk result (λ text.
+        text.items ≡ answer_text (meaning declaration.now) answer.now) }
+{
+    match answer {
+        Answer::Yes(_) => verdict_line(alloc, declaration, &Ok(())),
+        Answer::No(found) => no_line(alloc, found.event, found.rule),
+        Answer::NotKnown(lack) => lack_line(alloc, *lack),
+    }
+}
+
+/// What the search for a certificate lacks, by what it had found: the lines of `guess --why` behind its first one.
+fn lacking_message<A: Allocator + Copy, D: Allocator>(
+    alloc: A,
+    image: &Image,
+    declaration: &Declaration<D>,
+) -> Result<Message<A>, AllocError> {
+    let attempt = match guess_or_draft(alloc, image, declaration) {
+        Ok(attempt) => attempt,
+        Err(GuessFault::NoMemory) => return Err(AllocError),
+        Err(_) => return Ok(Message::new(alloc)),
+    };
+    match &attempt {
+        Attempt::Found(_) => Ok(Message::new(alloc)),
+        Attempt::Stuck(at, draft) => draft_message(alloc, image, declaration, draft, *at),
+    }
+}
+
+/// The same, by the draft if that is known; else by another search.
+fn stuck_message<A: Allocator + Copy, D: Allocator>(
+    alloc: A,
+    image: &Image,
+    declaration: &Declaration<D>,
+    draft: &Option<Certificate<A>>,
+    at: Word,
+) -> Result<Message<A>, AllocError> {
+    match draft {
+        Some(draft) => draft_message(alloc, image, declaration, draft, at),
+        None => lacking_message(alloc, image, declaration),
+    }
+}
+
+/// What the last step of a run is about to do that breaks a rule.
+fn breach_message<A: Allocator + Copy, D: Allocator>(
+    alloc: A,
+    image: &Image,
+    declaration: &Declaration<D>,
+    found: &Witness<A>,
+) -> Result<Message<A>, Fault>
+    ensures { IfErr result IsMemoryFault }
+{
+    let (event, rule) = (found.event, found.rule);
+    let watched = Watched::Broken { event, rule };
+    let events = &found.events;
+    Ok(breach_lines(alloc, image, declaration, events, watched, true)?)
+}
+
+/// The lines behind an answer that say why: what the step is about to do that breaks a rule, or what the
+/// search for a certificate lacks. There are none where they aren't asked for, or behind a yes.
+fn why_message<A: Allocator + Copy, D: Allocator>(
+    alloc: A,
+    image: &Image,
+    declaration: &Declaration<D>,
+    found: &Searched<A>,
+    explained: bool,
+) -> Result<Message<A>, Fault>
+    ensures plain { IfOk result (λ text. explained ≡ false → plain text ≡ []) }
+    ensures faults { IfErr result IsMemoryFault }
+{
+    if !explained {
+        return Ok(Message::new(alloc));
+    }
+    match &found.answer {
+        Answer::Yes(_) | Answer::NotKnown(Lack::TurnsSpent) => Ok(Message::new(alloc)),
+        Answer::NotKnown(Lack::Stuck(at)) => {
+            Ok(stuck_message(alloc, image, declaration, &found.draft, *at)?)
+        }
+        Answer::No(witness) => breach_message(alloc, image, declaration, witness),
+    }
+}
+
+/// An answer with its line, and why.
+fn message_of<A: Allocator + Copy, D: Allocator>(
+    alloc: A,
+    image: &Image,
+    declaration: &Declaration<D>,
+    found: Searched<A>,
+    explained: bool,
+) -> Result<AnswerMessage<A>, Fault>
+    requires { IsAnswer image.now (meaning declaration.now) found.answer }
+    ensures told { IfOk result (λ told. IsVerifiedOf explained image.now (meaning declaration.now)
+        told.answer (told.line.items ++ plain told.why)) }
+    ensures line { IfOk result (λ told.
+        told.line.items ≡ answer_text (meaning declaration.now) told.answer) }
+    ensures faults { IfErr result IsMemoryFault }
+{
+    let line = answer_line(alloc, declaration, &found.answer)?;
+    let why = why_message(alloc, image, declaration, &found, explained)?;
+    let Searched { answer, draft } = found;
+    Ok(AnswerMessage {
+        answer,
+        line,
+        why,
+        draft,
+    })
+}
+
+/// Says whether a program keeps its declaration, and why, where that is asked for.
+///
+/// # Errors
+///
+/// `NoMemory`.
+#[inline(never)]
+pub fn verify_message<A: Allocator + Copy, D: Allocator>(
+    alloc: A,
+    image: &Image,
+    declaration: &Declaration<D>,
+    options: &RefuteOptions,
+) -> Result<AnswerMessage<A>, Fault>
+    // The answer is true of the image and the declaration, and the line and the text behind it tell it.
+    ensures told { IfOk result (λ told. IsVerifiedOf options.now.explained image.now
+        (meaning declaration.now) told.answer (told.line.items ++ plain told.why)) }
+    ensures line { IfOk result (λ told.
+        told.line.items ≡ answer_text (meaning declaration.now) told.answer) }
+    ensures faults { IfErr result IsMemoryFault }
+{
+    if options.explained {
+        let found = answer_with_draft(alloc, image, declaration, options)?;
+        return message_of(alloc, image, declaration, found, options.explained);
+    }
+    let found = answer_of(alloc, image, declaration, options)?;
+    message_of(alloc, image, declaration, found, options.explained)
+}
+
+/// Says whether a program keeps the declaration that is proposed for it, and why, where that is asked for.
+///
+/// # Errors
+///
+/// `Declare` where what is found can't be declared; `NoMemory`.
+#[inline(never)]
+pub fn verify_proposed_message<A: Allocator + Copy>(
+    alloc: A,
+    image: &Image,
+    options: &VerifyOptions,
+) -> Result<ProposalMessage<A>, Fault>
+    // The text declares a program from that start, on that machine, the answer is true of it, and the
+    // line and the text behind it tell it.
+    ensures told { IfOk result (λ told. IsProposedAnswerOf options.now image.now told.proposed
+        (told.line.items ++ plain told.why)) }
+    ensures faults { IfErr result IsProposeFault }
+    ensures unwritten { fails_to_write result ≡ false }
+{
+    let mut turns = Turns::new(MOST_TURNS);
+    let proposal = propose(alloc, image, options.start, options.profile, &mut turns)?;
+    let Proposal {
+        declaration,
+        text,
+        verdict,
+        ..
+    } = proposal;
+    let found = answer_by(alloc, image, &declaration, verdict, &options.search)?;
+    let told = message_of(alloc, image, &declaration, found, options.search.explained)?;
+    let AnswerMessage {
+        answer,
+        line,
+        why,
+        ..
+    } = told;
+    Ok(ProposalMessage {
+        proposed: Proposed { text, answer },
+        line,
+        why,
+    })
+}
+
+/// A line, and behind it a text as it reads without a source.
+pub(crate) fn joined<A: Allocator>(
+    line: Vec<u8, A>,
+    why: &Message<A>,
+) -> Result<Vec<u8, A>, AllocError>
+    ensures { IfOk result (λ text. text.items ≡ line.items ++ plain why.now) }
+{
+    let mut text = line;
+    text.extend_from_slice(why.as_bytes())?;
+    Ok(text)
+}

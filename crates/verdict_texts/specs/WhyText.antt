@@ -33,21 +33,21 @@ use Rattle.command_parts.specs.LinkText.{link_text}
 
 -- What each condition asks, as `check --why` says it.
 abbrev pub asked_text : Condition → List ℕ
-asked_text condition.V1 = codes "there is a fact at the start, and it holds of every start"
-asked_text condition.V2 = codes "a fact is in a body, with offsets in routines alone; routine and exit lines are at entries"
+asked_text condition.V1 = codes "there is a fact at the start, and it holds for every start"
+asked_text condition.V2 = codes "a fact is in a body, and has offsets only in a routine; routine and exit lines are at entries"
 asked_text condition.V3 = codes "at most 64 words are possible, and each is supported"
-asked_text condition.V4 = codes "wherever a word goes on there is a fact in the same body that allows what is possible"
-asked_text condition.V5 = codes "each cell that a word may write, a JMS's own apart, is a variable or an entry"
-asked_text condition.V6 = codes "each cell that a word may write, a JMS's own apart, is in the routine's written set, or its entry"
+asked_text condition.V4 = codes "wherever the run may go on there is a fact in the same body that allows what is possible"
+asked_text condition.V5 = codes "each cell that a word may write, except the cell in which a JMS stores, is a variable or an entry"
+asked_text condition.V6 = codes "each cell that a word may write, except the cell in which a JMS stores, is in the routine's written set or is its entry"
 asked_text condition.V7 = codes "a JMS calls listed entries of lower rank, and not through an auto-index cell"
-asked_text condition.V8 = codes "what a callee may write, and its entry, are in the caller's written set, and the caller's entry isn't in the callee's"
-asked_text condition.V9 = codes "a JMS is at a listed site of its callee, and at most at 7767"
+asked_text condition.V8 = codes "the callee's entry and what it may write are in the caller's written set, and the caller's entry is not in the callee's"
+asked_text condition.V9 = codes "a JMS is at a listed site of its callee, at an address of at most 7767"
 asked_text condition.V10 = codes "the fact at the callee's first address allows what is possible"
 asked_text condition.V11 = codes "the fact at each return address allows what is possible"
-asked_text condition.V12 = codes "a return is the routine's own, by declared offsets, and the exit lines allow what is possible"
+asked_text condition.V12 = codes "a return is through the routine's own entry, by declared offsets, and the exit lines allow what is possible"
 asked_text condition.V13 = codes "a HLT is at a declared halt"
-asked_text condition.V14 = codes "no word writes an entry, save that a JMS enters it and ISZ may count the routine's own"
-asked_text condition.V15 = codes "each cell that a word may read is on the list of reads, or the routine's entry"
+asked_text condition.V14 = codes "no word writes an entry, except that a JMS stores its return address there and an ISZ may increment the routine's own"
+asked_text condition.V15 = codes "each cell that a word may read is on the list of reads or is the routine's entry"
 
 -- A text, an address in four octal digits, and a text.
 abbrev pub around : List ℕ → ℕ → List ℕ → List ℕ

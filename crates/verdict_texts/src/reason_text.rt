@@ -23,30 +23,30 @@ fn asked(condition: Condition) -> &'static [u8]
     ensures { result.now ≡ asked_text condition }
 {
     match condition {
-        Condition::V1 => b"there is a fact at the start, and it holds of every start",
+        Condition::V1 => b"there is a fact at the start, and it holds for every start",
         Condition::V2 =>
-            b"a fact is in a body, with offsets in routines alone; routine and exit lines are at entries",
+            b"a fact is in a body, and has offsets only in a routine; routine and exit lines are at entries",
         Condition::V3 => b"at most 64 words are possible, and each is supported",
         Condition::V4 =>
-            b"wherever a word goes on there is a fact in the same body that allows what is possible",
+            b"wherever the run may go on there is a fact in the same body that allows what is possible",
         Condition::V5 =>
-            b"each cell that a word may write, a JMS's own apart, is a variable or an entry",
+            b"each cell that a word may write, except the cell in which a JMS stores, is a variable or an entry",
         Condition::V6 =>
-            b"each cell that a word may write, a JMS's own apart, is in the routine's written set, or its entry",
+            b"each cell that a word may write, except the cell in which a JMS stores, is in the routine's written set or is its entry",
         Condition::V7 =>
             b"a JMS calls listed entries of lower rank, and not through an auto-index cell",
         Condition::V8 =>
-            b"what a callee may write, and its entry, are in the caller's written set, and the caller's entry isn't in the callee's",
-        Condition::V9 => b"a JMS is at a listed site of its callee, and at most at 7767",
+            b"the callee's entry and what it may write are in the caller's written set, and the caller's entry is not in the callee's",
+        Condition::V9 => b"a JMS is at a listed site of its callee, at an address of at most 7767",
         Condition::V10 => b"the fact at the callee's first address allows what is possible",
         Condition::V11 => b"the fact at each return address allows what is possible",
         Condition::V12 =>
-            b"a return is the routine's own, by declared offsets, and the exit lines allow what is possible",
+            b"a return is through the routine's own entry, by declared offsets, and the exit lines allow what is possible",
         Condition::V13 => b"a HLT is at a declared halt",
         Condition::V14 =>
-            b"no word writes an entry, save that a JMS enters it and ISZ may count the routine's own",
+            b"no word writes an entry, except that a JMS stores its return address there and an ISZ may increment the routine's own",
         Condition::V15 =>
-            b"each cell that a word may read is on the list of reads, or the routine's entry",
+            b"each cell that a word may read is on the list of reads or is the routine's entry",
     }
 }
 
@@ -144,7 +144,7 @@ fn push_gap<L: Lines>(text: &mut L, gap: &Counterexample) -> Result<(), AllocErr
     }
 }
 
-/// Adds why a run doesn't land.
+/// Adds why a run does not land.
 fn push_landing<L: Lines>(text: &mut L, landing: &Landing) -> Result<(), AllocError>
     ensures { OnOk result (L.text text.new ≡ L.text text.old ++ landing_text landing.now) }
 {
@@ -159,7 +159,7 @@ fn push_landing<L: Lines>(text: &mut L, landing: &Landing) -> Result<(), AllocEr
     }
 }
 
-/// Adds why a call doesn't land where it enters.
+/// Adds why a call does not land where it enters.
 fn push_enters<L: Lines>(text: &mut L, landing: &Landing) -> Result<(), AllocError>
     ensures { OnOk result
         (L.text text.new ≡ L.text text.old ++ (codes " and enters it: " ++ landing_text landing.now)) }
@@ -169,7 +169,7 @@ fn push_enters<L: Lines>(text: &mut L, landing: &Landing) -> Result<(), AllocErr
     Ok(())
 }
 
-/// Adds why a run doesn't land after a return by an offset.
+/// Adds why a run does not land after a return by an offset.
 fn push_returns<L: Lines>(text: &mut L, offset: usize, landing: &Landing) -> Result<(), AllocError>
     ensures { OnOk result (L.text text.new ≡ L.text text.old
         ++ (around_number (codes ", which returns by offset ") offset (codes ": ")
@@ -242,7 +242,7 @@ fn push_write<L: Lines>(text: &mut L, cell: Word, wrong: &[u8]) -> Result<(), Al
     push_around(text, b"it may write ", cell, wrong)
 }
 
-/// Adds what a word breaks.
+/// Adds what a word violates.
 fn push_breach<L: Lines>(text: &mut L, breach: &Breach) -> Result<(), AllocError>
     ensures { OnOk result (L.text text.new ≡ L.text text.old ++ breach_text breach.now) }
 {
@@ -329,7 +329,7 @@ fn push_reason_line<L: Lines>(text: &mut L, reason: &Option<Reason>) -> Result<(
     text.push_text(b"\n")
 }
 
-/// The word that is shown: the one that breaks the condition, or else the tape's.
+/// The word that is shown: the one that violates the condition, or else the tape's.
 fn word_shown(image: &Image, at: Word, reason: &Option<Reason>) -> Option<Word>
     ensures { result ≡ word_shown image.now at reason.now }
 {

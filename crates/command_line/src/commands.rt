@@ -624,7 +624,7 @@ const REFUTE: Entry = Entry {
 const PLACE: Entry = Entry {
     name: "place",
     usage: Some("pdp8 place [OPTIONS] [-o] <OUT> <SOURCE>..."),
-    about: "Writes in numbers a declaration whose addresses are symbols of a source",
+    about: "Writes a declaration with the symbols of a source replaced by their addresses",
     after_help: "Without -o, OUT comes first. It stays as it was if an input is refused or there is no declaration.\n\nExample:\n  pdp8 place -o numbers.declaration --declaration symbols.declaration my.pal",
 };
 

@@ -55,8 +55,8 @@ static FAULTS: [Explanation; 43] = [
     Explanation {
         code: "EmptyImage",
         subject: Subject::Fault("tape: EmptyImage"),
-        meaning: "the source has no word, so there is no tape to write",
-        advice: "the source has no word: is it the right one, or does `$` come too\nearly?",
+        meaning: "the source generates no code, so there is no tape to write",
+        advice: "the source generates no code: is it the right one, or does `$` come\ntoo early?",
     },
     Explanation {
         code: "IC",

@@ -36,7 +36,7 @@ pub fn report_stuck<R: Files + Print>(
     Ok(())
 }
 
-/// Ensures that these files are not read once alone, as a search with a report wants it.
+/// Ensures that these files can be read twice, as a search with a report needs it.
 ///
 /// # Errors
 ///

@@ -8,7 +8,7 @@ use source_texts::push_faults;
 use std::alloc::Global;
 
 /// What is said about a source that is assembled to no word.
-pub const NO_WORD: &str = "no statement is a word: list shows what the source has\n";
+pub const NO_WORD: &str = "the source generates no code: list shows what it contains\n";
 
 /// An input as it is named in a sentence.
 pub fn input_name<'n>(name: &'n str) -> &'n str {

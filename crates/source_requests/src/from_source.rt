@@ -290,7 +290,7 @@ fn ending_part(alloc: Global, parts: &[&[u8]]) -> Option<usize> {
     None
 }
 
-/// Says on standard error which parts are not read, since the program ends before them.
+/// Says on standard error which parts are ignored, because the program ends before them.
 fn tell_unread<R: Eprint>(rt: &R, alloc: Global, names: &[&str], parts: &[&[u8]]) {
     if names.len() < 2 {
         return;
@@ -305,9 +305,9 @@ fn tell_unread<R: Eprint>(rt: &R, alloc: Global, names: &[&str], parts: &[&[u8]]
         return;
     };
     let _ = if names.len() > index.saturating_add(2) {
-        eprintln!(rt; "{name} ends the program with $: {unread} and what follows are not read")
+        eprintln!(rt; "{name} ends the program with $: {unread} and what follows are ignored")
     } else {
-        eprintln!(rt; "{name} ends the program with $: {unread} is not read")
+        eprintln!(rt; "{name} ends the program with $: {unread} is ignored")
     };
 }
 

@@ -155,7 +155,7 @@ fn given_declaration<R: Files + Input>(
 fn said_of(fault: PlaceFault) -> &'static str {
     match fault {
         PlaceFault::BadLine(_) =>
-            "expected a symbol, a symbol and + or - a number, or two addresses with - between them, in each word with a capital letter",
+            "a word with a capital letter must be a symbol, a symbol and + or - a number, or two addresses with - between them",
         PlaceFault::NoSymbol(_) => "the source defines no such symbol",
         PlaceFault::PastMemory(_) => "an address must be from 0000 to 7777",
         PlaceFault::Backwards(_) => "the range ends below its first address",

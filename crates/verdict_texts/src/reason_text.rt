@@ -214,6 +214,16 @@ fn push_call<L: Lines>(text: &mut L, breach: &CallBreach) -> Result<(), AllocErr
     }
 }
 
+/// Adds what may be so at a return and what the exit line excludes.
+fn push_excluded<L: Lines>(text: &mut L, gap: &Counterexample) -> Result<(), AllocError>
+    ensures { OnOk result (L.text text.new ≡ L.text text.old
+        ++ (gap_text gap.now ++ codes ", which the exit line excludes")) }
+{
+    push_gap(text, gap)?;
+    text.push_text(b", which the exit line excludes")?;
+    Ok(())
+}
+
 /// Adds what a return violates.
 fn push_return<L: Lines>(text: &mut L, breach: &ReturnBreach) -> Result<(), AllocError>
     ensures { OnOk result (L.text text.new ≡ L.text text.old ++ return_text breach.now) }
@@ -228,8 +238,8 @@ fn push_return<L: Lines>(text: &mut L, breach: &ReturnBreach) -> Result<(), Allo
         }
         ReturnBreach::Excluded(offset, gap) => {
             push_around_number(text, b" with offset ", *offset, b": ")?;
-            push_gap(text, gap)?;
-            text.push_text(b", which the exit line excludes")
+            push_excluded(text, gap)?;
+            Ok(())
         }
     }
 }

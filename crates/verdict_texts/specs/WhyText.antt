@@ -102,7 +102,7 @@ return_text return.OtherRoutine = codes ", which is not its own entry"
 return_text (return.NotDeclared o) = around_number (codes " with offset ") o (codes ", which is not declared")
 return_text (return.NoExit o) = around_number (codes " with offset ") o (codes ", which has no exit line")
 return_text (return.Excluded o g) =
-    around_number (codes " with offset ") o (codes ": ") ++ gap_text g ++ codes ", which the exit line excludes"
+    around_number (codes " with offset ") o (codes ": ") ++ (gap_text g ++ codes ", which the exit line excludes")
 
 -- What a word violates.
 abbrev pub breach_text : Breach → List ℕ

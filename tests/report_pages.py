@@ -46,8 +46,8 @@ class Page(Report):
         self.rows = set(self.lines())
         parts = [head(), line, "\n</h1>\n<p>", self.yes() if self.refused is None else self.no(why)]
         parts.append("<p>A declaration says where the program starts and may halt, which cells are its instructions, which it may "
-                     "write, and which routines it has. A certificate says what holds before each instruction, so that it can be "
-                     "checked that the declaration is kept.</p>\n")
+                     "write, and which routines it has. A certificate says what holds before each instruction, so that compliance "
+                     "with the declaration can be checked.</p>\n")
         parts.append("<p>On this page: <a href=#memory>memory</a>, <a href=#routines>routines</a>, "
                      "<a href=#variables>variables</a>, <a href=#listing>listing</a>.</p>\n")
         parts += [self.map(), self.graph(), self.variables(), self.guide(), self.table(), "</table>\n</body>\n</html>\n"]
@@ -71,23 +71,23 @@ class Page(Report):
         it = self.declared
         bodies = sets.of(set(it.main).union(*(body for body, _ in it.routines.values())))
         reads = ("<li>any cell may be read: the declaration has no list of reads\n" if it.reads is None
-                 else point("only these cells are read, and the entry of the routine that runs: ", sets.of(it.reads)))
+                 else point("only these cells and the entry of the running routine are read: ", sets.of(it.reads)))
         return "".join((
-            f"Shown is that no run breaks the declaration. This holds of <b>every</b> run on a PDP-8/{'E' if it.profile == '8e' else 'I'} that starts at ",
+            f"Proved: no run violates the declaration. This holds for <b>every</b> run on a PDP-8/{'E' if it.profile == '8e' else 'I'} that starts at ",
             ADDRESS.format(it.start), " with these words in memory, whatever all other cells, AC, the link and MQ hold, ",
-            "and however keys, tape frames, devices and switches come:</p>\n<ul>\n",
+            "and whenever keys and tape frames come, devices complete and switches change:</p>\n<ul>\n",
             point("only these cells are executed: ", bodies),
-            point("only these cells are written, the variables: ", sets.of(it.variables)),
-            point("and the entries, by the JMS that calls the routine or by its ISZ that skips an argument: ", sets.of(set(it.routines))),
-            reads, "<li>each routine returns to the place after its own call, as far on as is declared\n",
-            point("it halts, if at all, only at: ", sets.of(set(it.stops) | set(it.pauses))),
-            point("of these CONTINUE may be pressed only at: ", sets.of(it.pauses)), "</ul>\n",
-            "<p>It is not shown that it ends, that it prints or computes what was meant, or that the declaration is a wise one: "
+            point("only these cells, the variables, are written: ", sets.of(it.variables)),
+            point("and these entries, by the JMS that calls the routine or by an ISZ of the routine that skips an argument: ", sets.of(set(it.routines))),
+            reads, "<li>each routine returns to the address after its own call plus a declared offset\n",
+            point("if it halts, it halts only at: ", sets.of(set(it.stops) | set(it.pauses))),
+            point("of these, CONTINUE may be pressed only at: ", sets.of(it.pauses)), "</ul>\n",
+            "<p>It is not proved that the program ends, that it prints or computes what was intended, or that the declaration is a sensible one: "
             "if all cells may be written, a yes says little.</p>\n"))
 
     def no(self, why):
         return ("This certificate shows nothing. A condition on it fails at " + ADDRESS.format(self.refused[1])
-                + ", which is marked below. The program may keep its declaration all the same. What stands below is what the "
+                + ", which is marked below. The program may comply with its declaration all the same. Everything below is what the "
                 f"certificate claims, and it may be wrong.</p>\n<pre>{escaped(why)}</pre>\n")
 
     # Memory
@@ -144,7 +144,7 @@ class Page(Report):
     def graph(self):
         routines, claims = self.declared.routines, self.certificate.routines
         if not routines:
-            return "<h2 id=routines>Routines, addresses in octal and ranks in decimal</h2>\n<p>There are none: all is main.</p>\n"
+            return "<h2 id=routines>Routines, addresses in octal and ranks in decimal</h2>\n<p>There are none: everything is main.</p>\n"
         rank = {entry: min(claims[entry].rank, 63) if entry in claims else 0 for entry in routines}
         spots, in_row = {None: (0, 0)}, {}
         for entry in routines:
@@ -160,13 +160,13 @@ class Page(Report):
         for entry in routines:
             parts.append(f"<a href=#a{entry:04o}>{self.box(spots[entry], self.colour(entry), f'{entry:04o}')}</a>")
         parts.append("</svg>\n<p>A line leads from a caller down to what it calls. ")
-        parts.append("Ranks fall from caller to callee, so no routine is called again before it returned." if self.refused is None
-                     else "Ranks are to fall from caller to callee; this certificate doesn't show that they do.")
-        parts.append("</p>\n<table>\n<tr><th>entry<th>rank<th>called from<th>it and what it calls may write"
-                     "<th>words skipped behind the call when it returns\n")
+        parts.append("Ranks fall from caller to callee, so no routine is called again before it has returned." if self.refused is None
+                     else "Ranks should fall from caller to callee; this certificate does not show that they do.")
+        parts.append("</p>\n<table>\n<tr><th>entry<th>rank<th>called from<th>the routine and what it calls may write"
+                     "<th>words skipped after the call when it returns\n")
         for entry, (_, offsets) in routines.items():
             line = claims.get(entry)
-            said = ("<td colspan=3>nothing is claimed of it" if line is None
+            said = ("<td colspan=3>nothing is claimed about it" if line is None
                     else f"<td>{line.rank}<td>{shown(line.sites, ADDRESS)}<td>{may_write(line)}")
             parts.append(f"<tr><td>{ADDRESS.format(entry)}{said}<td>{','.join(map(str, sorted(offsets))) or '-'}\n")
         return "".join(parts) + "</table>\n"
@@ -186,29 +186,29 @@ class Page(Report):
     def variables(self):
         rows = "".join(f"<tr><td>{ADDRESS.format(cell)}<td>{f'{self.image[cell]:04o}' if cell in self.image else '----'}"
                        f"<td>{'; '.join(self.variable(cell))}\n" for cell in sorted(self.known))
-        return (f"<h2 id=variables>Variables, in octal</h2>\n<p>The declared variables: {shown(sets.of(self.declared.variables), ADDRESS)}. By the "
-                "certificate each of those below holds one of the words beside it, at every address at which something is said of "
+        return (f"<h2 id=variables>Variables, in octal</h2>\n<p>The declared variables: {shown(sets.of(self.declared.variables), ADDRESS)}. According to the "
+                "certificate, each of the variables below holds one of the words beside it at every address where something is said about "
                 f"it; all others may hold any word:</p>\n<table>\n<tr><th>cell<th>on the tape<th>what it may hold\n{rows}</table>\n")
 
     # The listing
 
     def guide(self):
         said = ("what is known in every run <b>before</b> it is executed" if self.refused is None
-                else "what the certificate claims <b>before</b> it is executed, which isn't shown")
-        return (f"<h2 id=listing>Listing, in octal</h2>\n<p>Beside each instruction stands {said}; what is the same as on the line above is grey, "
-                "and of more than eight such items only the number of the others is told.\n"
+                else "what the certificate claims <b>before</b> it is executed, which is not proved")
+        return (f"<h2 id=listing>Listing, in octal</h2>\n<p>Beside each instruction is {said}; what is the same as on the line above is grey, "
+                "and if there are more than eight such items, only the number of the others is shown.\n"
                 "<code>AC in 0305,0310</code>: the accumulator holds one of these words. "
-                "<code>0010 in 0224-0230</code>: so does the cell 0010. <code>any</code>: nothing is claimed. "
-                "<code>[0010] = [0224] + 0231, so 0224-0230</code>: the word in the cell 0010 is that in the cell 0224 and 0231 more, "
-                "modulo 10000; with what is known of both, the cell 0010 holds one of the words behind <code>so</code>. Of a pointer "
-                f"and a count that go up together, the pointer ends where the count does.{LARGER if self.writes_through() else ''}\n"
+                "<code>0010 in 0224-0230</code>: the cell 0010 holds one of these words. <code>any</code>: nothing is claimed. "
+                "<code>[0010] = [0224] + 0231, so 0224-0230</code>: the word in the cell 0010 is the word in the cell 0224 plus 0231, "
+                "modulo 10000; with what is known about both, the cell 0010 holds one of the words after <code>so</code>. If a pointer "
+                f"and a count are incremented together, the pointer ends where the count does.{LARGER if self.writes_through() else ''}\n"
                 "<code>reads</code>, <code>writes</code>: the cells that the instruction may read through a pointer (the pointer is "
                 "one of them), and those that it may write.\n"
-                "All numbers are octal, but how many more there are is told in decimal. <code>TAD Z010</code> names the cell 0010, and <code>TAD C024</code> the cell 024 of the page "
-                "that the instruction is on; behind <code>I</code> stands the cell that holds the address; if that is one of 0010 to "
-                "0017, it is made one more first. <code>ISZ</code> makes a word one more, and skips an instruction if it is 0000 "
-                "then. <code>JMS</code> puts the address behind it into the cell that it names, the entry of a routine, and goes on "
-                "behind that cell; <code>JMP I</code> through the entry goes on at the address that stands there: it returns.</p>\n<table>\n")
+                "All numbers are octal, except the numbers of omitted items, which are decimal. <code>TAD Z010</code> names the cell 0010, and <code>TAD C024</code> the cell 024 of the page "
+                "of the instruction; after <code>I</code> comes the cell that holds the address, and a cell from 0010 to 0017 is "
+                "incremented first. <code>ISZ</code> increments a word, and skips if it is then 0000. <code>JMS</code> stores the "
+                "address after it in the cell that it names, the entry of a routine, and continues after that cell; <code>JMP I</code> "
+                "through the entry continues at the address that is stored there: it returns.</p>\n<table>\n")
 
     def writes_through(self):
         """Whether an instruction of the tape writes through a pointer."""

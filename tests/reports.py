@@ -200,7 +200,7 @@ class Report:
         line, offsets = self.certificate.routines.get(entry), sorted(self.declared.routines[entry][1])
         items = [f"routine {entry:04o}"]
         if line is None:
-            items.append("nothing is claimed of it")
+            items.append("nothing is claimed about it")
         else:
             items += [f"rank {line.rank}", f"called from {shown(line.sites, ADDRESS)}", f"may write {may_write(line)}"]
         items.append("returns by " + (",".join(map(str, offsets)) or "-"))

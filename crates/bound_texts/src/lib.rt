@@ -1,5 +1,5 @@
-//! What is told of a pointer where a search for a certificate is stuck: the words that it may hold there, and
-//! the last place where fewer were known. It is tested and not proved.
+//! What is said about a pointer where a search for a certificate is stuck: the words that it may hold there, and the
+//! last place where fewer were known. It is tested, not proved.
 #![tactic(auto)]
 
 mod losses;
@@ -87,13 +87,13 @@ fn lost_before<A: Allocator + Copy, D: Allocator, C: Allocator>(
     Ok(None)
 }
 
-/// Adds what is told of the pointer of the instruction at which a search is stuck, by the draft of what it
-/// found: the words that it may hold there, and where its bound was lost. Where the instruction goes by no
-/// variable, or the draft has no fact there, nothing is added.
+/// Adds what is said about the pointer of the instruction at which a search is stuck, by the draft of what it found:
+/// the words that it may hold there, and where its bound was lost. If the instruction uses no variable, or the draft
+/// has no fact there, nothing is added.
 ///
 /// # Errors
 ///
-/// `AllocError` where a growth was refused.
+/// `AllocError` if memory was refused.
 pub fn push_bound<A: Allocator + Copy, L: Lines, D: Allocator, C: Allocator>(
     alloc: A,
     text: &mut L,

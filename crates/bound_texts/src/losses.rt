@@ -1,4 +1,4 @@
-//! How less is known of a pointer behind an instruction than before it.
+//! Why less is known about a pointer after an instruction than before it.
 
 use declaration::Declaration;
 use facts::{Fact, Location, narrowed};
@@ -7,7 +7,7 @@ use std::alloc::Allocator;
 use word12::Word;
 use wordset::WordSet;
 
-/// Why less is known of a pointer behind an instruction.
+/// Why less is known about a pointer after an instruction.
 #[derive(Clone, Copy, PartialEq, Eq)]
 pub(crate) enum Loss {
     /// The accumulator was compared, and the skip clears it.
@@ -23,14 +23,14 @@ pub(crate) enum Loss {
 }
 
 impl Loss {
-    /// What is told of it.
+    /// What is said about it.
     pub(crate) fn told(self) -> &'static [u8] {
         match self {
-            Loss::ClearingSkip => b"a skip that clears tells nothing of it",
-            Loss::Complement => b"a complement on the way to a test drops what is known of it",
+            Loss::ClearingSkip => b"a skip that also clears shows nothing about it",
+            Loss::Complement => b"a complement before a test loses what is known about it",
             Loss::Call => b"the routine may write it",
             Loss::Store => b"the store through a pointer may reach it",
-            Loss::Meeting => b"on another way to the next place it may hold other words",
+            Loss::Meeting => b"on another path to the next address it may hold other words",
         }
     }
 }
@@ -55,7 +55,7 @@ fn is_test(word: Word) -> bool {
     is_group2(word) && word.value() & 0o170 != 0
 }
 
-/// Whether a word that is no memory reference may skip: one of group 2 with a test, or of a device.
+/// Whether a word that is not a memory reference may skip: one of group 2 with a test, or of a device.
 fn may_skip(word: Word) -> bool {
     is_test(word) || word.value() < 0o7000
 }
@@ -109,7 +109,7 @@ fn ties_accumulator(fact: &Fact, cell: Word) -> bool {
     false
 }
 
-/// The words that a pointer may hold behind an instruction, as far as the instruction itself tells.
+/// The words that a pointer may hold after an instruction, as far as the instruction itself tells.
 fn words_behind(before: &Fact, at: Word, word: Word, pointer: Word) -> WordSet {
     let stores = matches!(operation(word), Some(Operation::Dca)) && !refers_indirectly(word);
     if stores && target(word, at) == pointer {
@@ -118,7 +118,7 @@ fn words_behind(before: &Fact, at: Word, word: Word, pointer: Word) -> WordSet {
     narrowed(before, &Location::Cell(pointer))
 }
 
-/// Why less is known of a pointer at the place where a run goes on from an instruction, if it is so.
+/// Why less is known about a pointer at the place where a run goes on from an instruction, if it is so.
 pub(crate) fn loss_at(
     before: &Fact,
     at: Word,

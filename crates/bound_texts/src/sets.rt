@@ -1,4 +1,4 @@
-//! Sets of words, as certificates write them.
+//! Sets of words, in the form in which certificates write them.
 
 use command_parts::message::Lines;
 use std::alloc::AllocError;

@@ -7,15 +7,15 @@ use std::alloc::{AllocError, Global};
 /// What `--version` prints after the program's name.
 const VERSION: &str = "1.0";
 
-/// What stands below the list of commands.
+/// The text below the list of commands.
 const STATUSES: &str = "Exit status:
   0  done
-  1  an input was refused, a run broke a rule or met an unsupported word, a condition failed, no certificate was found, or verify's answer is no or not known
-  2  a bad command line
+  1  an input was refused, a run violated a rule or reached an unsupported word, a condition failed, no certificate was found, or the answer of verify is no or not known
+  2  the command line is wrong
   3  a file or a stream failed
   4  memory was refused
 
-Files are opened in the order of the operands; - is standard input, and for OUT standard output.
+Files are opened in the order of the operands. - stands for standard input, and as OUT for standard output.
 
 Example:
   pdp8 assemble -o hello.bin hello.pal && pdp8 run hello.bin";
@@ -43,14 +43,14 @@ const TAPE_OR_SOURCE: Argument = Argument {
     name: "TAPE",
     short: None,
     form: Form::OperandOrSource,
-    help: "the tape, or - for standard input; left out beside --source",
+    help: "the tape, or - for standard input; left out with --source",
 };
 
 const DECLARATION_OR_SOURCE: Argument = Argument {
     name: "DECLARATION",
     short: None,
     form: Form::OperandOrSource,
-    help: "the declaration, or - for standard input; beside --source it may be left out: the /: lines of the source count then",
+    help: "the declaration, or - for standard input; with --source it may be left out, and the /: lines of the source are the declaration",
 };
 
 const CERTIFICATE_OR_SOURCE: Argument = Argument {
@@ -64,21 +64,21 @@ const PARTS: Argument = Argument {
     name: "source",
     short: None,
     form: Form::Values("SOURCE"),
-    help: "a part of the source that is assembled in place of the tape; once for each part",
+    help: "a part of the source that takes the place of the tape; given once for each part",
 };
 
 const PLACED_OUT: Argument = Argument {
     name: "OUT",
     short: None,
     form: Form::OutBeforeSources,
-    help: "where the declaration goes, or - for standard output. With -o it is the first part of the source",
+    help: "where the declaration goes, or - for standard output. With -o, this operand is the first part of the source",
 };
 
 const DECLARATION_WITH_SYMBOLS: Argument = Argument {
     name: "declaration",
     short: None,
     form: Form::Value("FILE"),
-    help: "the declaration with the symbols of the source, or - for standard input; without it its lines in the source",
+    help: "the declaration, which may use the symbols of the source, or - for standard input; by default its lines within the source",
 };
 
 const CERTIFICATE: Argument = Argument {
@@ -92,49 +92,49 @@ const EVENTS: Argument = Argument {
     name: "EVENTS",
     short: None,
     form: Form::OptionalOperand,
-    help: "the events that happen, or - for standard input; the options for an operator stand in its place",
+    help: "the events that happen, or - for standard input; options for an operator may take its place",
 };
 
 const SOURCE: Argument = Argument {
     name: "SOURCE",
     short: None,
     form: Form::Operands,
-    help: "the parts of the source, in order; - for standard input in one place",
+    help: "the parts of the source, in order; one of them may be - for standard input",
 };
 
 const OPTIONAL_DECLARATION: Argument = Argument {
     name: "DECLARATION",
     short: None,
     form: Form::OptionalOperand,
-    help: "the declaration, or - for standard input; without it the /: lines of the source count, and where there are none one is proposed",
+    help: "the declaration, or - for standard input; by default the /: lines of the source, or if there are none, a declaration that is proposed",
 };
 
 const TAPE_OUT: Argument = Argument {
     name: "OUT",
     short: None,
     form: Form::OutBeforeSources,
-    help: "where the tape goes, or - for standard output; it is emptied first. With -o it is the first part of the source",
+    help: "where the tape goes, or - for standard output; the file is emptied first. With -o, this operand is the first part of the source",
 };
 
 const OTHER_SOURCES: Argument = Argument {
     name: "SOURCE",
     short: None,
     form: Form::OtherOperands,
-    help: "the parts of the source, in order; - for standard input in one place",
+    help: "the parts of the source, in order; one of them may be - for standard input",
 };
 
 const DECLARATION_OUT: Argument = Argument {
     name: "OUT",
     short: None,
     form: Form::ResultOrSource,
-    help: "where the declaration goes, or - for standard output. Beside --source there is -o alone",
+    help: "where the declaration goes, or - for standard output. With --source, OUT is given by -o",
 };
 
 const FROM: Argument = Argument {
     name: "from",
     short: None,
     form: Form::Value("FILE"),
-    help: "a declaration, or - for standard input: it is kept, and what it lacks is added; start and machine are its own",
+    help: "a declaration, or - for standard input: its lines are kept, what they lack is added, and its start and machine are used",
 };
 
 const SOURCE_OUT: Argument = Argument {
@@ -148,42 +148,42 @@ const DECLARATION_FILE: Argument = Argument {
     name: "declaration",
     short: None,
     form: Form::Value("FILE"),
-    help: "the declaration, whose bodies are the code, or - for standard input",
+    help: "a declaration whose bodies are the code, or - for standard input",
 };
 
 const CERTIFICATE_OUT: Argument = Argument {
     name: "OUT",
     short: None,
     form: Form::ResultOperand,
-    help: "where the certificate goes, or - for standard output; it is emptied first",
+    help: "where the certificate goes, or - for standard output; the file is emptied first",
 };
 
 const GUESSED_OUT: Argument = Argument {
     name: "OUT",
     short: None,
     form: Form::ResultOrSource,
-    help: "where the certificate goes, or - for standard output; it is emptied first, beside --source later",
+    help: "where the certificate goes, or - for standard output; the file is emptied first, with --source later",
 };
 
 const REPORT_OUT: Argument = Argument {
     name: "OUT",
     short: None,
     form: Form::ResultOrSource,
-    help: "where the report goes, or - for standard output. Beside --source there is -o alone",
+    help: "where the report goes, or - for standard output. With --source, OUT is given by -o",
 };
 
 const REPORT_STUCK: Argument = Argument {
     name: "report",
     short: None,
     form: Form::Value("FILE"),
-    help: "where the search is stuck, writes to FILE what it had found, as a page of HTML",
+    help: "if the search is stuck, writes to FILE what it had found, as a page of HTML",
 };
 
 const TEXT: Argument = Argument {
     name: "text",
     short: None,
     form: Form::Flag,
-    help: "writes the verdict and the listing alone, as plain text",
+    help: "writes only the verdict and the listing, as plain text",
 };
 
 const EVENTS_OUT: Argument = Argument {
@@ -197,7 +197,7 @@ const OUTPUT: Argument = Argument {
     name: "output",
     short: Some('o'),
     form: Form::Value("OUT"),
-    help: "where the result goes, or - for standard output, in place of the operand OUT; the file is made when there is a result, and else stays as it was",
+    help: "where the result goes, or - for standard output, in place of the operand OUT; the file is created when there is a result, and otherwise stays as it was",
 };
 
 const CODE: Argument = Argument {
@@ -211,35 +211,35 @@ const PROFILE: Argument = Argument {
     name: "profile",
     short: None,
     form: Form::Value("P"),
-    help: "8i or 8e: whose instructions are meant; 8i without it",
+    help: "the machine, 8i or 8e; 8i without it",
 };
 
 const START: Argument = Argument {
     name: "start",
     short: None,
     form: Form::Value("A"),
-    help: "the octal address of the first instruction; leading zeros are allowed, 0200 without it",
+    help: "the octal address of the first instruction, 0200 without it; leading zeros are allowed",
 };
 
 const ROUNDS: Argument = Argument {
     name: "steps",
     short: None,
     form: Form::Value("N"),
-    help: "how many rounds are made at most; 100000 without it",
+    help: "the maximum number of rounds; 100000 without it",
 };
 
 const EVENTS_FILE: Argument = Argument {
     name: "events",
     short: None,
     form: Form::Value("FILE"),
-    help: "the events that happen in place of the rounds, or - for standard input",
+    help: "the events that happen instead of rounds, or - for standard input",
 };
 
 const TRACE: Argument = Argument {
     name: "trace",
     short: None,
     form: Form::Flag,
-    help: "writes a line for each instruction",
+    help: "writes a line for each instruction that is executed",
 };
 
 const READER: Argument = Argument {
@@ -279,28 +279,28 @@ const TELETYPE: Argument = Argument {
     name: "teletype",
     short: None,
     form: Form::Flag,
-    help: "what is printed goes to standard output, all else to standard error",
+    help: "what is printed goes to standard output, and everything else to standard error",
 };
 
 const RAW: Argument = Argument {
     name: "raw",
     short: None,
     form: Form::Flag,
-    help: "strikes the bytes of keys as they come: no carriage return for a line feed, no channel 8",
+    help: "strikes the bytes of keys as they come, without a carriage return for a line feed and without setting channel 8",
 };
 
 const SWITCHES: Argument = Argument {
     name: "switches",
     short: None,
     form: Form::Value("W"),
-    help: "the octal word that the switches are set to; leading zeros are allowed, 0000 without it",
+    help: "the octal word that the switches show, 0000 without it; leading zeros are allowed",
 };
 
 const SHOW: Argument = Argument {
     name: "show",
     short: None,
     form: Form::Values("R"),
-    help: "writes these cells when the run is over, such as 0324 or 0400-0417; several with spaces between them, or once for each",
+    help: "writes these cells when the run is over, such as 0324 or 0400-0417; separate several by spaces, or repeat the option",
 };
 
 const READS: Argument = Argument {
@@ -314,14 +314,14 @@ const SEARCH_STEPS: Argument = Argument {
     name: "steps",
     short: None,
     form: Form::Value("N"),
-    help: "how many steps are made at most in search of a run that breaks it; 20000000 without it",
+    help: "the maximum number of steps of the search for a run that violates the declaration; 20000000 without it",
 };
 
 const SEED: Argument = Argument {
     name: "seed",
     short: None,
     form: Form::Value("S"),
-    help: "where the random numbers begin; 1 without it",
+    help: "the seed of the random numbers; 1 without it",
 };
 
 const SAVE: Argument = Argument {
@@ -335,46 +335,46 @@ const FORCE_SAVE: Argument = Argument {
     name: "force",
     short: None,
     form: Form::Flag,
-    help: "--save also replaces files that this command didn't write",
+    help: "--save also replaces files that this command did not write",
 };
 
 const FORCE_SOURCE: Argument = Argument {
     name: "force",
     short: None,
     form: Form::Flag,
-    help: "also replaces a source that this command didn't write",
+    help: "also replaces a source that this command did not write",
 };
 
 const WHY_VERIFY: Argument = Argument {
     name: "why",
     short: Some('w'),
     form: Form::Flag,
-    help: "after a no, or where it isn't known, writes why",
+    help: "after a no or not known, writes why",
 };
 
 const WHY_CHECK: Argument = Argument {
     name: "why",
     short: Some('w'),
     form: Form::Flag,
-    help: "after a no, writes what the condition asks and what breaks it",
+    help: "after a no, writes what the condition asks and what violates it",
 };
 
 const WHY_GUESS: Argument = Argument {
     name: "why",
     short: Some('w'),
     form: Form::Flag,
-    help: "where the search is stuck, writes what the condition asks and what breaks it",
+    help: "if the search is stuck, writes what the condition asks and what violates it",
 };
 
 const WHY_BROKEN: Argument = Argument {
     name: "why",
     short: Some('w'),
     form: Form::Flag,
-    help: "where a rule is broken, writes what the step is about to do",
+    help: "if a rule is violated, writes what the step is about to do",
 };
 
 const WHY_WATCH: Argument = Argument {
-    help: "where a rule is broken, writes what the step is about to do; below clean, how far the run came",
+    help: "if a rule is violated, writes what the step is about to do; after clean, writes how far the run got",
     ..WHY_BROKEN
 };
 
@@ -382,14 +382,14 @@ const WHY_SOURCE: Argument = Argument {
     name: "why",
     short: Some('w'),
     form: Form::Flag,
-    help: "below a fault, writes all that are found, with their lines and what to change",
+    help: "after a fault, writes all faults that are found, with their lines and what to change",
 };
 
 const WHY_INPUT: Argument = Argument {
     name: "why",
     short: Some('w'),
     form: Form::Flag,
-    help: "where an input is refused, writes what is wrong with it",
+    help: "if an input is refused, writes what is wrong with it",
 };
 
 const VERIFY_ARGUMENTS: [Argument; 10] = [
@@ -533,28 +533,28 @@ const EXPLAIN_ARGUMENTS: [Argument; 1] = [CODE];
 const VERIFY: Entry = Entry {
     name: "verify",
     usage: Some("pdp8 verify [OPTIONS] <TAPE> [DECLARATION]"),
-    about: "Says whether a program keeps its declaration: yes, no or not known",
-    after_help: "Without DECLARATION, and without /: lines in the source, one is proposed for the start and the machine that --start and --profile name; with one they are its own.\n\nExamples:\n  pdp8 verify hello.bin hello.declaration\n  pdp8 verify --source hello.pal --save new",
+    about: "Says whether a program complies with its declaration: yes, no or not known",
+    after_help: "Without DECLARATION, and without /: lines in the source, a declaration is proposed for the start and the machine of --start and --profile. A declaration that is given determines both.\n\nExamples:\n  pdp8 verify hello.bin hello.declaration\n  pdp8 verify --source hello.pal --save new",
 };
 
 const RUN: Entry = Entry {
     name: "run",
     usage: None,
-    about: "Runs a tape and writes where it ended and what it printed and punched",
+    about: "Runs a tape, and writes where the run ended and what was printed and punched",
     after_help: "Example:\n  pdp8 run hello.bin --start 200 --trace",
 };
 
 const SESSION: Entry = Entry {
     name: "teletype",
     usage: None,
-    about: "Runs a tape with you at the teletype: what it prints comes at once, and it gets a key when it asks",
-    after_help: "Keys come from standard input, what is printed goes to standard output, and the summary to standard error. The session ends at a halt, at a word that isn't supported, and where a key is asked for and none is left.\n\nExample:\n  pdp8 teletype echo.bin",
+    about: "Runs a tape with you at the teletype: what it prints appears at once, and it gets a key when it asks for one",
+    after_help: "Keys come from standard input, what is printed goes to standard output, and the summary goes to standard error. The session ends at a halt, at an unsupported word, or when a key is asked for and none is left.\n\nExample:\n  pdp8 teletype echo.bin",
 };
 
 const DUMP: Entry = Entry {
     name: "dump",
     usage: None,
-    about: "Writes address, word and name for each word on a tape",
+    about: "Writes the address, the word and its name for each word on a tape",
     after_help: "Example:\n  pdp8 dump hello.bin",
 };
 
@@ -562,7 +562,7 @@ const ASSEMBLE: Entry = Entry {
     name: "assemble",
     usage: Some("pdp8 assemble [OPTIONS] [-o] <OUT> <SOURCE>..."),
     about: "Assembles a PAL III source and writes its tape",
-    after_help: "Without -o OUT comes first, and is emptied before a source is read, also where the source is refused.\n\nExample:\n  pdp8 assemble -o hello.bin hello.pal",
+    after_help: "Without -o, OUT comes first, and is emptied before a source is read, even if the source is then refused.\n\nExample:\n  pdp8 assemble -o hello.bin hello.pal",
 };
 
 const LIST: Entry = Entry {
@@ -576,20 +576,20 @@ const SOURCE_OF_TAPE: Entry = Entry {
     name: "source",
     usage: Some("pdp8 source [OPTIONS] <TAPE> [-o] <OUT>"),
     about: "Writes a PAL III source of a tape, from which assemble makes the same words",
-    after_help: "A file stays as it was if there is nothing to write, and so does a source that this command didn't write, but for --force. Without a declaration control is followed from the start, for the machine of --profile; with one they are its own.\n\nExample:\n  pdp8 source hello.bin -o found.pal",
+    after_help: "A file stays as it was if there is nothing to write, and so does a source that this command did not write, unless --force is given. Without a declaration, the control flow is followed from the start, for the machine of --profile. A declaration that is given determines both.\n\nExample:\n  pdp8 source hello.bin -o found.pal",
 };
 
 const WATCH: Entry = Entry {
     name: "watch",
     usage: Some("pdp8 watch [OPTIONS] <TAPE> <DECLARATION> [EVENTS]"),
-    about: "Writes whether a run keeps its declaration, or where it first breaks which rule",
+    about: "Writes whether a run complies with its declaration, or which rule it first violates and where",
     after_help: "Examples:\n  pdp8 watch hello.bin hello.declaration hello.events\n  pdp8 watch --source hello.pal hello.declaration hello.events",
 };
 
 const CHECK: Entry = Entry {
     name: "check",
     usage: Some("pdp8 check [OPTIONS] <TAPE> <DECLARATION> <CERTIFICATE>"),
-    about: "Writes whether a certificate shows that no run breaks its declaration",
+    about: "Writes whether a certificate shows that no run violates its declaration",
     after_help: "Examples:\n  pdp8 check hello.bin hello.declaration hello.certificate --why\n  pdp8 check --source hello.pal hello.declaration hello.certificate --why",
 };
 
@@ -597,42 +597,42 @@ const REPORT: Entry = Entry {
     name: "report",
     usage: Some("pdp8 report [OPTIONS] <TAPE> <DECLARATION> <CERTIFICATE> [-o] <OUT>"),
     about: "Writes what a certificate says as a page of HTML: verdict, memory, routines, listing",
-    after_help: "A file stays as it was if there is nothing to write; beside --source there is -o alone. The verdict and the status are check's.\n\nExamples:\n  pdp8 report hello.bin hello.declaration hello.certificate -o hello.html\n  pdp8 report --source hello.pal hello.declaration hello.certificate -o hello.html",
+    after_help: "A file stays as it was if there is nothing to write; with --source, OUT is given by -o. The verdict and the status are those of check.\n\nExamples:\n  pdp8 report hello.bin hello.declaration hello.certificate -o hello.html\n  pdp8 report --source hello.pal hello.declaration hello.certificate -o hello.html",
 };
 
 const DECLARE: Entry = Entry {
     name: "declare",
     usage: Some("pdp8 declare [OPTIONS] <TAPE> [-o] <OUT>"),
     about: "Proposes a declaration: what the program of a tape may do",
-    after_help: "A file stays as it was if there is nothing to write; beside --source there is -o alone. Where no certificate is found the declaration is written all the same, with comments that say why if there is room for them, and the status is 1.\n\nExamples:\n  pdp8 declare hello.bin -o new.declaration\n  pdp8 declare --source hello.pal -o new.declaration",
+    after_help: "A file stays as it was if there is nothing to write; with --source, OUT is given by -o. If no certificate is found, the declaration is written all the same, with comments that say why if there is room for them, and the status is 1.\n\nExamples:\n  pdp8 declare hello.bin -o new.declaration\n  pdp8 declare --source hello.pal -o new.declaration",
 };
 
 const GUESS: Entry = Entry {
     name: "guess",
     usage: Some("pdp8 guess [OPTIONS] <TAPE> <DECLARATION> [-o] <OUT>"),
-    about: "Looks for a certificate that shows that no run breaks a declaration",
-    after_help: "The operand OUT is emptied before an input is read, but beside --source after the source and the declaration. It stays empty where nothing is found. Beside --source without DECLARATION there is -o alone. What is found shows the program safe: that is proved.\n\nExamples:\n  pdp8 guess hello.bin hello.declaration -o new.certificate\n  pdp8 guess --source hello.pal hello.declaration -o new.certificate",
+    about: "Searches for a certificate showing that no run violates a declaration",
+    after_help: "The operand OUT is emptied before an input is read, or with --source after the source and the declaration are read. It stays empty if nothing is found. With --source and without DECLARATION, OUT is given by -o. A certificate that is found shows the program to be safe: this is proved.\n\nExamples:\n  pdp8 guess hello.bin hello.declaration -o new.certificate\n  pdp8 guess --source hello.pal hello.declaration -o new.certificate",
 };
 
 const REFUTE: Entry = Entry {
     name: "refute",
     usage: Some("pdp8 refute [OPTIONS] <TAPE> <DECLARATION> [-o] <OUT>"),
-    about: "Looks for a run that breaks a declaration, and writes its events",
-    after_help: "A file stays as it was where nothing is found. Beside --source without DECLARATION there is -o alone. The same seed gives the same answer.\n\nExamples:\n  pdp8 refute hello.bin hello.declaration -o found.events --why\n  pdp8 refute --source hello.pal hello.declaration -o found.events --why",
+    about: "Searches for a run that violates a declaration, and writes its events",
+    after_help: "A file stays as it was if nothing is found. With --source and without DECLARATION, OUT is given by -o. The same seed gives the same answer.\n\nExamples:\n  pdp8 refute hello.bin hello.declaration -o found.events --why\n  pdp8 refute --source hello.pal hello.declaration -o found.events --why",
 };
 
 const PLACE: Entry = Entry {
     name: "place",
     usage: Some("pdp8 place [OPTIONS] [-o] <OUT> <SOURCE>..."),
-    about: "Writes a declaration in numbers, whose addresses are symbols of a source",
-    after_help: "Without -o OUT comes first. It stays as it was where an input is refused, or there is no declaration.\n\nExample:\n  pdp8 place -o numbers.declaration --declaration symbols.declaration my.pal",
+    about: "Writes a declaration with the symbols of a source replaced by their addresses",
+    after_help: "Without -o, OUT comes first. It stays as it was if an input is refused or there is no declaration.\n\nExample:\n  pdp8 place -o numbers.declaration --declaration symbols.declaration my.pal",
 };
 
 const MIGRATE: Entry = Entry {
     name: "migrate",
     usage: Some("pdp8 migrate [OPTIONS] <CERTIFICATE> [-o] <OUT>"),
     about: "Writes a certificate in version 2, which says what MQ may hold",
-    after_help: "The operand OUT is emptied before the certificate is read, also where that is refused.\n\nExample:\n  pdp8 migrate hello.certificate -o hello-2.certificate",
+    after_help: "The operand OUT is emptied before the certificate is read, even if the certificate is then refused.\n\nExample:\n  pdp8 migrate hello.certificate -o hello-2.certificate",
 };
 
 const EXPLAIN: Entry = Entry {

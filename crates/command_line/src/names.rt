@@ -6,21 +6,21 @@ use crate::requests::Request;
 /// for the files that begin with it.
 #[derive(Clone, Copy)]
 pub struct FileNames<'a> {
-    /// The tape's.
+    /// The name of the tape's file.
     pub tape: Option<&'a str>,
-    /// The declaration's.
+    /// The name of the declaration's file.
     pub declaration: Option<&'a str>,
-    /// The certificate's.
+    /// The name of the certificate's file.
     pub certificate: Option<&'a str>,
-    /// That of the events.
+    /// The name of the file of events.
     pub events: Option<&'a str>,
-    /// That of the frames in the reader.
+    /// The name of the file whose frames are in the reader.
     pub reader: Option<&'a str>,
-    /// That of the keys.
+    /// The name of the file of the keys.
     pub keys: Option<&'a str>,
-    /// That of the result.
+    /// The name of the result's file.
     pub output: Option<&'a str>,
-    /// That of another output.
+    /// The name of another output's file.
     pub second_output: Option<&'a str>,
 }
 

@@ -46,7 +46,7 @@ pub struct WatchedSession<'a> {
     pub keys: Option<&'a str>,
     /// How the tape is run; the start and the machine are the declaration's.
     pub options: SessionOptions,
-    /// Whether it is said what breaks a rule.
+    /// Whether it is said what violates a rule.
     pub explained: bool,
 }
 

@@ -8,11 +8,11 @@ use clap::ArgMatches;
 pub enum Destination<'a> {
     /// The operand OUT of `assemble`, `guess` and `migrate`: the file is emptied before an input is read.
     EmptiedFirst(&'a str),
-    /// The operand OUT of another command: that the file can be made or written is seen before an input is read, and
-    /// it stays as it was if there is nothing to write.
+    /// The operand OUT of another command: it is checked before an input is read that the file can be created or
+    /// written, and it stays as it was if there is nothing to write.
     CheckedFirst(&'a str),
-    /// The value of `-o`: the file is made when there is something to write, and stays as it was if
-    /// there is nothing.
+    /// The value of `-o`: the file is created when there is something to write, and stays as it was if there is
+    /// nothing.
     MadeLast(&'a str),
 }
 
@@ -27,7 +27,7 @@ impl<'a> Destination<'a> {
     }
 }
 
-/// Whether two names are those of one file, as far as the names tell: `./` in front says nothing.
+/// Whether two names are those of one file, as far as the names tell: a leading `./` does not matter.
 pub fn is_same_file(left: &str, right: &str) -> bool {
     let left = left.strip_prefix("./").unwrap_or(left);
     let right = right.strip_prefix("./").unwrap_or(right);
@@ -73,7 +73,7 @@ pub fn report_of<'a>(
     Ok(Some(name))
 }
 
-/// Where the punched bytes go, if they go to a file: it is none of these inputs, and isn't named as a source.
+/// Where the punched bytes go, if they go to a file: it is none of these inputs, and is not named like a source.
 pub fn punch_of<'a>(found: &ArgMatches<'a>, inputs: &[&str]) -> Result<Option<&'a str>, Refused> {
     let Some(name) = found.get_str("punch") else {
         return Ok(None);
@@ -90,7 +90,7 @@ pub fn punch_of<'a>(found: &ArgMatches<'a>, inputs: &[&str]) -> Result<Option<&'
     Ok(Some(name))
 }
 
-/// Sees to it that the result goes to none of these inputs.
+/// Ensures that the result goes to none of these inputs.
 pub fn no_input<'a>(
     destination: Destination<'a>,
     inputs: &[&str],
@@ -101,7 +101,7 @@ pub fn no_input<'a>(
     Ok(destination)
 }
 
-/// Sees to it that the result goes to none of these inputs, nor to a file that is named as a source.
+/// Ensures that the result goes to none of these inputs, nor to a file that is named like a source.
 pub fn no_source<'a>(
     destination: Destination<'a>,
     inputs: &[&str],
@@ -113,7 +113,7 @@ pub fn no_source<'a>(
     Ok(destination)
 }
 
-/// Where the result goes: the value of `-o`, else the operand OUT, which is emptied first.
+/// Where the result goes: the value of `-o`, otherwise the operand OUT, which is emptied first.
 pub fn emptied_destination<'a>(found: &ArgMatches<'a>) -> Destination<'a> {
     match found.get_str("output") {
         Some(name) => Destination::MadeLast(name),
@@ -121,7 +121,8 @@ pub fn emptied_destination<'a>(found: &ArgMatches<'a>) -> Destination<'a> {
     }
 }
 
-/// Where the result goes: the value of `-o`, else the operand OUT, which stays as it was if there is nothing to write.
+/// Where the result goes: the value of `-o`, otherwise the operand OUT, which stays as it was if there is nothing to
+/// write.
 pub fn kept_destination<'a>(found: &ArgMatches<'a>) -> Destination<'a> {
     match found.get_str("output") {
         Some(name) => Destination::MadeLast(name),
@@ -136,7 +137,7 @@ pub struct Save<'a> {
     pub name: &'a str,
     /// Whether the declaration may be one of them, since none is given.
     pub proposed: bool,
-    /// Whether a file that isn't of the command's making is replaced too.
+    /// Whether a file that was not written by the command is replaced too.
     pub forced: bool,
 }
 
@@ -178,8 +179,8 @@ fn is_folder_name(name: &str) -> bool {
     name.is_empty() || name.ends_with('/')
 }
 
-/// What the names of the files begin with to which goes what `verify` finds, if they are asked for. None of these
-/// inputs is one of them.
+/// What the names of the files for the results of `verify` begin with, if they are asked for. None of these inputs is
+/// one of them.
 pub fn save_of<'a>(
     found: &ArgMatches<'a>,
     inputs: &[&str],

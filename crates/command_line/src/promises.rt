@@ -132,7 +132,7 @@ pub struct WatchRequest<'a> {
     pub declaration: &'a str,
     /// The name of the file of events.
     pub events: &'a str,
-    /// Whether it is said what breaks a rule.
+    /// Whether it is said what violates a rule.
     pub explained: bool,
     /// The cells whose words are shown when the run is over.
     pub show: WordSet,
@@ -176,7 +176,7 @@ pub(crate) fn watch_session_request<'a>(
     watched_session_of(tape, declaration, found)
 }
 
-/// To guess a certificate.
+/// To search for a certificate.
 #[derive(Clone, Copy)]
 pub struct GuessRequest<'a> {
     /// The name of the tape's file.
@@ -222,7 +222,7 @@ pub(crate) fn guess_request<'a>(found: &ArgMatches<'a>) -> Result<GuessRequest<'
     })
 }
 
-/// To look for a run that breaks a declaration.
+/// To search for a run that violates a declaration.
 #[derive(Clone, Copy)]
 pub struct RefuteRequest<'a> {
     /// The name of the tape's file.
@@ -231,7 +231,7 @@ pub struct RefuteRequest<'a> {
     pub declaration: &'a str,
     /// Where the events go.
     pub out: Destination<'a>,
-    /// How it is looked for.
+    /// How the search is made.
     pub options: RefuteOptions,
 }
 
@@ -247,7 +247,7 @@ impl<'a> RefuteRequest<'a> {
     }
 }
 
-/// The run that is asked for, which breaks a declaration.
+/// The run that is asked for, which violates a declaration.
 pub(crate) fn refute_request<'a>(found: &ArgMatches<'a>) -> Result<RefuteRequest<'a>, Refused> {
     let tape = found.get_str("TAPE").unwrap_or("-");
     let declaration = found.get_str("DECLARATION").unwrap_or("-");
@@ -260,16 +260,16 @@ pub(crate) fn refute_request<'a>(found: &ArgMatches<'a>) -> Result<RefuteRequest
     })
 }
 
-/// To say whether a program keeps its declaration.
+/// To say whether a program complies with its declaration.
 #[derive(Clone, Copy)]
 pub struct VerifyRequest<'a> {
     /// The name of the tape's file.
     pub tape: &'a str,
     /// The name of the declaration's file; without one a declaration is proposed.
     pub declaration: Option<&'a str>,
-    /// The files to which goes what is found, if it is saved.
+    /// The files for what is found, if it is saved.
     pub save: Option<Save<'a>>,
-    /// How the answer is looked for.
+    /// How the answer is searched for.
     pub options: VerifyOptions,
 }
 

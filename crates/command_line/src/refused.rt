@@ -1,4 +1,4 @@
-//! Why a command line isn't carried out.
+//! Why a command line is not carried out.
 
 use clap::Error;
 use clap::error::ErrorKind;
@@ -10,15 +10,15 @@ use word12::OctalFault;
 pub enum Refused {
     /// The command line is bad, or asks for help.
     CommandLine(Error),
-    /// Its arguments are those of a command, but can't stand so.
+    /// Its arguments are those of a command, but cannot be combined in this way.
     Misuse(Misuse),
-    /// The value of `--start` is no address.
+    /// The value of `--start` is not an address.
     Start(OctalFault),
-    /// The value of `--switches` is no word.
+    /// The value of `--switches` is not a word.
     Switches(OctalFault),
     /// The operand of this name is missing.
     NoOperand(&'static str),
-    /// The value of `--steps` is no number from 1 to this one.
+    /// The value of `--steps` is not a number from 1 to this one.
     Steps(u32),
     /// Memory was refused.
     Memory,
@@ -27,7 +27,7 @@ pub enum Refused {
 /// What is wrong with the arguments of a command line.
 #[derive(Clone, Copy)]
 pub enum Misuse {
-    /// An argument is no text.
+    /// An argument is not text.
     NotText,
     /// The value of `--show` has no cell, or something else than addresses and ranges.
     Show,
@@ -45,7 +45,7 @@ pub enum Misuse {
     NoEvents,
     /// The punch is to go to standard output.
     PunchToOutput,
-    /// The value of `--seed` is no number from 0 to 99,999,999.
+    /// The value of `--seed` is not a number from 0 to 99,999,999.
     Seed,
     /// The value of `--profile` is neither `8i` nor `8e`.
     Profile,
@@ -53,76 +53,75 @@ pub enum Misuse {
     BothStandardInput,
     /// The result is to go to an input.
     OutputIsInput,
-    /// A tape is to go to a file that is named as a source.
+    /// A tape is to go to a file that is named like a source.
     OutputIsSource,
-    /// A declaration in numbers is to go to a file that is named as a source.
+    /// A declaration in numbers is to go to a file that is named like a source.
     PlacedIsSource,
-    /// Another result is to go to a file that is named as a source.
+    /// Another result is to go to a file that is named like a source.
     ResultIsSource,
-    /// A source is to go to a file that is named as one, is there, and isn't of this command's making.
+    /// A source is to go to a file that is named like one, exists, and was not written by this command.
     SourceIsKept,
     /// The report is to go to an input, or where the result goes.
     ReportIsTaken,
-    /// The report is to go to a file that is named as a source.
+    /// The report is to go to a file that is named like a source.
     ReportIsSource,
     /// The punched bytes are to go to an input.
     PunchIsTaken,
-    /// The punched bytes are to go to a file that is named as a source.
+    /// The punched bytes are to go to a file that is named like a source.
     PunchIsSource,
     /// What is found is to go to files without a name.
     SaveIsFolder,
     /// What is found is to go to an input.
     SaveIsTaken,
-    /// There is a report, and standard input, which can't be read twice.
+    /// There is a report, and standard input, which cannot be read twice.
     ReportOfStandardInput,
 }
 
 impl Misuse {
-    /// What is told of it.
+    /// What is said about it.
     pub fn text(&self) -> &'static str {
         match self {
             Misuse::NotText =>
-                "an argument isn't text in UTF-8: rename the file, or give it on standard input",
+                "an argument is not text in UTF-8: rename the file, or give it on standard input",
             Misuse::Show =>
-                "bad value for '--show': it has octal addresses and ranges, such as 0324 0400-0417",
+                "bad value for '--show': expected octal addresses and ranges, such as 0324 0400-0417",
             Misuse::EventsAndOperator =>
-                "'--events' can't stand beside the options for the reader, the punch, the teletype and the switches",
+                "'--events' cannot be combined with the options for the reader, the punch, the teletype and the switches",
             Misuse::ListAndOperator =>
-                "EVENTS can't stand beside the options for the reader, the keys, the switches and the rounds",
+                "EVENTS cannot be combined with the options for the reader, the keys, the switches and the rounds",
             Misuse::DeclarationAndStart =>
-                "a declaration has its own start and machine: '--start' and '--profile' can't stand beside it",
-            Misuse::TapeAndSource =>
-                "'--source' stands in place of TAPE: there is an operand too many",
+                "a declaration determines the start and the machine: '--start' and '--profile' cannot be combined with it",
+            Misuse::TapeAndSource => "'--source' takes the place of TAPE: too many operands",
             Misuse::NoOutput =>
-                "'-o OUT' is missing: beside '--source' each operand here is taken for an input",
+                "'-o OUT' is missing: with '--source', each operand here is taken for an input",
             Misuse::NoEvents =>
-                "EVENTS is missing, or an option in its place, such as '--steps 1000'",
-            Misuse::PunchToOutput => "'--punch' takes the name of a file",
-            Misuse::Seed => "bad value for '--seed': it is a number from 0 to 99999999",
-            Misuse::Profile => "bad value for '--profile': it is 8i or 8e",
-            Misuse::BothStandardInput => "'-' stands for standard input in one place alone",
-            Misuse::OutputIsInput => "OUT is also an input: the result goes to a file of its own",
+                "EVENTS is missing, or an option that takes its place, such as '--steps 1000'",
+            Misuse::PunchToOutput => "'--punch' needs the name of a file",
+            Misuse::Seed => "bad value for '--seed': expected a number from 0 to 99999999",
+            Misuse::Profile => "bad value for '--profile': expected 8i or 8e",
+            Misuse::BothStandardInput => "'-' can stand for standard input in only one place",
+            Misuse::OutputIsInput => "OUT is also an input: the result needs a file of its own",
             Misuse::OutputIsSource =>
-                "OUT ends as the names of sources do: it takes the tape, and stands before the sources",
+                "OUT is named like a source: it receives the tape, and comes before the sources",
             Misuse::PlacedIsSource =>
-                "OUT ends as the names of sources do: it takes the declaration, and stands before the sources",
+                "OUT is named like a source: it receives the declaration, and comes before the sources",
             Misuse::ResultIsSource =>
-                "OUT ends as the names of sources do: the result goes to a file with another ending",
+                "OUT is named like a source: the result needs a file name with another ending",
             Misuse::SourceIsKept =>
-                "OUT is a file that this command didn't write: it stays; give OUT another name, or --force to replace it",
+                "OUT is a file that this command did not write, so it is kept: give OUT another name, or use --force to replace it",
             Misuse::ReportIsSource =>
-                "the report's name ends as those of sources do: it goes to a file with another ending",
+                "the file of '--report' is named like a source: the report needs a file name with another ending",
             Misuse::PunchIsTaken =>
-                "the punch's file is also an input: what is punched goes to a file of its own",
+                "the file of '--punch' is also an input: what is punched needs a file of its own",
             Misuse::PunchIsSource =>
-                "the punch's file ends as the names of sources do: what is punched goes to a file with another ending",
+                "the file of '--punch' is named like a source: what is punched needs a file name with another ending",
             Misuse::SaveIsFolder =>
-                "'--save NAME' has no name of a file: NAME is what the files' names begin with, such as found",
+                "'--save NAME' needs a file name: the names of the files begin with NAME, such as found",
             Misuse::SaveIsTaken => "'--save NAME' would replace an input: give another NAME",
             Misuse::ReportIsTaken =>
-                "the report is also an input or OUT: it goes to a file of its own",
+                "the file of '--report' is also an input or OUT: the report needs a file of its own",
             Misuse::ReportOfStandardInput =>
-                "'-' can't be read twice: with '--report' the inputs are files",
+                "'-' cannot be read twice: with '--report', the inputs must be files",
         }
     }
 }

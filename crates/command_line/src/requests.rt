@@ -47,7 +47,7 @@ pub enum Request<'a> {
     Report(ReportRequest<'a>),
     /// To propose a declaration.
     Declare(DeclareRequest<'a>),
-    /// To guess a certificate.
+    /// To search for a certificate.
     Guess(GuessRequest<'a>),
     /// To migrate a certificate.
     Migrate(MigrateRequest<'a>),
@@ -60,9 +60,9 @@ pub enum Request<'a> {
     Watch(WatchRequest<'a>),
     /// To watch a run with an operator.
     WatchSession(WatchedSession<'a>),
-    /// To look for a run that breaks a declaration.
+    /// To search for a run that violates a declaration.
     Refute(RefuteRequest<'a>),
-    /// To say whether a program keeps its declaration.
+    /// To say whether a program complies with its declaration.
     Verify(VerifyRequest<'a>),
     /// To work on a source and its declaration.
     Sourced(Sourced<'a>),
@@ -110,7 +110,7 @@ fn sourced_request<'a>(
     }
 }
 
-/// What a command asks for, with what was found behind it.
+/// What a command asks for, with what was found after it.
 fn request_of<'a>(
     alloc: Global,
     command: &str,

@@ -15,7 +15,7 @@ fn place_of_dash(word: &[u8]) -> Option<usize>
     word.iter().position(|byte| *byte == b'-')
 }
 
-/// The cells from one address to another, which isn't below it.
+/// The cells from one address to another, which is not below it.
 fn span(low: &[u8], high: &[u8]) -> Option<WordSet> {
     let low = octal_word(low)?;
     let high = octal_word(high)?;

@@ -32,11 +32,11 @@ pub struct Sourced<'a> {
 /// What is done with a source and its declaration.
 #[derive(Clone, Copy)]
 pub enum Task<'a> {
-    /// To say whether the program keeps its declaration.
+    /// To say whether the program complies with its declaration.
     Verify {
-        /// The files to which goes what is found, if it is saved.
+        /// The files for what is found, if it is saved.
         save: Option<Save<'a>>,
-        /// How the answer is looked for.
+        /// How the answer is searched for.
         options: VerifyOptions,
         /// Whether a start or a machine is named.
         asked: bool,
@@ -63,14 +63,14 @@ pub enum Task<'a> {
     Watch {
         /// The name of the file of events.
         events: &'a str,
-        /// Whether it is said what breaks a rule.
+        /// Whether it is said what violates a rule.
         explained: bool,
         /// The cells whose words are shown when the run is over.
         show: WordSet,
     },
     /// To watch a run with an operator. The names of the tape and of the declaration are empty.
     WatchSession(WatchedSession<'a>),
-    /// To guess a certificate.
+    /// To search for a certificate.
     Guess {
         /// Where the certificate goes.
         out: Destination<'a>,
@@ -79,18 +79,18 @@ pub enum Task<'a> {
         /// Where the report of a search that is stuck goes.
         report: Option<&'a str>,
     },
-    /// To look for a run that breaks the declaration.
+    /// To search for a run that violates the declaration.
     Refute {
         /// Where the events go.
         out: Destination<'a>,
-        /// How it is looked for.
+        /// How the search is made.
         options: RefuteOptions,
     },
     /// To propose a declaration, or to complete that of the file.
     Declare {
         /// Where it goes.
         out: Destination<'a>,
-        /// What it's proposed for.
+        /// What it is proposed for.
         options: DeclareOptions,
         /// Whether it is said what is wrong with an input that is refused.
         explained: bool,
@@ -183,8 +183,8 @@ pub fn has_source(found: &ArgMatches<'_>) -> bool {
     found.get_strs("source").is_some()
 }
 
-/// The operands that stand behind a source, in order: a declaration, if there is one, and the last one, if
-/// the command needs it.
+/// The operands that stand after a source, in order: a declaration, if there is one, and the last one, if the command
+/// needs it.
 #[derive(Clone, Copy)]
 struct Operands<'a> {
     declaration: Option<&'a str>,
@@ -242,7 +242,8 @@ fn parts_of<'a>(
     Ok(names)
 }
 
-/// Where a result goes: the value of `-o`, else the last operand, which stays as it was if there is nothing to write.
+/// Where a result goes: the value of `-o`, otherwise the last operand, which stays as it was if there is nothing to
+/// write.
 fn result_of<'a>(found: &ArgMatches<'a>, last: Option<&'a str>) -> Destination<'a> {
     match last {
         Some(name) => Destination::CheckedFirst(name),
@@ -250,7 +251,7 @@ fn result_of<'a>(found: &ArgMatches<'a>, last: Option<&'a str>) -> Destination<'
     }
 }
 
-/// Where a certificate goes: the value of `-o`, else the last operand, which is emptied first.
+/// Where a certificate goes: the value of `-o`, otherwise the last operand, which is emptied first.
 fn certificate_of<'a>(found: &ArgMatches<'a>, last: Option<&'a str>) -> Destination<'a> {
     match last {
         Some(name) => Destination::EmptiedFirst(name),
@@ -276,7 +277,7 @@ fn search_operands<'a>(found: &ArgMatches<'a>) -> Result<Operands<'a>, Refused> 
     Ok(operands)
 }
 
-/// The request for whether the program of a source keeps its declaration.
+/// The request for whether the program of a source complies with its declaration.
 pub fn sourced_verify<'a>(alloc: Global, found: &ArgMatches<'a>) -> Result<Sourced<'a>, Refused> {
     let operands = operands_of(found, None)?;
     let declaration = operands.declaration;
@@ -393,7 +394,7 @@ pub fn sourced_guess<'a>(alloc: Global, found: &ArgMatches<'a>) -> Result<Source
     })
 }
 
-/// Sees to it that the result of a search goes to none of its inputs, nor to a file that is named as a source.
+/// Ensures that the result of a search goes to none of its inputs, nor to a file that is named like a source.
 fn search_output<'a>(
     alloc: Global,
     out: Destination<'a>,
@@ -406,7 +407,7 @@ fn search_output<'a>(
     no_source(out, &inputs)
 }
 
-/// The request for a run that breaks the declaration of a source.
+/// The request for a run that violates the declaration of a source.
 pub fn sourced_refute<'a>(alloc: Global, found: &ArgMatches<'a>) -> Result<Sourced<'a>, Refused> {
     let operands = search_operands(found)?;
     let declaration = operands.declaration;

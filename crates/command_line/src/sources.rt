@@ -59,7 +59,7 @@ pub(crate) fn source_names<'a>(
     Ok(names)
 }
 
-/// The tape that is asked for. It doesn't go to a file that is named as a source: the operands may stand in the
+/// The tape that is asked for. It does not go to a file that is named like a source: the operands may stand in the
 /// wrong order.
 pub(crate) fn assemble_request<'a>(
     alloc: Global,

@@ -20,7 +20,7 @@ pub(crate) enum Form {
     OutBeforeSources,
     /// One operand or more.
     Operands,
-    /// One operand or more behind OUT, none of which is needed where `-o` is used.
+    /// One operand or more after OUT, none of which is needed where `-o` is used.
     OtherOperands,
     /// An option without a value.
     Flag,
@@ -39,7 +39,7 @@ pub(crate) struct Argument {
     pub(crate) short: Option<char>,
     /// How it is given.
     pub(crate) form: Form,
-    /// What help says of it.
+    /// What help says about it.
     pub(crate) help: &'static str,
 }
 

@@ -79,7 +79,7 @@ pub struct SourceRequest<'a> {
     pub tape: &'a str,
     /// Where the source goes.
     pub out: Destination<'a>,
-    /// Whether a file that is named as a source is replaced also where it isn't of the command's making.
+    /// Whether a file that is named like a source is replaced even if it was not written by the command.
     pub forced: bool,
     /// The name of the declaration's file, if there is one.
     pub declaration: Option<&'a str>,
@@ -127,7 +127,7 @@ pub struct DeclareRequest<'a> {
     pub from: Option<&'a str>,
     /// Where the declaration goes.
     pub out: Destination<'a>,
-    /// What it's proposed for.
+    /// What it is proposed for.
     pub options: DeclareOptions,
 }
 

@@ -97,7 +97,7 @@ fn seed_of(found: &ArgMatches<'_>) -> Result<u32, Refused> {
     }
 }
 
-/// How a run that breaks a declaration is looked for.
+/// How a run that violates a declaration is searched for.
 pub(crate) fn refute_options(found: &ArgMatches<'_>) -> Result<RefuteOptions, Refused> {
     Ok(RefuteOptions {
         steps: search_steps_of(found)?,
@@ -106,7 +106,7 @@ pub(crate) fn refute_options(found: &ArgMatches<'_>) -> Result<RefuteOptions, Re
     })
 }
 
-/// How it is found out whether a program keeps its declaration.
+/// How it is found out whether a program complies with its declaration.
 pub(crate) fn verify_options(found: &ArgMatches<'_>) -> Result<VerifyOptions, Refused> {
     Ok(VerifyOptions {
         start: start_of(found)?,
@@ -115,7 +115,7 @@ pub(crate) fn verify_options(found: &ArgMatches<'_>) -> Result<VerifyOptions, Re
     })
 }
 
-/// Sees to it that at most one of these is standard input.
+/// Ensures that at most one of these is standard input.
 pub(crate) fn read_standard_input_once(names: &[&str]) -> Result<(), Refused> {
     if names.iter().filter(|name| **name == "-").count() > 1 {
         return Err(Refused::Misuse(Misuse::BothStandardInput));

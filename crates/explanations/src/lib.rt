@@ -1,5 +1,5 @@
-//! What is said of each condition, rule and fault by its code: what is asked, or what it means, and what to
-//! do. The pages say the same. It is tested and not proved.
+//! What is said about each condition, rule and fault, which are named by codes: what it asks or means, and what to do.
+//! The pages say the same. This is tested and not proved.
 #![tactic(auto)]
 
 mod conditions;
@@ -17,27 +17,27 @@ const COLUMN: usize = 18;
 /// What a code stands for.
 #[derive(Clone, Copy)]
 pub(crate) enum Subject {
-    /// A condition or a rule, which is called so.
+    /// A condition or a rule with this name.
     Asked(&'static str),
-    /// A fault, of which this is a line, without `pdp8: `.
+    /// A fault, with an example of its line, without `pdp8: `.
     Fault(&'static str),
 }
 
-/// What is said of a code.
+/// What is said about a code.
 #[derive(Clone, Copy)]
 pub(crate) struct Explanation {
-    /// The code. Several faults may have the same.
+    /// The code. Several faults may have the same code.
     pub(crate) code: &'static str,
     /// What it stands for.
     pub(crate) subject: Subject,
-    /// What is asked, or what the fault means.
+    /// What it asks, or what the fault means.
     pub(crate) meaning: &'static str,
     /// What to do.
     pub(crate) advice: &'static str,
 }
 
 impl Explanation {
-    /// Adds the line that says what it is, and the front of the next one.
+    /// Adds the line that says what it is, and the beginning of the next line.
     fn push_subject<A: Allocator>(&self, text: &mut String<A>) -> Result<(), AllocError> {
         match self.subject {
             Subject::Asked(name) => {
@@ -53,7 +53,7 @@ impl Explanation {
         }
     }
 
-    /// Adds all that is said of it.
+    /// Adds everything that is said about it.
     fn push_whole<A: Allocator>(&self, text: &mut String<A>) -> Result<(), AllocError> {
         self.push_subject(text)?;
         text.push_str(self.meaning)?;
@@ -62,7 +62,7 @@ impl Explanation {
         text.push_str("\n")
     }
 
-    /// Adds what is meant and what to do, a line each.
+    /// Adds what it means and what to do, one line for each.
     fn push_advice<A: Allocator>(&self, text: &mut String<A>) -> Result<(), AllocError> {
         text.push_str(self.meaning)?;
         text.push_str("\nwhat to do: ")?;
@@ -84,7 +84,7 @@ impl Explanation {
     }
 }
 
-/// Adds what a table says of a code, and tells whether it says anything.
+/// Adds what a table says about a code, and tells whether it says anything.
 fn push_from<A: Allocator>(
     text: &mut String<A>,
     table: &[Explanation],
@@ -103,7 +103,7 @@ fn push_from<A: Allocator>(
     Ok(is_known)
 }
 
-/// Adds what a table advises on a code.
+/// Adds what a table advises about a code.
 fn push_advice_from<A: Allocator>(
     text: &mut String<A>,
     table: &[Explanation],
@@ -125,12 +125,12 @@ fn push_table<A: Allocator>(text: &mut String<A>, table: &[Explanation]) -> Resu
     Ok(())
 }
 
-/// Adds what is said of a code, such as `V5`, `rule2` or `IR`: of each fault that has it, with an empty line
-/// between two. Capital and small letters are the same. Tells whether the code is one of the list.
+/// Adds what is said about a code, such as `V5`, `rule2` or `IR`. If several faults have the code, all of them are
+/// explained, with an empty line between two. Case is ignored. Tells whether the code is in the list.
 ///
 /// # Errors
 ///
-/// `AllocError` where a growth was refused.
+/// `AllocError` if memory was refused.
 pub fn push_explanations<A: Allocator>(
     text: &mut String<A>,
     code: &str,
@@ -141,23 +141,25 @@ pub fn push_explanations<A: Allocator>(
     Ok(is_condition || is_rule || is_fault)
 }
 
-/// Adds what is meant by a fault, by its code, such as `TurnsSpent`, and what to do. It is for faults that lie in no
-/// line of a file; of a code that no fault has it adds nothing.
+/// Adds what the fault with a code such as `TurnsSpent` means, and what to do. It is for faults that are not in a
+/// line of a file. If no fault has the code, it adds nothing.
 ///
 /// # Errors
 ///
-/// `AllocError` where a growth was refused.
+/// `AllocError` if memory was refused.
 pub fn push_advice<A: Allocator>(text: &mut String<A>, code: &str) -> Result<(), AllocError> {
     push_advice_from(text, faults(), code)
 }
 
-/// Adds the list of codes, each with a line: conditions, rules and faults.
+/// Adds the list of codes, one line for each: conditions, rules and faults.
 ///
 /// # Errors
 ///
-/// `AllocError` where a growth was refused.
+/// `AllocError` if memory was refused.
 pub fn push_codes<A: Allocator>(text: &mut String<A>) -> Result<(), AllocError> {
-    text.push_str("pdp8 explain CODE says what is asked or meant, and what to do. The codes:\n")?;
+    text.push_str(
+        "pdp8 explain CODE says what a code asks or means, and what to do. The codes:\n",
+    )?;
     push_table(text, conditions())?;
     push_table(text, rules())?;
     push_table(text, faults())

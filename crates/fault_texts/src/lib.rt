@@ -1,5 +1,5 @@
-//! The lines for people below the line of a fault: which file, which place or line, and what may stand
-//! there; and what a declaration leaves out. They are tested and not proved.
+//! The lines for people below the line of a fault: which file, which place or line, and what may stand there; and
+//! what a declaration leaves out. They are tested, not proved.
 #![tactic(auto)]
 
 mod forms;
@@ -26,11 +26,11 @@ pub struct FaultyFile<'a> {
     pub bytes: &'a [u8],
 }
 
-/// Adds the lines on a fault of this file. Of a fault that is no input's it adds none.
+/// Adds the lines on a fault of this file. For a fault that is not about an input it adds none.
 ///
 /// # Errors
 ///
-/// `NoMemory` where a growth was refused.
+/// `NoMemory` if memory was refused.
 pub fn push_fault<A: Allocator>(
     text: &mut String<A>,
     fault: Fault,
@@ -45,7 +45,7 @@ pub fn push_fault<A: Allocator>(
     }
 }
 
-/// Adds a line that is the name of a file and what is said of it.
+/// Adds a line that is the name of a file and what is said about it.
 pub(crate) fn push_said<A: Allocator>(
     text: &mut String<A>,
     file: &FaultyFile<'_>,
@@ -73,17 +73,11 @@ fn push_declaration<A: Allocator>(
         }
         DeclarationFault::TwoStarts(number) => {
             push_numbered(text, file, number)?;
-            push_form(
-                text,
-                "a line before it is a start too; one alone may stand there",
-            )
+            push_form(text, "duplicate start line: only one is allowed")
         }
         DeclarationFault::TwoProfiles(number) => {
             push_numbered(text, file, number)?;
-            push_form(
-                text,
-                "a line before it is a profile too; one alone may stand there",
-            )
+            push_form(text, "duplicate profile line: only one is allowed")
         }
         DeclarationFault::NoStart => push_said(
             text,
@@ -95,7 +89,7 @@ fn push_declaration<A: Allocator>(
             let cell = at.value();
             writeln!(
                 text,
-                "{name}: {cell:04o} is in two bodies, or is an entry and in a body or a variable, or is a stop and a pause; take it out of one of them"
+                "{name}: {cell:04o} is in two bodies, or is both an entry and in a body or a variable, or is both a stop and a pause; remove it from one of them"
             )
             .map_err(|_| NoMemory)
         }
@@ -104,21 +98,21 @@ fn push_declaration<A: Allocator>(
             let cell = at.value();
             writeln!(
                 text,
-                "{name}: the entry {cell:04o} is one of 0010 to 0017, which an indirect reference steps; a routine begins elsewhere"
+                "{name}: the entry {cell:04o} is one of the cells 0010 to 0017, which an indirect reference increments; a routine must begin elsewhere"
             )
             .map_err(|_| NoMemory)
         }
         DeclarationFault::StartNotInMain => push_said(
             text,
             file,
-            "the start is in no `main` line: add it there",
+            "the start is not in any `main` line: add it there",
         ),
         DeclarationFault::HaltNotInBody(at) => {
             let name = file.name;
             let cell = at.value();
             writeln!(
                 text,
-                "{name}: the stop or pause {cell:04o} is in no body: add it to the `main` line or to a routine's body"
+                "{name}: the stop or pause {cell:04o} is not in any body: add it to the `main` line or to a routine's body"
             )
             .map_err(|_| NoMemory)
         }
@@ -156,7 +150,7 @@ fn push_certificate<A: Allocator>(
             push_numbered(text, file, number)?;
             push_form(
                 text,
-                "it is out of order or there twice: routines come first, then facts, then exits, each by rising addresses; under a fact or an exit its cells, then its equations",
+                "out of order or a duplicate line: routines come first, then facts, then exits, each by ascending address; under a fact or an exit come its cells, then its equations",
             )
         }
         CertificateFault::TooMany => {

@@ -24,11 +24,11 @@ pub(crate) fn first_word(line: &[u8]) -> &[u8] {
         .unwrap_or(b"")
 }
 
-/// Adds a line of a file, with the file's name and its number before it, and gives the line.
+/// Adds a line of a file, with the file's name and its number before it, and returns the line.
 ///
 /// # Errors
 ///
-/// `NoMemory` where a growth was refused.
+/// `NoMemory` if memory was refused.
 pub fn push_numbered<'a, A: Allocator>(
     text: &mut String<A>,
     file: &FaultyFile<'a>,

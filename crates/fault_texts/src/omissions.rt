@@ -12,12 +12,12 @@ use word12::Word;
 /// The most instructions that are named.
 const MOST: usize = 8;
 
-/// What an instruction would break.
+/// What an instruction would violate.
 #[derive(Clone, Copy, PartialEq, Eq)]
 enum Omission {
     /// Nothing stands there on the tape.
     NoWord,
-    /// The word isn't one of the declared machine.
+    /// The word is not one of the declared machine.
     Unsupported,
     /// It is one of the PDP-8/E alone.
     OfThe8e,
@@ -25,9 +25,9 @@ enum Omission {
     Stores(Word),
     /// It stores into this entry, and is no ISZ of the routine itself.
     StoresInEntry(Word),
-    /// It steps this pointer, which is no variable.
+    /// It increments this pointer, which is not a variable.
     Steps(Word),
-    /// It calls this address, which is no entry, in no body and no variable.
+    /// It calls this address, which is not an entry, in no body and no variable.
     Calls(Word),
     /// It calls this address, which is in a body or a variable.
     CallsIntoBody(Word),
@@ -48,7 +48,7 @@ enum Omission {
 /// The bits by which a HLT skips.
 const TESTS: u16 = 0o170;
 
-/// What a store into a cell that is no variable would break.
+/// What a store into a cell that is not a variable would violate.
 fn omitted_by_store<D: Allocator>(declaration: &Declaration<D>, cell: Word) -> Omission {
     if declaration.is_entry(cell) {
         Omission::StoresInEntry(cell)
@@ -57,7 +57,7 @@ fn omitted_by_store<D: Allocator>(declaration: &Declaration<D>, cell: Word) -> O
     }
 }
 
-/// What a call of an address that is no entry would break.
+/// What a call of an address that is not an entry would violate.
 fn omitted_by_call<D: Allocator>(declaration: &Declaration<D>, place: Word) -> Omission {
     if is_auto_index(place) {
         Omission::CallsAutoIndex(place)
@@ -68,12 +68,12 @@ fn omitted_by_call<D: Allocator>(declaration: &Declaration<D>, place: Word) -> O
     }
 }
 
-/// Whether an address that isn't in the same body belongs to another one, or is an entry.
+/// Whether an address that is not in the same body belongs to another one, or is an entry.
 fn is_elsewhere<D: Allocator>(declaration: &Declaration<D>, place: Word) -> bool {
     declaration.is_entry(place) || declaration.owner_of(place).is_some()
 }
 
-/// What a jump to an address that isn't in the same body would break.
+/// What a jump to an address that is not in the same body would violate.
 fn omitted_by_jump<D: Allocator>(declaration: &Declaration<D>, place: Word) -> Omission {
     if is_elsewhere(declaration, place) {
         Omission::JumpsAcross(place)
@@ -82,7 +82,7 @@ fn omitted_by_jump<D: Allocator>(declaration: &Declaration<D>, place: Word) -> O
     }
 }
 
-/// What a memory reference of a body would break.
+/// What a memory reference of a body would violate.
 fn omitted_by_reference<D: Allocator>(
     declaration: &Declaration<D>,
     owner: Owner,
@@ -112,7 +112,7 @@ fn omitted_by_reference<D: Allocator>(
     }
 }
 
-/// What a HLT of a body would break. Behind a pause a HLT that tests nothing goes on at the next address.
+/// What a HLT of a body would violate. After a pause a HLT that tests nothing goes on at the next address.
 fn omitted_by_halt<D: Allocator>(
     declaration: &Declaration<D>,
     owner: Owner,
@@ -136,7 +136,7 @@ fn omitted_by_halt<D: Allocator>(
     }
 }
 
-/// What a word that the declared machine doesn't have would break.
+/// What a word that the declared machine does not have would violate.
 fn unsupported(word: Word) -> Omission {
     match decode(word, Profile::Pdp8E) {
         Instruction::Unsupported => Omission::Unsupported,
@@ -144,7 +144,7 @@ fn unsupported(word: Word) -> Omission {
     }
 }
 
-/// What the word at an address of a body would break.
+/// What the word at an address of a body would violate.
 fn omitted_at<D: Allocator>(
     image: &Image,
     declaration: &Declaration<D>,
@@ -165,7 +165,7 @@ fn omitted_at<D: Allocator>(
     }
 }
 
-/// Adds an address with what stands before it and behind it.
+/// Adds an address with what stands before it and after it.
 fn push_around<L: Lines>(
     text: &mut L,
     before: &[u8],
@@ -176,7 +176,7 @@ fn push_around<L: Lines>(
     text.push_text(after)
 }
 
-/// Adds an address within a line of a declaration that is advised, with what stands before it and behind it.
+/// Adds an address within a line of a declaration that is advised, with what stands before it and after it.
 fn push_advice<L: Lines>(
     text: &mut L,
     before: &[u8],
@@ -187,7 +187,7 @@ fn push_advice<L: Lines>(
     text.push_text(after)
 }
 
-/// Adds what the instruction at an address would break.
+/// Adds what the instruction at an address would violate.
 fn push_breach<L: Lines>(text: &mut L, at: Word, omission: &Omission) -> Result<(), AllocError> {
     match omission {
         Omission::NoWord => {
@@ -195,13 +195,18 @@ fn push_breach<L: Lines>(text: &mut L, at: Word, omission: &Omission) -> Result<
                 text,
                 b"",
                 at,
-                b" is in a body, and the tape has no word there",
+                b" is in a body, but the tape has no word there",
             )
         }
-        Omission::Unsupported => text.push_text(b"it is no word that the machine has"),
-        Omission::OfThe8e => text.push_text(b"the PDP-8/E alone has this word"),
+        Omission::Unsupported => text.push_text(b"the machine does not implement this word"),
+        Omission::OfThe8e => text.push_text(b"only the PDP-8/E implements this word"),
         Omission::Stores(cell) => {
-            push_around(text, b"it stores into ", *cell, b", which is no variable")
+            push_around(
+                text,
+                b"it stores into ",
+                *cell,
+                b", which is not a variable",
+            )
         }
         Omission::StoresInEntry(entry) => {
             push_around(text, b"it stores into ", *entry, b", which is an entry")
@@ -209,27 +214,27 @@ fn push_breach<L: Lines>(text: &mut L, at: Word, omission: &Omission) -> Result<
         Omission::Steps(cell) => {
             push_around(
                 text,
-                b"it steps the pointer ",
+                b"it increments the pointer ",
                 *cell,
-                b", which is no variable",
+                b", which is not a variable",
             )
         }
         Omission::Calls(place) | Omission::CallsIntoBody(place) | Omission::CallsAutoIndex(place) =>
-            { push_around(text, b"it calls ", *place, b", which is no entry") }
+            { push_around(text, b"it calls ", *place, b", which is not an entry") }
         Omission::Jumps(place) | Omission::JumpsAcross(place) => {
             push_around(
                 text,
                 b"it jumps to ",
                 *place,
-                b", which isn't in the same body",
+                b", which is not in the same body",
             )
         }
         Omission::Halts => text.push_text(b"it halts, and no halt is declared there"),
         Omission::GoesOn(next) | Omission::GoesAcross(next) => push_around(
             text,
-            b"the operator may go on at ",
+            b"the operator may continue at ",
             *next,
-            b", which isn't in the same body",
+            b", which is not in the same body",
         ),
     }
 }
@@ -237,15 +242,15 @@ fn push_breach<L: Lines>(text: &mut L, at: Word, omission: &Omission) -> Result<
 /// What to do about what is omitted, where that names no address.
 fn fixed_remedy(omission: &Omission) -> Option<&'static [u8]> {
     match omission {
-        Omission::NoWord => Some(b"take it out, or end the program before it"),
-        Omission::Unsupported => Some(b"is it data? Then take it out of the body"),
+        Omission::NoWord => Some(b"remove it from the body, or end the program before it"),
+        Omission::Unsupported => Some(b"if it is data, remove it from the body"),
         Omission::OfThe8e => Some(b"add `profile 8e` if the program is for one"),
         Omission::StoresInEntry(_) => {
-            Some(b"let only a JMS write there, and an ISZ of its own routine")
+            Some(b"let only a JMS, or an ISZ of the routine itself, write there")
         }
         Omission::CallsAutoIndex(_) => Some(b"no routine can begin in 0010 to 0017"),
         Omission::Jumps(_) => Some(b"add it there"),
-        Omission::JumpsAcross(_) => Some(b"call a routine by JMS, and leave it by a return"),
+        Omission::JumpsAcross(_) => Some(b"call a routine with a JMS, and leave it with a return"),
         _ => None,
     }
 }
@@ -261,11 +266,11 @@ fn push_remedy<L: Lines>(text: &mut L, at: Word, omission: &Omission) -> Result<
             text,
             b"add `sub ",
             *entry,
-            b" body .. returns ..`, and take it out of the body and the variables",
+            b" body .. returns ..`, and remove it from the body and the variables",
         ),
         Omission::Halts => {
             push_advice(text, b"add `stop ", at, b"`, or `pause ")?;
-            push_advice(text, b"", at, b"` if the operator may go on")
+            push_advice(text, b"", at, b"` if the operator may continue")
         }
         Omission::GoesOn(_) => {
             push_advice(
@@ -284,7 +289,7 @@ fn push_remedy<L: Lines>(text: &mut L, at: Word, omission: &Omission) -> Result<
     }
 }
 
-/// Adds the line of what the instruction at an address would break, and what to do about it.
+/// Adds the line of what the instruction at an address would violate, and what to do about it.
 fn push_omission<L: Lines>(text: &mut L, at: Word, omission: &Omission) -> Result<(), AllocError> {
     push_breach(text, at, omission)?;
     text.push_text(b": ")?;
@@ -292,12 +297,12 @@ fn push_omission<L: Lines>(text: &mut L, at: Word, omission: &Omission) -> Resul
     text.push_text(b"\n")
 }
 
-/// Adds the line of what to do about the instruction at which a search is stuck, behind those on what a condition
-/// asks of it, if the tape and the declaration show by themselves what it breaks.
+/// Adds the line of what to do about the instruction at which a search is stuck, after those on what a condition asks
+/// of it, if the tape and the declaration show by themselves what it violates.
 ///
 /// # Errors
 ///
-/// `AllocError` where a growth was refused.
+/// `AllocError` if memory was refused.
 pub fn push_stuck_remedy<L: Lines, D: Allocator>(
     text: &mut L,
     image: &Image,
@@ -321,19 +326,19 @@ pub fn push_stuck_remedy<L: Lines, D: Allocator>(
         | Omission::CallsIntoBody(_)
         | Omission::Jumps(_)
         | Omission::Halts
-        | Omission::GoesOn(_) => text.push_text(b"if that is meant, ")?,
+        | Omission::GoesOn(_) => text.push_text(b"if this is intended, ")?,
     }
     push_remedy(text, at, &omission)?;
     text.push_text(b"\n")
 }
 
-/// Adds what the tape and the declaration show by themselves, of at most eight instructions in the order of
-/// their addresses: each instruction, what it would break if a run came there, and what to add. One address
-/// is left out, of which [`push_stuck_remedy`] says it.
+/// Adds what the tape and the declaration show by themselves, of at most eight instructions in the order of their
+/// addresses: each instruction, what it would violate if a run came there, and what to add. One address is left out,
+/// for which [`push_stuck_remedy`] says it.
 ///
 /// # Errors
 ///
-/// `AllocError` where a growth was refused.
+/// `AllocError` if memory was refused.
 pub fn push_omissions<L: Lines, D: Allocator>(
     text: &mut L,
     image: &Image,
@@ -350,7 +355,7 @@ pub fn push_omissions<L: Lines, D: Allocator>(
             continue;
         };
         if found == 0 {
-            text.push_text(b"whatever a certificate says, if a run comes there:\n")?;
+            text.push_text(b"no certificate can fix these, if a run reaches them:\n")?;
         }
         found = found.saturating_add(1);
         if found > MOST {

@@ -1,4 +1,4 @@
-//! What is said of a tape that is refused.
+//! What is said about a tape that is refused.
 
 use crate::{FaultyFile, push_said};
 use bin_tape::TapeFault;
@@ -16,41 +16,41 @@ pub(crate) fn push_tape<A: Allocator>(
         TapeFault::TooLong => push_said(
             text,
             file,
-            "its first 65536 frames have no trailer, a frame 200, behind the last word",
+            "its first 65536 frames have no trailer (a frame 200) after the last word",
         ),
         TapeFault::NoWord => push_said(
             text,
             file,
-            "it ends before any word: is it a tape in the Binary Loader's format?",
+            "it ends before any word: is it a tape in the format of the Binary Loader?",
         ),
         TapeFault::NoOrigin => push_said(
             text,
             file,
-            "a data word comes first; the first word says where the next ones go, and its first frame is 100 to 177",
+            "a data word comes first; the first word must say where the next ones go, and its first frame is 100 to 177",
         ),
         TapeFault::BadFrame(place) => push_frame(
             text,
             file,
             place,
-            "a word begins with a frame 000 to 177, and its second frame is 000 to 077; 200 ends the tape, 300 and 377 may stand between words",
+            "a word begins with a frame from 000 to 177, and its second frame is from 000 to 077; 200 ends the tape, and 300 and 377 may stand between words",
         ),
         TapeFault::WrongField(place) => {
             push_frame(
                 text,
                 file,
                 place,
-                "it chooses another field of memory than 0, and there is field 0 alone",
+                "it selects a field of memory other than 0, and there is only field 0",
             )
         }
         TapeFault::Truncated => push_said(
             text,
             file,
-            "it ends in a word or a rubout, or lacks the trailer, a frame 200 behind the checksum",
+            "it ends within a word or a rubout, or has no trailer (a frame 200) after the checksum",
         ),
         TapeFault::NoChecksum => push_said(
             text,
             file,
-            "its last word is an origin, where the checksum stands; is it a RIM tape, which has none?",
+            "its last word is an origin, not a checksum; is it a RIM tape, which has no checksum?",
         ),
         TapeFault::Checksum(read, counted) => {
             let name = file.name;

@@ -207,9 +207,7 @@ fn verify_alone<R: Files + Input + Print + Eprint>(
     };
     let status = save_proposed(rt, alloc, &saving, &proposed)?;
     if asked.save.is_none() {
-        let _ = eprintln!(rt;
-            "the answer is on a declaration that is proposed: --save NAME writes it"
-        );
+        let _ = eprintln!(rt; "the answer is about a proposed declaration: --save NAME writes it");
     }
     Ok(status)
 }

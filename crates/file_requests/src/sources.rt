@@ -45,13 +45,13 @@ fn tell_all<R: Eprint, S: ByteSource>(
             rt,
             fault,
             unread(names, parts),
-            "can't be read",
+            "cannot be read",
         ),
         Fault::Device(DeviceFault::Write) => tell_of(
             rt,
             fault,
             output_name(out),
-            "can't be written",
+            "cannot be written",
         ),
         _ => tell(rt, fault),
     }
@@ -66,7 +66,7 @@ fn list_or_tell<R: Files + Input + Print + Eprint>(
 ) -> Status {
     let mut parts = Vec::new(alloc);
     if let Err(fault) = open_parts(rt, names, &mut parts) {
-        return tell_of(rt, fault, unopened(names, parts.len()), "can't be opened");
+        return tell_of(rt, fault, unopened(names, parts.len()), "cannot be opened");
     }
     let mut out = Writes::new(io::writer(rt));
     let mut told = String::new(alloc);
@@ -93,11 +93,11 @@ fn assemble_or_tell<R: Files + Input + Print + Eprint>(
     let (names, out) = (asked.sources.as_slice(), asked.out.name());
     let mut file = match open_output(rt, alloc, asked.out) {
         Ok(file) => file,
-        Err(fault) => return tell_of(rt, fault, output_name(out), "can't be made"),
+        Err(fault) => return tell_of(rt, fault, output_name(out), "cannot be created"),
     };
     let mut parts = Vec::new(alloc);
     if let Err(fault) = open_parts(rt, names, &mut parts) {
-        return tell_of(rt, fault, unopened(names, parts.len()), "can't be opened");
+        return tell_of(rt, fault, unopened(names, parts.len()), "cannot be opened");
     }
     let mut told = String::new(alloc);
     let assembled = assemble(

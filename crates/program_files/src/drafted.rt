@@ -11,7 +11,7 @@ use std::rt::Files;
 use streams::put;
 use streams::standard::Writes;
 
-/// Writes to a file what a search had found when it was stuck, with what the source says of addresses, if there is
+/// Writes to a file what a search had found when it was stuck, with what the source says about addresses, if there is
 /// one.
 #[inline(never)]
 pub fn report_stuck<R: Files + Print>(
@@ -36,11 +36,11 @@ pub fn report_stuck<R: Files + Print>(
     Ok(())
 }
 
-/// Sees to it that these files aren't read once alone, as a search with a report wants it.
+/// Ensures that these files can be read twice, as a search with a report needs it.
 ///
 /// # Errors
 ///
-/// `Device` where one of them is standard input or a pipe.
+/// `Device` if one of them is standard input or a pipe.
 pub fn need_rereading<R: Files>(rt: &R, tape: &str, declaration: &str) -> Result<(), Fault> {
     if is_read_once(rt, tape) || is_read_once(rt, declaration) {
         return Err(Fault::Device(DeviceFault::Read));

@@ -1,5 +1,5 @@
-//! What is said below the line of a fault under `--why`. The file is looked at once more for it, if it can be
-//! read twice; it is tested and not proved.
+//! What is said below the line of a fault under `--why`. The file is looked at once more for it, if it can be read
+//! twice; this is tested, not proved.
 
 use crate::files::{is_read_once, open_input};
 use crate::source_faults::{NO_WORD, output_name};
@@ -14,9 +14,9 @@ use std::rt::Files;
 use streams::read_at_most;
 use turns::{GuessFault, ProposeFault};
 
-/// What is said of a run that ends at a word that the machine doesn't have.
+/// What is said about a run that ends at a word that the machine does not have.
 const UNSUPPORTED: &str =
-    "the word there is none of the machine's\nwhat to do: see it by `pdp8 dump`; one of the PDP-8/E wants --profile 8e; else the run came to data\n";
+    "the machine does not implement the word there\nwhat to do: look at it with `pdp8 dump`; a word of the PDP-8/E needs --profile 8e; otherwise execution ran into data\n";
 
 /// How much of a file is looked at: a byte more than any input may have.
 const MOST: usize = 1_048_577;
@@ -38,7 +38,7 @@ fn bytes_of<R: Files + Input>(rt: &R, alloc: Global, name: &str) -> Result<Vec<u
     Ok(read_at_most(alloc, &mut input, MOST)?)
 }
 
-/// The first of the inputs that can't be opened or read, of those that can be read twice.
+/// The first of the inputs that cannot be opened or read, of those that can be read twice.
 fn unread_input<'a, R: Files + Input>(
     rt: &R,
     alloc: Global,
@@ -71,12 +71,12 @@ fn push_source_hint(text: &mut String, fault: &Fault, file: &FaultyFile<'_>) {
         let name = file.name;
         let _ = writeln!(
             text,
-            "{name} is text and no tape: a source wants --source, or is assembled first for a command without it; a declaration stands behind the tape"
+            "{name} is text, not a tape: a source needs --source, or must be assembled first for a command without that option; a declaration comes after the tape"
         );
     }
 }
 
-/// The lines on an input that has a fault. Of standard input or a pipe, which can't be read twice, there are none.
+/// The lines on an input that has a fault. Of standard input or a pipe, which cannot be read twice, there are none.
 fn input_lines<R: Files + Input>(
     rt: &R,
     alloc: Global,
@@ -99,7 +99,7 @@ fn input_lines<R: Files + Input>(
     text
 }
 
-/// A line that is a name and what is said of it, if there is a name.
+/// A line that is a name and what is said about it, if there is a name.
 fn line_of(alloc: Global, name: Option<&str>, said: &str) -> String {
     let mut text = String::new(alloc);
     if let Some(name) = name {
@@ -108,7 +108,7 @@ fn line_of(alloc: Global, name: Option<&str>, said: &str) -> String {
     text
 }
 
-/// The line on an output that can't be made or written; where there are two it is one of them.
+/// The line on an output that cannot be created or written; where there are two it is one of them.
 fn unwritten_line(alloc: Global, names: &FileNames<'_>) -> String {
     let mut text = String::new(alloc);
     let Some(output) = names.output else {
@@ -118,9 +118,9 @@ fn unwritten_line(alloc: Global, names: &FileNames<'_>) -> String {
     let _ = match names.second_output {
         Some(other) if other != output => {
             let second = output_name(other);
-            writeln!(text, "{first} or {second} can't be made or written")
+            writeln!(text, "{first} or {second} cannot be created or written")
         }
-        _ => writeln!(text, "{first} can't be made or written"),
+        _ => writeln!(text, "{first} cannot be created or written"),
     };
     text
 }
@@ -132,7 +132,7 @@ fn advice(alloc: Global, code: &str) -> String {
     text
 }
 
-/// The lines on what was found and can't be declared: why, and what to do.
+/// The lines on what was found and cannot be declared: why, and what to do.
 fn undeclarable_lines(alloc: Global, fault: DeclarationFault) -> String {
     let mut text = String::new(alloc);
     let found = FaultyFile {
@@ -162,7 +162,7 @@ pub fn fault_lines<R: Files + Input>(
     match fault {
         Fault::Device(DeviceFault::Read) => {
             let name = unread_input(rt, alloc, names);
-            line_of(alloc, name, "can't be opened or read")
+            line_of(alloc, name, "cannot be opened or read")
         }
         Fault::Device(DeviceFault::Write) => unwritten_line(alloc, names),
         Fault::Guess(GuessFault::TurnsSpent) => advice(alloc, "TurnsSpent"),
@@ -174,8 +174,8 @@ pub fn fault_lines<R: Files + Input>(
     }
 }
 
-/// What is said below the answer of a command that is refused without a fault, where the command itself doesn't say
-/// why: of a run that ends at a word that the machine doesn't have.
+/// What is said below the answer of a command that is refused without a fault, where the command itself does not say
+/// why: of a run that ends at a word that the machine does not have.
 pub fn refusal_lines(request: &Request<'_>) -> &'static str {
     match request {
         Request::Run(_) | Request::Session(_) | Request::Teletype(_) => UNSUPPORTED,

@@ -13,7 +13,7 @@ use std::io::{self, Printer};
 use std::rt::Files;
 use streams::standard::Reads;
 
-/// What a name of the command line stands for: `-` for standard input, else a file.
+/// What a name of the command line stands for: `-` for standard input, otherwise a file.
 pub(crate) fn input_of<R: Files + Input>(
     rt: &R,
     name: &str,
@@ -27,11 +27,11 @@ pub(crate) fn input_of<R: Files + Input>(
     }
 }
 
-/// Opens what a name of the command line stands for: `-` for standard input, else a file.
+/// Opens what a name of the command line stands for: `-` for standard input, otherwise a file.
 ///
 /// # Errors
 ///
-/// `Device` where a file can't be opened, which is told as one that can't be read.
+/// `Device` if a file cannot be opened, which is told as one that cannot be read.
 pub fn open_input<R: Files + Input>(
     rt: &R,
     name: &str,
@@ -42,7 +42,7 @@ pub fn open_input<R: Files + Input>(
 }
 
 /// Whether an input can be read only once: standard input, a pipe, or another file that is neither plain nor a
-/// folder. One that isn't there is none.
+/// folder. One that is not there is none.
 pub fn is_read_once<R: Files>(rt: &R, name: &str) -> bool {
     if name == "-" {
         return true;
@@ -53,7 +53,7 @@ pub fn is_read_once<R: Files>(rt: &R, name: &str) -> bool {
     }
 }
 
-/// Whether a plain file with this name is there and isn't empty.
+/// Whether a plain file with this name is there and is not empty.
 pub(crate) fn has_bytes<R: Files>(rt: &R, name: &str) -> bool {
     match fs::metadata(rt, name) {
         Ok(found) => found.is_file() && found.len() > 0,
@@ -61,8 +61,8 @@ pub(crate) fn has_bytes<R: Files>(rt: &R, name: &str) -> bool {
     }
 }
 
-/// Opens the parts of a source in order, up to the first that can't be opened, and puts them behind those
-/// that are open.
+/// Opens the parts of a source in order, up to the first that cannot be opened, and puts them after those that are
+/// open.
 ///
 /// # Errors
 ///
@@ -104,13 +104,13 @@ pub fn open_inputs<R: Files + Input>(
 /// Where a result goes: standard output, or a file.
 pub type Outlet<'r, R> = Either<Printer<'r, R>, ResultFile<'r, R>>;
 
-/// Opens where a result goes: `-` is standard output. The operand of `assemble`, `guess` and `migrate` is made or
-/// emptied at once; of that of another command it is seen at once that it can be written; and the file of `-o` isn't
-/// touched before the first byte comes. What is written to a file is in its place after [`finish`].
+/// Opens where a result goes: `-` is standard output. The operand of `assemble`, `guess` and `migrate` is created or
+/// emptied at once; of that of another command it is checked at once that it can be written; and the file of `-o` is
+/// not touched before the first byte comes. What is written to a file is in its place after [`finish`].
 ///
 /// # Errors
 ///
-/// `Device` where a file can't be made, which is told as one that can't be written, and `NoMemory`.
+/// `Device` if a file cannot be created, which is told as one that cannot be written, and `NoMemory`.
 pub fn open_output<'r, R: Files + Print>(
     rt: &'r R,
     alloc: Global,
@@ -132,12 +132,12 @@ pub fn open_output<'r, R: Files + Print>(
     }
 }
 
-/// Puts a result that was written whole in its place, and gives this status. Where nothing was written, nothing is
+/// Puts a result that was written whole in its place, and returns this status. If nothing was written, nothing is
 /// done.
 ///
 /// # Errors
 ///
-/// `Device` where it can't be put there.
+/// `Device` if it cannot be put there.
 pub fn finish<R: Files + Print>(out: &mut Outlet<'_, R>, status: Status) -> Result<Status, Fault> {
     if let Either::Right(file) = out {
         if file.finish().is_err() {

@@ -1,4 +1,4 @@
-//! Outputs that are inputs under another name: files are compared, not their names. It is tested and not proved.
+//! Outputs that are inputs under another name: files are compared, not their names. It is tested, not proved.
 
 use crate::files::has_bytes;
 use command_line::{Misuse, Request, Save, Task, is_source_name};
@@ -44,7 +44,7 @@ fn is_part<R: Files>(rt: &R, request: &Request<'_>, file: Identity) -> bool {
     }
 }
 
-/// Whether a request reads keys from standard input, though that isn't among its names.
+/// Whether a request reads keys from standard input, though that is not among its names.
 fn reads_keys(request: &Request<'_>) -> bool {
     matches!(request, Request::Teletype(_))
 }
@@ -121,7 +121,7 @@ fn saves_over<R: Files>(rt: &R, alloc: Global, request: &Request<'_>) -> Result<
     Ok(false)
 }
 
-/// Whether a file is there and isn't empty, and isn't a source that `source` wrote.
+/// Whether a file is there and is not empty, and is not a source that `source` wrote.
 fn is_foreign_source<R: Files>(rt: &R, name: &str) -> bool {
     if !has_bytes(rt, name) {
         return false;
@@ -136,7 +136,7 @@ fn is_foreign_source<R: Files>(rt: &R, name: &str) -> bool {
     }
 }
 
-/// Whether a source would replace one that the command didn't write.
+/// Whether a source would replace one that the command did not write.
 fn replaces_source<R: Files>(rt: &R, request: &Request<'_>) -> bool {
     match request {
         Request::Source(asked) => {
@@ -152,7 +152,7 @@ fn replaces_source<R: Files>(rt: &R, request: &Request<'_>) -> bool {
 ///
 /// # Errors
 ///
-/// Where memory is refused.
+/// If memory was refused.
 pub fn misused_files<R: Files>(
     rt: &R,
     alloc: Global,

@@ -1,5 +1,5 @@
-//! The files and streams that the requests of a command line work on, what is told of faults, and the files that
-//! `verify --save` writes. It is tested and not proved.
+//! The files and streams that the requests of a command line work on, what is said about faults, and the files that
+//! `verify --save` writes. It is tested, not proved.
 #![tactic(auto)]
 
 pub mod drafted;

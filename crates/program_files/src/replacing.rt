@@ -1,5 +1,5 @@
-//! A file for a result, which takes its place when it is whole: what is written goes to a file beside it, so that
-//! neither a full disk nor a fault halfway loses what was there. It is tested and not proved.
+//! A file for a result, which takes its place when it is complete: what is written goes to a file beside it, so that
+//! neither a full disk nor a fault halfway loses what was there. It is tested, not proved.
 
 use std::alloc::{AllocError, Global};
 use std::fmt::Write;
@@ -33,7 +33,7 @@ impl<R: Files> Drop for Beside<'_, R> {
     }
 }
 
-/// Adds the folder that a path names, with the slash behind it, if it names one.
+/// Adds the folder that a path names, with the slash after it, if it names one.
 fn push_folder(text: &mut String, path: &str) -> Result<(), AllocError> {
     if let Some((folder, _)) = path.rsplit_once('/') {
         text.push_str(folder)?;
@@ -52,7 +52,7 @@ fn name_beside(alloc: Global, path: &str, number: u32) -> Result<String, AllocEr
     }
 }
 
-/// What is said of memory that was refused, as a fault of a file.
+/// What is said about memory that was refused, as a fault of a file.
 fn no_memory(_refused: AllocError) -> io::Error {
     io::Error::from(io::ErrorKind::OutOfMemory)
 }
@@ -95,7 +95,7 @@ fn link_target<R: Files>(rt: &R, alloc: Global, link: &str) -> io::Result<String
     Ok(path)
 }
 
-/// Where the file with this name lies, behind all symbolic links; nothing where no file beside it may take its place.
+/// Where the file with this name lies, after all symbolic links; nothing where no file beside it may take its place.
 fn place_of<R: Files>(rt: &R, alloc: Global, name: &str) -> Result<Option<String>, AllocError> {
     let mut path = String::from_str(alloc, name)?;
     for _ in 0..MOST_LINKS {
@@ -113,7 +113,7 @@ fn place_of<R: Files>(rt: &R, alloc: Global, name: &str) -> Result<Option<String
     Ok(None)
 }
 
-/// Whether a file can't be made since its folder is closed to this program.
+/// Whether a file cannot be created since its folder is closed to this program.
 fn is_forbidden(kind: io::ErrorKind) -> bool {
     matches!(
         kind,
@@ -173,7 +173,7 @@ pub struct ResultFile<'r, R: Files> {
 }
 
 impl<'r, R: Files> ResultFile<'r, R> {
-    /// The file with this name, which isn't touched yet.
+    /// The file with this name, which is not touched yet.
     pub fn new(rt: &'r R, alloc: Global, name: &'r str) -> Result<ResultFile<'r, R>, AllocError> {
         Ok(ResultFile {
             rt,
@@ -194,7 +194,7 @@ impl<'r, R: Files> ResultFile<'r, R> {
         }
     }
 
-    /// Makes or empties the file. What is no plain file is open from now on.
+    /// Creates or empties the file. Anything that is not a plain file is open from now on.
     pub fn make_empty(&mut self) -> io::Result<()> {
         let file = fs::create(self.rt, self.name)?;
         if self.path.is_none() || self.is_device() {
@@ -203,7 +203,8 @@ impl<'r, R: Files> ResultFile<'r, R> {
         Ok(())
     }
 
-    /// Sees to it that the file can be made or written, and leaves it as it is. What is no plain file is opened.
+    /// Ensures that the file can be created or written, and leaves it as it is. Anything that is not a plain file is
+    /// opened.
     pub fn check(&mut self) -> io::Result<()> {
         let Some(path) = &self.path else {
             return self.open_in_place();
@@ -221,13 +222,13 @@ impl<'r, R: Files> ResultFile<'r, R> {
         }
     }
 
-    /// Makes or empties the file, and writes to it from now on.
+    /// Creates or empties the file, and writes to it from now on.
     fn open_in_place(&mut self) -> io::Result<()> {
         self.file = Some(fs::create(self.rt, self.name)?);
         Ok(())
     }
 
-    /// Opens a file beside the one at a path, to which all is written from now on. Where there is one that can't be
+    /// Opens a file beside the one at a path, to which all is written from now on. Where there is one that cannot be
     /// replaced, that one is opened.
     fn open_beside(&mut self, path: &str) -> io::Result<()> {
         let (file, beside) = match fs::metadata(self.rt, path) {
@@ -270,7 +271,7 @@ impl<'r, R: Files> ResultFile<'r, R> {
         }
     }
 
-    /// Puts what was written, which is whole, in its place. Where nothing was written, nothing is done.
+    /// Puts what was written, which is complete, in its place. If nothing was written, nothing is done.
     pub fn finish(&mut self) -> io::Result<()> {
         let Some(path) = &self.path else {
             return Ok(());
@@ -290,7 +291,8 @@ impl<'r, R: Files> ResultFile<'r, R> {
         }
     }
 
-    /// Puts what was written, which is whole, in its place. Where nothing was written the file is made or emptied.
+    /// Puts what was written, which is complete, in its place. If nothing was written, the file is created or
+    /// emptied.
     pub fn finish_or_empty(&mut self) -> io::Result<()> {
         if self.file.is_none() {
             return self.make_empty();

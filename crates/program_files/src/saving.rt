@@ -35,8 +35,8 @@ impl Saved {
         Ok(Saved { path, text })
     }
 
-    /// Whether its file is there and wasn't made by this program, as far as its bytes show: it is neither empty nor a
-    /// certificate, and says something else.
+    /// Whether its file is there and was not made by this program, as far as its bytes show: it is neither empty nor
+    /// a certificate, and says something else.
     fn is_foreign<R: Files + Input>(&self, rt: &R, alloc: Global) -> bool {
         if !has_bytes(rt, &self.path) {
             return false;
@@ -66,31 +66,31 @@ impl Saved {
 pub struct Saving<'a> {
     /// What their names begin with, if they are saved.
     pub save: Option<Save<'a>>,
-    /// Whether it is said which file can't be written.
+    /// Whether it is said which file cannot be written.
     pub explained: bool,
 }
 
-/// Tells that a file stays as it is, since it isn't of the command's making.
+/// Tells that a file stays as it is, since it was not written by the command.
 fn tell_kept<R: Eprint>(rt: &R, path: &str) -> Status {
     let told = eprintln!(rt;
-        "error: {path} is a file that this command didn't write: it stays; give another '--save NAME', or --force to replace it"
+        "error: {path} is a file that this command did not write, so it is kept: give another '--save NAME', or use --force to replace it"
     );
     match told {
         Ok(()) | Err(_) => Status::Usage,
     }
 }
 
-/// Tells that a file can't be written, and which one, if that is asked for.
+/// Tells that a file cannot be written, and which one, if that is asked for.
 fn tell_unwritten<R: Eprint>(rt: &R, fault: Fault, path: &str, explained: bool) -> Status {
     if explained {
-        tell_of(rt, fault, path, "can't be made or written")
+        tell_of(rt, fault, path, "cannot be created or written")
     } else {
         tell(rt, fault)
     }
 }
 
-/// Writes these texts to their files, or none of them where one would replace a file that isn't of the command's
-/// making. The status is this one, or that of what is told.
+/// Writes these texts to their files, or none of them where one would replace a file that was not written by the
+/// command. The status is this one, or that of what is told.
 fn save_all<R: Files + Input + Eprint>(
     rt: &R,
     alloc: Global,
@@ -120,7 +120,7 @@ fn push_saved(saved: &mut Vec<Saved>, it: Saved) -> Result<(), Fault> {
     }
 }
 
-/// Adds what an answer shows: a certificate behind a yes, the events of a run behind a no.
+/// Adds what an answer shows: a certificate after a yes, the events of a run after a no.
 fn push_answer(
     alloc: Global,
     name: &str,
@@ -142,8 +142,8 @@ fn push_answer(
     Ok(())
 }
 
-/// Writes what an answer shows, if it is to be saved, and gives the status of the command: that of the answer, or of
-/// what is told of a file.
+/// Writes what an answer shows, if it is to be saved, and returns the status of the command: that of the answer, or
+/// of what is said about a file.
 ///
 /// # Errors
 ///
@@ -161,12 +161,12 @@ pub fn save_answer<R: Files + Input + Eprint>(
     Ok(save_all(rt, alloc, saving, &saved, answer_status(answer)))
 }
 
-/// Writes the declaration that was proposed, and what the answer shows, if they are to be saved, and gives the status of
-/// the command.
+/// Writes the declaration that was proposed, and what the answer shows, if they are to be saved, and returns the
+/// status of the command.
 ///
 /// # Errors
 ///
-/// As of [`save_answer`].
+/// As for [`save_answer`].
 pub fn save_proposed<R: Files + Input + Eprint>(
     rt: &R,
     alloc: Global,

@@ -1,4 +1,4 @@
-//! What is told of the faults of a source.
+//! What is said about the faults of a source.
 
 use crate::telling::{tell, tell_with};
 use command_parts::status::{Fault, Status};
@@ -7,8 +7,8 @@ use pal_asm::PalFault;
 use source_texts::push_faults;
 use std::alloc::Global;
 
-/// What is said of a source that is assembled to no word.
-pub const NO_WORD: &str = "no statement is a word: list shows what the source has\n";
+/// What is said about a source that is assembled to no word.
+pub const NO_WORD: &str = "the source generates no code: list shows what it contains\n";
 
 /// An input as it is named in a sentence.
 pub fn input_name<'n>(name: &'n str) -> &'n str {
@@ -20,7 +20,7 @@ pub fn output_name<'n>(name: &'n str) -> &'n str {
     if name == "-" { "standard output" } else { name }
 }
 
-/// The name of the part that can't be opened, behind so many that are open.
+/// The name of the part that cannot be opened, after the ones that are open.
 pub fn unopened<'n>(names: &'n [&'n str], opened: usize) -> &'n str {
     match names.get(opened) {
         Some(name) => input_name(name),
@@ -28,7 +28,7 @@ pub fn unopened<'n>(names: &'n [&'n str], opened: usize) -> &'n str {
     }
 }
 
-/// Writes the line of a fault to standard error, and below it, where a device failed, of which file.
+/// Writes the line of a fault to standard error, and below it, if a device failed, of which file.
 pub fn tell_of<R: Eprint>(rt: &R, fault: Fault, name: &str, happened: &str) -> Status {
     let status = tell(rt, fault);
     if status != Status::Device {
@@ -45,10 +45,10 @@ pub fn tell_size<R: Eprint>(rt: &R, fault: PalFault, names: &[&str]) -> Status {
     let count = names.len();
     let told = match names.get(fault.part.wrapping_sub(1)) {
         Some(name) => eprintln!(rt;
-            "{name}: TL: the part has more than 65536 bytes\ncut it into parts, in order, each but the last with PAUSE at its end"
+            "{name}: TL: the part has more than 65536 bytes\nsplit it into parts, in order, each except the last with PAUSE at its end"
         ),
         None => eprintln!(rt;
-            "TL: the source has {count} parts, and 16 are the most\njoin some of them, without the PAUSE between them"
+            "TL: the source has {count} parts, and the maximum is 16\njoin some of them, without the PAUSE between them"
         ),
     };
     match told {

@@ -1,4 +1,4 @@
-//! What is told of a search for a certificate that is stuck. It is tested and not proved.
+//! What is said about a search for a certificate that is stuck. It is tested, not proved.
 
 use bin_tape::Image;
 use bound_texts::push_bound;
@@ -28,8 +28,8 @@ pub struct Stuck<'x> {
     pub draft: &'x Certificate<Global>,
 }
 
-/// Adds the lines that say why a search is stuck, between what the tape and the declaration show by themselves,
-/// and what to do and what the draft tells of the pointer there.
+/// Adds the lines that say why a search is stuck, between what the tape and the declaration show by themselves, and
+/// what to do and what the draft says about the pointer there.
 #[inline(never)]
 pub fn push_stuck(
     alloc: Global,
@@ -57,7 +57,7 @@ fn stuck_line(alloc: Global, at: Word) -> Result<Message<Global>, AllocError> {
     Ok(Message::of(alloc, line.into_bytes()))
 }
 
-/// What is told of a search that is stuck: its line, why it is stuck, and what to do.
+/// What is said about a search that is stuck: its line, why it is stuck, and what to do.
 #[inline(never)]
 pub fn stuck_message(alloc: Global, stuck: &Stuck<'_>) -> Result<Message<Global>, AllocError> {
     let mut told = stuck_line(alloc, stuck.at)?;
@@ -66,7 +66,7 @@ pub fn stuck_message(alloc: Global, stuck: &Stuck<'_>) -> Result<Message<Global>
     Ok(told)
 }
 
-/// What is told of an answer: its line, and why; where the search is stuck with all that is known of that.
+/// What is said about an answer: its line, and why; where the search is stuck with all that is known about that.
 #[inline(never)]
 pub fn answer_message(
     alloc: Global,

@@ -14,7 +14,7 @@ head_of Page = HEAD.now
 -- shown after a no.
 unfoldable pub opening : ReportForm → Result (Unit {0}) Refusal → List ℕ
 opening Text _ = []
-opening Page (Ok _) = codes "</h1>\n<p>Shown is that no run breaks the declaration."
+opening Page (Ok _) = codes "</h1>\n<p>Proved: no run violates the declaration."
 opening Page (Err _) = codes "</h1>\n<p>This certificate shows nothing."
 
 -- Behind the line of a search that is stuck a page says that nothing is shown.

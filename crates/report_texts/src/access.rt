@@ -10,7 +10,7 @@ use std::alloc::Allocator;
 use word12::Word;
 use wordset::WordSet;
 
-/// More words than this aren't looked at one by one.
+/// More words than this are not looked at one by one.
 const MOST_WORDS: usize = 64;
 
 /// What the words that may stand at an address do.
@@ -62,8 +62,7 @@ fn stores<D: Allocator>(declaration: &Declaration<D>, word: Word) -> bool {
         && matches!(Operation::of(word), Operation::Isz | Operation::Dca)
 }
 
-/// Where a JMP I that isn't a return goes: where the cell that it names points, one up through an
-/// auto-index cell.
+/// Where a JMP I that is not a return goes: where the cell that it names points, one up through an auto-index cell.
 fn jumped<D: Allocator>(place: &Place<'_, D>, fact: &Fact, at: Word, word: Word) -> WordSet {
     let named = target(word, at);
     let words = place.possible_words(fact, named);
@@ -203,8 +202,8 @@ fn write_varying<A: Allocator, D: Allocator>(
     }
 }
 
-/// Writes what the words at an address may do: the cells that they write, and where they go and what
-/// they read by indirect references. `routine` is what is claimed of that in whose body they are.
+/// Writes what the words at an address may do: the cells that they write, and where they go and what they read by
+/// indirect references. `routine` is what is claimed about that in whose body they are.
 pub(crate) fn write_access<A: Allocator, B: Allocator, D: Allocator, C: Allocator>(
     pen: &mut Pen<A>,
     report: &Report<'_, B, D, C>,

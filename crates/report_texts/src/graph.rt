@@ -23,8 +23,8 @@ struct Spot {
 
 /// What stands between what ranks show and the rows of the table.
 const COLUMNS: &[u8] =
-    b"</p>\n<table>\n<tr><th>entry<th>rank<th>called from<th>it and what it calls may write\
-<th>words skipped behind the call when it returns\n";
+    b"</p>\n<table>\n<tr><th>entry<th>rank<th>called from<th>the routine and what it calls may write\
+<th>words skipped after the call when it returns\n";
 
 /// The box of main, which is the first.
 const MAIN: Spot = Spot { row: 0, column: 0 };
@@ -180,7 +180,7 @@ fn write_row<A: Allocator, B: Allocator, D: Allocator, C: Allocator>(
     pen.put(b"<tr><td>");
     pen.place(routine.entry());
     match report.certificate.routine(routine.entry()) {
-        None => pen.put(b"<td colspan=3>nothing is claimed of it"),
+        None => pen.put(b"<td colspan=3>nothing is claimed about it"),
         Some(claimed) => {
             pen.numbered(b"<td>", claimed.rank);
             pen.put(b"<td>");
@@ -240,13 +240,13 @@ fn write_boxes<A: Allocator, B: Allocator, D: Allocator, C: Allocator>(
 fn ranks_text(finding: Finding) -> &'static [u8] {
     match finding {
         Finding::Shown => {
-            b"Ranks fall from caller to callee, so no routine is called again before it returned."
+            b"Ranks fall from caller to callee, so no routine is called again before it has returned."
         }
         Finding::Refused(_) => {
-            b"Ranks are to fall from caller to callee; this certificate doesn't show that they do."
+            b"Ranks should fall from caller to callee; this certificate does not show that they do."
         }
         Finding::Stuck(_) => {
-            b"Ranks are to fall from caller to callee; in a draft they are as far as the search came."
+            b"Ranks should fall from caller to callee; in a draft there are ranks only as far as the search got."
         }
     }
 }
@@ -259,7 +259,7 @@ pub(crate) fn write_graph<A: Allocator, S: Allocator, B: Allocator, D: Allocator
 ) -> Result<(), AllocError> {
     pen.put(b"<h2 id=routines>Routines, addresses in octal and ranks in decimal</h2>\n");
     if report.declaration.routines().is_empty() {
-        pen.put(b"<p>There are none: all is main.</p>\n");
+        pen.put(b"<p>There are none: everything is main.</p>\n");
         return Ok(());
     }
     let spots = spots_of(alloc, report)?;

@@ -50,7 +50,7 @@ fn link_text(links: Links) -> &'static [u8] {
     }
 }
 
-/// Writes the items on AC, MQ and the link; on MQ only where something is known of it or was above.
+/// Writes the items on AC, MQ and the link; on MQ only where something is known about it or was above.
 fn write_registers<A: Allocator>(pen: &mut Pen<A>, fact: &Fact, above: &Fact, near: bool) {
     let ac = fact.accumulator();
     write_item(pen, b"AC", &ac, near && ac == above.accumulator());
@@ -65,7 +65,7 @@ fn write_registers<A: Allocator>(pen: &mut Pen<A>, fact: &Fact, above: &Fact, ne
     }
 }
 
-/// Writes the items on cells; one that isn't tracked above may hold any word there.
+/// Writes the items on cells; one that is not tracked above may hold any word there.
 fn write_cells<A: Allocator>(pen: &mut Pen<A>, cells: &TrackedCells, above: &Fact, near: bool) {
     for index in 0..cells.len() {
         let tracked = cells.get(index);
@@ -74,7 +74,7 @@ fn write_cells<A: Allocator>(pen: &mut Pen<A>, cells: &TrackedCells, above: &Fac
     }
 }
 
-/// Whether something is known of a cell.
+/// Whether something is known about a cell.
 fn is_tracked(cells: &TrackedCells, cell: Word) -> bool {
     for index in 0..cells.len() {
         if cells.address(index) == cell {
@@ -183,8 +183,8 @@ fn write_counted<A: Allocator>(pen: &mut Pen<A>, fact: &Fact, above: &Fact, near
     }
 }
 
-/// Writes what a fact says as items: where that above is near, what differs from it, and in a page also
-/// what doesn't.
+/// Writes what a fact says as items: where that above is near, what differs from it, and in a page also what does
+/// not.
 pub(crate) fn write_fact<A: Allocator>(pen: &mut Pen<A>, fact: &Fact, above: &Fact, near: bool) {
     write_registers(pen, fact, above, near);
     write_cells(pen, fact.cells(), above, near);
@@ -198,7 +198,7 @@ pub(crate) fn write_fact<A: Allocator>(pen: &mut Pen<A>, fact: &Fact, above: &Fa
     write_counted(pen, fact, above, near);
 }
 
-/// Writes what holds after a return, in which the return word isn't spoken of.
+/// Writes what holds after a return, in which the return word is not spoken of.
 pub(crate) fn write_exit<A: Allocator>(pen: &mut Pen<A>, exit: &Fact) {
     write_registers(pen, exit, exit, false);
     write_cells(pen, exit.cells(), exit, false);

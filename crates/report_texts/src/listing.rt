@@ -16,7 +16,7 @@ use wordset::WordSet;
 /// How many blanks stand in plain text between an address with its word, or a row of addresses, and the items.
 const SHORT: usize = 16;
 
-/// How many stand behind an address alone.
+/// How many stand after an address alone.
 const ALONE: usize = 21;
 
 /// Writes the name of a word; that of a direct memory reference leads to the line of its cell.
@@ -91,7 +91,7 @@ fn write_declared<A: Allocator, B: Allocator, D: Allocator, C: Allocator>(
     }
 }
 
-/// Writes which words a variable may hold, and where nothing is known of it.
+/// Writes which words a variable may hold, and where nothing is known about it.
 pub(crate) fn write_variable<A: Allocator, B: Allocator, D: Allocator, C: Allocator>(
     pen: &mut Pen<A>,
     report: &Report<'_, B, D, C>,
@@ -113,7 +113,7 @@ pub(crate) fn write_variable<A: Allocator, B: Allocator, D: Allocator, C: Alloca
     }
 }
 
-/// Writes what is told of an address without a fact.
+/// Writes what is said about an address without a fact.
 fn write_unknown<A: Allocator, B: Allocator, D: Allocator, C: Allocator>(
     pen: &mut Pen<A>,
     report: &Report<'_, B, D, C>,
@@ -163,7 +163,7 @@ struct Desk {
     odd: Fact,
     /// The address of the fact that was read last.
     last: Option<Word>,
-    /// What is claimed of the routine that was looked up last, and its entry; of main nothing is.
+    /// What is claimed about the routine that was looked up last, and its entry; of main nothing is.
     routine: RoutineClaim,
     entry: Option<Word>,
 }
@@ -180,7 +180,7 @@ impl Desk {
         }
     }
 
-    /// Looks up what is claimed of the routine in whose body an address of this kind is, if it is in one.
+    /// Looks up what is claimed about the routine in whose body an address of this kind is, if it is in one.
     fn look_up<C: Allocator>(&mut self, certificate: &Certificate<C>, kind: &Kind) {
         let entry = match kind {
             Kind::Routine(entry) => Some(*entry),
@@ -235,7 +235,7 @@ fn write_with_fact<A: Allocator, B: Allocator, D: Allocator, C: Allocator>(
     write_access(pen, report, &kind, &desk.routine, fact, at);
 }
 
-/// Writes what the source says of an address, if it says something: in a page in a further column.
+/// Writes what the source says about an address, if it says something: in a page in a further column.
 fn write_note<A: Allocator>(pen: &mut Pen<A>, note: Option<SourceNote<'_>>) {
     let Some(note) = note else {
         return;
@@ -301,7 +301,7 @@ fn write_quiet<A: Allocator, B: Allocator, D: Allocator, C: Allocator>(
     pen.item(b"any word\n");
 }
 
-/// Writes the heading of lines of a kind; that of a routine with what is claimed of it.
+/// Writes the heading of lines of a kind; that of a routine with what is claimed about it.
 fn write_heading<A: Allocator, B: Allocator, D: Allocator, C: Allocator>(
     pen: &mut Pen<A>,
     report: &Report<'_, B, D, C>,

@@ -22,7 +22,7 @@ const MAP: &[u8] = b"<h2 id=memory>Memory, addresses in octal</h2>\n\
 <svg viewBox=\"0 0 680 660\" width=680 role=img aria-label=\"map of memory\">\n\
 <rect class=u x=34 y=14 width=640 height=640 />\n";
 
-/// What colours and marks mean that aren't those of a body.
+/// What colours and marks mean that are not those of a body.
 const LEGEND: &[u8] = b"<span class=\"k e\"></span>entry of a routine\n\
 <span class=\"k v\"></span>variable\n\
 <span class=\"k o\"></span>other word of the tape\n\
@@ -130,7 +130,7 @@ fn write_marks<A: Allocator, B: Allocator, D: Allocator, C: Allocator>(
     }
 }
 
-/// What is said of a cell where a pointer rests on it; of a routine's its entry stands behind it.
+/// What is said about a cell where a pointer rests on it; of a routine's its entry stands after it.
 fn kind_text(kind: &Kind) -> &'static [u8] {
     match kind {
         Kind::Entry => b" entry",

@@ -12,50 +12,50 @@ use std::alloc::{AllocError, Allocator};
 use word12::Word;
 use wordset::WordSet;
 
-/// Which run a yes is about, behind its start.
+/// Which run a yes is about, after its start.
 const RUN: &[u8] =
-    b" with these words in memory, whatever all other cells, AC, the link and MQ hold, and \
-however keys, tape frames, devices and switches come:</p>\n<ul>\n";
+    b" with these words in memory, whatever all other cells, AC, the link and MQ hold, and whenever keys and tape \
+frames come, devices complete and switches change:</p>\n<ul>\n";
 
-/// What a yes doesn't show.
+/// What a yes does not show.
 const NOT_SHOWN: &[u8] =
-    b"</ul>\n<p>It is not shown that it ends, that it prints or computes what was meant, or \
-that the declaration is a wise one: if all cells may be written, a yes says little.</p>\n";
+    b"</ul>\n<p>It is not proved that the program ends, that it prints or computes what was intended, or that the \
+declaration is a sensible one: if all cells may be written, a yes says little.</p>\n";
 
-/// What a no says behind its address.
+/// What a no says after its address.
 const REFUSED: &[u8] =
-    b", which is marked below. The program may keep its declaration all the same. What stands \
-below is what the certificate claims, and it may be wrong.</p>\n<pre>";
+    b", which is marked below. The program may comply with its declaration all the same. Everything below is what \
+the certificate claims, and it may be wrong.</p>\n<pre>";
 
-/// What is said behind the address of a search that is stuck.
+/// What is said after the address of a search that is stuck.
 const STUCK: &[u8] =
-    b", which is marked below. The program may keep its declaration all the same. What stands \
-below is the search's draft: what it had found until then, which may be wrong; where there is no fact it hadn't \
-come.</p>\n<pre>";
+    b", which is marked below. The program may comply with its declaration all the same. Everything below is the \
+draft of the search: what it had found until then, which may be wrong; it had not reached the addresses without a \
+fact.</p>\n<pre>";
 
 /// What a declaration and a certificate are, and the links to the parts of a page.
 const PARTS: &[u8] =
     b"<p>A declaration says where the program starts and may halt, which cells are its instructions, which it may \
-write, and which routines it has. A certificate says what holds before each instruction, so that it can be checked \
-that the declaration is kept.</p>\n\
+write, and which routines it has. A certificate says what holds before each instruction, so that compliance with the \
+declaration can be checked.</p>\n\
 <p>On this page: <a href=#memory>memory</a>, <a href=#routines>routines</a>, \
 <a href=#variables>variables</a>, <a href=#listing>listing</a>.</p>\n";
 
-/// What stands behind the declared variables, above the table of those of which something is known.
+/// What stands after the declared variables, above the table of those of which something is known.
 const VARIABLES: &[u8] =
-    b". By the certificate each of those below holds one of the words beside it, at every \
-address at which something is said of it; all others may hold any word:</p>\n<table>\n\
+    b". According to the certificate, each of the variables below holds one of the words beside it at every address \
+where something is said about it; all others may hold any word:</p>\n<table>\n\
 <tr><th>cell<th>on the tape<th>what it may hold\n";
 
 /// How the items of the listing are read.
 const ITEMS: &[u8] =
-    b"; what is the same as on the line above is grey, and of more than eight such items only \
-the number of the others is told.\n\
+    b"; what is the same as on the line above is grey, and if there are more than eight such items, only the number \
+of the others is shown.\n\
 <code>AC in 0305,0310</code>: the accumulator holds one of these words. \
-<code>0010 in 0224-0230</code>: so does the cell 0010. <code>any</code>: nothing is claimed. \
-<code>[0010] = [0224] + 0231, so 0224-0230</code>: the word in the cell 0010 is that in the cell 0224 and 0231 more, \
-modulo 10000; with what is known of both, the cell 0010 holds one of the words behind <code>so</code>. Of a pointer and \
-a count that go up together, the pointer ends where the count does.";
+<code>0010 in 0224-0230</code>: the cell 0010 holds one of these words. <code>any</code>: nothing is claimed. \
+<code>[0010] = [0224] + 0231, so 0224-0230</code>: the word in the cell 0010 is the word in the cell 0224 plus 0231, \
+modulo 10000; with what is known about both, the cell 0010 holds one of the words after <code>so</code>. If a \
+pointer and a count are incremented together, the pointer ends where the count does.";
 
 /// What a larger count would do, where an instruction writes through a pointer.
 const LARGER: &[u8] =
@@ -66,12 +66,13 @@ outside its variables, the verdict would be no (V5).";
 const NAMES: &[u8] = b"\n\
 <code>reads</code>, <code>writes</code>: the cells that the instruction may read through a pointer (the pointer \
 is one of them), and those that it may write.\n\
-All numbers are octal, but how many more there are is told in decimal. <code>TAD Z010</code> names the cell 0010, and \
-<code>TAD C024</code> the cell 024 of the page that the instruction is on; behind <code>I</code> stands the cell that \
-holds the address; one of 0010 to 0017 is made one more first. <code>ISZ</code> makes a word one more, \
-and skips if it is 0000 then. <code>JMS</code> puts the address behind it into the cell that it names, \
-the entry of a routine, and goes on behind that cell; <code>JMP I</code> through the entry goes on at the address that \
-stands there: it returns.</p>\n<table>\n";
+All numbers are octal, except the numbers of omitted items, which are decimal. <code>TAD Z010</code> names \
+the cell 0010, and \
+<code>TAD C024</code> the cell 024 of the page of the instruction; after <code>I</code> comes the cell that \
+holds the address, and a cell from 0010 to 0017 is incremented first. <code>ISZ</code> increments a word, and skips \
+if it is then 0000. <code>JMS</code> stores the address after it in the cell that it names, the entry of a routine, \
+and continues after that cell; <code>JMP I</code> through the entry continues at the address that is stored there: \
+it returns.</p>\n<table>\n";
 
 /// The cells of all bodies.
 fn bodies_of<D: Allocator>(declaration: &Declaration<D>) -> WordSet {
@@ -112,42 +113,40 @@ fn write_points<A: Allocator, D: Allocator>(pen: &mut Pen<A>, declaration: &Decl
     );
     write_point(
         pen,
-        b"only these cells are written, the variables: ",
+        b"only these cells, the variables, are written: ",
         declaration.variables(),
     );
     write_point(
         pen,
-        b"and the entries, by the JMS that calls the routine or by its ISZ that skips an argument: ",
+        b"and these entries, by the JMS that calls the routine or by an ISZ of the routine that skips an argument: ",
         &entries_of(declaration),
     );
     match declaration.reads() {
         None => pen.put(b"<li>any cell may be read: the declaration has no list of reads\n"),
         Some(cells) => write_point(
             pen,
-            b"only these cells are read, and the entry of the routine that runs: ",
+            b"only these cells and the entry of the running routine are read: ",
             cells,
         ),
     }
-    pen.put(
-        b"<li>each routine returns to the place after its own call, as far on as is declared\n",
-    );
+    pen.put(b"<li>each routine returns to the address after its own call plus a declared offset\n");
     write_point(
         pen,
-        b"it halts, if at all, only at: ",
+        b"if it halts, it halts only at: ",
         &declaration.stops().union(declaration.pauses()),
     );
     write_point(
         pen,
-        b"of these CONTINUE may be pressed only at: ",
+        b"of these, CONTINUE may be pressed only at: ",
         declaration.pauses(),
     );
 }
 
-/// Writes the rest of what a yes says, and what it doesn't.
+/// Writes the rest of what a yes says, and what it does not.
 fn write_yes<A: Allocator, D: Allocator>(pen: &mut Pen<A>, declaration: &Declaration<D>) {
     pen.put(match declaration.profile() {
-        Profile::Pdp8I => b" This holds of <b>every</b> run on a PDP-8/I that starts at ",
-        Profile::Pdp8E => b" This holds of <b>every</b> run on a PDP-8/E that starts at ",
+        Profile::Pdp8I => b" This holds for <b>every</b> run on a PDP-8/I that starts at ",
+        Profile::Pdp8E => b" This holds for <b>every</b> run on a PDP-8/E that starts at ",
     });
     pen.place(declaration.start());
     pen.put(RUN);
@@ -164,7 +163,7 @@ fn write_reason<A: Allocator>(pen: &mut Pen<A>, fails: &[u8], at: Word, means: &
     pen.put(b"</pre>\n");
 }
 
-/// Writes the verdict's meaning, behind what it opens with.
+/// Writes the verdict's meaning, after what it opens with.
 fn write_verdict<A: Allocator, B: Allocator, D: Allocator, C: Allocator>(
     pen: &mut Pen<A>,
     report: &Report<'_, B, D, C>,
@@ -227,16 +226,16 @@ fn listed_text(finding: Finding) -> &'static [u8] {
     match finding {
         Finding::Shown => b"what is known in every run <b>before</b> it is executed",
         Finding::Refused(_) => {
-            b"what the certificate claims <b>before</b> it is executed, which isn't shown"
+            b"what the certificate claims <b>before</b> it is executed, which is not proved"
         }
         Finding::Stuck(_) => {
-            b"what the search had found <b>before</b> it is executed, which isn't shown"
+            b"what the search had found <b>before</b> it is executed, which is not proved"
         }
     }
 }
 
-/// The page behind the verdict and what `opening` or `stuck_opening` says of it. `why` is what is told of
-/// a no, or of a search that is stuck.
+/// The page after the verdict and what `opening` or `stuck_opening` says about it. `why` is what is said about a no,
+/// or of a search that is stuck.
 ///
 /// # Errors
 ///
@@ -251,7 +250,7 @@ pub fn page_below<A: Allocator + Copy, D: Allocator, C: Allocator>(
     write_map(&mut pen, report);
     write_graph(&mut pen, alloc, report)?;
     write_variables(&mut pen, report);
-    pen.put(b"<h2 id=listing>Listing, in octal</h2>\n<p>Beside each instruction stands ");
+    pen.put(b"<h2 id=listing>Listing, in octal</h2>\n<p>Beside each instruction is ");
     pen.put(listed_text(report.finding));
     pen.put(ITEMS);
     if writes_through(report) {

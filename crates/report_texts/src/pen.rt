@@ -91,7 +91,7 @@ impl<A: Allocator> Pen<A> {
         }
     }
 
-    /// Writes a text that isn't markup.
+    /// Writes a text that is not markup.
     pub(crate) fn say(&mut self, text: &[u8]) {
         if !self.is_page {
             return self.put(text);
@@ -110,7 +110,7 @@ impl<A: Allocator> Pen<A> {
         self.put(digits.format(number).as_bytes());
     }
 
-    /// Writes a text, and behind it a number in decimal digits.
+    /// Writes a text, and after it a number in decimal digits.
     pub(crate) fn numbered(&mut self, text: &[u8], number: usize) {
         self.put(text);
         self.number(number);
@@ -151,7 +151,7 @@ impl<A: Allocator> Pen<A> {
         }
     }
 
-    /// Writes the words of a set by their runs, at most some of them; `-` where there is none.
+    /// Writes the words of a set by their runs, at most some of them; `-` if there is none.
     fn runs(&mut self, set: &WordSet, linked: bool) {
         if set.is_empty() {
             self.put(b"-");
@@ -171,7 +171,7 @@ impl<A: Allocator> Pen<A> {
         self.rest(rest.count());
     }
 
-    /// Writes how many words aren't shown.
+    /// Writes how many words are not shown.
     fn rest(&mut self, count: usize) {
         if count > 0 {
             self.numbered(b" and ", count);
@@ -189,7 +189,7 @@ impl<A: Allocator> Pen<A> {
         self.runs(set, true);
     }
 
-    /// Begins the items of a line, of which the first stands behind some blanks.
+    /// Begins the items of a line, of which the first stands after some blanks.
     pub(crate) fn begin_items(&mut self, indent: usize) {
         self.indent = indent;
         self.has_item = false;
@@ -242,7 +242,7 @@ impl<A: Allocator> Pen<A> {
         }
     }
 
-    /// Writes in plain text what stands before a note behind the items.
+    /// Writes in plain text what stands before a note after the items.
     pub(crate) fn note(&mut self) {
         if !self.is_page {
             self.put(b"  / ");

@@ -27,10 +27,10 @@ pub(crate) enum Kind {
     Unset,
 }
 
-/// What is known of a certificate.
+/// What is known about a certificate.
 #[derive(Clone, Copy)]
 pub enum Finding {
-    /// All conditions hold of it.
+    /// All conditions hold for it.
     Shown,
     /// A condition on it fails at an address.
     Refused(Word),
@@ -38,7 +38,7 @@ pub enum Finding {
     Stuck(Word),
 }
 
-/// A certificate with the tape and the declaration that it is about, and what is known of it.
+/// A certificate with the tape and the declaration that it is about, and what is known about it.
 #[derive(Drop)]
 pub struct Report<'a, A: Allocator, D: Allocator, C: Allocator> {
     pub(crate) image: &'a Image,
@@ -47,13 +47,13 @@ pub struct Report<'a, A: Allocator, D: Allocator, C: Allocator> {
     pub(crate) finding: Finding,
     /// The name of the condition that fails, or nothing where none is told.
     pub(crate) failing: &'a str,
-    /// What the source says of addresses, where one is known.
+    /// What the source says about addresses, where one is known.
     notes: Option<&'a SourceNotes<A>>,
     /// What stands at each address.
     kinds: Vec<Kind, A>,
     /// The addresses with a fact.
     pub(crate) facts: WordSet,
-    /// What is known of variables.
+    /// What is known about variables.
     pub(crate) held: AllHeld<A>,
 }
 
@@ -104,7 +104,7 @@ pub(crate) fn unclaimed() -> RoutineClaim {
     }
 }
 
-/// What is claimed of a routine, or that it is called from nowhere and writes nothing.
+/// What is claimed about a routine, or that it is called from nowhere and writes nothing.
 pub(crate) fn claimed_of<C: Allocator>(certificate: &Certificate<C>, entry: Word) -> RoutineClaim {
     match certificate.routine(entry) {
         Some(routine) => routine,
@@ -113,8 +113,8 @@ pub(crate) fn claimed_of<C: Allocator>(certificate: &Certificate<C>, entry: Word
 }
 
 impl<'a, A: Allocator + Copy, D: Allocator, C: Allocator> Report<'a, A, D, C> {
-    /// The report of a certificate and of what is known of it, with the name of the condition that fails,
-    /// if one is told, and what the source says of addresses, if it is known.
+    /// The report of a certificate and of what is known about it, with the name of the condition that fails, if one
+    /// is told, and what the source says about addresses, if it is known.
     ///
     /// # Errors
     ///
@@ -154,7 +154,7 @@ impl<A: Allocator, D: Allocator, C: Allocator> Report<'_, A, D, C> {
         }
     }
 
-    /// What the source says of an address; nothing where it isn't known.
+    /// What the source says about an address; nothing where it is not known.
     pub(crate) fn note_at(&self, at: Word) -> Option<SourceNote<'_>> {
         match self.notes {
             Some(notes) => notes.at(at),
@@ -162,12 +162,12 @@ impl<A: Allocator, D: Allocator, C: Allocator> Report<'_, A, D, C> {
         }
     }
 
-    /// What is known of a variable, if something is.
+    /// What is known about a variable, if something is.
     pub(crate) fn held_in(&self, cell: Word) -> Option<&Held> {
         self.held.get(cell)
     }
 
-    /// Whether nothing is to be said of a cell but that it is a variable.
+    /// Whether nothing is to be said about a cell but that it is a variable.
     pub(crate) fn is_quiet(&self, at: Word) -> bool {
         if self.image.get(at).is_some() || self.facts.contains(at) || self.is_marked(at) {
             return false;

@@ -1,4 +1,4 @@
-//! What is declared and claimed of a routine.
+//! What is declared and claimed about a routine.
 
 use crate::known::write_exit;
 use crate::pen::Pen;
@@ -38,7 +38,7 @@ pub(crate) fn write_written<A: Allocator>(pen: &mut Pen<A>, cells: &WordSet) {
     }
 }
 
-/// Writes what is claimed of a routine.
+/// Writes what is claimed about a routine.
 fn write_claimed<A: Allocator>(pen: &mut Pen<A>, claimed: &Claimed) {
     pen.item(b"rank ");
     pen.number(claimed.rank);
@@ -48,8 +48,7 @@ fn write_claimed<A: Allocator>(pen: &mut Pen<A>, claimed: &Claimed) {
     write_written(pen, &claimed.writes);
 }
 
-/// Writes a routine in a line: its entry, its rank, from where it's called, what it may write, and
-/// how it returns.
+/// Writes a routine in a line: its entry, its rank, from where it is called, what it may write, and how it returns.
 pub(crate) fn write_routine<A: Allocator, B: Allocator, D: Allocator, C: Allocator>(
     pen: &mut Pen<A>,
     report: &Report<'_, B, D, C>,
@@ -60,7 +59,7 @@ pub(crate) fn write_routine<A: Allocator, B: Allocator, D: Allocator, C: Allocat
     pen.word(routine.entry());
     match report.certificate.routine(routine.entry()) {
         Some(claimed) => write_claimed(pen, &claimed),
-        None => pen.item(b"nothing is claimed of it"),
+        None => pen.item(b"nothing is claimed about it"),
     }
     pen.item(b"returns by ");
     write_offsets(pen, routine);

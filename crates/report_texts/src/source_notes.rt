@@ -1,4 +1,4 @@
-//! What the source of a program says of its addresses.
+//! What the source of a program says about its addresses.
 
 use std::alloc::{AllocError, Allocator};
 use word12::Word;
@@ -29,11 +29,11 @@ pub struct LinePlace {
     pub line: usize,
 }
 
-/// What a source says of an address.
+/// What a source says about an address.
 #[derive(Clone, Copy)]
 pub struct SourceNote<'n> {
-    /// The last label before the word, and how far behind that its address is, such as `LOOP+2`; empty where there
-    /// is no label, or where its address is a later one.
+    /// The last label before the word, and how far after that its address is, such as `LOOP+2`; empty if there is no
+    /// label, or if its address is a later one.
     pub label: &'n [u8],
     /// The number of the line, from 1, counted over all parts.
     pub line: usize,
@@ -74,7 +74,7 @@ fn label_of(text: &[u8]) -> &[u8] {
     b""
 }
 
-/// How far an address is behind a label, in as many octal digits as it needs.
+/// How far an address is after a label, in as many octal digits as it needs.
 fn push_offset<A: Allocator>(bytes: &mut Vec<u8, A>, offset: Word) -> Result<(), AllocError> {
     if offset == Word::ZERO {
         return Ok(());
@@ -90,7 +90,7 @@ fn push_offset<A: Allocator>(bytes: &mut Vec<u8, A>, offset: Word) -> Result<(),
 }
 
 impl<A: Allocator + Copy> SourceNotes<A> {
-    /// Notes on nothing yet: the lines of the source come next, in order, each with its words behind it.
+    /// Notes on nothing yet: the lines of the source come next, in order, each with its words after it.
     ///
     /// # Errors
     ///
@@ -164,7 +164,7 @@ impl<A: Allocator> SourceNotes<A> {
         Ok(())
     }
 
-    /// The note on an address; none where the source gives it no word.
+    /// The note on an address; none if the source gives it no word.
     pub fn at(&self, at: Word) -> Option<SourceNote<'_>> {
         let entry = self.entries.get(at.index()).copied().flatten()?;
         Some(SourceNote {

@@ -1,4 +1,4 @@
-//! How a page looks, with what it begins, and what it says right behind the verdict.
+//! How a page looks, with what it begins, and what it says right after the verdict.
 
 ghost use Rattle.std.specs.Prelude.{◌≡◌};
 ghost use Rattle.report_texts.specs.Head.{head_of, opening, stuck_opening};
@@ -21,8 +21,7 @@ pub fn head_of(form: ReportForm) -> &'static [u8]
     }
 }
 
-/// What stands right behind the verdict in a form: in a page, what a yes shows, or that a no shows
-/// nothing.
+/// What stands right after the verdict in a form: in a page, what a yes shows, or that a no shows nothing.
 #[tactic(auto, unfolding(crate::specs::Head::opening))]
 pub fn opening(form: ReportForm, verdict: &Result<(), Refusal>) -> &'static [u8]
     ensures { result.now ≡ opening form verdict.now }
@@ -30,13 +29,13 @@ pub fn opening(form: ReportForm, verdict: &Result<(), Refusal>) -> &'static [u8]
     match form {
         ReportForm::Text => b"",
         ReportForm::Page => match verdict {
-            Ok(()) => b"</h1>\n<p>Shown is that no run breaks the declaration.",
+            Ok(()) => b"</h1>\n<p>Proved: no run violates the declaration.",
             Err(_) => b"</h1>\n<p>This certificate shows nothing.",
         },
     }
 }
 
-/// What stands right behind the line of a search that is stuck: in a page, that nothing is shown.
+/// What stands right after the line of a search that is stuck: in a page, that nothing is shown.
 #[tactic(auto, unfolding(crate::specs::Head::stuck_opening))]
 pub fn stuck_opening(form: ReportForm) -> &'static [u8]
     ensures { result.now ≡ stuck_opening form }

@@ -7,16 +7,16 @@ use std::alloc::{AllocError, Allocator};
 use word12::Word;
 use wordset::WordSet;
 
-/// What is known of a variable.
+/// What is known about a variable.
 #[derive(Clone, Copy)]
 pub(crate) struct Held {
-    /// The words that it may hold wherever something is known of it.
+    /// The words that it may hold wherever something is known about it.
     pub(crate) words: WordSet,
-    /// The addresses at which something is known of it.
+    /// The addresses at which something is known about it.
     pub(crate) known_at: WordSet,
 }
 
-/// What is known of all variables.
+/// What is known about all variables.
 #[derive(Drop)]
 pub(crate) struct AllHeld<A: Allocator> {
     /// For each address the place of its cell in the list, or none.
@@ -39,7 +39,7 @@ impl<A: Allocator + Copy> AllHeld<A> {
 }
 
 impl<A: Allocator> AllHeld<A> {
-    /// The place of a cell in the list, if something is known of it.
+    /// The place of a cell in the list, if something is known about it.
     fn place_of(&self, cell: Word) -> Option<usize> {
         match self.places.get(cell.index()) {
             Some(Some(place)) => Some(*place),
@@ -47,7 +47,7 @@ impl<A: Allocator> AllHeld<A> {
         }
     }
 
-    /// What is known of a cell.
+    /// What is known about a cell.
     pub(crate) fn get(&self, cell: Word) -> Option<&Held> {
         match self.place_of(cell) {
             Some(place) => self.list.get(place),
@@ -80,7 +80,7 @@ impl<A: Allocator> AllHeld<A> {
         Ok(())
     }
 
-    /// Adds what a fact says of variables.
+    /// Adds what a fact says about variables.
     fn add_fact<D: Allocator>(
         &mut self,
         declaration: &Declaration<D>,
@@ -97,7 +97,7 @@ impl<A: Allocator> AllHeld<A> {
     }
 }
 
-/// What is known of variables, and the addresses with a fact, which are added to others.
+/// What is known about variables, and the addresses with a fact, which are added to others.
 pub(crate) fn held_of<A: Allocator + Copy, D: Allocator, C: Allocator>(
     alloc: A,
     declaration: &Declaration<D>,

@@ -52,11 +52,11 @@ struct GivenProgram<A: Allocator> {
 /// What is found of a text that may complete a declaration.
 #[derive(Clone, Copy, PartialEq, Eq, Debug)]
 pub(crate) enum Trial {
-    /// It extends the declaration, and the program keeps it.
+    /// It extends the declaration, and the program complies with it.
     Shown,
     /// It extends the declaration, and no certificate is found.
     Lacking(Lack),
-    /// It is no text that extends the declaration.
+    /// It is not text that extends the declaration.
     Unfit,
 }
 
@@ -176,8 +176,8 @@ fn end_text<A: Allocator>(text: &mut Vec<u8, A>) -> Result<(), AllocError> {
     }
 }
 
-/// A text, and behind it comments that say what is missing, and in which runs it was seen what the program
-/// does, if what is written is by them.
+/// A text, and after it comments that say what is missing, and in which runs it was seen what the program does, if
+/// what is written is by them.
 fn with_remarks<A: Allocator + Copy>(
     alloc: A,
     text: &[u8],
@@ -193,7 +193,7 @@ fn with_remarks<A: Allocator + Copy>(
     Ok(more)
 }
 
-/// A text that extends a declaration, with comments behind it where there is room for them.
+/// A text that extends a declaration, with comments after it where there is room for them.
 fn remarked<A: Allocator + Copy, D: Allocator>(
     alloc: A,
     given: &Declaration<D>,
@@ -279,7 +279,7 @@ fn completed<A: Allocator + Copy>(
     }
 }
 
-/// The text that completes a declaration, and whether it is shown to be kept.
+/// The text that completes a declaration, and whether compliance with it is shown.
 fn completion_of<A: Allocator + Copy>(
     alloc: A,
     program: GivenProgram<A>,
@@ -301,21 +301,20 @@ fn completion_of<A: Allocator + Copy>(
     completed(alloc, &image, &given, lack, &proposal)
 }
 
-/// Adds to a declaration what is missing there, by the tape, and writes its text. What was written there
-/// stays: each line as it is, but that the line of a routine may get ranges and offsets, with a comment
-/// behind that names them; other lines come behind, each with the comment `/ added`. A declaration for
-/// which a certificate is found is written as it is. `Done` says that no run of the program breaks what
-/// is written. Else it's `Refused`: no certificate is found that shows that. Comments behind the text say
-/// why then, if there is room for them. What is added is what `declare` proposes for the tape, the start
-/// and the machine, except what has another role already; also cells that may be read where reads are
-/// listed and `reads` asks for it. Which cells these are, and what the comments say, is tested, not proved.
+/// Adds to a declaration what is missing there, by the tape, and writes its text. What was written there stays: each
+/// line as it is, but that the line of a routine may get ranges and offsets, with a comment that names them;
+/// other lines come at the end, each with the comment `/ added`. A declaration for which a certificate is found is written
+/// as it is. `Done` says that no run of the program violates what is written. Otherwise it is `Refused`: no
+/// certificate is found that shows this. Comments after the text say why then, if there is room for them. What is
+/// added is what `declare` proposes for the tape, the start and the machine, except what has another role already;
+/// also cells that may be read if reads are listed and `reads` asks for it. Which cells these are, and what the
+/// comments say, is tested, not proved.
 ///
 /// # Errors
 ///
-/// The fault of the tape or of the declaration: each is read and, if it has a fault, refused before
-/// the next is read; `Declare` where what is found can't be declared; `Device` where a read or a write
-/// failed, after which a prefix of the text went out; `NoMemory`. Nothing is written but where a write
-/// failed.
+/// The fault of the tape or of the declaration: each is read and, if it has a fault, refused before the next is read;
+/// `Declare` if what is found cannot be declared; `Device` if a read or a write failed, after which a prefix of the
+/// text went out; `NoMemory`. Nothing is written unless a write failed.
 pub fn complete<A: Allocator + Copy, R: ByteSource, D: ByteSource, W: ByteSink>(
     alloc: A,
     tape: &mut R,

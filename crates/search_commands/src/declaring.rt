@@ -28,13 +28,13 @@ use wordset::WordSet;
 /// How many turns a proposal has at most.
 pub(crate) const MOST_TURNS: u32 = 300_000;
 
-/// Adds a comment for each address at which control isn't followed.
+/// Adds a comment for each address at which control is not followed.
 pub(crate) fn push_unfollowed<A: Allocator>(
     text: &mut Vec<u8, A>,
     addresses: &WordSet,
 ) -> Result<(), AllocError> {
     for at in addresses.iter() {
-        push_place(text, b"/ It isn't known where the program goes on at ", at)?;
+        push_place(text, b"/ It is not known where the program goes on at ", at)?;
         text.extend_from_slice(b".\n")?;
     }
     Ok(())
@@ -45,7 +45,7 @@ pub(crate) fn push_lack<A: Allocator>(text: &mut Vec<u8, A>, lack: Lack) -> Resu
     match lack {
         Lack::Stuck(at) => push_place(text, b"/ No certificate is found: stuck at ", at)?,
         Lack::TurnsSpent => {
-            text.extend_from_slice(b"/ No certificate is found within the turns that there are")?
+            text.extend_from_slice(b"/ No certificate is found within the limit of turns")?
         }
     }
     text.extend_from_slice(b".\n")
@@ -75,10 +75,10 @@ pub(crate) fn push_seen<A: Allocator>(
     text.extend_from_slice(Buffer::new().format(seen.runs).as_bytes())?;
     text.extend_from_slice(b" runs of ")?;
     text.extend_from_slice(Buffer::new().format(seen.steps).as_bytes())?;
-    text.extend_from_slice(b" steps in all, and not shown.\n")
+    text.extend_from_slice(b" steps in all, but not proved.\n")
 }
 
-/// What is proposed for a tape's words, with a list of reads where one was asked for.
+/// What is proposed for a tape's words, with a list of reads if one was asked for.
 pub(crate) fn proposal_for<A: Allocator + Copy>(
     alloc: A,
     image: &Image,
@@ -111,7 +111,7 @@ pub(crate) fn copy_of<A: Allocator>(alloc: A, text: &[u8]) -> Result<Vec<u8, A>,
     Ok(copy)
 }
 
-/// The text of a proposal behind comments that say what is missing.
+/// The text of a proposal after comments that say what is missing.
 fn remarks_and_text<A: Allocator + Copy>(
     alloc: A,
     proposal: &Proposal<A>,
@@ -147,7 +147,7 @@ fn declares_for<A: Allocator + Copy>(
     }
 }
 
-/// The text of a proposal without a list of reads, behind the remarks where there is room for them.
+/// The text of a proposal without a list of reads, after the remarks where there is room for them.
 fn remarked<A: Allocator + Copy>(
     alloc: A,
     proposal: &Proposal<A>,
@@ -177,7 +177,7 @@ fn text_of<A: Allocator>(proposal: Proposal<A>) -> Vec<u8, A>
     text
 }
 
-/// What is proposed for a tape's words: the text of a declaration, and whether it is shown to be kept.
+/// What is proposed for a tape's words: the text of a declaration, and whether compliance with it is shown.
 pub fn proposed<A: Allocator + Copy>(
     alloc: A,
     image: &Image,
@@ -200,16 +200,15 @@ pub fn proposed<A: Allocator + Copy>(
     Ok(Outcome { text, status })
 }
 
-/// Proposes what the program of a tape may do, by the tape, its start and the machine alone, and
-/// writes the text of that declaration. `Done` says that no run of the program breaks it. Else it's
-/// `Refused`: no certificate is found that shows that. Comments in front of the text say why then, if
-/// there is room for them; what they say is tested, not proved.
+/// Proposes what the program of a tape may do, by the tape, its start and the machine alone, and writes the text of
+/// that declaration. `Done` says that no run of the program violates it. Otherwise it is `Refused`: no certificate is
+/// found that shows this. Comments in front of the text say why then, if there is room for them; what they say is
+/// tested, not proved.
 ///
 /// # Errors
 ///
-/// The fault of the tape; `Declare` where what is found can't be declared; `Device` where a read or a
-/// write failed, after which a prefix of the text went out; `NoMemory`. Nothing is written but where
-/// a write failed.
+/// The fault of the tape; `Declare` if what is found cannot be declared; `Device` if a read or a write failed, after
+/// which a prefix of the text went out; `NoMemory`. Nothing is written unless a write failed.
 pub fn declare<A: Allocator + Copy, R: ByteSource, W: ByteSink>(
     alloc: A,
     tape: &mut R,

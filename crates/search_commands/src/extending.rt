@@ -49,7 +49,7 @@ fn keeps_offsets<A: Allocator, B: Allocator>(
     true
 }
 
-/// Whether what is said of a cell is said still.
+/// Whether what is said about a cell is said still.
 fn keeps_cell<A: Allocator, B: Allocator>(
     given: &Declaration<A>,
     more: &Declaration<B>,
@@ -66,7 +66,7 @@ fn keeps_cell<A: Allocator, B: Allocator>(
     keeps_offsets(given, more, at)
 }
 
-/// Whether what is said of each cell is said still.
+/// Whether what is said about each cell is said still.
 fn keeps_cells<A: Allocator, B: Allocator>(given: &Declaration<A>, more: &Declaration<B>) -> bool
     ensures { result ≡ true → (a : ℕ) → a < 4096 →
         KeepsCell (meaning given.now) (meaning more.now) a }
@@ -79,8 +79,7 @@ fn keeps_cells<A: Allocator, B: Allocator>(given: &Declaration<A>, more: &Declar
     true
 }
 
-/// Whether each cell that may be read may be read still, where reads are listed, and else they still
-/// aren't.
+/// Whether each cell that may be read may be read still, if reads are listed, and else they still are not.
 fn keeps_reads(given: Option<&WordSet>, more: Option<&WordSet>) -> bool
     ensures { result ≡ true → KeepsReads
         (option_map (λ set. words set.now) given.entry)

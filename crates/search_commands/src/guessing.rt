@@ -1,4 +1,4 @@
-//! The command that guesses a certificate.
+//! The command that searches for a certificate.
 
 ghost use Rattle.std.specs.Prelude.{◌≡◌, false};
 ghost use Rattle.command_parts.specs.Answers.{IsLaterFault, OfProgram, ReadsTwo, WritesAnswer, output};
@@ -12,15 +12,15 @@ use std::alloc::Allocator;
 use streams::{ByteSink, ByteSource};
 use verdict_texts::certificates::write_certificate;
 
-/// Looks for a certificate that shows that no run of a tape breaks its declaration, and writes its
-/// text: of version 1 for a PDP-8/I, of version 2 for a PDP-8/E. Every condition holds of it, so
-/// `check` says yes to it; that one is found isn't promised.
+/// Searches for a certificate that shows that no run of a tape violates its declaration, and writes its text: of
+/// version 1 for a PDP-8/I, of version 2 for a PDP-8/E. Every condition holds for it, so `check` says yes to it; it
+/// is not promised that one is found.
 ///
 /// # Errors
 ///
-/// The fault of the tape or of the declaration: each is read and, if it has a fault, refused before
-/// the next is read; `Guess` where nothing is found; `Device` where a read or a write failed, after
-/// which a prefix of the text went out; `NoMemory`. Nothing is written but where a write failed.
+/// The fault of the tape or of the declaration: each is read and, if it has a fault, refused before the next is read;
+/// `Guess` if nothing is found; `Device` if a read or a write failed, after which a prefix of the text went out;
+/// `NoMemory`. Nothing is written unless a write failed.
 pub fn guess<A: Allocator + Copy, R: ByteSource, D: ByteSource, W: ByteSink>(
     alloc: A,
     tape: &mut R,

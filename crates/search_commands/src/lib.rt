@@ -1,4 +1,4 @@
-//! The commands that look for a certificate and for a declaration, and that say whether a program keeps
+//! The commands that search for a certificate and for a declaration, and that say whether a program complies with
 //! one.
 #![tactic(auto)]
 

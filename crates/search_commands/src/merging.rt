@@ -10,7 +10,7 @@ use wordset::WordSet;
 /// How many ranges an added line has at most, where there may be several of its kind.
 const MOST_RANGES: usize = 7;
 
-/// What a declaration says of cells, as far as it tells what may be added.
+/// What a declaration says about cells, as far as it tells what may be added.
 #[derive(Clone, Copy)]
 struct Held {
     bodies: WordSet,
@@ -134,7 +134,7 @@ fn addition_to<A: Allocator, B: Allocator>(
     Some(Addition { body, offsets })
 }
 
-/// Adds the ranges of a set, each behind a space.
+/// Adds the ranges of a set, each after a space.
 fn push_ranges<A: Allocator>(text: &mut Vec<u8, A>, set: &WordSet) -> Result<(), AllocError> {
     for (first, last) in set.ranges() {
         push_range(text, first, last)?;
@@ -142,7 +142,7 @@ fn push_ranges<A: Allocator>(text: &mut Vec<u8, A>, set: &WordSet) -> Result<(),
     Ok(())
 }
 
-/// Adds the offsets of a set, each behind a space.
+/// Adds the offsets of a set, each after a space.
 fn push_offsets<A: Allocator>(text: &mut Vec<u8, A>, set: &WordSet) -> Result<(), AllocError> {
     for offset in 0..8usize {
         if set.contains(Word::from_index(offset)) {
@@ -234,7 +234,7 @@ fn push_routines<A: Allocator>(
     Ok(())
 }
 
-/// The words of a part of a line, up to its comment, and what stands behind them.
+/// The words of a part of a line, up to its comment, and what stands after them.
 fn parted(part: &[u8]) -> (&[u8], &[u8]) {
     let front = match part.iter().position(|byte| *byte == b'/') {
         None => part,
@@ -348,7 +348,7 @@ fn push_all_halts<A: Allocator, B: Allocator>(
     push_halts(text, b"pause", &proposed.pauses().meet(&open))
 }
 
-/// Adds the lines of the cells that may be read and aren't listed yet, where reads are listed.
+/// Adds the lines of the cells that may be read and are not listed yet, if reads are listed.
 fn push_reads<A: Allocator, B: Allocator>(
     text: &mut Vec<u8, A>,
     given: &Declaration<B>,
@@ -363,9 +363,8 @@ fn push_reads<A: Allocator, B: Allocator>(
     push_cells(text, b"read", &cells.minus(listed))
 }
 
-/// The text of a declaration with what another one has and it lacks: ranges and offsets in the lines of
-/// its routines, and lines behind, each marked by a comment. What is in a body, an entry or a halt
-/// stays so.
+/// The text of a declaration with what another one has and it lacks: ranges and offsets in the lines of its routines,
+/// and lines at the end, each marked by a comment. What is in a body, an entry or a halt stays so.
 pub(crate) fn merged<A: Allocator + Copy, B: Allocator>(
     alloc: A,
     bytes: &[u8],

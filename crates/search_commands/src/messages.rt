@@ -1,5 +1,5 @@
-//! Whether a program keeps its declaration, and why, with the addresses of what is told marked for whoever has the
-//! program's source. The commands write the same as plain text.
+//! Whether a program complies with its declaration, and why, with the addresses of what is told marked for whoever
+//! has the program's source. The commands write the same as plain text.
 
 ghost use Rattle.std.specs.Prelude.{◌≡◌, ◌++◌, false, [], IfOk, IfErr};
 ghost use Rattle.declaration.specs.Kept.{meaning};
@@ -56,11 +56,11 @@ struct Searched<A: Allocator> {
 /// An answer, its line, and why.
 #[derive(Drop)]
 pub struct AnswerMessage<A: Allocator> {
-    /// Whether the program keeps its declaration.
+    /// Whether the program complies with its declaration.
     pub answer: Answer<A>,
     /// The line of the answer.
     pub line: Vec<u8, A>,
-    /// The lines that say why, where that is asked for; there are none behind a yes.
+    /// The lines that say why, if that is asked for; there are none after a yes.
     pub why: Message<A>,
     /// What the search had found where it was stuck, if that is the answer and it is to be explained.
     pub draft: Option<Certificate<A>>,
@@ -69,19 +69,19 @@ pub struct AnswerMessage<A: Allocator> {
 /// An answer on a declaration that is proposed, its line, and why.
 #[derive(Drop)]
 pub struct ProposalMessage<A: Allocator> {
-    /// The declaration, and whether the program keeps it.
+    /// The declaration, and whether the program complies with it.
     pub proposed: Proposed<A>,
     /// The line of the answer.
     pub line: Vec<u8, A>,
-    /// The lines that say why, where that is asked for; there are none behind a yes.
+    /// The lines that say why, if that is asked for; there are none after a yes.
     pub why: Message<A>,
 }
 
-/// Reads a tape and then a declaration, and looks for a certificate as `guess` does.
+/// Reads a tape and then a declaration, and searches for a certificate as `guess` does.
 ///
 /// # Errors
 ///
-/// The fault of the tape or of the declaration; `Guess` where there is neither a certificate nor a draft; `NoMemory`.
+/// The fault of the tape or of the declaration; `Guess` if there is neither a certificate nor a draft; `NoMemory`.
 #[inline(never)]
 pub fn seek<A: Allocator + Copy, T: ByteSource, D: ByteSource>(
     alloc: A,
@@ -115,7 +115,7 @@ pub fn seek<A: Allocator + Copy, T: ByteSource, D: ByteSource>(
     })
 }
 
-/// Looks for a run that breaks a declaration, for which no certificate was found.
+/// Searches for a run that violates a declaration, for which no certificate was found.
 fn refuted<A: Allocator + Copy, D: Allocator>(
     alloc: A,
     image: &Image,
@@ -266,7 +266,7 @@ fn answer_by<A: Allocator + Copy>(
     answer_on(alloc, image, declaration, options, lack, None)
 }
 
-/// The line that says why it isn't known.
+/// The line that says why it is not known.
 fn lack_line<A: Allocator>(alloc: A, lack: Lack) -> Result<Vec<u8, A>, AllocError>
     ensures { IfOk result (λ text. text.items ≡ lack_text lack) }
 {
@@ -279,7 +279,7 @@ fn lack_line<A: Allocator>(alloc: A, lack: Lack) -> Result<Vec<u8, A>, AllocErro
     Ok(text)
 }
 
-/// The line of a run that breaks the declaration.
+/// The line of a run that violates the declaration.
 fn no_line<A: Allocator>(alloc: A, event: usize, rule: Rule) -> Result<Vec<u8, A>, AllocError>
     ensures { IfOk result (λ text. text.items ≡ no_text event rule) }
 {
@@ -308,7 +308,7 @@ fn answer_line<A: Allocator + Copy, D: Allocator>(
     }
 }
 
-/// What the search for a certificate lacks, by what it had found: the lines of `guess --why` behind its first one.
+/// What the search for a certificate lacks, by what it had found: the lines of `guess --why` after its first one.
 fn lacking_message<A: Allocator + Copy, D: Allocator>(
     alloc: A,
     image: &Image,
@@ -339,7 +339,7 @@ fn stuck_message<A: Allocator + Copy, D: Allocator>(
     }
 }
 
-/// What the last step of a run is about to do that breaks a rule.
+/// What the last step of a run is about to do that violates a rule.
 fn breach_message<A: Allocator + Copy, D: Allocator>(
     alloc: A,
     image: &Image,
@@ -354,8 +354,8 @@ fn breach_message<A: Allocator + Copy, D: Allocator>(
     Ok(breach_lines(alloc, image, declaration, events, watched, true)?)
 }
 
-/// The lines behind an answer that say why: what the step is about to do that breaks a rule, or what the
-/// search for a certificate lacks. There are none where they aren't asked for, or behind a yes.
+/// The lines after an answer that say why: what the step is about to do that violates a rule, or what the search for
+/// a certificate lacks. There are none if they are not asked for, or after a yes.
 fn why_message<A: Allocator + Copy, D: Allocator>(
     alloc: A,
     image: &Image,
@@ -404,7 +404,7 @@ fn message_of<A: Allocator + Copy, D: Allocator>(
     })
 }
 
-/// Says whether a program keeps its declaration, and why, where that is asked for.
+/// Says whether a program complies with its declaration, and why, if that is asked for.
 ///
 /// # Errors
 ///
@@ -431,11 +431,11 @@ pub fn verify_message<A: Allocator + Copy, D: Allocator>(
     message_of(alloc, image, declaration, found, options.explained)
 }
 
-/// Says whether a program keeps the declaration that is proposed for it, and why, where that is asked for.
+/// Says whether a program complies with the declaration that is proposed for it, and why, if that is asked for.
 ///
 /// # Errors
 ///
-/// `Declare` where what is found can't be declared; `NoMemory`.
+/// `Declare` if what is found cannot be declared; `NoMemory`.
 #[inline(never)]
 pub fn verify_proposed_message<A: Allocator + Copy>(
     alloc: A,
@@ -472,7 +472,7 @@ pub fn verify_proposed_message<A: Allocator + Copy>(
     })
 }
 
-/// A line, and behind it a text as it reads without a source.
+/// A line, and after it a text as it reads without a source.
 pub(crate) fn joined<A: Allocator>(
     line: Vec<u8, A>,
     why: &Message<A>,

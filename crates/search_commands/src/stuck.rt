@@ -1,4 +1,4 @@
-//! The command that guesses a certificate and says why the search is stuck.
+//! The command that searches for a certificate and says why the search is stuck.
 
 ghost use Rattle.std.specs.Prelude.{◌≡◌, ◌⊎◌, ◌++◌, false, true, IfOk, OnErr, OnOk, Ok};
 ghost use Rattle.declaration.specs.Kept.{meaning};
@@ -66,7 +66,7 @@ pub fn draft_message<A: Allocator + Copy, D: Allocator, C: Allocator>(
     Ok(text)
 }
 
-/// The line of a search that is stuck at an address, and behind it these lines.
+/// The line of a search that is stuck at an address, and after it these lines.
 fn stuck_line<A: Allocator>(alloc: A, at: Word, lines: &[u8]) -> Result<Vec<u8, A>, AllocError>
     ensures { IfOk result (λ text. text.items ≡ stuck_text at lines.now) }
 {
@@ -119,19 +119,18 @@ fn report_stuck<A: Allocator + Copy, D: Allocator, C: Allocator, E: ByteSink>(
     }
 }
 
-/// Looks for a certificate as [`guess`](crate::guessing::guess) does, and promises the same of one that
-/// is found. Where the search is stuck, and there is a draft of what it found until then, the line of
-/// that fault goes to the report, and behind it why, as far as that is found and as `explain` says it:
-/// the address with its word and name, what the condition asks, and what breaks it. The status is
-/// `Refused` then, also where the report can't be written.
+/// Searches for a certificate as [`guess`](crate::guessing::guess) does, and promises the same of one that is found.
+/// If the search is stuck, and there is a draft of what it found until then, the line of that fault goes to the
+/// report, and after it why, as far as that is found and as `explain` says it: the address with its word and name,
+/// what the condition asks, and what violates it. The status is `Refused` then, even if the report cannot be
+/// written.
 ///
-/// What is told is true of a draft whose lines are where they may be. It isn't proved that the draft is
-/// what the search found, nor that a certificate is found wherever `guess` finds one.
+/// What is told is true of a draft whose lines are where they may be. It is not proved that the draft is what the
+/// search found, nor that a certificate is found wherever `guess` finds one.
 ///
 /// # Errors
 ///
-/// As of `guess`; `Guess` tells that the search is stuck where there is no draft, which no clause
-/// excludes.
+/// As for `guess`; `Guess` tells that the search is stuck if there is no draft, which no clause excludes.
 pub fn guess_or_explain<
     A: Allocator + Copy,
     R: ByteSource,

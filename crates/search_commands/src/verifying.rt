@@ -1,4 +1,4 @@
-//! The command that says whether a program keeps its declaration.
+//! The command that says whether a program complies with its declaration.
 
 ghost use Rattle.std.specs.Prelude.{◌≡◌, false, IfErr};
 ghost use Rattle.command_parts.specs.Answers.{IsLaterFault, IsMemoryFault, OfProgram, ReadsOne, ReadsTwo, WritesAnswer, output};
@@ -24,23 +24,23 @@ use word12::Word;
 /// How many turns a proposal has at most.
 pub(crate) const MOST_TURNS: u32 = 2_000_000;
 
-/// Why it isn't known whether a program keeps its declaration.
+/// Why it is not known whether a program complies with its declaration.
 #[derive(Clone, Copy, PartialEq, Eq, Debug)]
 pub enum Lack {
     /// The search for a certificate is stuck at an instruction that the judge would refuse.
     Stuck(Word),
-    /// The turns of the search for a certificate are spent.
+    /// The limit of turns of the search for a certificate was reached.
     TurnsSpent,
 }
 
-/// Whether a program keeps its declaration, and what shows it.
+/// Whether a program complies with its declaration, and what shows it.
 #[derive(Drop)]
 pub enum Answer<A: Allocator> {
-    /// It does: of this certificate every condition holds.
+    /// It does: every condition holds for this certificate.
     Yes(Certificate<A>),
-    /// It doesn't: this run breaks it.
+    /// It does not: this run violates the declaration.
     No(Witness<A>),
-    /// Neither is found.
+    /// Neither was found.
     NotKnown(Lack),
 }
 
@@ -49,7 +49,7 @@ pub enum Answer<A: Allocator> {
 pub struct Proposed<A: Allocator> {
     /// The declaration's text.
     pub text: Vec<u8, A>,
-    /// Whether the program keeps it.
+    /// Whether the program complies with it.
     pub answer: Answer<A>,
 }
 
@@ -63,7 +63,7 @@ pub fn answer_status<A: Allocator>(answer: &Answer<A>) -> Status
     }
 }
 
-/// Why it isn't known, where no certificate was found; a want of memory is told as one.
+/// Why it is not known, where no certificate was found; a want of memory is told as one.
 pub(crate) fn lack_of(fault: GuessFault) -> Result<Lack, Fault>
     ensures { IfErr result IsMemoryFault }
 {
@@ -74,16 +74,15 @@ pub(crate) fn lack_of(fault: GuessFault) -> Result<Lack, Fault>
     }
 }
 
-/// Says whether a tape's program keeps its declaration: `yes` with the certificate that shows it, of
-/// which every condition holds; `no` with a run that breaks it; or that neither is found. The answer is
-/// written as a line, behind which stands why, where that is asked for; these further lines are tested
-/// and not proved. That an answer is found isn't promised.
+/// Says whether a tape's program complies with its declaration: `yes` with the certificate that shows it, for which
+/// every condition holds; `no` with a run that violates it; or that neither is found. The answer is written as a
+/// line, after which stands why, if that is asked for; these further lines are tested and not proved. It is not
+/// promised that an answer is found.
 ///
 /// # Errors
 ///
-/// The fault of the tape or of the declaration: each is read and, if it has a fault, refused before the
-/// next is read; `Device` where a read or a write failed, after which a prefix of the text went out;
-/// `NoMemory`.
+/// The fault of the tape or of the declaration: each is read and, if it has a fault, refused before the next is read;
+/// `Device` if a read or a write failed, after which a prefix of the text went out; `NoMemory`.
 pub fn verify<A: Allocator + Copy, R: ByteSource, D: ByteSource, W: ByteSink>(
     alloc: A,
     tape: &mut R,
@@ -118,13 +117,13 @@ pub fn verify<A: Allocator + Copy, R: ByteSource, D: ByteSource, W: ByteSink>(
     Ok(answer)
 }
 
-/// Says of a tape alone whether its program keeps the declaration that is proposed for it, as [`verify`]
-/// does, and gives the text of that declaration too.
+/// Says of a tape alone whether its program complies with the declaration that is proposed for it, as [`verify`]
+/// does, and returns the text of that declaration too.
 ///
 /// # Errors
 ///
-/// The fault of the tape; `Declare` where what is found can't be declared; `Device` where a read or a
-/// write failed, after which a prefix of the text went out; `NoMemory`.
+/// The fault of the tape; `Declare` if what is found cannot be declared; `Device` if a read or a write failed, after
+/// which a prefix of the text went out; `NoMemory`.
 pub fn verify_proposed<A: Allocator + Copy, R: ByteSource, W: ByteSink>(
     alloc: A,
     tape: &mut R,

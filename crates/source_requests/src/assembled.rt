@@ -1,4 +1,5 @@
-//! A source that was assembled, and its declaration in numbers. What the source says of its addresses comes with it.
+//! A source that was assembled, and its declaration in numbers. What the source says about its addresses comes with
+//! it.
 
 use crate::programs::SourceText;
 use command_parts::inputs::declaration_from;
@@ -12,12 +13,12 @@ use source_verdicts::SourcedFault;
 use std::alloc::{AllocError, Global};
 use streams::standard::Reads;
 
-/// A source that was assembled, what it says of its addresses, and its declaration in numbers.
+/// A source that was assembled, what it says about its addresses, and its declaration in numbers.
 #[derive(Drop)]
 pub struct AssembledSource<'x> {
     /// What the source means, with its lines.
     pub map: SourceMap<Global>,
-    /// What it says of each address.
+    /// What it says about each address.
     pub notes: SourceNotes<Global>,
     /// The names of its parts.
     pub names: &'x [&'x str],
@@ -30,7 +31,7 @@ impl AssembledSource<'_> {
     ///
     /// # Errors
     ///
-    /// `Declared` where it is refused, and `NoMemory`.
+    /// `Declared` if it is refused, and `NoMemory`.
     pub fn declaration(&self, alloc: Global) -> Result<Declaration<Global>, Fault> {
         declaration_from(alloc, &mut Reads::new(self.numbers.as_slice()))
     }
@@ -68,7 +69,7 @@ fn note_words<'w>(
     Ok(rest)
 }
 
-/// What a source says of its addresses.
+/// What a source says about its addresses.
 fn notes_of(alloc: Global, map: &SourceMap<Global>) -> Result<SourceNotes<Global>, AllocError> {
     let mut notes = SourceNotes::new(alloc)?;
     let mut rest = map.words();
@@ -98,7 +99,7 @@ fn numbers_of(
 ///
 /// # Errors
 ///
-/// `Numbering` as of `number`; `Command` where memory was refused.
+/// `Numbering` as of `number`; `Command` if memory was refused.
 #[inline(never)]
 pub fn assembled<'x>(
     alloc: Global,

@@ -28,7 +28,7 @@ use verdict_texts::certificates::certificate_from;
 use verdict_texts::messages::check_message;
 use wordset::WordSet;
 
-/// Writes to standard output what is told, with what the source says of its addresses.
+/// Writes to standard output what is told, with what the source says about its addresses.
 #[inline(never)]
 fn tell_sourced<R: Print>(
     rt: &R,
@@ -40,7 +40,7 @@ fn tell_sourced<R: Print>(
     Ok(put(&mut Writes::new(io::writer(rt)), &lines)?)
 }
 
-/// Says whether the program keeps its declaration, and why.
+/// Says whether the program complies with its declaration, and why.
 #[inline(never)]
 pub fn verify_with_reasons<R: Files + Input + Print + Eprint>(
     rt: &R,
@@ -61,8 +61,8 @@ pub fn verify_with_reasons<R: Files + Input + Print + Eprint>(
     save_answer(rt, alloc, &saving, &found.answer)
 }
 
-/// Says whether the program keeps the declaration that is proposed for it, and why, and on standard error that it is
-/// proposed.
+/// Says whether the program complies with the declaration that is proposed for it, and why, and on standard error
+/// that it is proposed.
 #[inline(never)]
 pub fn verify_alone_with_reasons<R: Files + Input + Print + Eprint>(
     rt: &R,
@@ -101,7 +101,7 @@ pub fn check_with_reasons<R: Files + Input + Print>(
     Ok(checked.status)
 }
 
-/// Watches a run by the events of a file, and says why it breaks a rule, or how far it came.
+/// Watches a run by the events of a file, and says why it violates a rule, or how far it came.
 #[inline(never)]
 pub fn watch_with_reasons<R: Files + Input + Print>(
     rt: &R,
@@ -119,7 +119,7 @@ pub fn watch_with_reasons<R: Files + Input + Print>(
     Ok(watched.status)
 }
 
-/// Watches a run with an operator, and says why it breaks a rule, or how far it came.
+/// Watches a run with an operator, and says why it violates a rule, or how far it came.
 #[inline(never)]
 pub fn watch_session_with_reasons<R: Files + Input + Print>(
     rt: &R,
@@ -147,7 +147,7 @@ pub fn watch_session_with_reasons<R: Files + Input + Print>(
     Ok(watched.status)
 }
 
-/// Guesses a certificate, or tells and reports of the draft where the search is stuck.
+/// Searches for a certificate, or tells and reports of the draft where the search is stuck.
 #[inline(never)]
 pub fn guess_with_draft<R: Files + Print + Eprint>(
     rt: &R,
@@ -202,7 +202,7 @@ fn tell_stuck<R: Files + Print + Eprint>(
     Err(Fault::Guess(GuessFault::Stuck(stuck.at)))
 }
 
-/// Looks for a run that breaks the declaration, and tells why it does. Nothing is written before all is there.
+/// Searches for a run that violates the declaration, and tells why it does. Nothing is written before all is there.
 #[inline(never)]
 pub fn refute_with_reasons<R: Files + Print + Eprint>(
     rt: &R,

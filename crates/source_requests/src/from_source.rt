@@ -26,7 +26,7 @@ use std::alloc::Global;
 use std::rt::Files;
 use wordset::WordSet;
 
-/// Says whether a program keeps its declaration, or the one that is proposed.
+/// Says whether a program complies with its declaration, or the one that is proposed.
 fn verified<R: Files + Input + Print + Eprint>(
     rt: &R,
     alloc: Global,
@@ -140,7 +140,7 @@ fn reported<R: Files + Input + Print>(
     Ok(report_numbered(rt, alloc, numbered, &notes, certificate, out, text)?)
 }
 
-/// Does what is asked for with a program and its declaration, which are also there in numbers, where it isn't asked
+/// Does what is asked for with a program and its declaration, which are also there in numbers, where it is not asked
 /// why. The commands whose answers on a source are proved work on the source: `check`, `watch` with the events of a
 /// file, `guess`, `refute`, and `verify` of a declaration that is given. The others work on the numbers.
 fn done_with_numbers<R: Files + Input + Print + Eprint>(
@@ -290,7 +290,7 @@ fn ending_part(alloc: Global, parts: &[&[u8]]) -> Option<usize> {
     None
 }
 
-/// Says on standard error which parts aren't read, since the program ends before them.
+/// Says on standard error which parts are ignored, because the program ends before them.
 fn tell_unread<R: Eprint>(rt: &R, alloc: Global, names: &[&str], parts: &[&[u8]]) {
     if names.len() < 2 {
         return;
@@ -305,9 +305,9 @@ fn tell_unread<R: Eprint>(rt: &R, alloc: Global, names: &[&str], parts: &[&[u8]]
         return;
     };
     let _ = if names.len() > index.saturating_add(2) {
-        eprintln!(rt; "{name} ends the program by $: {unread} and what follows aren't read")
+        eprintln!(rt; "{name} ends the program with $: {unread} and what follows are ignored")
     } else {
-        eprintln!(rt; "{name} ends the program by $: {unread} isn't read")
+        eprintln!(rt; "{name} ends the program with $: {unread} is ignored")
     };
 }
 

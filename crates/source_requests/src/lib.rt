@@ -1,5 +1,5 @@
-//! The requests of a command line on a program that is given by its source, with its declaration in symbols or
-//! within the source. It is tested and not proved.
+//! The requests of a command line on a program that is given by its source, with its declaration in symbols or within
+//! the source. It is tested, not proved.
 #![tactic(auto)]
 
 mod assembled;

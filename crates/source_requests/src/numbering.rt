@@ -1,4 +1,4 @@
-//! Sources and their declarations, read and written in numbers, and what is told of their faults.
+//! Sources and their declarations, read and written in numbers, and what is said about their faults.
 
 use crate::spots::{Spot, behind_lines, line_counts, spot_of};
 use command_line::{Misuse, Sourced, Task};
@@ -46,14 +46,14 @@ pub struct Given {
 /// What became of the files of a source and its declaration.
 #[derive(Drop)]
 pub enum Prepared {
-    /// They can't be taken, which has been told, and this is the status.
+    /// They cannot be taken, which has been told, and this is the status.
     Told(Status),
     /// They were read.
     Read(Given),
 }
 
-/// Reads the parts of a source in order, up to the first that can't be read, and puts them behind those
-/// that were read.
+/// Reads the parts of a source in order, up to the first that cannot be read, and puts them after those that were
+/// read.
 fn read_parts<R: Files + Input>(
     rt: &R,
     alloc: Global,
@@ -115,7 +115,7 @@ struct Promised {
     promise: Promise,
 }
 
-/// Whether a declaration is proposed where no file is named, by what the source says of one.
+/// Whether a declaration is proposed where no file is named, by what the source says about one.
 fn is_proposed(task: &Task<'_>, within: &[u8]) -> bool {
     match task {
         Task::Verify { .. } | Task::Declare { .. } => !says_something(within),
@@ -155,16 +155,16 @@ fn given_declaration<R: Files + Input>(
 fn said_of(fault: PlaceFault) -> &'static str {
     match fault {
         PlaceFault::BadLine(_) =>
-            "a word with a capital letter is a symbol, a symbol and + or - a number, or two addresses with - between them",
+            "a word with a capital letter must be a symbol, a symbol and + or - a number, or two addresses with - between them",
         PlaceFault::NoSymbol(_) => "the source defines no such symbol",
-        PlaceFault::PastMemory(_) => "an address is from 0000 to 7777",
+        PlaceFault::PastMemory(_) => "an address must be from 0000 to 7777",
         PlaceFault::Backwards(_) => "the range ends below its first address",
         PlaceFault::TooMany => "the declaration has more than 16384 bytes",
         PlaceFault::NoMemory => "memory was refused",
     }
 }
 
-/// The number of the line that has a fault; 0 where it's none of a line.
+/// The number of the line that has a fault; 0 if it is not about a line.
 fn line_of(fault: PlaceFault) -> usize {
     match fault {
         PlaceFault::BadLine(number)
@@ -230,7 +230,7 @@ fn placing_spot<'n>(
     Ok(spot_of(&sourced.sources, &counts, line))
 }
 
-/// Tells that a source or its declaration is refused. A fault that lies in no line of them is given on.
+/// Tells that a source or its declaration is refused. A fault that is not about one of their lines is passed on.
 ///
 /// # Errors
 ///
@@ -277,7 +277,7 @@ fn is_asked_twice(task: &Task<'_>, promise: Promise) -> bool {
 ///
 /// # Errors
 ///
-/// `Device` where a file can't be opened or read, and `NoMemory`.
+/// `Device` if a file cannot be opened or read, and `NoMemory`.
 pub fn read_all<R: Files + Input + Eprint>(
     rt: &R,
     alloc: Global,
@@ -289,7 +289,7 @@ pub fn read_all<R: Files + Input + Eprint>(
             return Err(fault);
         }
         let name = unopened(&sourced.sources, parts.len());
-        return Ok(Prepared::Told(tell_of(rt, fault, name, "can't be opened or read")));
+        return Ok(Prepared::Told(tell_of(rt, fault, name, "cannot be opened or read")));
     }
     let Promised { text, promise } = given_declaration(rt, alloc, sourced, &parts)?;
     if is_asked_twice(&sourced.task, promise) {

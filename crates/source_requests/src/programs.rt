@@ -63,7 +63,7 @@ fn promise_of(numbered: &Numbered<Global>) -> Reads<&[u8]>
     lent_input(&numbered.declaration)
 }
 
-/// Says whether the program keeps its declaration.
+/// Says whether the program complies with its declaration.
 #[inline(never)]
 pub fn verify_program<R: Files + Input + Print + Eprint>(
     rt: &R,
@@ -90,11 +90,11 @@ pub fn verify_program<R: Files + Input + Print + Eprint>(
 /// Says on standard error that the declaration of an answer is proposed.
 pub(crate) fn tell_proposed<R: Eprint>(rt: &R) {
     let _ = eprintln!(rt;
-        "no declaration is given, and the source has no /: line: the answer is on one that is proposed"
+        "no declaration is given, and the source has no /: line: the answer is about a proposed declaration"
     );
 }
 
-/// Says whether the program keeps the declaration that is proposed for it, and on standard error that it is.
+/// Says whether the program complies with the declaration that is proposed for it, and on standard error that it is.
 #[inline(never)]
 pub fn verify_alone<R: Files + Input + Print + Eprint>(
     rt: &R,
@@ -208,7 +208,7 @@ pub fn watch_session_program<R: Files + Input + Print>(
     )
 }
 
-/// Guesses a certificate.
+/// Searches for a certificate.
 #[inline(never)]
 pub fn guess_program<R: Files + Print>(
     rt: &R,
@@ -222,7 +222,7 @@ pub fn guess_program<R: Files + Print>(
     Ok(finish(&mut file, status)?)
 }
 
-/// Looks for a run that breaks the declaration.
+/// Searches for a run that violates the declaration.
 #[inline(never)]
 pub fn refute_program<R: Files + Print + Eprint>(
     rt: &R,

@@ -1,4 +1,4 @@
-//! Where a source has what is named to people. It is tested and not proved.
+//! Where a source has what is named to people. It is tested, not proved.
 
 use crate::assembled::AssembledSource;
 use command_parts::message::{Mark, Message};
@@ -35,7 +35,7 @@ fn push_label_in_brackets(
     text.extend_from_slice(b")")
 }
 
-/// Adds what the source says of an instruction, as a line of its own.
+/// Adds what the source says about an instruction, as a line of its own.
 fn push_source_line(
     text: &mut Vec<u8>,
     at: Word,
@@ -71,8 +71,8 @@ fn begins_with_tag(note: SourceNote<'_>) -> bool {
     }
 }
 
-/// Adds a piece of a text, and what the source says where it ends: behind an address in brackets what the source
-/// calls it, in advice this in place of the address, and below an instruction its line.
+/// Adds a piece of a text, and what the source says where it ends: after an address in brackets what the source calls
+/// it, in advice this in place of the address, and below an instruction its line.
 fn push_piece(
     text: &mut Vec<u8>,
     piece: &[u8],
@@ -95,7 +95,7 @@ fn push_piece(
     }
 }
 
-/// A text for people with what the source says of its addresses.
+/// A text for people with what the source says about its addresses.
 pub fn with_source_lines(
     alloc: Global,
     source: &AssembledSource<'_>,

@@ -9,7 +9,7 @@ use std::alloc::{AllocError, Global};
 pub struct Spot<'n> {
     /// The part's name, or words for all parts.
     pub name: &'n str,
-    /// The line's number, from 1; 0 where no line is meant.
+    /// The line's number, from 1; 0 if no line is meant.
     pub line: usize,
 }
 
@@ -23,7 +23,7 @@ pub fn line_counts(alloc: Global, parts: &[&[u8]]) -> Result<Vec<usize>, AllocEr
     Ok(counts)
 }
 
-/// What is named where no line is meant, and so no part of several.
+/// What is named if no line is meant, and so no part of several.
 const ALL_PARTS: &str = "the source";
 
 /// Where the line of this number stands, by the names of the parts and their counts of lines. Number 0 is of no
@@ -60,7 +60,7 @@ pub fn behind_lines(text: &[u8], count: usize) -> &[u8] {
     rest
 }
 
-/// The number of the line that a fault is of; 0 where it's none of a line.
+/// The number of the line that a fault is of; 0 if it is not about a line.
 pub fn line_of(fault: DeclarationFault) -> usize {
     match fault {
         DeclarationFault::BadLine(number)
@@ -70,7 +70,7 @@ pub fn line_of(fault: DeclarationFault) -> usize {
     }
 }
 
-/// The same fault of the line of another number, where it's one of a line.
+/// The same fault of the line of another number, if it is about a line.
 pub fn on_line(fault: DeclarationFault, number: usize) -> DeclarationFault {
     match fault {
         DeclarationFault::BadLine(_) => DeclarationFault::BadLine(number),

@@ -1,4 +1,4 @@
-//! Declarations of sources that have no word: `place` writes them too. It is tested and not proved.
+//! Declarations of sources that have no word: `place` writes them too. It is tested, not proved.
 
 use crate::numbering::says_something;
 use command_line::Task;
@@ -30,7 +30,7 @@ fn wordless(
 ///
 /// # Errors
 ///
-/// As of `number`.
+/// As for `number`.
 pub fn number_for(
     alloc: Global,
     parts: &[&[u8]],

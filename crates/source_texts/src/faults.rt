@@ -20,7 +20,7 @@ const MOST_FAULTS: usize = 20;
 /// How many statements are left out at most.
 const MOST_STATEMENTS: usize = 60;
 
-/// What is told of PAUSE in the last part.
+/// What is said about PAUSE in the last part.
 fn about_pause<A: Allocator + Copy>(
     alloc: A,
     faulty: &Faulty<A>,
@@ -31,15 +31,15 @@ fn about_pause<A: Allocator + Copy>(
     Ok(Some(Finding {
         start: token.start,
         end: token.end,
-        wrong: String::from_str(alloc, "PAUSE says that a part follows, and none does")?,
+        wrong: String::from_str(alloc, "PAUSE says that another part follows, but none does")?,
         advice: String::from_str(
             alloc,
-            "write $ or leave it out, or name the part that follows as one more SOURCE",
+            "write $ in its place or remove it, or name the part that follows as another SOURCE",
         )?,
     }))
 }
 
-/// What is told of a fault that brings one finding at most.
+/// What is said about a fault that brings one finding at most.
 fn finding_of<A: Allocator + Copy>(
     alloc: A,
     source: &Source<'_>,
@@ -61,7 +61,7 @@ fn finding_of<A: Allocator + Copy>(
     }
 }
 
-/// Puts what is told of a fault, by what is known before its statement and after the whole source.
+/// Puts what is said about a fault, by what is known before its statement and after the whole source.
 fn put_findings<A: Allocator + Copy>(
     alloc: A,
     source: &Source<'_>,
@@ -82,7 +82,7 @@ fn put_findings<A: Allocator + Copy>(
     }
 }
 
-/// What is told of a fault, by what is known before its statement and after the whole source.
+/// What is said about a fault, by what is known before its statement and after the whole source.
 fn findings_by<A: Allocator + Copy>(
     alloc: A,
     source: &Source<'_>,
@@ -95,7 +95,7 @@ fn findings_by<A: Allocator + Copy>(
     Ok(findings)
 }
 
-/// What is told of a fault.
+/// What is said about a fault.
 fn findings_of<A: Allocator + Copy>(
     alloc: A,
     source: &Source<'_>,
@@ -108,7 +108,7 @@ fn findings_of<A: Allocator + Copy>(
     findings_by(alloc, source, &before, &known, faulty)
 }
 
-/// Adds what is told of a fault.
+/// Adds what is said about a fault.
 fn push_finding<A: Allocator + Copy>(
     alloc: A,
     text: &mut String<A>,
@@ -176,8 +176,8 @@ fn leave_out<A: Allocator>(bytes: &mut [u8], faulty: &Faulty<A>, marked: usize, 
     }
 }
 
-/// How far the faults of a source are told: how many are, which statements had one, and whether an origin
-/// was left out, so that locations aren't known.
+/// How far the faults of a source are told: how many are, which statements had one, and whether an origin was left
+/// out, so that locations are not known.
 #[derive(Drop)]
 struct Course<A: Allocator> {
     told: usize,
@@ -185,8 +185,7 @@ struct Course<A: Allocator> {
     is_astray: bool,
 }
 
-/// Whether the fault of a statement is told: a second one only of a tag, and no page where locations aren't
-/// known.
+/// Whether the fault of a statement is told: a second one only of a tag, and no page where locations are not known.
 fn is_told<A: Allocator>(course: &Course<A>, faulty: &Faulty<A>, is_again: bool) -> bool {
     match faulty.code {
         Code::DuplicateTag => true,
@@ -195,7 +194,7 @@ fn is_told<A: Allocator>(course: &Course<A>, faulty: &Faulty<A>, is_again: bool)
     }
 }
 
-/// Adds what is told of a fault.
+/// Adds what is said about a fault.
 fn push_findings<A: Allocator + Copy>(
     alloc: A,
     text: &mut String<A>,
@@ -209,7 +208,7 @@ fn push_findings<A: Allocator + Copy>(
     Ok(())
 }
 
-/// Adds what is told of a fault, and tells which byte of its part is marked.
+/// Adds what is said about a fault, and tells which byte of its part is marked.
 fn push_fault<A: Allocator + Copy>(
     alloc: A,
     text: &mut String<A>,
@@ -243,7 +242,7 @@ fn note<A: Allocator>(
     Ok(())
 }
 
-/// Adds what is told of the first fault of the copies, and leaves it out of them.
+/// Adds what is said about the first fault of the copies, and leaves it out of them.
 fn push_next<A: Allocator + Copy>(
     alloc: A,
     text: &mut String<A>,
@@ -269,8 +268,8 @@ fn push_next<A: Allocator + Copy>(
     }
 }
 
-/// Adds all that can be told of the faults of a source that isn't too long, the first one first. Behind each
-/// the source is assembled again without it, up to 20 faults.
+/// Adds everything that can be said about the faults of a source that is not too long, beginning with the first.
+/// After each fault the source is assembled again without it, up to 20 faults.
 ///
 /// # Errors
 ///
@@ -301,5 +300,5 @@ pub fn push_faults<A: Allocator + Copy>(
             break;
         }
     }
-    text.push_str("there may be more: mend these first\n")
+    text.push_str("there may be more faults: fix these first\n")
 }

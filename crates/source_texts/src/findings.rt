@@ -8,7 +8,7 @@ use pal_acts::Code;
 use pal_text::{Kind, Name, Token};
 use std::alloc::{AllocError, Allocator};
 
-/// What is told of a fault: the bytes of its part that are marked, what is wrong, and what to change.
+/// What is said about a fault: the bytes of its part that are marked, what is wrong, and what to change.
 #[derive(Drop)]
 pub(crate) struct Finding<A: Allocator> {
     pub(crate) start: usize,
@@ -17,7 +17,7 @@ pub(crate) struct Finding<A: Allocator> {
     pub(crate) advice: String<A>,
 }
 
-/// The code of the character at a place; that of a space where there is none.
+/// The code of the character at a place; that of a space if there is none.
 fn code_at(bytes: &[u8], at: usize) -> u8 {
     match bytes.get(at) {
         Some(byte) => *byte % 0o200,
@@ -67,12 +67,15 @@ pub(crate) fn has_order_mark(bytes: &[u8]) -> bool {
     matches!(bytes, [0o357, 0o273 | b'\r', 0o277, ..])
 }
 
-/// What is told of a byte order mark in front of a part.
+/// What is said about a byte order mark in front of a part.
 fn about_order_mark<A: Allocator + Copy>(alloc: A) -> Result<Finding<A>, AllocError> {
     Ok(Finding {
         start: 0,
         end: 3,
-        wrong: String::from_str(alloc, "a byte order mark stands in front of the source")?,
+        wrong: String::from_str(
+            alloc,
+            "there is a byte order mark at the beginning of the source",
+        )?,
         advice: String::from_str(
             alloc,
             "save the file as ASCII, or as UTF-8 without a byte order mark",
@@ -80,8 +83,8 @@ fn about_order_mark<A: Allocator + Copy>(alloc: A) -> Result<Finding<A>, AllocEr
     })
 }
 
-/// What is told of a statement that has no form: of the token at this place among its own, or of the last
-/// one where that wants another behind it.
+/// What is said about a statement that has no valid form: of the token at this place among its own, or of the last
+/// one where that wants another after it.
 fn about_form<A: Allocator + Copy>(
     alloc: A,
     bytes: &[u8],
@@ -102,7 +105,7 @@ fn about_form<A: Allocator + Copy>(
     }
 }
 
-/// What is told of digits that aren't octal.
+/// What is said about digits that are not octal.
 fn about_digits<A: Allocator + Copy>(
     alloc: A,
     bytes: &[u8],
@@ -111,10 +114,10 @@ fn about_digits<A: Allocator + Copy>(
     let digits = bytes_between(bytes, token.start, token.end);
     let mut wrong = String::new(alloc);
     push_characters(&mut wrong, digits)?;
-    wrong.push_str(" isn't octal")?;
+    wrong.push_str(" is not octal")?;
     let mut advice = String::from_str(
         alloc,
-        "numbers are octal until a statement DECIMAL: write ",
+        "numbers are octal until a DECIMAL statement: write ",
     )?;
     match number_of(true, digits) {
         Ok(word) => {
@@ -123,7 +126,7 @@ fn about_digits<A: Allocator + Copy>(
         }
         Err(_) => advice.push_str("digits up to 7")?,
     }
-    advice.push_str(", or that statement before it")?;
+    advice.push_str(", or put that statement before it")?;
     Ok(Finding {
         start: token.start,
         end: token.end,
@@ -132,7 +135,7 @@ fn about_digits<A: Allocator + Copy>(
     })
 }
 
-/// What is told of a number that is too large.
+/// What is said about a number that is too large.
 fn about_large<A: Allocator + Copy>(
     alloc: A,
     bytes: &[u8],
@@ -155,7 +158,7 @@ fn about_large<A: Allocator + Copy>(
     })
 }
 
-/// What is told of the first number among these tokens that is none.
+/// What is said about the first number among these tokens that is none.
 fn about_number<A: Allocator + Copy>(
     alloc: A,
     bytes: &[u8],
@@ -177,7 +180,7 @@ fn about_number<A: Allocator + Copy>(
     Ok(None)
 }
 
-/// What is told of a statement with the fault IC or NB.
+/// What is said about a statement with the fault IC or NB.
 pub(crate) fn about_text<A: Allocator + Copy>(
     alloc: A,
     bytes: &[u8],

@@ -1,9 +1,9 @@
-//! What has no place in a statement.
+//! What is not allowed in a statement.
 
 use crate::pieces::{count_front_tokens, count_tag_tokens, tokens_from, told_kind};
 use pal_text::{Kind, Token};
 
-/// What is wrong with a token, behind the token's text, and what to change.
+/// What is wrong with a token, after the token's text, and what to change.
 #[derive(Clone, Copy)]
 pub(crate) struct Words {
     pub(crate) wrong: &'static str,
@@ -54,79 +54,79 @@ pub(crate) fn misplaced(bytes: &[u8], tokens: &[Token]) -> Option<usize> {
     Some(front.saturating_add(at))
 }
 
-/// What is told of a character that means nothing.
+/// What is said about a character that means nothing.
 fn about_character(code: u8) -> Words {
     match code {
         b'a'..=b'z' => Words {
-            wrong: "isn't in capitals",
-            advice: "letters are capitals, save in comments",
+            wrong: "is not in upper case",
+            advice: "letters must be in upper case, except in comments",
         },
         b'(' | b')' | b'[' | b']' => Words {
-            wrong: "means nothing: literals are left out here",
+            wrong: "is not allowed: this assembler has no literals",
             advice: "write the word on a line of its own with a tag, and refer to the tag",
         },
         b'"' | b'\'' => Words {
-            wrong: "means nothing: characters in quotes are left out here",
-            advice: "write the code of each character as a word, 301 for A with channel 8",
+            wrong: "is not allowed: this assembler has no characters in quotes",
+            advice: "write the code of each character as a word, such as 301 for A with channel 8",
         },
         b'<' | b'>' => Words {
-            wrong: "means nothing: macros and conditions are left out here",
-            advice: "write the statements that are meant",
+            wrong: "is not allowed: this assembler has no macros and no conditions",
+            advice: "write out the statements",
         },
         b'!' => Words {
-            wrong: "means nothing",
-            advice: "a space between two terms is the inclusive or",
+            wrong: "is not allowed",
+            advice: "for an inclusive or, write a space between two terms",
         },
         _ => Words {
-            wrong: "means nothing",
-            advice: "leave it out; a comment begins with /",
+            wrong: "is not allowed",
+            advice: "remove it; a comment begins with /",
         },
     }
 }
 
-/// What is told of a token of this kind that has no place; of a character by its code.
+/// What is said about a token of this kind that has no place; of a character by its code.
 pub(crate) fn about(kind: Kind, code: u8) -> Words {
     match kind {
         Kind::Mixed => Words {
-            wrong: "begins with a digit and has a letter",
-            advice: "a number has digits alone, and a symbol begins with a letter",
+            wrong: "begins with a digit but contains a letter",
+            advice: "a number has only digits, and a symbol begins with a letter",
         },
         Kind::Decimal | Kind::Octal | Kind::Pause => Words {
-            wrong: "is no term",
-            advice: "make it a statement by itself, behind ; or on a line of its own",
+            wrong: "is not a term",
+            advice: "make it a statement of its own, after ; or on a line of its own",
         },
         Kind::Space => Words {
-            wrong: "has no place here",
-            advice: "leave it out",
+            wrong: "is not allowed here",
+            advice: "remove it",
         },
         Kind::Comma => Words {
-            wrong: "has no place here",
-            advice: "a tag is a symbol and a comma, in front of all else in its statement",
+            wrong: "is not allowed here",
+            advice: "a tag is a symbol and a comma, before everything else in its statement",
         },
         Kind::Equals => Words {
-            wrong: "has no place here",
-            advice: "an assignment is a symbol, = and its value, and no more",
+            wrong: "is not allowed here",
+            advice: "an assignment is a symbol, = and its value, and nothing else",
         },
         Kind::Star => Words {
-            wrong: "has no place here",
-            advice: "* sets the location, in front of all but tags; nothing multiplies",
+            wrong: "is not allowed here",
+            advice: "* sets the location, and only tags may come before it; there is no multiplication",
         },
         Kind::Plus | Kind::Minus => Words {
-            wrong: "has no term in front of it",
-            advice: "write a term between two signs, or leave one of them out",
+            wrong: "has no term before it",
+            advice: "write a term between the two signs, or remove one of them",
         },
         Kind::Symbol | Kind::Number | Kind::Here => Words {
-            wrong: "isn't joined to the term before it",
+            wrong: "is not joined to the term before it",
             advice: "write a space, + or - between two terms",
         },
         Kind::Other | Kind::End | Kind::Dollar => about_character(code),
     }
 }
 
-/// What is told of a last token behind which a term is missing.
+/// What is said about a last token after which a term is missing.
 pub(crate) const UNFINISHED: Words = Words {
-    wrong: "has no term behind it",
-    advice: "write a number or a symbol there, or leave it out",
+    wrong: "has no term after it",
+    advice: "write a number or a symbol there, or remove it",
 };
 
 /// Whether a token is a small letter.

@@ -1,4 +1,4 @@
-//! What is wrong where a symbol is given a value.
+//! What is wrong when a symbol is given a value.
 
 use crate::findings::Finding;
 use crate::lines::count_characters;
@@ -24,20 +24,22 @@ fn push_other_advice<A: Allocator + Copy>(
     if first == second {
         text.push_str("it got that value on ")?;
         push_line_of(alloc, text, source, one, other.part)?;
-        return text.push_str("; a symbol has one in the whole source: use another symbol");
+        return text.push_str(
+            "; a symbol has only one value in the whole source: use another symbol",
+        );
     }
     let name = Name::new(first);
     let letters = letters_of(&name);
-    text.push_str("six characters of a symbol count: ")?;
+    text.push_str("only six characters of a symbol count: ")?;
     push_written(text, source, one)?;
     write!(text, " is {letters}, defined on ")?;
     push_line_of(alloc, text, source, one, other.part)?;
     text.push_str(", and so is ")?;
     push_written(text, source, other)?;
-    text.push_str(": use symbols that differ in their first six")
+    text.push_str(": use symbols that differ in the first six")
 }
 
-/// What is told of a symbol that is given another value than it has: this one.
+/// What is said about a symbol that is given another value than it has: this one.
 fn about_other_value<A: Allocator + Copy>(
     alloc: A,
     source: &Source<'_>,
@@ -53,7 +55,7 @@ fn about_other_value<A: Allocator + Copy>(
         Some(first) => {
             write!(
                 wrong,
-                " has the value {had} already, and would be {value} here"
+                " already has the value {had}, and would be {value} here"
             )?;
             push_other_advice(alloc, &mut advice, source, first, spot)?;
         }
@@ -73,7 +75,7 @@ fn about_other_value<A: Allocator + Copy>(
     })
 }
 
-/// What is told of DECIMAL, OCTAL or PAUSE where a symbol is given a value.
+/// What is said about DECIMAL, OCTAL or PAUSE where a symbol is given a value.
 fn about_direction<A: Allocator + Copy>(
     alloc: A,
     source: &Source<'_>,
@@ -82,12 +84,12 @@ fn about_direction<A: Allocator + Copy>(
 ) -> Result<Finding<A>, AllocError> {
     let mut wrong = String::new(alloc);
     push_written(&mut wrong, source, spot)?;
-    wrong.push_str(" can't be a symbol")?;
+    wrong.push_str(" cannot be a symbol")?;
     let mut advice = String::new(alloc);
     if count_characters(written(source, spot)) > direction.len() {
         write!(
             advice,
-            "six characters of a symbol count, so it is {direction}: "
+            "only six characters of a symbol count, so it is {direction}: "
         )?;
     }
     advice.push_str("use another symbol")?;
@@ -99,7 +101,7 @@ fn about_direction<A: Allocator + Copy>(
     })
 }
 
-/// What is told of a symbol that is given this value, if it can't be.
+/// What is said about a symbol that is given this value, if it cannot be.
 fn about_given<A: Allocator + Copy>(
     alloc: A,
     source: &Source<'_>,
@@ -133,7 +135,7 @@ fn spot_of<A: Allocator>(faulty: &Faulty<A>, token: Token) -> Spot {
     }
 }
 
-/// What is told of the first tag of a statement that has another value.
+/// What is said about the first tag of a statement that has another value.
 pub(crate) fn about_tags<A: Allocator + Copy>(
     alloc: A,
     source: &Source<'_>,
@@ -152,7 +154,7 @@ pub(crate) fn about_tags<A: Allocator + Copy>(
     Ok(None)
 }
 
-/// What is told of an assignment of another value.
+/// What is said about an assignment of another value.
 pub(crate) fn about_assignment<A: Allocator + Copy>(
     alloc: A,
     source: &Source<'_>,
@@ -169,7 +171,7 @@ pub(crate) fn about_assignment<A: Allocator + Copy>(
     about_given(alloc, source, before, spot_of(faulty, *token), value)
 }
 
-/// What is told of one symbol too many.
+/// What is said about one symbol too many.
 fn about_new<A: Allocator + Copy>(
     alloc: A,
     source: &Source<'_>,
@@ -180,7 +182,7 @@ fn about_new<A: Allocator + Copy>(
     wrong.push_str(" would be the 1025th symbol")?;
     let advice = String::from_str(
         alloc,
-        "a source has at most 1024 symbols of its own: refer to cells near by .+1 or .-1",
+        "a source has at most 1024 symbols of its own: refer to nearby cells with .+1 or .-1",
     )?;
     Ok(Finding {
         start: spot.start,
@@ -190,7 +192,7 @@ fn about_new<A: Allocator + Copy>(
     })
 }
 
-/// What is told of the first symbol of a statement for which there is no place.
+/// What is said about the first symbol of a statement for which there is no place.
 pub(crate) fn about_room<A: Allocator + Copy>(
     alloc: A,
     source: &Source<'_>,

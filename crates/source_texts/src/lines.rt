@@ -14,7 +14,7 @@ pub(crate) struct NumberedLine {
     pub(crate) line: Line,
 }
 
-/// The bytes from `start` up to the one before `end`; none where there aren't so many.
+/// The bytes from `start` up to the one before `end`; none where there are not so many.
 pub(crate) fn bytes_between(bytes: &[u8], start: usize, end: usize) -> &[u8] {
     match bytes.get(start..end) {
         Some(found) => found,
@@ -55,7 +55,7 @@ pub(crate) fn count_characters(bytes: &[u8]) -> usize {
     count
 }
 
-/// Adds the character of a byte, if it has one; a question mark for one that can't be shown.
+/// Adds the character of a byte, if it has one; a question mark for one that cannot be shown.
 fn push_character<A: Allocator>(text: &mut String<A>, byte: u8) -> Result<(), AllocError> {
     let code = byte % 0o200;
     if code == b'\t' || (b' ' <= code && code <= b'~') {

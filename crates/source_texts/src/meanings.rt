@@ -27,7 +27,7 @@ pub(crate) struct Meanings<'p, A: Allocator + Copy> {
     pub(crate) is_decimal: bool,
 }
 
-/// A place behind all statements.
+/// A place after all statements.
 pub(crate) const NOWHERE: SourcePlace = SourcePlace {
     part: usize::MAX,
     line: 0,

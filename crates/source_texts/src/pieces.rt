@@ -1,4 +1,4 @@
-//! The tokens of a statement, also of one that has no form.
+//! The tokens of a statement, even if the statement has no valid form.
 
 use crate::lines::bytes_between;
 use pal_text::characters::is_character_code;
@@ -21,12 +21,12 @@ fn kind_of(code: u8) -> Kind {
     }
 }
 
-/// Whether a space beside a token of this kind doesn't count.
+/// Whether a space beside a token of this kind does not count.
 fn absorbs_spaces(kind: Kind) -> bool {
     matches!(kind, Kind::Comma | Kind::Equals | Kind::Plus | Kind::Minus)
 }
 
-/// What a token of this kind is with a character of that kind behind it, where they are one token.
+/// What a token of this kind is with a character of that kind after it, where they are one token.
 fn longer(kind: Kind, next: Kind) -> Option<Kind> {
     match (kind, next) {
         (Kind::Symbol, Kind::Symbol | Kind::Number) => Some(Kind::Symbol),
@@ -38,7 +38,7 @@ fn longer(kind: Kind, next: Kind) -> Option<Kind> {
     }
 }
 
-/// The one token that two neighbours make, where the second doesn't stand after the first.
+/// The one token that two neighbours make, where the second does not stand after the first.
 fn join(last: Token, next: Token) -> Option<Token> {
     if let Some(kind) = longer(last.kind, next.kind) {
         return Some(Token {

@@ -1,4 +1,4 @@
-//! What is wrong where a value is asked for.
+//! What is wrong when a value is needed.
 
 use crate::findings::Finding;
 use crate::lines::{bytes_between, push_characters};
@@ -10,8 +10,7 @@ use pal_text::{Kind, Token};
 use std::alloc::{AllocError, Allocator};
 use word12::Word;
 
-/// What is told of a symbol that has no value where it is asked for; `known` has the values of the whole
-/// source.
+/// What is said about a symbol that has no value if it is asked for; `known` has the values of the whole source.
 fn about_undefined<A: Allocator + Copy>(
     alloc: A,
     source: &Source<'_>,
@@ -27,7 +26,7 @@ fn about_undefined<A: Allocator + Copy>(
     if known.spot(&name).is_some() {
         wrong.push_str(" has no value yet")?;
         push_defined(alloc, &mut advice, source, known, &name, part)?;
-        advice.push_str(" has to stand before an origin or an assignment that uses it")?;
+        advice.push_str(" must come before an origin or an assignment that uses it")?;
     } else {
         wrong.push_str(" has no value")?;
         push_undefined_advice(alloc, &mut advice, source, known, &name, part)?;
@@ -40,7 +39,7 @@ fn about_undefined<A: Allocator + Copy>(
     })
 }
 
-/// Puts what is told of each symbol of a statement that has no value where it is asked for.
+/// Puts what is said about each symbol of a statement that has no value if it is asked for.
 pub(crate) fn put_undefined<A: Allocator + Copy>(
     alloc: A,
     source: &Source<'_>,
@@ -66,7 +65,7 @@ pub(crate) fn put_undefined<A: Allocator + Copy>(
     Ok(())
 }
 
-/// What stands behind an operation: the address, and whether I and Z stand before it.
+/// What stands after an operation: the address, and whether I and Z stand before it.
 #[derive(Clone, Copy)]
 struct Reference<'t> {
     is_indirect: bool,
@@ -79,7 +78,7 @@ fn is_symbol(bytes: &[u8], token: Token, letters: [u8; 6]) -> bool {
     token.kind == Kind::Symbol && name_of(bytes, token).letters == letters
 }
 
-/// What stands behind an operation with these tokens.
+/// What stands after an operation with these tokens.
 fn reference_of<'t>(bytes: &[u8], tokens: &'t [Token]) -> Reference<'t> {
     let mut found = Reference {
         is_indirect: false,
@@ -148,7 +147,7 @@ fn push_address<A: Allocator>(
     push_page(text, value)
 }
 
-/// What is wrong with an address that a word at this location can't name.
+/// What is wrong with an address that a word at this location cannot name.
 fn wrong_of<A: Allocator>(
     alloc: A,
     is_on_page_zero: bool,
@@ -160,15 +159,15 @@ fn wrong_of<A: Allocator>(
     let mut wrong = String::new(alloc);
     push_address(&mut wrong, bytes, address, value)?;
     if is_on_page_zero {
-        wrong.push_str(", and Z asks for page zero")?;
+        wrong.push_str(", but Z requires page zero")?;
     } else {
-        write!(wrong, ", and this word, at {here}, on ")?;
+        write!(wrong, ", but this word is at {here}, on ")?;
         push_page(&mut wrong, here)?;
     }
     Ok(wrong)
 }
 
-/// Adds what to change of a reference, by this operation, that can't name its address.
+/// Adds what to change of a reference, by this operation, that cannot name its address.
 fn push_advice<A: Allocator>(
     text: &mut String<A>,
     reference: &Reference<'_>,
@@ -176,21 +175,21 @@ fn push_advice<A: Allocator>(
     operation: &[u8],
 ) -> Result<(), AllocError> {
     if reference.is_on_page_zero && is_same_page {
-        return text.push_str("leave out Z: the address is on the page of this word");
+        return text.push_str("remove Z: the address is on the page of this word");
     }
     if reference.is_indirect {
         return text.push_str(
-            "I goes by a word on this page or on page zero: write one there that has the address",
+            "I uses a word on this page or on page zero: write one there that holds the address",
         );
     }
     text.push_str(
-        "write a word with that address on this page, with a tag, and refer to it by I, as in ",
+        "write a word with that address on this page, with a tag, and refer to it with I, as in ",
     )?;
     push_characters(text, operation)?;
     text.push_str(" I TAG")
 }
 
-/// What is told of a reference that can't name its address; `known` has the values of the whole source.
+/// What is said about a reference that cannot name its address; `known` has the values of the whole source.
 pub(crate) fn about_reference<A: Allocator + Copy>(
     alloc: A,
     source: &Source<'_>,

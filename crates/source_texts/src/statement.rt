@@ -54,7 +54,7 @@ impl<A: Allocator> Faulty<A> {
         tokens_from(body, count_front_tokens(body))
     }
 
-    /// Whether locations aren't known without it: it is an origin, or another assembler's word that is one.
+    /// Whether locations are not known without it: it is an origin, or another assembler's word that is one.
     pub(crate) fn loses_location(&self, bytes: &[u8]) -> bool {
         match self.body() {
             [first, ..] => {

@@ -1,4 +1,4 @@
-//! What is told of symbols.
+//! What is said about symbols.
 
 use crate::lines::{bytes_between, line_at, push_characters};
 use crate::meanings::{Meanings, Spot};
@@ -69,7 +69,7 @@ pub(crate) fn letters_of(name: &Name) -> &str {
     }
 }
 
-/// Adds the line on which a symbol stands, and its file where that isn't the one of this part.
+/// Adds the line on which a symbol stands, and its file if it is not the file of this part.
 pub(crate) fn push_line_of<A: Allocator + Copy>(
     alloc: A,
     text: &mut String<A>,
@@ -108,16 +108,16 @@ pub(crate) fn push_defined<A: Allocator + Copy>(
 /// What to do about a word that other assemblers have.
 fn about_other_word(name: &Name) -> Option<&'static str> {
     match letters_of(name) {
-        "PAGE" => Some("PAGE is left out here: write the address, as in *400"),
-        "TEXT" => Some("TEXT is left out here: write the code of each character as a word"),
+        "PAGE" => Some("this assembler has no PAGE: write the address, as in *400"),
+        "TEXT" => Some("this assembler has no TEXT: write the code of each character as a word"),
         "ZBLOCK" => Some(
-            "ZBLOCK is left out here: write the zeros, or step over the cells, as in *.+10",
+            "this assembler has no ZBLOCK: write the zeros, or skip the cells, as in *.+10",
         ),
         "FIELD" | "CDF" | "CIF" | "RDF" | "RIF" | "RIB" | "RMF" => {
-            Some("there is no extended memory here: leave the statement out")
+            Some("there is no extended memory: remove the statement")
         }
         "EXPUNG" | "FIXTAB" | "FIXMRI" | "XLIST" | "EJECT" => {
-            Some("other assemblers have it: leave the statement out")
+            Some("only other assemblers have it: remove the statement")
         }
         _ => None,
     }
@@ -170,15 +170,15 @@ fn push_nearest<A: Allocator + Copy>(
 ) -> Result<(), AllocError> {
     if let Some(own) = nearest(alloc, &known.symbols.own, wanted)? {
         if let Some(spot) = known.spot(&own) {
-            text.push_str("is ")?;
+            text.push_str("do you mean ")?;
             push_written(text, source, spot)?;
             text.push_str(" of ")?;
             push_line_of(alloc, text, source, spot, part)?;
-            text.push_str(" meant? Else ")?;
+            text.push_str("? Otherwise ")?;
         }
     } else if let Some(permanent) = nearest(alloc, known.symbols.permanent, wanted)? {
         let letters = letters_of(&permanent);
-        write!(text, "is {letters} meant? Else ")?;
+        write!(text, "do you mean {letters}? Otherwise ")?;
     }
     Ok(())
 }
@@ -202,10 +202,10 @@ pub(crate) fn push_undefined_advice<A: Allocator + Copy>(
     }
     if is_of_the_8e(alloc, name)? {
         return text.push_str(
-            "it is a symbol of the PDP-8/E, for --profile 8e or a declaration's line profile 8e",
+            "it is a symbol of the PDP-8/E: use --profile 8e, or the line profile 8e in a declaration",
         );
     }
     let letters = letters_of(name);
     push_nearest(alloc, text, source, known, letters, part)?;
-    write!(text, "give {letters} a value, by a tag or an assignment")
+    write!(text, "give {letters} a value, with a tag or an assignment")
 }

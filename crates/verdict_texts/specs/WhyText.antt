@@ -1,4 +1,4 @@
--- What `check --why` writes after the verdict: the word that breaks the condition, what the condition asks, and why it
+-- What `check --why` writes after the verdict: the word that violates the condition, what the condition asks, and why it
 -- fails.
 use Rattle.std.specs.Prelude.{ℕ, ◌≡◌, ◌++◌, codes, decimal, true, List, [], Option, Some, None, is_some, IfSome, Result, Ok, Err}
 use Rattle.word12.specs.Words.{octal_text}
@@ -33,21 +33,21 @@ use Rattle.command_parts.specs.LinkText.{link_text}
 
 -- What each condition asks, as `check --why` says it.
 abbrev pub asked_text : Condition → List ℕ
-asked_text condition.V1 = codes "there is a fact at the start, and it holds of every start"
-asked_text condition.V2 = codes "a fact is in a body, with offsets in routines alone; routine and exit lines are at entries"
+asked_text condition.V1 = codes "there is a fact at the start, and it holds for every start"
+asked_text condition.V2 = codes "a fact is in a body, and has offsets only in a routine; routine and exit lines are at entries"
 asked_text condition.V3 = codes "at most 64 words are possible, and each is supported"
-asked_text condition.V4 = codes "wherever a word goes on there is a fact in the same body that allows what is possible"
-asked_text condition.V5 = codes "each cell that a word may write, a JMS's own apart, is a variable or an entry"
-asked_text condition.V6 = codes "each cell that a word may write, a JMS's own apart, is in the routine's written set, or its entry"
+asked_text condition.V4 = codes "wherever the run may go on there is a fact in the same body that allows what is possible"
+asked_text condition.V5 = codes "each cell that a word may write, except the cell in which a JMS stores, is a variable or an entry"
+asked_text condition.V6 = codes "each cell that a word may write, except the cell in which a JMS stores, is in the routine's written set or is its entry"
 asked_text condition.V7 = codes "a JMS calls listed entries of lower rank, and not through an auto-index cell"
-asked_text condition.V8 = codes "what a callee may write, and its entry, are in the caller's written set, and the caller's entry isn't in the callee's"
-asked_text condition.V9 = codes "a JMS is at a listed site of its callee, and at most at 7767"
+asked_text condition.V8 = codes "the callee's entry and what it may write are in the caller's written set, and the caller's entry is not in the callee's"
+asked_text condition.V9 = codes "a JMS is at a listed site of its callee, at an address of at most 7767"
 asked_text condition.V10 = codes "the fact at the callee's first address allows what is possible"
 asked_text condition.V11 = codes "the fact at each return address allows what is possible"
-asked_text condition.V12 = codes "a return is the routine's own, by declared offsets, and the exit lines allow what is possible"
+asked_text condition.V12 = codes "a return is through the routine's own entry, by declared offsets, and the exit lines allow what is possible"
 asked_text condition.V13 = codes "a HLT is at a declared halt"
-asked_text condition.V14 = codes "no word writes an entry, save that a JMS enters it and ISZ may count the routine's own"
-asked_text condition.V15 = codes "each cell that a word may read is on the list of reads, or the routine's entry"
+asked_text condition.V14 = codes "no word writes an entry, except that a JMS stores its return address there and an ISZ may increment the routine's own"
+asked_text condition.V15 = codes "each cell that a word may read is on the list of reads or is the routine's entry"
 
 -- A text, an address in four octal digits, and a text.
 abbrev pub around : List ℕ → ℕ → List ℕ → List ℕ
@@ -72,59 +72,59 @@ abbrev pub gap_text : Counterexample → List ℕ
 gap_text (gap.Accumulator w) = codes "AC may be " ++ octal_text w
 gap_text (gap.Mq w) = codes "MQ may be " ++ octal_text w
 gap_text (gap.Link l) = codes "the link may be " ++ link_text l
-gap_text (gap.Cell c w) = (codes "the cell " ++ octal_text c) ++ (codes " may be " ++ octal_text w)
-gap_text (gap.Equation e) = equation_text e ++ codes " may be wrong as far as is known"
-gap_text (gap.Offset o) = around_number (codes "the return word may be up by ") o (codes "")
+gap_text (gap.Cell c w) = (codes "the cell " ++ octal_text c) ++ (codes " may hold " ++ octal_text w)
+gap_text (gap.Equation e) = equation_text e ++ codes " may be false"
+gap_text (gap.Offset o) = around_number (codes "the return word may have been incremented by ") o (codes "")
 
--- Why a run doesn't land.
+-- Why a run does not land.
 abbrev pub landing_text : Landing → List ℕ
-landing_text landing.NoFact = codes "no fact is there"
-landing_text landing.OtherBody = codes "that isn't in the body"
+landing_text landing.NoFact = codes "there is no fact at that address"
+landing_text landing.OtherBody = codes "that address is not in the body"
 landing_text (landing.Excluded g) = gap_text g ++ codes ", which the fact there excludes"
 
--- What a call breaks.
+-- What a call violates.
 abbrev pub call_text : CallBreach → List ℕ
-call_text call.NoEntry = codes ", which isn't an entry"
+call_text call.NoEntry = codes ", which is not an entry"
 call_text call.NotListed = codes ", which has no routine line"
 call_text (call.NotLower rank own) =
-    around_number (codes " of rank ") rank (codes ", which isn't below the caller's, ") ++ decimal own
-call_text (call.Writes c) = around (codes ", which may write ") c (codes ", and the caller's written set doesn't have it")
-call_text call.EntryNotWritten = codes ", which the caller's written set doesn't have"
+    around_number (codes " of rank ") rank (codes ", which is not below the caller's rank, ") ++ decimal own
+call_text (call.Writes c) = around (codes ", which may write ") c (codes ", but the caller's written set does not contain it")
+call_text call.EntryNotWritten = codes ", which the caller's written set does not contain"
 call_text call.WritesCaller = codes ", which may write the caller's entry"
-call_text call.NoSite = codes ", and the address isn't one of its sites"
-call_text call.TooHigh = codes ", from an address past 7767"
-call_text (call.Enters l) = codes " and enters it: " ++ landing_text l
-call_text (call.Returns o l) = around_number (codes ", which returns by offset ") o (codes ": ") ++ landing_text l
+call_text call.NoSite = codes ", but this address is not one of its sites"
+call_text call.TooHigh = codes ", from an address above 7767"
+call_text (call.Enters l) = codes " and continues after the entry: " ++ landing_text l
+call_text (call.Returns o l) = around_number (codes ", which returns with offset ") o (codes ": ") ++ landing_text l
 
--- What a return breaks.
+-- What a return violates.
 abbrev pub return_text : ReturnBreach → List ℕ
-return_text return.OtherRoutine = codes ", which isn't its own entry"
-return_text (return.NotDeclared o) = around_number (codes " by offset ") o (codes ", which isn't declared")
-return_text (return.NoExit o) = around_number (codes " by offset ") o (codes ", which has no exit line")
+return_text return.OtherRoutine = codes ", which is not its own entry"
+return_text (return.NotDeclared o) = around_number (codes " with offset ") o (codes ", which is not declared")
+return_text (return.NoExit o) = around_number (codes " with offset ") o (codes ", which has no exit line")
 return_text (return.Excluded o g) =
-    around_number (codes " by offset ") o (codes ": ") ++ gap_text g ++ codes ", which the exit line excludes"
+    around_number (codes " with offset ") o (codes ": ") ++ (gap_text g ++ codes ", which the exit line excludes")
 
--- What a word breaks.
+-- What a word violates.
 abbrev pub breach_text : Breach → List ℕ
-breach_text breach.NotSupported = codes "it isn't supported"
+breach_text breach.NotSupported = codes "this word is not supported"
 breach_text (breach.WritesUndeclared c) = around (codes "it may write ") c (codes ", which is neither a variable nor an entry")
 breach_text (breach.WritesEntry c) = around (codes "it may write ") c (codes ", which is an entry")
-breach_text (breach.WritesUnlisted c) = around (codes "it may write ") c (codes ", which isn't in the routine's written set")
+breach_text (breach.WritesUnlisted c) = around (codes "it may write ") c (codes ", which is not in the routine's written set")
 breach_text breach.HaltsUndeclared = codes "it halts, and no halt is declared there"
 breach_text breach.CallsThroughIndex = codes "it calls through an auto-index cell"
 breach_text (breach.Calls e b) = (codes "it calls " ++ octal_text e) ++ call_text b
 breach_text (breach.Returns e b) = (codes "it returns through " ++ octal_text e) ++ return_text b
-breach_text (breach.GoesOn a l) = around (codes "it may go on at ") a (codes ": ") ++ landing_text l
-breach_text (breach.ReadsUnlisted c) = around (codes "it may read ") c (codes ", which isn't on the list of reads")
+breach_text (breach.GoesOn a l) = around (codes "it may continue at ") a (codes ": ") ++ landing_text l
+breach_text (breach.ReadsUnlisted c) = around (codes "it may read ") c (codes ", which is not on the list of reads")
 
 -- Why the condition fails.
 abbrev pub reason_text : Reason → List ℕ
-reason_text reason.NoFact = codes "no fact is there"
+reason_text reason.NoFact = codes "there is no fact at this address"
 reason_text (reason.StartExcluded g) = codes "at a start " ++ gap_text g ++ codes ", which the fact there excludes"
-reason_text reason.LineAtNoEntry = codes "a routine or exit line names the address, which isn't an entry"
-reason_text reason.InNoBody = codes "a fact is there, and the address is in no body"
-reason_text (reason.OffsetInMain o) = around_number (codes "the fact is in main's body, and has the offset ") o (codes "")
-reason_text (reason.NoOffset e) = around (codes "the fact is in the body of ") e (codes ", and has no offset")
+reason_text reason.LineAtNoEntry = codes "a routine or exit line names the address, which is not an entry"
+reason_text reason.InNoBody = codes "there is a fact at this address, which is not in any body"
+reason_text (reason.OffsetInMain o) = around_number (codes "the fact is in main's body but has the offset ") o (codes "")
+reason_text (reason.NoOffset e) = around (codes "the fact is in the body of ") e (codes " but has no offset")
 reason_text (reason.RoutineNotListed e) = around (codes "the fact is in the body of ") e (codes ", which has no routine line")
 reason_text (reason.TooManyWords n) = around_number (codes "") n (codes " words are possible")
 reason_text (reason.ByWord w b) = breach_text b

@@ -17,7 +17,7 @@ use declaration::Declaration;
 use judge::judge;
 use std::alloc::{AllocError, Allocator};
 
-/// What is told of a certificate, and how the command ends.
+/// What is said about a certificate, and how the command ends.
 #[derive(Drop)]
 pub struct VerdictMessage<A: Allocator> {
     /// What is told.
@@ -26,7 +26,7 @@ pub struct VerdictMessage<A: Allocator> {
     pub status: Status,
 }
 
-/// What `check` tells of a certificate, and why the verdict is no.
+/// What `check` says about a certificate, and why the verdict is no.
 ///
 /// # Errors
 ///

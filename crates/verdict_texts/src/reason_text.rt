@@ -23,30 +23,30 @@ fn asked(condition: Condition) -> &'static [u8]
     ensures { result.now ≡ asked_text condition }
 {
     match condition {
-        Condition::V1 => b"there is a fact at the start, and it holds of every start",
+        Condition::V1 => b"there is a fact at the start, and it holds for every start",
         Condition::V2 =>
-            b"a fact is in a body, with offsets in routines alone; routine and exit lines are at entries",
+            b"a fact is in a body, and has offsets only in a routine; routine and exit lines are at entries",
         Condition::V3 => b"at most 64 words are possible, and each is supported",
         Condition::V4 =>
-            b"wherever a word goes on there is a fact in the same body that allows what is possible",
+            b"wherever the run may go on there is a fact in the same body that allows what is possible",
         Condition::V5 =>
-            b"each cell that a word may write, a JMS's own apart, is a variable or an entry",
+            b"each cell that a word may write, except the cell in which a JMS stores, is a variable or an entry",
         Condition::V6 =>
-            b"each cell that a word may write, a JMS's own apart, is in the routine's written set, or its entry",
+            b"each cell that a word may write, except the cell in which a JMS stores, is in the routine's written set or is its entry",
         Condition::V7 =>
             b"a JMS calls listed entries of lower rank, and not through an auto-index cell",
         Condition::V8 =>
-            b"what a callee may write, and its entry, are in the caller's written set, and the caller's entry isn't in the callee's",
-        Condition::V9 => b"a JMS is at a listed site of its callee, and at most at 7767",
+            b"the callee's entry and what it may write are in the caller's written set, and the caller's entry is not in the callee's",
+        Condition::V9 => b"a JMS is at a listed site of its callee, at an address of at most 7767",
         Condition::V10 => b"the fact at the callee's first address allows what is possible",
         Condition::V11 => b"the fact at each return address allows what is possible",
         Condition::V12 =>
-            b"a return is the routine's own, by declared offsets, and the exit lines allow what is possible",
+            b"a return is through the routine's own entry, by declared offsets, and the exit lines allow what is possible",
         Condition::V13 => b"a HLT is at a declared halt",
         Condition::V14 =>
-            b"no word writes an entry, save that a JMS enters it and ISZ may count the routine's own",
+            b"no word writes an entry, except that a JMS stores its return address there and an ISZ may increment the routine's own",
         Condition::V15 =>
-            b"each cell that a word may read is on the list of reads, or the routine's entry",
+            b"each cell that a word may read is on the list of reads or is the routine's entry",
     }
 }
 
@@ -127,30 +127,30 @@ fn push_gap<L: Lines>(text: &mut L, gap: &Counterexample) -> Result<(), AllocErr
         Counterexample::Link(link) => push_link(text, *link),
         Counterexample::Cell(cell, word) => {
             push_text_and_address(text, b"the cell ", *cell)?;
-            push_text_and_word(text, b" may be ", *word)?;
+            push_text_and_word(text, b" may hold ", *word)?;
             Ok(())
         }
         Counterexample::Equation(equation) => {
             push_equation(text, equation)?;
-            text.push_text(b" may be wrong as far as is known")?;
+            text.push_text(b" may be false")?;
             Ok(())
         }
         Counterexample::Offset(offset) => push_around_number(
             text,
-            b"the return word may be up by ",
+            b"the return word may have been incremented by ",
             *offset,
             b"",
         ),
     }
 }
 
-/// Adds why a run doesn't land.
+/// Adds why a run does not land.
 fn push_landing<L: Lines>(text: &mut L, landing: &Landing) -> Result<(), AllocError>
     ensures { OnOk result (L.text text.new ≡ L.text text.old ++ landing_text landing.now) }
 {
     match landing {
-        Landing::NoFact => text.push_text(b"no fact is there"),
-        Landing::OtherBody => text.push_text(b"that isn't in the body"),
+        Landing::NoFact => text.push_text(b"there is no fact at that address"),
+        Landing::OtherBody => text.push_text(b"that address is not in the body"),
         Landing::Excluded(gap) => {
             push_gap(text, gap)?;
             text.push_text(b", which the fact there excludes")?;
@@ -159,33 +159,33 @@ fn push_landing<L: Lines>(text: &mut L, landing: &Landing) -> Result<(), AllocEr
     }
 }
 
-/// Adds why a call doesn't land where it enters.
+/// Adds why a call does not land where it enters.
 fn push_enters<L: Lines>(text: &mut L, landing: &Landing) -> Result<(), AllocError>
     ensures { OnOk result
-        (L.text text.new ≡ L.text text.old ++ (codes " and enters it: " ++ landing_text landing.now)) }
+        (L.text text.new ≡ L.text text.old ++ (codes " and continues after the entry: " ++ landing_text landing.now)) }
 {
-    text.push_text(b" and enters it: ")?;
+    text.push_text(b" and continues after the entry: ")?;
     push_landing(text, landing)?;
     Ok(())
 }
 
-/// Adds why a run doesn't land after a return by an offset.
+/// Adds why a run does not land after a return by an offset.
 fn push_returns<L: Lines>(text: &mut L, offset: usize, landing: &Landing) -> Result<(), AllocError>
     ensures { OnOk result (L.text text.new ≡ L.text text.old
-        ++ (around_number (codes ", which returns by offset ") offset (codes ": ")
+        ++ (around_number (codes ", which returns with offset ") offset (codes ": ")
         ++ landing_text landing.now)) }
 {
-    push_around_number(text, b", which returns by offset ", offset, b": ")?;
+    push_around_number(text, b", which returns with offset ", offset, b": ")?;
     push_landing(text, landing)?;
     Ok(())
 }
 
-/// Adds what a call breaks.
+/// Adds what a call violates.
 fn push_call<L: Lines>(text: &mut L, breach: &CallBreach) -> Result<(), AllocError>
     ensures { OnOk result (L.text text.new ≡ L.text text.old ++ call_text breach.now) }
 {
     match breach {
-        CallBreach::NoEntry => text.push_text(b", which isn't an entry"),
+        CallBreach::NoEntry => text.push_text(b", which is not an entry"),
         CallBreach::NotListed => text.push_text(b", which has no routine line"),
         CallBreach::NotLower(rank, own) => {
             let mut digits = Buffer::new();
@@ -193,7 +193,7 @@ fn push_call<L: Lines>(text: &mut L, breach: &CallBreach) -> Result<(), AllocErr
                 text,
                 b" of rank ",
                 *rank,
-                b", which isn't below the caller's, ",
+                b", which is not below the caller's rank, ",
             )?;
             text.push_text(digits.format(*own).as_bytes())
         }
@@ -201,35 +201,45 @@ fn push_call<L: Lines>(text: &mut L, breach: &CallBreach) -> Result<(), AllocErr
             text,
             b", which may write ",
             *cell,
-            b", and the caller's written set doesn't have it",
+            b", but the caller's written set does not contain it",
         ),
         CallBreach::EntryNotWritten => {
-            text.push_text(b", which the caller's written set doesn't have")
+            text.push_text(b", which the caller's written set does not contain")
         }
         CallBreach::WritesCaller => { text.push_text(b", which may write the caller's entry") }
-        CallBreach::NoSite => { text.push_text(b", and the address isn't one of its sites") }
-        CallBreach::TooHigh => text.push_text(b", from an address past 7767"),
+        CallBreach::NoSite => { text.push_text(b", but this address is not one of its sites") }
+        CallBreach::TooHigh => text.push_text(b", from an address above 7767"),
         CallBreach::Enters(landing) => push_enters(text, landing),
         CallBreach::Returns(offset, landing) => push_returns(text, *offset, landing),
     }
 }
 
-/// Adds what a return breaks.
+/// Adds what may be so at a return and what the exit line excludes.
+fn push_excluded<L: Lines>(text: &mut L, gap: &Counterexample) -> Result<(), AllocError>
+    ensures { OnOk result (L.text text.new ≡ L.text text.old
+        ++ (gap_text gap.now ++ codes ", which the exit line excludes")) }
+{
+    push_gap(text, gap)?;
+    text.push_text(b", which the exit line excludes")?;
+    Ok(())
+}
+
+/// Adds what a return violates.
 fn push_return<L: Lines>(text: &mut L, breach: &ReturnBreach) -> Result<(), AllocError>
     ensures { OnOk result (L.text text.new ≡ L.text text.old ++ return_text breach.now) }
 {
     match breach {
-        ReturnBreach::OtherRoutine => text.push_text(b", which isn't its own entry"),
+        ReturnBreach::OtherRoutine => text.push_text(b", which is not its own entry"),
         ReturnBreach::NotDeclared(offset) => {
-            push_around_number(text, b" by offset ", *offset, b", which isn't declared")
+            push_around_number(text, b" with offset ", *offset, b", which is not declared")
         }
         ReturnBreach::NoExit(offset) => {
-            push_around_number(text, b" by offset ", *offset, b", which has no exit line")
+            push_around_number(text, b" with offset ", *offset, b", which has no exit line")
         }
         ReturnBreach::Excluded(offset, gap) => {
-            push_around_number(text, b" by offset ", *offset, b": ")?;
-            push_gap(text, gap)?;
-            text.push_text(b", which the exit line excludes")
+            push_around_number(text, b" with offset ", *offset, b": ")?;
+            push_excluded(text, gap)?;
+            Ok(())
         }
     }
 }
@@ -242,18 +252,18 @@ fn push_write<L: Lines>(text: &mut L, cell: Word, wrong: &[u8]) -> Result<(), Al
     push_around(text, b"it may write ", cell, wrong)
 }
 
-/// Adds what a word breaks.
+/// Adds what a word violates.
 fn push_breach<L: Lines>(text: &mut L, breach: &Breach) -> Result<(), AllocError>
     ensures { OnOk result (L.text text.new ≡ L.text text.old ++ breach_text breach.now) }
 {
     match breach {
-        Breach::NotSupported => text.push_text(b"it isn't supported"),
+        Breach::NotSupported => text.push_text(b"this word is not supported"),
         Breach::WritesUndeclared(cell) => {
             push_write(text, *cell, b", which is neither a variable nor an entry")
         }
         Breach::WritesEntry(cell) => push_write(text, *cell, b", which is an entry"),
         Breach::WritesUnlisted(cell) => {
-            push_write(text, *cell, b", which isn't in the routine's written set")
+            push_write(text, *cell, b", which is not in the routine's written set")
         }
         Breach::HaltsUndeclared => { text.push_text(b"it halts, and no halt is declared there") }
         Breach::CallsThroughIndex => { text.push_text(b"it calls through an auto-index cell") }
@@ -266,14 +276,14 @@ fn push_breach<L: Lines>(text: &mut L, breach: &Breach) -> Result<(), AllocError
             push_return(text, back)
         }
         Breach::GoesOn(at, landing) => {
-            push_around(text, b"it may go on at ", *at, b": ")?;
+            push_around(text, b"it may continue at ", *at, b": ")?;
             push_landing(text, landing)
         }
         Breach::ReadsUnlisted(cell) => push_around(
             text,
             b"it may read ",
             *cell,
-            b", which isn't on the list of reads",
+            b", which is not on the list of reads",
         ),
     }
 }
@@ -283,19 +293,21 @@ fn push_reason<L: Lines>(text: &mut L, reason: &Reason) -> Result<(), AllocError
     ensures { OnOk result (L.text text.new ≡ L.text text.old ++ reason_text reason.now) }
 {
     match reason {
-        Reason::NoFact => text.push_text(b"no fact is there"),
+        Reason::NoFact => text.push_text(b"there is no fact at this address"),
         Reason::StartExcluded(gap) => {
             text.push_text(b"at a start ")?;
             push_gap(text, gap)?;
             text.push_text(b", which the fact there excludes")
         }
         Reason::LineAtNoEntry => text.push_text(
-            b"a routine or exit line names the address, which isn't an entry",
+            b"a routine or exit line names the address, which is not an entry",
         ),
-        Reason::InNoBody => { text.push_text(b"a fact is there, and the address is in no body") }
+        Reason::InNoBody => {
+            text.push_text(b"there is a fact at this address, which is not in any body")
+        }
         Reason::OffsetInMain(offset) => push_around_number(
             text,
-            b"the fact is in main's body, and has the offset ",
+            b"the fact is in main's body but has the offset ",
             *offset,
             b"",
         ),
@@ -303,7 +315,7 @@ fn push_reason<L: Lines>(text: &mut L, reason: &Reason) -> Result<(), AllocError
             text,
             b"the fact is in the body of ",
             *entry,
-            b", and has no offset",
+            b" but has no offset",
         ),
         Reason::RoutineNotListed(entry) => push_around(
             text,
@@ -329,7 +341,7 @@ fn push_reason_line<L: Lines>(text: &mut L, reason: &Option<Reason>) -> Result<(
     text.push_text(b"\n")
 }
 
-/// The word that is shown: the one that breaks the condition, or else the tape's.
+/// The word that is shown: the one that violates the condition, or else the tape's.
 fn word_shown(image: &Image, at: Word, reason: &Option<Reason>) -> Option<Word>
     ensures { result ≡ word_shown image.now at reason.now }
 {

@@ -200,7 +200,7 @@ pub fn verdict_line<A: Allocator, D: Allocator>(
     }
 }
 
-/// A program that isn't certified is refused.
+/// A program that is not certified is refused.
 pub fn verdict_status(verdict: &Result<(), Refusal>) -> Status
     ensures { result ≡ verdict_status verdict.now }
 {

@@ -1,4 +1,4 @@
-//! The lines that say what a step that breaks a rule is about to do. They are tested and not proved.
+//! The lines that say what a step that violates a rule is about to do. They are tested, not proved.
 #![tactic(auto)]
 
 ghost use Rattle.std.specs.Prelude.{◌≡◌, false, [], IfOk};
@@ -22,12 +22,12 @@ fn asked(rule: Rule) -> &'static [u8] {
     match rule {
         Rule::StaysInBody =>
             b"control stays in the running routine's body, at words that are supported",
-        Rule::WritesDeclared => b"writes hit declared variables only",
+        Rule::WritesDeclared => b"only declared variables are written",
         Rule::CallsEntries => b"a JMS goes to a declared entry",
         Rule::ReturnsToItsCall => b"a return goes to a declared place after its own call",
-        Rule::HaltsDeclared => b"a HLT stands at a declared halt",
-        Rule::KeepsCode => b"code stays as punched",
-        Rule::ReadsListed => b"reads are of cells on the list of reads",
+        Rule::HaltsDeclared => b"a HLT is at a declared halt",
+        Rule::KeepsCode => b"code stays as it is on the tape",
+        Rule::ReadsListed => b"only cells on the list of reads are read",
     }
 }
 
@@ -64,7 +64,7 @@ fn push_advice<L: Lines>(
     text.push_text(b"\n")
 }
 
-/// Adds the rest of a line: a text, a word that is no address, and a text.
+/// Adds the rest of a line: a text, a word that is not an address, and a text.
 fn push_word_line<L: Lines>(
     text: &mut L,
     before: &[u8],
@@ -88,7 +88,7 @@ fn push_change<L: Lines>(
     push_word_line(text, b", and would hold ", then, b"")
 }
 
-/// Adds what else a cell is that is no variable, an entry or an instruction, and what to declare if the program
+/// Adds what else a cell is that is not a variable, an entry or an instruction, and what to declare if the program
 /// may write it.
 fn push_variable_advice<L: Lines, D: Allocator>(
     text: &mut L,
@@ -96,10 +96,10 @@ fn push_variable_advice<L: Lines, D: Allocator>(
     cell: Word,
 ) -> Result<(), AllocError> {
     if declaration.is_entry(cell) {
-        return text.push_text(b", but an entry\n");
+        return text.push_text(b" but an entry\n");
     }
     if declaration.owner_of(cell).is_some() {
-        return push_advice(text, b", but code; if it may change, add `var ", cell, b"`");
+        return push_advice(text, b" but code; if it may change, add `var ", cell, b"`");
     }
     push_advice(text, b"; if it may be written, add `var ", cell, b"`")
 }
@@ -117,7 +117,7 @@ fn push_pointer<L: Lines>(text: &mut L, reference: &Reference) -> Result<(), All
     )
 }
 
-/// Adds the lines of a cell that is written: the pointer that is stepped, or what is stored into; and of the
+/// Adds the lines of a cell that is written: the pointer that is incremented, or what is stored into; and of the
 /// words there before and after.
 fn push_write<L: Lines, D: Allocator>(
     text: &mut L,
@@ -127,14 +127,14 @@ fn push_write<L: Lines, D: Allocator>(
 ) -> Result<(), AllocError> {
     let named = reference.named;
     if reference.steps_pointer() && !declaration.is_variable(named) {
-        push_text_and_address(text, b"it steps the pointer ", named)?;
-        text.push_text(b", which is no variable")?;
+        push_text_and_address(text, b"it increments the pointer ", named)?;
+        text.push_text(b", which is not a variable")?;
         push_variable_advice(text, declaration, named)?;
         return push_change(text, cpu, named, cpu.memory.get(named).increment());
     }
     let place = reference.place;
     push_text_and_address(text, b"it stores into ", place)?;
-    text.push_text(b", which is no variable")?;
+    text.push_text(b", which is not a variable")?;
     push_variable_advice(text, declaration, place)?;
     push_pointer(text, reference)?;
     match reference.operation {
@@ -149,17 +149,17 @@ fn push_held<L: Lines>(text: &mut L, cpu: &Cpu, cell: Word) -> Result<(), AllocE
     push_word_line(text, b" holds ", cpu.memory.get(cell), b"")
 }
 
-/// Adds that a cell isn't on the list of reads, and what to declare if it may be read.
+/// Adds that a cell is not on the list of reads, and what to declare if it may be read.
 fn push_read_advice<L: Lines>(text: &mut L, cell: Word) -> Result<(), AllocError> {
     push_advice(
         text,
-        b", which isn't on the list of reads; if it may be read, add `read ",
+        b", which is not on the list of reads; if it may be read, add `read ",
         cell,
         b"`",
     )
 }
 
-/// Adds the lines of a cell that is read and isn't on the list, the pointer or the operand, and of its word.
+/// Adds the lines of a cell that is read and is not on the list, the pointer or the operand, and of its word.
 fn push_read<L: Lines, D: Allocator>(
     text: &mut L,
     declaration: &Declaration<D>,
@@ -205,7 +205,7 @@ fn push_returns<L: Lines, D: Allocator>(
     }
     push_line(
         text,
-        b"no return is declared of the routine ",
+        b"no return is declared for the routine ",
         call.entry,
         b"",
     )
@@ -228,8 +228,8 @@ fn push_offset_advice<L: Lines>(
     push_advice(text, b" to the returns of `sub ", entry, b"`")
 }
 
-/// Adds the lines of a return through an entry: where it goes, the call that it doesn't return from, and where
-/// that may return to.
+/// Adds the lines of a return through an entry: where it goes, the call that it does not return from, and where that
+/// may return to.
 fn push_return<L: Lines, D: Allocator>(
     text: &mut L,
     declaration: &Declaration<D>,
@@ -240,9 +240,9 @@ fn push_return<L: Lines, D: Allocator>(
     push_text_and_address(text, b"it goes to ", cpu.memory.get(entry))?;
     push_text_and_address(text, b" by the word in the entry ", entry)?;
     match calls.last() {
-        None => text.push_text(b"; no call is open\n"),
+        None => text.push_text(b"; the call stack is empty\n"),
         Some(call) => {
-            push_text_and_address(text, b"; the last call is of ", call.entry)?;
+            push_text_and_address(text, b"; the last call is to ", call.entry)?;
             push_line(text, b", and the address after it is ", call.after, b"")?;
             push_returns(text, declaration, call)?;
             push_offset_advice(text, call, entry, cpu.memory.get(entry))
@@ -250,7 +250,7 @@ fn push_return<L: Lines, D: Allocator>(
     }
 }
 
-/// Adds the line of an address that isn't in the running routine's body: what it is, or what to declare if it is
+/// Adds the line of an address that is not in the running routine's body: what it is, or what to declare if it is
 /// code of that routine.
 fn push_outside<L: Lines, D: Allocator>(
     text: &mut L,
@@ -259,7 +259,7 @@ fn push_outside<L: Lines, D: Allocator>(
     at: Word,
 ) -> Result<(), AllocError> {
     text.push_address(at)?;
-    text.push_text(b" isn't in the running routine's body")?;
+    text.push_text(b" is not in the running routine's body")?;
     if declaration.is_entry(at) {
         return text.push_text(
             b": it is an entry, which holds a return address and is never executed\n",
@@ -269,7 +269,7 @@ fn push_outside<L: Lines, D: Allocator>(
         return push_body_advice(text, calls, at);
     };
     match owner {
-        Owner::Main => text.push_text(b": it is in main's\n"),
+        Owner::Main => text.push_text(b": it is in main's body\n"),
         Owner::Routine(entry) => push_advice(text, b": it is in the body of `sub ", entry, b"`"),
     }
 }
@@ -283,21 +283,21 @@ fn push_body_advice<L: Lines>(text: &mut L, calls: &[Call], at: Word) -> Result<
     }
 }
 
-/// Adds the line of a JMS to an address that is no entry, and what to declare if a routine begins there.
+/// Adds the line of a JMS to an address that is not an entry, and what to declare if a routine begins there.
 fn push_no_entry<L: Lines, D: Allocator>(
     text: &mut L,
     declaration: &Declaration<D>,
     place: Word,
 ) -> Result<(), AllocError> {
     push_text_and_address(text, b"it goes to ", place)?;
-    text.push_text(b", which is no entry; ")?;
+    text.push_text(b", which is not an entry; ")?;
     if is_auto_index(place) {
         return text.push_text(b"no routine can begin in 0010 to 0017\n");
     }
     push_text_and_advised(text, b"if a routine begins there, add `sub ", place)?;
     text.push_text(b" body .. returns ..`")?;
     if declaration.owner_of(place).is_some() || declaration.is_variable(place) {
-        text.push_text(b", and take it out of the body and the variables")?;
+        text.push_text(b", and remove it from the body and the variables")?;
     }
     text.push_text(b"\n")
 }
@@ -307,10 +307,15 @@ fn push_no_halt<L: Lines>(text: &mut L, at: Word) -> Result<(), AllocError> {
     text.push_address(at)?;
     push_text_and_advised(
         text,
-        b" is no declared halt; if it may halt there, add `stop ",
+        b" is not a declared halt; if it may halt there, add `stop ",
         at,
     )?;
-    push_advice(text, b"`, or `pause ", at, b"` if the operator may go on")
+    push_advice(
+        text,
+        b"`, or `pause ",
+        at,
+        b"` if the operator may continue",
+    )
 }
 
 /// Adds the line of a step that leaves the running routine's body, or is at no instruction.
@@ -331,11 +336,11 @@ fn push_stray<L: Lines, D: Allocator>(
         text,
         b"the word ",
         cpu.memory.get(cpu.pc),
-        b" is no instruction of the declared machine",
+        b" is not an instruction of the declared machine",
     )
 }
 
-/// Adds the lines that say what a memory reference does that its rule doesn't allow.
+/// Adds the lines that say what a memory reference does that its rule does not allow.
 fn push_reference<L: Lines, D: Allocator>(
     text: &mut L,
     declaration: &Declaration<D>,
@@ -354,7 +359,7 @@ fn push_reference<L: Lines, D: Allocator>(
     }
 }
 
-/// Adds the lines that say what the step does that its rule doesn't allow.
+/// Adds the lines that say what the step does that its rule does not allow.
 fn push_act<L: Lines, D: Allocator>(
     text: &mut L,
     declaration: &Declaration<D>,
@@ -365,7 +370,7 @@ fn push_act<L: Lines, D: Allocator>(
     match rule {
         Rule::StaysInBody => push_stray(text, declaration, calls, cpu),
         Rule::HaltsDeclared => push_no_halt(text, cpu.pc),
-        Rule::KeepsCode => push_line(text, b"the word at ", cpu.pc, b" isn't the tape's"),
+        Rule::KeepsCode => push_line(text, b"the word at ", cpu.pc, b" is not that of the tape"),
         Rule::WritesDeclared | Rule::CallsEntries | Rule::ReturnsToItsCall | Rule::ReadsListed =>
             push_reference(text, declaration, calls, cpu, rule),
     }
@@ -374,11 +379,11 @@ fn push_act<L: Lines, D: Allocator>(
 /// Adds the line of the routine that runs, and where it was called from.
 fn push_running<L: Lines>(text: &mut L, calls: &[Call]) -> Result<(), AllocError> {
     match calls.last() {
-        None => text.push_text(b"the main program runs\n"),
+        None => text.push_text(b"the main program is running\n"),
         Some(call) => {
             push_text_and_address(text, b"the routine ", call.entry)?;
             let site = call.after.add(Word::from_index(0o7777));
-            push_line(text, b" runs, called at ", site, b"")
+            push_line(text, b" is running, called at ", site, b"")
         }
     }
 }
@@ -415,8 +420,8 @@ fn push_origin<L: Lines>(
     text.push_instruction(executed.at, Some(executed.word), profile)
 }
 
-/// What a step that breaks a rule is about to do: the instruction with its address, what the rule asks,
-/// what the step does in place of it, where control came from, and the routine that runs.
+/// What a step that violates a rule is about to do: the instruction with its address, what the rule asks, what the
+/// step does in place of it, where control came from, and the routine that runs.
 fn lines_of<A: Allocator + Copy, D: Allocator, C: Allocator>(
     alloc: A,
     declaration: &Declaration<D>,
@@ -436,8 +441,8 @@ fn lines_of<A: Allocator + Copy, D: Allocator, C: Allocator>(
     Ok(text)
 }
 
-/// The lines behind the verdict of a watched run: what the step is about to do that breaks a rule. There
-/// are none where they aren't asked for, or no rule is broken.
+/// The lines after the verdict of a watched run: what the step is about to do that violates a rule. There are none if
+/// they are not asked for, or no rule is violated.
 pub fn breach_lines<A: Allocator + Copy, D: Allocator>(
     alloc: A,
     image: &Image,

@@ -103,7 +103,7 @@ fn refuse<R: Print + Eprint>(rt: &R, refused: Refused) -> Status {
         Refused::Switches(fault) => { eprintln!(rt; "error: bad value for '--switches': {fault}") }
         Refused::NoOperand(name) => eprintln!(rt; "error: the operand {name} is missing"),
         Refused::Steps(most) => eprintln!(rt;
-            "error: bad value for '--steps': it is a number from 1 to {most}"
+            "error: bad value for '--steps': expected a number from 1 to {most}"
         ),
     };
     match told {
@@ -164,7 +164,9 @@ fn explain_code<R: Print + Eprint>(
         None => push_codes(&mut text)?,
         Some(code) => {
             if !push_explanations(&mut text, code)? {
-                let told = eprintln!(rt; "error: no code is '{code}': 'pdp8 explain' lists all");
+                let told = eprintln!(rt;
+                    "error: unknown code '{code}': 'pdp8 explain' lists all codes"
+                );
                 return match told {
                     Ok(()) | Err(_) => Ok(Status::Usage),
                 };

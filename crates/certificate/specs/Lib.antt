@@ -18,3 +18,4 @@ pub mod Exact
 pub mod Spelled
 pub mod Made
 pub mod Adding
+pub mod Sums

@@ -4,3 +4,4 @@ pub mod Tracking
 pub mod Changes
 pub mod Same
 pub mod Meaning
+pub mod Sums

@@ -7,3 +7,4 @@ pub mod Places
 pub mod Slots
 pub mod Access
 pub mod Knowing
+pub mod Sums

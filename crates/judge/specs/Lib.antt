@@ -7,3 +7,4 @@ pub mod Pages
 pub mod Spots
 pub mod Certifying
 pub mod Laws
+pub mod Sums

@@ -1,0 +1,117 @@
+-- What is to be proved of narrowing, of what facts say of sums, of outcomes, entailment, landing and calls.
+use Rattle.std.specs.Prelude.{◌≡◌, ℕ, ◌<◌, true, false, ◌⊎◌, Some, List, [], ◌∷◌}
+use Rattle.wordset.specs.Words.{Words}
+use Rattle.processor.specs.Cells.{Cells, AreWords}
+use Rattle.processor.specs.Machine.{State, Answer, instruction, Step}
+use Rattle.processor.specs.Runs.{Image}
+use Rattle.declaration.specs.Declaration.{IsDeclared}
+use Rattle.policy.specs.Calls.{Calls}
+use Rattle.policy.specs.Runs.{GoesOn}
+use Rattle.domain.specs.Facts.{Location, Values, values, KeepsRest, has_cell}
+use Rattle.domain.specs.Sums.Terms.{Sum, sum_value}
+use Rattle.domain.specs.Sums.Facts.{Fact, Place, Rules, Holds, Means, SomeMeans, Relation, IsTrueOf}
+use Rattle.domain.specs.Sums.Adding.{adding, is_void}
+use Rattle.domain.specs.Sums.Knowing.{said_of}
+use Rattle.domain.specs.Sums.Narrowing.{narrowed}
+use Rattle.domain.specs.Sums.Moves.{joined}
+use Rattle.facts.specs.Law.{IsState, TopIsEntry, IsOrdinary}
+use Rattle.facts.specs.Sums.Conditions.{WritesAreDeclared, EntriesAreKept}
+use Rattle.facts.specs.Sums.Outcomes.{Successor, Goes, CallsTo, Returns}
+use Rattle.facts.specs.Sums.Operations.{outcomes_of}
+use Rattle.facts.specs.Sums.Entailment.{Entails, Lands, IsIdle}
+
+-- The tape's words stood in memory at the start.
+pub record IsBegun (image : Image) (start : Cells) : Type 0 where
+  pub words : AreWords start
+  pub loaded : (a w : ℕ) → image a ≡ Some w → start a ≡ w
+
+-- The words of names are words.
+abbrev pub AreValues : Values → Type 0
+AreValues v = (n : Location) → v n < 4096
+
+-- What a fact says of a sum is so wherever the fact holds.
+abbrev pub SaidIsSo : Type 0
+SaidIsSo =
+    (image : Image) (start : Cells) (f : Fact) (v : Values) (link : ℕ) (sum : Sum) →
+    IsBegun image start → AreValues v → Holds f v start link → said_of image f sum (sum_value v start sum) ≡ true
+
+-- Where a fact holds and a relation is true, the fact holds to which the relation is added.
+abbrev pub AddedIsSo : Type 0
+AddedIsSo =
+    (rules : Rules) (start : Cells) (f : Fact) (v : Values) (link : ℕ) (r : Relation) →
+    AreWords start → AreValues v → Holds f v start link → IsTrueOf v start r → Holds (adding rules r f) v start link
+
+-- A narrowed fact holds wherever the fact holds.
+abbrev pub NarrowedHolds : Type 0
+NarrowedHolds =
+    (pl : Place) (start : Cells) (f : Fact) (s : State) (ks : Calls) →
+    IsBegun pl.image start → IsState s → Means pl start f s ks → Means pl start (narrowed pl.image f) s ks
+
+-- A void fact never holds.
+abbrev pub VoidNeverHolds : Type 0
+VoidNeverHolds =
+    (pl : Place) (start : Cells) (f : Fact) (s : State) (ks : Calls) →
+    AreWords start → IsState s → is_void f ≡ true → Means pl start f s ks → ⊥
+
+-- A state is at one of an outcome's addresses, and its fact holds, of the same call list.
+abbrev pub LandsIn : Place → Cells → State → Calls → Successor → Type 0
+LandsIn pl start t ks (Goes next f) = (next t.pc ≡ true) × Means pl start f t ks
+LandsIn pl start t ks (CallsTo next f) = ⊥
+LandsIn pl start t ks (Returns f) = ⊥
+
+-- Some outcome of the list has the property.
+abbrev pub SomeOutcome : (Successor → Type 0) → List Successor → Type 0
+SomeOutcome p [] = ⊥
+SomeOutcome p (o ∷ os) = p o ⊎ SomeOutcome p os
+
+-- From a state of a fact, a step by the word at the program counter, whose writes are as asked, lands in an outcome; a JMS,
+-- a return and a HLT that isn't at a pause apart. By the rules of sums f is any fact that holds, and so the narrowed one too.
+abbrev pub StepLaw : Type 0
+StepLaw =
+    (pl : Place) (start : Cells) (f : Fact) (s t : State) (q : Answer) (ks : Calls) →
+    IsDeclared pl.declaration → IsBegun pl.image start → IsState s → TopIsEntry pl.declaration ks →
+    Means pl start f s ks →
+    WritesAreDeclared pl f (instruction pl.declaration.profile s) →
+    EntriesAreKept pl f (instruction pl.declaration.profile s) →
+    GoesOn pl.declaration (instruction pl.declaration.profile s) s.pc →
+    IsOrdinary pl.declaration (instruction pl.declaration.profile s) →
+    Step pl.declaration.profile s q t →
+    SomeOutcome (LandsIn pl start t ks) (outcomes_of pl f s.pc (instruction pl.declaration.profile s))
+
+-- A fact holds of each state of a fact that entails it.
+abbrev pub EntailedFactsHold : Type 0
+EntailedFactsHold =
+    (pl : Place) (start : Cells) (f g : Fact) (s : State) (ks : Calls) →
+    IsBegun pl.image start → IsState s → Entails pl f g → Means pl start f s ks → Means pl start g s ks
+
+-- One of the facts among which a fact lands holds of each state of the fact.
+abbrev pub OneLandedHolds : Type 0
+OneLandedHolds =
+    (pl : Place) (start : Cells) (f : Fact) (among : List Fact) (s : State) (ks : Calls) →
+    IsBegun pl.image start → IsState s → Lands pl f among → Means pl start f s ks → SomeMeans pl start among s ks
+
+-- A fact of which nothing need be asked never holds.
+abbrev pub IdleNeverHolds : Type 0
+IdleNeverHolds =
+    (pl : Place) (start : Cells) (f : Fact) (s : State) (ks : Calls) →
+    IsBegun pl.image start → IsState s → IsIdle pl.rules pl f → Means pl start f s ks → ⊥
+
+-- Every cell outside the written set holds what it held.
+abbrev pub KeepsOutside : Words → Cells → Cells → Type 0
+KeepsOutside written before after = (a : ℕ) → has_cell written a ≡ false → after a ≡ before a
+
+-- The running routine's return word is what it was.
+abbrev pub KeepsReturns : Calls → Cells → Cells → Type 0
+KeepsReturns [] before after = Unit {0}
+KeepsReturns (k ∷ ks) before after = after k.entry ≡ before k.entry
+
+-- After a call, what is joined holds: the call was made from a state of one fact, the exit holds where its routine returns, in the
+-- calls that were open at the JMS, and what the callee doesn't write is as it was. The exit's own sites and offsets were those of
+-- the call that has ended, so it's asked only what it says of registers, cells and sums.
+abbrev pub JoinedHolds : Type 0
+JoinedHolds =
+    (pl : Place) (start : Cells) (call exit : Fact) (written : Words) (s t : State) (ks : Calls) →
+    IsBegun pl.image start → IsState s → IsState t → Means pl start call s ks →
+    Holds exit (values pl.declaration start t.ac t.memory) start t.link → exit.mq t.mq ≡ true → exit.link t.link ≡ true →
+    KeepsRest pl.declaration start t.memory → KeepsOutside written s.memory t.memory → KeepsReturns ks s.memory t.memory →
+    Means pl start (joined pl.rules call exit written) t ks

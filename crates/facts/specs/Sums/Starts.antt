@@ -1,0 +1,37 @@
+-- The fact of all starts, and that landing of it is asked rightly.
+use Rattle.std.specs.Prelude.{◌≡◌, None, List, []}
+use Rattle.wordset.specs.Words.{Words, all_words, all_links, nothing}
+use Rattle.processor.specs.Machine.{State}
+use Rattle.processor.specs.Runs.{Image, IsStart}
+use Rattle.domain.specs.Facts.{Location, Ac, Cell, tape_word}
+use Rattle.domain.specs.Sums.Facts.{Fact, Place, Means, SomeMeans}
+use Rattle.facts.specs.Sums.Entailment.{Lands}
+
+-- At a start a cell on the tape holds its word; the accumulator and any other cell may hold any word.
+abbrev pub words_at_start : Image → Location → Words
+words_at_start image Ac = all_words
+words_at_start image (Cell a) = tape_word (image a)
+
+-- The fact of all starts: AC, MQ and the link are any, each cell on the tape holds its word, and no routine was called.
+abbrev pub start_fact : Image → Fact
+start_fact image = record {
+  set = words_at_start image;
+  relations = [];
+  chains = [];
+  mq = all_words;
+  link = all_links;
+  sites = nothing;
+  offsets = nothing;
+}
+
+-- The fact of all starts holds of every start of the machine in main, with no call open.
+abbrev pub StartFactHolds : Type 0
+StartFactHolds =
+    (pl : Place) (s : State) → pl.routine ≡ None → IsStart pl.image pl.declaration.start s →
+    Means pl s.memory (start_fact pl.image) s []
+
+-- Where it lands among facts, one of them holds of every start.
+abbrev pub StartsLand : Type 0
+StartsLand =
+    (pl : Place) (among : List Fact) (s : State) → pl.routine ≡ None → Lands pl (start_fact pl.image) among →
+    IsStart pl.image pl.declaration.start s → SomeMeans pl s.memory among s []

@@ -1,0 +1,5 @@
+-- The conditions on certificates whose facts have sums, of which those with equations are a special case.
+pub mod Landing
+pub mod Conditions
+pub mod Laws
+pub mod Equations

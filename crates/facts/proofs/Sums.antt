@@ -1,0 +1,5 @@
+-- Lemmas on facts with sums.
+pub mod EntailedLemmas
+pub mod LandedLemmas
+pub mod JoinedLemmas
+pub mod StartedLemmas

@@ -3,3 +3,5 @@ pub mod EntailedLemmas
 pub mod LandedLemmas
 pub mod JoinedLemmas
 pub mod StartedLemmas
+pub mod TargetLemmas
+pub mod AllLaws

@@ -12,9 +12,10 @@ use Rattle.domain.specs.Sums.Chains.{Chain, gives}
 use Rattle.domain.specs.Sums.Facts.{Relation, Fact, Rules, OfEquations, OfSums, Place, IsTrueOf, AllTrue, IsGiven, AllGiven, Holds, last_site, StandsIn, OwnWord, Means}
 use Rattle.domain.specs.Sums.Knowing.{said_of}
 use Rattle.domain.specs.Sums.Narrowing.{words_by, words_known}
+use Rattle.domain.specs.Sums.Laws.{IsBegun, AreValues, SaidIsSo, NarrowedHolds}
 use Rattle.facts.specs.Law.{IsState}
 use Rattle.facts.specs.Sums.Entailment.{Among, ShowsDifference, KnowsBy, KnowsAll, EachGives, ShowsChain, ShowsChains, Entails}
-use Rattle.facts.specs.Sums.Laws.{IsBegun, AreValues, SaidIsSo, NarrowedHolds, EntailedFactsHold}
+use Rattle.facts.specs.Sums.Laws.{EntailedFactsHold}
 use Rattle.facts.proofs.Numbers.{plus_lt, if_below}
 
 -- what names and sums stand for are words
@@ -39,7 +40,7 @@ known_true narrowed_holds pl start f s ks begun ss h n = go pl.rules
   where
     go : (r : Rules) → words_by r pl.image f n (values pl.declaration start s.ac s.memory n) ≡ true
     go OfSums = h.holds.sets n
-    go OfEquations = (narrowed_holds pl start f s ks begun ss h).holds.sets n
+    go OfEquations = (narrowed_holds pl start f s ks begun ss.words ss.ac ss.link h).holds.sets n
 
 -- relations
 among_true : (v : Values) (start : Cells) (r : Relation) (gs : List Relation) → AllTrue v start gs → Among r gs → IsTrueOf v start r

@@ -14,8 +14,9 @@ use Rattle.domain.specs.Sums.Shapes.{Spelled, spelled}
 use Rattle.domain.specs.Sums.Facts.{Relation, Fact, Rules, OfEquations, OfSums, Place, IsTrueOf, AllTrue, Holds, StandsIn, OwnWord, Means}
 use Rattle.domain.specs.Sums.Adding.{times, with_term_in, is_kept, with_relation, with_shape_in, with_spelled_in, adding, adding_all}
 use Rattle.domain.specs.Sums.Moves.{outside, words_outside, joined_relations, joined}
+use Rattle.domain.specs.Sums.Laws.{IsBegun, AreValues, AddedIsSo}
 use Rattle.facts.specs.Law.{IsState}
-use Rattle.facts.specs.Sums.Laws.{IsBegun, AreValues, AddedIsSo, KeepsOutside, KeepsReturns, JoinedHolds}
+use Rattle.facts.specs.Sums.Laws.{KeepsOutside, KeepsReturns, JoinedHolds}
 use Rattle.facts.proofs.Sums.EntailedLemmas.{values_are}
 
 -- adding leaves MQ and the link

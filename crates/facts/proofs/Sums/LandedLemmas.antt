@@ -9,9 +9,10 @@ use Rattle.domain.specs.Facts.{Location, Values, values, same}
 use Rattle.domain.specs.Sums.Facts.{Fact, Rules, OfEquations, OfSums, Place, Means, SomeMeans}
 use Rattle.domain.specs.Sums.Adding.{with_set, with_name}
 use Rattle.domain.specs.Sums.Narrowing.{narrowed}
+use Rattle.domain.specs.Sums.Laws.{IsBegun, NarrowedHolds, VoidNeverHolds}
 use Rattle.facts.specs.Law.{IsState}
 use Rattle.facts.specs.Sums.Entailment.{Entails, EntailsOne, met_at, TakesWord, IsSplit, PartLands, with_one_link, LandsBy, Lands, IsIdle}
-use Rattle.facts.specs.Sums.Laws.{IsBegun, NarrowedHolds, VoidNeverHolds, EntailedFactsHold, OneLandedHolds, IdleNeverHolds}
+use Rattle.facts.specs.Sums.Laws.{EntailedFactsHold, OneLandedHolds, IdleNeverHolds}
 use Rattle.facts.proofs.Laws.{same_true}
 use Rattle.facts.proofs.Sums.EntailedLemmas.{values_are}
 
@@ -22,7 +23,7 @@ module _ (narrowed_holds : NarrowedHolds) (void_never : VoidNeverHolds) (entaile
 
   -- the part of a fact that another one's set of a name leaves
   met_means : (n : Location) (a b : Fact) → Means pl start a s ks → b.set n (values pl.declaration start s.ac s.memory n) ≡ true → Means pl start (met_at pl n a b) s ks
-  met_means n a b h has = narrowed_holds pl start (with_name n (meet (a.set n) (b.set n)) a) s ks begun ss (record {
+  met_means n a b h has = narrowed_holds pl start (with_name n (meet (a.set n) (b.set n)) a) s ks begun ss.words ss.ac ss.link (record {
     holds = record {
       sets = λ m. cond_both (same m n) (meet (a.set n) (b.set n)) (a.set m) (λ (chosen : Words). chosen (v m) ≡ true)
           (λ e. let l : m ≡ n = same_true m n e in rw l (and_from _ _ (h.holds.sets n) has))
@@ -44,7 +45,7 @@ module _ (narrowed_holds : NarrowedHolds) (void_never : VoidNeverHolds) (entaile
   some_taken n a [] t h = absurd t
   some_taken n a (b ∷ bs) t h = elim t [
     | inl x ↦ (let part : Means pl start (met_at pl n a b) s ks = met_means n a b h x.0 in elim x.1 [
-      | inl void ↦ absurd (void_never pl start (met_at pl n a b) s ks begun.words ss void part)
+      | inl void ↦ absurd (void_never pl start (met_at pl n a b) s ks begun.words ss.words ss.ac ss.link ss.mq void part)
       | inr en ↦ inl (entailed pl start (met_at pl n a b) b s ks begun ss en part)
     ])
     | inr x ↦ inr (some_taken n a bs x h)
@@ -52,7 +53,7 @@ module _ (narrowed_holds : NarrowedHolds) (void_never : VoidNeverHolds) (entaile
 
   part_landed : (a : Fact) (among : List Fact) → PartLands pl a among → Means pl start a s ks → SomeMeans pl start among s ks
   part_landed a among lands h = elim lands [
-    | inl void ↦ absurd (void_never pl start a s ks begun.words ss void h)
+    | inl void ↦ absurd (void_never pl start a s ks begun.words ss.words ss.ac ss.link ss.mq void h)
     | inr more ↦ elim more [
       | inl en ↦ some_entailed a among en h
       | inr split ↦ some_taken split.0 a among (split.1 (values pl.declaration start s.ac s.memory split.0) (values_are pl.declaration start s begun.words ss split.0) (h.holds.sets split.0)) h
@@ -61,7 +62,7 @@ module _ (narrowed_holds : NarrowedHolds) (void_never : VoidNeverHolds) (entaile
 
   -- the part of the fact under the link that there is
   one_link_means : (f : Fact) → Means pl start f s ks → Means pl start (with_one_link pl s.link f) s ks
-  one_link_means f h = narrowed_holds pl start (record f { link = one s.link }) s ks begun ss (record {
+  one_link_means f h = narrowed_holds pl start (record f { link = one s.link }) s ks begun ss.words ss.ac ss.link (record {
     holds = record { sets = h.holds.sets; relations = h.holds.relations; chains = h.holds.chains };
     mq = h.mq;
     link = eq-eqb s.link s.link refl;
@@ -75,7 +76,7 @@ module _ (narrowed_holds : NarrowedHolds) (void_never : VoidNeverHolds) (entaile
   landed_by OfEquations f among lands h = some_entailed f among lands h
 
   idle_never : (rules : Rules) (f : Fact) → IsIdle rules pl f → Means pl start f s ks → ⊥
-  idle_never OfSums f idle h = void_never pl start (with_one_link pl s.link f) s ks begun.words ss (idle s.link ss.link h.link) (one_link_means f h)
+  idle_never OfSums f idle h = void_never pl start (with_one_link pl s.link f) s ks begun.words ss.words ss.ac ss.link ss.mq (idle s.link ss.link h.link) (one_link_means f h)
   idle_never OfEquations f idle h = idle
 
 -- The laws.

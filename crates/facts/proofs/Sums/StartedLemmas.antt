@@ -8,14 +8,15 @@ use Rattle.processor.specs.Runs.{IsStart}
 use Rattle.policy.specs.Calls.{Calls}
 use Rattle.domain.specs.Facts.{Location, Ac, Cell, values, tape_word}
 use Rattle.domain.specs.Sums.Facts.{Fact, Place, Means, SomeMeans}
+use Rattle.domain.specs.Sums.Laws.{IsBegun}
 use Rattle.facts.specs.Law.{IsState}
-use Rattle.facts.specs.Sums.Laws.{IsBegun, OneLandedHolds}
+use Rattle.facts.specs.Sums.Laws.{OneLandedHolds}
 use Rattle.facts.specs.Sums.Starts.{words_at_start, start_fact, StartFactHolds, StartsLand}
 
 pub start_is_begun : (pl : Place) (at : ℕ) (s : State) → IsStart pl.image at s → IsBegun pl.image s.memory
 start_is_begun pl at s start = record { words = start.words; loaded = start.loaded }
 
-tape_true : (o : Option ℕ) (x : ℕ) → x < 4096 → ((w : ℕ) → o ≡ Some w → x ≡ w) → tape_word o x ≡ true
+pub tape_true : (o : Option ℕ) (x : ℕ) → x < 4096 → ((w : ℕ) → o ≡ Some w → x ≡ w) → tape_word o x ≡ true
 tape_true None x lt h = lt-ltb x 4096 lt
 tape_true (Some w) x lt h = eq-eqb x w (h w refl)
 

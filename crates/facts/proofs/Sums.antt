@@ -4,4 +4,3 @@ pub mod LandedLemmas
 pub mod JoinedLemmas
 pub mod StartedLemmas
 pub mod TargetLemmas
-pub mod AllLaws

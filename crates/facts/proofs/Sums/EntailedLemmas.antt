@@ -11,21 +11,18 @@ use Rattle.domain.specs.Sums.Terms.{Sum, sum_value, difference_of}
 use Rattle.domain.specs.Sums.Chains.{Chain, gives}
 use Rattle.domain.specs.Sums.Facts.{Relation, Fact, Rules, OfEquations, OfSums, Place, IsTrueOf, AllTrue, IsGiven, AllGiven, Holds, last_site, StandsIn, OwnWord, Means}
 use Rattle.domain.specs.Sums.Knowing.{said_of}
-use Rattle.domain.specs.Sums.Narrowing.{words_by, words_known}
-use Rattle.domain.specs.Sums.Laws.{IsBegun, AreValues, SaidIsSo, NarrowedHolds}
+use Rattle.domain.specs.Sums.Narrowing.{words_known}
+use Rattle.domain.specs.Sums.Laws.{IsBegun, AreValues}
+use Rattle.domain.proofs.Sums.SumLemmas.{val_lt}
+use Rattle.domain.proofs.Sums.KnowingLemmas.{said_is_so}
+use Rattle.domain.proofs.Sums.NarrowingLemmas.{values_are, known_is_so}
 use Rattle.facts.specs.Law.{IsState}
 use Rattle.facts.specs.Sums.Entailment.{Among, ShowsDifference, KnowsBy, KnowsAll, EachGives, ShowsChain, ShowsChains, Entails}
 use Rattle.facts.specs.Sums.Laws.{EntailedFactsHold}
-use Rattle.facts.proofs.Numbers.{plus_lt, if_below}
 
--- what names and sums stand for are words
-pub sum_word : (v : Values) (start : Cells) (sum : Sum) → sum_value v start sum < 4096
-sum_word v start [] = lit< tt
-sum_word v start (s ∷ ss) = plus_lt _ _
-
-pub values_are : (d : Declaration) (start : Cells) (s : State) → AreWords start → IsState s → AreValues (values d start s.ac s.memory)
-values_are d start s sw ss Ac = ss.ac
-values_are d start s sw ss (Cell a) = if_below (d.variable a) _ _ _ (ss.words a) (sw a)
+-- what names stand for are words
+pub names_words : (d : Declaration) (start : Cells) (s : State) → AreWords start → IsState s → AreValues (values d start s.ac s.memory)
+names_words d start s sw ss = values_are d start s.ac s.memory sw ss.words ss.ac
 
 difference_number : (a b : ℕ) → a < 4096 → b < 4096 → plus (1 * a) (plus (4095 * b) 0) ≡ minus a b
 difference_number a b la lb = omega arith
@@ -34,19 +31,16 @@ pub difference_value : (v : Values) (start : Cells) (m n : Location) → AreValu
 difference_value v start m n ws = difference_number (v m) (v n) (ws m) (ws n)
 
 -- what is known of a fact that holds
-pub known_true : NarrowedHolds → (pl : Place) (start : Cells) (f : Fact) (s : State) (ks : Calls) → IsBegun pl.image start → IsState s →
+pub known_true : (pl : Place) (start : Cells) (f : Fact) (s : State) (ks : Calls) → IsBegun pl.image start → IsState s →
     Means pl start f s ks → (n : Location) → words_known pl f n (values pl.declaration start s.ac s.memory n) ≡ true
-known_true narrowed_holds pl start f s ks begun ss h n = go pl.rules
-  where
-    go : (r : Rules) → words_by r pl.image f n (values pl.declaration start s.ac s.memory n) ≡ true
-    go OfSums = h.holds.sets n
-    go OfEquations = (narrowed_holds pl start f s ks begun ss.words ss.ac ss.link h).holds.sets n
+known_true pl start f s ks begun ss h n =
+    known_is_so pl.rules pl.image start f (values pl.declaration start s.ac s.memory) s.link n begun (names_words pl.declaration start s begun.words ss) ss.link h.link h.holds
 
 -- relations
 among_true : (v : Values) (start : Cells) (r : Relation) (gs : List Relation) → AllTrue v start gs → Among r gs → IsTrueOf v start r
 among_true v start r [] t m = absurd m
 among_true v start r (g ∷ gs) t m = elim m [
-  | inl q ↦ sym (q.1 (sum_value v start r.sum) (sum_word v start r.sum)) ∙ subst (λ x. g.set (sum_value v start x) ≡ true) q.0 t.0
+  | inl q ↦ sym (q.1 (sum_value v start r.sum) (val_lt v start r.sum)) ∙ subst (λ x. g.set (sum_value v start x) ≡ true) q.0 t.0
   | inr q ↦ among_true v start r gs t.1 q
 ]
 
@@ -64,7 +58,7 @@ module _ (pl : Place) (start : Cells) (f : Fact) (v : Values) (ws : AreValues v)
   known_by link h said r = go pl.rules
     where
       go : (rules : Rules) → KnowsBy rules pl f r → IsTrueOf v start r
-      go OfSums k = k (sum_value v start r.sum) (sum_word v start r.sum) (said r.sum)
+      go OfSums k = k (sum_value v start r.sum) (val_lt v start r.sum) (said r.sum)
       go OfEquations k = elim k [ inl m ↦ among_true v start r f.relations h.relations m | inr d ↦ shown_true r d ]
 
   known_all : (link : ℕ) → Holds f v start link → ((sum : Sum) → said_of pl.image f sum (sum_value v start sum) ≡ true) → (rs : List Relation) → KnowsAll pl f rs → AllTrue v start rs
@@ -100,11 +94,11 @@ own_like f g m [] h o = tt
 own_like f g m (k ∷ ks) h o = (o.0, o.1, h o.0 o.1 o.2, o.3)
 
 -- The law.
-pub entailed_facts_hold : SaidIsSo → NarrowedHolds → EntailedFactsHold
-entailed_facts_hold said_is_so narrowed_holds pl start f g s ks begun ss en h =
+pub entailed_facts_hold : EntailedFactsHold
+entailed_facts_hold pl start f g s ks begun ss en h =
     let v : Values = values pl.declaration start s.ac s.memory in
-    let ws : AreValues v = values_are pl.declaration start s begun.words ss in
-    let known : (n : Location) → words_known pl f n (v n) ≡ true = known_true narrowed_holds pl start f s ks begun ss h in
+    let ws : AreValues v = names_words pl.declaration start s begun.words ss in
+    let known : (n : Location) → words_known pl f n (v n) ≡ true = known_true pl start f s ks begun ss h in
     record {
       holds = record {
         sets = λ n. en.sets n (v n) (ws n) (known n);

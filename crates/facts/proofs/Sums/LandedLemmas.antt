@@ -9,17 +9,18 @@ use Rattle.domain.specs.Facts.{Location, Values, values, same}
 use Rattle.domain.specs.Sums.Facts.{Fact, Rules, OfEquations, OfSums, Place, Means, SomeMeans}
 use Rattle.domain.specs.Sums.Adding.{with_set, with_name}
 use Rattle.domain.specs.Sums.Narrowing.{narrowed}
-use Rattle.domain.specs.Sums.Laws.{IsBegun, NarrowedHolds, VoidNeverHolds}
+use Rattle.domain.specs.Sums.Laws.{IsBegun}
+use Rattle.domain.proofs.Sums.NarrowingLemmas.{narrowed_holds, void_never_holds}
 use Rattle.facts.specs.Law.{IsState}
 use Rattle.facts.specs.Sums.Entailment.{Entails, EntailsOne, met_at, TakesWord, IsSplit, PartLands, with_one_link, LandsBy, Lands, IsIdle}
-use Rattle.facts.specs.Sums.Laws.{EntailedFactsHold, OneLandedHolds, IdleNeverHolds}
+use Rattle.facts.specs.Sums.Laws.{OneLandedHolds, IdleNeverHolds}
 use Rattle.facts.proofs.Laws.{same_true}
-use Rattle.facts.proofs.Sums.EntailedLemmas.{values_are}
+use Rattle.facts.proofs.Sums.EntailedLemmas.{names_words, entailed_facts_hold}
 
-module _ (narrowed_holds : NarrowedHolds) (void_never : VoidNeverHolds) (entailed : EntailedFactsHold) (pl : Place) (start : Cells) (begun : IsBegun pl.image start) (s : State) (ss : IsState s) (ks : Calls) where
+module _ (pl : Place) (start : Cells) (begun : IsBegun pl.image start) (s : State) (ss : IsState s) (ks : Calls) where
   some_entailed : (a : Fact) (among : List Fact) → EntailsOne pl a among → Means pl start a s ks → SomeMeans pl start among s ks
   some_entailed a [] en h = absurd en
-  some_entailed a (b ∷ bs) en h = elim en [ inl e ↦ inl (entailed pl start a b s ks begun ss e h) | inr e ↦ inr (some_entailed a bs e h) ]
+  some_entailed a (b ∷ bs) en h = elim en [ inl e ↦ inl (entailed_facts_hold pl start a b s ks begun ss e h) | inr e ↦ inr (some_entailed a bs e h) ]
 
   -- the part of a fact that another one's set of a name leaves
   met_means : (n : Location) (a b : Fact) → Means pl start a s ks → b.set n (values pl.declaration start s.ac s.memory n) ≡ true → Means pl start (met_at pl n a b) s ks
@@ -45,18 +46,18 @@ module _ (narrowed_holds : NarrowedHolds) (void_never : VoidNeverHolds) (entaile
   some_taken n a [] t h = absurd t
   some_taken n a (b ∷ bs) t h = elim t [
     | inl x ↦ (let part : Means pl start (met_at pl n a b) s ks = met_means n a b h x.0 in elim x.1 [
-      | inl void ↦ absurd (void_never pl start (met_at pl n a b) s ks begun.words ss.words ss.ac ss.link ss.mq void part)
-      | inr en ↦ inl (entailed pl start (met_at pl n a b) b s ks begun ss en part)
+      | inl void ↦ absurd (void_never_holds pl start (met_at pl n a b) s ks begun.words ss.words ss.ac ss.link ss.mq void part)
+      | inr en ↦ inl (entailed_facts_hold pl start (met_at pl n a b) b s ks begun ss en part)
     ])
     | inr x ↦ inr (some_taken n a bs x h)
   ]
 
   part_landed : (a : Fact) (among : List Fact) → PartLands pl a among → Means pl start a s ks → SomeMeans pl start among s ks
   part_landed a among lands h = elim lands [
-    | inl void ↦ absurd (void_never pl start a s ks begun.words ss.words ss.ac ss.link ss.mq void h)
+    | inl void ↦ absurd (void_never_holds pl start a s ks begun.words ss.words ss.ac ss.link ss.mq void h)
     | inr more ↦ elim more [
       | inl en ↦ some_entailed a among en h
-      | inr split ↦ some_taken split.0 a among (split.1 (values pl.declaration start s.ac s.memory split.0) (values_are pl.declaration start s begun.words ss split.0) (h.holds.sets split.0)) h
+      | inr split ↦ some_taken split.0 a among (split.1 (values pl.declaration start s.ac s.memory split.0) (names_words pl.declaration start s begun.words ss split.0) (h.holds.sets split.0)) h
     ]
   ]
 
@@ -76,14 +77,12 @@ module _ (narrowed_holds : NarrowedHolds) (void_never : VoidNeverHolds) (entaile
   landed_by OfEquations f among lands h = some_entailed f among lands h
 
   idle_never : (rules : Rules) (f : Fact) → IsIdle rules pl f → Means pl start f s ks → ⊥
-  idle_never OfSums f idle h = void_never pl start (with_one_link pl s.link f) s ks begun.words ss.words ss.ac ss.link ss.mq (idle s.link ss.link h.link) (one_link_means f h)
+  idle_never OfSums f idle h = void_never_holds pl start (with_one_link pl s.link f) s ks begun.words ss.words ss.ac ss.link ss.mq (idle s.link ss.link h.link) (one_link_means f h)
   idle_never OfEquations f idle h = idle
 
 -- The laws.
-pub one_landed_holds : NarrowedHolds → VoidNeverHolds → EntailedFactsHold → OneLandedHolds
-one_landed_holds narrowed_holds void_never entailed pl start f among s ks begun ss lands h =
-    landed_by narrowed_holds void_never entailed pl start begun s ss ks pl.rules f among lands h
+pub one_landed_holds : OneLandedHolds
+one_landed_holds pl start f among s ks begun ss lands h = landed_by pl start begun s ss ks pl.rules f among lands h
 
-pub idle_never_holds : NarrowedHolds → VoidNeverHolds → EntailedFactsHold → IdleNeverHolds
-idle_never_holds narrowed_holds void_never entailed pl start f s ks begun ss idle h =
-    idle_never narrowed_holds void_never entailed pl start begun s ss ks pl.rules f idle h
+pub idle_never_holds : IdleNeverHolds
+idle_never_holds pl start f s ks begun ss idle h = idle_never pl start begun s ss ks pl.rules f idle h

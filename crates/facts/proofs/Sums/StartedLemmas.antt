@@ -10,8 +10,8 @@ use Rattle.domain.specs.Facts.{Location, Ac, Cell, values, tape_word}
 use Rattle.domain.specs.Sums.Facts.{Fact, Place, Means, SomeMeans}
 use Rattle.domain.specs.Sums.Laws.{IsBegun}
 use Rattle.facts.specs.Law.{IsState}
-use Rattle.facts.specs.Sums.Laws.{OneLandedHolds}
 use Rattle.facts.specs.Sums.Starts.{words_at_start, start_fact, StartFactHolds, StartsLand}
+use Rattle.facts.proofs.Sums.LandedLemmas.{one_landed_holds}
 
 pub start_is_begun : (pl : Place) (at : ℕ) (s : State) → IsStart pl.image at s → IsBegun pl.image s.memory
 start_is_begun pl at s start = record { words = start.words; loaded = start.loaded }
@@ -48,10 +48,10 @@ some_moved pl start pc s ks (f ∷ fs) h = elim h [
   | inr m ↦ inr (some_moved pl start pc s ks fs m)
 ]
 
-pub starts_land : OneLandedHolds → StartsLand
-starts_land landed pl among s main lands start =
+pub starts_land : StartsLand
+starts_land pl among s main lands start =
     let m : Means pl s.memory (start_fact pl.image) s [] = start_fact_holds pl s main start in
     some_moved pl s.memory 0 s [] among
-    (landed pl s.memory (start_fact pl.image) among (record s { pc = 0 }) [] (start_is_begun pl pl.declaration.start s start)
+    (one_landed_holds pl s.memory (start_fact pl.image) among (record s { pc = 0 }) [] (start_is_begun pl pl.declaration.start s start)
     (record { ac = start.ac; link = start.link; mq = start.mq; pc = lit< tt; words = start.words }) lands
     (record { holds = m.holds; mq = m.mq; link = m.link; rest = m.rest; stands = m.stands; own = m.own }))

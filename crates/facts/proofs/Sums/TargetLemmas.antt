@@ -10,7 +10,7 @@ use Rattle.domain.specs.Facts.{Cell, values, is_routine, tape_word}
 use Rattle.domain.specs.Sums.Facts.{Fact, Place, last_site, StandsIn, OwnWord, Means}
 use Rattle.domain.specs.Sums.Narrowing.{words_known}
 use Rattle.domain.specs.Sums.Moves.{counted}
-use Rattle.domain.specs.Sums.Laws.{IsBegun, NarrowedHolds}
+use Rattle.domain.specs.Sums.Laws.{IsBegun}
 use Rattle.facts.specs.Law.{IsState}
 use Rattle.facts.specs.Sums.References.{own_words, words_in, possible, stepped, targets}
 use Rattle.facts.proofs.Numbers.{minus_plus, plus_lt, some_from, shift_true}
@@ -18,12 +18,12 @@ use Rattle.facts.proofs.Cells.{updated_same, seen_place, value_of}
 use Rattle.facts.proofs.Sums.EntailedLemmas.{known_true}
 use Rattle.facts.proofs.Sums.StartedLemmas.{tape_true}
 
-module _ (narrowed_holds : NarrowedHolds) (pl : Place) (dd : IsDeclared pl.declaration) (start : Cells) (begun : IsBegun pl.image start) where
+module _ (pl : Place) (dd : IsDeclared pl.declaration) (start : Cells) (begun : IsBegun pl.image start) where
   -- a variable's word is one that is known
   variable_true : (f : Fact) (s : State) (ks : Calls) (a : ℕ) → IsState s → Means pl start f s ks → pl.declaration.variable a ≡ true → words_known pl f (Cell a) (s.memory a) ≡ true
   variable_true f s ks a ss h p =
       let v : values pl.declaration start s.ac s.memory (Cell a) ≡ s.memory a = value_of pl.declaration start s.ac s.memory a p in
-      rw v at (known_true narrowed_holds pl start f s ks begun ss h (Cell a))
+      rw v at (known_true pl start f s ks begun ss h (Cell a))
 
   own_true : (f : Fact) (s : State) (ks : Calls) (a : ℕ) → IsState s → StandsIn pl f ks → OwnWord f s.memory ks → is_routine pl.routine a ≡ true → own_words f (s.memory a) ≡ true
   own_true f s [] a ss st o e = absurd (false≢true (rw st at e))

@@ -18,7 +18,7 @@ use Rattle.facts.specs.declared.Condition.{Condition}
 use Rattle.facts.specs.declared.Condition.TheVariants.{V3, V4, V5, V6, V7, V8, V9, V10, V11, V12, V13, V14, V15}
 use Rattle.facts.specs.Sums.References.{possible}
 use Rattle.facts.proofs.Numbers.{or_left, or_right}
-use Rattle.facts.proofs.Sums.AllLaws.{FactLaws}
+use Rattle.domain.proofs.Sums.NarrowingLemmas.{narrowed_holds, void_never_holds}
 use Rattle.certificate.specs.Sums.Certificate.{has_any, claimed}
 use Rattle.judge.specs.Sums.Landing.{Case, place_in, with_sites, sited, sites_of, facts_in, asked, asked_at}
 use Rattle.judge.specs.Sums.Conditions.{EachFact, HoldsFor, HoldsForWords, HoldsForEach, IsValid}
@@ -45,26 +45,26 @@ one_of pl start (f ∷ fs) s ks h = elim h [
   | inr r ↦ (let o : OneOf pl start fs s ks = one_of pl start fs s ks r in record { fact = o.fact; among = inr o.among; means = o.means })
 ]
 
-asked_more : (laws : FactLaws) (pl : Place) (start : Cells) (f : Fact) (fs : List Fact) (s : State) (ks : Calls) → IsBegun pl.image start → IsState s →
+asked_more : (pl : Place) (start : Cells) (f : Fact) (fs : List Fact) (s : State) (ks : Calls) → IsBegun pl.image start → IsState s →
     (SomeMeans pl start fs s ks → SomeMeans pl start (asked OfSums pl.image fs) s ks) → SomeMeans pl start (f ∷ fs) s ks → SomeMeans pl start (asked OfSums pl.image (f ∷ fs)) s ks
-asked_more laws pl start f fs s ks begun ss more h = go (is_void (narrowed pl.image f)) refl
+asked_more pl start f fs s ks begun ss more h = go (is_void (narrowed pl.image f)) refl
   where
     go : (b : Bool) → is_void (narrowed pl.image f) ≡ b → SomeMeans pl start (if b then asked OfSums pl.image fs else narrowed pl.image f ∷ asked OfSums pl.image fs) s ks
     go true e = elim h [
-      | inl m ↦ absurd (laws.void pl start (narrowed pl.image f) s ks begun.words ss.words ss.ac ss.link ss.mq e (laws.narrowed pl start f s ks begun ss.words ss.ac ss.link m))
+      | inl m ↦ absurd (void_never_holds pl start (narrowed pl.image f) s ks begun.words ss.words ss.ac ss.link ss.mq e (narrowed_holds pl start f s ks begun ss.words ss.ac ss.link m))
       | inr r ↦ more r
     ]
     go false e = elim h [
-      | inl m ↦ inl (laws.narrowed pl start f s ks begun ss.words ss.ac ss.link m)
+      | inl m ↦ inl (narrowed_holds pl start f s ks begun ss.words ss.ac ss.link m)
       | inr r ↦ inr (more r)
     ]
 
 -- One of those holds of which conditions are asked.
-pub asked_means : (laws : FactLaws) (pl : Place) (start : Cells) (rules : Rules) (fs : List Fact) (s : State) (ks : Calls) → IsBegun pl.image start → IsState s →
+pub asked_means : (pl : Place) (start : Cells) (rules : Rules) (fs : List Fact) (s : State) (ks : Calls) → IsBegun pl.image start → IsState s →
     SomeMeans pl start fs s ks → SomeMeans pl start (asked rules pl.image fs) s ks
-asked_means laws pl start OfEquations fs s ks begun ss h = h
-asked_means laws pl start OfSums [] s ks begun ss h = absurd h
-asked_means laws pl start OfSums (f ∷ fs) s ks begun ss h = asked_more laws pl start f fs s ks begun ss (λ r. asked_means laws pl start OfSums fs s ks begun ss r) h
+asked_means pl start OfEquations fs s ks begun ss h = h
+asked_means pl start OfSums [] s ks begun ss h = absurd h
+asked_means pl start OfSums (f ∷ fs) s ks begun ss h = asked_more pl start f fs s ks begun ss (λ r. asked_means pl start OfSums fs s ks begun ss r) h
 
 -- So there is a line at the address.
 some_any : (pl : Place) (start : Cells) (rules : Rules) (sites : Words) (fs : List Fact) (s : State) (ks : Calls) → SomeMeans pl start (sited rules sites fs) s ks → has_any fs ≡ true

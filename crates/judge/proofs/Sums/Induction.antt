@@ -19,11 +19,12 @@ use Rattle.facts.specs.Sums.Outcomes.{Successor, Goes, CallsTo, Returns}
 use Rattle.facts.specs.Sums.Operations.{outcomes_of}
 use Rattle.facts.specs.Sums.Conditions.{may_write}
 use Rattle.facts.specs.Sums.Entailment.{IsIdle, Lands}
-use Rattle.facts.specs.Sums.Laws.{LandsIn, SomeOutcome, KeepsReturns}
+use Rattle.facts.specs.Sums.Laws.{LandsIn, SomeOutcome, KeepsReturns, StepLaw}
 use Rattle.facts.proofs.Numbers.{plus_lt, or_left, or_right}
 use Rattle.facts.proofs.Cells.{updated_same, updated_other, words_updated, hidden_values, rest_updated}
 use Rattle.facts.proofs.Covers.{NamesWord, meaning_names, step_state}
-use Rattle.facts.proofs.Sums.AllLaws.{FactLaws, landed_by, idle_by, joined_by}
+use Rattle.facts.proofs.Sums.JoinedLemmas.{joined_holds}
+use Rattle.facts.proofs.Sums.LandedLemmas.{one_landed_holds, idle_never_holds}
 use Rattle.facts.proofs.Sums.TargetLemmas.{Accessed, accessed, pointer_written, possible_true}
 use Rattle.judge.specs.Sums.Landing.{Case, place_in, facts_in, exits_of, asked_at, LandsAt, SuccessorLands, EachSuccessor, called_from, EachLandsAfter, LandsAfter}
 use Rattle.judge.specs.Sums.Conditions.{IsLower, CoversCallee, MayCall, MayReturn, IsSite, IsValid}
@@ -34,7 +35,7 @@ last_word : (rules : Rules) → last_site rules ≤ 4094
 last_word OfEquations = lit≤ tt
 last_word OfSums = lit≤ tt
 
-module _ (laws : FactLaws) (j : Case) (dd : IsDeclared j.declaration) (valid : IsValid j) (start : Cells) (begun : IsBegun j.image start) where
+module _ (step_law : StepLaw) (j : Case) (dd : IsDeclared j.declaration) (valid : IsValid j) (start : Cells) (begun : IsBegun j.image start) where
   pub record Invariant (s : State) (ks : Calls) : Type 0 where
     pub state : IsState s
     pub inside : j.declaration.body (current ks) s.pc ≡ true
@@ -48,16 +49,16 @@ module _ (laws : FactLaws) (j : Case) (dd : IsDeclared j.declaration) (valid : I
   pub held : (s : State) (ks : Calls) → Invariant s ks → Held s ks
   held s ks inv =
       one_of (place_in j (current ks)) start (asked_at j (current ks) s.pc) s ks
-      (asked_means laws (place_in j (current ks)) start j.certificate.rules (facts_in j (current ks) s.pc) s ks begun inv.state inv.means)
+      (asked_means (place_in j (current ks)) start j.certificate.rules (facts_in j (current ks) s.pc) s ks begun inv.state inv.means)
 
   -- arrival
   pub landed : (r : Routine) (g : Fact) (t : State) (ks : Calls) → r ≡ current ks → LandsAt j r t.pc g → IsState t → Means (place_in j (current ks)) start g t ks → Frames j start t.memory ks → Invariant t ks
   landed r g t ks e l ts h fs = elim (subst (λ x. LandsAt j x t.pc g) e l) [
-    | inl idle ↦ absurd (idle_by laws (place_in j (current ks)) start g t ks begun ts idle h)
+    | inl idle ↦ absurd (idle_never_holds (place_in j (current ks)) start g t ks begun ts idle h)
     | inr there ↦ record {
       state = ts;
       inside = there.0;
-      means = landed_by laws (place_in j (current ks)) start g (facts_in j (current ks) t.pc) t ks begun ts there.1 h;
+      means = one_landed_holds (place_in j (current ks)) start g (facts_in j (current ks) t.pc) t ks begun ts there.1 h;
       frames = fs;
     }
   ]
@@ -74,11 +75,11 @@ module _ (laws : FactLaws) (j : Case) (dd : IsDeclared j.declaration) (valid : I
 
   -- the access of a memory reference, by its conditions
   abbrev pub Access : (s : State) (ks : Calls) → Held s ks → Bool → ℕ → Type 0
-  Access s ks h i c = Accessed laws.narrowed (place_in j (current ks)) dd start begun h.fact s i c
+  Access s ks h i c = Accessed (place_in j (current ks)) dd start begun h.fact s i c
 
   pub access : (s : State) (ks : Calls) (h : Held s ks) (i : Bool) (c : ℕ) → IsState s → c < 4096 →
       (steps_pointer i c ≡ true → (j.declaration.variable c ≡ true) ⊎ (j.declaration.entry c ≡ true)) → Access s ks h i c
-  access s ks h i c ss n v = accessed laws.narrowed (place_in j (current ks)) dd start begun h.fact s ks i c ss h.means n v
+  access s ks h i c ss n v = accessed (place_in j (current ks)) dd start begun h.fact s ks i c ss h.means n v
 
   -- the frames after a stepped pointer
   pointed_frames : (m : Meaning) (s : State) (ks : Calls) (h : Held s ks) (i : Bool) (c : ℕ) → Invariant s ks → c < 4096 → Fine j (current ks) s.pc h.fact m →
@@ -155,14 +156,14 @@ module _ (laws : FactLaws) (j : Case) (dd : IsDeclared j.declaration) (valid : I
       let may : MayReturn j c h.fact o = v12.1 o lo own.2 in
       let lands : Lands (place_in j (Some k.entry)) h.fact (exits_of j k.entry o) = subst (λ x. Lands (place_in j (Some x)) h.fact (exits_of j x o)) (sym kw) may.2 in
       let exit : OneOf (place_in j (Some k.entry)) start (exits_of j k.entry o) s (k ∷ ks) =
-      one_of (place_in j (Some k.entry)) start (exits_of j k.entry o) s (k ∷ ks) (landed_by laws (place_in j (Some k.entry)) start h.fact (exits_of j k.entry o) s (k ∷ ks) begun inv.state lands h.means) in
+      one_of (place_in j (Some k.entry)) start (exits_of j k.entry o) s (k ∷ ks) (one_landed_holds (place_in j (Some k.entry)) start h.fact (exits_of j k.entry o) s (k ∷ ks) begun inv.state lands h.means) in
       let call : Fact = inv.frames.0.call in
       let after : LandsAt j (current ks) (plus ((k.after - 1) + 1) o) (joined j.certificate.rules call exit.fact (j.certificate.writes k.entry)) =
       after_exit (current ks) (k.after - 1) k.entry o call exit.fact (exits_of j k.entry o) (inv.frames.0.lands o lo) exit.among exit.means.stands.3 in
       let t : State = record s { pc = plus ((k.after - 1) + 1) o } in
       let ts : IsState t = record { ac = inv.state.ac; link = inv.state.link; mq = inv.state.mq; pc = plus_lt _ o; words = inv.state.words } in
       let done : Invariant t ks = landed (current ks) (joined j.certificate.rules call exit.fact (j.certificate.writes k.entry)) t ks refl after ts
-      (joined_by laws (place_in j (current ks)) start call exit.fact (j.certificate.writes k.entry) inv.frames.0.before t ks begun inv.frames.0.state ts inv.frames.0.means
+      (joined_holds (place_in j (current ks)) start call exit.fact (j.certificate.writes k.entry) inv.frames.0.before t ks begun inv.frames.0.state ts inv.frames.0.means
       exit.means.holds exit.means.mq exit.means.link exit.means.rest inv.frames.0.kept inv.frames.0.returns)
       inv.frames.1 in
       let same : jumped true c s ≡ t = rw (still, there) refl in
@@ -305,11 +306,11 @@ module _ (laws : FactLaws) (j : Case) (dd : IsDeclared j.declaration) (valid : I
   pub fine_at : (s : State) (ks : Calls) (h : Held s ks) → Invariant s ks → Fine j (current ks) s.pc h.fact (instruction j.declaration.profile s)
   fine_at s ks h inv =
       all_fine j valid (current ks) s.pc (s.memory s.pc) h.fact inv.state.pc (inv.state.words s.pc) inv.inside (is_line j (current ks) start s.pc s ks inv.means) h.among
-      (possible_true laws.narrowed (place_in j (current ks)) dd start begun h.fact s ks s.pc inv.state h.means (not_entry (current ks) s.pc inv.inside))
+      (possible_true (place_in j (current ks)) dd start begun h.fact s ks s.pc inv.state h.means (not_entry (current ks) s.pc inv.inside))
 
   pub keeps : (s t : State) (q : Answer) (ks : Calls) → Invariant s ks → GoesOn j.declaration (instruction j.declaration.profile s) s.pc → Step j.declaration.profile s q t → Invariant t (calls_after j.declaration s ks)
   keeps s t q ks inv on step =
       let h : Held s ks = held s ks inv in
       let f : Fine j (current ks) s.pc h.fact (instruction j.declaration.profile s) = fine_at s ks h inv in
       keep_at (instruction j.declaration.profile s) s t q ks h inv (meaning_names j.declaration.profile s.pc (s.memory s.pc) inv.state.pc) f
-      (λ plain. laws.step (place_in j (current ks)) start h.fact s t q ks dd begun inv.state (top_is_entry j start s.memory ks inv.frames) h.means f.v5 f.v14 on plain step) step
+      (λ plain. step_law (place_in j (current ks)) start h.fact s t q ks dd begun inv.state (top_is_entry j start s.memory ks inv.frames) h.means f.v5 f.v14 on plain step) step

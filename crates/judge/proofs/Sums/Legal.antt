@@ -19,9 +19,9 @@ use Rattle.facts.specs.Sums.Conditions.{may_read}
 use Rattle.facts.specs.Sums.Starts.{start_fact}
 use Rattle.facts.proofs.Numbers.{or_left, or_right}
 use Rattle.facts.proofs.Covers.{NamesWord, meaning_names}
-use Rattle.facts.proofs.Sums.AllLaws.{FactLaws, landed_by, idle_by}
 use Rattle.facts.proofs.Sums.StartedLemmas.{start_is_begun, start_fact_holds}
 use Rattle.facts.proofs.Sums.TargetLemmas.{Accessed, pointer_variable, pointer_written}
+use Rattle.facts.specs.Sums.Laws.{StepLaw}
 use Rattle.judge.specs.Sums.Landing.{Case, place_in, LandsAt}
 use Rattle.judge.specs.Sums.Conditions.{MayReturn, IsValid}
 use Rattle.judge.proofs.Sums.Fine.{Fine}
@@ -31,17 +31,17 @@ or_either : (a b : Bool) → (a || b) ≡ true → (a ≡ true) ⊎ (b ≡ true)
 or_either true b e = inl refl
 or_either false b e = inr e
 
-module _ (laws : FactLaws) (j : Case) (dd : IsDeclared j.declaration) (valid : IsValid j) (start : Cells) (begun : IsBegun j.image start) where
+module _ (step_law : StepLaw) (j : Case) (dd : IsDeclared j.declaration) (valid : IsValid j) (start : Cells) (begun : IsBegun j.image start) where
   -- the invariant, and the fact that holds
   abbrev pub Inv : State → Calls → Type 0
-  Inv s ks = Invariant laws j dd valid start begun s ks
+  Inv s ks = Invariant step_law j dd valid start begun s ks
 
   abbrev pub Here : State → Calls → Type 0
-  Here s ks = Held laws j dd valid start begun s ks
+  Here s ks = Held step_law j dd valid start begun s ks
 
   -- a memory reference's target, as the conditions speak of it
   abbrev pub Access : Fact → State → Calls → Bool → ℕ → Type 0
-  Access f s ks i c = Accessed laws.narrowed (place_in j (current ks)) dd start begun f s i c
+  Access f s ks i c = Accessed (place_in j (current ks)) dd start begun f s i c
 
   -- a stepped pointer is a variable
   pointer_legal : (ks : Calls) (i : Bool) (c a : ℕ) → (steps_pointer i c ≡ true → (j.declaration.variable c ≡ true) ⊎ (j.declaration.entry c ≡ true)) →
@@ -49,7 +49,7 @@ module _ (laws : FactLaws) (j : Case) (dd : IsDeclared j.declaration) (valid : I
   pointer_legal ks i c a v e =
       let both = and_parts (steps_pointer i c) (a == c) e in
       let ac : a ≡ c = eqb-true a c both.1 in
-      rw ac (pointer_variable laws.narrowed (place_in j (current ks)) dd start begun i c (v both.0) both.0)
+      rw ac (pointer_variable (place_in j (current ks)) dd start begun i c (v both.0) both.0)
 
   pointers : (m : Meaning) (s : State) (ks : Calls) (h : Here s ks) (a : ℕ) → NamesWord m → Fine j (current ks) s.pc h.fact m → pointer_of m a ≡ true → j.declaration.variable a ≡ true
   pointers (And i c) s ks h a n fine e = pointer_legal ks i c a (λ q. fine.v5 c n (or_left _ _ (pointer_written i c q))) e
@@ -67,14 +67,14 @@ module _ (laws : FactLaws) (j : Case) (dd : IsDeclared j.declaration) (valid : I
   stores : (m : Meaning) (s : State) (ks : Calls) (h : Here s ks) (a : ℕ) → Inv s ks → NamesWord m → Fine j (current ks) s.pc h.fact m → stored_at m s.memory a ≡ true →
       (j.declaration.variable a ≡ true) ⊎ CountsOwnEntry m ks a
   stores (Isz i c) s ks h a inv n fine e =
-      let x : Access h.fact s ks i c = access laws j dd valid start begun s ks h i c inv.state n (λ q. fine.v5 c n (or_left _ _ (pointer_written i c q))) in
+      let x : Access h.fact s ks i c = access step_law j dd valid start begun s ks h i c inv.state n (λ q. fine.v5 c n (or_left _ _ (pointer_written i c q))) in
       let at : a ≡ place i c s.memory = eqb-true a (place i c s.memory) e in
       elim (fine.v5 (place i c s.memory) x.word (or_right _ _ x.target)) [
         | inl v ↦ inl (rw at v)
         | inr v ↦ inr (rw at (fine.v14 (place i c s.memory) x.word (or_right _ _ x.target) v).0)
       ]
   stores (Dca i c) s ks h a inv n fine e =
-      let x : Access h.fact s ks i c = access laws j dd valid start begun s ks h i c inv.state n (λ q. fine.v5 c n (or_left _ _ (pointer_written i c q))) in
+      let x : Access h.fact s ks i c = access step_law j dd valid start begun s ks h i c inv.state n (λ q. fine.v5 c n (or_left _ _ (pointer_written i c q))) in
       let at : a ≡ place i c s.memory = eqb-true a (place i c s.memory) e in
       elim (fine.v5 (place i c s.memory) x.word (or_right _ _ x.target)) [
         | inl v ↦ inl (rw at v)
@@ -99,7 +99,7 @@ module _ (laws : FactLaws) (j : Case) (dd : IsDeclared j.declaration) (valid : I
   legal_calls : (m : Meaning) (s : State) (ks : Calls) (h : Here s ks) → Inv s ks → NamesWord m → Fine j (current ks) s.pc h.fact m → CallsEntries j.declaration m s
   legal_calls (Jms i c) s ks h inv n fine =
       let still : steps_pointer i c ≡ false = fine.v7.0 in
-      let x : Access h.fact s ks i c = access laws j dd valid start begun s ks h i c inv.state n (λ e. absurd (true≢false (sym e ∙ still))) in
+      let x : Access h.fact s ks i c = access step_law j dd valid start begun s ks h i c inv.state n (λ e. absurd (true≢false (sym e ∙ still))) in
       (fine.v7.1 (place i c s.memory) x.word x.target).entry
   legal_calls _ s ks h inv n fine = tt
 
@@ -141,13 +141,13 @@ module _ (laws : FactLaws) (j : Case) (dd : IsDeclared j.declaration) (valid : I
 
   legal_reads : (m : Meaning) (s : State) (ks : Calls) (h : Here s ks) → Inv s ks → NamesWord m → Fine j (current ks) s.pc h.fact m → ReadsListed j.declaration m s ks
   legal_reads (And i c) s ks h inv n fine a e =
-      let x : Access h.fact s ks i c = access laws j dd valid start begun s ks h i c inv.state n (λ q. fine.v5 c n (or_left _ _ (pointer_written i c q))) in
+      let x : Access h.fact s ks i c = access step_law j dd valid start begun s ks h i c inv.state n (λ q. fine.v5 c n (or_left _ _ (pointer_written i c q))) in
       operand_listed (And i c) s ks h i c a inv n fine x (λ b q. or_left _ _ q) (or_right _ _ x.target) e
   legal_reads (Tad i c) s ks h inv n fine a e =
-      let x : Access h.fact s ks i c = access laws j dd valid start begun s ks h i c inv.state n (λ q. fine.v5 c n (or_left _ _ (pointer_written i c q))) in
+      let x : Access h.fact s ks i c = access step_law j dd valid start begun s ks h i c inv.state n (λ q. fine.v5 c n (or_left _ _ (pointer_written i c q))) in
       operand_listed (Tad i c) s ks h i c a inv n fine x (λ b q. or_left _ _ q) (or_right _ _ x.target) e
   legal_reads (Isz i c) s ks h inv n fine a e =
-      let x : Access h.fact s ks i c = access laws j dd valid start begun s ks h i c inv.state n (λ q. fine.v5 c n (or_left _ _ (pointer_written i c q))) in
+      let x : Access h.fact s ks i c = access step_law j dd valid start begun s ks h i c inv.state n (λ q. fine.v5 c n (or_left _ _ (pointer_written i c q))) in
       operand_listed (Isz i c) s ks h i c a inv n fine x (λ b q. or_left _ _ q) (or_right _ _ x.target) e
   legal_reads (Dca i c) s ks h inv n fine a e = pointer_listed (Dca i c) s ks h i c a n fine (λ b q. q) e
   legal_reads (Jms i c) s ks h inv n fine a e = pointer_listed (Jms i c) s ks h i c a n fine (λ b q. q) e
@@ -160,8 +160,8 @@ module _ (laws : FactLaws) (j : Case) (dd : IsDeclared j.declaration) (valid : I
 
   pub legal : (s : State) (ks : Calls) → Inv s ks → IsLegal j.image j.declaration s ks
   legal s ks inv =
-      let h : Here s ks = held laws j dd valid start begun s ks inv in
-      let fine : Fine j (current ks) s.pc h.fact (instruction j.declaration.profile s) = fine_at laws j dd valid start begun s ks h inv in
+      let h : Here s ks = held step_law j dd valid start begun s ks inv in
+      let fine : Fine j (current ks) s.pc h.fact (instruction j.declaration.profile s) = fine_at step_law j dd valid start begun s ks h inv in
       let n : NamesWord (instruction j.declaration.profile s) = meaning_names j.declaration.profile s.pc (s.memory s.pc) inv.state.pc in
       record {
         stays = record { in_body = inv.inside; supported = fine.v3 };
@@ -169,23 +169,23 @@ module _ (laws : FactLaws) (j : Case) (dd : IsDeclared j.declaration) (valid : I
         calls = legal_calls (instruction j.declaration.profile s) s ks h inv n fine;
         returns = legal_returns (instruction j.declaration.profile s) s ks h inv fine;
         halts = fine.v13;
-        code = λ r a w inside var tape. h.means.rest a var (not_entry laws j dd valid start begun r a inside) ∙ begun.loaded a w tape;
+        code = λ r a w inside var tape. h.means.rest a var (not_entry step_law j dd valid start begun r a inside) ∙ begun.loaded a w tape;
         reads = legal_reads (instruction j.declaration.profile s) s ks h inv n fine;
       }
 
   pub all_legal : (answers : List Answer) (s t : State) (ks ls : Calls) → Inv s ks → DeclaredRun j.declaration answers s ks t ls → IsLegal j.image j.declaration t ls
   all_legal [] s t ks ls inv run = subst (λ x. IsLegal j.image j.declaration t x) run.1 (subst (λ x. IsLegal j.image j.declaration x ks) run.0 (legal s ks inv))
-  all_legal (q ∷ qs) s t ks ls inv run = all_legal qs run.0 t (calls_after j.declaration s ks) ls (keeps laws j dd valid start begun s run.0 q ks inv run.2 run.1) run.3
+  all_legal (q ∷ qs) s t ks ls inv run = all_legal qs run.0 t (calls_after j.declaration s ks) ls (keeps step_law j dd valid start begun s run.0 q ks inv run.2 run.1) run.3
 
-pub starts : (laws : FactLaws) (j : Case) (dd : IsDeclared j.declaration) (valid : IsValid j) (s : State) (start : IsStart j.image j.declaration.start s) →
-    Invariant laws j dd valid s.memory (start_is_begun (place_in j None) j.declaration.start s start) s []
-starts laws j dd valid s start =
+pub starts : (step_law : StepLaw) (j : Case) (dd : IsDeclared j.declaration) (valid : IsValid j) (s : State) (start : IsStart j.image j.declaration.start s) →
+    Invariant step_law j dd valid s.memory (start_is_begun (place_in j None) j.declaration.start s start) s []
+starts step_law j dd valid s start =
     let at : s.pc ≡ j.declaration.start = start.pc in
     let ss : IsState s = record { ac = start.ac; link = start.link; mq = start.mq; pc = rw at dd.start_is_word; words = start.words } in
     let lands : LandsAt j None s.pc (start_fact j.image) = subst (λ p. LandsAt j None p (start_fact j.image)) (sym at) (valid V1 j.declaration.start refl) in
-    landed laws j dd valid s.memory (start_is_begun (place_in j None) j.declaration.start s start) None (start_fact j.image) s [] refl lands ss
+    landed step_law j dd valid s.memory (start_is_begun (place_in j None) j.declaration.start s start) None (start_fact j.image) s [] refl lands ss
     (start_fact_holds (place_in j None) s refl start) tt
 
-pub runs_are_safe : FactLaws → (j : Case) → IsDeclared j.declaration → IsValid j → IsSafeInRuns j.image j.declaration
-runs_are_safe laws j dd valid s t ls answers start run =
-    all_legal laws j dd valid s.memory (start_is_begun (place_in j None) j.declaration.start s start) answers s t [] ls (starts laws j dd valid s start) run
+pub runs_are_safe : StepLaw → (j : Case) → IsDeclared j.declaration → IsValid j → IsSafeInRuns j.image j.declaration
+runs_are_safe step_law j dd valid s t ls answers start run =
+    all_legal step_law j dd valid s.memory (start_is_begun (place_in j None) j.declaration.start s start) answers s t [] ls (starts step_law j dd valid s start) run

@@ -1,2 +1,5 @@
 pub mod WordLemmas
 pub mod TermLemmas
+pub mod StateLemmas
+pub mod RelationLemmas
+pub mod OperateSteps

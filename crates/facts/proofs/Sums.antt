@@ -3,3 +3,4 @@ pub mod TermLemmas
 pub mod StateLemmas
 pub mod RelationLemmas
 pub mod OperateSteps
+pub mod GroupSteps

@@ -1,1 +1,2 @@
 pub mod TrackingLemmas
+pub mod Sums

@@ -8,3 +8,4 @@ pub mod Adding
 pub mod Knowing
 pub mod Narrowing
 pub mod Moves
+pub mod Laws

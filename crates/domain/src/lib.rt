@@ -3,6 +3,7 @@
 #![tactic(auto)]
 
 mod fact;
+pub mod laws;
 mod location;
 mod offsets;
 mod tracking;

@@ -4,3 +4,4 @@ pub mod StateLemmas
 pub mod RelationLemmas
 pub mod OperateSteps
 pub mod GroupSteps
+pub mod ReferenceSteps

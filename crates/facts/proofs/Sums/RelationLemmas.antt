@@ -168,3 +168,27 @@ begun_given OfEquations f v start link ha h l t = tt
 begun_given OfSums f v start link ha h l t =
     given_append v link f.chains (filter (λ c. not (has_chain_on c.cell f.chains)) (all_begun f.link f.relations)) t.chains
     (given_filter v link (λ c. not (has_chain_on c.cell f.chains)) (all_begun f.link f.relations) (all_begun_given v start link f.link f.relations ha h l t.relations))
+
+-- ---- a fact where no name changed
+
+chains_kept : (v w : Values) (link : ℕ) (cs : List Chain) → KeepsOthers (λ m. false) v w → AllGiven v link cs → AllGiven w link cs
+chains_kept v w link [] k t = tt
+chains_kept v w link (c ∷ cs) k t = (
+  ap (λ x. gives c x (w Ac) link) (k (Cell c.cell) refl) ∙ (ap (λ x. gives c (v (Cell c.cell)) x link) (k Ac refl) ∙ t.0),
+  chains_kept v w link cs k t.1,
+)
+
+speaks_of_none : (sum : Sum) → speaks_of (λ m. false) sum ≡ false
+speaks_of_none [] = refl
+speaks_of_none (s ∷ ss) = speaks_of_none ss
+
+relations_kept : (v w : Values) (start : Cells) (rs : List Relation) → KeepsOthers (λ m. false) v w → AllTrue v start rs → AllTrue w start rs
+relations_kept v w start [] k t = tt
+relations_kept v w start (r ∷ rs) k t = (ap r.set (sum_kept v w start (λ m. false) r.sum k (speaks_of_none r.sum)) ∙ t.0, relations_kept v w start rs k t.1)
+
+pub holds_kept : (f : Fact) (v w : Values) (start : Cells) (link : ℕ) → KeepsOthers (λ m. false) v w → Holds f v start link → Holds f w start link
+holds_kept f v w start link k h = record {
+  sets = λ n. ap (f.set n) (k n refl) ∙ h.sets n;
+  relations = relations_kept v w start f.relations k h.relations;
+  chains = chains_kept v w link f.chains k h.chains;
+}

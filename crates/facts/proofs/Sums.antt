@@ -5,3 +5,6 @@ pub mod RelationLemmas
 pub mod OperateSteps
 pub mod GroupSteps
 pub mod ReferenceSteps
+pub mod TadSteps
+pub mod DcaSteps
+pub mod StepLemmas

@@ -53,11 +53,10 @@ without_true v w start r k t = cond_both (names Ac r.sum) [] (r ∷ []) (AllTrue
 -- ---- the accumulator and a rest
 
 -- the rest of a sum with the accumulator
-pub rest_of : Values → Cells → Sum → ℕ
+abbrev pub rest_of : Values → Cells → Sum → ℕ
 rest_of v start sum = sum_value v start (without_term (Holding Ac) sum)
 
 pub with_ac : (v : Values) (start : Cells) (sum : Sum) → has_ac sum ≡ true → sum_value v start sum ≡ plus (v Ac) (rest_of v start sum)
-unfolding rest_of
 with_ac v start sum e =
     let c : coefficient_in (Holding Ac) sum ≡ 1 = eqb-true (coefficient_in (Holding Ac) sum) 1 e in
     term_apart v start (Holding Ac) sum ∙ (ap (λ x. plus (x * v Ac) (sum_value v start (without_term (Holding Ac) sum))) c ∙ once (v Ac) (sum_value v start (without_term (Holding Ac) sum)))
@@ -66,11 +65,9 @@ with_ac v start sum e =
     once a r = omega arith
 
 pub rest_kept : (v w : Values) (start : Cells) (sum : Sum) → KeepsOthers (λ m. same m Ac) v w → rest_of w start sum ≡ rest_of v start sum
-unfolding rest_of
 rest_kept v w start sum k = sum_kept v w start (λ m. same m Ac) (without_term (Holding Ac) sum) k (without_ac sum)
 
 pub rest_word : (v : Values) (start : Cells) (sum : Sum) → rest_of v start sum < 4096
-unfolding rest_of
 rest_word v start sum = sum_word v start (without_term (Holding Ac) sum)
 
 -- the sum with the accumulator, after it took another word
@@ -93,7 +90,6 @@ complement_number a b r h e = omega arith
 
 pub complemented_true : (sums : SumsAreKept) (v w : Values) (start : Cells) (r : Relation) → KeepsOthers (λ m. same m Ac) v w → v Ac < 4096 → w Ac ≡ 4095 - v Ac →
     IsTrueOf v start r → AllTrue w start (complemented r)
-unfolding rest_of
 complemented_true sums v w start r k h e t = cond_both (has_ac r.sum) (record { sum = ac_with_rest 4095 (Holding Ac) r.sum; set = mirrored r.set } ∷ []) (if_without_ac r) (AllTrue w start)
     (λ q.
     let rest : ℕ = rest_of v start r.sum in

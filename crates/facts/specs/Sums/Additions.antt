@@ -84,11 +84,12 @@ equations_after_tad (Some t) (Some a) w relations = ac_is t a ∷ free_of (λ n.
 equations_after_tad t a (Some w) relations = equations_moved w relations
 equations_after_tad t a None relations = free_of (λ n. same n Ac) relations
 
--- By the rules of equations the fact after TAD, but for the link. `known` are the accumulator's narrowed words.
+-- By the rules of equations the fact after TAD, but for the link. `known` are the accumulator's narrowed words. There are no chains.
 abbrev pub equated : Words → Words → Option Term → Fact → Fact
 equated known operand t f = record f {
   set = with_set Ac (sums known operand) f.set;
   relations = equations_after_tad t (only known) (only operand) f.relations;
+  chains = [];
 }
 
 -- All sums x + y of two sets that come with this carry, less 10000 where there is one.

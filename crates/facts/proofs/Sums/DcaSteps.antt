@@ -1,34 +1,28 @@
 -- The steps by DCA.
-use Rattle.std.proofs.Common.{◌≡◌, ℕ, ◌+◌, ◌-◌, ◌*◌, ◌/◌, ◌%◌, ◌<◌, ◌≤◌, ◌==◌, Bool, true, false, not, ◌&&◌, ◌||◌, ◌⊎◌, Option, Some, None, List, [], ◌∷◌, ◌++◌, refl, sym, ap, ◌∙◌, subst, inl, inr, arith, lit<}
+use Rattle.std.proofs.Common.{◌≡◌, ℕ, ◌*◌, ◌<◌, true, false, not, ◌&&◌, Option, Some, None, [], ◌∷◌, refl, sym, ap, ◌∙◌, arith, lit<}
 use Rattle.std.specs.Prelude.{if◌then◌else◌, flat_map}
-use Rattle.std.proofs.lemmas.Bool.{and_from, and_parts, cond_both, eq-eqb, true≢false, false≢true, cases_eq, lt-ltb, not-true}
-use Rattle.wordset.specs.Words.{plus, minus, Words, all_words, one, some_below, has_some, only}
+use Rattle.std.proofs.lemmas.Bool.{and_parts, cond_both, eq-eqb, lt-ltb, not-true}
+use Rattle.wordset.specs.Words.{plus, minus, Words, all_words, one, only}
 use Rattle.wordset.proofs.Firsts.{only_word}
 use Rattle.processor.specs.Cells.{Cells, updated}
 use Rattle.processor.specs.Machine.{State}
 use Rattle.declaration.specs.Declaration.{IsDeclared}
 use Rattle.policy.specs.Calls.{Calls}
 use Rattle.domain.specs.Facts.{Location, Ac, Cell, same, Values}
-use Rattle.domain.specs.Sums.Terms.{Term, Holding, Behind, Sum, sum_value, sum_of_name, difference_of, without_term}
-use Rattle.domain.specs.Sums.Facts.{Relation, Fact, Place, Rules, OfEquations, OfSums, IsTrueOf, AllTrue, AllGiven, Holds, Means}
-use Rattle.domain.specs.Sums.Adding.{with_set, with_name, set_of_sum, adding_all}
+use Rattle.domain.specs.Sums.Terms.{Holding, sum_value, sum_of_name, difference_of, without_term}
+use Rattle.domain.specs.Sums.Facts.{Relation, Fact, Place, Rules, OfEquations, OfSums, IsTrueOf, AllTrue, Holds, Means}
+use Rattle.domain.specs.Sums.Adding.{with_set, set_of_sum}
 use Rattle.domain.specs.Sums.Moves.{moved_relation, taking, weakly_updated}
-use Rattle.domain.specs.Sums.Laws.{IsBegun, KeepsOthers, AreValues, GoesUp, SameButSets}
+use Rattle.domain.specs.Sums.Laws.{IsBegun, AreValues, GoesUp, SameButSets}
 use Rattle.facts.specs.Law.{IsState, TopIsEntry}
 use Rattle.facts.specs.Sums.Additions.{names, has_ac}
 use Rattle.facts.specs.Sums.Stores.{with_cell_for_ac, has_all_words, after_store, all_after_store, stored, copied_for, copied}
-use Rattle.facts.specs.Sums.Outcomes.{Successor, Goes, given, ac_of, goes, stored_by, dca_case}
+use Rattle.facts.specs.Sums.Outcomes.{ac_of, goes, stored_by, dca_case}
 use Rattle.facts.specs.Sums.Laws.{LandsIn, SomeOutcome}
-use Rattle.facts.proofs.Sums.WordLemmas.{plus_lt, minus_lt, some_from, has_all}
+use Rattle.facts.proofs.Sums.WordLemmas.{once, name_number, plus_lt, minus_lt, some_from, has_all}
 use Rattle.facts.proofs.Sums.TermLemmas.{same_true, sum_kept, without_less}
-use Rattle.facts.proofs.Sums.StateLemmas.{FactLaws, set_at, ac_values, updated_values, updated_same, value_of, values_words, words_updated, vals, means_updated, ac_true, names_words, goes_to, some_target}
+use Rattle.facts.proofs.Sums.StateLemmas.{FactLaws, ac_values, updated_values, updated_same, value_of, values_words, words_updated, vals, means_updated, ac_true, names_words, goes_to, some_target}
 use Rattle.facts.proofs.Sums.RelationLemmas.{true_flat, still_true, rest_of, with_ac, rest_kept}
-
-once : (a r : ℕ) → plus (1 * a) r ≡ plus a r
-once a r = omega arith
-
-name_number : (a : ℕ) → a < 4096 → plus (1 * a) 0 ≡ a
-name_number a h = omega arith
 
 gap_number : (a x : ℕ) → a < 4096 → x < 4096 → plus (1 * a) (plus (4095 * x) 0) ≡ minus a x
 gap_number a x h g = omega arith
@@ -100,10 +94,13 @@ module _ (laws : FactLaws) (pl : Place) (dd : IsDeclared pl.declaration) (start 
   all_after_store_true f s ks y ss h var =
       true_flat (was s) (now s y) start (after_store y (set_of_sum f (difference_of Ac (Cell y))))
       (λ r t. after_store_true s y (set_of_sum f (difference_of Ac (Cell y))) r ss var (gap_true f s ks y ss h var) t)
-      (record { sum = sum_of_name Ac; set = f.set Ac } ∷ record { sum = sum_of_name (Cell y); set = f.set (Cell y) } ∷ f.relations)
-      (ap (f.set Ac) (name_number s.ac ss.ac) ∙ h.holds.sets Ac,
-      (ap (f.set (Cell y)) (name_number (was s (Cell y)) (names_words laws pl dd start begun s ss (Cell y))) ∙ h.holds.sets (Cell y),
-      h.holds.relations))
+      (record { sum = sum_of_name Ac; set = f.set Ac } ∷ record { sum = sum_of_name (Cell y); set = f.set (Cell y) } ∷ f.relations) (
+        ap (f.set Ac) (name_number s.ac ss.ac) ∙ h.holds.sets Ac,
+        (
+          ap (f.set (Cell y)) (name_number (was s (Cell y)) (names_words laws pl dd start begun s ss (Cell y))) ∙ h.holds.sets (Cell y),
+          h.holds.relations,
+        ),
+      )
 
   emptied_sets : (f : Fact) (s : State) (ks : Calls) (y : ℕ) → IsState s → Means pl start f s ks → pl.declaration.variable y ≡ true →
       (n : Location) → with_set Ac (one 0) (with_set (Cell y) all_words f.set) n (now s y n) ≡ true

@@ -1,16 +1,16 @@
 -- The steps by words of group 1 and group 2.
-use Rattle.std.proofs.Common.{◌≡◌, ℕ, ◌+◌, ◌-◌, ◌/◌, ◌%◌, ◌<◌, ◌==◌, Bool, true, false, not, ◌&&◌, ◌||◌, ◌⊎◌, List, [], ◌∷◌, ◌++◌, refl, sym, ap, ◌∙◌, subst, inl, inr, arith, lit<}
+use Rattle.std.proofs.Common.{◌≡◌, ℕ, ◌-◌, ◌<◌, ◌==◌, Bool, true, false, not, ◌&&◌, ◌||◌, List, [], refl, sym, ap, ◌∙◌, subst, inl, inr, lit<}
 use Rattle.std.specs.Prelude.{if◌then◌else◌, bit_or, flat_map}
-use Rattle.std.proofs.lemmas.Bool.{and_from, cond_both, eq-eqb, true≢false, false≢true, cases_eq, lt-ltb, false_from_ne_true, or_parts}
+use Rattle.std.proofs.lemmas.Bool.{and_from, cond_both, eq-eqb, cases_eq, false_from_ne_true, or_parts}
 use Rattle.instruct.specs.Bits.{has_bit}
 use Rattle.instruct.specs.Operates.{operate2_of, skips_of}
-use Rattle.wordset.specs.Words.{plus, minus, Words, all_words, one, some_below, has_some, or_any, images, images_at}
+use Rattle.wordset.specs.Words.{plus, Words, all_words, one, some_below, or_any, images}
 use Rattle.processor.specs.Cells.{Cells}
 use Rattle.processor.specs.Machine.{State, next_pc}
 use Rattle.declaration.specs.Declaration.{IsDeclared}
 use Rattle.policy.specs.Calls.{Calls}
-use Rattle.domain.specs.Facts.{Ac, Cell, same, Values}
-use Rattle.domain.specs.Sums.Chains.{Operates, all_longer}
+use Rattle.domain.specs.Facts.{Ac, same, Values}
+use Rattle.domain.specs.Sums.Chains.{Operates}
 use Rattle.domain.specs.Sums.Facts.{Relation, Fact, Place, Rules, OfEquations, OfSums, AllTrue, AllGiven, Holds, Means}
 use Rattle.domain.specs.Sums.Adding.{with_name, is_kept, is_void}
 use Rattle.domain.specs.Sums.Narrowing.{narrowed}
@@ -19,17 +19,13 @@ use Rattle.domain.specs.Sums.Laws.{IsBegun}
 use Rattle.facts.specs.Law.{IsState}
 use Rattle.facts.specs.Sums.Additions.{complemented, incremented, turned}
 use Rattle.facts.specs.Sums.Stores.{with_begun}
-use Rattle.facts.specs.Sums.Outcomes.{Successor, Goes, given, ac_of, alive, goes, with_link}
+use Rattle.facts.specs.Sums.Outcomes.{Successor, ac_of, goes, with_link}
 use Rattle.facts.specs.Sums.Operations.{ac_after, link_after, moves_bits, relations_operated, chains_operated, operated, images_under, operated_under, all_operated1, part2, tested, cleared2, may_be, operated2, all_operated2}
 use Rattle.facts.specs.Sums.Laws.{LandsIn, SomeOutcome}
-use Rattle.facts.proofs.Sums.WordLemmas.{plus_lt, minus_lt, some_from, has_all, image_true, ac_plain, ac_after_word, link_after_bit, operate2_word, or_word_true}
-use Rattle.facts.proofs.Sums.StateLemmas.{FactLaws, set_at, ac_values, some_given, some_left, some_right, vals, Lands, means_like, same_step, ac_true, alive_true, goes_to, values_words}
+use Rattle.facts.proofs.Sums.WordLemmas.{bit_one, next_word, plus_lt, some_from, has_all, image_true, ac_plain, ac_after_word, link_after_bit, operate2_word, or_word_true}
+use Rattle.facts.proofs.Sums.StateLemmas.{FactLaws, set_at, ac_values, some_given, some_left, some_right, vals, means_like, same_step, ac_true, alive_true, goes_to}
 use Rattle.facts.proofs.Sums.RelationLemmas.{true_flat, true_filter, complemented_true, incremented_true, begun_given}
 use Rattle.facts.proofs.Sums.OperateSteps.{ac_means}
-
-next_word : (pc : ℕ) (b : Bool) → next_pc pc b < 4096
-next_word pc true = plus_lt pc 2
-next_word pc false = plus_lt pc 1
 
 module _ (laws : FactLaws) (pl : Place) (dd : IsDeclared pl.declaration) (start : Cells) (begun : IsBegun pl.image start) where
   -- ---- group 1
@@ -108,9 +104,6 @@ module _ (laws : FactLaws) (pl : Place) (dd : IsDeclared pl.declaration) (start 
       (subst (λ x. images_under w x (f.set Ac) f.link (ac_after w s.ac s.link) ≡ true) (sym e) (image_under_true w (f.set Ac) f.link s.ac s.link ss.ac ss.link (h.holds.sets Ac) h.link))
       (eq-eqb (link_after w s.ac s.link) l (sym e)))
       has_all has_all (eq-eqb (plus s.pc 1) (plus s.pc 1) refl)
-
-  bit_one : (l : ℕ) → l < 2 → (l ≡ 0 → ⊥) → 1 ≡ l
-  bit_one l h n = omega arith
 
   pub operate1_step : (rules : Rules) (w : ℕ) (f : Fact) (s : State) (ks : Calls) → IsState s → Means pl start f s ks →
       SomeOutcome (LandsIn pl start (operated1_state w s) ks) (all_operated1 rules pl s.pc w f)

@@ -1,26 +1,24 @@
 -- The steps by device words and operate words.
-use Rattle.std.proofs.Common.{◌≡◌, ℕ, ◌+◌, ◌-◌, ◌/◌, ◌%◌, ◌<◌, ◌==◌, Bool, true, false, not, ◌&&◌, ◌⊎◌, List, [], ◌∷◌, ◌++◌, refl, sym, ap, ◌∙◌, subst, inl, inr, arith, lit<}
-use Rattle.std.specs.Prelude.{if◌then◌else◌, bit_and, bit_or, nat_lt}
-use Rattle.std.proofs.lemmas.Bool.{and_from, cond_both, eq-eqb, true≢false, false≢true, cases_eq, lt-ltb, false_from_ne_true}
-use Rattle.instruct.specs.Bits.{has_bit}
-use Rattle.instruct.specs.Operates.{operate2_of, skips_of, MqOperate, Mql, Mqa, Swp, Cam, ClaMqa, ClaSwp, mq_operate}
+use Rattle.std.proofs.Common.{◌≡◌, ℕ, ◌<◌, Bool, true, false, refl}
+use Rattle.std.specs.Prelude.{bit_or}
+use Rattle.std.proofs.lemmas.Bool.{eq-eqb}
+use Rattle.instruct.specs.Operates.{MqOperate, Mql, Mqa, Swp, Cam, ClaMqa, ClaSwp, mq_operate}
 use Rattle.instruct.specs.Instructions.{Skips}
-use Rattle.wordset.specs.Words.{plus, minus, Words, all_words, one, some_below, has_some, ors, or_any, images}
+use Rattle.wordset.specs.Words.{plus, Words, all_words, one, ors}
 use Rattle.processor.specs.Cells.{Cells}
 use Rattle.processor.specs.Machine.{State, next_pc}
 use Rattle.declaration.specs.Declaration.{IsDeclared}
 use Rattle.policy.specs.Calls.{Calls}
-use Rattle.domain.specs.Facts.{Ac, Cell, same}
-use Rattle.domain.specs.Sums.Facts.{Fact, Place, Rules, OfEquations, OfSums, Means}
-use Rattle.domain.specs.Sums.Adding.{with_name, is_void}
+use Rattle.domain.specs.Facts.{Ac}
+use Rattle.domain.specs.Sums.Facts.{Fact, Place, Means}
 use Rattle.domain.specs.Sums.Moves.{taking}
 use Rattle.domain.specs.Sums.Laws.{IsBegun}
 use Rattle.facts.specs.Law.{IsState}
-use Rattle.facts.specs.Sums.Outcomes.{Successor, Goes, given, ac_of, alive, goes, with_link, with_mq}
+use Rattle.facts.specs.Sums.Outcomes.{ac_of, goes, with_mq}
 use Rattle.facts.specs.Sums.Operations.{operated3, device_outcomes}
 use Rattle.facts.specs.Sums.Laws.{LandsIn, SomeOutcome}
-use Rattle.facts.proofs.Sums.WordLemmas.{plus_lt, some_from, has_all, or_word, or_byte_true, or_word_true, ors_true, mq_words}
-use Rattle.facts.proofs.Sums.StateLemmas.{FactLaws, set_at, ac_values, some_given, some_left, some_right, vals, Lands, means_like, same_step, ac_true, alive_true, goes_to}
+use Rattle.facts.proofs.Sums.WordLemmas.{plus_lt, has_all, ors_true, mq_words}
+use Rattle.facts.proofs.Sums.StateLemmas.{FactLaws, ac_values, some_left, some_right, vals, means_like, same_step, ac_true, goes_to}
 
 module _ (laws : FactLaws) (pl : Place) (dd : IsDeclared pl.declaration) (start : Cells) (begun : IsBegun pl.image start) where
   -- the accumulator takes a word of the set, and nothing else changes

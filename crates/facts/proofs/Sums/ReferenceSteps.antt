@@ -1,15 +1,15 @@
 -- The steps by JMP, AND and ISZ.
-use Rattle.std.proofs.Common.{◌≡◌, ℕ, ◌+◌, ◌-◌, ◌/◌, ◌%◌, ◌<◌, ◌≤◌, ◌==◌, Bool, true, false, not, ◌&&◌, ◌||◌, ◌⊎◌, Option, Some, None, List, [], ◌∷◌, ◌++◌, refl, sym, ap, ◌∙◌, subst, inl, inr, arith, lit<}
-use Rattle.std.specs.Prelude.{if◌then◌else◌, bit_and}
-use Rattle.std.proofs.lemmas.Bool.{and_from, cond_both, eqb-true, eq-eqb, ne_eqb, true≢false, false≢true, cases_eq, cases_lt, lt-ltb}
-use Rattle.wordset.specs.Words.{plus, minus, Words, all_words, one, some_below, has_some, without, shifted, only, ands}
+use Rattle.std.proofs.Common.{◌≡◌, ℕ, ◌+◌, ◌<◌, ◌≤◌, ◌==◌, Bool, true, false, ◌&&◌, ◌⊎◌, Option, Some, None, [], ◌∷◌, refl, sym, ap, ◌∙◌, subst, inl, inr, arith, lit<}
+use Rattle.std.specs.Prelude.{bit_and}
+use Rattle.std.proofs.lemmas.Bool.{and_from, eqb-true, eq-eqb, ne_eqb, true≢false, cases_eq, cases_lt}
+use Rattle.wordset.specs.Words.{plus, minus, Words, all_words, one, has_some, without, shifted, only, ands}
 use Rattle.wordset.proofs.Firsts.{only_word}
 use Rattle.processor.specs.Cells.{Cells, updated, AreWords}
 use Rattle.processor.specs.Machine.{State, next_pc}
 use Rattle.declaration.specs.Declaration.{IsDeclared}
 use Rattle.policy.specs.Calls.{Calls}
-use Rattle.domain.specs.Facts.{Ac, Cell, same, Values, is_routine}
-use Rattle.domain.specs.Sums.Chains.{Ands, all_longer}
+use Rattle.domain.specs.Facts.{Ac, Cell, Values, is_routine}
+use Rattle.domain.specs.Sums.Chains.{Ands}
 use Rattle.domain.specs.Sums.Facts.{Fact, Place, Rules, OfEquations, OfSums, AllGiven, Holds, OwnWord, StandsIn, Means}
 use Rattle.domain.specs.Sums.Adding.{with_name}
 use Rattle.domain.specs.Sums.Narrowing.{words_known}
@@ -19,15 +19,11 @@ use Rattle.facts.specs.Law.{IsState, TopIsEntry}
 use Rattle.facts.specs.Sums.References.{own_words, words_at}
 use Rattle.facts.specs.Sums.Conditions.{MayCount}
 use Rattle.facts.specs.Sums.Stores.{with_begun}
-use Rattle.facts.specs.Sums.Outcomes.{Successor, Goes, given, ac_of, alive, goes, chains_after_and, anded, isz_case, jmp}
+use Rattle.facts.specs.Sums.Outcomes.{Goes, given, ac_of, alive, chains_after_and, anded, isz_case, jmp}
 use Rattle.facts.specs.Sums.Laws.{LandsIn, SomeOutcome}
-use Rattle.facts.proofs.Sums.WordLemmas.{plus_lt, minus_plus, some_from, has_all, shift_true, and_word, ands_true}
-use Rattle.facts.proofs.Sums.StateLemmas.{FactLaws, set_at, ac_values, updated_values, hidden_values, value_of, updated_same, words_updated, rest_updated, stands_like, some_given, some_left, some_right, vals, Lands, means_like, means_updated, same_step, known_true, ac_true, variable_true, own_true, words_at_true, goes_up, counted_holds, alive_true, goes_to, some_target}
+use Rattle.facts.proofs.Sums.WordLemmas.{next_word, plus_lt, minus_plus, some_from, has_all, shift_true, and_word, ands_true}
+use Rattle.facts.proofs.Sums.StateLemmas.{FactLaws, set_at, ac_values, updated_values, hidden_values, value_of, updated_same, words_updated, rest_updated, stands_like, some_given, some_left, some_right, vals, means_like, means_updated, same_step, ac_true, variable_true, own_true, words_at_true, counted_holds, alive_true, goes_to, some_target}
 use Rattle.facts.proofs.Sums.RelationLemmas.{holds_kept, begun_given}
-
-next_word : (pc : ℕ) (b : Bool) → next_pc pc b < 4096
-next_word pc true = plus_lt pc 2
-next_word pc false = plus_lt pc 1
 
 module _ (laws : FactLaws) (pl : Place) (dd : IsDeclared pl.declaration) (start : Cells) (begun : IsBegun pl.image start) where
   pub jmp_step : (f : Fact) (s : State) (ks : Calls) (i : Bool) (c : ℕ) (p : Words) (y : ℕ) → IsState s → Means pl start f s ks → y < 4096 → p y ≡ true →

@@ -1,20 +1,18 @@
 -- Relations and chains that are true: of lists, of the accumulator and a rest, and of chains that begin.
-use Rattle.std.proofs.Common.{◌≡◌, ℕ, ◌+◌, ◌-◌, ◌*◌, ◌%◌, ◌<◌, ◌==◌, Bool, true, false, not, ◌&&◌, ◌||◌, Option, Some, None, List, [], ◌∷◌, ◌++◌, refl, sym, ap, ◌∙◌, subst, arith}
-use Rattle.std.specs.Prelude.{if◌then◌else◌, filter, flat_map, map}
-use Rattle.std.proofs.lemmas.Bool.{and_from, and_parts, cond_both, eqb-true, eq-eqb, lt-ltb, false≢true}
-use Rattle.instruct.specs.Bits.{has_bit}
-use Rattle.wordset.specs.Words.{plus, minus, Words, all_words, one, some_below, shifted, mirrored, sums, only}
+use Rattle.std.proofs.Common.{◌≡◌, ℕ, ◌-◌, ◌*◌, ◌%◌, ◌<◌, ◌==◌, Bool, true, false, not, ◌&&◌, Option, Some, None, List, [], ◌∷◌, ◌++◌, refl, sym, ap, ◌∙◌, arith}
+use Rattle.std.specs.Prelude.{filter, flat_map}
+use Rattle.std.proofs.lemmas.Bool.{and_from, and_parts, cond_both, eqb-true, eq-eqb, lt-ltb}
+use Rattle.wordset.specs.Words.{plus, minus, Words, shifted, mirrored, sums, only}
 use Rattle.wordset.proofs.Firsts.{only_word}
-use Rattle.processor.specs.Cells.{Cells, AreWords}
+use Rattle.processor.specs.Cells.{Cells}
 use Rattle.domain.specs.Facts.{Location, Ac, Cell, same, Values}
-use Rattle.domain.specs.Sums.Terms.{Term, Holding, Behind, Summand, Sum, term_value, sum_value, speaks_of, same_term, coefficient_in, without_term, multiplied}
-use Rattle.domain.specs.Sums.Chains.{Chain, gives, after_steps, is_pair_of}
+use Rattle.domain.specs.Sums.Terms.{Term, Holding, Behind, Sum, term_value, sum_value, speaks_of, same_term, coefficient_in, without_term}
+use Rattle.domain.specs.Sums.Chains.{Chain, gives, is_pair_of}
 use Rattle.domain.specs.Sums.Facts.{Relation, Fact, Rules, OfEquations, OfSums, IsTrueOf, AllTrue, IsGiven, AllGiven, Holds}
-use Rattle.domain.specs.Sums.Adding.{times}
-use Rattle.domain.specs.Sums.Laws.{AreValues, KeepsOthers, SumsAreKept}
-use Rattle.facts.specs.Sums.Additions.{names, has_ac, if_without_ac, ac_with_rest, complemented, incremented, turned}
+use Rattle.domain.specs.Sums.Laws.{KeepsOthers, SumsAreKept}
+use Rattle.facts.specs.Sums.Additions.{names, has_ac, if_without_ac, ac_with_rest, complemented, incremented}
 use Rattle.facts.specs.Sums.Stores.{begun_on, begun_by, has_chain_on, all_begun, with_begun}
-use Rattle.facts.proofs.Sums.WordLemmas.{minus_plus, plus_lt, some_from, shift_true}
+use Rattle.facts.proofs.Sums.WordLemmas.{once, plus_lt, some_from, shift_true}
 use Rattle.facts.proofs.Sums.TermLemmas.{same_term_true, sum_word, term_apart, sum_kept, without_ac}
 
 -- ---- lists
@@ -60,9 +58,6 @@ pub with_ac : (v : Values) (start : Cells) (sum : Sum) → has_ac sum ≡ true �
 with_ac v start sum e =
     let c : coefficient_in (Holding Ac) sum ≡ 1 = eqb-true (coefficient_in (Holding Ac) sum) 1 e in
     term_apart v start (Holding Ac) sum ∙ (ap (λ x. plus (x * v Ac) (sum_value v start (without_term (Holding Ac) sum))) c ∙ once (v Ac) (sum_value v start (without_term (Holding Ac) sum)))
-  where
-    once : (a r : ℕ) → plus (1 * a) r ≡ plus a r
-    once a r = omega arith
 
 pub rest_kept : (v w : Values) (start : Cells) (sum : Sum) → KeepsOthers (λ m. same m Ac) v w → rest_of w start sum ≡ rest_of v start sum
 rest_kept v w start sum k = sum_kept v w start (λ m. same m Ac) (without_term (Holding Ac) sum) k (without_ac sum)
@@ -81,9 +76,6 @@ pub ac_with_rest_value : (sums : SumsAreKept) (w : Values) (start : Cells) (c : 
     sum_value w start (ac_with_rest c t sum) ≡ plus (w Ac) ((c * sum_value w start (without_term t sum)) % 4096)
 ac_with_rest_value sums w start c t sum =
     ap (plus (1 * w Ac)) (sums.multiplied w start c (without_term t sum)) ∙ once (w Ac) ((c * sum_value w start (without_term t sum)) % 4096)
-  where
-    once : (a r : ℕ) → plus (1 * a) r ≡ plus a r
-    once a r = omega arith
 
 complement_number : (a b r : ℕ) → a < 4096 → b ≡ 4095 - a → 4095 - plus b ((4095 * r) % 4096) ≡ plus a r
 complement_number a b r h e = omega arith

@@ -1,25 +1,24 @@
 -- The states of a fact: what names hold, what a cell may hold, where a pointer points to, and which outcomes are given.
-use Rattle.std.proofs.Common.{◌≡◌, ℕ, ◌+◌, ◌-◌, ◌/◌, ◌%◌, ◌<◌, ◌≤◌, ◌==◌, Bool, true, false, not, ◌&&◌, ◌||◌, ◌⊎◌, Option, Some, None, List, [], ◌∷◌, ◌++◌, refl, sym, ap, ◌∙◌, subst, inl, inr, arith, lit<}
+use Rattle.std.proofs.Common.{◌≡◌, ℕ, ◌+◌, ◌-◌, ◌<◌, Bool, true, false, ◌&&◌, ◌⊎◌, Option, Some, None, List, [], ◌∷◌, ◌++◌, refl, sym, ap, ◌∙◌, subst, inl, inr, arith}
 use Rattle.std.specs.Prelude.{if◌then◌else◌}
 use Rattle.std.proofs.lemmas.Bool.{and_from, cond_both, eqb-true, eqb-false, eq-eqb, true≢false, false≢true, cases_eq, lt-ltb}
-use Rattle.wordset.specs.Words.{plus, minus, Words, all_words, one, some_below, has_some, shifted}
+use Rattle.wordset.specs.Words.{plus, minus, Words, all_words, has_some, shifted}
 use Rattle.processor.specs.Cells.{Cells, updated, AreWords}
 use Rattle.processor.specs.Machine.{State, seen, place, steps_pointer}
 pub use Rattle.processor.proofs.CellLemmas.{updated_same, updated_other}
 use Rattle.declaration.specs.Declaration.{Declaration, IsDeclared}
 use Rattle.policy.specs.Calls.{Call, Calls}
 use Rattle.domain.specs.Facts.{Location, Ac, Cell, same, Values, values, KeepsRest, is_routine, tape_word}
-use Rattle.domain.specs.Sums.Terms.{Term, Holding, Behind, term_value}
-use Rattle.domain.specs.Sums.Facts.{Relation, Fact, Place, Rules, OfEquations, OfSums, AllTrue, AllGiven, Holds, last_site, OwnWord, StandsIn, Means}
-use Rattle.domain.specs.Sums.Adding.{with_set, with_name}
+use Rattle.domain.specs.Sums.Facts.{Fact, Place, Rules, OfEquations, OfSums, Holds, OwnWord, StandsIn, Means}
+use Rattle.domain.specs.Sums.Adding.{with_set}
 use Rattle.domain.specs.Sums.Narrowing.{words_known}
 use Rattle.domain.specs.Sums.Moves.{counted}
 use Rattle.domain.specs.Sums.Laws.{IsBegun, AreValues, SumsAreKept, GivenIsSo, AddingKeeps, AllAddedIsSo, NarrowedHolds, KnownIsSo, VoidNeverHolds, KeepsOthers, FreeStaysTrue, TakingHolds, GoesUp, MovedIsSo, CountedHolds, WeaklyUpdatedHolds, LongerIsSo, CountedUpIsSo}
 use Rattle.facts.specs.Law.{IsState, TopIsEntry}
-use Rattle.facts.specs.Sums.References.{own_words, words_in, possible, stepped, targets, words_at, is_fixed, are_fixed, one_target, operand_term}
-use Rattle.facts.specs.Sums.Outcomes.{Successor, Goes, given, ac_of, is_alive, alive, goes}
+use Rattle.facts.specs.Sums.References.{own_words, words_in, possible, stepped, targets, words_at}
+use Rattle.facts.specs.Sums.Outcomes.{Successor, given, ac_of, is_alive, alive, goes}
 use Rattle.facts.specs.Sums.Laws.{LandsIn, SomeOutcome}
-use Rattle.facts.proofs.Sums.WordLemmas.{plus_lt, minus_plus, if_below, some_from, shift_true, has_all}
+use Rattle.facts.proofs.Sums.WordLemmas.{plus_lt, if_below, some_from, shift_true}
 use Rattle.facts.proofs.Sums.TermLemmas.{same_true}
 
 -- what is proved of facts by themselves
@@ -133,10 +132,6 @@ module _ (laws : FactLaws) (pl : Place) (dd : IsDeclared pl.declaration) (start 
   -- what the names stand for
   abbrev pub vals : ℕ → Cells → Values
   vals ac m = values pl.declaration start ac m
-
-  -- the outcome is where t is
-  abbrev pub Lands : State → Calls → Successor → Type 0
-  Lands t ks = LandsIn pl start t ks
 
   pub names_words : (s : State) → IsState s → AreValues (vals s.ac s.memory)
   names_words s ss = values_words pl.declaration start s.ac s.memory ss.ac begun.words ss.words
@@ -261,8 +256,8 @@ module _ (laws : FactLaws) (pl : Place) (dd : IsDeclared pl.declaration) (start 
           (and_from _ _ (some_from 4096 (g.set Ac) t.ac ts.ac (m.holds.sets Ac)) (and_from _ _ (some_from 4096 g.mq t.mq ts.mq m.mq) (and_from _ _ (some_from 2 g.link t.link ts.link m.link) hc))))
 
   pub goes_to : (p changed next : Words) (f g : Fact) (s t : State) (ks : Calls) → IsState s → IsState t → Means pl start f s ks → Means pl start g t ks →
-      has_some p ≡ true → has_some changed ≡ true → next t.pc ≡ true → SomeOutcome (Lands t ks) (goes pl p f changed next g)
-  goes_to p changed next f g s t ks ss ts h m hp hc n = some_given (Lands t ks) _ _ (alive_true p changed f g s t ks ss ts h m hp hc) (n, m)
+      has_some p ≡ true → has_some changed ≡ true → next t.pc ≡ true → SomeOutcome (LandsIn pl start t ks) (goes pl p f changed next g)
+  goes_to p changed next f g s t ks ss ts h m hp hc n = some_given (LandsIn pl start t ks) _ _ (alive_true p changed f g s t ks ss ts h m hp hc) (n, m)
 
   pub some_target : (p : Words) (y : ℕ) → y < 4096 → p y ≡ true → has_some p ≡ true
   some_target p y lt e = some_from 4096 p y lt e

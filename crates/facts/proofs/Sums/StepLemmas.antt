@@ -7,23 +7,23 @@ use Rattle.instruct.specs.declared.Profile.TheVariants.{Pdp8I, Pdp8E}
 use Rattle.instruct.specs.Bits.{has_bit, named_cell}
 use Rattle.instruct.specs.Operates.{is_halt, MqOperate, mq_operate_of}
 use Rattle.instruct.specs.Instructions.{Meaning, And, Tad, Isz, Dca, Jms, Jmp, Group1, Group2, Group3, Device, Undefined, DeviceAction, Skips, Ors, Clears, Takes, Leaves, device_action, device_meaning, is_group1, mq_meaning, group3_meaning, operate_meaning, meaning_of}
-use Rattle.wordset.specs.Words.{plus, Words, one, or_any, only}
+use Rattle.wordset.specs.Words.{plus, one, or_any}
 use Rattle.processor.specs.Cells.{Cells}
 use Rattle.processor.specs.Machine.{State, Answer, Answers, seen, place, steps_pointer, next_pc, Does, instruction}
 use Rattle.declaration.specs.Declaration.{IsDeclared}
 use Rattle.policy.specs.Calls.{Calls}
 use Rattle.policy.specs.Runs.{GoesOn}
-use Rattle.domain.specs.Facts.{Ac, Cell, is_routine}
+use Rattle.domain.specs.Facts.{is_routine}
 use Rattle.domain.specs.Sums.Facts.{Fact, Place, Rules, OfEquations, OfSums, StandsIn, Means}
 use Rattle.domain.specs.Sums.Moves.{counted}
 use Rattle.domain.specs.Sums.Laws.{IsBegun}
 use Rattle.facts.specs.Law.{IsState, TopIsEntry, IsOrdinary}
-use Rattle.facts.specs.Sums.References.{own_words, stepped, targets}
+use Rattle.facts.specs.Sums.References.{stepped, targets}
 use Rattle.facts.specs.Sums.Conditions.{may_write, WritesAreDeclared, MayCount, EntriesAreKept}
 use Rattle.facts.specs.Sums.Outcomes.{ac_of}
 use Rattle.facts.specs.Sums.Operations.{ac_after, link_after, all_operated2, outcomes_of}
 use Rattle.facts.specs.Sums.Laws.{LandsIn, SomeOutcome, StepLaw}
-use Rattle.facts.proofs.Sums.WordLemmas.{if_below, plus_lt, or_left, or_right, and_word, or_word, or_byte_true, ac_after_word, link_after_bit, operate2_word, mq_words}
+use Rattle.facts.proofs.Sums.WordLemmas.{next_word, if_below, plus_lt, or_left, or_right, and_word, or_word, or_byte_true, ac_after_word, link_after_bit, operate2_word, mq_words}
 use Rattle.facts.proofs.Sums.StateLemmas.{FactLaws, words_updated, seen_words, seen_place, after_pointer, pointer_state, pointer_means, target_true, ac_true}
 use Rattle.facts.proofs.Sums.OperateSteps.{operate3_step, skip_step, ac_step, go_step}
 use Rattle.facts.proofs.Sums.GroupSteps.{operate1_step, operate2_step}
@@ -80,10 +80,6 @@ small_byte b h = omega arith
 
 mod_two : (n : ℕ) → n % 2 < 2
 mod_two n = omega arith
-
-pub next_word : (pc : ℕ) (b : Bool) → next_pc pc b < 4096
-next_word pc true = plus_lt pc 2
-next_word pc false = plus_lt pc 1
 
 device_state : (action : DeviceAction) (s : State) (q : Answer) (ac : ℕ) (skip : Bool) → IsState s → Answers action s.ac q ac skip → ac < 4096
 device_state Skips s q ac skip ss a = subst (λ x. x < 4096) (sym a.1) ss.ac

@@ -1,8 +1,8 @@
 -- The steps by TAD.
-use Rattle.std.proofs.Common.{◌≡◌, ℕ, ◌+◌, ◌-◌, ◌*◌, ◌/◌, ◌%◌, ◌<◌, ◌≤◌, ◌==◌, Bool, true, false, not, ◌&&◌, ◌||◌, ◌⊎◌, Option, Some, None, List, [], ◌∷◌, ◌++◌, refl, sym, ap, ◌∙◌, subst, inl, inr, arith, lit<}
-use Rattle.std.specs.Prelude.{if◌then◌else◌, flat_map}
-use Rattle.std.proofs.lemmas.Bool.{and_from, and_parts, or_parts, cond_both, eqb-true, eq-eqb, true≢false, false≢true, cases_eq, lt-ltb, false_from_ne_true, not-true}
-use Rattle.wordset.specs.Words.{plus, minus, Words, all_words, one, some_below, has_some, shifted, sums, carries, toggled, meet, only}
+use Rattle.std.proofs.Common.{◌≡◌, ℕ, ◌+◌, ◌-◌, ◌*◌, ◌/◌, ◌%◌, ◌<◌, ◌==◌, Bool, true, false, not, ◌&&◌, ◌⊎◌, Option, Some, None, List, [], ◌∷◌, refl, sym, ap, ◌∙◌, subst, inl, inr, arith}
+use Rattle.std.specs.Prelude.{if◌then◌else◌}
+use Rattle.std.proofs.lemmas.Bool.{and_from, and_parts, or_parts, cond_both, eqb-true, eq-eqb, true≢false, cases_eq, lt-ltb, not-true}
+use Rattle.wordset.specs.Words.{plus, minus, Words, all_words, one, shifted, sums, meet, only}
 use Rattle.wordset.proofs.Tests.{or_cases}
 use Rattle.wordset.proofs.Firsts.{only_word}
 use Rattle.processor.specs.Cells.{Cells}
@@ -10,20 +10,19 @@ use Rattle.processor.specs.Machine.{State}
 use Rattle.declaration.specs.Declaration.{IsDeclared}
 use Rattle.policy.specs.Calls.{Calls}
 use Rattle.domain.specs.Facts.{Ac, Cell, same, Values}
-use Rattle.domain.specs.Sums.Terms.{Term, Holding, Behind, Sum, term_value, sum_value, sum_of_name, coefficient_in, without_term, is_sign}
-use Rattle.domain.specs.Sums.Chains.{Adds, all_longer, Chain}
+use Rattle.domain.specs.Sums.Terms.{Term, Holding, Behind, term_value, sum_value, sum_of_name, coefficient_in, without_term, is_sign}
+use Rattle.domain.specs.Sums.Chains.{Adds}
 use Rattle.domain.specs.Sums.Facts.{Relation, Fact, Place, Rules, OfEquations, OfSums, IsTrueOf, AllTrue, AllGiven, Holds, Means}
-use Rattle.domain.specs.Sums.Adding.{times, with_set, with_name}
-use Rattle.domain.specs.Sums.Moves.{free_of}
-use Rattle.domain.specs.Sums.Laws.{IsBegun, KeepsOthers, AreValues, SumsAreKept, SameButSets}
+use Rattle.domain.specs.Sums.Adding.{times}
+use Rattle.domain.specs.Sums.Laws.{IsBegun, KeepsOthers, SumsAreKept, SameButSets}
 use Rattle.facts.specs.Law.{IsState}
 use Rattle.facts.specs.Sums.References.{words_at, is_fixed, are_fixed, one_target, operand_term}
-use Rattle.facts.specs.Sums.Additions.{names, has_ac, if_without_ac, less, ac_with_rest, brought_by, brought, after_tad, all_after_tad, without_sums, summed, equations_moved, ac_is, equations_after_tad, equated, sums_under, chains_after_tad}
-use Rattle.facts.specs.Sums.Outcomes.{Successor, Goes, given, ac_of, goes, added_under, added, tad_by, tad}
+use Rattle.facts.specs.Sums.Additions.{names, has_ac, if_without_ac, less, ac_with_rest, brought_by, brought, after_tad, all_after_tad, without_sums, summed, equations_moved, equations_after_tad, sums_under, chains_after_tad}
+use Rattle.facts.specs.Sums.Outcomes.{ac_of, goes, added_under, added, tad_by}
 use Rattle.facts.specs.Sums.Laws.{LandsIn, SomeOutcome}
-use Rattle.facts.proofs.Sums.WordLemmas.{plus_lt, minus_plus, or_left, or_right, some_from, has_all, shift_true, sum_true, times_true, carry_number, toggle_true, carrying_true}
+use Rattle.facts.proofs.Sums.WordLemmas.{bit_one, name_number, plus_lt, or_left, or_right, some_from, has_all, shift_true, sum_true, times_true, carry_number, toggle_true, carrying_true}
 use Rattle.facts.proofs.Sums.TermLemmas.{sum_word, sum_append, term_apart, sum_kept, without_less}
-use Rattle.facts.proofs.Sums.StateLemmas.{FactLaws, set_at, ac_values, value_of, values_words, some_left, some_right, vals, means_like, ac_true, names_words, words_at_true, goes_to, some_target}
+use Rattle.facts.proofs.Sums.StateLemmas.{FactLaws, set_at, ac_values, value_of, values_words, some_left, some_right, vals, means_like, ac_true, words_at_true, goes_to, some_target}
 use Rattle.facts.proofs.Sums.RelationLemmas.{true_append, true_flat, without_true, rest_of, with_ac, ac_changed, ac_with_rest_value}
 
 -- ---- what a relation says after it
@@ -45,9 +44,6 @@ sign_number c a x q s b sign e f = elim sign [
 
     turned : (c a x q s b : ℕ) → c ≡ 4095 → s ≡ plus (c * x) q → b ≡ plus a x → plus b ((c * q) % 4096) ≡ plus ((c * s) % 4096) a
     turned c a x q s b o e f = rw o (let g : s ≡ plus (4095 * x) q = rw o at e in omega arith)
-
-name_number : (a : ℕ) → a < 4096 → plus (1 * a) 0 ≡ a
-name_number a h = omega arith
 
 -- the accumulator took the sum with a word
 record AddedUp (v w : Values) (x : ℕ) : Type 0 where
@@ -99,10 +95,12 @@ brought_by_true sums_kept v w start ac t x r u k a q h =
     term_apart v start t r.sum ∙ ap (λ n. plus (c * n) (sum_value v start (without_term t r.sum))) k.before in
     let is : sum_value w start (ac_with_rest c t r.sum) ≡ plus ((c * sum_value v start r.sum) % 4096) (v Ac) =
     ac_with_rest_value sums_kept w start c t r.sum ∙ (ap (λ n. plus (w Ac) ((c * n) % 4096)) rest
-    ∙ sign_number c (v Ac) x (sum_value v start (without_term t r.sum)) (sum_value v start r.sum) (w Ac) (sign_cases c sign) apart u.sum) in
-    (ap (sums (times c r.set) ac) is
-    ∙ sum_true (times c r.set) ac ((c * sum_value v start r.sum) % 4096) (v Ac) (product_word (c * sum_value v start r.sum)) u.small
-    (times_true c r.set (sum_value v start r.sum) (sum_word v start r.sum) h) a, tt))
+    ∙ sign_number c (v Ac) x (sum_value v start (without_term t r.sum)) (sum_value v start r.sum) (w Ac) (sign_cases c sign) apart u.sum) in (
+      ap (sums (times c r.set) ac) is
+          ∙ sum_true (times c r.set) ac ((c * sum_value v start r.sum) % 4096) (v Ac) (product_word (c * sum_value v start r.sum)) u.small
+          (times_true c r.set (sum_value v start r.sum) (sum_word v start r.sum) h) a,
+      tt,
+    ))
     (λ sign. tt)
   where
     c : ℕ
@@ -283,9 +281,6 @@ module _ (laws : FactLaws) (pl : Place) (dd : IsDeclared pl.declaration) (start 
       })
       (ap (λ (x : Words). x s.mq) same_rest.mq ∙ h.mq)
       (eq-eqb ((s.link + (s.ac + s.memory y) / 4096) % 2) l (sym is)) same_rest.sites same_rest.offsets
-
-  bit_one : (l : ℕ) → l < 2 → (l ≡ 0 → ⊥) → 1 ≡ l
-  bit_one l h n = omega arith
 
   tad_sums : (f : Fact) (s : State) (ks : Calls) (p : Words) (o : Option Term) (y : ℕ) → IsState s → Means pl start f s ks → y < 4096 → p y ≡ true →
       ((t : Term) (ac : ℕ) → o ≡ Some t → term_value (vals laws pl dd start begun ac s.memory) start t ≡ s.memory y) →

@@ -1,13 +1,13 @@
 -- The word of a sum of terms: one term and the rest of it, and what stays where a name changes.
-use Rattle.std.proofs.Common.{◌≡◌, ℕ, ◌+◌, ◌*◌, ◌%◌, ◌<◌, ◌==◌, Bool, true, false, not, ◌&&◌, ◌||◌, List, [], ◌∷◌, ◌++◌, refl, sym, ap, ◌∙◌, arith, lit<}
-use Rattle.std.specs.Prelude.{if◌then◌else◌, filter}
+use Rattle.std.proofs.Common.{◌≡◌, ℕ, ◌+◌, ◌*◌, ◌%◌, ◌<◌, ◌==◌, Bool, true, false, not, [], ◌∷◌, ◌++◌, refl, sym, ap, ◌∙◌, arith, lit<}
+use Rattle.std.specs.Prelude.{if◌then◌else◌}
 use Rattle.std.proofs.Math.Nat.{add-mul}
 use Rattle.std.proofs.lemmas.Nat.{mul-mod_first}
-use Rattle.std.proofs.lemmas.Bool.{and_parts, or_parts, eqb-true, false≢true, true≢false, cond_both}
+use Rattle.std.proofs.lemmas.Bool.{and_parts, or_parts, eqb-true, false≢true, cond_both}
 use Rattle.wordset.specs.Words.{plus}
 use Rattle.processor.specs.Cells.{Cells}
 use Rattle.domain.specs.Facts.{Location, Ac, Cell, same, Values}
-use Rattle.domain.specs.Sums.Terms.{Term, Holding, Behind, Summand, Sum, term_value, sum_value, name_of_term, speaks_of, same_term, coefficient_in, without_term, multiplied}
+use Rattle.domain.specs.Sums.Terms.{Term, Holding, Behind, Sum, term_value, sum_value, name_of_term, speaks_of, same_term, coefficient_in, without_term}
 use Rattle.domain.specs.Sums.Laws.{KeepsOthers}
 use Rattle.facts.proofs.Sums.WordLemmas.{plus_lt}
 

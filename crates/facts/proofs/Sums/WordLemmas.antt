@@ -1,11 +1,12 @@
 -- Words, and what operate words make of them.
 use Rattle.std.proofs.Common.{◌≡◌, ℕ, ◌+◌, ◌-◌, ◌*◌, ◌/◌, ◌%◌, ◌<◌, ◌==◌, Bool, true, false, ◌&&◌, ◌||◌, ◌⊎◌, refl, ◌∙◌, inl, inr, arith, lit<}
 use Rattle.std.specs.Prelude.{if◌then◌else◌, bit_and, bit_or}
-use Rattle.std.proofs.lemmas.Bool.{and_from, cases_eq, cond_both, eq-eqb, false_from_ne_true, lt-ltb, or_parts, true≢false}
+use Rattle.std.proofs.lemmas.Bool.{and_from, cases_eq, cond_both, eq-eqb, lt-ltb, true≢false}
 use Rattle.std.proofs.lemmas.Nat.{and_le_l, or_lt, and_mask}
 use Rattle.instruct.specs.Bits.{has_bit}
 use Rattle.instruct.specs.Operates.{cleared, complemented, counted, left, right, exchanged, rotated, operate1_of, operate2_of, MqOperate, Mql, Mqa, Swp, Cam, ClaMqa, ClaSwp, mq_operate}
-use Rattle.wordset.specs.Words.{plus, minus, Words, some_below, all_words, one, has_some, shifted, sums, carries, toggled, ands, ors, or_any, images_at, images}
+use Rattle.wordset.specs.Words.{plus, minus, Words, some_below, all_words, has_some, shifted, sums, carries, toggled, ands, ors, or_any, images_at, images}
+use Rattle.processor.specs.Machine.{next_pc}
 use Rattle.domain.specs.Sums.Adding.{times}
 use Rattle.facts.specs.Sums.Additions.{sums_carrying}
 use Rattle.facts.specs.Sums.Operations.{ac_after, link_after, moves_bits}
@@ -26,6 +27,20 @@ minus_other a b h g = omega arith
 pub if_below : (b : Bool) (x y n : ℕ) → x < n → y < n → (if b then x else y) < n
 if_below true x y n h g = h
 if_below false x y n h g = g
+
+pub bit_one : (l : ℕ) → l < 2 → (l ≡ 0 → ⊥) → 1 ≡ l
+bit_one l h n = omega arith
+
+-- sums with the coefficient 1
+pub once : (a r : ℕ) → plus (1 * a) r ≡ plus a r
+once a r = omega arith
+
+pub name_number : (a : ℕ) → a < 4096 → plus (1 * a) 0 ≡ a
+name_number a h = omega arith
+
+pub next_word : (pc : ℕ) (b : Bool) → next_pc pc b < 4096
+next_word pc true = plus_lt pc 2
+next_word pc false = plus_lt pc 1
 
 -- a word that is k more than one of a set
 pub shift_true : (s : Words) (k v : ℕ) → v < 4096 → s (minus v k) ≡ true → shifted s k v ≡ true

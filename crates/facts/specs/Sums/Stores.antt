@@ -2,11 +2,11 @@
 use Rattle.std.specs.Prelude.{ℕ, ◌==◌, Bool, not, ◌&&◌, if◌then◌else◌, Option, Some, None, List, [], ◌∷◌, ◌++◌, filter, flat_map}
 use Rattle.std.specs.List.{list_any}
 use Rattle.wordset.specs.Words.{Words, all_words, one, some_below, only}
-use Rattle.domain.specs.Facts.{Location, Ac, Cell, same}
+use Rattle.domain.specs.Facts.{Ac, Cell}
 use Rattle.domain.specs.Sums.Terms.{Term, Holding, Behind, Sum, sum_of_name, difference_of, same_term, without_term}
 use Rattle.domain.specs.Sums.Chains.{Chain}
 use Rattle.domain.specs.Sums.Facts.{Relation, Fact, Rules, OfEquations, OfSums}
-use Rattle.domain.specs.Sums.Adding.{with_set, with_name, set_of_sum, adding_all}
+use Rattle.domain.specs.Sums.Adding.{with_set, set_of_sum, adding_all}
 use Rattle.domain.specs.Sums.Moves.{moved_relation, taking}
 use Rattle.facts.specs.Sums.Additions.{has_ac, names}
 

@@ -32,6 +32,13 @@ minus_other a b h g = omega arith
 pub coefficient_word : (c x r : ℕ) → plus (c % 4096 * x) r ≡ plus (c * x) r
 coefficient_word c x r = sym (plus_first (c % 4096 * x) r) ∙ ap (λ m. plus m r) (mul-mod_first c x 4096) ∙ plus_first (c * x) r
 
+-- so does the word that is multiplied, and a product that is added
+pub product_word : (c x r : ℕ) → plus (c * (x % 4096)) r ≡ plus (c * x) r
+product_word c x r = sym (plus_first (c * (x % 4096)) r) ∙ ap (λ m. plus m r) (mul-mod_second c x 4096) ∙ plus_first (c * x) r
+
+pub product_second : (a c x : ℕ) → plus a (c % 4096 * x) ≡ plus a (c * x)
+product_second a c x = sym (add-mod-mod a (c % 4096 * x) 4096) ∙ ap (λ m. plus a m) (mul-mod_first c x 4096) ∙ add-mod-mod a (c * x) 4096
+
 -- two coefficients of one term
 pub coefficients_both : (c d x r : ℕ) → plus (plus c d * x) r ≡ plus (c * x) (plus (d * x) r)
 coefficients_both c d x r = coefficient_word (c + d) x r ∙ omega arith

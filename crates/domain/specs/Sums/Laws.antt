@@ -153,14 +153,14 @@ pub record GoesUp (a d : ℕ) (v w : Values) : Type 0 where
 abbrev pub MovedIsSo : Type 0
 MovedIsSo =
     (a d : ℕ) (by : Words) (start : Cells) (v w : Values) (r : Relation) →
-    AreWords start → AreValues v → GoesUp a d v w → d < 4096 → by d ≡ true → IsTrueOf v start r →
+    GoesUp a d v w → d < 4096 → by d ≡ true → IsTrueOf v start r →
     AllTrue w start (moved_relation a by (only by) r)
 
 -- The same of several relations.
 abbrev pub AllMovedIsSo : Type 0
 AllMovedIsSo =
     (a d : ℕ) (by : Words) (start : Cells) (v w : Values) (rs : List Relation) →
-    AreWords start → AreValues v → GoesUp a d v w → d < 4096 → by d ≡ true → AllTrue v start rs →
+    GoesUp a d v w → d < 4096 → by d ≡ true → AllTrue v start rs →
     AllTrue w start (moved_relations a by rs)
 
 -- A chain stays true where its cell is counted up, as it begins with so much less.

@@ -20,5 +20,6 @@ pub mod DispatchLemmas
 pub mod EachLemmas
 pub mod AskedLemmas
 pub mod CallLemmas
+pub mod Sums
 mod AccessLemmas
 mod OneTarget

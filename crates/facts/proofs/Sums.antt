@@ -1,3 +1,4 @@
+-- Lemmas on facts with sums.
 pub mod WordLemmas
 pub mod TermLemmas
 pub mod StateLemmas
@@ -8,3 +9,8 @@ pub mod ReferenceSteps
 pub mod TadSteps
 pub mod DcaSteps
 pub mod StepLemmas
+pub mod EntailedLemmas
+pub mod LandedLemmas
+pub mod JoinedLemmas
+pub mod StartedLemmas
+pub mod TargetLemmas

@@ -20,6 +20,7 @@ mod scratch;
 mod skipping;
 mod state;
 mod successor;
+pub mod sum_laws;
 
 pub use asked::post;
 pub use conditions::{reads, writes};

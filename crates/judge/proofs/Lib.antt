@@ -13,4 +13,5 @@ pub mod Worlds
 pub mod ClaimsLemmas
 pub mod VerdictLemmas
 pub mod ReadingLemmas
+pub mod Sums
 mod TrueLemmas

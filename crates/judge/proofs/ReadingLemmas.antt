@@ -80,14 +80,14 @@ same_place v u e = sym (place_of v) ∙ ap condition_at e ∙ place_of u
 at_start : (j : Case) (v : Condition) (a : ℕ) → v ≡ V1 → IsAsked j v a → a ≡ j.declaration.start
 at_start j v a e asked = subst (λ x. IsAsked j x a) e asked
 
-start_before : (v u : Condition) (a b : ℕ) → v ≡ V1 → IsLater u → order v a ≡ order u b → ⊥
+pub start_before : (v u : Condition) (a b : ℕ) → v ≡ V1 → IsLater u → order v a ≡ order u b → ⊥
 start_before v u a b e l same =
     let zero : order v a ≡ 0 = ap (λ x. order x a) e in
     let sum : 0 ≡ 16 * b + place_among u = sym zero ∙ (same ∙ order_of u b l) in
     let low : 1 ≤ place_among u = l.low in
     absurd (omega (arith, sum, low))
 
-later_order : (v u : Condition) (a b : ℕ) → IsLater v → IsLater u → order v a ≡ order u b → (v ≡ u) × (a ≡ b)
+pub later_order : (v u : Condition) (a b : ℕ) → IsLater v → IsLater u → order v a ≡ order u b → (v ≡ u) × (a ≡ b)
 later_order v u a b l m same =
     let sum : 16 * a + place_among v ≡ 16 * b + place_among u = sym (order_of v a l) ∙ (same ∙ order_of u b m) in
     let high : place_among v < 15 = l.high in

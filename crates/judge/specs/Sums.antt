@@ -2,4 +2,5 @@
 pub mod Landing
 pub mod Conditions
 pub mod Laws
+pub mod Headline
 pub mod Equations

@@ -2,7 +2,7 @@
 use Rattle.std.specs.Prelude.{◌≡◌, ℕ, ◌<◌, true, ◌⊎◌, Some, List, [], ◌∷◌}
 use Rattle.wordset.specs.Words.{minus, Words, one, meet, IsWithin, IsLinkWithin, SameWords, only}
 use Rattle.domain.specs.Facts.{Location, Ac, Cell}
-use Rattle.domain.specs.Sums.Terms.{Sum, name_of_term}
+use Rattle.domain.specs.Sums.Terms.{difference_of}
 use Rattle.domain.specs.Sums.Chains.{Chain, gives}
 use Rattle.domain.specs.Sums.Facts.{Relation, Fact, Place, Rules, OfEquations, OfSums}
 use Rattle.domain.specs.Sums.Adding.{with_name, is_void}
@@ -15,19 +15,16 @@ Among r [] = ⊥
 Among r (g ∷ gs) = ((g.sum ≡ r.sum) × SameWords g.set r.set) ⊎ Among r gs
 
 -- By the rules of equations x - y in {k} is known where one word is left to each of the two names, and these fulfil it.
-abbrev pub ShowsDifference : Place → Fact → Sum → Words → Type 0
-ShowsDifference pl a (s ∷ t ∷ []) set =
-    (x : ℕ) × (y : ℕ) × (only (words_known pl a (name_of_term s.term)) ≡ Some x) ×
-    (only (words_known pl a (name_of_term t.term)) ≡ Some y) × (set (minus x y) ≡ true)
-ShowsDifference pl a [] set = ⊥
-ShowsDifference pl a (s ∷ []) set = ⊥
-ShowsDifference pl a (s ∷ t ∷ u ∷ us) set = ⊥
+abbrev pub ShowsDifference : Place → Fact → Relation → Type 0
+ShowsDifference pl a r =
+    (m : Location) × (n : Location) × (x : ℕ) × (y : ℕ) × (r.sum ≡ difference_of m n) ×
+    (only (words_known pl a m) ≡ Some x) × (only (words_known pl a n) ≡ Some y) × (r.set (minus x y) ≡ true)
 
 -- The fact knows the relation. By the rules of sums, what it says of the sum is within the set. By those of equations, the
 -- relation is one of its own, or one word for each of the two names shows it.
 abbrev pub KnowsBy : Rules → Place → Fact → Relation → Type 0
 KnowsBy OfSums pl a r = IsWithin (said_of pl.image a r.sum) r.set
-KnowsBy OfEquations pl a r = Among r a.relations ⊎ ShowsDifference pl a r.sum r.set
+KnowsBy OfEquations pl a r = Among r a.relations ⊎ ShowsDifference pl a r
 
 -- It knows each relation of the list.
 abbrev pub KnowsAll : Place → Fact → List Relation → Type 0

@@ -3,7 +3,7 @@ use Rattle.std.specs.Prelude.{◌≡◌, ℕ, true, false, ◌⊎◌, List, [], 
 use Rattle.wordset.specs.Words.{Words}
 use Rattle.processor.specs.Cells.{Cells}
 use Rattle.processor.specs.Machine.{State, Answer, instruction, Step}
-use Rattle.declaration.specs.Declaration.{IsDeclared}
+use Rattle.declaration.specs.Declaration.{Declaration, IsDeclared}
 use Rattle.policy.specs.Calls.{Calls}
 use Rattle.policy.specs.Runs.{GoesOn}
 use Rattle.domain.specs.Facts.{values, KeepsRest, has_cell}
@@ -59,9 +59,10 @@ IdleNeverHolds =
     (pl : Place) (start : Cells) (f : Fact) (s : State) (ks : Calls) →
     IsBegun pl.image start → IsState s → IsIdle pl.rules pl f → Means pl start f s ks → ⊥
 
--- Every cell outside the written set holds what it held.
-abbrev pub KeepsOutside : Words → Cells → Cells → Type 0
-KeepsOutside written before after = (a : ℕ) → has_cell written a ≡ false → after a ≡ before a
+-- Every variable outside the written set holds what it held. An entry may have been written: by the call itself, and by ISZ.
+abbrev pub KeepsOutside : Declaration → Words → Cells → Cells → Type 0
+KeepsOutside d written before after =
+    (a : ℕ) → d.variable a ≡ true → has_cell written a ≡ false → after a ≡ before a
 
 -- The running routine's return word is what it was.
 abbrev pub KeepsReturns : Calls → Cells → Cells → Type 0
@@ -76,5 +77,5 @@ JoinedHolds =
     (pl : Place) (start : Cells) (call exit : Fact) (written : Words) (s t : State) (ks : Calls) →
     IsBegun pl.image start → IsState s → IsState t → Means pl start call s ks →
     Holds exit (values pl.declaration start t.ac t.memory) start t.link → exit.mq t.mq ≡ true → exit.link t.link ≡ true →
-    KeepsRest pl.declaration start t.memory → KeepsOutside written s.memory t.memory → KeepsReturns ks s.memory t.memory →
+    KeepsRest pl.declaration start t.memory → KeepsOutside pl.declaration written s.memory t.memory → KeepsReturns ks s.memory t.memory →
     Means pl start (joined pl.rules call exit written) t ks

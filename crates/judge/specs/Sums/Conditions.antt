@@ -87,9 +87,10 @@ CoversCallee c (Some r) e = Covers c r e
 abbrev pub IsSite : Certificate → ℕ → ℕ → Type 0
 IsSite c a e = (c.sites e a ≡ true) × (a ≤ last_site c.rules)
 
--- The routine may return by an offset of the fact: it is declared, and the fact lands among the exits for it.
+-- The routine may return by an offset of the fact: it is one that a declaration can list, it is declared, and the fact lands among
+-- the exits for it.
 abbrev pub MayReturn : Case → ℕ → Fact → ℕ → Type 0
-MayReturn j e f o = (j.declaration.offset e o ≡ true) × LandsAtExit j e o f
+MayReturn j e f o = (o < 8) × (j.declaration.offset e o ≡ true) × LandsAtExit j e o f
 
 -- A JMP I through an entry is the entry's routine's own return.
 abbrev pub ReturnsWell : Case → Routine → Fact → Meaning → Type 0

@@ -1,0 +1,5 @@
+use Rattle.facts.proofs.Sums.EntailedLemmas.{entailed_facts_hold}
+use Rattle.facts.proofs.sum_laws.entailed_facts_hold.Goals as goal
+
+pub returns : goal.returns
+returns c = entailed_facts_hold

@@ -1,0 +1,5 @@
+use Rattle.judge.proofs.Sums.TrueLemmas.{facts_hold_in_runs, facts_hold_in_events}
+use Rattle.judge.proofs.sum_laws.facts_hold.Goals as goal
+
+pub returns : goal.returns
+returns c = record { runs = facts_hold_in_runs; events = facts_hold_in_events }

@@ -1,0 +1,5 @@
+use Rattle.judge.proofs.Sums.FirstLemmas.{one_first}
+use Rattle.judge.proofs.sum_laws.first_is_one.Goals as goal
+
+pub returns : goal.returns
+returns c = one_first

@@ -1,0 +1,5 @@
+use Rattle.judge.proofs.Sums.TrueLemmas.{programs_are_safe, unlisted_reads_are_free}
+use Rattle.judge.proofs.sum_laws.headline.Goals as goal
+
+pub returns : goal.returns
+returns c = record { safe = programs_are_safe; reads = unlisted_reads_are_free }

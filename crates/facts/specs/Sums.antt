@@ -7,5 +7,6 @@ pub mod Operations
 pub mod Entailment
 pub mod Conditions
 pub mod Laws
+pub mod Access
 pub mod Equations
 pub mod Starts

@@ -1,5 +1,6 @@
 //! Laws of facts with sums, over the definitions alone. Each is the contract of a function that does nothing.
 
+ghost use Rattle.facts.specs.Sums.Access.{CallsAreForeseen, ReadsAreForeseen, WordsAreForeseen, WritesAreForeseen};
 ghost use Rattle.facts.specs.Sums.Laws.{EntailedFactsHold, IdleNeverHolds, JoinedHolds, OneLandedHolds};
 ghost use Rattle.facts.specs.Sums.Starts.{StartFactHolds, StartsLand};
 
@@ -24,4 +25,14 @@ pub fn joined_holds()
 pub fn starts_hold()
     ensures fact { StartFactHolds }
     ensures landed { StartsLand }
+{}
+
+/// Whatever the step at a state of a fact reads, writes or calls is among what the fact says that its
+/// word may, and a cell that is no entry holds a word that is possible there. It is asked of words
+/// whose writes are declared, since one of them may be a pointer that is stepped.
+pub fn accesses_are_foreseen()
+    ensures reads { ReadsAreForeseen }
+    ensures writes { WritesAreForeseen }
+    ensures calls { CallsAreForeseen }
+    ensures words { WordsAreForeseen }
 {}

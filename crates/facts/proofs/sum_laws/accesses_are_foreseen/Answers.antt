@@ -1,0 +1,5 @@
+use Rattle.facts.proofs.Sums.ForeseenLemmas.{reads_are_foreseen, writes_are_foreseen, calls_are_foreseen, words_are_foreseen}
+use Rattle.facts.proofs.sum_laws.accesses_are_foreseen.Goals as goal
+
+pub returns : goal.returns
+returns c = record { reads = reads_are_foreseen; writes = writes_are_foreseen; calls = calls_are_foreseen; words = words_are_foreseen }

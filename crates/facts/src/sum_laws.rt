@@ -1,7 +1,7 @@
 //! Laws of facts with sums, over the definitions alone. Each is the contract of a function that does nothing.
 
 ghost use Rattle.facts.specs.Sums.Access.{CallsAreForeseen, ReadsAreForeseen, WordsAreForeseen, WritesAreForeseen};
-ghost use Rattle.facts.specs.Sums.Laws.{EntailedFactsHold, IdleNeverHolds, JoinedHolds, OneLandedHolds};
+ghost use Rattle.facts.specs.Sums.Laws.{EntailedFactsHold, IdleNeverHolds, JoinedHolds, OneLandedHolds, StepLaw};
 ghost use Rattle.facts.specs.Sums.Starts.{StartFactHolds, StartsLand};
 
 /// A fact holds wherever one holds that entails it.
@@ -35,4 +35,10 @@ pub fn accesses_are_foreseen()
     ensures writes { WritesAreForeseen }
     ensures calls { CallsAreForeseen }
     ensures words { WordsAreForeseen }
+{}
+
+/// From a state of a fact, each step by the word at the program counter lands in one of the word's
+/// outcomes, by the rules of either kind. JMS, returns and a HLT at a stop are apart.
+pub fn steps_land()
+    ensures { StepLaw }
 {}

@@ -1,15 +1,15 @@
 -- What a fact says of a sum is so.
-use Rattle.std.proofs.Common.{◌≡◌, ℕ, ◌+◌, ◌*◌, ◌%◌, ◌<◌, true, ◌&&◌, Option, Some, None, List, [], ◌∷◌, refl, sym, ◌∙◌, ap, arith}
+use Rattle.std.proofs.Common.{◌≡◌, ℕ, ◌*◌, ◌%◌, ◌<◌, true, ◌&&◌, Option, Some, None, [], ◌∷◌, refl, sym, ◌∙◌, ap, arith}
 use Rattle.std.proofs.lemmas.Bool.{and_from, eq-eqb, lt-ltb}
-use Rattle.wordset.specs.Words.{plus, Words, one, some_below, shifted, sums, meet}
+use Rattle.wordset.specs.Words.{plus, shifted, sums}
 use Rattle.wordset.proofs.Tests.{some_from}
 use Rattle.processor.specs.Cells.{Cells}
 use Rattle.processor.specs.Runs.{Image}
 use Rattle.domain.specs.Facts.{Cell, Values, tape_word}
 use Rattle.domain.specs.Sums.Terms.{Term, Holding, Behind, Sum, term_value, sum_value}
 use Rattle.domain.specs.Sums.Facts.{Fact, Holds}
-use Rattle.domain.specs.Sums.Adding.{times, set_of_sum}
-use Rattle.domain.specs.Sums.Knowing.{at_start, words_of_term, said_of}
+use Rattle.domain.specs.Sums.Adding.{times}
+use Rattle.domain.specs.Sums.Knowing.{words_of_term, said_of}
 use Rattle.domain.specs.Sums.Laws.{IsBegun, AreValues, SaidIsSo}
 use Rattle.domain.proofs.Sums.Numbers.{plus_lt, plus_first, shifted_in, sums_in, times_in}
 use Rattle.domain.proofs.Sums.SumLemmas.{val_lt}

@@ -1,25 +1,23 @@
 -- What changes leave of a fact that held.
-use Rattle.std.proofs.Common.{◌≡◌, ℕ, ◌+◌, ◌-◌, ◌*◌, ◌%◌, ◌<◌, ◌==◌, Bool, true, false, ◌&&◌, ◌||◌, Option, Some, None, List, [], ◌∷◌, ◌++◌, map, refl, sym, ◌∙◌, ap, subst, inl, inr, arith, lit<}
-use Rattle.std.specs.Prelude.{if◌then◌else◌, not, nat_lt, filter, flat_map}
-use Rattle.std.specs.List.{list_any}
+use Rattle.std.proofs.Common.{◌≡◌, ℕ, ◌+◌, ◌-◌, ◌*◌, ◌%◌, ◌<◌, ◌==◌, Bool, true, false, ◌&&◌, Option, Some, None, List, [], ◌∷◌, ◌++◌, map, refl, sym, ◌∙◌, ap, subst, inl, inr, arith, lit<}
+use Rattle.std.specs.Prelude.{if◌then◌else◌, not, filter}
 use Rattle.std.proofs.Math.Nat.{add-mod-mod}
 use Rattle.std.proofs.lemmas.Bool.{and_parts, and_from, or_parts, or_left, or_right, cond_both, cases_eq, eqb-true, eqb-false, eq-eqb, ne_eqb, true≢false, false≢true, not-true, not-false, lt-ltb}
-use Rattle.wordset.specs.Words.{plus, minus, Words, one, some_below, union, meet, shifted, sums, only}
+use Rattle.wordset.specs.Words.{plus, minus, Words, one, some_below, union, shifted, sums, only}
 use Rattle.wordset.proofs.Tests.{IsSome, some_from, some_to}
 use Rattle.wordset.proofs.Firsts.{IsOnly, only_word}
 use Rattle.processor.specs.Cells.{Cells, AreWords}
-use Rattle.policy.specs.Calls.{Call, Calls}
 use Rattle.domain.specs.Facts.{Location, Ac, Cell, same, Values, has_cell, is_outside}
 use Rattle.domain.specs.Sums.Terms.{Term, Holding, Behind, Sum, term_value, sum_value, name_of_term, speaks_of, same_term, coefficient_in}
-use Rattle.domain.specs.Sums.Chains.{Step, after_step, after_steps, Chain, is_pair_of, gives, longer, all_longer, after_count}
-use Rattle.domain.specs.Sums.Facts.{Relation, Fact, Place, Rules, OfEquations, OfSums, IsTrueOf, AllTrue, IsGiven, AllGiven, Holds, OwnWord}
-use Rattle.domain.specs.Sums.Adding.{times, adding_all}
+use Rattle.domain.specs.Sums.Chains.{Step, after_step, after_steps, Chain, is_pair_of, gives, longer, after_count}
+use Rattle.domain.specs.Sums.Facts.{Relation, Fact, Rules, OfEquations, OfSums, IsTrueOf, AllTrue, AllGiven, Holds}
+use Rattle.domain.specs.Sums.Adding.{times}
 use Rattle.domain.specs.Sums.Narrowing.{words_known}
-use Rattle.domain.specs.Sums.Moves.{free_of, chains_free_of, taking, counted_term, counted_sum, is_behind, has_behind, moved_relation, moved_relations, counted, cells_of, weakly_updated_sets, weakly_updated, counted_up, outside, words_outside, joined_relations, joined}
-use Rattle.domain.specs.Sums.Laws.{IsBegun, AreValues, KeepsOthers, FreeStaysTrue, TakingHolds, GoesUp, MovedIsSo, AllMovedIsSo, ChainsAreCounted, CountedHolds, WeaklyUpdatedHolds, LongerIsSo, SameButSets, JoinedFactHolds, JoinedParts, JoinedKeeps, CountsReturn, CountedUpIsSo}
+use Rattle.domain.specs.Sums.Moves.{free_of, chains_free_of, counted_term, counted_sum, is_behind, has_behind, moved_relation, moved_relations, cells_of, weakly_updated_sets, outside, words_outside, joined_relations, joined}
+use Rattle.domain.specs.Sums.Laws.{AreValues, KeepsOthers, FreeStaysTrue, TakingHolds, GoesUp, MovedIsSo, AllMovedIsSo, ChainsAreCounted, CountedHolds, WeaklyUpdatedHolds, LongerIsSo, SameButSets, JoinedFactHolds, JoinedKeeps, CountedUpIsSo}
 use Rattle.domain.proofs.Sums.Numbers.{plus_first, product_word, product_second, shifted_in, sums_in, times_in}
 use Rattle.domain.proofs.Sums.SumLemmas.{same_name, same_is, val_lt}
-use Rattle.domain.proofs.Sums.AddingLemmas.{with_name_holds, all_append, all_added, adding_keeps}
+use Rattle.domain.proofs.Sums.AddingLemmas.{all_append, all_added, adding_keeps}
 use Rattle.domain.proofs.Sums.NarrowingLemmas.{known_is_so}
 
 -- ---- what speaks of none of the names that changed
@@ -28,7 +26,7 @@ term_kept : (names : Location → Bool) (start : Cells) (v w : Values) (t : Term
 term_kept names start v w (Holding n) keeps e = keeps n e
 term_kept names start v w (Behind x k) keeps e = ap (λ u. start (plus u k)) (keeps (Cell x) e)
 
-sum_kept : (names : Location → Bool) (start : Cells) (v w : Values) (l : Sum) → KeepsOthers names v w → speaks_of names l ≡ false → sum_value w start l ≡ sum_value v start l
+pub sum_kept : (names : Location → Bool) (start : Cells) (v w : Values) (l : Sum) → KeepsOthers names v w → speaks_of names l ≡ false → sum_value w start l ≡ sum_value v start l
 sum_kept names start v w [] keeps e = refl
 sum_kept names start v w (s ∷ ss) keeps e =
     let p = or_parts (names (name_of_term s.term)) (speaks_of names ss) e in
@@ -321,6 +319,10 @@ counted_up_is_so f before after (k ∷ ks) full more h =
     let back : h.0 + 1 - 1 ≡ h.0 = omega arith in
     let word : before k.entry ≡ k.after + h.0 = h.3 in
     let new : after k.entry ≡ before k.entry + 1 = more in
-    let some : h.0 + 1 ≡ 0 → ⊥ = omega arith in
-    (h.0 + 1, less, and_from _ _ (lt-ltb (h.0 + 1) 64 less)
-    (cond_both (h.0 + 1 == 0) false (f.offsets (h.0 + 1 - 1)) (λ b. b ≡ true) (λ e. absurd (some (eqb-true (h.0 + 1) 0 e))) (λ e. ap f.offsets back ∙ h.2)), omega arith)
+    let some : h.0 + 1 ≡ 0 → ⊥ = omega arith in (
+      h.0 + 1,
+      less,
+      and_from _ _ (lt-ltb (h.0 + 1) 64 less)
+          (cond_both (h.0 + 1 == 0) false (f.offsets (h.0 + 1 - 1)) (λ b. b ≡ true) (λ e. absurd (some (eqb-true (h.0 + 1) 0 e))) (λ e. ap f.offsets back ∙ h.2)),
+      omega arith,
+    )

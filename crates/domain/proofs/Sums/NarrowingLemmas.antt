@@ -1,10 +1,10 @@
 -- Narrowing loses no state, and a void fact has none.
-use Rattle.std.proofs.Common.{◌≡◌, ℕ, ◌+◌, ◌-◌, ◌*◌, ◌%◌, ◌<◌, ◌==◌, Bool, true, false, ◌&&◌, ◌||◌, ◌⊎◌, List, [], ◌∷◌, ◌++◌, refl, sym, ◌∙◌, ap, inl, inr, arith}
-use Rattle.std.specs.Prelude.{if◌then◌else◌, not, flat_map}
+use Rattle.std.proofs.Common.{◌≡◌, ℕ, ◌-◌, ◌*◌, ◌%◌, ◌<◌, true, ◌&&◌, List, [], ◌∷◌, ◌++◌, refl, sym, ◌∙◌, ap, inl, inr, arith}
+use Rattle.std.specs.Prelude.{flat_map}
 use Rattle.std.specs.List.{list_all, list_any}
 use Rattle.std.proofs.lemmas.Bool.{and_from, or_cases, cond_both, true≢false, not-true}
 use Rattle.wordset.specs.Words.{plus, Words, some_below, has_some, has_link}
-use Rattle.wordset.proofs.Tests.{some_from, none_of_some, IsSome, some_to}
+use Rattle.wordset.proofs.Tests.{some_from, IsSome, some_to}
 use Rattle.processor.specs.Cells.{Cells, AreWords}
 use Rattle.processor.specs.Machine.{State}
 use Rattle.processor.specs.Runs.{Image}
@@ -12,15 +12,15 @@ use Rattle.declaration.specs.Declaration.{Declaration}
 use Rattle.policy.specs.Calls.{Calls}
 use Rattle.domain.specs.Facts.{Location, Ac, Cell, Values, values, tape_word}
 use Rattle.domain.specs.Sums.Terms.{Term, Holding, Behind, Sum, term_value, sum_value, sum_of_name, difference_of}
-use Rattle.domain.specs.Sums.Chains.{Chain, gives}
-use Rattle.domain.specs.Sums.Facts.{Relation, Fact, Place, Rules, OfEquations, OfSums, IsTrueOf, AllTrue, IsGiven, AllGiven, Holds, OwnWord, StandsIn, Means}
+use Rattle.domain.specs.Sums.Chains.{Chain}
+use Rattle.domain.specs.Sums.Facts.{Relation, Fact, Place, OfEquations, OfSums, IsTrueOf, AllTrue, IsGiven, AllGiven, Holds, OwnWord, StandsIn, Means}
 use Rattle.domain.specs.Sums.Adding.{differences, adding_all, lacks_all, is_void}
 use Rattle.domain.specs.Sums.Knowing.{said_of}
-use Rattle.domain.specs.Sums.Narrowing.{of_term, of_part, parts_of, may_give, parts_of_chain, links_of_chain, narrowed, words_by, asked_by}
+use Rattle.domain.specs.Sums.Narrowing.{of_term, of_part, parts_of, may_give, parts_of_chain, links_of_chain, narrowed}
 use Rattle.domain.specs.Sums.Laws.{IsBegun, AreValues, SameButSets, NarrowsTo, NarrowedIsSo, NarrowedHolds, AskedHolds, KnownIsSo, VoidNeverHolds}
-use Rattle.domain.proofs.Sums.Numbers.{plus_lt, differences_in}
+use Rattle.domain.proofs.Sums.Numbers.{differences_in}
 use Rattle.domain.proofs.Sums.SumLemmas.{val_lt}
-use Rattle.domain.proofs.Sums.AddingLemmas.{name_val, all_append, term_lt, all_added, adding_keeps}
+use Rattle.domain.proofs.Sums.AddingLemmas.{name_val, all_append, all_added, adding_keeps}
 use Rattle.domain.proofs.Sums.KnowingLemmas.{tape_in, said_in}
 
 module _ (image : Image) (start : Cells) (begun : IsBegun image start) (v : Values) (vw : AreValues v) where
@@ -185,15 +185,15 @@ pub void_never : (f : Fact) (v : Values) (start : Cells) (link mq : ℕ) → Are
 void_never f v start link mq vw small m h l q e = elim (or_cases _ _ e) [
   | inl x ↦ not_lacking f.mq mq m q x
   | inr y ↦ elim (or_cases _ _ y) [
-      | inl x ↦ true≢false (sym (some_from 2 f.link link small l) ∙ not-true (has_link f.link) x)
-      | inr z ↦ elim (or_cases _ _ z) [
-          | inl x ↦ not_lacking (f.set Ac) (v Ac) (vw Ac) (h.sets Ac) x
-          | inr u ↦ elim (or_cases _ _ u) [
-              | inl x ↦ (let a : IsSome 4096 (λ a. lacks_all (f.set (Cell a))) = some_to 4096 (λ a. lacks_all (f.set (Cell a))) x in not_lacking (f.set (Cell a.at)) (v (Cell a.at)) (vw (Cell a.at)) (h.sets (Cell a.at)) a.holds)
-              | inr x ↦ relations_lack v start f.relations h.relations x
-            ]
-        ]
+    | inl x ↦ true≢false (sym (some_from 2 f.link link small l) ∙ not-true (has_link f.link) x)
+    | inr z ↦ elim (or_cases _ _ z) [
+      | inl x ↦ not_lacking (f.set Ac) (v Ac) (vw Ac) (h.sets Ac) x
+      | inr u ↦ elim (or_cases _ _ u) [
+        | inl x ↦ (let a : IsSome 4096 (λ a. lacks_all (f.set (Cell a))) = some_to 4096 (λ a. lacks_all (f.set (Cell a))) x in not_lacking (f.set (Cell a.at)) (v (Cell a.at)) (vw (Cell a.at)) (h.sets (Cell a.at)) a.holds)
+        | inr x ↦ relations_lack v start f.relations h.relations x
+      ]
     ]
+  ]
 ]
 
 pub void_never_holds : VoidNeverHolds

@@ -3,7 +3,7 @@ use Rattle.std.proofs.Common.{◌≡◌, ℕ, ◌+◌, ◌*◌, ◌%◌, ◌<◌
 use Rattle.std.proofs.Math.Nat.{mod-add-mod, add-mod-mod}
 use Rattle.std.proofs.lemmas.Nat.{mul-mod_first, mul-mod_second}
 use Rattle.std.proofs.lemmas.Bool.{and_from, eq-eqb, lt-ltb}
-use Rattle.wordset.specs.Words.{plus, minus, Words, some_below, shifted, sums, images_at}
+use Rattle.wordset.specs.Words.{plus, minus, Words, shifted, sums}
 use Rattle.wordset.proofs.Tests.{some_from}
 use Rattle.domain.specs.Sums.Adding.{times, differences}
 

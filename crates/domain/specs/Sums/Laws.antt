@@ -1,11 +1,11 @@
 -- What is to be proved of sums, of what facts say of them, of narrowing, and of what is left of a fact after a change.
-use Rattle.std.specs.Prelude.{◌≡◌, ℕ, ◌+◌, ◌*◌, ◌%◌, ◌<◌, Bool, true, false, if◌then◌else◌, Option, Some, None, List, [], ◌∷◌, map}
+use Rattle.std.specs.Prelude.{◌≡◌, ℕ, ◌+◌, ◌*◌, ◌%◌, ◌<◌, Bool, true, false, Some, List, [], ◌∷◌, map}
 use Rattle.wordset.specs.Words.{plus, Words, only}
 use Rattle.processor.specs.Cells.{Cells, AreWords}
 use Rattle.processor.specs.Machine.{State}
 use Rattle.processor.specs.Runs.{Image}
 use Rattle.policy.specs.Calls.{Calls}
-use Rattle.domain.specs.Facts.{Location, Ac, Cell, same, Values, values, is_outside}
+use Rattle.domain.specs.Facts.{Location, Ac, Cell, same, Values, is_outside}
 use Rattle.domain.specs.Sums.Terms.{Term, Sum, sum_value, with_summand, collected, arranged, multiplied, term_value}
 use Rattle.domain.specs.Sums.Shapes.{Spelled, spelled, has_shape}
 use Rattle.domain.specs.Sums.Chains.{Step, after_step, after_count, Chain, all_longer}
@@ -13,7 +13,7 @@ use Rattle.domain.specs.Sums.Facts.{Relation, Fact, Place, Rules, IsTrueOf, AllT
 use Rattle.domain.specs.Sums.Adding.{set_of_sum, adding, adding_all, is_void}
 use Rattle.domain.specs.Sums.Knowing.{said_of}
 use Rattle.domain.specs.Sums.Narrowing.{narrowed, words_by, asked_by}
-use Rattle.domain.specs.Sums.Moves.{free_of, chains_free_of, taking, moved_relation, moved_relations, counted, cells_of, weakly_updated, counted_up, joined}
+use Rattle.domain.specs.Sums.Moves.{free_of, chains_free_of, taking, moved_relation, moved_relations, counted, weakly_updated, counted_up, joined}
 
 -- The tape's words stood in memory at the start.
 pub record IsBegun (image : Image) (start : Cells) : Type 0 where
@@ -27,13 +27,13 @@ AreValues v = (n : Location) → v n < 4096
 -- A sum has the same word after its terms were collected and arranged, and with one summand more it has the word of both.
 pub record SumsAreKept : Type 0 where
   pub one_more :
-    (v : Values) (start : Cells) (c : ℕ) (t : Term) (sum : Sum) →
-    sum_value v start (with_summand c t sum) ≡ plus (c * term_value v start t) (sum_value v start sum)
+      (v : Values) (start : Cells) (c : ℕ) (t : Term) (sum : Sum) →
+      sum_value v start (with_summand c t sum) ≡ plus (c * term_value v start t) (sum_value v start sum)
   pub collected : (v : Values) (start : Cells) (sum : Sum) → sum_value v start (collected sum) ≡ sum_value v start sum
   pub arranged : (v : Values) (start : Cells) (sum : Sum) → sum_value v start (arranged sum) ≡ sum_value v start sum
   pub multiplied :
-    (v : Values) (start : Cells) (c : ℕ) (sum : Sum) →
-    sum_value v start (multiplied c sum) ≡ (c * sum_value v start sum) % 4096
+      (v : Values) (start : Cells) (c : ℕ) (sum : Sum) →
+      sum_value v start (multiplied c sum) ≡ (c * sum_value v start sum) % 4096
 
 -- How a sum is spelled: a sum of one of the shapes, with a sign. The sum is as much as this one times the sign, and so the other
 -- way round.
@@ -132,11 +132,11 @@ KeepsOthers names v w = (n : Location) → names n ≡ false → w n ≡ v n
 -- Relations that speak of none of the names that changed stay true, and so do chains that begin on none of them.
 pub record FreeStaysTrue : Type 0 where
   pub relations :
-    (names : Location → Bool) (start : Cells) (v w : Values) (rs : List Relation) →
-    KeepsOthers names v w → AllTrue v start rs → AllTrue w start (free_of names rs)
+      (names : Location → Bool) (start : Cells) (v w : Values) (rs : List Relation) →
+      KeepsOthers names v w → AllTrue v start rs → AllTrue w start (free_of names rs)
   pub chains :
-    (names : Location → Bool) (v w : Values) (link : ℕ) (cs : List Chain) →
-    KeepsOthers names v w → AllGiven v link cs → AllGiven w link (chains_free_of names cs)
+      (names : Location → Bool) (v w : Values) (link : ℕ) (cs : List Chain) →
+      KeepsOthers names v w → AllGiven v link cs → AllGiven w link (chains_free_of names cs)
 
 -- Where one name took a word of a set, the fact of this holds.
 abbrev pub TakingHolds : Type 0

@@ -97,7 +97,7 @@ same_sum (s ∷ ss) (t ∷ ts) = (s.coefficient == t.coefficient) && (same_term 
 same_sum [] (t ∷ ts) = false
 same_sum (s ∷ ss) [] = false
 
--- The sum of one name.
+-- A name alone, as a sum of one term.
 abbrev pub sum_of_name : Location → Sum
 sum_of_name n = record { coefficient = 1; term = Holding n } ∷ []
 

@@ -1,17 +1,25 @@
 -- What is known of sums after TAD, and what CMA and IAC make of them.
-use Rattle.std.specs.Prelude.{ℕ, ◌+◌, ◌*◌, ◌-◌, ◌==◌, nat_lt, Bool, not, ◌&&◌, ◌||◌, if◌then◌else◌, Option, Some, None, List, [], ◌∷◌, ◌++◌, map, flat_map}
+use Rattle.std.specs.Prelude.{ℕ, ◌+◌, ◌*◌, ◌-◌, ◌==◌, nat_lt, Bool, ◌&&◌, ◌||◌, if◌then◌else◌, Option, Some, None, List, [], ◌∷◌, ◌++◌, flat_map}
 use Rattle.instruct.specs.Bits.{has_bit}
 use Rattle.wordset.specs.Words.{Words, all_words, one, some_below, shifted, mirrored, sums, only}
-use Rattle.domain.specs.Facts.{Ac, same}
-use Rattle.domain.specs.Sums.Terms.{Term, Holding, Sum, sum_of_name, coefficient_in, without_term, multiplied, is_sign}
+use Rattle.domain.specs.Facts.{Location, Ac, same}
+use Rattle.domain.specs.Sums.Terms.{Term, Holding, Sum, sum_of_name, speaks_of, coefficient_in, without_term, multiplied, is_sign}
 use Rattle.domain.specs.Sums.Chains.{Chain, Adds, all_longer}
 use Rattle.domain.specs.Sums.Facts.{Relation, Fact, OfSums}
 use Rattle.domain.specs.Sums.Adding.{times, with_set, adding_all}
 use Rattle.domain.specs.Sums.Moves.{free_of}
 
--- The sum with the accumulator.
+-- The sum speaks of this name.
+abbrev pub names : Location → Sum → Bool
+names n sum = speaks_of (λ m. same m n) sum
+
+-- The sum is the accumulator plus a rest.
 abbrev pub has_ac : Sum → Bool
-has_ac sum = not (coefficient_in (Holding Ac) sum == 0)
+has_ac sum = coefficient_in (Holding Ac) sum == 1
+
+-- The relation, if it doesn't speak of the accumulator.
+abbrev pub if_without_ac : Relation → List Relation
+if_without_ac r = if names Ac r.sum then [] else r ∷ []
 
 -- The sum less a term, which is there as often as it may be already.
 abbrev pub less : Sum → Term → Sum
@@ -27,14 +35,19 @@ abbrev pub brought_by : ℕ → Term → Words → Relation → List Relation
 brought_by c t ac r =
     if is_sign c then record { sum = ac_with_rest c t r.sum; set = sums (times c r.set) ac } ∷ [] else []
 
+-- What a relation says besides after TAD, where the operand is the word of a term: with the accumulator, that the new AC less the
+-- term is the old AC.
+abbrev pub brought : Words → Option Term → Relation → List Relation
+brought ac None r = []
+brought ac (Some t) r =
+    if has_ac r.sum then record { sum = less r.sum t; set = r.set } ∷ []
+    else (if names Ac r.sum then [] else brought_by (coefficient_in t r.sum) t ac r)
+
 -- What a relation says after TAD of a word of the set `operand`, which is that of a term, if there is one; `ac` are the old
--- words of the accumulator. The new AC is the old one plus the operand, and the new AC less the term is the old AC.
+-- words of the accumulator. The new AC is the old one plus the operand.
 abbrev pub after_tad : Words → Words → Option Term → Relation → List Relation
-after_tad ac operand None r =
-    record { sum = r.sum; set = if has_ac r.sum then sums r.set operand else r.set } ∷ []
-after_tad ac operand (Some t) r =
-    record { sum = r.sum; set = if has_ac r.sum then sums r.set operand else r.set } ∷
-    (if has_ac r.sum then record { sum = less r.sum t; set = r.set } ∷ [] else brought_by (coefficient_in t r.sum) t ac r)
+after_tad ac operand t r =
+    (if has_ac r.sum then record { sum = r.sum; set = sums r.set operand } ∷ [] else if_without_ac r) ++ brought ac t r
 
 -- The relations after TAD by the rules of sums: those that each relation makes, and those that the words of AC make, as a
 -- relation of AC alone.
@@ -42,18 +55,20 @@ abbrev pub all_after_tad : Words → Option Term → Fact → List Relation
 all_after_tad operand t f =
     flat_map (λ r. after_tad (f.set Ac) operand t r) (record { sum = sum_of_name Ac; set = f.set Ac } ∷ f.relations)
 
--- The fact without relations, and with any word in the accumulator.
+-- The fact without relations and chains, and with any word in the accumulator.
 abbrev pub without_sums : Fact → Fact
-without_sums f = record f { set = with_set Ac all_words f.set; relations = [] }
+without_sums f = record f { set = with_set Ac all_words f.set; relations = []; chains = [] }
 
--- By the rules of sums the fact after TAD, but for the link.
+-- By the rules of sums the fact after TAD, but for the link and chains.
 abbrev pub summed : Words → Option Term → Fact → Fact
 summed operand t f = adding_all OfSums (all_after_tad operand t f) (without_sums f)
 
 -- The relations after a word w was added, of an accumulator of which equations are known.
 abbrev pub equations_moved : ℕ → List Relation → List Relation
 equations_moved w relations =
-    map (λ r. record { sum = r.sum; set = if has_ac r.sum then shifted r.set w else r.set }) relations
+    flat_map
+    (λ r. if has_ac r.sum then record { sum = r.sum; set = shifted r.set w } ∷ [] else if_without_ac r)
+    relations
 
 -- The accumulator is a cell's word plus a.
 abbrev pub ac_is : Term → ℕ → Relation
@@ -69,11 +84,12 @@ equations_after_tad (Some t) (Some a) w relations = ac_is t a ∷ free_of (λ n.
 equations_after_tad t a (Some w) relations = equations_moved w relations
 equations_after_tad t a None relations = free_of (λ n. same n Ac) relations
 
--- By the rules of equations the fact after TAD, but for the link. `known` are the accumulator's narrowed words.
+-- By the rules of equations the fact after TAD, but for the link. `known` are the accumulator's narrowed words. There are no chains.
 abbrev pub equated : Words → Words → Option Term → Fact → Fact
 equated known operand t f = record f {
   set = with_set Ac (sums known operand) f.set;
   relations = equations_after_tad t (only known) (only operand) f.relations;
+  chains = [];
 }
 
 -- All sums x + y of two sets that come with this carry, less 10000 where there is one.
@@ -93,18 +109,18 @@ chains_after_tad (Some w) chains = all_longer (Adds w) chains
 chains_after_tad None chains = []
 
 -- A sum with the accumulator after CMA: AC' is -AC - 1, so AC' less the rest is -1 less the old sum.
-abbrev pub complemented : Relation → Relation
+abbrev pub complemented : Relation → List Relation
 complemented r =
-    if has_ac r.sum
-    then record { sum = record { coefficient = 1; term = Holding Ac } ∷ multiplied 4095 (without_term (Holding Ac) r.sum); set = mirrored r.set }
-    else r
+    if has_ac r.sum then record { sum = ac_with_rest 4095 (Holding Ac) r.sum; set = mirrored r.set } ∷ []
+    else if_without_ac r
 
 -- A sum with the accumulator after IAC is one more.
-abbrev pub incremented : Relation → Relation
-incremented r = if has_ac r.sum then record { sum = r.sum; set = shifted r.set 1 } else r
+abbrev pub incremented : Relation → List Relation
+incremented r =
+    if has_ac r.sum then record { sum = r.sum; set = shifted r.set 1 } ∷ [] else if_without_ac r
 
--- A relation after CMA and then IAC, where a word of group 1 has them.
-abbrev pub turned : ℕ → Relation → Relation
-turned w r =
-    let first : Relation = if has_bit 5 w then complemented r else r in
-    if has_bit 0 w then incremented first else first
+-- The relations after CMA and then IAC, where a word of group 1 has them.
+abbrev pub turned : ℕ → List Relation → List Relation
+turned w relations =
+    let first : List Relation = if has_bit 5 w then flat_map complemented relations else relations in
+    if has_bit 0 w then flat_map incremented first else first

@@ -1,5 +1,5 @@
 -- The outcomes of operate and device words, and of every instruction.
-use Rattle.std.specs.Prelude.{ℕ, ◌==◌, Bool, true, false, not, ◌&&◌, ◌||◌, if◌then◌else◌, List, [], ◌++◌, nat_lt, map, filter}
+use Rattle.std.specs.Prelude.{ℕ, ◌==◌, Bool, true, false, not, ◌&&◌, ◌||◌, if◌then◌else◌, List, [], ◌++◌, nat_lt, filter}
 use Rattle.instruct.specs.Bits.{has_bit}
 use Rattle.instruct.specs.Operates.{operate1_of, skips_of, is_halt, MqOperate, Mql, Mqa, Swp, Cam, ClaMqa, ClaSwp}
 use Rattle.instruct.specs.Instructions.{Meaning, And, Tad, Isz, Dca, Jms, Jmp, Group1, Group2, Group3, Device, Undefined, DeviceAction, Skips, Ors, Clears, Takes, Leaves}
@@ -32,7 +32,7 @@ moves_bits w = has_bit 3 w || (has_bit 2 w || has_bit 1 w)
 abbrev pub relations_operated : Rules → ℕ → List Relation → List Relation
 relations_operated rules w relations =
     if has_bit 7 w || moves_bits w then free_of (λ n. same n Ac) relations
-    else filter (λ r. is_kept rules r.sum r.set) (map (turned w) relations)
+    else filter (λ r. is_kept rules r.sum r.set) (turned w relations)
 
 -- The chains after it: with CLA they go. Else the word is a step more, and if it is a rotation or BSW, chains begin before.
 abbrev pub chains_operated : Rules → ℕ → Fact → List Chain

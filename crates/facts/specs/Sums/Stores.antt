@@ -2,17 +2,13 @@
 use Rattle.std.specs.Prelude.{ℕ, ◌==◌, Bool, not, ◌&&◌, if◌then◌else◌, Option, Some, None, List, [], ◌∷◌, ◌++◌, filter, flat_map}
 use Rattle.std.specs.List.{list_any}
 use Rattle.wordset.specs.Words.{Words, all_words, one, some_below, only}
-use Rattle.domain.specs.Facts.{Location, Ac, Cell, same}
-use Rattle.domain.specs.Sums.Terms.{Term, Holding, Behind, Sum, sum_of_name, difference_of, speaks_of, same_term, without_term}
+use Rattle.domain.specs.Facts.{Ac, Cell}
+use Rattle.domain.specs.Sums.Terms.{Term, Holding, Behind, Sum, sum_of_name, difference_of, same_term, without_term}
 use Rattle.domain.specs.Sums.Chains.{Chain}
 use Rattle.domain.specs.Sums.Facts.{Relation, Fact, Rules, OfEquations, OfSums}
-use Rattle.domain.specs.Sums.Adding.{with_set, with_name, set_of_sum, adding_all}
+use Rattle.domain.specs.Sums.Adding.{with_set, set_of_sum, adding_all}
 use Rattle.domain.specs.Sums.Moves.{moved_relation, taking}
-use Rattle.facts.specs.Sums.Additions.{has_ac}
-
--- The sum speaks of this name.
-abbrev pub names : Location → Sum → Bool
-names n sum = speaks_of (λ m. same m n) sum
+use Rattle.facts.specs.Sums.Additions.{has_ac, names}
 
 -- The sum with the cell in the accumulator's place.
 abbrev pub with_cell_for_ac : ℕ → Sum → Sum
@@ -27,7 +23,8 @@ has_all_words set = not (some_below 4096 (λ v. not (set v)))
 abbrev pub after_store : ℕ → Words → Relation → List Relation
 after_store y by r =
     if has_ac r.sum then (if names (Cell y) r.sum then [] else record { sum = with_cell_for_ac y r.sum; set = r.set } ∷ [])
-    else (if names (Cell y) r.sum then (if has_all_words by then [] else moved_relation y by (only by) r) else r ∷ [])
+    else (if names Ac r.sum then []
+    else (if names (Cell y) r.sum then (if has_all_words by then [] else moved_relation y by (only by) r) else r ∷ []))
 
 -- The relations after it by the rules of sums: those that each relation makes, and those that the words of AC and of y make.
 abbrev pub all_after_store : ℕ → Fact → List Relation
@@ -38,9 +35,8 @@ all_after_store y f =
 -- By the rules of sums the fact after DCA of the one target y: AC is 0 then, and chains go.
 abbrev pub stored : ℕ → Fact → Fact
 stored y f =
-    with_name Ac (one 0)
-    (adding_all OfSums (all_after_store y f)
-    (record f { set = with_set (Cell y) all_words f.set; relations = []; chains = [] }))
+    adding_all OfSums (all_after_store y f)
+    (record f { set = with_set Ac (one 0) (with_set (Cell y) all_words f.set); relations = []; chains = [] })
 
 -- The relations that speak of AC and not of y, said of y.
 abbrev pub copied_for : ℕ → Relation → List Relation
@@ -64,7 +60,8 @@ begun_on (Behind x m) k links = []
 -- The chain that begins by a relation: AC is a known word more than a cell, and the link is one of those.
 abbrev pub begun_by : Words → Sum → Words → List Chain
 begun_by links (s ∷ t ∷ []) set =
-    if same_term s.term (Holding Ac) && (t.coefficient == 4095) then begun_on t.term (only set) links else []
+    if (s.coefficient == 1) && (same_term s.term (Holding Ac) && (t.coefficient == 4095))
+    then begun_on t.term (only set) links else []
 begun_by links [] set = []
 begun_by links (s ∷ []) set = []
 begun_by links (s ∷ t ∷ u ∷ us) set = []

@@ -11,10 +11,9 @@ use Rattle.facts.specs.Law.{IsState}
 use Rattle.facts.specs.Sums.References.{targets}
 use Rattle.facts.specs.Sums.Conditions.{may_read, may_write, WritesAreDeclared}
 use Rattle.facts.specs.Sums.Access.{IsStateOf, ReadsAreForeseen, WritesAreForeseen, CallsAreForeseen, WordsAreForeseen}
-use Rattle.facts.proofs.Numbers.{or_left}
-use Rattle.facts.proofs.Cells.{seen_place}
-use Rattle.facts.proofs.Covers.{NamesWord, meaning_names}
-use Rattle.facts.proofs.Sums.TargetLemmas.{accessed, pointer_written, possible_true}
+use Rattle.facts.proofs.Sums.WordLemmas.{or_left}
+use Rattle.facts.proofs.Sums.StateLemmas.{seen_place, possible_true}
+use Rattle.facts.proofs.Sums.StepLemmas.{NamesWord, meaning_names, pointer_written, accessed}
 
 or_wider : (x y z : Bool) → (y ≡ true → z ≡ true) → (x || y) ≡ true → (x || z) ≡ true
 or_wider true y z f e = refl
@@ -23,14 +22,14 @@ or_wider false y z f e = f e
 -- the place that a memory reference refers to is one of its targets
 reaches : (pl : Place) (start : Cells) (f : Fact) (s : State) (ks : Calls) (i : Bool) (c : ℕ) → IsStateOf pl start f s ks → c < 4096
     → (steps_pointer i c ≡ true → (pl.declaration.variable c ≡ true) ⊎ (pl.declaration.entry c ≡ true)) → targets pl i c f (place i c s.memory) ≡ true
-reaches pl start f s ks i c is named declared = (accessed pl is.declared start is.begun f s ks i c is.state is.means named declared).target
+reaches pl start f s ks i c is named declared = (accessed pl is.declared start is.begun f s ks i c is.state is.top is.means named declared).target
 
 -- and so is a cell at that place
 among : (pl : Place) (start : Cells) (f : Fact) (s : State) (ks : Calls) (a : ℕ) (i : Bool) (c : ℕ) (m : Meaning) → IsStateOf pl start f s ks → c < 4096 → WritesAreDeclared pl f m → pointer_of m c ≡ (steps_pointer i c && (c == c)) →
     (a == place i c s.memory) ≡ true → targets pl i c f a ≡ true
 among pl start f s ks a i c m is named declared pointer e =
     ap (targets pl i c f) (eqb-true a _ e)
-    ∙ reaches pl start f s ks i c is named (λ q. declared c named (or_left _ _ (pointer ∙ pointer_written i c q)))
+    ∙ reaches pl start f s ks i c is named (λ q. declared c named (or_left _ _ (pointer ∙ pointer_written pl is.declared start is.begun i c q)))
 
 pub read_may : (pl : Place) (start : Cells) (f : Fact) (s : State) (ks : Calls) (a : ℕ) (m : Meaning) → IsStateOf pl start f s ks → NamesWord m → WritesAreDeclared pl f m → read_by m s.memory a ≡ true → may_read pl f m a ≡ true
 read_may pl start f s ks a (And i c) is named declared reads = or_wider (i && (a == c)) _ _ (among pl start f s ks a i c (And i c) is named declared refl) reads
@@ -89,7 +88,7 @@ pub calls_are_foreseen : CallsAreForeseen
 calls_are_foreseen pl start f s ks i c is declared call =
     let named : NamesWord (Jms i c) = subst NamesWord call (meaning_names pl.declaration.profile s.pc (s.memory s.pc) is.state.pc) in
     let here : WritesAreDeclared pl f (Jms i c) = subst (λ (m : Meaning). WritesAreDeclared pl f m) call declared in
-    reaches pl start f s ks i c is named (λ e. here c named (or_left _ _ (pointer_written i c e)))
+    reaches pl start f s ks i c is named (λ e. here c named (or_left _ _ (pointer_written pl is.declared start is.begun i c e)))
 
 pub words_are_foreseen : WordsAreForeseen
 words_are_foreseen pl start f s ks a is none = possible_true pl is.declared start is.begun f s ks a is.state is.means none

@@ -16,25 +16,23 @@ use Rattle.facts.specs.Law.{IsState}
 use Rattle.facts.specs.declared.Condition.TheVariants.{V1}
 use Rattle.facts.specs.Sums.Access.{IsStateOf}
 use Rattle.facts.specs.Sums.Conditions.{may_write, CountsItsReturn}
-use Rattle.facts.specs.Sums.Laws.{StepLaw}
 use Rattle.facts.specs.Sums.Starts.{start_fact}
-use Rattle.facts.proofs.Covers.{NamesWord, meaning_names}
 use Rattle.facts.proofs.Sums.ForeseenLemmas.{read_may, read_word, write_may, written_word}
 use Rattle.facts.proofs.Sums.StartedLemmas.{start_is_begun, start_fact_holds}
-use Rattle.facts.proofs.Sums.TargetLemmas.{Accessed}
+use Rattle.facts.proofs.Sums.StepLemmas.{NamesWord, meaning_names, Accessed}
 use Rattle.judge.specs.Sums.Landing.{Case, place_in, LandsAt}
 use Rattle.judge.specs.Sums.Conditions.{MayReturn, IsValid}
 use Rattle.judge.proofs.Sums.Fine.{Fine}
 use Rattle.judge.proofs.Sums.Frames.{top_is_entry}
 use Rattle.judge.proofs.Sums.Induction.{Invariant, Held, held, access, landed, keeps, fine_at, not_entry}
 
-module _ (step_law : StepLaw) (j : Case) (dd : IsDeclared j.declaration) (valid : IsValid j) (start : Cells) (begun : IsBegun j.image start) where
+module _ (j : Case) (dd : IsDeclared j.declaration) (valid : IsValid j) (start : Cells) (begun : IsBegun j.image start) where
   -- the invariant, and the fact that holds
   abbrev pub Inv : State → Calls → Type 0
-  Inv s ks = Invariant step_law j dd valid start begun s ks
+  Inv s ks = Invariant j dd valid start begun s ks
 
   abbrev pub Here : State → Calls → Type 0
-  Here s ks = Held step_law j dd valid start begun s ks
+  Here s ks = Held j dd valid start begun s ks
 
   -- a state of the fact that holds
   state_of : (s : State) (ks : Calls) (h : Here s ks) → Inv s ks → IsStateOf (place_in j (current ks)) start h.fact s ks
@@ -61,7 +59,7 @@ module _ (step_law : StepLaw) (j : Case) (dd : IsDeclared j.declaration) (valid 
   legal_calls : (m : Meaning) (s : State) (ks : Calls) (h : Here s ks) → Inv s ks → NamesWord m → Fine j (current ks) s.pc h.fact m → CallsEntries j.declaration m s
   legal_calls (Jms i c) s ks h inv n fine =
       let still : steps_pointer i c ≡ false = fine.v7.0 in
-      let x : Accessed (place_in j (current ks)) dd start begun h.fact s i c = access step_law j dd valid start begun s ks h i c inv.state n (λ e. absurd (true≢false (sym e ∙ still))) in
+      let x : Accessed (place_in j (current ks)) dd start begun h.fact s ks i c = access j dd valid start begun s ks h i c inv n (λ e. absurd (true≢false (sym e ∙ still))) in
       (fine.v7.1 (place i c s.memory) x.word x.target).entry
   legal_calls _ s ks h inv n fine = tt
 
@@ -85,8 +83,8 @@ module _ (step_law : StepLaw) (j : Case) (dd : IsDeclared j.declaration) (valid 
 
   pub legal : (s : State) (ks : Calls) → Inv s ks → IsLegal j.image j.declaration s ks
   legal s ks inv =
-      let h : Here s ks = held step_law j dd valid start begun s ks inv in
-      let fine : Fine j (current ks) s.pc h.fact (instruction j.declaration.profile s) = fine_at step_law j dd valid start begun s ks h inv in
+      let h : Here s ks = held j dd valid start begun s ks inv in
+      let fine : Fine j (current ks) s.pc h.fact (instruction j.declaration.profile s) = fine_at j dd valid start begun s ks h inv in
       let n : NamesWord (instruction j.declaration.profile s) = meaning_names j.declaration.profile s.pc (s.memory s.pc) inv.state.pc in
       record {
         stays = record { in_body = inv.inside; supported = fine.v3 };
@@ -94,23 +92,23 @@ module _ (step_law : StepLaw) (j : Case) (dd : IsDeclared j.declaration) (valid 
         calls = legal_calls (instruction j.declaration.profile s) s ks h inv n fine;
         returns = legal_returns (instruction j.declaration.profile s) s ks h inv fine;
         halts = fine.v13;
-        code = λ r a w inside var tape. h.means.rest a var (not_entry step_law j dd valid start begun r a inside) ∙ begun.loaded a w tape;
+        code = λ r a w inside var tape. h.means.rest a var (not_entry j dd valid start begun r a inside) ∙ begun.loaded a w tape;
         reads = legal_reads (instruction j.declaration.profile s) s ks h inv n fine;
       }
 
   pub all_legal : (answers : List Answer) (s t : State) (ks ls : Calls) → Inv s ks → DeclaredRun j.declaration answers s ks t ls → IsLegal j.image j.declaration t ls
   all_legal [] s t ks ls inv run = subst (λ x. IsLegal j.image j.declaration t x) run.1 (subst (λ x. IsLegal j.image j.declaration x ks) run.0 (legal s ks inv))
-  all_legal (q ∷ qs) s t ks ls inv run = all_legal qs run.0 t (calls_after j.declaration s ks) ls (keeps step_law j dd valid start begun s run.0 q ks inv run.2 run.1) run.3
+  all_legal (q ∷ qs) s t ks ls inv run = all_legal qs run.0 t (calls_after j.declaration s ks) ls (keeps j dd valid start begun s run.0 q ks inv run.2 run.1) run.3
 
-pub starts : (step_law : StepLaw) (j : Case) (dd : IsDeclared j.declaration) (valid : IsValid j) (s : State) (start : IsStart j.image j.declaration.start s) →
-    Invariant step_law j dd valid s.memory (start_is_begun (place_in j None) j.declaration.start s start) s []
-starts step_law j dd valid s start =
+pub starts : (j : Case) (dd : IsDeclared j.declaration) (valid : IsValid j) (s : State) (start : IsStart j.image j.declaration.start s) →
+    Invariant j dd valid s.memory (start_is_begun (place_in j None) j.declaration.start s start) s []
+starts j dd valid s start =
     let at : s.pc ≡ j.declaration.start = start.pc in
     let ss : IsState s = record { ac = start.ac; link = start.link; mq = start.mq; pc = rw at dd.start_is_word; words = start.words } in
     let lands : LandsAt j None s.pc (start_fact j.image) = subst (λ p. LandsAt j None p (start_fact j.image)) (sym at) (valid V1 j.declaration.start refl) in
-    landed step_law j dd valid s.memory (start_is_begun (place_in j None) j.declaration.start s start) None (start_fact j.image) s [] refl lands ss
+    landed j dd valid s.memory (start_is_begun (place_in j None) j.declaration.start s start) None (start_fact j.image) s [] refl lands ss
     (start_fact_holds (place_in j None) s refl start) tt
 
-pub runs_are_safe : StepLaw → (j : Case) → IsDeclared j.declaration → IsValid j → IsSafeInRuns j.image j.declaration
-runs_are_safe step_law j dd valid s t ls answers start run =
-    all_legal step_law j dd valid s.memory (start_is_begun (place_in j None) j.declaration.start s start) answers s t [] ls (starts step_law j dd valid s start) run
+pub runs_are_safe : (j : Case) → IsDeclared j.declaration → IsValid j → IsSafeInRuns j.image j.declaration
+runs_are_safe j dd valid s t ls answers start run =
+    all_legal j dd valid s.memory (start_is_begun (place_in j None) j.declaration.start s start) answers s t [] ls (starts j dd valid s start) run

@@ -43,3 +43,9 @@ pub fn accesses_are_foreseen()
     ensures calls { CallsAreForeseen }
     ensures words { WordsAreForeseen }
 {}
+
+/// From a state of a fact, each step by the word at the program counter lands in one of the word's
+/// outcomes, by the rules of either kind. JMS, returns and a HLT at a stop are apart.
+pub fn steps_land()
+    ensures { StepLaw }
+{}

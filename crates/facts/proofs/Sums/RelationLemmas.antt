@@ -2,7 +2,7 @@
 use Rattle.std.proofs.Common.{◌≡◌, ℕ, ◌-◌, ◌*◌, ◌%◌, ◌<◌, ◌==◌, Bool, true, false, not, ◌&&◌, Option, Some, None, List, [], ◌∷◌, ◌++◌, refl, sym, ap, ◌∙◌, arith}
 use Rattle.std.specs.Prelude.{filter, flat_map}
 use Rattle.std.proofs.lemmas.Bool.{and_from, and_parts, cond_both, eqb-true, eq-eqb, lt-ltb}
-use Rattle.wordset.specs.Words.{plus, minus, Words, shifted, mirrored, sums, only}
+use Rattle.wordset.specs.Words.{plus, minus, Words, shifted, mirrored, only}
 use Rattle.wordset.proofs.Firsts.{only_word}
 use Rattle.processor.specs.Cells.{Cells}
 use Rattle.domain.specs.Facts.{Location, Ac, Cell, same, Values}

@@ -1,14 +1,11 @@
 -- The word of a sum of terms: one term and the rest of it, and what stays where a name changes.
-use Rattle.std.proofs.Common.{◌≡◌, ℕ, ◌+◌, ◌*◌, ◌%◌, ◌<◌, ◌==◌, Bool, true, false, not, [], ◌∷◌, ◌++◌, refl, sym, ap, ◌∙◌, arith, lit<}
+use Rattle.std.proofs.Common.{◌≡◌, ℕ, ◌*◌, Bool, true, false, not, [], ◌∷◌, refl, sym, ap, ◌∙◌, arith}
 use Rattle.std.specs.Prelude.{if◌then◌else◌}
-use Rattle.std.proofs.Math.Nat.{add-mul}
-use Rattle.std.proofs.lemmas.Nat.{mul-mod_first}
-use Rattle.std.proofs.lemmas.Bool.{and_parts, or_parts, eqb-true, false≢true, cond_both}
+use Rattle.std.proofs.lemmas.Bool.{or_parts, cond_both}
 use Rattle.wordset.specs.Words.{plus}
 use Rattle.processor.specs.Cells.{Cells}
 use Rattle.domain.specs.Facts.{Location, Ac, Cell, same, Values}
 use Rattle.domain.specs.Sums.Terms.{Term, Holding, Behind, Sum, term_value, sum_value, name_of_term, speaks_of, same_term, coefficient_in, without_term}
-use Rattle.domain.specs.Sums.Laws.{KeepsOthers}
 use Rattle.domain.proofs.Sums.Numbers.{plus_swap, coefficients_both}
 use Rattle.domain.proofs.Sums.SumLemmas.{same_is}
 

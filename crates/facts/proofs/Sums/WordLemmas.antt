@@ -5,9 +5,8 @@ use Rattle.std.proofs.lemmas.Bool.{and_from, cases_eq, cond_both, eq-eqb, lt-ltb
 use Rattle.std.proofs.lemmas.Nat.{and_le_l, or_lt, and_mask}
 use Rattle.instruct.specs.Bits.{has_bit}
 use Rattle.instruct.specs.Operates.{cleared, complemented, counted, left, right, exchanged, rotated, operate1_of, operate2_of, MqOperate, Mql, Mqa, Swp, Cam, ClaMqa, ClaSwp, mq_operate}
-use Rattle.wordset.specs.Words.{plus, minus, Words, some_below, all_words, has_some, shifted, sums, carries, toggled, ands, ors, or_any, images_at, images}
+use Rattle.wordset.specs.Words.{plus, minus, Words, some_below, all_words, has_some, shifted, carries, toggled, ands, ors, or_any, images_at, images}
 use Rattle.processor.specs.Machine.{next_pc}
-use Rattle.domain.specs.Sums.Adding.{times}
 use Rattle.domain.proofs.Sums.Numbers.{plus_lt}
 use Rattle.facts.specs.Sums.Additions.{sums_carrying}
 use Rattle.facts.specs.Sums.Operations.{ac_after, link_after, moves_bits}

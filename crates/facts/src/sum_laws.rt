@@ -4,6 +4,13 @@ ghost use Rattle.facts.specs.Sums.Access.{CallsAreForeseen, ReadsAreForeseen, Wo
 ghost use Rattle.facts.specs.Sums.Laws.{EntailedFactsHold, IdleNeverHolds, JoinedHolds, OneLandedHolds, StepLaw};
 ghost use Rattle.facts.specs.Sums.Starts.{StartFactHolds, StartsLand};
 
+/// From a state of a fact, a step by the word at the program counter lands in one of the word's
+/// outcomes, of the same call list. It is asked of words whose writes are declared and keep the
+/// entries; a JMS, a JMP I through an entry and a HLT that isn't at a pause are apart.
+pub fn steps_land()
+    ensures { StepLaw }
+{}
+
 /// A fact holds wherever one holds that entails it.
 pub fn entailed_facts_hold()
     ensures { EntailedFactsHold }
@@ -35,10 +42,4 @@ pub fn accesses_are_foreseen()
     ensures writes { WritesAreForeseen }
     ensures calls { CallsAreForeseen }
     ensures words { WordsAreForeseen }
-{}
-
-/// From a state of a fact, each step by the word at the program counter lands in one of the word's
-/// outcomes, by the rules of either kind. JMS, returns and a HLT at a stop are apart.
-pub fn steps_land()
-    ensures { StepLaw }
 {}

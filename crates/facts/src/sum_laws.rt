@@ -1,8 +1,15 @@
 //! Laws of facts with sums, over the definitions alone. Each is the contract of a function that does nothing.
 
 ghost use Rattle.facts.specs.Sums.Access.{CallsAreForeseen, ReadsAreForeseen, WordsAreForeseen, WritesAreForeseen};
-ghost use Rattle.facts.specs.Sums.Laws.{EntailedFactsHold, IdleNeverHolds, JoinedHolds, OneLandedHolds};
+ghost use Rattle.facts.specs.Sums.Laws.{EntailedFactsHold, IdleNeverHolds, JoinedHolds, OneLandedHolds, StepLaw};
 ghost use Rattle.facts.specs.Sums.Starts.{StartFactHolds, StartsLand};
+
+/// From a state of a fact, a step by the word at the program counter lands in one of the word's
+/// outcomes, of the same call list. It is asked of words whose writes are declared and keep the
+/// entries; a JMS, a JMP I through an entry and a HLT that isn't at a pause are apart.
+pub fn steps_land()
+    ensures { StepLaw }
+{}
 
 /// A fact holds wherever one holds that entails it.
 pub fn entailed_facts_hold()

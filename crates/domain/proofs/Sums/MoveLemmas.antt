@@ -26,7 +26,7 @@ term_kept : (names : Location → Bool) (start : Cells) (v w : Values) (t : Term
 term_kept names start v w (Holding n) keeps e = keeps n e
 term_kept names start v w (Behind x k) keeps e = ap (λ u. start (plus u k)) (keeps (Cell x) e)
 
-sum_kept : (names : Location → Bool) (start : Cells) (v w : Values) (l : Sum) → KeepsOthers names v w → speaks_of names l ≡ false → sum_value w start l ≡ sum_value v start l
+pub sum_kept : (names : Location → Bool) (start : Cells) (v w : Values) (l : Sum) → KeepsOthers names v w → speaks_of names l ≡ false → sum_value w start l ≡ sum_value v start l
 sum_kept names start v w [] keeps e = refl
 sum_kept names start v w (s ∷ ss) keeps e =
     let p = or_parts (names (name_of_term s.term)) (speaks_of names ss) e in

@@ -20,21 +20,11 @@ use Rattle.facts.specs.Law.{IsState}
 use Rattle.facts.specs.Sums.Entailment.{Among, ShowsDifference, KnowsBy, KnowsAll, EachGives, ShowsChain, ShowsChains, Entails}
 use Rattle.facts.specs.Sums.Laws.{EntailedFactsHold}
 
--- what names stand for are words
-pub names_words : (d : Declaration) (start : Cells) (s : State) → AreWords start → IsState s → AreValues (values d start s.ac s.memory)
-names_words d start s sw ss = values_are d start s.ac s.memory sw ss.words ss.ac
-
 difference_number : (a b : ℕ) → a < 4096 → b < 4096 → plus (1 * a) (plus (4095 * b) 0) ≡ minus a b
 difference_number a b la lb = omega arith
 
 pub difference_value : (v : Values) (start : Cells) (m n : Location) → AreValues v → sum_value v start (difference_of m n) ≡ minus (v m) (v n)
 difference_value v start m n ws = difference_number (v m) (v n) (ws m) (ws n)
-
--- what is known of a fact that holds
-pub known_true : (pl : Place) (start : Cells) (f : Fact) (s : State) (ks : Calls) → IsBegun pl.image start → IsState s →
-    Means pl start f s ks → (n : Location) → words_known pl f n (values pl.declaration start s.ac s.memory n) ≡ true
-known_true pl start f s ks begun ss h n =
-    known_is_so pl.rules pl.image start f (values pl.declaration start s.ac s.memory) s.link n begun (names_words pl.declaration start s begun.words ss) ss.link h.link h.holds
 
 -- relations
 among_true : (v : Values) (start : Cells) (r : Relation) (gs : List Relation) → AllTrue v start gs → Among r gs → IsTrueOf v start r
@@ -82,23 +72,23 @@ last_word : (rules : Rules) → last_site rules ≤ 4094
 last_word OfEquations = lit≤ tt
 last_word OfSums = lit≤ tt
 
-pub stands_like : (pl : Place) (f g : Fact) (ks : Calls) → IsWithin f.sites g.sites → StandsIn pl f ks → StandsIn pl g ks
-stands_like pl f g [] within h = h
-stands_like pl f g (k ∷ ks) within h =
+stands_within : (pl : Place) (f g : Fact) (ks : Calls) → IsWithin f.sites g.sites → StandsIn pl f ks → StandsIn pl g ks
+stands_within pl f g [] within h = h
+stands_within pl f g (k ∷ ks) within h =
     let last : last_site pl.rules ≤ 4094 = last_word pl.rules in
     let low : k.after ≤ last_site pl.rules + 1 = h.2 in
     (h.0, h.1, h.2, within (k.after - 1) (omega arith) h.3)
 
-pub own_like : (f g : Fact) (m : Cells) (ks : Calls) → ((o : ℕ) → o < 64 → f.offsets o ≡ true → g.offsets o ≡ true) → OwnWord f m ks → OwnWord g m ks
-own_like f g m [] h o = tt
-own_like f g m (k ∷ ks) h o = (o.0, o.1, h o.0 o.1 o.2, o.3)
+own_within : (f g : Fact) (m : Cells) (ks : Calls) → ((o : ℕ) → o < 64 → f.offsets o ≡ true → g.offsets o ≡ true) → OwnWord f m ks → OwnWord g m ks
+own_within f g m [] h o = tt
+own_within f g m (k ∷ ks) h o = (o.0, o.1, h o.0 o.1 o.2, o.3)
 
 -- The law.
 pub entailed_facts_hold : EntailedFactsHold
 entailed_facts_hold pl start f g s ks begun ss en h =
     let v : Values = values pl.declaration start s.ac s.memory in
-    let ws : AreValues v = names_words pl.declaration start s begun.words ss in
-    let known : (n : Location) → words_known pl f n (v n) ≡ true = known_true pl start f s ks begun ss h in
+    let ws : AreValues v = values_are pl.declaration start s.ac s.memory begun.words ss.words ss.ac in
+    let known : (n : Location) → words_known pl f n (v n) ≡ true = λ n. known_is_so pl.rules pl.image start f v s.link n begun ws ss.link h.link h.holds in
     record {
       holds = record {
         sets = λ n. en.sets n (v n) (ws n) (known n);
@@ -108,6 +98,6 @@ entailed_facts_hold pl start f g s ks begun ss en h =
       mq = en.mq s.mq ss.mq h.mq;
       link = en.link s.link ss.link h.link;
       rest = h.rest;
-      stands = stands_like pl f g ks en.sites h.stands;
-      own = own_like f g s.memory ks en.offsets h.own;
+      stands = stands_within pl f g ks en.sites h.stands;
+      own = own_within f g s.memory ks en.offsets h.own;
     }

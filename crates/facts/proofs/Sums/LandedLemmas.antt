@@ -10,12 +10,12 @@ use Rattle.domain.specs.Sums.Facts.{Fact, Rules, OfEquations, OfSums, Place, Mea
 use Rattle.domain.specs.Sums.Adding.{with_set, with_name}
 use Rattle.domain.specs.Sums.Narrowing.{narrowed}
 use Rattle.domain.specs.Sums.Laws.{IsBegun}
-use Rattle.domain.proofs.Sums.NarrowingLemmas.{narrowed_holds, void_never_holds}
+use Rattle.domain.proofs.Sums.SumLemmas.{same_name}
+use Rattle.domain.proofs.Sums.NarrowingLemmas.{narrowed_holds, values_are, void_never_holds}
 use Rattle.facts.specs.Law.{IsState}
 use Rattle.facts.specs.Sums.Entailment.{Entails, EntailsOne, met_at, TakesWord, IsSplit, PartLands, with_one_link, LandsBy, Lands, IsIdle}
 use Rattle.facts.specs.Sums.Laws.{OneLandedHolds, IdleNeverHolds}
-use Rattle.facts.proofs.Laws.{same_true}
-use Rattle.facts.proofs.Sums.EntailedLemmas.{names_words, entailed_facts_hold}
+use Rattle.facts.proofs.Sums.EntailedLemmas.{entailed_facts_hold}
 
 module _ (pl : Place) (start : Cells) (begun : IsBegun pl.image start) (s : State) (ss : IsState s) (ks : Calls) where
   some_entailed : (a : Fact) (among : List Fact) → EntailsOne pl a among → Means pl start a s ks → SomeMeans pl start among s ks
@@ -27,7 +27,7 @@ module _ (pl : Place) (start : Cells) (begun : IsBegun pl.image start) (s : Stat
   met_means n a b h has = narrowed_holds pl start (with_name n (meet (a.set n) (b.set n)) a) s ks begun ss.words ss.ac ss.link (record {
     holds = record {
       sets = λ m. cond_both (same m n) (meet (a.set n) (b.set n)) (a.set m) (λ (chosen : Words). chosen (v m) ≡ true)
-          (λ e. let l : m ≡ n = same_true m n e in rw l (and_from _ _ (h.holds.sets n) has))
+          (λ e. let l : m ≡ n = same_name m n e in rw l (and_from _ _ (h.holds.sets n) has))
           (λ e. h.holds.sets m);
       relations = h.holds.relations;
       chains = h.holds.chains;
@@ -57,7 +57,7 @@ module _ (pl : Place) (start : Cells) (begun : IsBegun pl.image start) (s : Stat
     | inl void ↦ absurd (void_never_holds pl start a s ks begun.words ss.words ss.ac ss.link ss.mq void h)
     | inr more ↦ elim more [
       | inl en ↦ some_entailed a among en h
-      | inr split ↦ some_taken split.0 a among (split.1 (values pl.declaration start s.ac s.memory split.0) (names_words pl.declaration start s begun.words ss split.0) (h.holds.sets split.0)) h
+      | inr split ↦ some_taken split.0 a among (split.1 (values pl.declaration start s.ac s.memory split.0) (values_are pl.declaration start s.ac s.memory begun.words ss.words ss.ac split.0) (h.holds.sets split.0)) h
     ]
   ]
 

@@ -2,29 +2,29 @@
 use Rattle.std.proofs.Common.{◌≡◌, ℕ, ◌-◌, ◌*◌, ◌%◌, ◌<◌, ◌==◌, Bool, true, false, not, ◌&&◌, Option, Some, None, List, [], ◌∷◌, ◌++◌, refl, sym, ap, ◌∙◌, arith}
 use Rattle.std.specs.Prelude.{filter, flat_map}
 use Rattle.std.proofs.lemmas.Bool.{and_from, and_parts, cond_both, eqb-true, eq-eqb, lt-ltb}
-use Rattle.wordset.specs.Words.{plus, minus, Words, shifted, mirrored, sums, only}
+use Rattle.wordset.specs.Words.{plus, minus, Words, shifted, mirrored, only}
 use Rattle.wordset.proofs.Firsts.{only_word}
 use Rattle.processor.specs.Cells.{Cells}
 use Rattle.domain.specs.Facts.{Location, Ac, Cell, same, Values}
 use Rattle.domain.specs.Sums.Terms.{Term, Holding, Behind, Sum, term_value, sum_value, speaks_of, same_term, coefficient_in, without_term}
 use Rattle.domain.specs.Sums.Chains.{Chain, gives, is_pair_of}
 use Rattle.domain.specs.Sums.Facts.{Relation, Fact, Rules, OfEquations, OfSums, IsTrueOf, AllTrue, IsGiven, AllGiven, Holds}
-use Rattle.domain.specs.Sums.Laws.{KeepsOthers, SumsAreKept}
+use Rattle.domain.specs.Sums.Laws.{KeepsOthers}
+use Rattle.domain.proofs.Sums.Numbers.{plus_lt}
+use Rattle.domain.proofs.Sums.SumLemmas.{sums_are_kept, same_is, val_lt}
+use Rattle.domain.proofs.Sums.AddingLemmas.{all_append}
+use Rattle.domain.proofs.Sums.MoveLemmas.{sum_kept}
 use Rattle.facts.specs.Sums.Additions.{names, has_ac, if_without_ac, ac_with_rest, complemented, incremented}
 use Rattle.facts.specs.Sums.Stores.{begun_on, begun_by, has_chain_on, all_begun, with_begun}
-use Rattle.facts.proofs.Sums.WordLemmas.{once, plus_lt, some_from, shift_true}
-use Rattle.facts.proofs.Sums.TermLemmas.{same_term_true, sum_word, term_apart, sum_kept, without_ac}
+use Rattle.facts.proofs.Sums.WordLemmas.{once, some_from, shift_true}
+use Rattle.facts.proofs.Sums.TermLemmas.{term_apart, without_ac}
 
 -- ---- lists
-
-pub true_append : (v : Values) (start : Cells) (rs gs : List Relation) → AllTrue v start rs → AllTrue v start gs → AllTrue v start (rs ++ gs)
-true_append v start [] gs t u = u
-true_append v start (r ∷ rs) gs t u = (t.0, true_append v start rs gs t.1 u)
 
 pub true_flat : (v w : Values) (start : Cells) (g : Relation → List Relation) → ((r : Relation) → IsTrueOf v start r → AllTrue w start (g r)) →
     (rs : List Relation) → AllTrue v start rs → AllTrue w start (flat_map g rs)
 true_flat v w start g each [] t = tt
-true_flat v w start g each (r ∷ rs) t = true_append w start (g r) (flat_map g rs) (each r t.0) (true_flat v w start g each rs t.1)
+true_flat v w start g each (r ∷ rs) t = all_append w start (g r) (flat_map g rs) (each r t.0) (true_flat v w start g each rs t.1)
 
 pub true_filter : (v : Values) (start : Cells) (test : Relation → Bool) (rs : List Relation) → AllTrue v start rs → AllTrue v start (filter test rs)
 true_filter v start test [] t = tt
@@ -43,7 +43,7 @@ given_filter v link test (c ∷ cs) t =
 -- ---- a relation that doesn't speak of a name that changed
 
 pub still_true : (v w : Values) (start : Cells) (n : Location) (r : Relation) → KeepsOthers (λ m. same m n) v w → names n r.sum ≡ false → IsTrueOf v start r → IsTrueOf w start r
-still_true v w start n r k e t = ap r.set (sum_kept v w start (λ m. same m n) r.sum k e) ∙ t
+still_true v w start n r k e t = ap r.set (sum_kept (λ m. same m n) start v w r.sum k e) ∙ t
 
 pub without_true : (v w : Values) (start : Cells) (r : Relation) → KeepsOthers (λ m. same m Ac) v w → IsTrueOf v start r → AllTrue w start (if_without_ac r)
 without_true v w start r k t = cond_both (names Ac r.sum) [] (r ∷ []) (AllTrue w start) (λ q. tt) (λ q. (still_true v w start Ac r k q t, tt))
@@ -60,10 +60,10 @@ with_ac v start sum e =
     term_apart v start (Holding Ac) sum ∙ (ap (λ x. plus (x * v Ac) (sum_value v start (without_term (Holding Ac) sum))) c ∙ once (v Ac) (sum_value v start (without_term (Holding Ac) sum)))
 
 pub rest_kept : (v w : Values) (start : Cells) (sum : Sum) → KeepsOthers (λ m. same m Ac) v w → rest_of w start sum ≡ rest_of v start sum
-rest_kept v w start sum k = sum_kept v w start (λ m. same m Ac) (without_term (Holding Ac) sum) k (without_ac sum)
+rest_kept v w start sum k = sum_kept (λ m. same m Ac) start v w (without_term (Holding Ac) sum) k (without_ac sum)
 
 pub rest_word : (v : Values) (start : Cells) (sum : Sum) → rest_of v start sum < 4096
-rest_word v start sum = sum_word v start (without_term (Holding Ac) sum)
+rest_word v start sum = val_lt v start (without_term (Holding Ac) sum)
 
 -- the sum with the accumulator, after it took another word
 pub ac_changed : (v w : Values) (start : Cells) (sum : Sum) → KeepsOthers (λ m. same m Ac) v w → has_ac sum ≡ true → sum_value w start sum ≡ plus (w Ac) (rest_of v start sum)
@@ -72,21 +72,21 @@ ac_changed v w start sum k e = with_ac w start sum e ∙ ap (plus (w Ac)) (rest_
 -- ---- CMA and IAC
 
 -- the accumulator with the rest, each term of it times a number
-pub ac_with_rest_value : (sums : SumsAreKept) (w : Values) (start : Cells) (c : ℕ) (t : Term) (sum : Sum) →
+pub ac_with_rest_value : (w : Values) (start : Cells) (c : ℕ) (t : Term) (sum : Sum) →
     sum_value w start (ac_with_rest c t sum) ≡ plus (w Ac) ((c * sum_value w start (without_term t sum)) % 4096)
-ac_with_rest_value sums w start c t sum =
-    ap (plus (1 * w Ac)) (sums.multiplied w start c (without_term t sum)) ∙ once (w Ac) ((c * sum_value w start (without_term t sum)) % 4096)
+ac_with_rest_value w start c t sum =
+    ap (plus (1 * w Ac)) (sums_are_kept.multiplied w start c (without_term t sum)) ∙ once (w Ac) ((c * sum_value w start (without_term t sum)) % 4096)
 
 complement_number : (a b r : ℕ) → a < 4096 → b ≡ 4095 - a → 4095 - plus b ((4095 * r) % 4096) ≡ plus a r
 complement_number a b r h e = omega arith
 
-pub complemented_true : (sums : SumsAreKept) (v w : Values) (start : Cells) (r : Relation) → KeepsOthers (λ m. same m Ac) v w → v Ac < 4096 → w Ac ≡ 4095 - v Ac →
+pub complemented_true : (v w : Values) (start : Cells) (r : Relation) → KeepsOthers (λ m. same m Ac) v w → v Ac < 4096 → w Ac ≡ 4095 - v Ac →
     IsTrueOf v start r → AllTrue w start (complemented r)
-complemented_true sums v w start r k h e t = cond_both (has_ac r.sum) (record { sum = ac_with_rest 4095 (Holding Ac) r.sum; set = mirrored r.set } ∷ []) (if_without_ac r) (AllTrue w start)
+complemented_true v w start r k h e t = cond_both (has_ac r.sum) (record { sum = ac_with_rest 4095 (Holding Ac) r.sum; set = mirrored r.set } ∷ []) (if_without_ac r) (AllTrue w start)
     (λ q.
     let rest : ℕ = rest_of v start r.sum in
     let is : sum_value w start (ac_with_rest 4095 (Holding Ac) r.sum) ≡ plus (w Ac) ((4095 * rest) % 4096) =
-    ac_with_rest_value sums w start 4095 (Holding Ac) r.sum ∙ ap (λ x. plus (w Ac) ((4095 * x) % 4096)) (rest_kept v w start r.sum k) in
+    ac_with_rest_value w start 4095 (Holding Ac) r.sum ∙ ap (λ x. plus (w Ac) ((4095 * x) % 4096)) (rest_kept v w start r.sum k) in
     let back : 4095 - plus (w Ac) ((4095 * rest) % 4096) ≡ sum_value v start r.sum = complement_number (v Ac) (w Ac) rest h e ∙ sym (with_ac v start r.sum q) in
     (ap (mirrored r.set) is ∙ and_from _ _ (lt-ltb (plus (w Ac) ((4095 * rest) % 4096)) 4096 (plus_lt (w Ac) ((4095 * rest) % 4096))) (ap r.set back ∙ t), tt))
     (λ q. without_true v w start r k t)
@@ -134,14 +134,14 @@ begun_by_given v start link links (s ∷ u ∷ []) set ha h l t =
     let parts = and_parts (s.coefficient == 1) (same_term s.term (Holding Ac) && (u.coefficient == 4095)) q in
     let more = and_parts (same_term s.term (Holding Ac)) (u.coefficient == 4095) parts.1 in
     let one_ac : s.coefficient ≡ 1 = eqb-true s.coefficient 1 parts.0 in
-    let ac : s.term ≡ Holding Ac = same_term_true s.term (Holding Ac) more.0 in
+    let ac : s.term ≡ Holding Ac = same_is s.term (Holding Ac) more.0 in
     let less : u.coefficient ≡ 4095 = eqb-true u.coefficient 4095 more.1 in
     let is : sum_value v start (s ∷ u ∷ []) ≡ plus (1 * v Ac) (plus (4095 * term_value v start u.term) 0) =
     ap (λ c. plus (c * term_value v start s.term) (plus (u.coefficient * term_value v start u.term) 0)) one_ac
     ∙ (ap (λ x. plus (1 * term_value v start x) (plus (u.coefficient * term_value v start u.term) 0)) ac
     ∙ ap (λ c. plus (1 * v Ac) (plus (c * term_value v start u.term) 0)) less) in
     begun_on_given v start link u.term (only set) links ha h l
-    (λ k e. sym is ∙ (only_word set k e).lone (sum_value v start (s ∷ u ∷ [])) (sum_word v start (s ∷ u ∷ [])) t))
+    (λ k e. sym is ∙ (only_word set k e).lone (sum_value v start (s ∷ u ∷ [])) (val_lt v start (s ∷ u ∷ [])) t))
     (λ q. tt)
 
 all_begun_given : (v : Values) (start : Cells) (link : ℕ) (links : Words) (rs : List Relation) → v Ac < 4096 → link < 2 → links link ≡ true →
@@ -172,7 +172,7 @@ speaks_of_none (s ∷ ss) = speaks_of_none ss
 
 relations_kept : (v w : Values) (start : Cells) (rs : List Relation) → KeepsOthers (λ m. false) v w → AllTrue v start rs → AllTrue w start rs
 relations_kept v w start [] k t = tt
-relations_kept v w start (r ∷ rs) k t = (ap r.set (sum_kept v w start (λ m. false) r.sum k (speaks_of_none r.sum)) ∙ t.0, relations_kept v w start rs k t.1)
+relations_kept v w start (r ∷ rs) k t = (ap r.set (sum_kept (λ m. false) start v w r.sum k (speaks_of_none r.sum)) ∙ t.0, relations_kept v w start rs k t.1)
 
 pub holds_kept : (f : Fact) (v w : Values) (start : Cells) (link : ℕ) → KeepsOthers (λ m. false) v w → Holds f v start link → Holds f w start link
 holds_kept f v w start link k h = record {

@@ -16,7 +16,7 @@ use Rattle.facts.proofs.Sums.LandedLemmas.{one_landed_holds}
 pub start_is_begun : (pl : Place) (at : ℕ) (s : State) → IsStart pl.image at s → IsBegun pl.image s.memory
 start_is_begun pl at s start = record { words = start.words; loaded = start.loaded }
 
-pub tape_true : (o : Option ℕ) (x : ℕ) → x < 4096 → ((w : ℕ) → o ≡ Some w → x ≡ w) → tape_word o x ≡ true
+tape_true : (o : Option ℕ) (x : ℕ) → x < 4096 → ((w : ℕ) → o ≡ Some w → x ≡ w) → tape_word o x ≡ true
 tape_true None x lt h = lt-ltb x 4096 lt
 tape_true (Some w) x lt h = eq-eqb x w (h w refl)
 

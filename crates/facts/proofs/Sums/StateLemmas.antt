@@ -13,30 +13,16 @@ use Rattle.domain.specs.Sums.Facts.{Fact, Place, Rules, OfEquations, OfSums, Hol
 use Rattle.domain.specs.Sums.Adding.{with_set}
 use Rattle.domain.specs.Sums.Narrowing.{words_known}
 use Rattle.domain.specs.Sums.Moves.{counted}
-use Rattle.domain.specs.Sums.Laws.{IsBegun, AreValues, SumsAreKept, GivenIsSo, AddingKeeps, AllAddedIsSo, NarrowedHolds, KnownIsSo, VoidNeverHolds, KeepsOthers, FreeStaysTrue, TakingHolds, GoesUp, MovedIsSo, CountedHolds, WeaklyUpdatedHolds, LongerIsSo, CountedUpIsSo}
+use Rattle.domain.specs.Sums.Laws.{IsBegun, AreValues, KeepsOthers, GoesUp}
+use Rattle.domain.proofs.Sums.Numbers.{plus_lt}
+use Rattle.domain.proofs.Sums.SumLemmas.{same_name}
+use Rattle.domain.proofs.Sums.NarrowingLemmas.{known_is_so}
+use Rattle.domain.proofs.Sums.MoveLemmas.{counted_holds}
 use Rattle.facts.specs.Law.{IsState, TopIsEntry}
 use Rattle.facts.specs.Sums.References.{own_words, words_in, possible, stepped, targets, words_at}
 use Rattle.facts.specs.Sums.Outcomes.{Successor, given, ac_of, is_alive, alive, goes}
 use Rattle.facts.specs.Sums.Laws.{LandsIn, SomeOutcome}
-use Rattle.facts.proofs.Sums.WordLemmas.{plus_lt, if_below, some_from, shift_true}
-use Rattle.facts.proofs.Sums.TermLemmas.{same_true}
-
--- what is proved of facts by themselves
-pub record FactLaws : Type 0 where
-  pub sums : SumsAreKept
-  pub given : GivenIsSo
-  pub keeps : AddingKeeps
-  pub added : AllAddedIsSo
-  pub narrowed : NarrowedHolds
-  pub known : KnownIsSo
-  pub void : VoidNeverHolds
-  pub free : FreeStaysTrue
-  pub taking : TakingHolds
-  pub moved : MovedIsSo
-  pub counted : CountedHolds
-  pub weakly : WeaklyUpdatedHolds
-  pub longer : LongerIsSo
-  pub up : CountedUpIsSo
+use Rattle.facts.proofs.Sums.WordLemmas.{if_below, some_from, shift_true}
 
 -- ---- memory and names
 
@@ -126,9 +112,9 @@ after_pointer i c s = record s { memory = seen i c s.memory }
 -- a set for a name beside the sets of the others
 pub set_at : (n : Location) (set : Words) (sets : Location → Words) (w : Values) → set (w n) ≡ true →
     ((m : Location) → same m n ≡ false → sets m (w m) ≡ true) → (m : Location) → with_set n set sets m (w m) ≡ true
-set_at n set sets w here there m = cond_both (same m n) set (sets m) (λ (chosen : Words). chosen (w m) ≡ true) (λ q. let l : m ≡ n = same_true m n q in rw l here) (λ q. there m q)
+set_at n set sets w here there m = cond_both (same m n) set (sets m) (λ (chosen : Words). chosen (w m) ≡ true) (λ q. let l : m ≡ n = same_name m n q in rw l here) (λ q. there m q)
 
-module _ (laws : FactLaws) (pl : Place) (dd : IsDeclared pl.declaration) (start : Cells) (begun : IsBegun pl.image start) where
+module _ (pl : Place) (dd : IsDeclared pl.declaration) (start : Cells) (begun : IsBegun pl.image start) where
   -- what the names stand for
   abbrev pub vals : ℕ → Cells → Values
   vals ac m = values pl.declaration start ac m
@@ -162,7 +148,7 @@ module _ (laws : FactLaws) (pl : Place) (dd : IsDeclared pl.declaration) (start 
   -- ---- what is known
 
   pub known_true : (f : Fact) (s : State) (ks : Calls) (n : Location) → IsState s → Means pl start f s ks → words_known pl f n (vals s.ac s.memory n) ≡ true
-  known_true f s ks n ss h = laws.known pl.rules pl.image start f (vals s.ac s.memory) s.link n begun (names_words s ss) ss.link h.link h.holds
+  known_true f s ks n ss h = known_is_so pl.rules pl.image start f (vals s.ac s.memory) s.link n begun (names_words s ss) ss.link h.link h.holds
 
   pub ac_true : (f : Fact) (s : State) (ks : Calls) → IsState s → Means pl start f s ks → ac_of pl f s.ac ≡ true
   ac_true f s ks ss h = known_true f s ks Ac ss h
@@ -218,10 +204,10 @@ module _ (laws : FactLaws) (pl : Place) (dd : IsDeclared pl.declaration) (start 
     others = updated_values pl.declaration start ac s.memory y (plus (s.memory y) 1);
   }
 
-  pub counted_holds : (f : Fact) (s : State) (ks : Calls) (y : ℕ) → IsState s → Means pl start f s ks → pl.declaration.variable y ≡ true →
+  pub counted_cell_holds : (f : Fact) (s : State) (ks : Calls) (y : ℕ) → IsState s → Means pl start f s ks → pl.declaration.variable y ≡ true →
       Holds (counted pl y f) (vals s.ac (updated s.memory y (plus (s.memory y) 1))) start s.link
-  counted_holds f s ks y ss h var =
-      laws.counted pl y start f (vals s.ac s.memory) (vals s.ac (updated s.memory y (plus (s.memory y) 1))) s.link begun (names_words s ss) ss.link h.link (goes_up s s.ac y var) h.holds
+  counted_cell_holds f s ks y ss h var =
+      counted_holds pl y start f (vals s.ac s.memory) (vals s.ac (updated s.memory y (plus (s.memory y) 1))) s.link begun (names_words s ss) ss.link h.link (goes_up s s.ac y var) h.holds
 
   pub pointer_means : (i : Bool) (c : ℕ) (f : Fact) (s : State) (ks : Calls) → IsState s → TopIsEntry pl.declaration ks →
       (steps_pointer i c ≡ true → pl.declaration.variable c ≡ true) → Means pl start f s ks → Means pl start (stepped pl i c f) (after_pointer i c s) ks
@@ -231,7 +217,7 @@ module _ (laws : FactLaws) (pl : Place) (dd : IsDeclared pl.declaration) (start 
           Means pl start (if b then counted pl c f else f)
           (record s { memory = if b then updated s.memory c (plus (s.memory c) 1) else s.memory }) ks
       go false e = record { holds = h.holds; mq = h.mq; link = h.link; rest = h.rest; stands = h.stands; own = h.own }
-      go true e = means_updated f (counted pl c f) s ks c (plus (s.memory c) 1) s.ac s.pc top (var e) h (counted_holds f s ks c ss h (var e)) refl refl refl refl
+      go true e = means_updated f (counted pl c f) s ks c (plus (s.memory c) 1) s.ac s.pc top (var e) h (counted_cell_holds f s ks c ss h (var e)) refl refl refl refl
 
   pub target_true : (i : Bool) (c : ℕ) (f : Fact) (s : State) (ks : Calls) → IsState s → TopIsEntry pl.declaration ks →
       (steps_pointer i c ≡ true → pl.declaration.variable c ≡ true) → Means pl start f s ks → targets pl i c f (place i c s.memory) ≡ true

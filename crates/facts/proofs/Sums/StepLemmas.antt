@@ -17,14 +17,15 @@ use Rattle.domain.specs.Facts.{is_routine}
 use Rattle.domain.specs.Sums.Facts.{Fact, Place, Rules, OfEquations, OfSums, StandsIn, Means}
 use Rattle.domain.specs.Sums.Moves.{counted}
 use Rattle.domain.specs.Sums.Laws.{IsBegun}
+use Rattle.domain.proofs.Sums.Numbers.{plus_lt}
 use Rattle.facts.specs.Law.{IsState, TopIsEntry, IsOrdinary}
 use Rattle.facts.specs.Sums.References.{stepped, targets}
 use Rattle.facts.specs.Sums.Conditions.{may_write, WritesAreDeclared, MayCount, EntriesAreKept}
 use Rattle.facts.specs.Sums.Outcomes.{ac_of}
 use Rattle.facts.specs.Sums.Operations.{ac_after, link_after, all_operated2, outcomes_of}
 use Rattle.facts.specs.Sums.Laws.{LandsIn, SomeOutcome, StepLaw}
-use Rattle.facts.proofs.Sums.WordLemmas.{next_word, if_below, plus_lt, or_left, or_right, and_word, or_word, or_byte_true, ac_after_word, link_after_bit, operate2_word, mq_words}
-use Rattle.facts.proofs.Sums.StateLemmas.{FactLaws, words_updated, seen_words, seen_place, after_pointer, pointer_state, pointer_means, target_true, ac_true}
+use Rattle.facts.proofs.Sums.WordLemmas.{next_word, if_below, or_left, or_right, and_word, or_word, or_byte_true, ac_after_word, link_after_bit, operate2_word, mq_words}
+use Rattle.facts.proofs.Sums.StateLemmas.{words_updated, seen_words, seen_place, after_pointer, pointer_state, pointer_means, target_true, ac_true}
 use Rattle.facts.proofs.Sums.OperateSteps.{operate3_step, skip_step, ac_step, go_step}
 use Rattle.facts.proofs.Sums.GroupSteps.{operate1_step, operate2_step}
 use Rattle.facts.proofs.Sums.ReferenceSteps.{jmp_step, and_step, MayBeCounted, isz_step}
@@ -130,7 +131,7 @@ step_state (Device action) s t q n ss does = subst IsState (sym does.3)
     (record { ac = device_state action s q does.0 does.1 ss does.2; link = ss.link; mq = ss.mq; pc = next_word s.pc does.1; words = ss.words })
 step_state Undefined s t q n ss does = absurd does
 
-module _ (laws : FactLaws) (pl : Place) (dd : IsDeclared pl.declaration) (start : Cells) (begun : IsBegun pl.image start) where
+module _ (pl : Place) (dd : IsDeclared pl.declaration) (start : Cells) (begun : IsBegun pl.image start) where
   not_index : (i : Bool) (c : ℕ) → pl.declaration.entry c ≡ true → steps_pointer i c ≡ false
   not_index true c en = dd.entry_not_index c en
   not_index false c en = refl
@@ -156,10 +157,10 @@ module _ (laws : FactLaws) (pl : Place) (dd : IsDeclared pl.declaration) (start 
       let var : steps_pointer i c ≡ true → pl.declaration.variable c ≡ true = λ e. pointer_variable i c (v e) e in
       record {
         var = var;
-        state = pointer_state laws pl dd start begun i c s ss;
-        means = pointer_means laws pl dd start begun i c f s ks ss top var h;
+        state = pointer_state pl dd start begun i c s ss;
+        means = pointer_means pl dd start begun i c f s ks ss top var h;
         word = seen_place i c s.memory ss.words lt;
-        target = target_true laws pl dd start begun i c f s ks ss top var h;
+        target = target_true pl dd start begun i c f s ks ss top var h;
       }
 
   -- a stepped pointer changes nothing that is known of the return word
@@ -185,58 +186,58 @@ module _ (laws : FactLaws) (pl : Place) (dd : IsDeclared pl.declaration) (start 
   covered (And i c) f s t q ks n ss top h wd ek on plain does =
       let a : Accessed f s ks i c = accessed f s ks i c ss top h n (λ e. wd c n (or_left _ _ (pointer_written i c e))) in
       subst (λ x. SomeOutcome (LandsIn pl start x ks) (outcomes_of pl f s.pc (And i c))) (sym does.1)
-      (and_step laws pl dd start begun (stepped pl i c f) (after_pointer i c s) ks (targets pl i c f) (place i c s.memory) a.state a.means a.word a.target)
+      (and_step pl dd start begun (stepped pl i c f) (after_pointer i c s) ks (targets pl i c f) (place i c s.memory) a.state a.means a.word a.target)
   covered (Tad i c) f s t q ks n ss top h wd ek on plain does =
       let a : Accessed f s ks i c = accessed f s ks i c ss top h n (λ e. wd c n (or_left _ _ (pointer_written i c e))) in
       subst (λ x. SomeOutcome (LandsIn pl start x ks) (outcomes_of pl f s.pc (Tad i c))) (sym does.1)
-      (tad_step laws pl dd start begun pl.rules (stepped pl i c f) (after_pointer i c s) ks i c (targets pl i c f) (place i c s.memory) a.state a.means a.word a.target (pointed i c s))
+      (tad_step pl dd start begun pl.rules (stepped pl i c f) (after_pointer i c s) ks i c (targets pl i c f) (place i c s.memory) a.state a.means a.word a.target (pointed i c s))
   covered (Isz i c) f s t q ks n ss top h wd ek on plain does =
       let a : Accessed f s ks i c = accessed f s ks i c ss top h n (λ e. wd c n (or_left _ _ (pointer_written i c e))) in
       let y : ℕ = place i c s.memory in
       let hits : may_write pl f (Isz i c) y ≡ true = or_right _ _ a.target in
-      let may : MayBeCounted laws pl dd start begun (stepped pl i c f) (targets pl i c f) y = elim (wd y a.word hits) [
+      let may : MayBeCounted pl dd start begun (stepped pl i c f) (targets pl i c f) y = elim (wd y a.word hits) [
         | inl x ↦ inl x
         | inr x ↦ inr (dd.entry_not_variable y x, x, (ek y a.word hits x).0, (ek y a.word hits x).1, stepped_may_count pl.rules i c f (ek y a.word hits x).2)
       ] in
       subst (λ x. SomeOutcome (LandsIn pl start x ks) (outcomes_of pl f s.pc (Isz i c))) (sym does.1)
-      (isz_step laws pl dd start begun (stepped pl i c f) (after_pointer i c s) ks (targets pl i c f) y a.state top a.means a.word a.target may)
+      (isz_step pl dd start begun (stepped pl i c f) (after_pointer i c s) ks (targets pl i c f) y a.state top a.means a.word a.target may)
   covered (Dca i c) f s t q ks n ss top h wd ek on plain does =
       let a : Accessed f s ks i c = accessed f s ks i c ss top h n (λ e. wd c n (or_left _ _ (pointer_written i c e))) in
       let y : ℕ = place i c s.memory in
       let hits : may_write pl f (Dca i c) y ≡ true = or_right _ _ a.target in
       let var : pl.declaration.variable y ≡ true = elim (wd y a.word hits) [ inl x ↦ x | inr x ↦ absurd (ek y a.word hits x) ] in
       subst (λ x. SomeOutcome (LandsIn pl start x ks) (outcomes_of pl f s.pc (Dca i c))) (sym does.1)
-      (dca_step laws pl dd start begun (stepped pl i c f) (after_pointer i c s) ks (targets pl i c f) y a.state top a.means a.word a.target var)
+      (dca_step pl dd start begun (stepped pl i c f) (after_pointer i c s) ks (targets pl i c f) y a.state top a.means a.word a.target var)
   covered (Jms i c) f s t q ks n ss top h wd ek on plain does = absurd plain
   covered (Jmp i c) f s t q ks n ss top h wd ek on plain does =
       let a : Accessed f s ks i c = accessed f s ks i c ss top h n (λ e. wd c n (or_left _ _ (pointer_written i c e))) in
       subst (λ x. SomeOutcome (LandsIn pl start x ks) (outcomes_of pl f s.pc (Jmp i c))) (sym does.1)
-      (jmp_step laws pl dd start begun (stepped pl i c f) (after_pointer i c s) ks i c (targets pl i c f) (place i c s.memory) a.state a.means a.word a.target
+      (jmp_step pl dd start begun (stepped pl i c f) (after_pointer i c s) ks i c (targets pl i c f) (place i c s.memory) a.state a.means a.word a.target
       (not_return f i ks c h.stands top plain))
   covered (Group1 w) f s t q ks n ss top h wd ek on plain does =
-      subst (λ x. SomeOutcome (LandsIn pl start x ks) (outcomes_of pl f s.pc (Group1 w))) (sym (group1_to w s t q does)) (operate1_step laws pl dd start begun pl.rules w f s ks ss h)
+      subst (λ x. SomeOutcome (LandsIn pl start x ks) (outcomes_of pl f s.pc (Group1 w))) (sym (group1_to w s t q does)) (operate1_step pl dd start begun pl.rules w f s ks ss h)
   covered (Group2 w) f s t q ks n ss top h wd ek on plain does = go (is_halt w && pl.declaration.stop s.pc) refl
     where
       go : (b : Bool) → (is_halt w && pl.declaration.stop s.pc) ≡ b → SomeOutcome (LandsIn pl start t ks) (if b then [] else all_operated2 pl s.pc w f)
       go true e =
           let both = and_parts (is_halt w) (pl.declaration.stop s.pc) e in
           absurd (true≢false (sym both.1 ∙ dd.stop_not_pause s.pc (on both.0)))
-      go false e = subst (λ x. SomeOutcome (LandsIn pl start x ks) (all_operated2 pl s.pc w f)) (sym does.3) (operate2_step laws pl dd start begun w f s ks does.0 ss h does.1)
+      go false e = subst (λ x. SomeOutcome (LandsIn pl start x ks) (all_operated2 pl s.pc w f)) (sym does.3) (operate2_step pl dd start begun w f s ks does.0 ss h does.1)
   covered (Group3 o) f s t q ks n ss top h wd ek on plain does =
-      subst (λ x. SomeOutcome (LandsIn pl start x ks) (outcomes_of pl f s.pc (Group3 o))) (sym does.1) (operate3_step laws pl dd start begun o f s ks ss h)
+      subst (λ x. SomeOutcome (LandsIn pl start x ks) (outcomes_of pl f s.pc (Group3 o))) (sym does.1) (operate3_step pl dd start begun o f s ks ss h)
   covered (Device action) f s t q ks n ss top h wd ek on plain does =
       subst (λ x. SomeOutcome (LandsIn pl start x ks) (outcomes_of pl f s.pc (Device action))) (sym does.3) (by action does.0 does.1 does.2)
     where
       by : (action : DeviceAction) (ac : ℕ) (skip : Bool) → Answers action s.ac q ac skip →
           SomeOutcome (LandsIn pl start (record s { ac = ac; pc = next_pc s.pc skip }) ks) (outcomes_of pl f s.pc (Device action))
-      by Skips ac skip a = rw a.1 (skip_step laws pl dd start begun f s ks skip ss h)
-      by Ors ac skip a = rw (a.4, a.3) (ac_step laws pl dd start begun f s ks (or_any 255 (ac_of pl f)) (bit_or s.ac a.0) ss h (or_word s.ac a.0 ss.ac (small_byte a.0 a.1))
-          (or_byte_true (ac_of pl f) s.ac a.0 ss.ac a.1 (ac_true laws pl dd start begun f s ks ss h)))
-      by Clears ac skip a = rw (a.2, a.1) (ac_step laws pl dd start begun f s ks (one 0) 0 ss h (lit< tt) refl)
-      by Takes ac skip a = rw (a.4, a.3) (ac_step laws pl dd start begun f s ks (λ v. nat_lt v 256) a.0 ss h (small_byte a.0 a.1) (lt-ltb a.0 256 a.1))
-      by Leaves ac skip a = rw (a.2, a.1) (go_step laws pl dd start begun f s ks (plus s.pc 1) ss (plus_lt s.pc 1) h)
+      by Skips ac skip a = rw a.1 (skip_step pl dd start begun f s ks skip ss h)
+      by Ors ac skip a = rw (a.4, a.3) (ac_step pl dd start begun f s ks (or_any 255 (ac_of pl f)) (bit_or s.ac a.0) ss h (or_word s.ac a.0 ss.ac (small_byte a.0 a.1))
+          (or_byte_true (ac_of pl f) s.ac a.0 ss.ac a.1 (ac_true pl dd start begun f s ks ss h)))
+      by Clears ac skip a = rw (a.2, a.1) (ac_step pl dd start begun f s ks (one 0) 0 ss h (lit< tt) refl)
+      by Takes ac skip a = rw (a.4, a.3) (ac_step pl dd start begun f s ks (λ v. nat_lt v 256) a.0 ss h (small_byte a.0 a.1) (lt-ltb a.0 256 a.1))
+      by Leaves ac skip a = rw (a.2, a.1) (go_step pl dd start begun f s ks (plus s.pc 1) ss (plus_lt s.pc 1) h)
   covered Undefined f s t q ks n ss top h wd ek on plain does = absurd does
 
-pub step_law : FactLaws → StepLaw
-step_law laws pl start f s t q ks dd begun ss top h wd ek on plain step =
-    covered laws pl dd start begun (instruction pl.declaration.profile s) f s t q ks (meaning_names pl.declaration.profile s.pc (s.memory s.pc) ss.pc) ss top h wd ek on plain step
+pub step_law : StepLaw
+step_law pl start f s t q ks dd begun ss top h wd ek on plain step =
+    covered pl dd start begun (instruction pl.declaration.profile s) f s t q ks (meaning_names pl.declaration.profile s.pc (s.memory s.pc) ss.pc) ss top h wd ek on plain step

@@ -14,16 +14,20 @@ use Rattle.domain.specs.Sums.Terms.{Term, Holding, Behind, term_value, sum_value
 use Rattle.domain.specs.Sums.Chains.{Adds}
 use Rattle.domain.specs.Sums.Facts.{Relation, Fact, Place, Rules, OfEquations, OfSums, IsTrueOf, AllTrue, AllGiven, Holds, Means}
 use Rattle.domain.specs.Sums.Adding.{times}
-use Rattle.domain.specs.Sums.Laws.{IsBegun, KeepsOthers, SumsAreKept, SameButSets}
+use Rattle.domain.specs.Sums.Laws.{IsBegun, KeepsOthers, SameButSets}
+use Rattle.domain.proofs.Sums.Numbers.{plus_lt, sums_in, times_in}
+use Rattle.domain.proofs.Sums.SumLemmas.{val_lt, append_val}
+use Rattle.domain.proofs.Sums.AddingLemmas.{adding_keeps, all_added_is_so, name_val, all_append}
+use Rattle.domain.proofs.Sums.MoveLemmas.{longer_is_so, free_true, sum_kept}
 use Rattle.facts.specs.Law.{IsState}
 use Rattle.facts.specs.Sums.References.{words_at, is_fixed, are_fixed, one_target, operand_term}
 use Rattle.facts.specs.Sums.Additions.{names, has_ac, if_without_ac, less, ac_with_rest, brought_by, brought, after_tad, all_after_tad, without_sums, summed, equations_moved, equations_after_tad, sums_under, chains_after_tad}
 use Rattle.facts.specs.Sums.Outcomes.{ac_of, goes, added_under, added, tad_by}
 use Rattle.facts.specs.Sums.Laws.{LandsIn, SomeOutcome}
-use Rattle.facts.proofs.Sums.WordLemmas.{bit_one, name_number, plus_lt, or_left, or_right, some_from, has_all, shift_true, sum_true, times_true, carry_number, toggle_true, carrying_true}
-use Rattle.facts.proofs.Sums.TermLemmas.{sum_word, sum_append, term_apart, sum_kept, without_less}
-use Rattle.facts.proofs.Sums.StateLemmas.{FactLaws, set_at, ac_values, value_of, values_words, some_left, some_right, vals, means_like, ac_true, words_at_true, goes_to, some_target}
-use Rattle.facts.proofs.Sums.RelationLemmas.{true_append, true_flat, without_true, rest_of, with_ac, ac_changed, ac_with_rest_value}
+use Rattle.facts.proofs.Sums.WordLemmas.{bit_one, or_left, or_right, some_from, has_all, shift_true, carry_number, toggle_true, carrying_true}
+use Rattle.facts.proofs.Sums.TermLemmas.{term_apart, without_less}
+use Rattle.facts.proofs.Sums.StateLemmas.{set_at, ac_values, value_of, values_words, some_left, some_right, vals, means_like, ac_true, words_at_true, goes_to, some_target}
+use Rattle.facts.proofs.Sums.RelationLemmas.{true_flat, without_true, rest_of, with_ac, ac_changed, ac_with_rest_value}
 
 -- ---- what a relation says after it
 
@@ -67,14 +71,14 @@ summed_true v w start operand x r u o t = cond_both (has_ac r.sum) (record { sum
     (λ q.
     let is : sum_value w start r.sum ≡ plus (sum_value v start r.sum) x =
     ac_changed v w start r.sum u.others q ∙ (sum_number (v Ac) (rest_of v start r.sum) x (w Ac) u.sum ∙ ap (λ n. plus n x) (sym (with_ac v start r.sum q))) in
-    (ap (sums r.set operand) is ∙ sum_true r.set operand (sum_value v start r.sum) x (sum_word v start r.sum) u.word t o, tt))
+    (ap (sums r.set operand) is ∙ sums_in r.set operand (sum_value v start r.sum) x (val_lt v start r.sum) u.word t o, tt))
     (λ q. without_true v w start r u.others t)
 
 less_true : (v w : Values) (start : Cells) (t : Term) (x : ℕ) (r : Relation) → AddedUp v w x → HasWord v w start t x → has_ac r.sum ≡ true → IsTrueOf v start r →
     r.set (sum_value w start (less r.sum t)) ≡ true
 less_true v w start t x r u k q h =
     let is : sum_value w start (less r.sum t) ≡ plus (plus (w Ac) (rest_of v start r.sum)) (plus (4095 * x) 0) =
-    sum_append w start r.sum (record { coefficient = 4095; term = t } ∷ [])
+    append_val w start r.sum (record { coefficient = 4095; term = t } ∷ [])
     ∙ (ap (λ n. plus n (plus (4095 * term_value w start t) 0)) (ac_changed v w start r.sum u.others q)
     ∙ ap (λ n. plus (plus (w Ac) (rest_of v start r.sum)) (plus (4095 * n) 0)) k.after) in
     let back : sum_value w start (less r.sum t) ≡ sum_value v start r.sum =
@@ -84,21 +88,21 @@ less_true v w start t x r u k q h =
 sign_cases : (c : ℕ) → is_sign c ≡ true → (c ≡ 1) ⊎ (c ≡ 4095)
 sign_cases c e = elim (or_cases (c == 1) (c == 4095) e) [ inl q ↦ inl (eqb-true c 1 q) | inr q ↦ inr (eqb-true c 4095 q) ]
 
-brought_by_true : (sums_kept : SumsAreKept) (v w : Values) (start : Cells) (ac : Words) (t : Term) (x : ℕ) (r : Relation) → AddedUp v w x → HasWord v w start t x → ac (v Ac) ≡ true → names Ac r.sum ≡ false →
+brought_by_true : (v w : Values) (start : Cells) (ac : Words) (t : Term) (x : ℕ) (r : Relation) → AddedUp v w x → HasWord v w start t x → ac (v Ac) ≡ true → names Ac r.sum ≡ false →
     IsTrueOf v start r → AllTrue w start (brought_by (coefficient_in t r.sum) t ac r)
-brought_by_true sums_kept v w start ac t x r u k a q h =
+brought_by_true v w start ac t x r u k a q h =
     cond_both (is_sign c) (record { sum = ac_with_rest c t r.sum; set = sums (times c r.set) ac } ∷ []) [] (AllTrue w start)
     (λ sign.
     let rest : sum_value w start (without_term t r.sum) ≡ sum_value v start (without_term t r.sum) =
-    sum_kept v w start (λ m. same m Ac) (without_term t r.sum) u.others (without_less (λ m. same m Ac) t r.sum q) in
+    sum_kept (λ m. same m Ac) start v w (without_term t r.sum) u.others (without_less (λ m. same m Ac) t r.sum q) in
     let apart : sum_value v start r.sum ≡ plus (c * x) (sum_value v start (without_term t r.sum)) =
     term_apart v start t r.sum ∙ ap (λ n. plus (c * n) (sum_value v start (without_term t r.sum))) k.before in
     let is : sum_value w start (ac_with_rest c t r.sum) ≡ plus ((c * sum_value v start r.sum) % 4096) (v Ac) =
-    ac_with_rest_value sums_kept w start c t r.sum ∙ (ap (λ n. plus (w Ac) ((c * n) % 4096)) rest
+    ac_with_rest_value w start c t r.sum ∙ (ap (λ n. plus (w Ac) ((c * n) % 4096)) rest
     ∙ sign_number c (v Ac) x (sum_value v start (without_term t r.sum)) (sum_value v start r.sum) (w Ac) (sign_cases c sign) apart u.sum) in (
       ap (sums (times c r.set) ac) is
-          ∙ sum_true (times c r.set) ac ((c * sum_value v start r.sum) % 4096) (v Ac) (product_word (c * sum_value v start r.sum)) u.small
-          (times_true c r.set (sum_value v start r.sum) (sum_word v start r.sum) h) a,
+          ∙ sums_in (times c r.set) ac ((c * sum_value v start r.sum) % 4096) (v Ac) (product_word (c * sum_value v start r.sum)) u.small
+          (times_in c r.set (sum_value v start r.sum) (val_lt v start r.sum) h) a,
       tt,
     ))
     (λ sign. tt)
@@ -109,21 +113,21 @@ brought_by_true sums_kept v w start ac t x r u k a q h =
     product_word : (n : ℕ) → n % 4096 < 4096
     product_word n = omega arith
 
-brought_true : (sums_kept : SumsAreKept) (v w : Values) (start : Cells) (ac : Words) (o : Option Term) (x : ℕ) (r : Relation) → AddedUp v w x → IsOperand v w start o x → ac (v Ac) ≡ true →
+brought_true : (v w : Values) (start : Cells) (ac : Words) (o : Option Term) (x : ℕ) (r : Relation) → AddedUp v w x → IsOperand v w start o x → ac (v Ac) ≡ true →
     IsTrueOf v start r → AllTrue w start (brought ac o r)
-brought_true sums_kept v w start ac None x r u k a h = tt
-brought_true sums_kept v w start ac (Some t) x r u k a h =
+brought_true v w start ac None x r u k a h = tt
+brought_true v w start ac (Some t) x r u k a h =
     cond_both (has_ac r.sum) (record { sum = less r.sum t; set = r.set } ∷ []) (if names Ac r.sum then [] else brought_by (coefficient_in t r.sum) t ac r) (AllTrue w start)
     (λ q. (less_true v w start t x r u (k t refl) q h, tt))
-    (λ q. cond_both (names Ac r.sum) [] (brought_by (coefficient_in t r.sum) t ac r) (AllTrue w start) (λ e. tt) (λ e. brought_by_true sums_kept v w start ac t x r u (k t refl) a e h))
+    (λ q. cond_both (names Ac r.sum) [] (brought_by (coefficient_in t r.sum) t ac r) (AllTrue w start) (λ e. tt) (λ e. brought_by_true v w start ac t x r u (k t refl) a e h))
 
-all_after_tad_true : (sums_kept : SumsAreKept) (v w : Values) (start : Cells) (link : ℕ) (operand : Words) (o : Option Term) (x : ℕ) (f : Fact) → AddedUp v w x → IsOperand v w start o x → operand x ≡ true →
+all_after_tad_true : (v w : Values) (start : Cells) (link : ℕ) (operand : Words) (o : Option Term) (x : ℕ) (f : Fact) → AddedUp v w x → IsOperand v w start o x → operand x ≡ true →
     Holds f v start link → AllTrue w start (all_after_tad operand o f)
-all_after_tad_true sums_kept v w start link operand o x f u k p h =
+all_after_tad_true v w start link operand o x f u k p h =
     true_flat v w start (λ r. after_tad (f.set Ac) operand o r)
-    (λ r t. true_append w start _ (brought (f.set Ac) o r) (summed_true v w start operand x r u p t) (brought_true sums_kept v w start (f.set Ac) o x r u k (h.sets Ac) t))
+    (λ r t. all_append w start _ (brought (f.set Ac) o r) (summed_true v w start operand x r u p t) (brought_true v w start (f.set Ac) o x r u k (h.sets Ac) t))
     (record { sum = sum_of_name Ac; set = f.set Ac } ∷ f.relations)
-    (ap (f.set Ac) (name_number (v Ac) u.small) ∙ h.sets Ac, h.relations)
+    (ap (f.set Ac) (name_val (v Ac) u.small) ∙ h.sets Ac, h.relations)
 
 -- ---- by the rules of equations
 
@@ -145,37 +149,37 @@ equations_moved_true v w start x rs u t = true_flat v w start (λ r. if has_ac r
 is_number : (a x b : ℕ) → a < 4096 → b ≡ plus a x → plus (1 * b) (plus (4095 * x) 0) ≡ a
 is_number a x b h e = omega arith
 
-module _ (laws : FactLaws) (pl : Place) (dd : IsDeclared pl.declaration) (start : Cells) (begun : IsBegun pl.image start) where
+module _ (pl : Place) (dd : IsDeclared pl.declaration) (start : Cells) (begun : IsBegun pl.image start) where
   equations_true : (v w : Values) (x : ℕ) (rs : List Relation) (o : Option Term) (oa ox : Option ℕ) → AddedUp v w x → IsOperand v w start o x →
       ((a : ℕ) → oa ≡ Some a → v Ac ≡ a) → ((z : ℕ) → ox ≡ Some z → x ≡ z) → AllTrue v start rs → AllTrue w start (equations_after_tad o oa ox rs)
   equations_true v w x rs (Some t) (Some a) ox u k ha hx h = (
     (let is : plus (1 * w Ac) (plus (4095 * term_value w start t) 0) ≡ a =
         ap (λ n. plus (1 * w Ac) (plus (4095 * n) 0)) (k t refl).after ∙ (is_number (v Ac) x (w Ac) u.small u.sum ∙ ha a refl) in
         eq-eqb (plus (1 * w Ac) (plus (4095 * term_value w start t) 0)) a is),
-    laws.free.relations (λ m. same m Ac) start v w rs u.others h,
+    free_true (λ m. same m Ac) start v w rs u.others h,
   )
   equations_true v w x rs (Some t) None (Some z) u k ha hx h = subst (λ n. AllTrue w start (equations_moved n rs)) (hx z refl) (equations_moved_true v w start x rs u h)
-  equations_true v w x rs (Some t) None None u k ha hx h = laws.free.relations (λ m. same m Ac) start v w rs u.others h
+  equations_true v w x rs (Some t) None None u k ha hx h = free_true (λ m. same m Ac) start v w rs u.others h
   equations_true v w x rs None oa (Some z) u k ha hx h = subst (λ n. AllTrue w start (equations_moved n rs)) (hx z refl) (equations_moved_true v w start x rs u h)
-  equations_true v w x rs None oa None u k ha hx h = laws.free.relations (λ m. same m Ac) start v w rs u.others h
+  equations_true v w x rs None oa None u k ha hx h = free_true (λ m. same m Ac) start v w rs u.others h
 
   -- ---- the term of the operand
 
-  target_is : (s : State) (p : Words) (y ac : ℕ) (t : Term) → y < 4096 → p y ≡ true → one_target pl.declaration (only p) ≡ Some t → term_value (vals laws pl dd start begun ac s.memory) start t ≡ s.memory y
+  target_is : (s : State) (p : Words) (y ac : ℕ) (t : Term) → y < 4096 → p y ≡ true → one_target pl.declaration (only p) ≡ Some t → term_value (vals pl dd start begun ac s.memory) start t ≡ s.memory y
   target_is s p y ac t lt e is = go (only p) refl is
     where
-      go : (o : Option ℕ) → only p ≡ o → one_target pl.declaration o ≡ Some t → term_value (vals laws pl dd start begun ac s.memory) start t ≡ s.memory y
+      go : (o : Option ℕ) → only p ≡ o → one_target pl.declaration o ≡ Some t → term_value (vals pl dd start begun ac s.memory) start t ≡ s.memory y
       go None q r = absurd (let z : None ≡ Some t = r in cc)
       go (Some z) q r = chosen (pl.declaration.variable z) refl r
         where
           zy : y ≡ z
           zy = (only_word p z q).lone y lt e
 
-          chosen : (b : Bool) → pl.declaration.variable z ≡ b → (if b then Some (Holding (Cell z)) else None) ≡ Some t → term_value (vals laws pl dd start begun ac s.memory) start t ≡ s.memory y
+          chosen : (b : Bool) → pl.declaration.variable z ≡ b → (if b then Some (Holding (Cell z)) else None) ≡ Some t → term_value (vals pl dd start begun ac s.memory) start t ≡ s.memory y
           chosen false var r = absurd (let n : None ≡ Some t = r in cc)
           chosen true var r =
               let it : Holding (Cell z) ≡ t = cc in
-              ap (λ u. term_value (vals laws pl dd start begun ac s.memory) start u) (sym it)
+              ap (λ u. term_value (vals pl dd start begun ac s.memory) start u) (sym it)
               ∙ (value_of pl.declaration start ac s.memory z var ∙ ap s.memory (sym zy))
 
   fixed_word : (f : Fact) (s : State) (ks : Calls) (p : Words) (y : ℕ) → Means pl start f s ks → y < 4096 → p y ≡ true → are_fixed pl.declaration p ≡ true → start y ≡ s.memory y
@@ -193,19 +197,19 @@ module _ (laws : FactLaws) (pl : Place) (dd : IsDeclared pl.declaration) (start 
   zero_more n h = omega arith
 
   operand_is : (f : Fact) (s : State) (ks : Calls) (i : Bool) (c : ℕ) (p : Words) (y ac : ℕ) (t : Term) → IsState s → Means pl start f s ks → y < 4096 → p y ≡ true → (i ≡ true → s.memory c ≡ y) →
-      operand_term pl.declaration i c p ≡ Some t → term_value (vals laws pl dd start begun ac s.memory) start t ≡ s.memory y
+      operand_term pl.declaration i c p ≡ Some t → term_value (vals pl dd start begun ac s.memory) start t ≡ s.memory y
   operand_is f s ks i c p y ac t ss h lt e at is = go (i && (pl.declaration.variable c && are_fixed pl.declaration p)) refl is
     where
       go : (b : Bool) → (i && (pl.declaration.variable c && are_fixed pl.declaration p)) ≡ b → (if b then Some (Behind c 0) else one_target pl.declaration (only p)) ≡ Some t →
-          term_value (vals laws pl dd start begun ac s.memory) start t ≡ s.memory y
+          term_value (vals pl dd start begun ac s.memory) start t ≡ s.memory y
       go false q r = target_is s p y ac t lt e r
       go true q r =
           let parts = and_parts i (pl.declaration.variable c && are_fixed pl.declaration p) q in
           let more = and_parts (pl.declaration.variable c) (are_fixed pl.declaration p) parts.1 in
           let it : Behind c 0 ≡ t = cc in
-          let to : plus (vals laws pl dd start begun ac s.memory (Cell c)) 0 ≡ y =
+          let to : plus (vals pl dd start begun ac s.memory (Cell c)) 0 ≡ y =
           ap (λ n. plus n 0) (value_of pl.declaration start ac s.memory c more.0) ∙ (zero_more (s.memory c) (ss.words c) ∙ at parts.0) in
-          ap (λ u. term_value (vals laws pl dd start begun ac s.memory) start u) (sym it)
+          ap (λ u. term_value (vals pl dd start begun ac s.memory) start u) (sym it)
           ∙ (ap start to ∙ fixed_word f s ks p y h lt e more.1)
 
   -- ---- the step
@@ -223,7 +227,7 @@ module _ (laws : FactLaws) (pl : Place) (dd : IsDeclared pl.declaration) (start 
   added_word : (s : State) (y : ℕ) → IsState s → IsState (added_state s y)
   added_word s y ss = record { ac = plus_lt s.ac (s.memory y); link = link_word (s.link + (s.ac + s.memory y) / 4096); mq = ss.mq; pc = plus_lt s.pc 1; words = ss.words }
 
-  added_up : (s : State) (y : ℕ) → IsState s → AddedUp (vals laws pl dd start begun s.ac s.memory) (vals laws pl dd start begun (plus s.ac (s.memory y)) s.memory) (s.memory y)
+  added_up : (s : State) (y : ℕ) → IsState s → AddedUp (vals pl dd start begun s.ac s.memory) (vals pl dd start begun (plus s.ac (s.memory y)) s.memory) (s.memory y)
   added_up s y ss = record { others = ac_values pl.declaration start s.ac (plus s.ac (s.memory y)) s.memory; small = ss.ac; word = ss.words y; sum = refl }
 
   -- the carry tells from which link this one came
@@ -241,20 +245,20 @@ module _ (laws : FactLaws) (pl : Place) (dd : IsDeclared pl.declaration) (start 
   ]
 
   chains_true : (f : Fact) (s : State) (ks : Calls) (operand : Words) (y : ℕ) → IsState s → Means pl start f s ks → operand (s.memory y) ≡ true → (o : Option ℕ) → only operand ≡ o →
-      AllGiven (vals laws pl dd start begun (plus s.ac (s.memory y)) s.memory) ((s.link + (s.ac + s.memory y) / 4096) % 2) (chains_after_tad o f.chains)
+      AllGiven (vals pl dd start begun (plus s.ac (s.memory y)) s.memory) ((s.link + (s.ac + s.memory y) / 4096) % 2) (chains_after_tad o f.chains)
   chains_true f s ks operand y ss h e None q = tt
   chains_true f s ks operand y ss h e (Some z) q =
       let is : s.memory y ≡ z = (only_word operand z q).lone (s.memory y) (ss.words y) e in
-      laws.longer (Adds z) (vals laws pl dd start begun s.ac s.memory) (vals laws pl dd start begun (plus s.ac (s.memory y)) s.memory) s.link ((s.link + (s.ac + s.memory y) / 4096) % 2) f.chains
+      longer_is_so (Adds z) (vals pl dd start begun s.ac s.memory) (vals pl dd start begun (plus s.ac (s.memory y)) s.memory) s.link ((s.link + (s.ac + s.memory y) / 4096) % 2) f.chains
       (ac_values pl.declaration start s.ac (plus s.ac (s.memory y)) s.memory) (ap (λ n. (plus s.ac n, (s.link + (s.ac + n) / 4096) % 2)) (sym is)) h.holds.chains
 
   summed_holds : (f : Fact) (s : State) (ks : Calls) (operand : Words) (o : Option Term) (y : ℕ) → IsState s → Means pl start f s ks → operand (s.memory y) ≡ true →
-      ((t : Term) (ac : ℕ) → o ≡ Some t → term_value (vals laws pl dd start begun ac s.memory) start t ≡ s.memory y) → (link : ℕ) →
-      Holds (summed operand o f) (vals laws pl dd start begun (plus s.ac (s.memory y)) s.memory) start link
+      ((t : Term) (ac : ℕ) → o ≡ Some t → term_value (vals pl dd start begun ac s.memory) start t ≡ s.memory y) → (link : ℕ) →
+      Holds (summed operand o f) (vals pl dd start begun (plus s.ac (s.memory y)) s.memory) start link
   summed_holds f s ks operand o y ss h e k link =
-      let was : Values = vals laws pl dd start begun s.ac s.memory in
-      let now : Values = vals laws pl dd start begun (plus s.ac (s.memory y)) s.memory in
-      laws.added OfSums start (without_sums f) now link (all_after_tad operand o f) begun.words
+      let was : Values = vals pl dd start begun s.ac s.memory in
+      let now : Values = vals pl dd start begun (plus s.ac (s.memory y)) s.memory in
+      all_added_is_so OfSums start (without_sums f) now link (all_after_tad operand o f) begun.words
       (values_words pl.declaration start (plus s.ac (s.memory y)) s.memory (plus_lt s.ac (s.memory y)) begun.words ss.words)
       (record {
         sets = set_at Ac all_words f.set now (lt-ltb (plus s.ac (s.memory y)) 4096 (plus_lt s.ac (s.memory y)))
@@ -262,16 +266,16 @@ module _ (laws : FactLaws) (pl : Place) (dd : IsDeclared pl.declaration) (start 
         relations = tt;
         chains = tt;
       })
-      (all_after_tad_true laws.sums was now start s.link operand o (s.memory y) f (added_up s y ss) (λ t q. record { before = k t s.ac q; after = k t (plus s.ac (s.memory y)) q }) e h.holds)
+      (all_after_tad_true was now start s.link operand o (s.memory y) f (added_up s y ss) (λ t q. record { before = k t s.ac q; after = k t (plus s.ac (s.memory y)) q }) e h.holds)
 
   under_means : (f : Fact) (s : State) (ks : Calls) (operand : Words) (o : Option Term) (y l : ℕ) → IsState s → Means pl start f s ks → operand (s.memory y) ≡ true →
-      ((t : Term) (ac : ℕ) → o ≡ Some t → term_value (vals laws pl dd start begun ac s.memory) start t ≡ s.memory y) → l ≡ (s.link + (s.ac + s.memory y) / 4096) % 2 →
+      ((t : Term) (ac : ℕ) → o ≡ Some t → term_value (vals pl dd start begun ac s.memory) start t ≡ s.memory y) → l ≡ (s.link + (s.ac + s.memory y) / 4096) % 2 →
       Means pl start (added_under operand o f l) (added_state s y) ks
   under_means f s ks operand o y l ss h e k is =
-      let now : Values = vals laws pl dd start begun (plus s.ac (s.memory y)) s.memory in
+      let now : Values = vals pl dd start begun (plus s.ac (s.memory y)) s.memory in
       let m : Holds (summed operand o f) now start ((s.link + (s.ac + s.memory y) / 4096) % 2) = summed_holds f s ks operand o y ss h e k ((s.link + (s.ac + s.memory y) / 4096) % 2) in
-      let same_rest : SameButSets (without_sums f) (summed operand o f) = laws.keeps OfSums (all_after_tad operand o f) (without_sums f) in
-      means_like laws pl dd start begun f (added_under operand o f l) s ks (plus s.ac (s.memory y)) ((s.link + (s.ac + s.memory y) / 4096) % 2) s.mq (plus s.pc 1) h
+      let same_rest : SameButSets (without_sums f) (summed operand o f) = adding_keeps OfSums (all_after_tad operand o f) (without_sums f) in
+      means_like pl dd start begun f (added_under operand o f l) s ks (plus s.ac (s.memory y)) ((s.link + (s.ac + s.memory y) / 4096) % 2) s.mq (plus s.pc 1) h
       (record {
         sets = set_at Ac (meet ((summed operand o f).set Ac) (sums_under f.link (f.set Ac) operand l)) (summed operand o f).set now
             (and_from _ _ (m.sets Ac) (under_true f operand s.ac (s.memory y) s.link l ss.ac (ss.words y) ss.link h.link (h.holds.sets Ac) e is))
@@ -283,7 +287,7 @@ module _ (laws : FactLaws) (pl : Place) (dd : IsDeclared pl.declaration) (start 
       (eq-eqb ((s.link + (s.ac + s.memory y) / 4096) % 2) l (sym is)) same_rest.sites same_rest.offsets
 
   tad_sums : (f : Fact) (s : State) (ks : Calls) (p : Words) (o : Option Term) (y : ℕ) → IsState s → Means pl start f s ks → y < 4096 → p y ≡ true →
-      ((t : Term) (ac : ℕ) → o ≡ Some t → term_value (vals laws pl dd start begun ac s.memory) start t ≡ s.memory y) →
+      ((t : Term) (ac : ℕ) → o ≡ Some t → term_value (vals pl dd start begun ac s.memory) start t ≡ s.memory y) →
       SomeOutcome (LandsIn pl start (added_state s y) ks) (tad_by OfSums pl s.pc f p o)
   tad_sums f s ks p o y ss h lt e k = elim (cases_eq ((s.link + (s.ac + s.memory y) / 4096) % 2) 0) [
     | inl z ↦ some_left (LandsIn pl start (added_state s y) ks) (goes pl p f all_words (one (plus s.pc 1)) (added_under (words_at pl f p) o f 0)) _ (by 0 (sym z))
@@ -292,23 +296,23 @@ module _ (laws : FactLaws) (pl : Place) (dd : IsDeclared pl.declaration) (start 
   ]
     where
       by : (l : ℕ) → l ≡ (s.link + (s.ac + s.memory y) / 4096) % 2 → SomeOutcome (LandsIn pl start (added_state s y) ks) (goes pl p f all_words (one (plus s.pc 1)) (added_under (words_at pl f p) o f l))
-      by l is = goes_to laws pl dd start begun p all_words (one (plus s.pc 1)) f (added_under (words_at pl f p) o f l) s (added_state s y) ks ss (added_word s y ss) h
-          (under_means f s ks (words_at pl f p) o y l ss h (words_at_true laws pl dd start begun f s ks p y ss h lt e) k is)
-          (some_target laws pl dd start begun p y lt e) has_all (eq-eqb (plus s.pc 1) (plus s.pc 1) refl)
+      by l is = goes_to pl dd start begun p all_words (one (plus s.pc 1)) f (added_under (words_at pl f p) o f l) s (added_state s y) ks ss (added_word s y ss) h
+          (under_means f s ks (words_at pl f p) o y l ss h (words_at_true pl dd start begun f s ks p y ss h lt e) k is)
+          (some_target pl dd start begun p y lt e) has_all (eq-eqb (plus s.pc 1) (plus s.pc 1) refl)
 
   tad_equations : (f : Fact) (s : State) (ks : Calls) (p : Words) (y : ℕ) → IsState s → Means pl start f s ks → y < 4096 → p y ≡ true →
       SomeOutcome (LandsIn pl start (added_state s y) ks) (goes pl p f all_words (one (plus s.pc 1)) (added (ac_of pl f) (words_at pl f p) (one_target pl.declaration (only p)) f))
   tad_equations f s ks p y ss h lt e =
-      let was : Values = vals laws pl dd start begun s.ac s.memory in
-      let now : Values = vals laws pl dd start begun (plus s.ac (s.memory y)) s.memory in
+      let was : Values = vals pl dd start begun s.ac s.memory in
+      let now : Values = vals pl dd start begun (plus s.ac (s.memory y)) s.memory in
       let ac : Words = ac_of pl f in
       let operand : Words = words_at pl f p in
-      let a : ac s.ac ≡ true = ac_true laws pl dd start begun f s ks ss h in
-      let x : operand (s.memory y) ≡ true = words_at_true laws pl dd start begun f s ks p y ss h lt e in
-      goes_to laws pl dd start begun p all_words (one (plus s.pc 1)) f (added ac operand (one_target pl.declaration (only p)) f) s (added_state s y) ks ss (added_word s y ss) h
-      (means_like laws pl dd start begun f (added ac operand (one_target pl.declaration (only p)) f) s ks (plus s.ac (s.memory y)) ((s.link + (s.ac + s.memory y) / 4096) % 2) s.mq (plus s.pc 1) h
+      let a : ac s.ac ≡ true = ac_true pl dd start begun f s ks ss h in
+      let x : operand (s.memory y) ≡ true = words_at_true pl dd start begun f s ks p y ss h lt e in
+      goes_to pl dd start begun p all_words (one (plus s.pc 1)) f (added ac operand (one_target pl.declaration (only p)) f) s (added_state s y) ks ss (added_word s y ss) h
+      (means_like pl dd start begun f (added ac operand (one_target pl.declaration (only p)) f) s ks (plus s.ac (s.memory y)) ((s.link + (s.ac + s.memory y) / 4096) % 2) s.mq (plus s.pc 1) h
       (record {
-        sets = set_at Ac (sums ac operand) f.set now (sum_true ac operand s.ac (s.memory y) ss.ac (ss.words y) a x)
+        sets = set_at Ac (sums ac operand) f.set now (sums_in ac operand s.ac (s.memory y) ss.ac (ss.words y) a x)
             (λ n q. ap (f.set n) (ac_values pl.declaration start s.ac (plus s.ac (s.memory y)) s.memory n q) ∙ h.holds.sets n);
         relations = equations_true was now (s.memory y) f.relations (one_target pl.declaration (only p)) (only ac) (only operand) (added_up s y ss)
             (λ t q. record { before = target_is s p y s.ac t lt e q; after = target_is s p y (plus s.ac (s.memory y)) t lt e q })
@@ -316,7 +320,7 @@ module _ (laws : FactLaws) (pl : Place) (dd : IsDeclared pl.declaration) (start 
         chains = tt;
       })
       h.mq (toggle_true f.link ac operand s.link s.ac (s.memory y) ss.link ss.ac (ss.words y) h.link a x) refl refl)
-      (some_target laws pl dd start begun p y lt e) has_all (eq-eqb (plus s.pc 1) (plus s.pc 1) refl)
+      (some_target pl dd start begun p y lt e) has_all (eq-eqb (plus s.pc 1) (plus s.pc 1) refl)
 
   pub tad_step : (rules : Rules) (f : Fact) (s : State) (ks : Calls) (i : Bool) (c : ℕ) (p : Words) (y : ℕ) → IsState s → Means pl start f s ks → y < 4096 → p y ≡ true → (i ≡ true → s.memory c ≡ y) →
       SomeOutcome (LandsIn pl start (added_state s y) ks) (tad_by rules pl s.pc f p (operand_term pl.declaration i c p))

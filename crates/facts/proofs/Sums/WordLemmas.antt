@@ -5,24 +5,15 @@ use Rattle.std.proofs.lemmas.Bool.{and_from, cases_eq, cond_both, eq-eqb, lt-ltb
 use Rattle.std.proofs.lemmas.Nat.{and_le_l, or_lt, and_mask}
 use Rattle.instruct.specs.Bits.{has_bit}
 use Rattle.instruct.specs.Operates.{cleared, complemented, counted, left, right, exchanged, rotated, operate1_of, operate2_of, MqOperate, Mql, Mqa, Swp, Cam, ClaMqa, ClaSwp, mq_operate}
-use Rattle.wordset.specs.Words.{plus, minus, Words, some_below, all_words, has_some, shifted, sums, carries, toggled, ands, ors, or_any, images_at, images}
+use Rattle.wordset.specs.Words.{plus, minus, Words, some_below, all_words, has_some, shifted, carries, toggled, ands, ors, or_any, images_at, images}
 use Rattle.processor.specs.Machine.{next_pc}
-use Rattle.domain.specs.Sums.Adding.{times}
+use Rattle.domain.proofs.Sums.Numbers.{plus_lt}
 use Rattle.facts.specs.Sums.Additions.{sums_carrying}
 use Rattle.facts.specs.Sums.Operations.{ac_after, link_after, moves_bits}
 pub use Rattle.wordset.proofs.Tests.{both_ways, or_left, or_right, some_from}
 
-pub minus_plus : (a k : ℕ) → a < 4096 → minus (plus a k) k ≡ a
-minus_plus a k h = omega arith
-
-pub plus_lt : (a k : ℕ) → plus a k < 4096
-plus_lt a k = omega arith
-
 pub minus_lt : (a k : ℕ) → minus a k < 4096
 minus_lt a k = omega arith
-
-pub minus_other : (a b : ℕ) → b < 4096 → a < 4096 → minus (plus a b) a ≡ b
-minus_other a b h g = omega arith
 
 pub if_below : (b : Bool) (x y n : ℕ) → x < n → y < n → (if b then x else y) < n
 if_below true x y n h g = h
@@ -31,12 +22,9 @@ if_below false x y n h g = g
 pub bit_one : (l : ℕ) → l < 2 → (l ≡ 0 → ⊥) → 1 ≡ l
 bit_one l h n = omega arith
 
--- sums with the coefficient 1
+-- a term with the coefficient 1
 pub once : (a r : ℕ) → plus (1 * a) r ≡ plus a r
 once a r = omega arith
-
-pub name_number : (a : ℕ) → a < 4096 → plus (1 * a) 0 ≡ a
-name_number a h = omega arith
 
 pub next_word : (pc : ℕ) (b : Bool) → next_pc pc b < 4096
 next_word pc true = plus_lt pc 2
@@ -49,13 +37,7 @@ shift_true s k v h e = and_from _ _ (lt-ltb v 4096 h) e
 pub has_all : has_some all_words ≡ true
 has_all = some_from 4096 all_words 0 (lit< tt) refl
 
--- what a set of sums, products, carries and links has
-pub sum_true : (a b : Words) (x y : ℕ) → x < 4096 → y < 4096 → a x ≡ true → b y ≡ true → sums a b (plus x y) ≡ true
-sum_true a b x y hx hy p q = and_from _ _ (lt-ltb (plus x y) 4096 (plus_lt x y)) (some_from 4096 (λ n. a n && b (minus (plus x y) n)) x hx (and_from _ _ p (let e : minus (plus x y) x ≡ y = minus_other x y hy hx in rw e q)))
-
-pub times_true : (c : ℕ) (a : Words) (x : ℕ) → x < 4096 → a x ≡ true → times c a ((c * x) % 4096) ≡ true
-times_true c a x h e = some_from 4096 (λ n. a n && ((c * x) % 4096 == (c * n) % 4096)) x h (and_from _ _ e (eq-eqb ((c * x) % 4096) ((c * x) % 4096) refl))
-
+-- carries, and the links after them
 pub carry_number : (x y : ℕ) → x < 4096 → y < 4096 → ((x + y) / 4096 ≡ 0) ⊎ ((x + y) / 4096 ≡ 1)
 carry_number x y hx hy = elim (cases_eq ((x + y) / 4096) 0) [ inl e ↦ inl e | inr n ↦ inr (omega arith) ]
 

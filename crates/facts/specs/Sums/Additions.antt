@@ -35,8 +35,8 @@ abbrev pub brought_by : ℕ → Term → Words → Relation → List Relation
 brought_by c t ac r =
     if is_sign c then record { sum = ac_with_rest c t r.sum; set = sums (times c r.set) ac } ∷ [] else []
 
--- What a relation says besides after TAD, where the operand is the word of a term: with the accumulator, that the new AC less the
--- term is the old AC.
+-- What a relation says besides after TAD, where the operand is the word of a term. With the accumulator, it says of the new AC
+-- less the term what it said of the old AC.
 abbrev pub brought : Words → Option Term → Relation → List Relation
 brought ac None r = []
 brought ac (Some t) r =
@@ -84,7 +84,8 @@ equations_after_tad (Some t) (Some a) w relations = ac_is t a ∷ free_of (λ n.
 equations_after_tad t a (Some w) relations = equations_moved w relations
 equations_after_tad t a None relations = free_of (λ n. same n Ac) relations
 
--- By the rules of equations the fact after TAD, but for the link. `known` are the accumulator's narrowed words. There are no chains.
+-- By the rules of equations the fact after TAD, but for the link. `known` are the accumulator's narrowed words. No chain stays, as
+-- none begins.
 abbrev pub equated : Words → Words → Option Term → Fact → Fact
 equated known operand t f = record f {
   set = with_set Ac (sums known operand) f.set;

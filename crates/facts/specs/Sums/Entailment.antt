@@ -1,6 +1,6 @@
 -- When one fact says at least as much as another, and when it lands among several.
 use Rattle.std.specs.Prelude.{◌≡◌, ℕ, ◌<◌, true, ◌⊎◌, Some, List, [], ◌∷◌}
-use Rattle.wordset.specs.Words.{minus, Words, one, meet, IsWithin, IsLinkWithin, SameWords, only}
+use Rattle.wordset.specs.Words.{minus, one, meet, IsWithin, IsLinkWithin, SameWords, only}
 use Rattle.domain.specs.Facts.{Location, Ac, Cell}
 use Rattle.domain.specs.Sums.Terms.{difference_of}
 use Rattle.domain.specs.Sums.Chains.{Chain, gives}

@@ -32,7 +32,7 @@ all_after_store y f =
     flat_map (after_store y (set_of_sum f (difference_of Ac (Cell y))))
     (record { sum = sum_of_name Ac; set = f.set Ac } ∷ record { sum = sum_of_name (Cell y); set = f.set (Cell y) } ∷ f.relations)
 
--- By the rules of sums the fact after DCA of the one target y: AC is 0 then, and chains go.
+-- By the rules of sums the fact after DCA of the one target y: AC is 0 then, and chains go. No relation that is added speaks of AC.
 abbrev pub stored : ℕ → Fact → Fact
 stored y f =
     adding_all OfSums (all_after_store y f)

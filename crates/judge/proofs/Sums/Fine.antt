@@ -17,7 +17,7 @@ use Rattle.facts.specs.Law.{IsState}
 use Rattle.facts.specs.declared.Condition.{Condition}
 use Rattle.facts.specs.declared.Condition.TheVariants.{V3, V4, V5, V6, V7, V8, V9, V10, V11, V12, V13, V14, V15}
 use Rattle.facts.specs.Sums.References.{possible}
-use Rattle.facts.proofs.Numbers.{or_left, or_right}
+use Rattle.facts.proofs.Sums.WordLemmas.{or_left, or_right}
 use Rattle.domain.proofs.Sums.NarrowingLemmas.{narrowed_holds, void_never_holds}
 use Rattle.certificate.specs.Sums.Certificate.{has_any, claimed}
 use Rattle.judge.specs.Sums.Landing.{Case, place_in, with_sites, sited, sites_of, facts_in, asked, asked_at}

@@ -11,7 +11,7 @@ use Rattle.domain.specs.Sums.Facts.{Fact, Means}
 use Rattle.facts.specs.Conditions.{MayWrite}
 use Rattle.facts.specs.Law.{IsState, TopIsEntry}
 use Rattle.facts.specs.Sums.Laws.{KeepsOutside, KeepsReturns}
-use Rattle.facts.proofs.Cells.{updated_other}
+use Rattle.facts.proofs.Sums.StateLemmas.{updated_other}
 use Rattle.certificate.specs.Sums.Certificate.{writes_of}
 use Rattle.judge.specs.Sums.Landing.{Case, place_in, LandsAfter}
 

@@ -14,18 +14,18 @@ use Rattle.domain.specs.Facts.{Values, values}
 use Rattle.domain.specs.Sums.Facts.{Fact, Place, Rules, OfEquations, OfSums, Holds, last_site, StandsIn, Means, SomeMeans}
 use Rattle.domain.specs.Sums.Moves.{joined}
 use Rattle.domain.specs.Sums.Laws.{IsBegun}
+use Rattle.domain.proofs.Sums.Numbers.{plus_lt}
 use Rattle.facts.specs.Law.{IsState, IsOrdinary}
 use Rattle.facts.specs.Sums.Outcomes.{Successor, Goes, CallsTo, Returns}
 use Rattle.facts.specs.Sums.Operations.{outcomes_of}
 use Rattle.facts.specs.Sums.Conditions.{may_write}
 use Rattle.facts.specs.Sums.Entailment.{IsIdle, Lands}
-use Rattle.facts.specs.Sums.Laws.{LandsIn, SomeOutcome, KeepsReturns, StepLaw}
-use Rattle.facts.proofs.Numbers.{plus_lt, or_left, or_right}
-use Rattle.facts.proofs.Cells.{updated_same, updated_other, words_updated, hidden_values, rest_updated}
-use Rattle.facts.proofs.Covers.{NamesWord, meaning_names, step_state}
+use Rattle.facts.specs.Sums.Laws.{LandsIn, SomeOutcome, KeepsReturns}
+use Rattle.facts.proofs.Sums.WordLemmas.{or_left, or_right}
+use Rattle.facts.proofs.Sums.StateLemmas.{updated_same, updated_other, words_updated, hidden_values, rest_updated, possible_true}
+use Rattle.facts.proofs.Sums.StepLemmas.{NamesWord, meaning_names, step_state, pointer_written, Accessed, accessed, covered}
 use Rattle.facts.proofs.Sums.JoinedLemmas.{joined_holds}
 use Rattle.facts.proofs.Sums.LandedLemmas.{one_landed_holds, idle_never_holds}
-use Rattle.facts.proofs.Sums.TargetLemmas.{Accessed, accessed, pointer_written, possible_true}
 use Rattle.judge.specs.Sums.Landing.{Case, place_in, facts_in, exits_of, asked_at, LandsAt, SuccessorLands, EachSuccessor, called_from, EachLandsAfter, LandsAfter}
 use Rattle.judge.specs.Sums.Conditions.{IsLower, CoversCallee, MayCall, MayReturn, IsSite, IsValid}
 use Rattle.judge.proofs.Sums.Fine.{In, OneOf, one_of, asked_means, is_line, Fine, all_fine}
@@ -35,7 +35,7 @@ last_word : (rules : Rules) → last_site rules ≤ 4094
 last_word OfEquations = lit≤ tt
 last_word OfSums = lit≤ tt
 
-module _ (step_law : StepLaw) (j : Case) (dd : IsDeclared j.declaration) (valid : IsValid j) (start : Cells) (begun : IsBegun j.image start) where
+module _ (j : Case) (dd : IsDeclared j.declaration) (valid : IsValid j) (start : Cells) (begun : IsBegun j.image start) where
   pub record Invariant (s : State) (ks : Calls) : Type 0 where
     pub state : IsState s
     pub inside : j.declaration.body (current ks) s.pc ≡ true
@@ -75,24 +75,27 @@ module _ (step_law : StepLaw) (j : Case) (dd : IsDeclared j.declaration) (valid 
 
   -- the access of a memory reference, by its conditions
   abbrev pub Access : (s : State) (ks : Calls) → Held s ks → Bool → ℕ → Type 0
-  Access s ks h i c = Accessed (place_in j (current ks)) dd start begun h.fact s i c
+  Access s ks h i c = Accessed (place_in j (current ks)) dd start begun h.fact s ks i c
 
-  pub access : (s : State) (ks : Calls) (h : Held s ks) (i : Bool) (c : ℕ) → IsState s → c < 4096 →
+  pub access : (s : State) (ks : Calls) (h : Held s ks) (i : Bool) (c : ℕ) → Invariant s ks → c < 4096 →
       (steps_pointer i c ≡ true → (j.declaration.variable c ≡ true) ⊎ (j.declaration.entry c ≡ true)) → Access s ks h i c
-  access s ks h i c ss n v = accessed (place_in j (current ks)) dd start begun h.fact s ks i c ss h.means n v
+  access s ks h i c inv n v = accessed (place_in j (current ks)) dd start begun h.fact s ks i c inv.state (top_is_entry j start s.memory ks inv.frames) h.means n v
+
+  written : (ks : Calls) (i : Bool) (c : ℕ) → steps_pointer i c ≡ true → (steps_pointer i c && (c == c)) ≡ true
+  written ks i c e = pointer_written (place_in j (current ks)) dd start begun i c e
 
   -- the frames after a stepped pointer
   pointed_frames : (m : Meaning) (s : State) (ks : Calls) (h : Held s ks) (i : Bool) (c : ℕ) → Invariant s ks → c < 4096 → Fine j (current ks) s.pc h.fact m →
       (steps_pointer i c ≡ true → may_write (place_in j (current ks)) h.fact m c ≡ true) → Frames j start (seen i c s.memory) ks
   pointed_frames m s ks h i c inv n fine hits =
-      let a : Access s ks h i c = access s ks h i c inv.state n (λ e. fine.v5 c n (hits e)) in
+      let a : Access s ks h i c = access s ks h i c inv n (λ e. fine.v5 c n (hits e)) in
       seen_frames j start dd i c s.memory ks n (λ e. (a.var e, fine.v6 c n (hits e))) inv.frames
 
   frames_after : (m : Meaning) (s t : State) (q : Answer) (ks : Calls) (h : Held s ks) → Invariant s ks → NamesWord m → Fine j (current ks) s.pc h.fact m → IsOrdinary j.declaration m → Does m s q t → Frames j start t.memory ks
-  frames_after (And i c) s t q ks h inv n fine plain does = subst (λ x. Frames j start x.memory ks) (sym does.1) (pointed_frames (And i c) s ks h i c inv n fine (λ e. or_left _ _ (pointer_written i c e)))
-  frames_after (Tad i c) s t q ks h inv n fine plain does = subst (λ x. Frames j start x.memory ks) (sym does.1) (pointed_frames (Tad i c) s ks h i c inv n fine (λ e. or_left _ _ (pointer_written i c e)))
+  frames_after (And i c) s t q ks h inv n fine plain does = subst (λ x. Frames j start x.memory ks) (sym does.1) (pointed_frames (And i c) s ks h i c inv n fine (λ e. or_left _ _ (written ks i c e)))
+  frames_after (Tad i c) s t q ks h inv n fine plain does = subst (λ x. Frames j start x.memory ks) (sym does.1) (pointed_frames (Tad i c) s ks h i c inv n fine (λ e. or_left _ _ (written ks i c e)))
   frames_after (Isz i c) s t q ks h inv n fine plain does =
-      let a : Access s ks h i c = access s ks h i c inv.state n (λ e. fine.v5 c n (or_left _ _ (pointer_written i c e))) in
+      let a : Access s ks h i c = access s ks h i c inv n (λ e. fine.v5 c n (or_left _ _ (written ks i c e))) in
       let y : ℕ = place i c s.memory in
       let hits : may_write (place_in j (current ks)) h.fact (Isz i c) y ≡ true = or_right _ _ a.target in
       let may : MayPut j start ks y = elim (fine.v5 y a.word hits) [
@@ -100,9 +103,9 @@ module _ (step_law : StepLaw) (j : Case) (dd : IsDeclared j.declaration) (valid 
         | inr x ↦ inr (dd.entry_not_variable y x, (fine.v14 y a.word hits x).0)
       ] in
       subst (λ x. Frames j start x.memory ks) (sym does.1)
-      (updated_frames j start dd (seen i c s.memory) y _ ks a.word may (pointed_frames (Isz i c) s ks h i c inv n fine (λ e. or_left _ _ (pointer_written i c e))))
+      (updated_frames j start dd (seen i c s.memory) y _ ks a.word may (pointed_frames (Isz i c) s ks h i c inv n fine (λ e. or_left _ _ (written ks i c e))))
   frames_after (Dca i c) s t q ks h inv n fine plain does =
-      let a : Access s ks h i c = access s ks h i c inv.state n (λ e. fine.v5 c n (or_left _ _ (pointer_written i c e))) in
+      let a : Access s ks h i c = access s ks h i c inv n (λ e. fine.v5 c n (or_left _ _ (written ks i c e))) in
       let y : ℕ = place i c s.memory in
       let hits : may_write (place_in j (current ks)) h.fact (Dca i c) y ≡ true = or_right _ _ a.target in
       let may : MayPut j start ks y = elim (fine.v5 y a.word hits) [
@@ -110,23 +113,20 @@ module _ (step_law : StepLaw) (j : Case) (dd : IsDeclared j.declaration) (valid 
         | inr x ↦ absurd (fine.v14 y a.word hits x)
       ] in
       subst (λ x. Frames j start x.memory ks) (sym does.1)
-      (updated_frames j start dd (seen i c s.memory) y _ ks a.word may (pointed_frames (Dca i c) s ks h i c inv n fine (λ e. or_left _ _ (pointer_written i c e))))
+      (updated_frames j start dd (seen i c s.memory) y _ ks a.word may (pointed_frames (Dca i c) s ks h i c inv n fine (λ e. or_left _ _ (written ks i c e))))
   frames_after (Jms i c) s t q ks h inv n fine plain does = absurd plain
-  frames_after (Jmp i c) s t q ks h inv n fine plain does = subst (λ x. Frames j start x.memory ks) (sym does.1) (pointed_frames (Jmp i c) s ks h i c inv n fine (λ e. or_left _ _ (pointer_written i c e)))
+  frames_after (Jmp i c) s t q ks h inv n fine plain does = subst (λ x. Frames j start x.memory ks) (sym does.1) (pointed_frames (Jmp i c) s ks h i c inv n fine (λ e. or_left _ _ (written ks i c e)))
   frames_after (Group1 w) s t q ks h inv n fine plain does = subst (λ x. Frames j start x.memory ks) (sym does.1) inv.frames
   frames_after (Group2 w) s t q ks h inv n fine plain does = subst (λ x. Frames j start x.memory ks) (sym does.3) inv.frames
   frames_after (Group3 o) s t q ks h inv n fine plain does = subst (λ x. Frames j start x.memory ks) (sym does.1) inv.frames
   frames_after (Device action) s t q ks h inv n fine plain does = subst (λ x. Frames j start x.memory ks) (sym does.3) inv.frames
   frames_after Undefined s t q ks h inv n fine plain does = absurd does
 
-  -- the outcomes of an ordinary word cover the step
-  abbrev pub Covered : State → State → (ks : Calls) → Fact → Meaning → Type 0
-  Covered s t ks f m = IsOrdinary j.declaration m → SomeOutcome (LandsIn (place_in j (current ks)) start t ks) (outcomes_of (place_in j (current ks)) f s.pc m)
-
   -- the first law: an ordinary step
-  keep_ordinary : (m : Meaning) (s t : State) (q : Answer) (ks : Calls) (h : Held s ks) → Invariant s ks → NamesWord m → Fine j (current ks) s.pc h.fact m → Covered s t ks h.fact m → IsOrdinary j.declaration m → Does m s q t → Invariant t ks
-  keep_ordinary m s t q ks h inv n fine cover plain does =
-      arrives t ks (step_state m s t q n inv.state does) (frames_after m s t q ks h inv n fine plain does) (outcomes_of (place_in j (current ks)) h.fact s.pc m) fine.v4 (cover plain)
+  keep_ordinary : (m : Meaning) (s t : State) (q : Answer) (ks : Calls) (h : Held s ks) → Invariant s ks → NamesWord m → Fine j (current ks) s.pc h.fact m → GoesOn j.declaration m s.pc → IsOrdinary j.declaration m → Does m s q t → Invariant t ks
+  keep_ordinary m s t q ks h inv n fine on plain does =
+      arrives t ks (step_state m s t q n inv.state does) (frames_after m s t q ks h inv n fine plain does) (outcomes_of (place_in j (current ks)) h.fact s.pc m) fine.v4
+      (covered (place_in j (current ks)) dd start begun m h.fact s t q ks n inv.state (top_is_entry j start s.memory ks inv.frames) h.means fine.v5 fine.v14 on plain does)
 
   -- the second law: a return
   abbrev pub jumped : Bool → ℕ → State → State
@@ -197,7 +197,7 @@ module _ (step_law : StepLaw) (j : Case) (dd : IsDeclared j.declaration) (valid 
       let next : plus s.pc 1 ≡ s.pc + 1 = omega arith in
       let before : plus s.pc 1 - 1 ≡ s.pc = omega arith in
       let fixed : j.declaration.variable e ≡ false = dd.entry_not_variable e en in
-      let same : values j.declaration start s.ac (updated s.memory e (plus s.pc 1)) ≡ values j.declaration start s.ac s.memory = fun_ext (hidden_values j.declaration start s.ac s.memory e (plus s.pc 1) fixed) in
+      let same : values j.declaration start s.ac (updated s.memory e (plus s.pc 1)) ≡ values j.declaration start s.ac s.memory = fun_ext (λ n. hidden_values j.declaration start s.ac s.memory e (plus s.pc 1) fixed n refl) in
       let kept : Holds h.fact (values j.declaration start s.ac (updated s.memory e (plus s.pc 1))) start s.link = subst (λ v. Holds h.fact v start s.link) (sym same) h.means.holds in
       record {
         holds = record { sets = kept.sets; relations = kept.relations; chains = kept.chains };
@@ -243,7 +243,7 @@ module _ (step_law : StepLaw) (j : Case) (dd : IsDeclared j.declaration) (valid 
       Invariant t (calls_of j.declaration (Jms i c) s ks)
   keep_jms s t ks h i c inv n fine does =
       let still : steps_pointer i c ≡ false = fine.v7.0 in
-      let a : Access s ks h i c = access s ks h i c inv.state n (λ e. absurd (true≢false (sym e ∙ still))) in
+      let a : Access s ks h i c = access s ks h i c inv n (λ e. absurd (true≢false (sym e ∙ still))) in
       let e : ℕ = place i c s.memory in
       let v : CallIsFine (current ks) s.pc h.fact e = record {
         call = fine.v7.1 e a.word a.target;
@@ -258,15 +258,15 @@ module _ (step_law : StepLaw) (j : Case) (dd : IsDeclared j.declaration) (valid 
       let list : calls_of j.declaration (Jms i c) s ks ≡ record { entry = e; after = plus s.pc 1 } ∷ ks = rw en refl in
       subst (λ x. Invariant t x) (sym list) (subst (λ x. Invariant x (record { entry = e; after = plus s.pc 1 } ∷ ks)) (sym there) (keep_call s ks h e inv a.word v))
 
-  keep_jump : (s t : State) (q : Answer) (ks : Calls) (h : Held s ks) (i : Bool) (c : ℕ) → Invariant s ks → c < 4096 → Fine j (current ks) s.pc h.fact (Jmp i c) → Covered s t ks h.fact (Jmp i c) → Does (Jmp i c) s q t → Invariant t (calls_of j.declaration (Jmp i c) s ks)
-  keep_jump s t q ks h i c inv n fine cover does = go (i && j.declaration.entry c) refl
+  keep_jump : (s t : State) (q : Answer) (ks : Calls) (h : Held s ks) (i : Bool) (c : ℕ) → Invariant s ks → c < 4096 → Fine j (current ks) s.pc h.fact (Jmp i c) → GoesOn j.declaration (Jmp i c) s.pc → Does (Jmp i c) s q t → Invariant t (calls_of j.declaration (Jmp i c) s ks)
+  keep_jump s t q ks h i c inv n fine on does = go (i && j.declaration.entry c) refl
     where
       plain : (b : Bool) → (b && j.declaration.entry c) ≡ false → b ≡ true → j.declaration.entry c ≡ false
       plain true e z = e
       plain false e z = absurd (false≢true z)
 
       go : (b : Bool) → (i && j.declaration.entry c) ≡ b → Invariant t (if b then returned ks else ks)
-      go false e = keep_ordinary (Jmp i c) s t q ks h inv n fine cover (plain i e) does
+      go false e = keep_ordinary (Jmp i c) s t q ks h inv n fine on (plain i e) does
       go true e = by_indirect i (and_parts i (j.declaration.entry c) e).0 fine does.1
         where
           en : j.declaration.entry c ≡ true
@@ -281,18 +281,18 @@ module _ (step_law : StepLaw) (j : Case) (dd : IsDeclared j.declaration) (valid 
           by_indirect false z f q = absurd (false≢true z)
 
   -- every step keeps the invariant
-  keep_at : (m : Meaning) (s t : State) (q : Answer) (ks : Calls) (h : Held s ks) → Invariant s ks → NamesWord m → Fine j (current ks) s.pc h.fact m → Covered s t ks h.fact m → Does m s q t → Invariant t (calls_of j.declaration m s ks)
-  keep_at (And i c) s t q ks h inv n fine cover does = keep_ordinary (And i c) s t q ks h inv n fine cover tt does
-  keep_at (Tad i c) s t q ks h inv n fine cover does = keep_ordinary (Tad i c) s t q ks h inv n fine cover tt does
-  keep_at (Isz i c) s t q ks h inv n fine cover does = keep_ordinary (Isz i c) s t q ks h inv n fine cover tt does
-  keep_at (Dca i c) s t q ks h inv n fine cover does = keep_ordinary (Dca i c) s t q ks h inv n fine cover tt does
-  keep_at (Jms i c) s t q ks h inv n fine cover does = keep_jms s t ks h i c inv n fine does.1
-  keep_at (Jmp i c) s t q ks h inv n fine cover does = keep_jump s t q ks h i c inv n fine cover does
-  keep_at (Group1 w) s t q ks h inv n fine cover does = keep_ordinary (Group1 w) s t q ks h inv n fine cover tt does
-  keep_at (Group2 w) s t q ks h inv n fine cover does = keep_ordinary (Group2 w) s t q ks h inv n fine cover tt does
-  keep_at (Group3 o) s t q ks h inv n fine cover does = keep_ordinary (Group3 o) s t q ks h inv n fine cover tt does
-  keep_at (Device action) s t q ks h inv n fine cover does = keep_ordinary (Device action) s t q ks h inv n fine cover tt does
-  keep_at Undefined s t q ks h inv n fine cover does = absurd does
+  keep_at : (m : Meaning) (s t : State) (q : Answer) (ks : Calls) (h : Held s ks) → Invariant s ks → NamesWord m → Fine j (current ks) s.pc h.fact m → GoesOn j.declaration m s.pc → Does m s q t → Invariant t (calls_of j.declaration m s ks)
+  keep_at (And i c) s t q ks h inv n fine on does = keep_ordinary (And i c) s t q ks h inv n fine on tt does
+  keep_at (Tad i c) s t q ks h inv n fine on does = keep_ordinary (Tad i c) s t q ks h inv n fine on tt does
+  keep_at (Isz i c) s t q ks h inv n fine on does = keep_ordinary (Isz i c) s t q ks h inv n fine on tt does
+  keep_at (Dca i c) s t q ks h inv n fine on does = keep_ordinary (Dca i c) s t q ks h inv n fine on tt does
+  keep_at (Jms i c) s t q ks h inv n fine on does = keep_jms s t ks h i c inv n fine does.1
+  keep_at (Jmp i c) s t q ks h inv n fine on does = keep_jump s t q ks h i c inv n fine on does
+  keep_at (Group1 w) s t q ks h inv n fine on does = keep_ordinary (Group1 w) s t q ks h inv n fine on tt does
+  keep_at (Group2 w) s t q ks h inv n fine on does = keep_ordinary (Group2 w) s t q ks h inv n fine on tt does
+  keep_at (Group3 o) s t q ks h inv n fine on does = keep_ordinary (Group3 o) s t q ks h inv n fine on tt does
+  keep_at (Device action) s t q ks h inv n fine on does = keep_ordinary (Device action) s t q ks h inv n fine on tt does
+  keep_at Undefined s t q ks h inv n fine on does = absurd does
 
   -- no entry is in a body
   pub not_entry : (r : Routine) (a : ℕ) → j.declaration.body r a ≡ true → j.declaration.entry a ≡ false
@@ -311,6 +311,4 @@ module _ (step_law : StepLaw) (j : Case) (dd : IsDeclared j.declaration) (valid 
   pub keeps : (s t : State) (q : Answer) (ks : Calls) → Invariant s ks → GoesOn j.declaration (instruction j.declaration.profile s) s.pc → Step j.declaration.profile s q t → Invariant t (calls_after j.declaration s ks)
   keeps s t q ks inv on step =
       let h : Held s ks = held s ks inv in
-      let f : Fine j (current ks) s.pc h.fact (instruction j.declaration.profile s) = fine_at s ks h inv in
-      keep_at (instruction j.declaration.profile s) s t q ks h inv (meaning_names j.declaration.profile s.pc (s.memory s.pc) inv.state.pc) f
-      (λ plain. step_law (place_in j (current ks)) start h.fact s t q ks dd begun inv.state (top_is_entry j start s.memory ks inv.frames) h.means f.v5 f.v14 on plain step) step
+      keep_at (instruction j.declaration.profile s) s t q ks h inv (meaning_names j.declaration.profile s.pc (s.memory s.pc) inv.state.pc) (fine_at s ks h inv) on step

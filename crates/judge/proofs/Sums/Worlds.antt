@@ -16,7 +16,6 @@ use Rattle.policy.specs.Rules.{IsSupported}
 use Rattle.policy.specs.Runs.{GoesOn, resumed, HappensDeclared, calls_running, calls_by, DeclaredEvents, IsSafeInEvents}
 use Rattle.domain.specs.Sums.Laws.{IsBegun}
 use Rattle.facts.proofs.Sums.StartedLemmas.{start_is_begun}
-use Rattle.facts.specs.Sums.Laws.{StepLaw}
 use Rattle.judge.specs.Sums.Landing.{Case, place_in}
 use Rattle.judge.specs.Sums.Conditions.{IsValid}
 use Rattle.judge.proofs.Sums.Induction.{Invariant, keeps}
@@ -33,9 +32,9 @@ goes_on d (Group2 w) pc at e on = λ h.
     subst (λ x. MayGoOn d x) halted on
 goes_on d _ pc at e on = tt
 
-module _ (step_law : StepLaw) (j : Case) (dd : IsDeclared j.declaration) (valid : IsValid j) (start : Cells) (begun : IsBegun j.image start) where
+module _ (j : Case) (dd : IsDeclared j.declaration) (valid : IsValid j) (start : Cells) (begun : IsBegun j.image start) where
   abbrev pub Ready : WorldState → Calls → Type 0
-  Ready w ks = MayGoOn j.declaration w.halted_at → Invariant step_law j dd valid start begun w.state ks
+  Ready w ks = MayGoOn j.declaration w.halted_at → Invariant j dd valid start begun w.state ks
 
   ready_step : (w x : WorldState) (e : Event) (ks : Calls) → Ready w ks → HappensDeclared j.declaration w e x → Ready x (calls_by j.declaration w e ks)
   ready_step w x Instruct ks ready hap = go w.halted_at refl
@@ -43,10 +42,10 @@ module _ (step_law : StepLaw) (j : Case) (dd : IsDeclared j.declaration) (valid 
       go : (o : Option ℕ) → w.halted_at ≡ o → Ready x (calls_running j.declaration w o ks)
       go (Some at) e = subst (λ y. Ready y ks) (sym (hap.halted at e)) ready
       go None e = λ on.
-          let inv : Invariant step_law j dd valid start begun w.state ks = ready (subst (λ o. MayGoOn j.declaration o) (sym e) tt) in
+          let inv : Invariant j dd valid start begun w.state ks = ready (subst (λ o. MayGoOn j.declaration o) (sym e) tt) in
           elim (hap.runs e) [
-            | inl s ↦ keeps step_law j dd valid start begun w.state x.state _ ks inv (goes_on j.declaration (instruction j.declaration.profile w.state) w.state.pc x.halted_at s.halted_at on) s.step
-            | inr u ↦ absurd (subst IsSupported u.0 (legal step_law j dd valid start begun w.state ks inv).stays.supported)
+            | inl s ↦ keeps j dd valid start begun w.state x.state _ ks inv (goes_on j.declaration (instruction j.declaration.profile w.state) w.state.pc x.halted_at s.halted_at on) s.step
+            | inr u ↦ absurd (subst IsSupported u.0 (legal j dd valid start begun w.state ks inv).stays.supported)
           ]
   ready_step w x Continue ks ready hap = go w.halted_at refl hap
     where
@@ -67,9 +66,9 @@ module _ (step_law : StepLaw) (j : Case) (dd : IsDeclared j.declaration) (valid 
   ready_all [] w x ks ls ready run = subst (λ l. Ready x l) run.1 (subst (λ y. Ready y ks) run.0 ready)
   ready_all (e ∷ es) w x ks ls ready run = ready_all es run.0 x (calls_by j.declaration w e ks) ls (ready_step w run.0 e ks ready run.1) run.2
 
-pub events_are_safe : StepLaw → (j : Case) → IsDeclared j.declaration → IsValid j → IsSafeInEvents j.image j.declaration
-events_are_safe step_law j dd valid w x ls events load run running =
+pub events_are_safe : (j : Case) → IsDeclared j.declaration → IsValid j → IsSafeInEvents j.image j.declaration
+events_are_safe j dd valid w x ls events load run running =
     let start : IsStart j.image j.declaration.start w.state = load.state in
     let begun : IsBegun j.image w.state.memory = start_is_begun (place_in j None) j.declaration.start w.state start in
-    legal step_law j dd valid w.state.memory begun x.state ls
-    (ready_all step_law j dd valid w.state.memory begun events w x [] ls (λ on. starts step_law j dd valid w.state start) run (subst (λ o. MayGoOn j.declaration o) (sym running) tt))
+    legal j dd valid w.state.memory begun x.state ls
+    (ready_all j dd valid w.state.memory begun events w x [] ls (λ on. starts j dd valid w.state start) run (subst (λ o. MayGoOn j.declaration o) (sym running) tt))

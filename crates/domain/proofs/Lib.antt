@@ -1,1 +1,6 @@
 pub mod TrackingLemmas
+pub mod ProductLemmas
+pub mod NameLemmas
+pub mod OffsetLemmas
+pub mod BriefLemmas
+pub mod TermLemmas

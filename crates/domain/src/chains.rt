@@ -4,7 +4,6 @@ ghost use Rattle.std.specs.Prelude.{◌≡◌, ◌<◌, ◌≤◌, ◌↔◌, �
 ghost use Rattle.wordset.specs.Links.{links_of};
 ghost use Rattle.domain.specs.Sums.Chains as said;
 ghost use Rattle.domain.specs.Sums.Chains.{after_step, after_steps, gives, longer, after_count};
-ghost use Rattle.domain.specs.Sums.ChainsInCode.{gives_from};
 
 use crate::location::negated;
 use instruct::operate1;
@@ -50,6 +49,12 @@ impl Clone for Chain {
 
 impl Copy for Chain {}
 
+impl Default for Chain {
+    fn default() -> Self {
+        Chain::begun(Word::ZERO, Word::ZERO, Links::none())
+    }
+}
+
 /// The sum of two words, and the link behind it: a carry complements the link.
 fn added(ac: Word, link: Link, word: Word) -> (Word, Link)
     ensures { result ≡ after_step (said.Adds word) (ac, link) }
@@ -74,7 +79,7 @@ impl Step {
 }
 
 impl Chain {
-    ghost use Rattle.domain.specs.Sums.ChainsInCode.{step_of, chain_of};
+    ghost use Rattle.domain.specs.Sums.ChainsInCode.{step_of, chain_of, gives_from};
 
     /// A chain of no steps.
     pub fn begun(cell: Word, more: Word, links: Links) -> Chain
@@ -129,7 +134,7 @@ impl Chain {
 
     /// Lets it begin with what is left after a number was added to the word of a cell: with so much less, if the cell is
     /// its own.
-    pub fn count(&mut self, cell: Word, by: Word)
+    pub fn count_up(&mut self, cell: Word, by: Word)
         ensures { chain_of self.new ≡ after_count cell by (chain_of self.old) }
     {
         if self.cell == cell {
@@ -160,6 +165,7 @@ impl Chain {
     }
 
     /// Whether it gives an accumulator and a link of a word of its cell.
+    #[tactic(auto, using(crate::proofs::ChainLemmas::two_links))]
     pub fn gives(&self, word: Word, ac: Word, link: Link) -> bool
         ensures { result ≡ gives (chain_of self.now) word ac link }
     {

@@ -53,8 +53,25 @@ pub fn differences(a: &WordSet, b: &WordSet) -> WordSet
     found
 }
 
-/// Keeps the words v of a set for which c·v is in another.
+/// Keeps the words v of a set for which c·v is in another. For 1 and 7777, the usual coefficients, no word is looked at.
+#[tactic(auto, using(crate::proofs::SetLemmas::divided))]
 pub fn keep_divided(c: Word, set: &WordSet, place: &mut WordSet)
+    ensures { words place.new ≡ meet (words place.old) (λ v. words set.now ((c * v) % 4096)) }
+{
+    if c.index() == 1 {
+        *place = place.meet(set);
+        return;
+    }
+    if c.index() == 4095 {
+        *place = place.meet(&negatives(set));
+        return;
+    }
+    keep_each_divided(c, set, place);
+}
+
+/// The same, word by word.
+#[inline(never)]
+fn keep_each_divided(c: Word, set: &WordSet, place: &mut WordSet)
     ensures { words place.new ≡ meet (words place.old) (λ v. words set.now ((c * v) % 4096)) }
 {
     let before = *place;

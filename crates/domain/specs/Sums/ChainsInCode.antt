@@ -1,5 +1,5 @@
 -- Chains as they're kept in code, and what they mean.
-use Rattle.std.specs.Prelude.{ℕ, Bool, ◌&&◌, map, take}
+use Rattle.std.specs.Prelude.{ℕ, ◌<◌, Bool, ◌&&◌, List, [], ◌∷◌, length, map, take}
 use Rattle.wordset.specs.Words.{plus}
 use Rattle.wordset.specs.Links.{links_of}
 use Rattle.domain.specs.Sums.Chains as said
@@ -25,3 +25,8 @@ chain_of c = record {
 -- A chain gives the accumulator w and the link l of the cell's word v, where it begins with the link k.
 abbrev pub gives_from : said.Chain → ℕ → ℕ → ℕ → ℕ → Bool
 gives_from c k v w l = c.link k && said.is_pair_of (said.after_steps c.steps (plus v c.more, k)) w l
+
+-- Each of the chains has room for one step more.
+abbrev pub AreShort : List said.Chain → Type 0
+AreShort [] = Unit {0}
+AreShort (c ∷ cs) = (length c.steps < 17) × AreShort cs

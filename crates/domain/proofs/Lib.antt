@@ -6,3 +6,4 @@ pub mod ChainLemmas
 pub mod OffsetLemmas
 pub mod BriefLemmas
 pub mod TermLemmas
+pub mod Sums

@@ -14,3 +14,7 @@ pub mod Brief
 pub mod Spelling
 pub mod ChainsInCode
 pub mod Offsets
+pub mod Laws
+pub mod CellsInCode
+pub mod RelationsInCode
+pub mod FactInCode

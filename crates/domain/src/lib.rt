@@ -3,25 +3,35 @@
 #![tactic(auto)]
 
 mod fact;
+pub mod laws;
 mod location;
 mod brief;
+mod cell_sets;
 mod chains;
 mod names;
+mod narrowing;
 mod offsets;
+mod relations;
 mod return_offsets;
 mod sets;
 mod shapes;
+mod sum_fact;
+mod sum_moves;
 mod terms;
 mod tracking;
 
 pub use fact::Fact;
 pub use location::{Equation, Location, is_same_equation, is_same_location, negated, turned};
+pub use cell_sets::{CellSet, CellSets};
 pub use chains::{Chain, Step};
 pub use brief::BriefSet;
 pub use names::Names;
 pub use offsets::CountedOffsets;
+pub use narrowing::ChainWords;
+pub use relations::{Relation, Relations};
 pub use return_offsets::ReturnOffsets;
 pub use sets::{at_start, differences, keep_divided, keep_pointing, times};
 pub use shapes::{SpelledSum, has_shape, spelled};
+pub use sum_fact::{Rules, SumFact};
 pub use terms::{Sum, Summand, Term, is_sign, product};
 pub use tracking::{TrackedCell, TrackedCells};

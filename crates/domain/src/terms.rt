@@ -345,17 +345,19 @@ impl Sum {
         sum
     }
 
-    /// What the coefficient of a term is, and 0 where the sum does not have the term.
+    /// What the coefficient of a term is: all its coefficients together, and 0 where the sum does not have the term.
     pub fn coefficient_of(&self, term: &Term) -> Word
         ensures { result ≡ coefficient_in (term_of term.now) (sum_of self.now) }
     {
-        for at in 0..self.len() {
-            let summand = self.get(at);
+        let mut coefficient = Word::ZERO;
+        let len = self.len();
+        for done in 0..len {
+            let summand = self.get(len - 1 - done);
             if term.is_same(&summand.term) {
-                return summand.coefficient;
+                coefficient = summand.coefficient.add(coefficient);
             }
         }
-        Word::ZERO
+        coefficient
     }
 
     /// Whether the terms at a place of two sums are one, with one coefficient.

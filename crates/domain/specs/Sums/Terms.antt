@@ -105,10 +105,10 @@ sum_of_name n = record { coefficient = 1; term = Holding n } ∷ []
 abbrev pub difference_of : Location → Location → Sum
 difference_of x y = record { coefficient = 1; term = Holding x } ∷ record { coefficient = 4095; term = Holding y } ∷ []
 
--- What a term's coefficient is in a sum, and 0 where the sum doesn't have the term.
+-- What a term's coefficient is in a sum: all its coefficients together, and 0 where the sum doesn't have the term.
 abbrev pub coefficient_in : Term → Sum → ℕ
 coefficient_in t [] = 0
-coefficient_in t (s ∷ ss) = if same_term t s.term then s.coefficient else coefficient_in t ss
+coefficient_in t (s ∷ ss) = if same_term t s.term then plus s.coefficient (coefficient_in t ss) else coefficient_in t ss
 
 -- The sum without a term.
 abbrev pub without_term : Term → Sum → Sum

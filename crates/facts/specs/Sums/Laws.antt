@@ -1,57 +1,20 @@
--- What is to be proved of narrowing, of what facts say of sums, of outcomes, entailment, landing and calls.
+-- What is to be proved of outcomes, entailment, landing and calls.
 use Rattle.std.specs.Prelude.{◌≡◌, ℕ, ◌<◌, true, false, ◌⊎◌, Some, List, [], ◌∷◌}
 use Rattle.wordset.specs.Words.{Words}
-use Rattle.processor.specs.Cells.{Cells, AreWords}
+use Rattle.processor.specs.Cells.{Cells}
 use Rattle.processor.specs.Machine.{State, Answer, instruction, Step}
-use Rattle.processor.specs.Runs.{Image}
 use Rattle.declaration.specs.Declaration.{IsDeclared}
 use Rattle.policy.specs.Calls.{Calls}
 use Rattle.policy.specs.Runs.{GoesOn}
-use Rattle.domain.specs.Facts.{Location, Values, values, KeepsRest, has_cell}
-use Rattle.domain.specs.Sums.Terms.{Sum, sum_value}
-use Rattle.domain.specs.Sums.Facts.{Fact, Place, Rules, Holds, Means, SomeMeans, Relation, IsTrueOf}
-use Rattle.domain.specs.Sums.Adding.{adding, is_void}
-use Rattle.domain.specs.Sums.Knowing.{said_of}
-use Rattle.domain.specs.Sums.Narrowing.{narrowed}
+use Rattle.domain.specs.Facts.{values, KeepsRest, has_cell}
+use Rattle.domain.specs.Sums.Facts.{Fact, Place, Holds, Means, SomeMeans}
 use Rattle.domain.specs.Sums.Moves.{joined}
+use Rattle.domain.specs.Sums.Laws.{IsBegun}
 use Rattle.facts.specs.Law.{IsState, TopIsEntry, IsOrdinary}
 use Rattle.facts.specs.Sums.Conditions.{WritesAreDeclared, EntriesAreKept}
 use Rattle.facts.specs.Sums.Outcomes.{Successor, Goes, CallsTo, Returns}
 use Rattle.facts.specs.Sums.Operations.{outcomes_of}
 use Rattle.facts.specs.Sums.Entailment.{Entails, Lands, IsIdle}
-
--- The tape's words stood in memory at the start.
-pub record IsBegun (image : Image) (start : Cells) : Type 0 where
-  pub words : AreWords start
-  pub loaded : (a w : ℕ) → image a ≡ Some w → start a ≡ w
-
--- The words of names are words.
-abbrev pub AreValues : Values → Type 0
-AreValues v = (n : Location) → v n < 4096
-
--- What a fact says of a sum is so wherever the fact holds.
-abbrev pub SaidIsSo : Type 0
-SaidIsSo =
-    (image : Image) (start : Cells) (f : Fact) (v : Values) (link : ℕ) (sum : Sum) →
-    IsBegun image start → AreValues v → Holds f v start link → said_of image f sum (sum_value v start sum) ≡ true
-
--- Where a fact holds and a relation is true, the fact holds to which the relation is added.
-abbrev pub AddedIsSo : Type 0
-AddedIsSo =
-    (rules : Rules) (start : Cells) (f : Fact) (v : Values) (link : ℕ) (r : Relation) →
-    AreWords start → AreValues v → Holds f v start link → IsTrueOf v start r → Holds (adding rules r f) v start link
-
--- A narrowed fact holds wherever the fact holds.
-abbrev pub NarrowedHolds : Type 0
-NarrowedHolds =
-    (pl : Place) (start : Cells) (f : Fact) (s : State) (ks : Calls) →
-    IsBegun pl.image start → IsState s → Means pl start f s ks → Means pl start (narrowed pl.image f) s ks
-
--- A void fact never holds.
-abbrev pub VoidNeverHolds : Type 0
-VoidNeverHolds =
-    (pl : Place) (start : Cells) (f : Fact) (s : State) (ks : Calls) →
-    AreWords start → IsState s → is_void f ≡ true → Means pl start f s ks → ⊥
 
 -- A state is at one of an outcome's addresses, and its fact holds, of the same call list.
 abbrev pub LandsIn : Place → Cells → State → Calls → Successor → Type 0

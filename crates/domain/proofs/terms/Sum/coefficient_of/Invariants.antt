@@ -1,10 +1,7 @@
-use Rattle.std.proofs.Common.{◌≡◌, ℕ, ◌+◌, ◌-◌, ◌<◌, ◌≤◌, ◌++◌, drop, length}
-use Rattle.std.specs.Prelude.{filter, not}
-use Rattle.std.specs.List.{list_any}
-use Rattle.domain.specs.Sums.Terms.{with_summand, collected, multiplied, without_term, coefficient_in, same_sum, speaks_of, is_sign, same_term}
-use Rattle.domain.specs.Sums.InCode.{term_of, summand_of, sum_of}
-use Rattle.domain.specs.Sums.Naming.{names_of}
+use Rattle.std.proofs.Common.{◌≡◌, ◌-◌, drop}
+use Rattle.domain.specs.Sums.Terms.{coefficient_in}
+use Rattle.domain.specs.Sums.InCode.{term_of, sum_of}
 use Rattle.domain.proofs.terms.Sum.coefficient_of.Given as goal
 
-abbrev pub invariant-loop-at : goal.invariant-loop-at
-invariant-loop-at l = coefficient_in (term_of l.term) (drop l.at (sum_of l.self)) ≡ coefficient_in (term_of l.term) (sum_of l.self)
+abbrev pub invariant-loop-done : goal.invariant-loop-done
+invariant-loop-done l = l.coefficient ≡ coefficient_in (term_of l.term) (drop (l.len - l.done) (sum_of l.self))

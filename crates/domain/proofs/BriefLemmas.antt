@@ -1,8 +1,9 @@
 -- Words in a row.
-use Rattle.std.proofs.Common.{◌≡◌, ℕ, suc, ◌+◌, ◌<◌, ◌≤◌, ◌==◌, Bool, true, false, ◌&&◌, List, refl, sym, ap, ◌∙◌, arith, inl, inr, absurd}
-use Rattle.std.specs.Prelude.{nat_le, not, Some, None}
+use Rattle.std.proofs.Common.{◌≡◌, ℕ, suc, ◌+◌, ◌<◌, ◌≤◌, ◌==◌, Bool, true, false, ◌&&◌, List, refl, sym, ap, ◌∙◌, arith, inl, inr}
+use Rattle.std.specs.Prelude.{nat_le, nat_lt, not, Some, None}
 use Rattle.std.proofs.Math.Path.{fun_ext}
 use Rattle.std.proofs.lemmas.Bool.Decides.{nat_tests}
+use Rattle.std.proofs.lemmas.Bool.{cases_lt}
 use Rattle.wordset.specs.Words.{Words, between, one, nothing, meet, has_some, some_below, only, IsWithin, IsFirstFrom, HasNoneFrom}
 use Rattle.wordset.specs.Lanes.{words}
 use Rattle.wordset.proofs.Tests.{some_from, some_none_of, both_ways}
@@ -81,3 +82,16 @@ row_has_none a b h = some_none_of 4096 (between a b) (λ v lt. none_at a b v h)
 
 pub within_empty : (a b : ℕ) (s : Words) → b < a → IsWithin (between a b) s
 within_empty a b s h v lt e = absurd (omega (arith, of_row_low a b v e, of_row_high a b v e))
+
+less : (a b : ℕ) → a < b → nat_lt a b ≡ true
+less a b h = grind (arith, nat_tests)
+
+not_less : (a b : ℕ) → b ≤ a → nat_lt a b ≡ false
+not_less a b h = grind (arith, nat_tests)
+
+-- A row has no word where its last is less than its first.
+pub row_empty : (a b : ℕ) → b < 4096 → nat_lt b a ≡ not (has_some (between a b))
+row_empty a b s = elim (cases_lt b a) [
+  | inl l ↦ less b a l ∙ sym (ap not (row_has_none a b l))
+  | inr g ↦ not_less b a g ∙ sym (ap not (row_has a b g s))
+]

@@ -1,6 +1,11 @@
 pub mod TrackingLemmas
 pub mod ProductLemmas
 pub mod NameLemmas
+pub mod SumSetLemmas
+pub mod RelationLemmas
+pub mod CellLemmas
+pub mod FactLemmas
+pub mod SaidLemmas
 pub mod SetLemmas
 pub mod ChainLemmas
 pub mod OffsetLemmas

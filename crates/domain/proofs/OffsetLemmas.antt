@@ -77,7 +77,7 @@ empty_none n e o h = ap (λ m. of_bits m o) e ∙ ap (λ (f : Words). f o) none_
 
 apart : (a b : Bool) → (a && not b) ≡ false → a ≡ true → b ≡ true
 apart true true e t = refl
-apart true false e t = e
+apart true false e t = sym e
 apart false b e t = absurd (let z : ⊥ = cc in z)
 
 together : (a b : Bool) → (a ≡ true → b ≡ true) → (a && not b) ≡ false

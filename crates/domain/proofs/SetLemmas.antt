@@ -1,12 +1,13 @@
 -- Products and preimages of sets.
-use Rattle.std.proofs.Common.{◌≡◌, ℕ, ◌+◌, ◌-◌, ◌*◌, ◌%◌, ◌<◌, ◌≤◌, ◌==◌, Bool, true, false, ◌&&◌, ◌||◌, List, refl, sym, ap, ◌∙◌, arith, inl, inr, absurd}
-use Rattle.std.specs.Prelude.{nat_lt}
+use Rattle.std.proofs.Common.{◌≡◌, ℕ, ◌+◌, ◌-◌, ◌*◌, ◌%◌, ◌<◌, ◌≤◌, ◌==◌, Bool, true, false, ◌&&◌, ◌||◌, List, refl, sym, ap, ◌∙◌, arith, inl, inr}
+use Rattle.std.specs.Prelude.{nat_lt, Option, Some}
 use Rattle.std.proofs.Math.Path.{fun_ext}
 use Rattle.std.proofs.lemmas.Bool.{cases_eq, cases_lt, eq-eqb, eqb-true, ne_eqb}
-use Rattle.wordset.specs.Words.{Words, some_below, images_at, meet, minus, plus, shifted, mirrored}
+use Rattle.wordset.specs.Words.{Words, all_words, some_below, meet, minus, shifted, mirrored}
 use Rattle.wordset.specs.Lanes.{words}
 use Rattle.wordset.proofs.Tests.{some_from, some_to, IsSome, some_none_of, both_ways, and_both, and_first, and_second}
-use Rattle.wordset.proofs.SetLemmas.{word_small, words_past, closed_at, closed_past}
+use Rattle.wordset.proofs.SetLemmas.{lt_to, words_past, closed_at, closed_past}
+use Rattle.domain.specs.Facts.{tape_word}
 use Rattle.domain.specs.Sums.Adding.{times}
 
 -- The words that are kept of a set, one by one.
@@ -120,4 +121,34 @@ negative_at set v h = both_ways (times 4095 set v) (set ((4095 * v) % 4096))
 pub divided_negative : (lanes : List ℕ) (set : Words) → meet (words lanes) (times 4095 set) ≡ meet (words lanes) (λ v. set ((4095 * v) % 4096))
 divided_negative lanes set = meet_same lanes (times 4095 set) (λ v. set ((4095 * v) % 4096)) (negative_at set)
 
-pub ruleset divided = (divided_once, divided_negative)
+-- ---- steps of loops
+
+pub and_yes : (b t : Bool) → t ≡ true → b ≡ (b && t)
+and_yes true t e = sym e
+and_yes false t e = refl
+
+pub or_none : (a b t : Bool) → t ≡ false → a ≡ (a || (b && t))
+or_none true b t e = refl
+or_none false true t e = sym e
+or_none false false t e = refl
+
+-- ---- words of the tape
+
+lone : (w v : ℕ) (test : ℕ → Bool) → w < 4096 → test w ≡ some_below 4096 (λ x. (x == w) && test x)
+lone w v test h = both_ways (test w) (some_below 4096 (λ x. (x == w) && test x))
+    (λ e. some_from 4096 (λ x. (x == w) && test x) w h (and_both (w == w) (test w) (eq-eqb w w refl) e))
+    (λ e. let s : IsSome 4096 (λ x. (x == w) && test x) = some_to 4096 (λ x. (x == w) && test x) e in
+    ap test (sym (eqb-true s.at w (and_first (s.at == w) (test s.at) s.holds))) ∙ and_second (s.at == w) (test s.at) s.holds)
+
+pub tape_one : (o : Option ℕ) (w : ℕ) (test : ℕ → Bool) → Some w ≡ o → w < 4096 → test w ≡ some_below 4096 (λ x. tape_word o x && test x)
+tape_one o w test e h = lone w w test h ∙ ap (λ (p : Option ℕ). some_below 4096 (λ x. tape_word p x && test x)) e
+
+or_all : (b t : Bool) → t ≡ true → t ≡ (b || t)
+or_all true t e = e
+or_all false t e = refl
+
+pub all_or : (lanes : List ℕ) (v : ℕ) → all_words v ≡ (words lanes v || all_words v)
+all_or lanes v = elim (cases_lt v 4096) [
+  | inl l ↦ or_all (words lanes v) (all_words v) (lt_to v l)
+  | inr g ↦ ap (λ b. b || all_words v) (sym (words_past lanes v g))
+]

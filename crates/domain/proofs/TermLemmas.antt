@@ -1,5 +1,5 @@
 -- Sums as lists of summands, gone through term by term.
-use Rattle.std.proofs.Common.{◌≡◌, ℕ, ◌+◌, ◌%◌, ◌<◌, ◌≤◌, ◌==◌, Bool, true, false, ◌&&◌, List, [], ◌∷◌, ◌++◌, map, take, drop, get_or, length, refl, sym, ap, ◌∙◌, append_assoc, arith, length-append, length-drop, absurd}
+use Rattle.std.proofs.Common.{◌≡◌, ℕ, suc, ◌+◌, ◌%◌, ◌<◌, ◌≤◌, ◌==◌, Bool, true, false, ◌&&◌, List, [], ◌∷◌, ◌++◌, map, take, drop, get_or, length, refl, sym, ap, ◌∙◌, append_assoc, arith, length-append, length-drop}
 use Rattle.std.specs.Prelude.{if◌then◌else◌, not, filter}
 use Rattle.std.proofs.Math.ListN.{drop_of_length-le}
 use Rattle.std.proofs.lemmas.List.{at_drop_more, drop_more, length-map, length-take}
@@ -20,28 +20,27 @@ one_left xs i h = omega (arith, length-drop i xs)
 
 -- Nothing is left.
 pub none_left : {A : Type 0} {B : Type 0} (F : List A → B) (xs : List A) (i : ℕ) → length xs ≤ i → F (drop i xs) ≡ F []
-none_left F xs i h = ap F (drop_of_length-le h)
+none_left F xs i h = ap F (drop_of_length-le xs {i = i} h)
 
 passes_first : {A : Type 0} (p : A → Bool) (y : A) (ys : List A) → p y ≡ true → 0 < length (filter p (y ∷ ys))
 passes_first p y ys e = rw e (omega arith)
 
 -- One that passes is left.
 pub some_left : {A : Type 0} (p : A → Bool) (xs : List A) (i : ℕ) (x d : A) → i < length xs → x ≡ get_or xs i d → p x ≡ true → 0 < length (filter p (drop i xs))
-some_left p xs i x d lt is yes =
-    let there : p (get_or xs i d) ≡ true = ap p (sym is) ∙ yes in
+some_left p xs i x d lt is passes =
+    let there : p (get_or xs i d) ≡ true = ap p (sym is) ∙ passes in
     let first : 0 < length (filter p (get_or xs i d ∷ drop (i + 1) xs)) = passes_first p (get_or xs i d) (drop (i + 1) xs) there in
     rw (at_drop_more (filter p) xs i d lt) first
 
 -- Those that pass and those that don't are all.
 pub both_filters : {A : Type 0} (p : A → Bool) (xs : List A) → length (filter p xs) + length (filter (λ x. not (p x)) xs) ≡ length xs
 both_filters p [] = refl
-both_filters p (x ∷ xs) = go (p x)
+both_filters p (x ∷ xs) = go (p x) (both_filters p xs)
   where
-    rest : length (filter p xs) + length (filter (λ y. not (p y)) xs) ≡ length xs
-    rest = both_filters p xs
-    go : (b : Bool) → length (if b then x ∷ filter p xs else filter p xs) + length (if not b then x ∷ filter (λ y. not (p y)) xs else filter (λ y. not (p y)) xs) ≡ length (x ∷ xs)
-    go true = omega (arith, rest)
-    go false = omega (arith, rest)
+    go : (b : Bool) → length (filter p xs) + length (filter (λ y. not (p y)) xs) ≡ length xs →
+        length (if b then x ∷ filter p xs else filter p xs) + length (if not b then x ∷ filter (λ y. not (p y)) xs else filter (λ y. not (p y)) xs) ≡ length (x ∷ xs)
+    go true rest = omega (arith, rest)
+    go false rest = omega (arith, rest)
 
 -- A sum has at most four terms.
 pub sum_few : (s : Sum) → length (sum_of s) ≤ 4
@@ -52,14 +51,12 @@ pub apart_lengths : (a b : said.Sum) → (length a ≡ length b → ⊥) → fal
 apart_lengths [] [] n = absurd (n refl)
 apart_lengths [] (t ∷ ts) n = refl
 apart_lengths (s ∷ ss) [] n = refl
-apart_lengths (s ∷ ss) (t ∷ ts) n = go (s.coefficient == t.coefficient) (same_term s.term t.term)
+apart_lengths (s ∷ ss) (t ∷ ts) n = go (s.coefficient == t.coefficient) (same_term s.term t.term) (apart_lengths ss ts (λ e. n (ap suc e)))
   where
-    rest : false ≡ same_sum ss ts
-    rest = apart_lengths ss ts (λ e. n (omega (arith, e)))
-    go : (p q : Bool) → false ≡ (p && (q && same_sum ss ts))
-    go true true = rest
-    go true false = refl
-    go false q = refl
+    go : (p q : Bool) → false ≡ same_sum ss ts → false ≡ (p && (q && same_sum ss ts))
+    go true true rest = rest
+    go true false rest = refl
+    go false q rest = refl
 
 in_front : (c : ℕ) (t : Term) (rest : said.Sum) → with_coefficient c t [] ++ rest ≡ with_coefficient c t rest
 in_front c t rest = go (c == 0)

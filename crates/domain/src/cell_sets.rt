@@ -1,9 +1,9 @@
 //! Cells and the words that they may hold.
 
-ghost use Rattle.std.specs.Prelude.{◌≡◌, ◌<◌, ◌≤◌, ◌+◌, ◌++◌, ◌∷◌, ◌↔◌, [], IsTrue, length, map};
-ghost use Rattle.wordset.specs.Words.{between, meet};
+ghost use Rattle.std.specs.Prelude.{◌≡◌, ◌<◌, ◌≤◌, ◌+◌, ◌++◌, ◌∷◌, ◌↔◌, [], IsTrue, IfSome, length, map, slice_set};
+ghost use Rattle.wordset.specs.Words.{all_words, between, meet};
 ghost use Rattle.wordset.specs.Lanes.{words};
-ghost use Rattle.domain.specs.Statements.{tracked};
+ghost use Rattle.domain.specs.Statements.{tracked, cell_at};
 
 use crate::brief::BriefSet;
 use word12::Word;
@@ -33,7 +33,7 @@ pub struct CellSets<const CAP: usize> {
 
 impl<const CAP: usize> CellSets<CAP> {
     ghost use Rattle.domain.specs.Sums.Brief.{brief_words};
-    ghost use Rattle.domain.specs.Sums.CellsInCode.{cell_set_of, cell_sets_of, words_in_cells, with_cell};
+    ghost use Rattle.domain.specs.Sums.CellsInCode.{cell_set_of, cell_sets_of, words_in_cells, with_cell, freed, IsCellAt};
 
     /// No cell.
     pub fn new() -> CellSets<CAP>
@@ -135,6 +135,51 @@ impl<const CAP: usize> CellSets<CAP> {
         }
     }
 
+    /// Where the first entry of a cell stands, if there is one.
+    fn position(&self, cell: Word) -> Option<usize>
+        ensures { IfSome result (λ at. IsCellAt cell (cell_sets_of self.now) at) }
+    {
+        for at in 0..self.count {
+            if self.entries[at].cell == cell {
+                return Some(at);
+            }
+        }
+        None
+    }
+
+    /// Keeps those words of the entry at a place that a set has.
+    fn meet_at(&mut self, at: usize, set: &WordSet)
+        requires { at < length (cell_sets_of self.old) }
+        ensures { cell_sets_of self.new ≡ slice_set (cell_sets_of self.old) at
+            (record (cell_at (cell_sets_of self.old) at) { set = meet (cell_at (cell_sets_of self.old) at).set (words set.now) }) }
+    {
+        let place = &mut self.entries[at];
+        place.set.meet(set);
+    }
+
+    /// Takes away the entries of a cell.
+    fn remove(&mut self, cell: Word)
+        ensures words { words_in_cells (cell_sets_of self.new) ≡
+            with_cell cell all_words (words_in_cells (cell_sets_of self.old)) }
+        ensures few { length (cell_sets_of self.new) ≤ length (cell_sets_of self.old) }
+    {
+        for at in 0..self.count {
+            self.free_at(at, cell);
+        }
+    }
+
+    /// Lets the entry at a place allow all words, if it is of a cell.
+    fn free_at(&mut self, at: usize, cell: Word)
+        requires { at < length (cell_sets_of self.old) }
+        ensures { cell_sets_of self.new ≡ slice_set (cell_sets_of self.old) at
+            (freed cell (cell_at (cell_sets_of self.old) at)) }
+    {
+        let place = &mut self.entries[at];
+        if place.cell == cell {
+            place.set.set_row(Word::ZERO, Word::from_index(0o7777));
+        }
+    }
+
     /// Keeps those words of a cell that a set has.
     pub fn meet(&mut self, cell: Word, set: &WordSet)
         requires { length (cell_sets_of self.old) < CAP }
@@ -143,14 +188,10 @@ impl<const CAP: usize> CellSets<CAP> {
             (words_in_cells (cell_sets_of self.old)) }
         ensures few { length (cell_sets_of self.new) ≤ length (cell_sets_of self.old) + 1 }
     {
-        for at in 0..self.count {
-            if self.entries[at].cell == cell {
-                let place = &mut self.entries[at];
-                place.set.meet(set);
-                return;
-            }
+        match self.position(cell) {
+            Some(at) => self.meet_at(at, set),
+            None => self.push(cell, set),
         }
-        self.push(cell, set);
     }
 
     /// Lets a cell hold the words of a set.
@@ -160,16 +201,7 @@ impl<const CAP: usize> CellSets<CAP> {
             with_cell cell (words set.now) (words_in_cells (cell_sets_of self.old)) }
         ensures few { length (cell_sets_of self.new) ≤ length (cell_sets_of self.old) + 1 }
     {
-        let mut found = false;
-        for at in 0..self.count {
-            if self.entries[at].cell == cell {
-                let place = &mut self.entries[at];
-                place.set.set(set);
-                found = true;
-            }
-        }
-        if !found {
-            self.push(cell, set);
-        }
+        self.remove(cell);
+        self.meet(cell, set);
     }
 }

@@ -165,7 +165,6 @@ impl Chain {
     }
 
     /// Whether it gives an accumulator and a link of a word of its cell.
-    #[tactic(auto, using(crate::proofs::ChainLemmas::two_links))]
     pub fn gives(&self, word: Word, ac: Word, link: Link) -> bool
         ensures { result ≡ gives (chain_of self.now) word ac link }
     {

@@ -1,7 +1,7 @@
 //! Relations: what is said of sums.
 
-ghost use Rattle.std.specs.Prelude.{◌≡◌, ◌<◌, ◌≤◌, ◌+◌, ◌++◌, ◌∷◌, ◌↔◌, [], IsTrue, length, map};
-ghost use Rattle.wordset.specs.Words.{one, sums};
+ghost use Rattle.std.specs.Prelude.{◌≡◌, ◌<◌, ◌≤◌, ◌+◌, ◌++◌, ◌∷◌, ◌↔◌, [], IsTrue, MatchOption, length, map, slice_set, Some};
+ghost use Rattle.wordset.specs.Words.{Words, meet, one, sums};
 ghost use Rattle.wordset.specs.Lanes.{words};
 ghost use Rattle.domain.specs.Facts.{Cell};
 ghost use Rattle.domain.specs.Sums.Terms.{coefficient_in};
@@ -44,6 +44,8 @@ pub struct Relations<const CAP: usize> {
 fn add_times(c: Word, by: Word, set: &mut BriefSet)
     ensures { brief_words set.new ≡ sums (brief_words set.old) (times c (one by)) }
 {
+    // The proof needs the number to be a word.
+    let _index = by.index();
     let more = product(c, by);
     match set.only() {
         Some(word) => set.set_one(word.add(more)),
@@ -142,7 +144,7 @@ impl Sum {
 impl<const CAP: usize> Relations<CAP> {
     ghost use Rattle.domain.specs.Sums.InCode.{sum_of};
     ghost use Rattle.domain.specs.Sums.Naming.{names_of};
-    ghost use Rattle.domain.specs.Sums.RelationsInCode.{relation_of, relations_of};
+    ghost use Rattle.domain.specs.Sums.RelationsInCode.{relation_of, relations_of, relation_at, IsFoundAt};
 
     /// No relation.
     pub fn new() -> Relations<CAP>
@@ -232,21 +234,42 @@ impl<const CAP: usize> Relations<CAP> {
         }
     }
 
+    /// Where the first relation of a sum stands, if there is one.
+    fn position(&self, sum: &Sum) -> Option<usize>
+        ensures { MatchOption result
+            ((set : Words) → with_relation (sum_of sum.now) set (relations_of self.now) ≡
+            relations_of self.now ++ record { sum = sum_of sum.now; set = set } ∷ [])
+            (λ at. IsFoundAt (sum_of sum.now) (relations_of self.now) at) }
+    {
+        for at in 0..self.count {
+            if self.relations[at].sum.is_same(sum) {
+                return Some(at);
+            }
+        }
+        None
+    }
+
+    /// Lets the relation at a place be of a sum, with those of its words that a set has.
+    fn meet_at(&mut self, at: usize, sum: &Sum, set: &WordSet)
+        requires { at < length (relations_of self.old) }
+        ensures { relations_of self.new ≡ slice_set (relations_of self.old) at
+            (record { sum = sum_of sum.now; set = meet (relation_at (relations_of self.old) at).set (words set.now) }) }
+    {
+        let place = &mut self.relations[at];
+        place.sum = *sum;
+        place.set.meet(set);
+    }
+
     /// Adds that a sum is in a set: where a relation has the sum already, the two sets are met.
     pub fn add(&mut self, sum: &Sum, set: &WordSet)
         requires { length (relations_of self.old) < CAP }
         ensures relations { relations_of self.new ≡ with_relation (sum_of sum.now) (words set.now) (relations_of self.old) }
         ensures few { length (relations_of self.new) ≤ length (relations_of self.old) + 1 }
     {
-        for at in 0..self.count {
-            if self.relations[at].sum.is_same(sum) {
-                let place = &mut self.relations[at];
-                place.sum = *sum;
-                place.set.meet(set);
-                return;
-            }
+        match self.position(sum) {
+            Some(at) => self.meet_at(at, sum, set),
+            None => self.push(sum, set),
         }
-        self.push(sum, set);
     }
 
     /// Puts the words that all relations of a sum allow into a place for them: all words, if there is none.

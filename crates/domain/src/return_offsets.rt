@@ -3,19 +3,20 @@
 ghost use Rattle.std.specs.Prelude.{◌≡◌, ◌<◌, ◌↔◌, ℕ, IsTrue, true, false};
 ghost use Rattle.wordset.specs.Words.{nothing, with_word};
 ghost use Rattle.domain.specs.Sums.Moves.{counted_up};
-ghost use Rattle.domain.specs.Sums.Offsets.{offsets_in, every_offset};
 
 /// Some of the offsets 0 to 77, by which a routine's return word may have been counted up.
 ///
 /// Contracts see them as `offsets_in` gives them.
-#[derive(Clone, Copy, PartialEq, Eq, Debug)]
+#[derive(Clone, Copy, Debug)]
 pub struct ReturnOffsets {
     bits: u64,
+    ghost fits: { bits < 18446744073709551616 },
 }
 
 impl ReturnOffsets {
+    ghost use Rattle.domain.specs.Sums.Offsets.{offsets_in, every_offset};
+
     /// No offset.
-    #[tactic(auto, using(crate::proofs::OffsetLemmas::none_in))]
     pub fn none() -> ReturnOffsets
         ensures { offsets_in result ≡ nothing }
     {
@@ -23,7 +24,6 @@ impl ReturnOffsets {
     }
 
     /// All offsets.
-    #[tactic(auto, using(crate::proofs::OffsetLemmas::all_in))]
     pub fn all() -> ReturnOffsets
         ensures { offsets_in result ≡ every_offset }
     {
@@ -31,7 +31,6 @@ impl ReturnOffsets {
     }
 
     /// Whether an offset is among them.
-    #[tactic(auto, using(crate::proofs::OffsetLemmas::has_bit))]
     pub fn contains(self, offset: usize) -> bool
         requires { offset < 64 }
         ensures { result ≡ offsets_in self offset }
@@ -40,7 +39,6 @@ impl ReturnOffsets {
     }
 
     /// Puts an offset in.
-    #[tactic(auto, using(crate::proofs::OffsetLemmas::put_in))]
     pub fn insert(&mut self, offset: usize)
         requires { offset < 64 }
         ensures { offsets_in self.new ≡ with_word offset (offsets_in self.old) }
@@ -64,7 +62,6 @@ impl ReturnOffsets {
     }
 
     /// The offsets after the return word went up by one.
-    #[tactic(auto, using(crate::proofs::OffsetLemmas::moved_up))]
     pub fn counted(self) -> ReturnOffsets
         ensures { offsets_in result ≡ counted_up (offsets_in self) }
     {

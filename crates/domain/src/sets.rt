@@ -54,7 +54,6 @@ pub fn differences(a: &WordSet, b: &WordSet) -> WordSet
 }
 
 /// Keeps the words v of a set for which c·v is in another. For 1 and 7777, the usual coefficients, no word is looked at.
-#[tactic(auto, using(crate::proofs::SetLemmas::divided))]
 pub fn keep_divided(c: Word, set: &WordSet, place: &mut WordSet)
     ensures { words place.new ≡ meet (words place.old) (λ v. words set.now ((c * v) % 4096)) }
 {
@@ -74,13 +73,13 @@ pub fn keep_divided(c: Word, set: &WordSet, place: &mut WordSet)
 fn keep_each_divided(c: Word, set: &WordSet, place: &mut WordSet)
     ensures { words place.new ≡ meet (words place.old) (λ v. words set.now ((c * v) % 4096)) }
 {
-    let before = *place;
-    *place = WordSet::empty();
-    for word in before.iter() {
+    let mut found = WordSet::empty();
+    for word in place.iter() {
         if set.contains(product(c, word)) {
-            place.insert(word);
+            found.insert(word);
         }
     }
+    *place = found;
 }
 
 /// The word of the tape at an address, if there is one.
@@ -121,7 +120,11 @@ fn may_start_within(image: &Image, cell: Word, c: Word, set: &WordSet) -> bool
             keep_divided(c, set, &mut left);
             !left.is_empty()
         }
-        Some(word) => set.contains(product(c, word)),
+        Some(word) => {
+            // The proof needs the tape's word to be a word.
+            let _index = word.index();
+            set.contains(product(c, word))
+        }
     }
 }
 
@@ -130,11 +133,11 @@ pub fn keep_pointing(image: &Image, k: Word, c: Word, set: &WordSet, place: &mut
     ensures { words place.new ≡ meet (words place.old)
         (λ v. some_below 4096 (λ w. tape_word (image_of image.now (plus v k)) w && words set.now ((c * w) % 4096))) }
 {
-    let before = *place;
-    *place = WordSet::empty();
-    for word in before.iter() {
+    let mut found = WordSet::empty();
+    for word in place.iter() {
         if may_start_within(image, word.add(k), c, set) {
-            place.insert(word);
+            found.insert(word);
         }
     }
+    *place = found;
 }

@@ -9,6 +9,6 @@ use Rattle.domain.proofs.terms.Sum.push_unsigned.Goals as goal
 pub push-requires : goal.push-requires
 push-requires c =
     let inside : c.loop-at.at < length (sum_of c.args.other.now) = omega arith in
-    room_left (sum_of c.loop-at.self) (filter (λ (s : Summand). . not (is_sign s.coefficient)) (drop c.loop-at.at (sum_of c.args.other.now))) (sum_of c.args.self.now) (filter (λ (s : Summand). . not (is_sign s.coefficient)) (sum_of c.args.other.now))
+    room_left (sum_of c.loop-at.self) (filter (λ (s : Summand). not (is_sign s.coefficient)) (drop c.loop-at.at (sum_of c.args.other.now))) (sum_of c.args.self.now) (filter (λ (s : Summand). not (is_sign s.coefficient)) (sum_of c.args.other.now))
     c.loop-at.invariant c.requires
-    (some_left (λ (s : Summand). . not (is_sign s.coefficient)) (sum_of c.args.other.now) c.loop-at.at (summand_of c.get-summand.result) (record { coefficient = 0; term = Holding Ac }) inside c.get-summand.ensures (ap not (sym c.is_sign.ensures) ∙ c.if-not-is_sign.true))
+    (some_left (λ (s : Summand). not (is_sign s.coefficient)) (sum_of c.args.other.now) c.loop-at.at (summand_of c.get-summand.result) (record { coefficient = 0; term = Holding Ac }) inside c.get-summand.ensures (ap not (sym c.is_sign.ensures ∙ c.if-not-is_sign.true)))

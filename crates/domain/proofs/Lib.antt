@@ -1,2 +1,14 @@
 pub mod TrackingLemmas
+pub mod ProductLemmas
+pub mod NameLemmas
+pub mod SumSetLemmas
+pub mod RelationLemmas
+pub mod CellLemmas
+pub mod FactLemmas
+pub mod SaidLemmas
+pub mod SetLemmas
+pub mod ChainLemmas
+pub mod OffsetLemmas
+pub mod BriefLemmas
+pub mod TermLemmas
 pub mod Sums

@@ -8,4 +8,13 @@ pub mod Adding
 pub mod Knowing
 pub mod Narrowing
 pub mod Moves
+pub mod InCode
+pub mod Naming
+pub mod Brief
+pub mod Spelling
+pub mod ChainsInCode
+pub mod Offsets
 pub mod Laws
+pub mod CellsInCode
+pub mod RelationsInCode
+pub mod FactInCode

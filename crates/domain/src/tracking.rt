@@ -109,7 +109,7 @@ fn has_row(wider: &[TrackedCell], other: &Held, first: Word, last: Word) -> bool
 
 /// Whether words in a row are all within a set.
 #[inline(never)]
-fn is_range_within(first: Word, last: Word, set: &WordSet) -> bool
+pub(crate) fn is_range_within(first: Word, last: Word, set: &WordSet) -> bool
     ensures { IsTrue result ↔ IsWithin (between first last) (words set.now) }
 {
     WordSet::range(first, last).is_subset(set)

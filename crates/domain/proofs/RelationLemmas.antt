@@ -1,0 +1,63 @@
+-- Lists of relations, gone through one by one.
+use Rattle.std.proofs.Common.{◌≡◌, ℕ, zero, suc, ◌+◌, ◌<◌, ◌≤◌, Bool, true, false, ◌&&◌, List, [], ◌∷◌, ◌++◌, map, take, drop, get_or, length, refl, sym, ap, ◌∙◌, append_assoc, arith}
+use Rattle.std.specs.Prelude.{if◌then◌else◌, slice_set, not, filter}
+use Rattle.std.proofs.Math.ListN.{drop_of_length-le}
+use Rattle.std.proofs.lemmas.List.{at_drop_more, take_more, take-append-drop}
+use Rattle.wordset.specs.Words.{Words, meet, nothing, all_words}
+use Rattle.wordset.specs.Lanes.{words}
+use Rattle.domain.specs.Sums.Terms.{Sum, same_sum}
+use Rattle.domain.specs.Sums.Facts.{Relation}
+use Rattle.domain.specs.Sums.Adding.{with_relation, set_among}
+use Rattle.domain.specs.Sums.RelationsInCode.{relation_at, IsFoundAt}
+
+-- A list with another element at a place.
+pub split : {A : Type 0} (xs : List A) (i : ℕ) (v : A) → i < length xs → slice_set xs i v ≡ take i xs ++ v ∷ drop (suc i) xs
+split [] i v lt = absurd (omega arith)
+split (x ∷ xs) zero v lt = refl
+split (x ∷ xs) (suc i) v lt = ap (λ (r : List _). x ∷ r) (split xs i v (omega arith))
+
+-- All are taken.
+pub all_taken : {A : Type 0} (xs : List A) (i : ℕ) → length xs ≤ i → take i xs ≡ xs
+all_taken [] zero h = refl
+all_taken [] (suc i) h = refl
+all_taken (x ∷ xs) zero h = absurd (omega arith)
+all_taken (x ∷ xs) (suc i) h = ap (λ (r : List _). x ∷ r) (all_taken xs i (omega arith))
+
+first_met : (sum : Sum) (set : Words) (r : Relation) (rs : List Relation) → same_sum r.sum sum ≡ true → with_relation sum set (r ∷ rs) ≡ record { sum = sum; set = meet r.set set } ∷ rs
+first_met sum set r rs e = rw e refl
+
+first_passed : (sum : Sum) (set : Words) (r : Relation) (rs : List Relation) → same_sum r.sum sum ≡ false → with_relation sum set (r ∷ rs) ≡ r ∷ with_relation sum set rs
+first_passed sum set r rs e = rw e refl
+
+-- The first relation of the sum is found.
+pub found_at : (sum : Sum) (rs : List Relation) (i : ℕ) → i < length rs → same_sum (relation_at rs i).sum sum ≡ true →
+    ((set : Words) → take i rs ++ with_relation sum set (drop i rs) ≡ with_relation sum set rs) → IsFoundAt sum rs i
+found_at sum rs i lt same before = record {
+  inside = lt;
+  met = λ set.
+      (let d : Relation = record { sum = []; set = nothing } in
+      let here : with_relation sum set (drop i rs) ≡ record { sum = sum; set = meet (relation_at rs i).set set } ∷ drop (i + 1) rs =
+          at_drop_more (with_relation sum set) rs i d lt ∙ first_met sum set (relation_at rs i) (drop (i + 1) rs) same in
+      let next : i + 1 ≡ suc i = omega arith in
+      sym (before set) ∙ ap (λ (r : List Relation). take i rs ++ r) (here ∙ ap (λ k. record { sum = sum; set = meet (relation_at rs i).set set } ∷ drop k rs) next)
+      ∙ sym (split rs i (record { sum = sum; set = meet (relation_at rs i).set set }) lt));
+}
+
+-- The relation at a place isn't of the sum.
+pub passed_on : (sum : Sum) (rs : List Relation) (i : ℕ) → i < length rs → same_sum (relation_at rs i).sum sum ≡ false →
+    ((set : Words) → take i rs ++ with_relation sum set (drop i rs) ≡ with_relation sum set rs) →
+    (set : Words) → take (i + 1) rs ++ with_relation sum set (drop (i + 1) rs) ≡ with_relation sum set rs
+passed_on sum rs i lt other before set =
+    let d : Relation = record { sum = []; set = nothing } in
+    let here : with_relation sum set (drop i rs) ≡ relation_at rs i ∷ with_relation sum set (drop (i + 1) rs) =
+        at_drop_more (with_relation sum set) rs i d lt ∙ first_passed sum set (relation_at rs i) (drop (i + 1) rs) other in
+    ap (λ (t : List Relation). t ++ with_relation sum set (drop (i + 1) rs)) (take_more rs i d lt)
+    ∙ append_assoc (take i rs) (relation_at rs i ∷ []) (with_relation sum set (drop (i + 1) rs)) ∙ ap (λ (r : List Relation). take i rs ++ r) (sym here) ∙ before set
+
+-- None is of the sum.
+pub not_found : (sum : Sum) (rs : List Relation) (i : ℕ) → length rs ≤ i →
+    ((set : Words) → take i rs ++ with_relation sum set (drop i rs) ≡ with_relation sum set rs) →
+    (set : Words) → with_relation sum set rs ≡ rs ++ record { sum = sum; set = set } ∷ []
+not_found sum rs i past before set =
+    sym (before set) ∙ ap (λ (t : List Relation). t ++ with_relation sum set (drop i rs)) (all_taken rs i past)
+    ∙ ap (λ (r : List Relation). rs ++ with_relation sum set r) (drop_of_length-le rs {i = i} past)

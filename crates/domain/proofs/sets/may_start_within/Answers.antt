@@ -1,0 +1,14 @@
+use Rattle.std.proofs.Common.{◌≡◌, ℕ, ◌+◌, ◌*◌, ◌%◌, ◌==◌, ◌||◌, ◌&&◌, true, false, sym, ap, ◌∙◌, arith}
+use Rattle.std.specs.Prelude.{Option}
+use Rattle.wordset.specs.Words.{plus, some_below, shifted, meet}
+use Rattle.wordset.specs.Lanes.{words}
+use Rattle.wordset.proofs.IterLemmas.{none_gathered, image_gathered, all_gathered}
+use Rattle.peripherals.specs.Loading.{image_of}
+use Rattle.domain.specs.Facts.{tape_word}
+use Rattle.domain.proofs.SetLemmas.{kept_all, and_yes, or_none, once, negative, divided_once, divided_negative, tape_one, all_or}
+use Rattle.domain.proofs.sets.may_start_within.Goals as goal
+
+pub returns-in-Some : goal.returns-in-Some
+returns-in-Some c =
+    c.contains.ensures ∙ ap (λ x. words c.args.set.now x) c.product.ensures
+    ∙ tape_one (image_of c.args.image.now c.args.cell) c.in-Some.word (λ w. words c.args.set.now ((c.args.c * w) % 4096)) c.in-Some.ensures (omega (arith, c.index-index.ensures.same, c.index-index.ensures.small))

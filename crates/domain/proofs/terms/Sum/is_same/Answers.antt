@@ -1,0 +1,10 @@
+use Rattle.std.proofs.Common.{◌≡◌, ℕ, ◌+◌, ◌≤◌, ◌<◌, length, drop, [], ◌++◌, sym, ap, ◌∙◌, arith}
+use Rattle.std.specs.Prelude.{filter, not}
+use Rattle.domain.specs.Facts.{Ac}
+use Rattle.domain.specs.Sums.Terms.{Summand, Holding, is_sign, with_summand}
+use Rattle.domain.specs.Sums.InCode.{sum_of, summand_of, term_of}
+use Rattle.domain.proofs.TermLemmas.{apart_lengths}
+use Rattle.domain.proofs.terms.Sum.is_same.Goals as goal
+
+pub returns-then-len : goal.returns-then-len
+returns-then-len c = apart_lengths (sum_of c.args.self.now) (sum_of c.args.other.now) (λ e. c.if-len.true (c.len.ensures.count ∙ e ∙ sym c.len-2.ensures.count))

@@ -1,0 +1,50 @@
+-- Facts of sums as they're kept in code, and what they mean.
+use Rattle.std.specs.Prelude.{ℕ, [], List, map}
+use Rattle.wordset.specs.Words.{Words, nothing, all_words, all_links}
+use Rattle.wordset.specs.Lanes.{words}
+use Rattle.wordset.specs.Links.{links_of}
+use Rattle.domain.specs.Facts.{Location, Ac, Cell}
+use Rattle.domain.specs.Statements.{TrackedCell, tracked}
+use Rattle.domain.specs.Sums.Facts as said
+use Rattle.domain.specs.Sums.Brief.{brief_words}
+use Rattle.domain.specs.Sums.CellsInCode.{cell_sets_of}
+use Rattle.domain.specs.Sums.RelationsInCode.{relations_of}
+use Rattle.domain.specs.Sums.ChainsInCode.{chain_of}
+use Rattle.domain.specs.Sums.Offsets.{offsets_in}
+use Rattle.domain.specs.declared.sum_fact.SumFact.{SumFact}
+use Rattle.domain.specs.declared.sum_fact.Rules.{Rules}
+use Rattle.domain.specs.declared.sum_fact.Rules.TheVariants.{OfEquations, OfSums}
+
+-- The rules that are meant.
+abbrev pub rules_of : Rules → said.Rules
+rules_of OfEquations = said.OfEquations
+rules_of OfSums = said.OfSums
+
+-- The words of each name.
+abbrev pub names_words : Words → List TrackedCell → Location → Words
+names_words ac cells Ac = ac
+names_words ac cells (Cell a) = tracked a cells
+
+-- The fact that is meant.
+abbrev pub fact_in_code : {C R : ℕ} → SumFact C R → said.Fact
+fact_in_code f = record {
+  set = names_words (words f.ac) (cell_sets_of f.cells);
+  relations = relations_of f.relations;
+  chains = map chain_of f.chains.items;
+  mq = words f.mq;
+  link = links_of f.link;
+  sites = brief_words f.sites;
+  offsets = offsets_in f.offsets;
+}
+
+-- The fact that excludes nothing, without relations, chains, sites and offsets.
+abbrev pub nothing_known : said.Fact
+nothing_known = record {
+  set = names_words all_words [];
+  relations = [];
+  chains = [];
+  mq = all_words;
+  link = all_links;
+  sites = nothing;
+  offsets = nothing;
+}

@@ -1,0 +1,229 @@
+//! Narrowing: each set of a fact is met once with what the relations and chains say of it, by the other sets as they stand.
+//!
+//! A relation with a set of n words in a row costs two sums of sets; so a narrowed fact takes some microseconds for each relation,
+//! and none where all is one word.
+
+ghost use Rattle.std.specs.Prelude.{◌≡◌, ◌<◌, ◌≤◌, ◌+◌, ◌*◌, ◌++◌, ◌∷◌, ◌&&◌, ◌||◌, ◌==◌, [], length, map, drop, ℕ};
+ghost use Rattle.wordset.specs.Words.{some_below, plus};
+ghost use Rattle.wordset.specs.Lanes.{words};
+ghost use Rattle.wordset.specs.Links.{links_of};
+ghost use Rattle.peripherals.specs.Loading.{image_of};
+ghost use Rattle.domain.specs.Meaning.{location_of};
+ghost use Rattle.domain.specs.Facts.{Ac, Cell};
+ghost use Rattle.domain.specs.Sums.Facts.{OfSums};
+ghost use Rattle.domain.specs.Sums.Adding.{adding, adding_all};
+ghost use Rattle.domain.specs.Sums.Chains.{gives};
+ghost use Rattle.domain.specs.Sums.Narrowing.{of_term, of_part, parts_of, parts_of_chain, links_of_chain, narrowed};
+ghost use Rattle.domain.specs.Sums.InCode.{term_of, sum_of};
+ghost use Rattle.domain.specs.Sums.Brief.{brief_words};
+ghost use Rattle.domain.specs.Sums.CellsInCode.{cell_sets_of};
+ghost use Rattle.domain.specs.Sums.RelationsInCode.{relations_of, relation_of};
+ghost use Rattle.domain.specs.Sums.ChainsInCode.{chain_of, gives_from};
+ghost use Rattle.domain.specs.Sums.FactInCode.{fact_in_code};
+
+use crate::chains::Chain;
+use crate::location::{Location, negated};
+use crate::relations::Relation;
+use crate::sets::{differences, keep_divided, keep_pointing};
+use crate::sum_fact::{Rules, SumFact};
+use crate::terms::{Sum, Term};
+use arrayvec::ArrayVec;
+use bin_tape::Image;
+use word12::{Link, Word};
+use wordset::{Links, WordSet};
+
+/// What a chain and a fact's sets allow: the words of the chain's cell, those of the accumulator, those of the accumulator less
+/// the cell, and the links.
+pub struct ChainWords {
+    /// The words of its cell.
+    pub cells: WordSet,
+    /// The words of the accumulator.
+    pub accumulators: WordSet,
+    /// The words of the accumulator less the cell.
+    pub differences: WordSet,
+    /// The links.
+    pub links: Links,
+}
+
+/// Adds what a chain gives of one word of its cell and of one link, where a fact allows it.
+fn add_given(chain: &Chain, word: Word, first: Link, ac: &WordSet, links: Links, found: &mut ChainWords)
+    ensures cells { (v : ℕ) → words found.new.cells v ≡ (words found.old.cells v || ((v == word) &&
+        some_below 4096 (λ w. some_below 2 (λ l. words ac.now w && (links_of links l && gives_from (chain_of chain.now) first word w l))))) }
+    ensures accumulators { (w : ℕ) → words found.new.accumulators w ≡ (words found.old.accumulators w ||
+        some_below 2 (λ l. words ac.now w && (links_of links l && gives_from (chain_of chain.now) first word w l))) }
+    ensures differences { (d : ℕ) → d < 4096 → words found.new.differences d ≡ (words found.old.differences d ||
+        some_below 2 (λ l. words ac.now (plus word d) && (links_of links l && gives_from (chain_of chain.now) first word (plus word d) l))) }
+    ensures links { (l : ℕ) → l < 2 → links_of found.new.links l ≡ (links_of found.old.links l ||
+        some_below 4096 (λ w. words ac.now w && (links_of links l && gives_from (chain_of chain.now) first word w l))) }
+{
+    if !chain.links().contains(first) {
+        return;
+    }
+    let (made, after) = chain.after_steps(word.add(chain.more()), first);
+    if ac.contains(made) && links.contains(after) {
+        found.cells.insert(word);
+        found.accumulators.insert(made);
+        found.differences.insert(made.add(negated(word)));
+        found.links = found.links.with(after);
+    }
+}
+
+/// Copies chains.
+fn copy_chains(from: &[Chain], to: &mut ArrayVec<Chain, 72>)
+    requires { length from.now ≤ 72 }
+    ensures { map chain_of to.new.items ≡ map chain_of from.now }
+{
+    to.clear();
+    for chain in from {
+        to.push(*chain);
+    }
+}
+
+impl<const C: usize, const R: usize> SumFact<C, R> {
+    /// Says what another fact says.
+    pub fn copy_from<const D: usize, const S: usize>(&mut self, other: &SumFact<D, S>)
+        requires cells { length (cell_sets_of other.now.cells) ≤ C }
+        requires relations { length (relations_of other.now.relations) ≤ R }
+        ensures { fact_in_code self.new ≡ fact_in_code other.now }
+    {
+        self.ac = other.ac;
+        self.mq = other.mq;
+        self.link = other.link;
+        self.cells.clear();
+        self.cells.push_all(other.cells.as_slice());
+        self.relations.clear();
+        self.relations.push_all(other.relations.as_slice());
+        copy_chains(other.chains.as_slice(), &mut self.chains);
+        self.sites.copy_from(&other.sites);
+        self.offsets = other.offsets;
+    }
+
+    /// Keeps those words of a term's name for which c times the term may be in a set.
+    fn keep_term(&mut self, image: &Image, c: Word, term: &Term, set: &WordSet)
+        requires { length (cell_sets_of self.old.cells) < C }
+        ensures fact { fact_in_code self.new ≡ adding OfSums
+            (of_term (image_of image.now) c (term_of term.now) (words set.now)) (fact_in_code self.old) }
+        ensures cells { length (cell_sets_of self.new.cells) ≤ length (cell_sets_of self.old.cells) + 1 }
+        ensures relations { self.new.relations ≡ self.old.relations }
+    {
+        let mut place = WordSet::all();
+        let name = term.name();
+        self.put_set_of(&name, &mut place);
+        match term {
+            Term::Holding(_) => keep_divided(c, set, &mut place),
+            Term::Behind { more, .. } => keep_pointing(image, *more, c, set, &mut place),
+        }
+        self.set_name(&name, &place);
+    }
+
+    /// Adds that a part of a relation's sum is in a set.
+    fn add_part(&mut self, image: &Image, part: &Sum, set: &WordSet)
+        requires cells { length (cell_sets_of self.old.cells) < C }
+        requires relations { length (relations_of self.old.relations) < R }
+        ensures fact { fact_in_code self.new ≡ adding_all OfSums
+            (of_part (image_of image.now) (sum_of part.now) (words set.now)) (fact_in_code self.old) }
+        ensures cells { length (cell_sets_of self.new.cells) ≤ length (cell_sets_of self.old.cells) + 1 }
+        ensures relations { length (relations_of self.new.relations) ≤ length (relations_of self.old.relations) + 1 }
+    {
+        let len = part.len();
+        if len == 0 {
+            return;
+        }
+        if len == 1 {
+            let summand = part.get(0);
+            self.keep_term(image, summand.coefficient, &summand.term, set);
+            return;
+        }
+        self.add(&Rules::OfSums, part, set);
+    }
+
+    /// Adds what a relation of another fact says of its first term and of the rest.
+    fn add_parts<const D: usize, const S: usize>(&mut self, image: &Image, fact: &SumFact<D, S>, relation: &Relation)
+        requires cells { length (cell_sets_of self.old.cells) + 2 ≤ C }
+        requires relations { length (relations_of self.old.relations) + 2 ≤ R }
+        ensures fact { fact_in_code self.new ≡ adding_all OfSums
+            (parts_of (image_of image.now) (fact_in_code fact.now) (sum_of relation.now.sum) (brief_words relation.now.set))
+            (fact_in_code self.old) }
+        ensures cells { length (cell_sets_of self.new.cells) ≤ length (cell_sets_of self.old.cells) + 2 }
+        ensures relations { length (relations_of self.new.relations) ≤ length (relations_of self.old.relations) + 2 }
+    {
+        if relation.sum.len() == 0 {
+            return;
+        }
+        let mut first = Sum::zero();
+        first.push(relation.sum.get(0));
+        let mut rest = Sum::zero();
+        rest.push_from(&relation.sum, 1);
+        let mut set = WordSet::all();
+        relation.set.put(&mut set);
+        let mut said = WordSet::all();
+        fact.put_said_of(image, &rest, &mut said);
+        self.add_part(image, &first, &differences(&set, &said));
+        fact.put_said_of(image, &first, &mut said);
+        self.add_part(image, &rest, &differences(&set, &said));
+    }
+
+    /// What a chain and the fact's sets allow.
+    pub fn words_of_chain(&self, chain: &Chain) -> ChainWords
+        ensures links { (l : ℕ) → l < 2 → links_of result.links l ≡ links_of_chain (fact_in_code self.now) (chain_of chain.now) l }
+    {
+        let mut found = ChainWords {
+            cells: WordSet::empty(),
+            accumulators: WordSet::empty(),
+            differences: WordSet::empty(),
+            links: Links::none(),
+        };
+        let mut set = WordSet::all();
+        self.put_set_of(&Location::Cell(chain.cell()), &mut set);
+        for word in set.iter() {
+            add_given(chain, word, Link::CLEAR, self.accumulator(), self.link(), &mut found);
+            add_given(chain, word, Link::SET, self.accumulator(), self.link(), &mut found);
+        }
+        found
+    }
+
+    /// Adds what a chain of another fact says of its cell, of the accumulator, and of the accumulator less the cell.
+    fn add_parts_of_chain<const D: usize, const S: usize>(&mut self, fact: &SumFact<D, S>, chain: &Chain)
+        requires cells { length (cell_sets_of self.old.cells) + 1 ≤ C }
+        requires relations { length (relations_of self.old.relations) + 1 ≤ R }
+        ensures fact { fact_in_code self.new ≡ adding_all OfSums
+            (parts_of_chain (fact_in_code fact.now) (chain_of chain.now)) (fact_in_code self.old) }
+        ensures cells { length (cell_sets_of self.new.cells) ≤ length (cell_sets_of self.old.cells) + 1 }
+        ensures relations { length (relations_of self.new.relations) ≤ length (relations_of self.old.relations) + 1 }
+    {
+        let found = fact.words_of_chain(chain);
+        let cell = Location::Cell(chain.cell());
+        self.meet_name(&cell, &found.cells);
+        self.meet_name(&Location::Accumulator, &found.accumulators);
+        self.add(&Rules::OfSums, &Sum::difference(Location::Accumulator, cell), &found.differences);
+        let ChainWords { cells: _, accumulators: _, differences: _, links: _ } = found;
+    }
+
+    /// Keeps those links that each chain of another fact allows.
+    fn keep_links_of_chains<const D: usize, const S: usize>(&mut self, fact: &SumFact<D, S>) {
+        for chain in fact.chains() {
+            let ChainWords { cells: _, accumulators: _, differences: _, links } = fact.words_of_chain(chain);
+            self.link = Links {
+                clear: self.link.clear && links.clear,
+                set: self.link.set && links.set,
+            };
+        }
+    }
+
+    /// Lets this fact be another, narrowed. It takes at most two cells and two relations more for each of its relations, and one
+    /// of each for each chain.
+    pub fn narrow<const D: usize, const S: usize>(&mut self, image: &Image, fact: &SumFact<D, S>)
+        requires cells { length (cell_sets_of fact.now.cells) + 2 * length (relations_of fact.now.relations) + length fact.now.chains.items ≤ C }
+        requires relations { 3 * length (relations_of fact.now.relations) + length fact.now.chains.items ≤ R }
+        ensures { fact_in_code self.new ≡ narrowed (image_of image.now) (fact_in_code fact.now) }
+    {
+        self.copy_from(fact);
+        self.keep_links_of_chains(fact);
+        for relation in fact.relations().as_slice() {
+            self.add_parts(image, fact, relation);
+        }
+        for chain in fact.chains() {
+            self.add_parts_of_chain(fact, chain);
+        }
+    }
+}

@@ -1,0 +1,324 @@
+//! Relations: what is said of sums.
+
+ghost use Rattle.std.specs.Prelude.{◌≡◌, ◌<◌, ◌≤◌, ◌+◌, ◌++◌, ◌∷◌, ◌↔◌, [], IsTrue, MatchOption, length, map, slice_set, Some};
+ghost use Rattle.wordset.specs.Words.{Words, meet, one, sums};
+ghost use Rattle.wordset.specs.Lanes.{words};
+ghost use Rattle.domain.specs.Facts.{Cell};
+ghost use Rattle.domain.specs.Sums.Terms.{coefficient_in};
+ghost use Rattle.domain.specs.Sums.Terms as said;
+ghost use Rattle.domain.specs.Sums.Brief.{brief_words};
+ghost use Rattle.domain.specs.Sums.Adding.{times, with_relation, set_among};
+ghost use Rattle.domain.specs.Sums.Moves.{free_of, counted_term, counted_sum, is_behind, has_behind, moved_relation, moved_relations};
+
+use crate::brief::BriefSet;
+use crate::location::{Location, negated};
+use crate::names::Names;
+use crate::sets::times;
+use crate::terms::{Sum, Summand, Term, product};
+use word12::Word;
+use wordset::WordSet;
+
+/// A relation: a sum is a word of a set. An equation, whose set is one word, takes a few bytes to write.
+///
+/// Contracts see it as `relation_of` gives it.
+#[derive(Clone, Copy)]
+pub struct Relation {
+    /// The sum.
+    pub sum: Sum,
+    /// The words that it may be.
+    pub set: BriefSet,
+}
+
+/// At most so many relations, in the order in which they were told.
+///
+/// Contracts see them as the list that `relations_of` gives.
+#[derive(Drop)]
+pub struct Relations<const CAP: usize> {
+    relations: [Relation; CAP],
+    count: usize,
+    ghost few: { count ≤ CAP },
+    ghost long: { length relations ≡ CAP },
+}
+
+/// The words of a set that a word was added to, c times: quick for one word.
+fn add_times(c: Word, by: Word, set: &mut BriefSet)
+    ensures { brief_words set.new ≡ sums (brief_words set.old) (times c (one by)) }
+{
+    // The proof needs the number to be a word.
+    let _index = by.index();
+    let more = product(c, by);
+    match set.only() {
+        Some(word) => set.set_one(word.add(more)),
+        None => {
+            let mut place = WordSet::empty();
+            set.put(&mut place);
+            set.set(&place.shift(more));
+        }
+    }
+}
+
+/// The words of a set that the words of another were added to, c times.
+fn add_times_each(c: Word, by: &WordSet, set: &mut BriefSet)
+    ensures { brief_words set.new ≡ sums (brief_words set.old) (times c (words by.now)) }
+{
+    let mut place = WordSet::empty();
+    set.put(&mut place);
+    let (found, _) = place.sums(&times(c, by));
+    set.set(&found);
+}
+
+impl Term {
+    ghost use Rattle.domain.specs.Sums.InCode.{term_of};
+
+    /// The same word's term after a number was added to a cell's word: what stands behind the cell is behind it by so much less.
+    pub fn counted(&self, cell: Word, by: Word) -> Term
+        ensures { term_of result ≡ counted_term cell by (term_of self.now) }
+    {
+        match self {
+            Term::Holding(name) => Term::Holding(*name),
+            Term::Behind { cell: x, more } => {
+                if *x == cell {
+                    Term::Behind {
+                        cell: *x,
+                        more: more.add(negated(by)),
+                    }
+                } else {
+                    Term::Behind {
+                        cell: *x,
+                        more: *more,
+                    }
+                }
+            }
+        }
+    }
+
+    /// Whether it stands behind a cell.
+    pub fn is_behind(&self, cell: Word) -> bool
+        ensures { result ≡ is_behind cell (term_of self.now) }
+    {
+        match self {
+            Term::Holding(_) => false,
+            Term::Behind { cell: x, .. } => *x == cell,
+        }
+    }
+}
+
+impl Sum {
+    ghost use Rattle.domain.specs.Sums.InCode.{sum_of};
+
+    /// The sum's terms after a number was added to a cell's word.
+    pub fn counted(&self, cell: Word, by: Word) -> Sum
+        ensures { sum_of result ≡ counted_sum cell by (sum_of self.now) }
+    {
+        let mut sum = Sum::zero();
+        for at in 0..self.len() {
+            let summand = self.get(at);
+            sum.push(Summand {
+                coefficient: summand.coefficient,
+                term: summand.term.counted(cell, by),
+            });
+        }
+        sum
+    }
+
+    /// Whether a term stands behind a cell.
+    pub fn has_behind(&self, cell: Word) -> bool
+        ensures { result ≡ has_behind cell (sum_of self.now) }
+    {
+        for at in 0..self.len() {
+            if self.get(at).term.is_behind(cell) {
+                return true;
+            }
+        }
+        false
+    }
+
+    /// What the coefficient of a cell is.
+    fn coefficient_of_cell(&self, cell: Word) -> Word
+        ensures { result ≡ coefficient_in (said.Holding (Cell cell)) (sum_of self.now) }
+    {
+        self.coefficient_of(&Term::Holding(Location::Cell(cell)))
+    }
+}
+
+impl<const CAP: usize> Relations<CAP> {
+    ghost use Rattle.domain.specs.Sums.InCode.{sum_of};
+    ghost use Rattle.domain.specs.Sums.Naming.{names_of};
+    ghost use Rattle.domain.specs.Sums.RelationsInCode.{relation_of, relations_of, relation_at, IsFoundAt};
+
+    /// No relation.
+    pub fn new() -> Relations<CAP>
+        ensures { relations_of result ≡ [] }
+    {
+        Relations {
+            relations: [Relation {
+                sum: Sum::zero(),
+                set: BriefSet::none(),
+            }; CAP],
+            count: 0,
+        }
+    }
+
+    /// How many there are.
+    pub fn len(&self) -> usize
+        ensures count { result ≡ length (relations_of self.now) }
+        ensures few { result ≤ CAP }
+    {
+        self.count
+    }
+
+    /// Whether there is no room for one more.
+    pub fn is_full(&self) -> bool
+        ensures { IsTrue result ↔ (length (relations_of self.now) ≡ CAP) }
+    {
+        self.count == CAP
+    }
+
+    /// The relations, in order.
+    pub fn as_slice(&self) -> &[Relation]
+        ensures relations { map relation_of result.now ≡ relations_of self.now }
+        ensures few { length result.now ≤ CAP }
+    {
+        &self.relations[..self.count]
+    }
+
+    /// Takes all away.
+    pub fn clear(&mut self)
+        ensures { relations_of self.new ≡ [] }
+    {
+        self.count = 0;
+    }
+
+    /// Adds that a sum is in a set.
+    pub fn push(&mut self, sum: &Sum, set: &WordSet)
+        requires { length (relations_of self.old) < CAP }
+        ensures { relations_of self.new ≡
+            relations_of self.old ++ record { sum = sum_of sum.now; set = words set.now } ∷ [] }
+    {
+        let place = &mut self.relations[self.count];
+        place.sum = *sum;
+        place.set.set(set);
+        self.count += 1;
+    }
+
+    /// Adds that a sum is one word.
+    pub fn push_one(&mut self, sum: &Sum, word: Word)
+        requires { length (relations_of self.old) < CAP }
+        ensures { relations_of self.new ≡
+            relations_of self.old ++ record { sum = sum_of sum.now; set = one word } ∷ [] }
+    {
+        let place = &mut self.relations[self.count];
+        place.sum = *sum;
+        place.set.set_one(word);
+        self.count += 1;
+    }
+
+    /// Adds a relation of which only what is needed is written.
+    pub fn push_copy(&mut self, relation: &Relation)
+        requires { length (relations_of self.old) < CAP }
+        ensures { relations_of self.new ≡ relations_of self.old ++ relation_of relation.now ∷ [] }
+    {
+        let place = &mut self.relations[self.count];
+        place.sum = relation.sum;
+        place.set.copy_from(&relation.set);
+        self.count += 1;
+    }
+
+    /// Adds some relations.
+    pub fn push_all(&mut self, others: &[Relation])
+        requires { length (relations_of self.old) + length others.now ≤ CAP }
+        ensures { relations_of self.new ≡ relations_of self.old ++ map relation_of others.now }
+    {
+        for relation in others {
+            self.push_copy(relation);
+        }
+    }
+
+    /// Where the first relation of a sum stands, if there is one.
+    fn position(&self, sum: &Sum) -> Option<usize>
+        ensures { MatchOption result
+            ((set : Words) → with_relation (sum_of sum.now) set (relations_of self.now) ≡
+            relations_of self.now ++ record { sum = sum_of sum.now; set = set } ∷ [])
+            (λ at. IsFoundAt (sum_of sum.now) (relations_of self.now) at) }
+    {
+        for at in 0..self.count {
+            if self.relations[at].sum.is_same(sum) {
+                return Some(at);
+            }
+        }
+        None
+    }
+
+    /// Lets the relation at a place be of a sum, with those of its words that a set has.
+    fn meet_at(&mut self, at: usize, sum: &Sum, set: &WordSet)
+        requires { at < length (relations_of self.old) }
+        ensures { relations_of self.new ≡ slice_set (relations_of self.old) at
+            (record { sum = sum_of sum.now; set = meet (relation_at (relations_of self.old) at).set (words set.now) }) }
+    {
+        let place = &mut self.relations[at];
+        place.sum = *sum;
+        place.set.meet(set);
+    }
+
+    /// Adds that a sum is in a set: where a relation has the sum already, the two sets are met.
+    pub fn add(&mut self, sum: &Sum, set: &WordSet)
+        requires { length (relations_of self.old) < CAP }
+        ensures relations { relations_of self.new ≡ with_relation (sum_of sum.now) (words set.now) (relations_of self.old) }
+        ensures few { length (relations_of self.new) ≤ length (relations_of self.old) + 1 }
+    {
+        match self.position(sum) {
+            Some(at) => self.meet_at(at, sum, set),
+            None => self.push(sum, set),
+        }
+    }
+
+    /// Puts the words that all relations of a sum allow into a place for them: all words, if there is none.
+    pub fn put_set_among(&self, sum: &Sum, place: &mut WordSet)
+        ensures { words place.new ≡ set_among (sum_of sum.now) (relations_of self.now) }
+    {
+        *place = WordSet::all();
+        for relation in self.as_slice() {
+            if relation.sum.is_same(sum) {
+                relation.set.keep(place);
+            }
+        }
+    }
+
+    /// Adds those of some relations that speak of none of some names.
+    pub fn push_free_of(&mut self, others: &[Relation], names: &Names<'_>)
+        requires { length (relations_of self.old) + length others.now ≤ CAP }
+        ensures { relations_of self.new ≡
+            relations_of self.old ++ free_of (names_of names.now) (map relation_of others.now) }
+    {
+        for relation in others {
+            if !relation.sum.speaks_of(names) {
+                self.push_copy(relation);
+            }
+        }
+    }
+
+    /// Adds what a relation says after a known word was added to the word of a cell.
+    fn push_moved_by(&mut self, relation: &Relation, cell: Word, by: Word)
+        requires { length (relations_of self.old) < CAP }
+        ensures { relations_of self.new ≡
+            relations_of self.old ++ moved_relation cell (one by) (Some by) (relation_of relation.now) }
+    {
+        let c = relation.sum.coefficient_of_cell(cell);
+        let place = &mut self.relations[self.count];
+        place.sum = relation.sum.counted(cell, by);
+        place.set.copy_from(&relation.set);
+        add_times(c, by, &mut place.set);
+        self.count += 1;
+    }
+
+    /// Adds what some relations say after a known word was added to the word of a cell.
+    pub fn push_all_moved_by(&mut self, others: &[Relation], cell: Word, by: Word)
+        requires { length (relations_of self.old) + length others.now ≤ CAP }
+        ensures { relations_of self.new ≡
+            relations_of self.old ++ moved_relations cell (one by) (map relation_of others.now) }
+    {
+        for relation in others {
+            self.push_moved_by(relation, cell, by);
+        }
+    }
+}

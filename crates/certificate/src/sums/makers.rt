@@ -1,0 +1,88 @@
+//! Certificates that are made line by line, in all versions.
+
+use crate::makers::NoMemory;
+use crate::sums::packed::{CertifiedFact, Claim, PackedLines};
+use crate::sums::{Certificate, Version};
+use crate::RoutineClaim;
+use std::alloc::Allocator;
+use word12::Word;
+
+impl<A: Allocator + Copy> Certificate<A> {
+    /// The certificate that says nothing. It takes no memory.
+    pub fn new(alloc: A, version: Version) -> Certificate<A> {
+        Certificate {
+            version,
+            kept: PackedLines::new(alloc),
+        }
+    }
+}
+
+impl<A: Allocator> Certificate<A> {
+    /// Whether its facts and exits say something of sites.
+    fn has_sites(&self) -> bool {
+        match self.version {
+            Version::One | Version::Two => false,
+            Version::Three => true,
+        }
+    }
+
+    /// Adds what is claimed of the routine of an entry: after the routines of lesser entries, and before any fact or exit.
+    ///
+    /// # Errors
+    ///
+    /// `NoMemory` where more room was refused; nothing is added then.
+    pub fn add_routine(&mut self, entry: Word, routine: &RoutineClaim) -> Result<(), NoMemory> {
+        let line = Claim::Routine(entry, routine.rank as u8, routine);
+        match self.kept.keep_one(&line) {
+            Ok(()) => Ok(()),
+            Err(_) => Err(NoMemory),
+        }
+    }
+
+    /// Adds a fact at an address: after the routines and the facts at lesser addresses, in version 3 also after others at this
+    /// one, and before any exit.
+    ///
+    /// # Errors
+    ///
+    /// `NoMemory` where more room was refused; nothing is added then.
+    pub fn add_fact(&mut self, at: Word, fact: &CertifiedFact) -> Result<(), NoMemory> {
+        let line = Claim::Fact(self.has_sites(), at, fact);
+        match self.kept.keep_all(&line, fact) {
+            Ok(()) => Ok(()),
+            Err(_) => Err(NoMemory),
+        }
+    }
+
+    /// Adds what holds when the routine of an entry returns by an offset: after the routines, the facts, and the exits of
+    /// lesser entries or of this one by lesser offsets, in version 3 also after others by this one. The fact's own offsets
+    /// aren't looked at.
+    ///
+    /// # Errors
+    ///
+    /// `NoMemory` where more room was refused; nothing is added then.
+    pub fn add_exit(
+        &mut self,
+        entry: Word,
+        offset: usize,
+        fact: &CertifiedFact,
+    ) -> Result<(), NoMemory> {
+        let line = Claim::Exit(self.has_sites(), entry, offset as u8, fact);
+        match self.kept.keep_all(&line, fact) {
+            Ok(()) => Ok(()),
+            Err(_) => Err(NoMemory),
+        }
+    }
+
+    /// The same certificate in version 2, in which nothing is left unsaid of MQ: a certificate of version 1 says that MQ may
+    /// hold any word. One of version 2 or 3 is given back as it is.
+    pub fn migrated(self) -> Certificate<A> {
+        let Certificate { version, kept } = self;
+        match version {
+            Version::One | Version::Two => Certificate {
+                version: Version::Two,
+                kept,
+            },
+            Version::Three => Certificate { version, kept },
+        }
+    }
+}

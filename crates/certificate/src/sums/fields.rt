@@ -1,9 +1,9 @@
 //! The fields that version 3 adds, each with one spelling.
 
-ghost use Rattle.std.specs.Prelude.{ℕ, ◌≡◌, ◌<◌, ◌≤◌, List, [], ◌∷◌, ◌++◌, length, map, flat_map, codes, true, false, Some, None, IfSome};
+ghost use Rattle.std.specs.Prelude.{ℕ, ◌≡◌, ◌<◌, ◌≤◌, List, [], ◌∷◌, ◌++◌, length, map, take, flat_map, Option, codes, true, false, Some, None, IfSome};
 ghost use Rattle.std.specs.List.{list_all};
 ghost use Rattle.std.specs.Option.{IsSomeAnd};
-ghost use Rattle.wordset.specs.Words.{Words};
+ghost use Rattle.wordset.specs.Words.{Words, some_below};
 ghost use Rattle.domain.specs.Meaning.{offsets_of};
 ghost use Rattle.domain.specs.Sums.InCode.{term_of, summand_of, sum_of};
 ghost use Rattle.domain.specs.Sums.ChainsInCode.{step_of};
@@ -13,7 +13,7 @@ ghost use Rattle.domain.specs.Sums.Chains.{Step as SaidStep};
 ghost use Rattle.certificate.specs.Spelling.{rank_text, offsets_text};
 ghost use Rattle.certificate.specs.Reading.{EndsBefore};
 ghost use Rattle.certificate.specs.Fields.{left, WasFirst, NoDash, EndsField};
-ghost use Rattle.certificate.specs.Sums.Fields.{offset_run_text, offset_set_text};
+ghost use Rattle.certificate.specs.Sums.Fields.{offset_run_text, offset_set_text, with_run, third_text, step_rest, AreSteps};
 ghost use Rattle.certificate.specs.Sums.Spelling.{offset_marks, term_text, coefficient_text, further_text, sum_text, step_text};
 ghost use Rattle.certificate.specs.Sums.LineOf.{is_term, is_relation, is_step};
 ghost use Rattle.certificate.specs.Sums.Packed.{packed_sum_of};
@@ -185,9 +185,9 @@ impl<'a> Fields<'a> {
 
     /// The third term of a sum, if it has one, and ` in `: a cell with minus the coefficient of the second.
     fn third(&mut self, second: &Summand) -> Option<Word>
-        ensures read { WasFirst self.old self.new (third_text (summand_of second.now) result ++ codes " in ") }
+        ensures read { WasFirst self.old self.new (third_text second.now.coefficient result ++ codes " in ") }
         ensures only { (cell : Option ℕ) (rest : List ℕ) → IfSome cell (λ z. z < 4096) →
-            left self.old ≡ Some (third_text (summand_of second.now) cell ++ codes " in " ++ rest) →
+            left self.old ≡ Some (third_text second.now.coefficient cell ++ codes " in " ++ rest) →
             (result ≡ cell) × (left self.new ≡ Some rest) }
     {
         if self.takes_text(b" in ") {
@@ -231,7 +231,10 @@ impl<'a> Fields<'a> {
     /// A step after its space.
     fn step(&mut self) -> Step
         ensures form { IfSome (left self.new) (λ rest. is_step (step_of result) ≡ true) }
-        ensures read { IfSome (left self.new) (λ rest. (c : List ℕ) → c ≡ 32 ∷ [] → c ++ old ≡ step_text (step_of result) ++ rest) }
+        ensures read { WasFirst self.old self.new (step_rest (step_of result)) }
+        ensures only { (p : SaidStep) (rest : List ℕ) → is_step p ≡ true → left self.old ≡
+            Some (step_rest p ++ rest) →
+            (step_of result ≡ p) × (left self.new ≡ Some rest) }
     {
         if self.takes_text(b"AND ") {
             return Step::Ands(self.word());
@@ -248,6 +251,13 @@ impl<'a> Fields<'a> {
 
     /// Adds 1 to 16 steps, up to the end of the line, and tells how many there are.
     pub fn steps(&mut self, steps: &mut Steps) -> u8
+        requires { steps.old.items ≡ [] }
+        ensures count { result ≤ length steps.new.items }
+        ensures form { IfSome (left self.new) (λ rest. AreSteps (map step_of (take result steps.new.items))) }
+        ensures read { IfSome (left self.new) (λ rest.
+            left self.old ≡ Some (flat_map step_text (map step_of (take result steps.new.items)) ++ rest)) }
+        ensures only { (ps : List SaidStep) → AreSteps ps → left self.old ≡ Some (flat_map step_text ps) →
+            left self.new ≡ Some [] }
     {
         while self.takes(b' ') {
             let step = self.step();

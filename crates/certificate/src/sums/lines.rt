@@ -1,5 +1,21 @@
 //! The lines of a certificate as they are kept, and what is found in them.
 
+ghost use Rattle.std.specs.Prelude.{ℕ, ◌≡◌, ◌+◌, ◌<◌, ◌≤◌, List, [], ◌∷◌, ◌++◌, length, map, take, drop, slice_range, true, false, is_some, is_ok, Some, None, MatchOption, IfOk, IfSome, OnOk, OnErr, if◌then◌else◌};
+ghost use Rattle.domain.specs.Sums.InCode.{sum_of};
+ghost use Rattle.domain.specs.Sums.ChainsInCode.{chain_of};
+ghost use Rattle.domain.specs.Sums.CellsInCode.{cell_set_of, cell_sets_of};
+ghost use Rattle.domain.specs.Sums.RelationsInCode.{relation_of};
+ghost use Rattle.domain.specs.Sums.FactInCode.{fact_in_code};
+ghost use Rattle.certificate.specs.Packed.{Begins};
+ghost use Rattle.certificate.specs.Reading.{Each};
+ghost use Rattle.certificate.specs.Sums.LineOf.{is_relation};
+ghost use Rattle.certificate.specs.Sums.Lines.{Line as SaidLine, CellIs, SumIs, ChainIs, is_end, is_routine, has_details};
+ghost use Rattle.certificate.specs.Sums.Reading.{cells_under, relations_under, chains_under};
+ghost use Rattle.certificate.specs.Sums.Packed.{said_at, said_lines, LiesWithin, IsNumbered, HasForm, claimed_line};
+ghost use Rattle.certificate.specs.Sums.Adding.{AddsAll, HasRoomUnder};
+ghost use Rattle.certificate.specs.Sums.Found.{Keeps, unended, FitUnder, first_with_details, behind_details, begins, IsSaid, BeginsRoutine};
+ghost use Rattle.certificate.specs.Sums.Made.{details_of, AreDetails};
+
 use crate::RoutineClaim;
 use crate::packed::Run;
 use crate::sums::packed::{
@@ -15,20 +31,27 @@ impl<A: Allocator> PackedLines<A> {
         line: &PackedLine,
         runs: &[Run],
         steps: &[Step],
-    ) -> Result<(), AllocError> {
+    ) -> Result<(), AllocError>
+        requires within { LiesWithin (length runs.now) (length steps.now) line.now }
+        requires numbers { IsNumbered line.now }
+        ensures kept { (before : List SaidLine) → Keeps self.old before →
+            OnOk result (Keeps self.new (unended (said_at runs.now steps.now line.now ∷ before))) }
+        ensures refused { OnErr result (is_end (said_at runs.now steps.now line.now) ≡ false) }
+    {
         if line.is_end() {
             return Ok(());
         }
         self.push(line, runs, steps)
     }
 
-    /// Keeps the line of a claim: it or nothing.
-    pub fn keep_one(&mut self, head: &Claim<'_>) -> Result<(), AllocError> {
-        self.claim(head)
-    }
-
     /// Keeps the line of a claim with the details of a fact: all of them, or none.
-    pub fn keep_all(&mut self, head: &Claim<'_>, fact: &CertifiedFact) -> Result<(), AllocError> {
+    pub fn keep_all(&mut self, head: &Claim<'_>, fact: &CertifiedFact) -> Result<(), AllocError>
+        requires head { HasForm head.now }
+        requires details { AreDetails fact.now }
+        ensures { said_lines self.new ≡ (if is_ok result
+            then said_lines self.old ++ (claimed_line head.now ∷ details_of fact.now)
+            else said_lines self.old) }
+    {
         let count = self.len();
         match push_all(self, head, fact) {
             Ok(()) => Ok(()),
@@ -45,7 +68,13 @@ fn push_all<A: Allocator>(
     lines: &mut PackedLines<A>,
     head: &Claim<'_>,
     fact: &CertifiedFact,
-) -> Result<(), AllocError> {
+) -> Result<(), AllocError>
+    requires head { HasForm head.now }
+    requires details { AreDetails fact.now }
+    ensures whole { OnOk result (said_lines lines.new ≡
+        said_lines lines.old ++ (claimed_line head.now ∷ details_of fact.now)) }
+    ensures front { Begins (said_lines lines.old) (said_lines lines.new) }
+{
     lines.claim(head)?;
     push_cells(lines, fact.cells().as_slice())?;
     push_relations(lines, fact.relations().as_slice())?;
@@ -56,7 +85,10 @@ fn push_all<A: Allocator>(
 fn push_cells<A: Allocator>(
     lines: &mut PackedLines<A>,
     cells: &[CellSet],
-) -> Result<(), AllocError> {
+) -> Result<(), AllocError>
+    ensures whole { OnOk result (said_lines lines.new ≡ said_lines lines.old ++ map CellIs (map cell_set_of cells.now)) }
+    ensures front { Begins (said_lines lines.old) (said_lines lines.new) }
+{
     for cell in cells {
         lines.claim(&Claim::Cell(cell))?;
     }
@@ -67,7 +99,11 @@ fn push_cells<A: Allocator>(
 fn push_relations<A: Allocator>(
     lines: &mut PackedLines<A>,
     relations: &[Relation],
-) -> Result<(), AllocError> {
+) -> Result<(), AllocError>
+    requires { Each (λ r. is_relation r.sum ≡ true) (map relation_of relations.now) }
+    ensures whole { OnOk result (said_lines lines.new ≡ said_lines lines.old ++ map SumIs (map relation_of relations.now)) }
+    ensures front { Begins (said_lines lines.old) (said_lines lines.new) }
+{
     for relation in relations {
         if let Some(sum) = packed_sum(&relation.sum) {
             lines.claim(&Claim::Sum(relation, &sum))?;
@@ -80,7 +116,11 @@ fn push_relations<A: Allocator>(
 fn push_chains<A: Allocator>(
     lines: &mut PackedLines<A>,
     chains: &[Chain],
-) -> Result<(), AllocError> {
+) -> Result<(), AllocError>
+    requires { Each (λ c. length c.steps ≤ 16) (map chain_of chains.now) }
+    ensures whole { OnOk result (said_lines lines.new ≡ said_lines lines.old ++ map ChainIs (map chain_of chains.now)) }
+    ensures front { Begins (said_lines lines.old) (said_lines lines.new) }
+{
     for chain in chains {
         lines.claim(&Claim::Chain(chain))?;
     }
@@ -88,7 +128,14 @@ fn push_chains<A: Allocator>(
 }
 
 /// Adds the details from a line on to a fact, up to the first line that is none, and tells where that stands.
-fn add_details<A: Allocator>(fact: &mut CertifiedFact, lines: &PackedLines<A>, start: usize) -> usize {
+fn add_details<A: Allocator>(fact: &mut CertifiedFact, lines: &PackedLines<A>, start: usize) -> usize
+    requires within { start ≤ length (said_lines lines.now) }
+    requires room { HasRoomUnder fact.old (cells_under (drop start (said_lines lines.now)))
+        (relations_under (drop start (said_lines lines.now))) (chains_under (drop start (said_lines lines.now))) }
+    ensures says { AddsAll fact.old fact.new (cells_under (drop start (said_lines lines.now)))
+        (relations_under (drop start (said_lines lines.now))) (chains_under (drop start (said_lines lines.now))) }
+    ensures end { drop result (said_lines lines.now) ≡ behind_details (drop start (said_lines lines.now)) }
+{
     for at in start..lines.len() {
         if !add(&lines.line(at), fact) {
             return at;
@@ -99,7 +146,11 @@ fn add_details<A: Allocator>(fact: &mut CertifiedFact, lines: &PackedLines<A>, s
 
 /// Where the lines end of which the one at a place is the first, and its details are the others; there are none past the
 /// last line.
-pub fn end_of<A: Allocator>(lines: &PackedLines<A>, start: usize) -> usize {
+pub fn end_of<A: Allocator>(lines: &PackedLines<A>, start: usize) -> usize
+    ensures within { result ≤ length (said_lines lines.now) }
+    ensures is { slice_range (said_lines lines.now) start result ≡
+        first_with_details (drop start (said_lines lines.now)) }
+{
     let count = lines.len();
     if start >= count {
         return count;
@@ -114,7 +165,10 @@ pub fn end_of<A: Allocator>(lines: &PackedLines<A>, start: usize) -> usize {
 }
 
 /// What the line at a place says of a routine, if there is one and it does.
-pub fn first_routine<A: Allocator>(lines: &PackedLines<A>, start: usize) -> Option<RoutineClaim> {
+pub fn first_routine<A: Allocator>(lines: &PackedLines<A>, start: usize) -> Option<RoutineClaim>
+    ensures there { is_some result ≡ begins is_routine (drop start (said_lines lines.now)) }
+    ensures says { IfSome result (λ r. BeginsRoutine (drop start (said_lines lines.now)) r) }
+{
     if start >= lines.len() {
         return None;
     }
@@ -126,7 +180,14 @@ pub fn first_said<A: Allocator>(
     lines: &PackedLines<A>,
     start: usize,
     fact: &mut CertifiedFact,
-) -> Option<usize> {
+) -> Option<usize>
+    requires fit { FitUnder (drop (start + 1) (said_lines lines.now)) }
+    ensures there { is_some result ≡ begins has_details (drop start (said_lines lines.now)) }
+    ensures says { IfSome result (λ end. IsSaid (drop start (said_lines lines.now)) (fact_in_code fact.new)) }
+    ensures end { IfSome result (λ end. drop end (said_lines lines.now) ≡
+        behind_details (drop (start + 1) (said_lines lines.now))) }
+    ensures kept { result ≡ None → fact.new ≡ fact.old }
+{
     if start >= lines.len() {
         return None;
     }

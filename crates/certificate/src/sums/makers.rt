@@ -1,5 +1,10 @@
 //! Certificates that are made line by line, in all versions.
 
+ghost use Rattle.std.specs.Prelude.{◌≡◌, ◌<◌, [], ◌∷◌, OnOk, OnErr};
+ghost use Rattle.certificate.specs.Sums.Lines.{is_of_sums};
+ghost use Rattle.certificate.specs.Sums.Kept.{meaning, claims};
+ghost use Rattle.certificate.specs.Sums.Made.{no_lines, routine_line_of, lines_of_fact, lines_of_exit, MayAdd, with_lines, migrated};
+
 use crate::makers::NoMemory;
 use crate::sums::packed::{CertifiedFact, Claim, PackedLines};
 use crate::sums::{Certificate, Version};
@@ -9,7 +14,9 @@ use word12::Word;
 
 impl<A: Allocator + Copy> Certificate<A> {
     /// The certificate that says nothing. It takes no memory.
-    pub fn new(alloc: A, version: Version) -> Certificate<A> {
+    pub fn new(alloc: A, version: Version) -> Certificate<A>
+        ensures { meaning result ≡ no_lines version }
+    {
         Certificate {
             version,
             kept: PackedLines::new(alloc),
@@ -19,7 +26,9 @@ impl<A: Allocator + Copy> Certificate<A> {
 
 impl<A: Allocator> Certificate<A> {
     /// Whether its facts and exits say something of sites.
-    fn has_sites(&self) -> bool {
+    fn has_sites(&self) -> bool
+        ensures { result ≡ is_of_sums (meaning self.now).version }
+    {
         match self.version {
             Version::One | Version::Two => false,
             Version::Three => true,
@@ -31,9 +40,14 @@ impl<A: Allocator> Certificate<A> {
     /// # Errors
     ///
     /// `NoMemory` where more room was refused; nothing is added then.
-    pub fn add_routine(&mut self, entry: Word, routine: &RoutineClaim) -> Result<(), NoMemory> {
+    pub fn add_routine(&mut self, entry: Word, routine: &RoutineClaim) -> Result<(), NoMemory>
+        requires { MayAdd (meaning self.old) (routine_line_of entry routine.now ∷ []) }
+        ensures added { OnOk result (meaning self.new ≡
+            with_lines (routine_line_of entry routine.now ∷ []) (meaning self.old)) }
+        ensures same { OnErr result (meaning self.new ≡ meaning self.old) }
+    {
         let line = Claim::Routine(entry, routine.rank as u8, routine);
-        match self.kept.keep_one(&line) {
+        match self.kept.claim(&line) {
             Ok(()) => Ok(()),
             Err(_) => Err(NoMemory),
         }
@@ -45,7 +59,12 @@ impl<A: Allocator> Certificate<A> {
     /// # Errors
     ///
     /// `NoMemory` where more room was refused; nothing is added then.
-    pub fn add_fact(&mut self, at: Word, fact: &CertifiedFact) -> Result<(), NoMemory> {
+    pub fn add_fact(&mut self, at: Word, fact: &CertifiedFact) -> Result<(), NoMemory>
+        requires { MayAdd (meaning self.old) (lines_of_fact (meaning self.old).version at fact.now) }
+        ensures added { OnOk result (meaning self.new ≡
+            with_lines (lines_of_fact (meaning self.old).version at fact.now) (meaning self.old)) }
+        ensures same { OnErr result (meaning self.new ≡ meaning self.old) }
+    {
         let line = Claim::Fact(self.has_sites(), at, fact);
         match self.kept.keep_all(&line, fact) {
             Ok(()) => Ok(()),
@@ -65,7 +84,12 @@ impl<A: Allocator> Certificate<A> {
         entry: Word,
         offset: usize,
         fact: &CertifiedFact,
-    ) -> Result<(), NoMemory> {
+    ) -> Result<(), NoMemory>
+        requires { MayAdd (meaning self.old) (lines_of_exit (meaning self.old).version entry offset fact.now) }
+        ensures added { OnOk result (meaning self.new ≡
+            with_lines (lines_of_exit (meaning self.old).version entry offset fact.now) (meaning self.old)) }
+        ensures same { OnErr result (meaning self.new ≡ meaning self.old) }
+    {
         let line = Claim::Exit(self.has_sites(), entry, offset as u8, fact);
         match self.kept.keep_all(&line, fact) {
             Ok(()) => Ok(()),
@@ -75,7 +99,10 @@ impl<A: Allocator> Certificate<A> {
 
     /// The same certificate in version 2, in which nothing is left unsaid of MQ: a certificate of version 1 says that MQ may
     /// hold any word. One of version 2 or 3 is given back as it is.
-    pub fn migrated(self) -> Certificate<A> {
+    pub fn migrated(self) -> Certificate<A>
+        ensures lines { meaning result ≡ migrated (meaning self) }
+        ensures same { claims result ≡ claims self }
+    {
         let Certificate { version, kept } = self;
         match version {
             Version::One | Version::Two => Certificate {

@@ -7,6 +7,7 @@ pub mod LineLemmas
 pub mod LineOfLemmas
 pub mod OffsetTextLemmas
 pub mod SumLineLemmas
+pub mod SumTextLemmas
 pub mod ParserLemmas
 pub mod LengthLemmas
 pub mod TextOrderLemmas

@@ -1,6 +1,8 @@
 -- What may be added to a certificate, and what it says then.
-use Rattle.std.specs.Prelude.{◌≡◌, ℕ, ◌≤◌, Bool, true, length, List, [], ◌∷◌, ◌++◌, map}
+use Rattle.std.specs.Prelude.{◌≡◌, ℕ, ◌≤◌, Bool, true, false, ◌&&◌, Some, length, List, [], ◌∷◌, ◌++◌, map}
+use Rattle.wordset.specs.Words.{Words, some_below}
 use Rattle.wordset.specs.Lanes.{words}
+use Rattle.declaration.specs.Declaration.{Declaration}
 use Rattle.domain.specs.Sums.CellsInCode.{cell_sets_of}
 use Rattle.domain.specs.Sums.FactInCode.{fact_in_code}
 use Rattle.domain.specs.declared.sum_fact.SumFact.{SumFact}
@@ -10,9 +12,10 @@ use Rattle.certificate.specs.declared.sums.Version.TheVariants.{One, Two, Three}
 use Rattle.certificate.specs.Sums.Lines.{Line, RoutineIs, FactIs, ExitIs, CellIs, SumIs, ChainIs, End, is_of_sums}
 use Rattle.certificate.specs.Reading.{Each}
 use Rattle.certificate.specs.Sums.LineOf.{is_relation}
-use Rattle.certificate.specs.Sums.Reading.{Text}
+use Rattle.certificate.specs.Sums.Certificate.{Certificate}
+use Rattle.certificate.specs.Sums.Reading.{Text, certificate_of}
 use Rattle.certificate.specs.Sums.Found.{Follow, newest_first, unended}
-use Rattle.certificate.specs.Sums.Packed.{sites_if, registers_in_fact}
+use Rattle.certificate.specs.Sums.Packed.{sites_if, registers_in_fact, sited_line}
 
 -- The line of a routine.
 abbrev pub routine_line_of : ℕ → RoutineClaim → Line
@@ -65,3 +68,14 @@ migrated t = record t { version = with_mq t.version }
 pub record AreDetails (f : SumFact 64 32) : Type 0 where
   pub sums : Each (λ r. is_relation r.sum ≡ true) (fact_in_code f).relations
   pub steps : Each (λ c. length c.steps ≤ 16) (fact_in_code f).chains
+
+-- The sites that a line has by a declaration: those of the routine whose body has a fact's address, or of an exit's routine. No
+-- address is in two bodies, and there are none in main.
+abbrev pub sites_by : Declaration → Certificate → Line → Words
+sites_by d c (FactIs a s r o) w = some_below 4096 (λ e. d.body (Some e) a && c.sites e w)
+sites_by d c (ExitIs e o s r) w = c.sites e w
+sites_by d c _ w = false
+
+-- The text of version 3 with these sites, and else the same lines.
+abbrev pub with_sites : Declaration → Text → Text
+with_sites d t = record { version = Three; lines = map (λ l. sited_line (sites_by d (certificate_of t) l) l) t.lines }

@@ -122,3 +122,9 @@ abbrev pub HasForm : Claim → Type 0
 HasForm (claim.Exit b e o f) = o < 64
 HasForm (claim.Chain c) = length (chain_of c.now).steps ≤ 16
 HasForm _ = Unit {0}
+
+-- The line, of a fact or an exit with these sites.
+abbrev pub sited_line : Words → Line → Line
+sited_line sites (FactIs a s r o) = FactIs a sites r o
+sited_line sites (ExitIs e o s r) = ExitIs e o sites r
+sited_line sites l = l

@@ -1,16 +1,23 @@
 //! Certificates that are made line by line, in all versions.
 
-ghost use Rattle.std.specs.Prelude.{◌≡◌, ◌<◌, [], ◌∷◌, OnOk, OnErr};
+ghost use Rattle.std.specs.Prelude.{◌≡◌, ◌<◌, List, [], ◌∷◌, false, IfOk, OnOk, OnErr};
+ghost use Rattle.wordset.specs.Lanes.{words};
+ghost use Rattle.declaration.specs.Kept.{meaning as declared};
+ghost use Rattle.certificate.specs.declared.packed.Run.{Run};
+ghost use Rattle.domain.specs.declared.chains.Step.{Step};
+ghost use Rattle.certificate.specs.Sums.Packed.{said_at};
 ghost use Rattle.certificate.specs.Sums.Lines.{is_of_sums};
 ghost use Rattle.certificate.specs.Sums.Kept.{meaning, claims};
-ghost use Rattle.certificate.specs.Sums.Made.{no_lines, routine_line_of, lines_of_fact, lines_of_exit, MayAdd, with_lines, migrated};
+ghost use Rattle.certificate.specs.Sums.Made.{no_lines, routine_line_of, lines_of_fact, lines_of_exit, MayAdd, with_lines, migrated, sites_by, with_sites};
 
 use crate::makers::NoMemory;
-use crate::sums::packed::{CertifiedFact, Claim, PackedLines};
+use crate::sums::packed::{CertifiedFact, Claim, PackedLine, PackedLines};
 use crate::sums::{Certificate, Version};
 use crate::RoutineClaim;
+use declaration::{Declaration, Owner};
 use std::alloc::Allocator;
 use word12::Word;
+use wordset::WordSet;
 
 impl<A: Allocator + Copy> Certificate<A> {
     /// The certificate that says nothing. It takes no memory.
@@ -111,5 +118,62 @@ impl<A: Allocator> Certificate<A> {
             },
             Version::Three => Certificate { version, kept },
         }
+    }
+
+    /// The sites of the routine of an entry by its line; none where it has no line.
+    fn sites_of(&self, entry: Word) -> WordSet
+        ensures { words result ≡ (claims self.now).sites entry }
+    {
+        match self.routine(entry) {
+            Some(routine) => routine.sites,
+            None => WordSet::empty(),
+        }
+    }
+
+    /// The sites that a line has by a declaration: those of the routine whose body has a fact's address, or of an exit's
+    /// routine; none in main and in no body.
+    fn sites_by<B: Allocator>(&self, declaration: &Declaration<B>, line: &PackedLine) -> WordSet
+        ensures { (runs : List Run) (steps : List Step) → words result ≡
+            sites_by (declared declaration.now) (claims self.now) (said_at runs steps line.now) }
+    {
+        match line {
+            PackedLine::Fact(fact) => match declaration.owner_of(fact.address) {
+                Some(Owner::Routine(entry)) => self.sites_of(entry),
+                Some(Owner::Main) | None => WordSet::empty(),
+            },
+            PackedLine::Exit(exit) => self.sites_of(exit.entry),
+            _ => WordSet::empty(),
+        }
+    }
+}
+
+impl<A: Allocator + Copy> Certificate<A> {
+    /// A certificate of version 1 or 2 in version 3: each fact has the sites of the routine whose body has its address, and
+    /// each exit those of its routine. What is said of names, MQ, the link, sums and offsets stays. Version 3 asks for a site
+    /// in a routine, so a fact in a routine that nothing calls fails its second condition there.
+    ///
+    /// # Errors
+    ///
+    /// `NoMemory` where room for the lines was refused.
+    pub fn with_sites<B: Allocator>(
+        &self,
+        alloc: A,
+        declaration: &Declaration<B>,
+    ) -> Result<Certificate<A>, NoMemory>
+        requires { is_of_sums (meaning self.now).version ≡ false }
+        ensures { IfOk result (λ c. meaning c ≡ with_sites (declared declaration.now) (meaning self.now)) }
+    {
+        let mut kept = PackedLines::new(alloc);
+        for at in 0..self.kept.len() {
+            let lent = self.kept.line(at);
+            let sites = self.sites_by(declaration, lent.line);
+            let Ok(()) = kept.push_sited(&lent, &sites) else {
+                return Err(NoMemory);
+            };
+        }
+        Ok(Certificate {
+            version: Version::Three,
+            kept,
+        })
     }
 }

@@ -1,6 +1,6 @@
 //! Lines packed: each set by its runs of words, and the runs of all sets in one list; the steps of all chains in another.
 
-ghost use Rattle.std.specs.Prelude.{ℕ, ◌≡◌, ◌+◌, ◌<◌, ◌≤◌, ◌==◌, ◌&&◌, not, List, [], ◌∷◌, ◌++◌, length, map, take, drop, true, false, is_some, Some, None, MatchOption, IfOk, IfSome, OnOk, OnErr, if◌then◌else◌};
+ghost use Rattle.std.specs.Prelude.{ℕ, ◌≡◌, ◌+◌, ◌<◌, ◌≤◌, ◌==◌, ◌&&◌, not, List, [], ◌∷◌, ◌++◌, length, map, take, drop, slice_range, true, false, is_some, Some, None, MatchOption, IfOk, IfSome, OnOk, OnErr, if◌then◌else◌};
 ghost use Rattle.wordset.specs.Words.{nothing};
 ghost use Rattle.wordset.specs.Bits.{has_bit};
 ghost use Rattle.wordset.specs.Lanes.{words};
@@ -23,7 +23,7 @@ ghost use Rattle.certificate.specs.Sums.Lines.{ChainIs, is_detail, is_end, is_ch
 ghost use Rattle.certificate.specs.Sums.LineOf.{is_relation, is_step};
 ghost use Rattle.certificate.specs.Sums.Order.{sum_is_before, detail_is_before};
 ghost use Rattle.certificate.specs.Sums.Reading.{fact_said, all_offsets};
-ghost use Rattle.certificate.specs.Sums.Packed.{third_terms, packed_sum_of, said_at, said_lines, said_of, LiesWithin, LieWithin, IsNumbered, HasForm, claimed_line, sites_if, registers_in_fact, IsPacked};
+ghost use Rattle.certificate.specs.Sums.Packed.{third_terms, packed_sum_of, said_at, said_lines, said_of, LiesWithin, LieWithin, IsNumbered, HasForm, claimed_line, sited_line, sites_if, registers_in_fact, IsPacked};
 ghost use Rattle.certificate.specs.Sums.Adding.{Adds, HasRoomFor};
 ghost use Rattle.certificate.specs.Sums.Found.{past, last_past, AreRising, from_place, begins_at, least_place, IsSaid, IsRoutineLine};
 
@@ -262,6 +262,30 @@ impl PackedLine {
         ensures { (runs : List Run) (steps : List Step) → result ≡ is_chain (said_at runs steps self.now) }
     {
         matches!(self, PackedLine::Chain(_))
+    }
+
+    /// How many runs its sets have, of a line that is no fact and no exit.
+    fn run_count(&self) -> usize
+        ensures { (n m : ℕ) → LiesWithin n m self.now → result ≤ n }
+    {
+        match self {
+            PackedLine::Routine(routine) => {
+                usize::from(routine.sets.one) + usize::from(routine.sets.other)
+            }
+            PackedLine::Cell(_, count) => usize::from(*count),
+            PackedLine::Sum(_, count) => usize::from(*count),
+            _ => 0,
+        }
+    }
+
+    /// How many steps it has.
+    fn step_count(&self) -> usize
+        ensures { (n m : ℕ) → LiesWithin n m self.now → result ≤ m }
+    {
+        match self {
+            PackedLine::Chain(chain) => usize::from(chain.count),
+            _ => 0,
+        }
     }
 
     /// Whether a detail is before another one: cells by their addresses, then sums, then chains by their cells.
@@ -688,6 +712,57 @@ pub fn routine_of(lent: &LentLine<'_>) -> Option<RoutineClaim>
     }
 }
 
+/// Adds the runs of a line, those of these sites in place of a fact's or an exit's own, and gives the line with them.
+fn lay_sited<A: Allocator>(
+    runs: &mut Vec<Run, A>,
+    lent: &LentLine<'_>,
+    sites: &WordSet,
+) -> Result<PackedLine, AllocError>
+    requires { LiesWithin (length lent.now.runs.now) (length lent.now.steps.now) lent.now.line.now }
+    ensures front { Begins runs.old.items runs.new.items }
+    ensures packed { IfOk result (λ l. (steps : List Step) → take (length steps) lent.now.steps.now ≡ steps →
+        IsPacked (drop (length runs.old.items) runs.new.items) lent.now.steps.now l (sited_line (words sites.now) (said_of lent.now))) }
+{
+    match lent.line {
+        PackedLine::Fact(fact) => {
+            let count = lay(runs, sites)?;
+            lay_registers_of(runs, lent.runs, fact.sites, &fact.registers)?;
+            let mut sited = *fact;
+            sited.sites = count;
+            Ok(PackedLine::Fact(sited))
+        }
+        PackedLine::Exit(exit) => {
+            let count = lay(runs, sites)?;
+            lay_registers_of(runs, lent.runs, exit.sites, &exit.registers)?;
+            let mut sited = *exit;
+            sited.sites = count;
+            Ok(PackedLine::Exit(sited))
+        }
+        _ => {
+            runs.extend_from_slice(&lent.runs[..lent.line.run_count()])?;
+            Ok(*lent.line)
+        }
+    }
+}
+
+/// Adds the runs of registers that lie behind those of so many sites.
+fn lay_registers_of<A: Allocator>(
+    runs: &mut Vec<Run, A>,
+    own: &[Run],
+    sites: u16,
+    registers: &PackedRegisters,
+) -> Result<(), AllocError>
+    requires { LieWithin (length own.now) sites registers.now.sets }
+    ensures front { Begins runs.old.items runs.new.items }
+    ensures laid { OnOk result (runs.new.items ≡ runs.old.items ++
+        slice_range own.now sites (sites + (registers.now.sets.one + registers.now.sets.other))) }
+{
+    let first = usize::from(sites);
+    let count = usize::from(registers.sets.one) + usize::from(registers.sets.other);
+    runs.extend_from_slice(&own[first..first + count])?;
+    Ok(())
+}
+
 /// The least place after a line that is added to these.
 fn past(list: &[KeptLine], line: &PackedLine) -> u32
     requires { IsNumbered line.now }
@@ -785,6 +860,23 @@ impl<A: Allocator> PackedLines<A> {
         let line = pack(&mut self.runs, &mut self.steps, claim)?;
         let first = if line.is_chain() { steps } else { runs };
         let past = past(&self.list, &line);
+        self.list.push(KeptLine { first, past, line })?;
+        Ok(())
+    }
+
+    /// Adds a line that is kept elsewhere, a fact or an exit with these sites in place of its own; or leaves what is said as it
+    /// is.
+    pub fn push_sited(&mut self, lent: &LentLine<'_>, sites: &WordSet) -> Result<(), AllocError>
+        requires within { LiesWithin (length lent.now.runs.now) (length lent.now.steps.now) lent.now.line.now }
+        requires numbers { IsNumbered lent.now.line.now }
+        ensures added { OnOk result (said_lines self.new ≡
+            said_lines self.old ++ sited_line (words sites.now) (said_of lent.now) ∷ []) }
+        ensures same { OnErr result (said_lines self.new ≡ said_lines self.old) }
+    {
+        let first = self.first(lent.line);
+        let past = past(&self.list, lent.line);
+        let line = lay_sited(&mut self.runs, lent, sites)?;
+        self.steps.extend_from_slice(&lent.steps[..lent.line.step_count()])?;
         self.list.push(KeptLine { first, past, line })?;
         Ok(())
     }

@@ -217,9 +217,9 @@ fact_are a b s t r q m n e f g h = rw (e, f, g, h) refl
 
 fact_read : (v : Version) (a : ℕ) (s : Words) (r : Registers) (o : Words) → a < 4096 → SitesFit v s → RegistersFit v r → EndsBefore (most_offsets v) o →
     said_by v (fact_list v a s r o) ≡ FactIs a s r o
-fact_read One a s r o h f g end = fact_are _ _ _ _ _ _ _ _ (octal_back a h) (sym f) (registers_read One r _ g) (offsets_read One o end)
-fact_read Two a s r o h f g end = fact_are _ _ _ _ _ _ _ _ (octal_back a h) (sym f) (registers_read Two r _ g) (offsets_read Two o end)
-fact_read Three a s r o h f g end = fact_are _ _ _ _ _ _ _ _ (octal_back a h) (set_back s f) (registers_read Three r _ g) (offsets_read Three o end)
+fact_read One a s r o h f g end = fact_are _ _ _ _ _ _ _ _ (octal_back a h) (sym f) (registers_read One r (codes "offsets" ∷ offsets_line One o ∷ []) g) (offsets_read One o end)
+fact_read Two a s r o h f g end = fact_are _ _ _ _ _ _ _ _ (octal_back a h) (sym f) (registers_read Two r (codes "offsets" ∷ offsets_line Two o ∷ []) g) (offsets_read Two o end)
+fact_read Three a s r o h f g end = fact_are _ _ _ _ _ _ _ _ (octal_back a h) (set_back s f) (registers_read Three r (codes "offsets" ∷ offsets_line Three o ∷ []) g) (offsets_read Three o end)
 
 -- Exits.
 abbrev exit_list : Version → ℕ → ℕ → Words → Registers → List (List ℕ)
@@ -259,9 +259,9 @@ exit_are a b m n s t r q e f g h = rw (e, f, g, h) refl
 
 exit_read : (v : Version) (e o : ℕ) (s : Words) (r : Registers) → e < 4096 → o < most_offsets v → SitesFit v s → RegistersFit v r →
     said_by v (exit_list v e o s r) ≡ ExitIs e o s r
-exit_read One e o s r h k f g = exit_are _ _ _ _ _ _ _ _ (octal_back e h) (digit_back o) (sym f) (registers_read One r _ g)
-exit_read Two e o s r h k f g = exit_are _ _ _ _ _ _ _ _ (octal_back e h) (digit_back o) (sym f) (registers_read Two r _ g)
-exit_read Three e o s r h k f g = exit_are _ _ _ _ _ _ _ _ (octal_back e h) (rank_back o k) (set_back s f) (registers_read Three r _ g)
+exit_read One e o s r h k f g = exit_are _ _ _ _ _ _ _ _ (octal_back e h) (digit_back o) (sym f) (registers_read One r [] g)
+exit_read Two e o s r h k f g = exit_are _ _ _ _ _ _ _ _ (octal_back e h) (digit_back o) (sym f) (registers_read Two r [] g)
+exit_read Three e o s r h k f g = exit_are _ _ _ _ _ _ _ _ (octal_back e h) (rank_back o k) (set_back s f) (registers_read Three r [] g)
 
 -- Routines and cells.
 abbrev routine_list : RoutineLine → List (List ℕ)
@@ -531,6 +531,9 @@ steps_read (Operates w ∷ []) h =
     let p = and_parts (is_step (Operates w)) _ h in ap (λ (x : ℕ). Operates x ∷ []) (octal_back w (step_small w p.0))
 steps_read (Operates w ∷ p ∷ ps) h = let q = and_parts (is_step (Operates w)) _ h in operates w p ps (step_small w q.0) (steps_read (p ∷ ps) q.1)
   where
+    step_are : (a b : ℕ) (xs ys : List Step) → a ≡ b → xs ≡ ys → Operates a ∷ xs ≡ Operates b ∷ ys
+    step_are a b xs ys e f = rw (e, f) refl
+
     operates : (w : ℕ) (p : Step) (ps : List Step) → w < 4096 → steps_in (flat_map step_words (p ∷ ps)) ≡ p ∷ ps →
         steps_in (octal_text w ∷ flat_map step_words (p ∷ ps)) ≡ Operates w ∷ p ∷ ps
     operates w (Operates x) ps small e =
@@ -539,9 +542,6 @@ steps_read (Operates w ∷ p ∷ ps) h = let q = and_parts (is_step (Operates w)
         rw (no_kind w (codes "AND") 65 _ small refl (omega arith), no_kind w (codes "TAD") 84 _ small refl (omega arith)) (step_are _ _ _ _ (octal_back w small) e)
     operates w (Adds x) ps small e =
         rw (no_kind w (codes "AND") 65 _ small refl (omega arith), no_kind w (codes "TAD") 84 _ small refl (omega arith)) (step_are _ _ _ _ (octal_back w small) e)
-
-    step_are : (a b : ℕ) (xs ys : List Step) → a ≡ b → xs ≡ ys → Operates a ∷ xs ≡ Operates b ∷ ys
-    step_are a b xs ys e f = rw (e, f) refl
 steps_read (Ands w ∷ ps) h =
     let q = and_parts (is_step (Ands w)) _ h in ands_are _ _ _ _ (octal_back w (ltb-true w 4096 q.0)) (steps_read ps q.1)
   where

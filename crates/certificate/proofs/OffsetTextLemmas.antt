@@ -148,7 +148,6 @@ text_all s rs h same =
     marks_runs s false 0 0 rs (omega arith) (omega arith) (inl refl) h (λ v a b. same v b)
     (λ m a none. some_none_of m s (λ v b. none v (omega arith) b)) ∙ after_none rs
 
-
 -- Past 77 nothing is written.
 up_to_last : (s : Words) → EndsBefore 64 s → offset_marks 64 s ≡ offset_marks 4096 s
 up_to_last s end = sym (still s 64 4032 4096 (omega arith) (λ v a b. absent s v (end v a)))
@@ -196,5 +195,5 @@ runs_small s n (r ∷ rs) end apart same = (
         absurd (true≢false (sym (same r.last (omega arith) apart.2 ∙ in_first r rs r.last order (omega arith)) ∙ end r.last past)))
   ],
   runs_small s (r.last + 1) rs end (later (r.last + 1) (r.last + 2) rs (omega arith) apart.3)
-  (λ v a b. same v (let low : n ≤ r.first = apart.0 in let order : r.first ≤ r.last = apart.1 in omega arith) b ∙ past_first r rs v (omega arith)),
+      (λ v a b. same v (let low : n ≤ r.first = apart.0 in let order : r.first ≤ r.last = apart.1 in omega arith) b ∙ past_first r rs v (omega arith)),
 )

@@ -15,12 +15,12 @@ ghost use Rattle.certificate.specs.Sums.Kept.{meaning, claims, facts_from, exits
 ghost use Rattle.certificate.specs.Sums.Found.{first_with_details};
 ghost use Rattle.certificate.specs.Sums.Spelled.{all_ended};
 
-use crate::{CertificateFault, RoutineClaim, WriteFault};
 use crate::sums::lines::{end_of, first_routine, first_said};
 use crate::sums::packed::{CertifiedFact, PackedLines};
 use crate::sums::parser::Parser;
 use crate::sums::progress::{FIRST_EXIT, FIRST_FACT, LAST_PLACE};
 use crate::sums::spelled::{put_lines, put_text};
+use crate::{CertificateFault, RoutineClaim, WriteFault};
 use std::alloc::Allocator;
 use std::marker::Model;
 use streams::ByteSink;
@@ -264,7 +264,10 @@ impl<A: Allocator> Certificate<A> {
         ensures stands { IsBeforeExits self.now line.new entry offset }
         ensures kept { result ≡ false → exit.new ≡ exit.old }
     {
-        if !self.kept.is_at(*line, FIRST_EXIT + 64 * entry.index() + offset) {
+        if !self
+            .kept
+            .is_at(*line, FIRST_EXIT + 64 * entry.index() + offset)
+        {
             return false;
         }
         match first_said(&self.kept, *line, exit) {
@@ -294,3 +297,16 @@ impl<A: Allocator> Certificate<A> {
         }
     }
 }
+
+/// A line's text is read as the line, if the line is of its form and its version can say what it says. So no two lines have
+/// one text.
+#[tactic(auto, using(crate::proofs::SumLineLemmas::spelled_is_read))]
+pub fn spelled_is_read()
+    ensures { SpelledIsRead }
+{}
+
+/// What is read as a text are its bytes and no others. So no certificate has two spellings.
+#[tactic(auto, using(crate::proofs::SumTextLemmas::read_are_bytes))]
+pub fn read_are_bytes()
+    ensures { ReadAreBytes }
+{}

@@ -196,9 +196,8 @@ impl<'a> Fields<'a> {
         let third = self.summand();
         self.skip(b" in ");
         match third.term {
-            Term::Holding(Location::Cell(cell)) if third.coefficient == negated(second.coefficient) => {
-                Some(cell)
-            }
+            Term::Holding(Location::Cell(cell))
+                if third.coefficient == negated(second.coefficient) => { Some(cell) }
             _ => {
                 self.fail();
                 None

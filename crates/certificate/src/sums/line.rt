@@ -26,9 +26,7 @@ use crate::fields::Fields;
 use crate::line::is_before;
 use crate::packed::{Counts, PackedRegisters, PackedRoutine, Runs};
 use crate::sums::Version;
-use crate::sums::packed::{
-    PackedChain, PackedExit, PackedFact, PackedLine, Steps, equation,
-};
+use crate::sums::packed::{PackedChain, PackedExit, PackedFact, PackedLine, Steps, equation};
 use domain::ReturnOffsets;
 
 /// Adds the runs of the sites of a fact or an exit, of which versions 1 and 2 say nothing.

@@ -82,10 +82,7 @@ fn push_all<A: Allocator>(
 }
 
 /// Adds the lines of cells; where that's refused, some of them.
-fn push_cells<A: Allocator>(
-    lines: &mut PackedLines<A>,
-    cells: &[CellSet],
-) -> Result<(), AllocError>
+fn push_cells<A: Allocator>(lines: &mut PackedLines<A>, cells: &[CellSet]) -> Result<(), AllocError>
     ensures whole { OnOk result (said_lines lines.new ≡ said_lines lines.old ++ map CellIs (map cell_set_of cells.now)) }
     ensures front { Begins (said_lines lines.old) (said_lines lines.new) }
 {
@@ -113,10 +110,7 @@ fn push_relations<A: Allocator>(
 }
 
 /// Adds the lines of chains; where that's refused, some of them.
-fn push_chains<A: Allocator>(
-    lines: &mut PackedLines<A>,
-    chains: &[Chain],
-) -> Result<(), AllocError>
+fn push_chains<A: Allocator>(lines: &mut PackedLines<A>, chains: &[Chain]) -> Result<(), AllocError>
     requires { Each (λ c. length c.steps ≤ 16) (map chain_of chains.now) }
     ensures whole { OnOk result (said_lines lines.new ≡ said_lines lines.old ++ map ChainIs (map chain_of chains.now)) }
     ensures front { Begins (said_lines lines.old) (said_lines lines.new) }
@@ -128,7 +122,11 @@ fn push_chains<A: Allocator>(
 }
 
 /// Adds the details from a line on to a fact, up to the first line that is none, and tells where that stands.
-fn add_details<A: Allocator>(fact: &mut CertifiedFact, lines: &PackedLines<A>, start: usize) -> usize
+fn add_details<A: Allocator>(
+    fact: &mut CertifiedFact,
+    lines: &PackedLines<A>,
+    start: usize,
+) -> usize
     requires within { start ≤ length (said_lines lines.now) }
     requires room { HasRoomUnder fact.old (cells_under (drop start (said_lines lines.now)))
         (relations_under (drop start (said_lines lines.now))) (chains_under (drop start (said_lines lines.now))) }

@@ -10,10 +10,10 @@ ghost use Rattle.certificate.specs.Sums.Lines.{is_of_sums};
 ghost use Rattle.certificate.specs.Sums.Kept.{meaning, claims};
 ghost use Rattle.certificate.specs.Sums.Made.{no_lines, routine_line_of, lines_of_fact, lines_of_exit, MayAdd, with_lines, migrated, sites_by, with_sites};
 
+use crate::RoutineClaim;
 use crate::makers::NoMemory;
 use crate::sums::packed::{CertifiedFact, Claim, PackedLine, PackedLines};
 use crate::sums::{Certificate, Version};
-use crate::RoutineClaim;
 use declaration::{Declaration, Owner};
 use std::alloc::Allocator;
 use word12::Word;

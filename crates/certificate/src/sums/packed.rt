@@ -28,9 +28,7 @@ ghost use Rattle.certificate.specs.Sums.Adding.{Adds, HasRoomFor};
 ghost use Rattle.certificate.specs.Sums.Found.{past, last_past, AreRising, from_place, begins_at, least_place, IsSaid, IsRoutineLine};
 
 use crate::RoutineClaim;
-use crate::packed::{
-    Counts, PackedRegisters, PackedRoutine, Run, lay, lay_two, put_runs, set_in,
-};
+use crate::packed::{Counts, PackedRegisters, PackedRoutine, Run, lay, lay_two, put_runs, set_in};
 use crate::sums::progress::{LAST_PLACE, place_of};
 use arrayvec::ArrayVec;
 use domain::{
@@ -390,7 +388,10 @@ fn lay_registers<A: Allocator>(
 }
 
 /// Adds the steps of a chain.
-fn lay_steps<A: Allocator>(steps: &mut Vec<Step, A>, chain: &Chain) -> Result<PackedChain, AllocError>
+fn lay_steps<A: Allocator>(
+    steps: &mut Vec<Step, A>,
+    chain: &Chain,
+) -> Result<PackedChain, AllocError>
     requires { length (chain_of chain.now).steps ≤ 16 }
     ensures front { Begins steps.old.items steps.new.items }
     ensures packed { IfOk result (λ c. (runs : List Run) →
@@ -681,7 +682,13 @@ pub fn begin_said(lent: &LentLine<'_>, fact: &mut CertifiedFact) -> bool
             true
         }
         PackedLine::Exit(said) => {
-            begin(lent.runs, said.sites, &said.registers, ReturnOffsets::all(), fact);
+            begin(
+                lent.runs,
+                said.sites,
+                &said.registers,
+                ReturnOffsets::all(),
+                fact,
+            );
             true
         }
         _ => false,
@@ -876,7 +883,8 @@ impl<A: Allocator> PackedLines<A> {
         let first = self.first(lent.line);
         let past = past(&self.list, lent.line);
         let line = lay_sited(&mut self.runs, lent, sites)?;
-        self.steps.extend_from_slice(&lent.steps[..lent.line.step_count()])?;
+        self.steps
+            .extend_from_slice(&lent.steps[..lent.line.step_count()])?;
         self.list.push(KeptLine { first, past, line })?;
         Ok(())
     }
@@ -929,7 +937,9 @@ impl<A: Allocator> PackedLines<A> {
     pub fn is_at(&self, at: usize, place: usize) -> bool
         ensures { result ≡ begins_at place (drop at (said_lines self.now)) }
     {
-        at < self.list.len() && !self.list[at].line.is_detail() && self.list[at].past as usize == place + 1
+        at < self.list.len()
+            && !self.list[at].line.is_detail()
+            && self.list[at].past as usize == place + 1
     }
 
     /// The least place of a line from a number on, or that of the end, which isn't kept.

@@ -285,13 +285,7 @@ impl LineText {
     }
 
     /// Adds the sites and the sets of a fact or of an exit.
-    fn told(
-        &mut self,
-        version: Version,
-        runs: &[Run],
-        sites: u16,
-        registers: &PackedRegisters,
-    )
+    fn told(&mut self, version: Version, runs: &[Run], sites: u16, registers: &PackedRegisters)
         requires { LieWithin (length runs.now) sites registers.now.sets }
         ensures { Adds self.old.bytes.items self.new.bytes.items
             (sites_text version (set_at runs.now 0 sites) ++

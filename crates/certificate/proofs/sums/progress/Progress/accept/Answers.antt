@@ -47,8 +47,7 @@ returns-then-not-has_room-clause-lines c = λ before t.
 pub returns-clause-lines : goal.returns-clause-lines
 returns-clause-lines c = λ before t.
     let runs : List Run = c.read_line.new.runs.items in
-    let steps : List Step = c.read_line.new.steps.items in
-    (
+    let steps : List Step = c.read_line.new.steps.items in (
       record {
         spells = c.in-Some.ensures.read;
         next = record {

@@ -69,7 +69,7 @@ fn add_given(chain: &Chain, word: Word, first: Link, ac: &WordSet, links: Links,
 }
 
 /// Copies chains.
-fn copy_chains(from: &[Chain], to: &mut ArrayVec<Chain, 72>)
+pub(crate) fn copy_chains(from: &[Chain], to: &mut ArrayVec<Chain, 72>)
     requires { length from.now ≤ 72 }
     ensures { map chain_of to.new.items ≡ map chain_of from.now }
 {

@@ -1,5 +1,5 @@
 -- What is added to a fact of a name, and of the parts of a relation's sum.
-use Rattle.std.proofs.Common.{◌≡◌, ℕ, ◌+◌, ◌*◌, ◌%◌, ◌<◌, ◌≤◌, ◌==◌, Bool, true, false, ◌&&◌, List, [], ◌∷◌, ◌++◌, refl, sym, ap, ◌∙◌, arith, inl, inr}
+use Rattle.std.proofs.Common.{◌≡◌, ℕ, ◌+◌, ◌*◌, ◌%◌, ◌<◌, ◌≤◌, ◌==◌, Bool, true, false, ◌&&◌, List, [], ◌∷◌, ◌++◌, drop, length, refl, sym, ap, ◌∙◌, arith, inl, inr}
 use Rattle.std.specs.Prelude.{if◌then◌else◌, nat_lt}
 use Rattle.std.proofs.Math.Path.{fun_ext}
 use Rattle.std.proofs.lemmas.Bool.{cases_lt, eq-eqb, eqb-true}
@@ -9,9 +9,13 @@ use Rattle.wordset.specs.Lanes.{words}
 use Rattle.wordset.proofs.SetLemmas.{words_past, all_past}
 use Rattle.domain.specs.Facts.{Location, Ac, Cell}
 use Rattle.domain.specs.Statements.{TrackedCell, tracked}
-use Rattle.domain.specs.Sums.Terms.{sum_of_name}
+use Rattle.processor.specs.Runs.{Image}
+use Rattle.domain.specs.Sums.Terms.{Sum, sum_of_name}
+use Rattle.domain.specs.Sums.Knowing.{said_of}
+use Rattle.domain.specs.Sums.Narrowing.{of_term, of_part, parts_of}
+use Rattle.domain.specs.Sums.InCode.{summand_at}
 use Rattle.domain.specs.Sums.Facts.{Fact, OfSums}
-use Rattle.domain.specs.Sums.Adding.{times, with_name, adding, adding_all}
+use Rattle.domain.specs.Sums.Adding.{times, differences, with_name, adding, adding_all}
 use Rattle.domain.specs.Sums.Facts.{Relation}
 use Rattle.domain.specs.Sums.FactInCode.{names_words}
 
@@ -53,3 +57,32 @@ name_added f n s p past e = ap (λ (w : Words). with_name n w f) (e ∙ sym (mee
 pub added_both : (xs ys : List Relation) (f : Fact) → adding_all OfSums (xs ++ ys) f ≡ adding_all OfSums ys (adding_all OfSums xs f)
 added_both [] ys f = refl
 added_both (x ∷ xs) ys f = added_both xs ys (adding OfSums x f)
+
+-- ---- parts of a sum by how many terms they have
+
+pub part_none : (image : Image) (set : Words) (f : Fact) (xs : Sum) → length xs ≡ 0 → f ≡ adding_all OfSums (of_part image xs set) f
+part_none image set f [] e = refl
+part_none image set f (x ∷ xs) e = absurd (omega (arith, e))
+
+pub part_one : (image : Image) (set : Words) (f : Fact) (xs : Sum) → length xs ≡ 1 →
+    adding OfSums (of_term image (summand_at xs 0).coefficient (summand_at xs 0).term set) f ≡ adding_all OfSums (of_part image xs set) f
+part_one image set f [] e = absurd (omega (arith, e))
+part_one image set f (x ∷ []) e = refl
+part_one image set f (x ∷ y ∷ ys) e = absurd (omega (arith, e))
+
+pub part_more : (image : Image) (set : Words) (f : Fact) (xs : Sum) → 1 < length xs → adding OfSums (record { sum = xs; set = set }) f ≡ adding_all OfSums (of_part image xs set) f
+part_more image set f [] e = absurd (omega (arith, e))
+part_more image set f (x ∷ []) e = absurd (omega (arith, e))
+part_more image set f (x ∷ y ∷ ys) e = refl
+
+-- The first term and the rest.
+pub parts_none : (image : Image) (g f : Fact) (set : Words) (xs : Sum) → length xs ≡ 0 → f ≡ adding_all OfSums (parts_of image g xs set) f
+parts_none image g f set [] e = refl
+parts_none image g f set (x ∷ xs) e = absurd (omega (arith, e))
+
+pub parts_more : (image : Image) (g f : Fact) (set : Words) (xs : Sum) → 0 < length xs →
+    adding_all OfSums (of_part image (drop 1 xs) (differences set (said_of image g (summand_at xs 0 ∷ []))))
+    (adding OfSums (of_term image (summand_at xs 0).coefficient (summand_at xs 0).term (differences set (said_of image g (drop 1 xs)))) f)
+    ≡ adding_all OfSums (parts_of image g xs set) f
+parts_more image g f set [] e = absurd (omega (arith, e))
+parts_more image g f set (x ∷ xs) e = refl

@@ -15,9 +15,9 @@ ghost use Rattle.domain.specs.Sums.Narrowing.{of_term, of_part, parts_of, may_gi
 ghost use Rattle.domain.specs.Sums.InCode.{term_of, sum_of};
 ghost use Rattle.domain.specs.Sums.Brief.{brief_words};
 ghost use Rattle.domain.specs.Sums.CellsInCode.{cell_sets_of};
-ghost use Rattle.domain.specs.Sums.RelationsInCode.{relations_of};
+ghost use Rattle.domain.specs.Sums.RelationsInCode.{relations_of, relation_of};
 ghost use Rattle.domain.specs.Sums.ChainsInCode.{chain_of, gives_from};
-ghost use Rattle.domain.specs.Sums.FactInCode.{fact_in_code};
+ghost use Rattle.domain.specs.Sums.FactInCode.{fact_in_code, all_parts, all_parts_of_chains};
 
 use crate::chains::Chain;
 use crate::location::{Location, negated};
@@ -228,6 +228,32 @@ impl<const C: usize, const R: usize> SumFact<C, R> {
         }
     }
 
+    /// Adds what some relations of another fact say of their first terms and of the rest.
+    fn add_all_parts<const D: usize, const S: usize>(&mut self, image: &Image, fact: &SumFact<D, S>, relations: &[Relation])
+        requires cells { length (cell_sets_of self.old.cells) + 2 * length relations.now ≤ C }
+        requires relations { length (relations_of self.old.relations) + length relations.now ≤ R }
+        ensures fact { fact_in_code self.new ≡ adding_all OfSums
+            (all_parts (image_of image.now) (fact_in_code fact.now) (map relation_of relations.now)) (fact_in_code self.old) }
+        ensures cells { length (cell_sets_of self.new.cells) ≤ length (cell_sets_of self.old.cells) + 2 * length relations.now }
+        ensures more { length (relations_of self.new.relations) ≤ length (relations_of self.old.relations) + length relations.now }
+    {
+        for relation in relations {
+            self.add_parts(image, fact, relation);
+        }
+    }
+
+    /// Adds what some chains of another fact say.
+    fn add_all_parts_of_chains<const D: usize, const S: usize>(&mut self, fact: &SumFact<D, S>, chains: &[Chain])
+        requires cells { length (cell_sets_of self.old.cells) + length chains.now ≤ C }
+        requires relations { length (relations_of self.old.relations) + length chains.now ≤ R }
+        ensures { fact_in_code self.new ≡ adding_all OfSums
+            (all_parts_of_chains (fact_in_code fact.now) (map chain_of chains.now)) (fact_in_code self.old) }
+    {
+        for chain in chains {
+            self.add_parts_of_chain(fact, chain);
+        }
+    }
+
     /// Lets this fact be another, narrowed. It takes at most two cells and one relation more for each of its relations, and one
     /// of each for each chain.
     pub fn narrow<const D: usize, const S: usize>(&mut self, image: &Image, fact: &SumFact<D, S>)
@@ -237,11 +263,7 @@ impl<const C: usize, const R: usize> SumFact<C, R> {
     {
         self.copy_from(fact);
         self.keep_links_of_chains(fact);
-        for relation in fact.relations().as_slice() {
-            self.add_parts(image, fact, relation);
-        }
-        for chain in fact.chains() {
-            self.add_parts_of_chain(fact, chain);
-        }
+        self.add_all_parts(image, fact, fact.relations.as_slice());
+        self.add_all_parts_of_chains(fact, fact.chains.as_slice());
     }
 }

@@ -63,13 +63,15 @@ detail_fits Two ws = elim (cases_Bool (reads (word_at 0 ws) (codes "equal"))) [
   ])
 ]
 detail_fits Three ws = elim (cases_Bool (reads (word_at 0 ws) (codes "equal"))) [
-  | inl e ↦ rw e (sums (reads (word_at 0 ws) (codes "sum")) refl)
-  | inr e ↦ rw e (sums (reads (word_at 0 ws) (codes "sum")) refl)
+  | inl e ↦ rw e (elim (cases_Bool (reads (word_at 0 ws) (codes "sum"))) [
+    | inl f ↦ rw f (set_ends (word_at (length ws - 1) ws))
+    | inr f ↦ rw f (elim (cases_Bool (reads (word_at 0 ws) (codes "func"))) [ inl g ↦ rw g (tt, refl) | inr g ↦ rw g tt ])
+  ])
+  | inr e ↦ rw e (elim (cases_Bool (reads (word_at 0 ws) (codes "sum"))) [
+    | inl f ↦ rw f (set_ends (word_at (length ws - 1) ws))
+    | inr f ↦ rw f (elim (cases_Bool (reads (word_at 0 ws) (codes "func"))) [ inl g ↦ rw g (tt, refl) | inr g ↦ rw g tt ])
+  ])
 ]
-  where
-    sums : (b : Bool) → reads (word_at 0 ws) (codes "sum") ≡ b → LineFits Three (if b && true then _ else (if reads (word_at 0 ws) (codes "func") && true then _ else _))
-    sums true e = set_ends _
-    sums false e = elim (cases_Bool (reads (word_at 0 ws) (codes "func"))) [ inl g ↦ rw g (tt, refl) | inr g ↦ rw g tt ]
 
 said_fits : (v : Version) (ws : List (List ℕ)) → LineFits v (said_by v ws)
 said_fits v ws = elim (cases_Bool (reads (word_at 0 ws) (codes "routine"))) [
@@ -88,9 +90,9 @@ said_fits v ws = elim (cases_Bool (reads (word_at 0 ws) (codes "routine"))) [
   where
     fact : (v : Version) → LineFits v (FactIs (octal_value (word_at 1 ws)) (sites_in v (drop 2 ws)) (registers_in v (drop (2 + site_words v) ws))
         (offsets_of v (word_at (register_words v + 3 + site_words v) ws)))
-    fact One = (refl, registers_fit One (drop 2 ws), offsets_end One _)
-    fact Two = (refl, registers_fit Two (drop 2 ws), offsets_end Two _)
-    fact Three = (set_ends (word_at 1 (drop 2 ws)), registers_fit Three (drop 4 ws), offsets_end Three _)
+    fact One = (refl, registers_fit One (drop 2 ws), offsets_end One (word_at 7 ws))
+    fact Two = (refl, registers_fit Two (drop 2 ws), offsets_end Two (word_at 9 ws))
+    fact Three = (set_ends (word_at 1 (drop 2 ws)), registers_fit Three (drop 4 ws), offsets_end Three (word_at 11 ws))
 
     exit : (v : Version) → LineFits v (ExitIs (octal_value (word_at 1 ws)) (octal_value (word_at 2 ws)) (sites_in v (drop 3 ws)) (registers_in v (drop (3 + site_words v) ws)))
     exit One = (refl, registers_fit One (drop 3 ws))

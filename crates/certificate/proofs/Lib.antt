@@ -5,6 +5,9 @@ pub mod RunLemmas
 pub mod DigitLemmas
 pub mod LineLemmas
 pub mod LineOfLemmas
+pub mod OffsetTextLemmas
+pub mod SumLineLemmas
+pub mod SumTextLemmas
 pub mod ParserLemmas
 pub mod LengthLemmas
 pub mod TextOrderLemmas

@@ -46,25 +46,25 @@ split_none p [] h = refl
 split_none p (x ∷ xs) h = slice_split-cons_no p x xs h.0 ∙ ap (onto_first x) (split_none p xs h.1)
 
 -- Bytes that are all above another one, as fields are above a space, and runs above a comma.
-abbrev Above : ℕ → List ℕ → Type 0
+abbrev pub Above : ℕ → List ℕ → Type 0
 Above k xs = Each (λ c. k < c) xs
 
-apart : (k b : ℕ) (xs : List ℕ) → b ≤ k → Above k xs → Each (λ c. (c == b) ≡ false) xs
+pub apart : (k b : ℕ) (xs : List ℕ) → b ≤ k → Above k xs → Each (λ c. (c == b) ≡ false) xs
 apart k b [] le h = tt
 apart k b (x ∷ xs) le h = (let z : k < x = h.0 in ne_eqb x b (λ e. omega arith), apart k b xs le h.1)
 
-lower : (xs : List ℕ) → Above 44 xs → Above 43 xs
+pub lower : (xs : List ℕ) → Above 44 xs → Above 43 xs
 lower [] h = tt
 lower (x ∷ xs) h = (let z : 44 < x = h.0 in omega arith, lower xs h.1)
 
-either : (k : ℕ) (b : Bool) (xs ys : List ℕ) → Above k xs → Above k ys → Above k (if b then xs else ys)
+pub either : (k : ℕ) (b : Bool) (xs ys : List ℕ) → Above k xs → Above k ys → Above k (if b then xs else ys)
 either k true xs ys f g = f
 either k false xs ys f g = g
 
-octal_above : (n : ℕ) → Above 44 (octal_text n)
+pub octal_above : (n : ℕ) → Above 44 (octal_text n)
 octal_above n = (omega arith, (omega arith, (omega arith, (omega arith, tt))))
 
-run_above : (low high : ℕ) → Above 44 (run_text low high)
+pub run_above : (low high : ℕ) → Above 44 (run_text low high)
 run_above low high =
     each_append (λ c. 44 < c) (octal_text low) _ (octal_above low)
     (either 44 (low == high) [] (codes "-" ++ octal_text high) tt (omega arith, octal_above high))
@@ -74,27 +74,27 @@ more_above [] = tt
 more_above (r ∷ rs) =
     (omega arith, each_append (λ c. 43 < c) (run_text r.first r.last) (more_text rs) (lower (run_text r.first r.last) (run_above r.first r.last)) (more_above rs))
 
-set_above : (s : Words) → Above 43 (set_text s)
+pub set_above : (s : Words) → Above 43 (set_text s)
 set_above s = elim (by_words s) [
   | inl f ↦ rw f.text (more_above (f.runs.first ∷ f.runs.more)).1
   | inr empty ↦ rw (empty_text s empty) (omega arith, tt)
 ]
 
-digits_above : (n : ℕ) (s : Words) → Above 44 (digits n s)
+pub digits_above : (n : ℕ) (s : Words) → Above 44 (digits n s)
 unfolding digits
 digits_above zero s = tt
 digits_above (suc n) s =
     each_append (λ c. 44 < c) (digits n s) _ (digits_above n s) (either 44 (s n) ((48 + n) ∷ []) [] (omega arith, tt) tt)
 
-offsets_above : (s : Words) → Above 44 (offsets_text s)
+pub offsets_above : (s : Words) → Above 44 (offsets_text s)
 offsets_above s = either 44 (some_below 8 s) (digits 8 s) (codes "-") (digits_above 8 s) (omega arith, tt)
 
-name_above : (n : Location) → Above 44 (name_text n)
+pub name_above : (n : Location) → Above 44 (name_text n)
 name_above Ac = (omega arith, (omega arith, tt))
 name_above (Cell a) = octal_above a
 
 -- Words of a line, with a space between two of them.
-words_back : (w : List ℕ) (ws : List (List ℕ)) → Above 43 w → Each (Above 43) ws → words_in (join_with_byte 32 (w ∷ ws)) ≡ w ∷ ws
+pub words_back : (w : List ℕ) (ws : List (List ℕ)) → Above 43 w → Each (Above 43) ws → words_in (join_with_byte 32 (w ∷ ws)) ≡ w ∷ ws
 words_back w [] h g = split_none (λ c. c == 32) w (apart 43 32 w (omega arith) h)
 words_back w (x ∷ xs) h g =
     split_at (λ c. c == 32) w 32 (join_with_byte 32 (x ∷ xs)) (apart 43 32 w (omega arith) h) refl ∙
@@ -104,10 +104,10 @@ words_back w (x ∷ xs) h g =
 pub octal_back : (n : ℕ) → n < 4096 → octal_value (octal_text n) ≡ n
 octal_back n h = omega arith
 
-rank_back : (n : ℕ) → n < 64 → octal_value (rank_text n) ≡ n
+pub rank_back : (n : ℕ) → n < 64 → octal_value (rank_text n) ≡ n
 rank_back n h = omega arith
 
-digit_back : (n : ℕ) → octal_value ((48 + n) ∷ []) ≡ n
+pub digit_back : (n : ℕ) → octal_value ((48 + n) ∷ []) ≡ n
 digit_back n = omega arith
 
 -- Sets.
@@ -188,7 +188,7 @@ digits_have (suc n) d s =
       ]
     ]
 
-offsets_back : (s : Words) → EndsBefore 8 s → offsets_in (offsets_text s) ≡ s
+pub offsets_back : (s : Words) → EndsBefore 8 s → offsets_in (offsets_text s) ≡ s
 offsets_back s end = fun_ext (λ o. elim (cases_lt o 8) [
   | inl small ↦ rw (lt-ltb o 8 small) (elim (by_offsets s) [
     | inl some ↦ rw (some_offsets s some) (digits_have 8 o s ∙ rw (lt-ltb o 8 small) refl)
@@ -197,10 +197,10 @@ offsets_back s end = fun_ext (λ o. elim (cases_lt o 8) [
   | inr past ↦ rw (le-ltb o 8 past) (sym (end o past))
 ])
 
-links_back : (s : Words) → IsOfLinks s → links_in (digits 2 s) ≡ s
+pub links_back : (s : Words) → IsOfLinks s → links_in (digits 2 s) ≡ s
 links_back s h = rw (digits_have 2 0 s, digits_have 2 1 s) (sym h)
 
-name_back : (n : Location) → place_of_name n < 4097 → name_of (name_text n) ≡ n
+pub name_back : (n : Location) → place_of_name n < 4097 → name_of (name_text n) ≡ n
 name_back Ac h = refl
 name_back (Cell a) h =
     let no : bytes_eq (octal_text a) (codes "AC") ≡ false = other_text (octal_text a) (codes "AC") (λ e. let z : 48 + a / 512 ≡ 65 = cc in omega arith) in
@@ -211,14 +211,14 @@ abbrev register_list : Version → Registers → List (List ℕ) → List (List 
 register_list One r ws = codes "ac" ∷ set_text r.ac ∷ codes "link" ∷ digits 2 r.link ∷ ws
 register_list Two r ws = codes "ac" ∷ set_text r.ac ∷ codes "mq" ∷ set_text r.mq ∷ codes "link" ∷ digits 2 r.link ∷ ws
 
-literal : (w : List ℕ) → list_any (λ c. nat_lt c 44) w ≡ false → Above 43 w
+pub literal : (w : List ℕ) → list_any (λ c. nat_lt c 44) w ≡ false → Above 43 w
 literal [] e = tt
 literal (c ∷ cs) e = elim (cases_lt c 44) [
   | inl small ↦ absurd (true≢false (rw (lt-ltb c 44 small) at e))
   | inr big ↦ (omega arith, literal cs (rw (le-ltb c 44 big) at e))
 ]
 
-registers_are : (a b m n k l : Words) → a ≡ b → m ≡ n → k ≡ l → (let x : Registers = record { ac = a; mq = m; link = k } in x) ≡ record { ac = b; mq = n; link = l }
+pub registers_are : (a b m n k l : Words) → a ≡ b → m ≡ n → k ≡ l → (let x : Registers = record { ac = a; mq = m; link = k } in x) ≡ record { ac = b; mq = n; link = l }
 registers_are a b m n k l e f g = rw (e, f, g) refl
 
 registers_back : (v : Version) (r : Registers) (ws : List (List ℕ)) → IsRegisters v r → RegistersEnd r → registers_in v (register_list v r ws) ≡ r
@@ -402,7 +402,7 @@ formed v (EquationIs q) end e =
 formed v End end e = tt
 
 -- What is read as a line ends its sets.
-set_ends : (w : List ℕ) → EndsBefore 4096 (set_of w)
+pub set_ends : (w : List ℕ) → EndsBefore 4096 (set_of w)
 set_ends w v past = rw (le-ltb v 4096 past) refl
 
 registers_end : (v : Version) (ws : List (List ℕ)) → RegistersEnd (registers_in v ws)

@@ -3,7 +3,7 @@
 ghost use Rattle.std.specs.Prelude.{ℕ, ◌≡◌, ◌+◌, ◌<◌, ◌≤◌, ◌↔◌, List, [], ◌∷◌, ◌++◌, length, IsTrue, true, false, Some, None, IfSome};
 ghost use Rattle.word12.specs.Words.{octal_text};
 ghost use Rattle.std.specs.Option.{IsSomeAnd};
-ghost use Rattle.wordset.specs.Words.{Words, all_words, some_below, has_some};
+ghost use Rattle.wordset.specs.Words.{Words, all_words, one, some_below, has_some};
 ghost use Rattle.wordset.specs.Links.{links_of};
 ghost use Rattle.domain.specs.Facts.{Location as Named};
 ghost use Rattle.domain.specs.Meaning.{location_of, offsets_of};
@@ -66,6 +66,20 @@ impl<'a> Fields<'a> {
                 true
             }
             _ => false,
+        }
+    }
+
+    /// Whether some text is next.
+    pub fn begins_with(&self, text: &[u8]) -> bool
+        ensures there { result ≡ true → (rest : List ℕ) × (left self.now ≡ Some (text.now ++ rest)) }
+        ensures only { (rest : List ℕ) → left self.now ≡ Some (text.now ++ rest) → result ≡ true }
+    {
+        if !self.reads {
+            return false;
+        }
+        match self.rest.strip_prefix(text) {
+            Some(_) => true,
+            None => false,
         }
     }
 
@@ -152,7 +166,7 @@ impl<'a> Fields<'a> {
         ensures read { IfSome (left self.new) (λ rest.
             (has_some (added runs.old.items runs.new.items) ≡ true) ×
             (left self.old ≡ Some (marks 4096 (added runs.old.items runs.new.items) ++ rest))) }
-        ensures only { (s : Words) (rest : List ℕ) → length runs.old.items ≤ 2048 →
+        ensures only { (s : Words) (rest : List ℕ) → length runs.old.items ≤ 4096 →
             has_some s ≡ true → EndsField rest →
             left self.old ≡ Some (marks 4096 s ++ rest) →
             (left self.new ≡ Some rest) × (length runs.new.items ≤ length runs.old.items + 2048) }
@@ -179,7 +193,7 @@ impl<'a> Fields<'a> {
             has_some (added runs.old.items runs.new.items) ≡ true) }
         ensures read { WasFirst self.old self.new
             (set_text (added runs.old.items runs.new.items)) }
-        ensures only { (s : Words) (rest : List ℕ) → length runs.old.items ≤ 2048 →
+        ensures only { (s : Words) (rest : List ℕ) → length runs.old.items ≤ 4096 →
             has_some s ≡ true → EndsField rest →
             left self.old ≡ Some (set_text s ++ rest) →
             (left self.new ≡ Some rest) × (length runs.new.items ≤ length runs.old.items + 2048) }
@@ -195,7 +209,7 @@ impl<'a> Fields<'a> {
         ensures count { length runs.old.items + result ≡ length runs.new.items }
         ensures read { WasFirst self.old self.new
             (set_text (added runs.old.items runs.new.items)) }
-        ensures only { (s : Words) (rest : List ℕ) → length runs.old.items ≤ 2048 →
+        ensures only { (s : Words) (rest : List ℕ) → length runs.old.items ≤ 4096 →
             EndsField rest →
             left self.old ≡ Some (set_text s ++ rest) →
             (left self.new ≡ Some rest) × (length runs.new.items ≤ length runs.old.items + 2048) }
@@ -212,11 +226,31 @@ impl<'a> Fields<'a> {
         ensures count { length runs.old.items + result ≡ length runs.new.items }
         ensures read { IfSome (left self.new) (λ rest. (left self.old ≡ Some rest) ×
             (added runs.old.items runs.new.items ≡ all_words)) }
-        ensures only { length runs.old.items ≤ 2048 → left self.new ≡ left self.old }
+        ensures only { length runs.old.items ≤ 4096 → left self.new ≡ left self.old }
     {
         let first = Word::from_index(0);
         let last = Word::from_index(4095);
         match runs.try_push(Run { first, last }) {
+            Ok(()) => 1,
+            Err(_) => {
+                self.fail();
+                0
+            }
+        }
+    }
+
+    /// Adds the run of one word.
+    pub fn one(&mut self, word: Word, runs: &mut Runs) -> u16
+        ensures front { Begins runs.old.items runs.new.items }
+        ensures count { length runs.old.items + result ≡ length runs.new.items }
+        ensures read { IfSome (left self.new) (λ rest. (left self.old ≡ Some rest) ×
+            (added runs.old.items runs.new.items ≡ one word)) }
+        ensures only { length runs.old.items ≤ 4096 → left self.new ≡ left self.old }
+    {
+        match runs.try_push(Run {
+            first: word,
+            last: word,
+        }) {
             Ok(()) => 1,
             Err(_) => {
                 self.fail();

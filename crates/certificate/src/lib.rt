@@ -40,6 +40,7 @@ mod parser;
 mod pieces;
 mod progress;
 mod spelled;
+pub mod sums;
 
 pub use crate::makers::NoMemory;
 

@@ -163,7 +163,7 @@ fn read_cell(version: Version, line: &[u8], runs: &mut Runs) -> Option<PackedLin
 
 /// Whether a name comes before a cell: the accumulator before all cells, a cell before those of
 /// greater address.
-fn is_before(name: &Location, cell: Word) -> bool
+pub fn is_before(name: &Location, cell: Word) -> bool
     ensures { IsTrue result ↔ (place_of_name (location_of name.now) < cell + 1) }
 {
     match name {

@@ -90,8 +90,8 @@ pub enum Claim<'a> {
     Equation(Equation),
 }
 
-/// No line has more runs: each of two sets has at most 2048.
-const MOST_RUNS: usize = 4096;
+/// No line has more runs: each of three sets has at most 2048.
+const MOST_RUNS: usize = 6144;
 
 /// The runs of a line's sets.
 pub type Runs = ArrayVec<Run, MOST_RUNS>;
@@ -169,7 +169,7 @@ fn push_runs<A: Allocator>(runs: &mut Vec<Run, A>, set: &WordSet) -> Result<(), 
 }
 
 /// Adds the runs of a set, and tells how many there are.
-fn lay<A: Allocator>(runs: &mut Vec<Run, A>, set: &WordSet) -> Result<u16, AllocError>
+pub fn lay<A: Allocator>(runs: &mut Vec<Run, A>, set: &WordSet) -> Result<u16, AllocError>
     ensures front { Begins runs.old.items runs.new.items }
     ensures count { IfOk result (λ count.
         length runs.old.items + count ≡ length runs.new.items) }
@@ -181,7 +181,7 @@ fn lay<A: Allocator>(runs: &mut Vec<Run, A>, set: &WordSet) -> Result<u16, Alloc
 }
 
 /// Adds the runs of two sets, and tells how many there are.
-fn lay_two<A: Allocator>(
+pub fn lay_two<A: Allocator>(
     runs: &mut Vec<Run, A>,
     one: &WordSet,
     other: &WordSet,
@@ -272,7 +272,7 @@ pub fn set_of(runs: &[Run]) -> WordSet
 
 /// Puts the set of which these are runs into its place, of any count of runs.
 #[inline(never)]
-fn put_runs(runs: &[Run], place: &mut WordSet)
+pub fn put_runs(runs: &[Run], place: &mut WordSet)
     ensures { words place.new ≡ set_of_runs runs.now }
 {
     *place = WordSet::empty();
@@ -282,7 +282,7 @@ fn put_runs(runs: &[Run], place: &mut WordSet)
 }
 
 /// The set of which so many runs from here on are.
-fn set_in(runs: &[Run], first: usize, count: usize) -> WordSet
+pub fn set_in(runs: &[Run], first: usize, count: usize) -> WordSet
     requires { first + count ≤ length runs.now }
     ensures { words result ≡ set_at runs.now first count }
 {

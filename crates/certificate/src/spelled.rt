@@ -28,17 +28,17 @@ use word12::Word;
 use wordset::{Links, WordSet};
 
 /// No line has more bytes, its line feed included.
-const MOST: usize = 32_769;
+const MOST: usize = 49_153;
 
 /// The text of a line as far as it's written.
 #[derive(Drop)]
-struct LineText {
+pub struct LineText {
     bytes: ArrayVec<u8, MOST>,
 }
 
 impl LineText {
     /// No text.
-    fn new() -> LineText
+    pub fn new() -> LineText
         ensures { result.bytes.items ≡ [] }
     {
         LineText {
@@ -46,9 +46,23 @@ impl LineText {
         }
     }
 
+    /// Its bytes.
+    pub fn as_bytes(&self) -> &[u8]
+        ensures { result.now ≡ self.now.bytes.items }
+    {
+        self.bytes.as_slice()
+    }
+
+    /// Takes all text away.
+    pub fn clear(&mut self)
+        ensures { self.new.bytes.items ≡ [] }
+    {
+        self.bytes.clear();
+    }
+
     /// Adds as much of a text as there is room for.
     #[inline(always)]
-    fn text(&mut self, text: &[u8])
+    pub fn text(&mut self, text: &[u8])
         ensures { Adds self.old.bytes.items self.new.bytes.items text.now }
     {
         let count = text.len().min(self.bytes.remaining_capacity());
@@ -59,7 +73,7 @@ impl LineText {
     }
 
     /// Adds a byte.
-    fn push(&mut self, byte: u8)
+    pub fn push(&mut self, byte: u8)
         ensures adds { Adds self.old.bytes.items self.new.bytes.items (byte ∷ []) }
         ensures fits { length self.new.bytes.items ≤ 32769 }
     {
@@ -69,7 +83,7 @@ impl LineText {
     }
 
     /// Adds an octal digit.
-    fn digit(&mut self, digit: usize)
+    pub fn digit(&mut self, digit: usize)
         requires { digit < 8 }
         ensures { Adds self.old.bytes.items self.new.bytes.items ((48 + digit) ∷ []) }
     {
@@ -77,7 +91,7 @@ impl LineText {
     }
 
     /// Adds a word as four octal digits.
-    fn word(&mut self, word: Word)
+    pub fn word(&mut self, word: Word)
         ensures { Adds self.old.bytes.items self.new.bytes.items (octal_text word) }
     {
         self.text(&word.to_octal());
@@ -151,7 +165,7 @@ impl LineText {
     }
 
     /// Adds the set of so many runs from a place on.
-    fn set_in(&mut self, runs: &[Run], first: u16, count: u16)
+    pub fn set_in(&mut self, runs: &[Run], first: u16, count: u16)
         requires { first + count ≤ length runs.now }
         ensures { Adds self.old.bytes.items self.new.bytes.items
             (set_text (set_at runs.now first count)) }
@@ -161,7 +175,7 @@ impl LineText {
     }
 
     /// Adds an octal digit, where it's wanted.
-    fn digit_if(&mut self, digit: usize, is_wanted: bool)
+    pub fn digit_if(&mut self, digit: usize, is_wanted: bool)
         requires { digit < 8 }
         ensures { Adds self.old.bytes.items self.new.bytes.items
             (if is_wanted then (48 + digit) ∷ [] else []) }
@@ -172,7 +186,7 @@ impl LineText {
     }
 
     /// Adds links: `0`, `1` or `01`.
-    fn links(&mut self, links: Links)
+    pub fn links(&mut self, links: Links)
         ensures { Adds self.old.bytes.items self.new.bytes.items (digits 2 (links_of links)) }
     {
         self.digit_if(0, links.clear);
@@ -201,7 +215,7 @@ impl LineText {
     }
 
     /// Adds a name: `AC` or a cell's address.
-    fn name(&mut self, name: &Location)
+    pub fn name(&mut self, name: &Location)
         ensures { Adds self.old.bytes.items self.new.bytes.items (name_text (location_of name.now)) }
     {
         match name {
@@ -239,7 +253,7 @@ impl LineText {
     }
 
     /// Adds a rank as two octal digits.
-    fn rank(&mut self, rank: usize)
+    pub fn rank(&mut self, rank: usize)
         requires { rank < 64 }
         ensures { Adds self.old.bytes.items self.new.bytes.items (rank_text rank) }
     {
@@ -248,7 +262,7 @@ impl LineText {
     }
 
     /// Adds the line of a routine.
-    fn routine(&mut self, runs: &[Run], routine: &PackedRoutine)
+    pub fn routine(&mut self, runs: &[Run], routine: &PackedRoutine)
         requires within { AreWithin (length runs.now) routine.now.sets }
         requires rank { routine.now.rank < 64 }
         ensures { Adds self.old.bytes.items self.new.bytes.items
@@ -307,7 +321,7 @@ impl LineText {
     }
 
     /// Adds the line of a tracked cell.
-    fn cell(&mut self, runs: &[Run], cell: Word, count: u16)
+    pub fn cell(&mut self, runs: &[Run], cell: Word, count: u16)
         requires { count ≤ length runs.now }
         ensures { Adds self.old.bytes.items self.new.bytes.items
             (cell_line (record { address = cell; set = set_at runs.now 0 count })) }

@@ -18,6 +18,7 @@ mod shapes;
 mod sum_fact;
 mod sum_moves;
 mod terms;
+mod told;
 mod tracking;
 
 pub use fact::Fact;

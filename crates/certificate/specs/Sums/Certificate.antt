@@ -8,7 +8,7 @@ use Rattle.domain.specs.Sums.Facts.{Fact, Place, Rules}
 -- The rules by which its facts are taken further; for each routine that is listed its rank, the addresses of the JMS words that
 -- call it and the cells that it and its callees may write; the facts at each address, of which one holds whenever the
 -- run is there; and for each entry and offset the facts of which one holds when the routine returns so. A certificate of version
--- 1 or 2 has at most one fact at an address and for an offset, and each has its routine's sites.
+-- 1 or 2 has at most one fact at an address and for an offset, which says nothing of sites: they are its routine's.
 pub record Certificate : Type 0 where
   pub rules : Rules
   pub listed : Words

@@ -6,12 +6,14 @@ use Rattle.wordset.specs.Bits.{has_bit}
 use Rattle.word12.specs.Octal.{octal_value}
 use Rattle.wordset.specs.Words.{Words, nothing, all_words, between, one, some_below, has_some}
 use Rattle.domain.specs.Facts.{Ac, Cell}
-use Rattle.domain.specs.Sums.Terms.{Term, Holding, Behind, Sum, difference_of, arranged, same_sum}
+use Rattle.domain.specs.Sums.Terms.{Term, Holding, Behind, Summand, Sum, difference_of, arranged, same_sum}
 use Rattle.domain.specs.Sums.Chains.{Step, Operates, Ands, Adds}
 use Rattle.domain.specs.Sums.Shapes.{has_shape}
 use Rattle.certificate.specs.LineOf.{words_in, word_at, set_of, offsets_in, links_in, name_of}
 use Rattle.certificate.specs.Spelling.{Registers}
-use Rattle.certificate.specs.Sums.Lines.{Version, One, Two, Three, Line, RoutineIs, FactIs, ExitIs, CellIs, SumIs, ChainIs, End, is_of_sums}
+use Rattle.certificate.specs.declared.sums.Version.{Version}
+use Rattle.certificate.specs.declared.sums.Version.TheVariants.{One, Two, Three}
+use Rattle.certificate.specs.Sums.Lines.{Line, RoutineIs, FactIs, ExitIs, CellIs, SumIs, ChainIs, End, is_of_sums}
 use Rattle.certificate.specs.Sums.Spelling.{line_text}
 
 -- The word is this one.
@@ -132,10 +134,14 @@ is_term (Holding Ac) = true
 is_term (Holding (Cell a)) = nat_lt a 4096
 is_term (Behind x k) = nat_lt x 4096 && nat_lt k 4096
 
+-- The numbers of a term with its coefficient are words.
+abbrev pub is_summand : Summand → Bool
+is_summand s = nat_lt s.coefficient 4096 && is_term s.term
+
 -- A sum of two or three terms, of one of the shapes and as it's kept.
 abbrev pub is_relation : Sum → Bool
 is_relation sum =
-    nat_le 2 (length sum) && (list_all (λ s. is_term s.term) sum && (has_shape sum && same_sum (arranged sum) sum))
+    nat_le 2 (length sum) && (list_all is_summand sum && (has_shape sum && same_sum (arranged sum) sum))
 
 -- A step: a word of group 1 that doesn't rotate both ways, or any word that is added or anded.
 abbrev pub is_step : Step → Bool

@@ -4,13 +4,9 @@ use Rattle.wordset.specs.Words.{Words}
 use Rattle.domain.specs.Statements.{TrackedCell}
 use Rattle.domain.specs.Sums.Chains.{Chain}
 use Rattle.domain.specs.Sums.Facts.{Relation, Rules, OfEquations, OfSums}
+use Rattle.certificate.specs.declared.sums.Version.{Version}
+use Rattle.certificate.specs.declared.sums.Version.TheVariants.{One, Two, Three}
 use Rattle.certificate.specs.Spelling.{RoutineLine, Registers}
-
--- The version of a certificate's text.
-pub data Version : Type 0 where
-  One : Version
-  Two : Version
-  Three : Version
 
 -- The rules by which its facts are taken further.
 abbrev pub rules_of : Version → Rules

@@ -3,6 +3,7 @@
 #![tactic(auto)]
 
 mod fact;
+mod asked;
 pub mod laws;
 mod location;
 mod brief;

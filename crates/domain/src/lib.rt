@@ -3,8 +3,10 @@
 #![tactic(auto)]
 
 mod fact;
+mod joining;
 mod asked;
 pub mod laws;
+mod lengths;
 mod location;
 mod brief;
 mod cell_sets;

@@ -11,3 +11,5 @@ pub mod Access
 pub mod Equations
 pub mod Starts
 pub mod PlaceInCode
+pub mod Entailing
+pub mod Landing

@@ -17,3 +17,9 @@ pub type NextFact = SumFact<136, 202>;
 
 /// Room for a part of an outcome: the fact of one link, narrowed.
 pub type PartFact = SumFact<612, 678>;
+
+/// Room for a part with the set of one of its names met with that of another fact.
+pub type ChosenFact = SumFact<613, 678>;
+
+/// Room for such a fact, narrowed.
+pub type MetFact = SumFact<2041, 2106>;

@@ -18,4 +18,3 @@ pub mod Laws
 pub mod CellsInCode
 pub mod RelationsInCode
 pub mod FactInCode
-pub mod Joining

@@ -3,7 +3,6 @@
 #![tactic(auto)]
 
 mod fact;
-mod joining;
 mod asked;
 pub mod laws;
 mod lengths;

@@ -13,3 +13,4 @@ pub mod Starts
 pub mod PlaceInCode
 pub mod Entailing
 pub mod Landing
+pub mod PartInCode

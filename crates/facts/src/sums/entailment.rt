@@ -25,6 +25,7 @@ ghost use Rattle.facts.specs.Sums.Entailing.{EachWithin, EntailsRegisters, Gives
 ghost use Rattle.facts.specs.Sums.Entailment.{Among, EachGives, Entails, KnowsAll, KnowsBy, ShowsChain, ShowsChains, ShowsDifference};
 ghost use Rattle.facts.specs.Sums.PlaceInCode.{place_in_code};
 
+use super::known::KnownFact;
 use super::place::Place;
 use domain::{BriefSet, CellSet, CellSets, Chain, Location, Relation, Rules, Sum, SumFact, Term, negated};
 use std::alloc::Allocator;
@@ -81,18 +82,6 @@ pub fn is_void<const C: usize, const R: usize>(fact: &SumFact<C, R>) -> bool
         return true;
     }
     lacks_some_relation(fact.relations().as_slice())
-}
-
-/// Whether an entry of a cell shows that the cell has no word outside a set.
-fn shows_within(cells: &[CellSet], cell: Word, set: &BriefSet) -> bool
-    ensures { IsTrue result → IsWithin (tracked cell (map cell_set_of cells.now)) (brief_words set.now) }
-{
-    for entry in cells {
-        if entry.cell == cell && entry.set.is_subset(set) {
-            return true;
-        }
-    }
-    false
 }
 
 /// Whether two relations have one sum and the same words.
@@ -292,46 +281,58 @@ fn permits_all<'a>(
 }
 
 impl<A: Allocator> Place<'_, A> {
+    /// Puts the words that a name may hold, by a fact of which something is asked, into a place for them. By the rules of sums
+    /// the fact is narrowed already; by those of equations it stands as it was told.
+    fn put_known<K: KnownFact>(&self, fact: &K, name: &Location, place: &mut WordSet)
+        ensures { words place.new ≡
+            words_known (place_in_code self.now) (K.known fact.now) (location_of name.now) }
+    {
+        match &self.rules {
+            Rules::OfSums => fact.put_set_of(name, place),
+            Rules::OfEquations => fact.put_narrowed(self.image, name, place),
+        }
+    }
+
     /// Whether a name has no word outside a set.
-    fn has_within<const C: usize, const R: usize>(
+    fn has_within<K: KnownFact>(
         &self,
-        fact: &SumFact<C, R>,
+        fact: &K,
         name: &Location,
         set: &BriefSet,
     ) -> bool
         ensures { IsTrue result ↔
-            IsWithin (words_known (place_in_code self.now) (fact_in_code fact.now) (location_of name.now)) (brief_words set.now) }
+            IsWithin (words_known (place_in_code self.now) (K.known fact.now) (location_of name.now)) (brief_words set.now) }
     {
         let mut known = WordSet::all();
-        self.put_words_known(fact, name, &mut known);
+        self.put_known(fact, name, &mut known);
         set.has_all(&known)
     }
 
     /// The one word that a name may hold, if there is one and no other.
-    fn only_known<const C: usize, const R: usize>(&self, fact: &SumFact<C, R>, name: &Location) -> Option<Word>
+    fn only_known<K: KnownFact>(&self, fact: &K, name: &Location) -> Option<Word>
         ensures { result ≡
-            only (words_known (place_in_code self.now) (fact_in_code fact.now) (location_of name.now)) }
+            only (words_known (place_in_code self.now) (K.known fact.now) (location_of name.now)) }
     {
         let mut known = WordSet::all();
-        self.put_words_known(fact, name, &mut known);
+        self.put_known(fact, name, &mut known);
         known.only()
     }
 
     /// Whether a cell has no word that another fact's entry excludes; its set as it stands is tried first.
-    fn has_cell_within<const C: usize, const R: usize>(&self, fact: &SumFact<C, R>, entry: &CellSet) -> bool
+    fn has_cell_within<K: KnownFact>(&self, fact: &K, entry: &CellSet) -> bool
         ensures { IsTrue result ↔
-            IsWithin (words_known (place_in_code self.now) (fact_in_code fact.now) (Cell entry.now.cell)) (brief_words entry.now.set) }
+            IsWithin (words_known (place_in_code self.now) (K.known fact.now) (Cell entry.now.cell)) (brief_words entry.now.set) }
     {
-        if shows_within(fact.cells().as_slice(), entry.cell, &entry.set) {
+        if fact.has_plainly_within(entry.cell, &entry.set) {
             return true;
         }
         self.has_within(fact, &Location::Cell(entry.cell), &entry.set)
     }
 
     /// Whether no cell has a word that another fact's entries exclude.
-    fn has_each_within<const C: usize, const R: usize>(&self, fact: &SumFact<C, R>, cells: &[CellSet]) -> bool
+    fn has_each_within<K: KnownFact>(&self, fact: &K, cells: &[CellSet]) -> bool
         ensures { IsTrue result ↔
-            EachWithin (place_in_code self.now) (fact_in_code fact.now) (map cell_set_of cells.now) }
+            EachWithin (place_in_code self.now) (K.known fact.now) (map cell_set_of cells.now) }
     {
         for entry in cells {
             if !self.has_cell_within(fact, entry) {
@@ -342,26 +343,26 @@ impl<A: Allocator> Place<'_, A> {
     }
 
     /// Whether the accumulator has no word outside a set; its set as it stands is tried first.
-    fn has_accumulator_within<const C: usize, const R: usize>(&self, fact: &SumFact<C, R>, set: &WordSet) -> bool
+    fn has_accumulator_within<K: KnownFact>(&self, fact: &K, set: &WordSet) -> bool
         ensures { IsTrue result ↔
-            IsWithin (words_known (place_in_code self.now) (fact_in_code fact.now) Ac) (words set.now) }
+            IsWithin (words_known (place_in_code self.now) (K.known fact.now) Ac) (words set.now) }
     {
         if fact.accumulator().is_subset(set) {
             return true;
         }
         let mut known = WordSet::all();
-        self.put_words_known(fact, &Location::Accumulator, &mut known);
+        self.put_known(fact, &Location::Accumulator, &mut known);
         known.is_subset(set)
     }
 
     /// Whether another fact allows what is known of the link, MQ, offsets, sites and the accumulator.
-    fn entails_registers<const C: usize, const R: usize, const D: usize, const S: usize>(
+    fn entails_registers<K: KnownFact, const C: usize, const R: usize>(
         &self,
-        fact: &SumFact<C, R>,
-        other: &SumFact<D, S>,
+        fact: &K,
+        other: &SumFact<C, R>,
     ) -> bool
         ensures { IsTrue result ↔
-            EntailsRegisters (place_in_code self.now) (fact_in_code fact.now) (fact_in_code other.now) }
+            EntailsRegisters (place_in_code self.now) (K.known fact.now) (fact_in_code other.now) }
     {
         if !fact.link().is_subset(other.link()) {
             return false;
@@ -379,9 +380,9 @@ impl<A: Allocator> Place<'_, A> {
     }
 
     /// Whether a fact's own relations of a sum of several terms leave it no word outside a set.
-    fn tells_within<const C: usize, const R: usize>(&self, fact: &SumFact<C, R>, relation: &Relation) -> bool
+    fn tells_within<K: KnownFact>(&self, fact: &K, relation: &Relation) -> bool
         ensures { IsTrue result →
-            IsWithin (said_of (image_of self.now.image.now) (fact_in_code fact.now) (sum_of relation.now.sum)) (brief_words relation.now.set) }
+            IsWithin (said_of (image_of self.now.image.now) (K.known fact.now) (sum_of relation.now.sum)) (brief_words relation.now.set) }
     {
         if relation.sum.len() < 2 {
             return false;
@@ -392,9 +393,9 @@ impl<A: Allocator> Place<'_, A> {
     }
 
     /// Whether what a fact says of a relation's sum is within the relation's set; what its own relations say is tried first.
-    fn says_within<const C: usize, const R: usize>(&self, fact: &SumFact<C, R>, relation: &Relation) -> bool
+    fn says_within<K: KnownFact>(&self, fact: &K, relation: &Relation) -> bool
         ensures { IsTrue result ↔
-            IsWithin (said_of (image_of self.now.image.now) (fact_in_code fact.now) (sum_of relation.now.sum)) (brief_words relation.now.set) }
+            IsWithin (said_of (image_of self.now.image.now) (K.known fact.now) (sum_of relation.now.sum)) (brief_words relation.now.set) }
     {
         if self.tells_within(fact, relation) {
             return true;
@@ -405,15 +406,15 @@ impl<A: Allocator> Place<'_, A> {
     }
 
     /// Whether one word is left to each of two names, and their difference is in a set.
-    fn shows_of_names<const C: usize, const R: usize>(
+    fn shows_of_names<K: KnownFact>(
         &self,
-        fact: &SumFact<C, R>,
+        fact: &K,
         left: &Location,
         right: &Location,
         set: &BriefSet,
     ) -> bool
         ensures { IsTrue result ↔
-            ShowsOfNames (place_in_code self.now) (fact_in_code fact.now) (location_of left.now) (location_of right.now) (brief_words set.now) }
+            ShowsOfNames (place_in_code self.now) (K.known fact.now) (location_of left.now) (location_of right.now) (brief_words set.now) }
     {
         let Some(x) = self.only_known(fact, left) else {
             return false;
@@ -425,9 +426,9 @@ impl<A: Allocator> Place<'_, A> {
     }
 
     /// Whether one word is left to each of two names, of which a relation gives the difference, and these fulfil it.
-    fn shows_difference<const C: usize, const R: usize>(&self, fact: &SumFact<C, R>, relation: &Relation) -> bool
+    fn shows_difference<K: KnownFact>(&self, fact: &K, relation: &Relation) -> bool
         ensures { IsTrue result ↔
-            ShowsDifference (place_in_code self.now) (fact_in_code fact.now) (relation_of relation.now) }
+            ShowsDifference (place_in_code self.now) (K.known fact.now) (relation_of relation.now) }
     {
         match subtracted_names(&relation.sum) {
             None => false,
@@ -436,22 +437,22 @@ impl<A: Allocator> Place<'_, A> {
     }
 
     /// Whether a fact knows a relation, by the rules of the place.
-    fn knows<const C: usize, const R: usize>(&self, fact: &SumFact<C, R>, relation: &Relation) -> bool
-        ensures { IsTrue result ↔ KnowsBy (place_in_code self.now).rules (place_in_code self.now) (fact_in_code fact.now)
+    fn knows<K: KnownFact>(&self, fact: &K, relation: &Relation) -> bool
+        ensures { IsTrue result ↔ KnowsBy (place_in_code self.now).rules (place_in_code self.now) (K.known fact.now)
             (relation_of relation.now) }
     {
         match &self.rules {
             Rules::OfSums => self.says_within(fact, relation),
             Rules::OfEquations => {
-                is_among(relation, fact.relations().as_slice()) || self.shows_difference(fact, relation)
+                is_among(relation, fact.relations()) || self.shows_difference(fact, relation)
             }
         }
     }
 
     /// Whether a fact knows all of some relations.
-    fn knows_all<const C: usize, const R: usize>(&self, fact: &SumFact<C, R>, relations: &[Relation]) -> bool
+    fn knows_all<K: KnownFact>(&self, fact: &K, relations: &[Relation]) -> bool
         ensures { IsTrue result ↔
-            KnowsAll (place_in_code self.now) (fact_in_code fact.now) (map relation_of relations.now) }
+            KnowsAll (place_in_code self.now) (K.known fact.now) (map relation_of relations.now) }
     {
         for relation in relations {
             if !self.knows(fact, relation) {
@@ -463,21 +464,21 @@ impl<A: Allocator> Place<'_, A> {
 
     /// Whether a fact shows that a chain is true: whatever word of the chain's cell, whatever word of the accumulator and
     /// whatever link it allows together, the chain gives the two of the cell's word.
-    fn shows_chain<const C: usize, const R: usize>(&self, fact: &SumFact<C, R>, chain: &Chain) -> bool
+    fn shows_chain<K: KnownFact>(&self, fact: &K, chain: &Chain) -> bool
         ensures { IsTrue result ↔
-            ShowsChain (place_in_code self.now) (fact_in_code fact.now) (chain_of chain.now) }
+            ShowsChain (place_in_code self.now) (K.known fact.now) (chain_of chain.now) }
     {
         let mut cells = WordSet::all();
-        self.put_words_known(fact, &Location::Cell(chain.cell()), &mut cells);
+        self.put_known(fact, &Location::Cell(chain.cell()), &mut cells);
         let mut accumulators = WordSet::all();
-        self.put_words_known(fact, &Location::Accumulator, &mut accumulators);
+        self.put_known(fact, &Location::Accumulator, &mut accumulators);
         permits_all(chain, &cells, &accumulators, fact.link(), fact.chains())
     }
 
     /// Whether it shows all of some chains.
-    fn shows_chains<const C: usize, const R: usize>(&self, fact: &SumFact<C, R>, chains: &[Chain]) -> bool
+    fn shows_chains<K: KnownFact>(&self, fact: &K, chains: &[Chain]) -> bool
         ensures { IsTrue result ↔
-            ShowsChains (place_in_code self.now) (fact_in_code fact.now) (map chain_of chains.now) }
+            ShowsChains (place_in_code self.now) (K.known fact.now) (map chain_of chains.now) }
     {
         for chain in chains {
             if !self.shows_chain(fact, chain) {
@@ -489,13 +490,13 @@ impl<A: Allocator> Place<'_, A> {
 
     /// Whether a fact entails another: what the one leaves possible the other allows. By the rules of sums the first one is
     /// narrowed already.
-    pub fn entails<const C: usize, const R: usize, const D: usize, const S: usize>(
+    pub fn entails<K: KnownFact, const C: usize, const R: usize>(
         &self,
-        fact: &SumFact<C, R>,
-        other: &SumFact<D, S>,
+        fact: &K,
+        other: &SumFact<C, R>,
     ) -> bool
         ensures { IsTrue result ↔
-            Entails (place_in_code self.now) (fact_in_code fact.now) (fact_in_code other.now) }
+            Entails (place_in_code self.now) (K.known fact.now) (fact_in_code other.now) }
     {
         if !self.entails_registers(fact, other) {
             return false;

@@ -1,6 +1,6 @@
 //! When a fact lands among several: whether one of them holds of each state of the fact.
 
-ghost use Rattle.std.specs.Prelude.{ℕ, ◌≡◌, ◌<◌, ◌≤◌, ◌↔◌, ◌⊎◌, IsTrue, true, false, map};
+ghost use Rattle.std.specs.Prelude.{ℕ, ◌≡◌, ◌<◌, ◌↔◌, ◌⊎◌, IsTrue, true, false, map};
 ghost use Rattle.wordset.specs.Words.{all_words};
 ghost use Rattle.wordset.specs.Lanes.{words};
 ghost use Rattle.domain.specs.Facts.{Ac, Cell};
@@ -9,26 +9,25 @@ ghost use Rattle.domain.specs.Statements.{tracked};
 ghost use Rattle.domain.specs.Sums.Adding.{is_void};
 ghost use Rattle.domain.specs.Sums.CellsInCode.{cell_set_of};
 ghost use Rattle.domain.specs.Sums.FactInCode.{fact_in_code};
-ghost use Rattle.facts.specs.Sums.Entailment.{EntailsOne, IsSplit, PartLands, met_at, with_one_link, Lands, IsIdle};
-ghost use Rattle.facts.specs.Sums.Landing.{Takes, TakesAt, IsSplitBy, AllowAll, IsTakenWhole, LandsUnder, IsIdleUnder};
+ghost use Rattle.facts.specs.Sums.Entailment.{EntailsOne, IsSplit, PartLands, Lands, IsIdle};
+ghost use Rattle.facts.specs.Sums.Landing.{TakesAt, IsSplitBy, AllowAll, LandsUnder, IsIdleUnder};
 ghost use Rattle.facts.specs.Sums.PlaceInCode.{place_in_code};
 
-use super::entailment::is_void;
+use super::known::KnownFact;
+use super::parts::{LinkPart, Part};
 use super::place::Place;
-use super::rooms::{ChosenFact, Fact, MetFact, NextFact, PartFact};
+use super::rooms::{Fact, NextFact};
 use super::source::FactSource;
 use domain::{CellSet, Location, Rules, SumFact};
 use std::alloc::Allocator;
 use word12::Link;
-use wordset::{Links, WordSet};
+use wordset::WordSet;
 
 /// Room for asking whether a fact lands. What stands in it doesn't matter: the same serves for one fact after another.
 #[derive(Drop)]
 pub struct LandingRooms {
     given: Fact,
-    part: PartFact,
-    chosen: ChosenFact,
-    met: MetFact,
+    part: LinkPart,
 }
 
 impl LandingRooms {
@@ -36,9 +35,7 @@ impl LandingRooms {
     pub fn new() -> LandingRooms {
         LandingRooms {
             given: SumFact::any(),
-            part: SumFact::any(),
-            chosen: SumFact::any(),
-            met: SumFact::any(),
+            part: LinkPart::new(),
         }
     }
 }
@@ -51,14 +48,6 @@ fn add_cells(cells: &[CellSet], told: &mut WordSet)
     for entry in cells {
         told.insert(entry.cell);
     }
-}
-
-/// The proof needs each cell to be looked at, since each is a word.
-fn look_at_cells(cells: &[CellSet])
-    ensures { (a : ℕ) → 4096 ≤ a → tracked a (map cell_set_of cells.now) ≡ all_words }
-{
-    let mut told = WordSet::empty();
-    add_cells(cells, &mut told);
 }
 
 /// The cells of which some fact tells.
@@ -75,13 +64,8 @@ fn cells_told<F: FactSource>(among: &F, given: &mut Fact) -> WordSet
 
 impl<A: Allocator> Place<'_, A> {
     /// Whether a fact entails one of some.
-    pub fn entails_one<const C: usize, const R: usize, F: FactSource>(
-        &self,
-        fact: &SumFact<C, R>,
-        among: &F,
-        given: &mut Fact,
-    ) -> bool
-        ensures { IsTrue result ↔ EntailsOne (place_in_code self.now) (fact_in_code fact.now) (F.facts among.now) }
+    pub fn entails_one<K: KnownFact, F: FactSource>(&self, fact: &K, among: &F, given: &mut Fact) -> bool
+        ensures { IsTrue result ↔ EntailsOne (place_in_code self.now) (K.known fact.now) (F.facts among.now) }
     {
         for at in 0..among.len() {
             among.put(at, given);
@@ -92,59 +76,13 @@ impl<A: Allocator> Place<'_, A> {
         false
     }
 
-    /// Narrows a fact with one link alone; the fact itself is left as it was.
-    fn put_part(&self, fact: &mut NextFact, link: Link, part: &mut PartFact)
-        ensures part { fact_in_code part.new ≡ with_one_link (place_in_code self.now) link (fact_in_code fact.old) }
-        ensures kept { fact_in_code fact.new ≡ fact_in_code fact.old }
-    {
-        let links = fact.link();
-        fact.set_link(Links::one(link));
-        fact.is_within_room();
-        part.narrow(self.image, fact);
-        fact.set_link(links);
-    }
-
-    /// Narrows a part of a fact with a name's set met with that of another fact.
-    fn put_met(&self, part: &PartFact, name: &Location, other: &Fact, chosen: &mut ChosenFact, met: &mut MetFact)
-        ensures { fact_in_code met.new ≡
-            met_at (place_in_code self.now) (location_of name.now) (fact_in_code part.now) (fact_in_code other.now) }
-    {
-        let mut set = WordSet::all();
-        part.put_set_of(name, &mut set);
-        let mut others = WordSet::all();
-        other.put_set_of(name, &mut others);
-        part.is_within_room();
-        chosen.copy_from(part);
-        chosen.set_name(name, &set.meet(&others));
-        chosen.is_within_room();
-        met.narrow(self.image, chosen);
-    }
-
-    /// Whether what another fact's set of a name leaves of a part entails that fact, or no state satisfies it.
-    fn takes(&self, part: &PartFact, name: &Location, other: &Fact, chosen: &mut ChosenFact, met: &mut MetFact) -> bool
-        ensures { IsTrue result ↔
-            Takes (place_in_code self.now) (location_of name.now) (fact_in_code part.now) (fact_in_code other.now) }
-    {
-        self.put_met(part, name, other, chosen, met);
-        if is_void(met) {
-            return true;
-        }
-        self.entails(met, other)
-    }
-
     /// Adds another fact's words of a name to those that are taken, if it takes what they leave of a part. It isn't asked
     /// where each of them that the part may have is taken already.
-    fn add_taken(
-        &self,
-        part: &PartFact,
-        name: &Location,
-        other: &Fact,
-        chosen: &mut ChosenFact,
-        met: &mut MetFact,
-        taken: &mut WordSet,
-    )
-        ensures { (v : ℕ) → (fact_in_code part.now).set (location_of name.now) v ≡ true → (words taken.new v ≡ true) ↔
-            ((words taken.old v ≡ true) ⊎ TakesAt (place_in_code self.now) (location_of name.now) v (fact_in_code part.now) (fact_in_code other.now)) }
+    fn add_taken<P: Part>(&self, part: &mut P, name: &Location, other: &Fact, taken: &mut WordSet)
+        ensures taken { (v : ℕ) → v < 4096 → (P.part part.old).set (location_of name.now) v ≡ true →
+            (words taken.new v ≡ true) ↔ ((words taken.old v ≡ true) ⊎
+            TakesAt (place_in_code self.now) (location_of name.now) v (P.part part.old) (fact_in_code other.now)) }
+        ensures kept { P.part part.new ≡ P.part part.old }
     {
         let mut set = WordSet::all();
         part.put_set_of(name, &mut set);
@@ -153,119 +91,72 @@ impl<A: Allocator> Place<'_, A> {
         if set.meet(&others).is_subset(taken) {
             return;
         }
-        if self.takes(part, name, other, chosen, met) {
+        if part.is_taken(self, name, other) {
             *taken = taken.union(&others);
         }
     }
 
-    /// Whether a part of a fact is split among some facts by the words of a name.
-    fn is_split_by<F: FactSource>(
-        &self,
-        part: &PartFact,
-        name: &Location,
-        among: &F,
-        given: &mut Fact,
-        chosen: &mut ChosenFact,
-        met: &mut MetFact,
-    ) -> bool
-        ensures { IsTrue result ↔
-            IsSplitBy (place_in_code self.now) (location_of name.now) (fact_in_code part.now) (F.facts among.now) }
+    /// Whether a part is split among some facts by the words of a name.
+    fn is_split_by<P: Part, F: FactSource>(&self, part: &mut P, name: &Location, among: &F, given: &mut Fact) -> bool
+        ensures split { IsTrue result ↔
+            IsSplitBy (place_in_code self.now) (location_of name.now) (P.part part.old) (F.facts among.now) }
+        ensures kept { P.part part.new ≡ P.part part.old }
     {
         let mut taken = WordSet::empty();
         for at in 0..among.len() {
             among.put(at, given);
-            self.add_taken(part, name, given, chosen, met, &mut taken);
+            self.add_taken(part, name, given, &mut taken);
         }
         let mut set = WordSet::all();
         part.put_set_of(name, &mut set);
         set.is_subset(&taken)
     }
 
-    /// Whether a part of a fact is split among some facts by the words of a cell of which one of them tells.
-    fn is_split_by_told<F: FactSource>(
-        &self,
-        part: &PartFact,
-        among: &F,
-        given: &mut Fact,
-        chosen: &mut ChosenFact,
-        met: &mut MetFact,
-    ) -> bool
-        ensures split { IsTrue result → IsSplit (place_in_code self.now) (fact_in_code part.now) (F.facts among.now) }
+    /// Whether a part is split among some facts by the words of a cell of which one of them tells.
+    fn is_split_by_told<P: Part, F: FactSource>(&self, part: &mut P, among: &F, given: &mut Fact) -> bool
+        ensures split { IsTrue result → IsSplit (place_in_code self.now) (P.part part.old) (F.facts among.now) }
         ensures left { result ≡ false → (x : ℕ) →
-            IsSplitBy (place_in_code self.now) (Cell x) (fact_in_code part.now) (F.facts among.now) → AllowAll (Cell x) (F.facts among.now) }
+            IsSplitBy (place_in_code self.now) (Cell x) (P.part part.old) (F.facts among.now) → AllowAll (Cell x) (F.facts among.now) }
+        ensures kept { P.part part.new ≡ P.part part.old }
     {
         let told = cells_told(among, given);
         for cell in told.iter() {
-            if self.is_split_by(part, &Location::Cell(cell), among, given, chosen, met) {
+            if self.is_split_by(part, &Location::Cell(cell), among, given) {
                 return true;
             }
         }
         false
     }
 
-    /// Whether a part of a fact, narrowed once more, entails one of some facts, or no state satisfies it then and there is
-    /// one. This is what a split comes to by a cell of which none of them tells.
-    fn is_split_by_untold<F: FactSource>(
-        &self,
-        part: &PartFact,
-        among: &F,
-        given: &mut Fact,
-        met: &mut MetFact,
-    ) -> bool
-        ensures { IsTrue result ↔
-            IsTakenWhole (place_in_code self.now) (fact_in_code part.now) (F.facts among.now) }
+    /// Whether a part is split among some facts by a name: the accumulator, a cell of which one of them tells, or one of which
+    /// none does. There is always one of those beyond the machine's memory, and it doesn't matter which it is.
+    fn is_split<P: Part, F: FactSource>(&self, part: &mut P, among: &F, given: &mut Fact) -> bool
+        requires { is_void (P.part part.old) ≡ false }
+        ensures split { IsTrue result ↔ IsSplit (place_in_code self.now) (P.part part.old) (F.facts among.now) }
+        ensures kept { P.part part.new ≡ P.part part.old }
     {
-        part.is_within_room();
-        met.narrow(self.image, part);
-        if is_void(met) {
-            return among.len() > 0;
-        }
-        self.entails_one(met, among, given)
-    }
-
-    /// Whether a part of a fact is split among some facts by a name: the accumulator, a cell of which one of them tells, or
-    /// one of which none does. There is always one of those beyond the machine's memory, and it doesn't matter which it is.
-    fn is_split<F: FactSource>(
-        &self,
-        part: &PartFact,
-        among: &F,
-        given: &mut Fact,
-        chosen: &mut ChosenFact,
-        met: &mut MetFact,
-    ) -> bool
-        requires { is_void (fact_in_code part.now) ≡ false }
-        ensures { IsTrue result ↔
-            IsSplit (place_in_code self.now) (fact_in_code part.now) (F.facts among.now) }
-    {
-        look_at_cells(part.cells().as_slice());
-        if self.is_split_by(part, &Location::Accumulator, among, given, chosen, met) {
+        part.has_words();
+        if self.is_split_by(part, &Location::Accumulator, among, given) {
             return true;
         }
-        if self.is_split_by_told(part, among, given, chosen, met) {
+        if self.is_split_by_told(part, among, given) {
             return true;
         }
-        self.is_split_by_untold(part, among, given, met)
+        part.is_taken_whole(self, among, given)
     }
 
     /// Whether a narrowed fact of one link lands among some facts.
-    fn part_lands<F: FactSource>(
-        &self,
-        part: &PartFact,
-        among: &F,
-        given: &mut Fact,
-        chosen: &mut ChosenFact,
-        met: &mut MetFact,
-    ) -> bool
-        ensures { IsTrue result ↔
-            PartLands (place_in_code self.now) (fact_in_code part.now) (F.facts among.now) }
+    pub(crate) fn part_lands<P: Part, F: FactSource>(&self, part: &mut P, among: &F, given: &mut Fact) -> bool
+        ensures lands { IsTrue result ↔ PartLands (place_in_code self.now) (P.part part.old) (F.facts among.now) }
+        ensures kept { P.part part.new ≡ P.part part.old }
     {
-        if is_void(part) {
+        if part.is_none() {
             return true;
         }
-        if self.entails_one(part, among, given) {
+        if part.entails_one(self, among, given) {
             return true;
         }
-        self.is_split(part, among, given, chosen, met)
+        self.is_split(part, among, given)
     }
 
     /// Whether a fact lands among some facts under a link, if it allows the link. The fact itself is left as it was.
@@ -277,14 +168,9 @@ impl<A: Allocator> Place<'_, A> {
         if !fact.link().contains(link) {
             return true;
         }
-        let LandingRooms {
-            given,
-            part,
-            chosen,
-            met,
-        } = rooms;
-        self.put_part(fact, link, part);
-        self.part_lands(part, among, given, chosen, met)
+        let LandingRooms { given, part } = rooms;
+        part.take(self, fact, link);
+        self.part_lands(part, among, given)
     }
 
     /// Whether a fact lands among some facts: by the rules of sums for each of its links alone, and by those of equations if it
@@ -306,15 +192,16 @@ impl<A: Allocator> Place<'_, A> {
     }
 
     /// Whether no state satisfies a fact under a link, if it allows the link. The fact itself is left as it was.
-    fn is_idle_under(&self, fact: &mut NextFact, link: Link, part: &mut PartFact) -> bool
+    fn is_idle_under(&self, fact: &mut NextFact, link: Link, rooms: &mut LandingRooms) -> bool
         ensures idle { IsTrue result ↔ IsIdleUnder (place_in_code self.now) link (fact_in_code fact.old) }
         ensures kept { fact_in_code fact.new ≡ fact_in_code fact.old }
     {
         if !fact.link().contains(link) {
             return true;
         }
-        self.put_part(fact, link, part);
-        is_void(part)
+        let LandingRooms { part, .. } = rooms;
+        part.take(self, fact, link);
+        part.is_none()
     }
 
     /// Whether nothing need be asked of a fact: by the rules of sums, no state satisfies it under any link. The fact itself is
@@ -327,10 +214,10 @@ impl<A: Allocator> Place<'_, A> {
         match &self.rules {
             Rules::OfEquations => false,
             Rules::OfSums => {
-                if !self.is_idle_under(fact, Link::CLEAR, &mut rooms.part) {
+                if !self.is_idle_under(fact, Link::CLEAR, rooms) {
                     return false;
                 }
-                self.is_idle_under(fact, Link::SET, &mut rooms.part)
+                self.is_idle_under(fact, Link::SET, rooms)
             }
         }
     }

@@ -18,6 +18,7 @@ mod sets;
 mod shapes;
 mod sum_fact;
 mod sum_moves;
+mod taking;
 mod terms;
 mod tracking;
 

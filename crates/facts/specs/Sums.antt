@@ -11,3 +11,4 @@ pub mod Access
 pub mod Equations
 pub mod Starts
 pub mod PlaceInCode
+pub mod OutcomesInCode

@@ -1,7 +1,12 @@
 //! Facts whose relations are of sums, and what each instruction makes of them, by the rules of all versions of certificates.
 
+mod conditions;
+mod outcomes;
 mod place;
+mod references;
+mod registers;
 mod rooms;
 
+pub use outcomes::{Kind, Outcome, Outcomes};
 pub use place::Place;
-pub use rooms::{Fact, NarrowedFact, NextFact, PartFact};
+pub use rooms::{Fact, NarrowedFact, NextFact, PartFact, SteppedFact};

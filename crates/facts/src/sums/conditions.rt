@@ -1,19 +1,17 @@
 //! The cells that one word at the address of a fact may read, write or call, and what is asked of them.
 
 ghost use Rattle.std.specs.Prelude.{ℕ, ◌≡◌, ◌<◌, ◌≤◌, ◌==◌, ◌&&◌, ◌||◌, ◌↔◌, ◌⊎◌, IsTrue, Some, true, false};
-ghost use Rattle.wordset.specs.Words.{Words};
 ghost use Rattle.wordset.specs.Lanes.{words};
 ghost use Rattle.instruct.specs.declared.Instruction.TheVariants.{Memory};
-ghost use Rattle.instruct.specs.Instructions.{kind_of, meaning_of};
+ghost use Rattle.instruct.specs.Instructions.{kind_of};
 ghost use Rattle.declaration.specs.Declaration.{IsListed};
 ghost use Rattle.domain.specs.Facts.{is_routine};
 ghost use Rattle.domain.specs.Sums.Facts as said;
 ghost use Rattle.domain.specs.Sums.FactInCode.{fact_in_code, rules_of};
+ghost use Rattle.domain.specs.Sums.Offsets.{offsets_in};
 ghost use Rattle.facts.specs.Conditions.{MayWrite};
-ghost use Rattle.facts.specs.Conditions as before;
-ghost use Rattle.facts.specs.Sums.References.{targets, own_words};
 ghost use Rattle.facts.specs.Sums.Conditions.{may_read, may_write, called, WritesAreDeclared, EntriesAreKept, WritesAreListed, ReadsAreListed, MayCount, CountsItsReturn};
-ghost use Rattle.facts.specs.Sums.PlaceInCode.{place_in_code, meaning_there};
+ghost use Rattle.facts.specs.Sums.PlaceInCode.{place_in_code, meaning_in};
 
 use crate::conditions::{counts, named_if, reads_operand, stores};
 use crate::asked::is_jms;
@@ -63,7 +61,7 @@ fn may_count<const C: usize, const R: usize>(rules: &Rules, fact: &SumFact<C, R>
 impl<A: Allocator> Place<'_, A> {
     /// Whether a word is a memory reference.
     fn is_reference(&self, word: Word) -> bool
-        ensures { (at : ℕ) → IsTrue result ↔ (kind_of (meaning_there (place_in_code self.now) at word) ≡ Memory) }
+        ensures { (at : ℕ) → IsTrue result ↔ (kind_of (meaning_in (place_in_code self.now) at word) ≡ Memory) }
     {
         matches!(
             decode(word, self.declaration.profile()),
@@ -74,7 +72,7 @@ impl<A: Allocator> Place<'_, A> {
     /// Whether a word is of those that write, a JMS apart: where it is not it writes nothing.
     fn is_writing(&self, at: Word, word: Word) -> bool
         ensures { result ≡ false → (f : said.Fact) (a : ℕ) →
-            may_write (place_in_code self.now) f (meaning_there (place_in_code self.now) at word) a ≡ false }
+            may_write (place_in_code self.now) f (meaning_in (place_in_code self.now) at word) a ≡ false }
     {
         if !self.is_reference(word) {
             return false;
@@ -92,7 +90,7 @@ impl<A: Allocator> Place<'_, A> {
         place: &mut WordSet,
     )
         ensures { words place.new ≡ may_read (place_in_code self.now) (fact_in_code fact.now)
-            (meaning_there (place_in_code self.now) at word) }
+            (meaning_in (place_in_code self.now) at word) }
     {
         if !self.is_reference(word) {
             *place = WordSet::empty();
@@ -119,7 +117,7 @@ impl<A: Allocator> Place<'_, A> {
         place: &mut WordSet,
     )
         ensures { words place.new ≡ may_write (place_in_code self.now) (fact_in_code fact.now)
-            (meaning_there (place_in_code self.now) at word) }
+            (meaning_in (place_in_code self.now) at word) }
     {
         if !self.is_reference(word) {
             *place = WordSet::empty();
@@ -146,7 +144,7 @@ impl<A: Allocator> Place<'_, A> {
         place: &mut WordSet,
     )
         ensures { words place.new ≡ called (place_in_code self.now) (fact_in_code fact.now)
-            (meaning_there (place_in_code self.now) at word) }
+            (meaning_in (place_in_code self.now) at word) }
     {
         if !self.is_reference(word) {
             *place = WordSet::empty();
@@ -188,7 +186,7 @@ impl<A: Allocator> Place<'_, A> {
     /// and below.
     pub fn writes_are_declared<const C: usize, const R: usize>(&self, fact: &SumFact<C, R>, at: Word, word: Word) -> bool
         ensures { IsTrue result ↔ WritesAreDeclared (place_in_code self.now) (fact_in_code fact.now)
-            (meaning_there (place_in_code self.now) at word) }
+            (meaning_in (place_in_code self.now) at word) }
     {
         if !self.is_writing(at, word) {
             return true;
@@ -208,7 +206,7 @@ impl<A: Allocator> Place<'_, A> {
         entry: Word,
     ) -> bool
         ensures { IsTrue result ↔ CountsItsReturn (place_in_code self.now) (fact_in_code fact.now)
-            (meaning_there (place_in_code self.now) at word) entry }
+            (meaning_in (place_in_code self.now) at word) entry }
     {
         if !self.is_reference(word) {
             return false;
@@ -240,7 +238,7 @@ impl<A: Allocator> Place<'_, A> {
     ) -> bool
         ensures { IsTrue result ↔ ((place_in_code self.now).declaration.entry cell ≡ true →
             CountsItsReturn (place_in_code self.now) (fact_in_code fact.now)
-            (meaning_there (place_in_code self.now) at word) cell) }
+            (meaning_in (place_in_code self.now) at word) cell) }
     {
         if !self.declaration.is_entry(cell) {
             return true;
@@ -252,7 +250,7 @@ impl<A: Allocator> Place<'_, A> {
     /// target, where that may be counted up once more.
     pub fn entries_are_kept<const C: usize, const R: usize>(&self, fact: &SumFact<C, R>, at: Word, word: Word) -> bool
         ensures { IsTrue result ↔ EntriesAreKept (place_in_code self.now) (fact_in_code fact.now)
-            (meaning_there (place_in_code self.now) at word) }
+            (meaning_in (place_in_code self.now) at word) }
     {
         if !self.is_writing(at, word) {
             return true;
@@ -282,6 +280,17 @@ impl<A: Allocator> Place<'_, A> {
         }
     }
 
+    /// Whether the running routine may write each of some cells: those of its written set and its own entry; in main all.
+    fn may_write(&self, listed: &WordSet, cells: &WordSet) -> bool
+        ensures { IsTrue result ↔ ((a : ℕ) → a < 4096 → words cells.now a ≡ true →
+            MayWrite (words listed.now) (place_in_code self.now).routine a) }
+    {
+        match self.routine {
+            None => true,
+            Some(_) => cells.is_subset(&self.with_own(listed)),
+        }
+    }
+
     /// Whether each cell that a word may write is one that the running routine may write: one of its written set, which is
     /// given, or its own entry; in main any.
     pub fn writes_are_listed<const C: usize, const R: usize>(
@@ -292,17 +301,14 @@ impl<A: Allocator> Place<'_, A> {
         listed: &WordSet,
     ) -> bool
         ensures { IsTrue result ↔ WritesAreListed (place_in_code self.now) (words listed.now) (fact_in_code fact.now)
-            (meaning_there (place_in_code self.now) at word) }
+            (meaning_in (place_in_code self.now) at word) }
     {
-        if self.routine.is_none() {
-            return true;
-        }
         if !self.is_writing(at, word) {
             return true;
         }
         let mut written = WordSet::empty();
         self.put_writes(fact, at, word, &mut written);
-        written.is_subset(&self.with_own(listed))
+        self.may_write(listed, &written)
     }
 
     /// Whether each of some cells is on the list of reads, if there is one, or is the running routine's own entry.
@@ -320,7 +326,7 @@ impl<A: Allocator> Place<'_, A> {
     /// Whether each cell that a word may read is on the list of reads, if there is one, or is the running routine's own entry.
     pub fn reads_are_listed<const C: usize, const R: usize>(&self, fact: &SumFact<C, R>, at: Word, word: Word) -> bool
         ensures { IsTrue result ↔ ReadsAreListed (place_in_code self.now) (fact_in_code fact.now)
-            (meaning_there (place_in_code self.now) at word) }
+            (meaning_in (place_in_code self.now) at word) }
     {
         if !self.declaration.reads_listed() {
             return true;

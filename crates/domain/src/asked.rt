@@ -9,7 +9,7 @@ ghost use Rattle.peripherals.specs.Loading.{image_of};
 ghost use Rattle.domain.specs.Meaning.{location_of};
 ghost use Rattle.domain.specs.Sums.Facts as said;
 ghost use Rattle.domain.specs.Sums.Facts.{OfSums};
-ghost use Rattle.processor.specs.Runs.{Image};
+ghost use Rattle.processor.specs.Runs as runs;
 ghost use Rattle.domain.specs.Sums.Adding.{adding, adding_all, differences, with_spelled_in};
 ghost use Rattle.domain.specs.Sums.Knowing.{said_of};
 ghost use Rattle.domain.specs.Sums.Spelling.{spelled_of};
@@ -90,7 +90,7 @@ fn keep_for_part(image: &Image, part: &Sum, set: &WordSet, name: &Location, plac
 
 /// Whether a part of a relation's sum says nothing of a name that is seen at once: it is one term that does not speak of it.
 fn is_idle(part: &Sum, name: &Location) -> bool
-    ensures { (image : Image) (set : Words) (f : said.Fact) → result ≡ true →
+    ensures { (image : runs.Image) (set : Words) (f : said.Fact) → result ≡ true →
         (adding_all OfSums (of_part image (sum_of part.now) set) f).set (location_of name.now) ≡ f.set (location_of name.now) }
 {
     part.len() == 1 && !is_same_location(name, &part.get(0).term.name())

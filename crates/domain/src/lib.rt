@@ -19,6 +19,7 @@ mod sets;
 mod shapes;
 mod sum_fact;
 mod sum_moves;
+mod taking;
 mod terms;
 mod tracking;
 

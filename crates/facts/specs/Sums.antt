@@ -14,3 +14,4 @@ pub mod PlaceInCode
 pub mod Entailing
 pub mod Landing
 pub mod PartInCode
+pub mod OutcomesInCode

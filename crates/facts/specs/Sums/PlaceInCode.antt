@@ -1,4 +1,6 @@
 -- Places as they're kept in code, and what they mean.
+use Rattle.std.specs.Prelude.{ℕ}
+use Rattle.instruct.specs.Instructions.{Meaning, meaning_of}
 use Rattle.peripherals.specs.Loading.{image_of}
 use Rattle.declaration.specs.Kept.{meaning}
 use Rattle.domain.specs.Sums.Facts as said
@@ -13,3 +15,7 @@ place_in_code p = record {
   routine = p.routine;
   rules = rules_of p.rules;
 }
+
+-- What a word means at an address of the place.
+abbrev pub meaning_in : said.Place → ℕ → ℕ → Meaning
+meaning_in pl at word = meaning_of pl.declaration.profile at word

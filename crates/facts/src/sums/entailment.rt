@@ -1,18 +1,15 @@
-//! Whether one fact says at least as much as another, and whether any state satisfies it.
+//! Whether one fact says at least as much as another.
 
 ghost use Rattle.std.specs.Prelude.{ℕ, ◌≡◌, ◌<◌, ◌↔◌, IsTrue, MatchOption, true, map};
-ghost use Rattle.std.specs.List.{list_any};
-ghost use Rattle.wordset.specs.Words.{IsWithin, SameWords, some_below, only};
+ghost use Rattle.wordset.specs.Words.{IsWithin, SameWords, only};
 ghost use Rattle.wordset.specs.Lanes.{words};
 ghost use Rattle.wordset.specs.Links.{links_of};
 ghost use Rattle.peripherals.specs.Loading.{image_of};
 ghost use Rattle.domain.specs.Facts as names;
 ghost use Rattle.domain.specs.Facts.{Ac, Cell};
 ghost use Rattle.domain.specs.Meaning.{location_of};
-ghost use Rattle.domain.specs.Statements.{tracked};
-ghost use Rattle.domain.specs.Sums.Adding.{lacks_all, is_void};
 ghost use Rattle.domain.specs.Sums.Brief.{brief_words};
-ghost use Rattle.domain.specs.Sums.CellsInCode.{cell_set_of, cell_sets_of};
+ghost use Rattle.domain.specs.Sums.CellsInCode.{cell_set_of};
 ghost use Rattle.domain.specs.Sums.Chains.{gives};
 ghost use Rattle.domain.specs.Sums.ChainsInCode.{chain_of, gives_from};
 ghost use Rattle.domain.specs.Sums.FactInCode.{fact_in_code};
@@ -27,62 +24,10 @@ ghost use Rattle.facts.specs.Sums.PlaceInCode.{place_in_code};
 
 use super::known::KnownFact;
 use super::place::Place;
-use domain::{BriefSet, CellSet, CellSets, Chain, Location, Relation, Rules, Sum, SumFact, Term, negated};
+use domain::{BriefSet, CellSet, Chain, Location, Relation, Rules, Sum, SumFact, Term, negated};
 use std::alloc::Allocator;
 use word12::{Link, Word};
 use wordset::{Links, WordSet};
-
-/// Whether a cell has no word by all its entries together.
-fn lacks_cell<const CAP: usize>(cells: &CellSets<CAP>, cell: Word) -> bool
-    ensures { result ≡ lacks_all (tracked cell (cell_sets_of cells.now)) }
-{
-    let mut set = WordSet::all();
-    cells.put_set_of(cell, &mut set);
-    set.is_empty()
-}
-
-/// Whether some cell has no word. A cell without an entry has all words.
-fn lacks_some_cell<const CAP: usize>(cells: &CellSets<CAP>) -> bool
-    ensures { result ≡ some_below 4096 (λ a. lacks_all (tracked a (cell_sets_of cells.now))) }
-{
-    for entry in cells.as_slice() {
-        if lacks_cell(cells, entry.cell) {
-            return true;
-        }
-    }
-    false
-}
-
-/// Whether some relation has no word.
-fn lacks_some_relation(relations: &[Relation]) -> bool
-    ensures { result ≡ list_any (λ r. lacks_all r.set) (map relation_of relations.now) }
-{
-    for relation in relations {
-        if relation.set.is_empty() {
-            return true;
-        }
-    }
-    false
-}
-
-/// Whether no state satisfies a fact, since it leaves no word to the accumulator, MQ, a cell or a sum, or no link.
-pub fn is_void<const C: usize, const R: usize>(fact: &SumFact<C, R>) -> bool
-    ensures { result ≡ is_void (fact_in_code fact.now) }
-{
-    if fact.mq().is_empty() {
-        return true;
-    }
-    if fact.link().is_empty() {
-        return true;
-    }
-    if fact.accumulator().is_empty() {
-        return true;
-    }
-    if lacks_some_cell(fact.cells()) {
-        return true;
-    }
-    lacks_some_relation(fact.relations().as_slice())
-}
 
 /// Whether two relations have one sum and the same words.
 fn is_same_relation(a: &Relation, b: &Relation) -> bool

@@ -16,7 +16,6 @@ ghost use Rattle.facts.specs.Sums.Landing.{Takes, IsTakenWhole};
 ghost use Rattle.facts.specs.Sums.PartInCode.{part_in_code};
 ghost use Rattle.facts.specs.Sums.PlaceInCode.{place_in_code};
 
-use super::entailment::is_void;
 use super::place::Place;
 use super::rooms::{ChosenFact, Fact, MetFact, NextFact, PartFact};
 use super::source::FactSource;
@@ -142,7 +141,7 @@ impl Part for LinkPart {
     }
 
     fn is_none(&self) -> bool {
-        is_void(&self.part)
+        self.part.is_void()
     }
 
     fn put_set_of(&self, name: &Location, place: &mut WordSet) {
@@ -156,7 +155,7 @@ impl Part for LinkPart {
     fn is_taken<A: Allocator>(&mut self, place: &Place<'_, A>, name: &Location, other: &Fact) -> bool {
         let LinkPart { part, chosen, met } = self;
         put_met(place, part, name, other, chosen, met);
-        if is_void(met) {
+        if met.is_void() {
             return true;
         }
         place.entails(met, other)
@@ -166,7 +165,7 @@ impl Part for LinkPart {
         let LinkPart { part, met, .. } = self;
         part.is_within_room();
         met.narrow(place.image, part);
-        if is_void(met) {
+        if met.is_void() {
             return among.len() > 0;
         }
         place.entails_one(met, among, given)

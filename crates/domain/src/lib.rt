@@ -17,6 +17,7 @@ mod sets;
 mod shapes;
 mod sum_fact;
 mod sum_moves;
+mod sum_parts;
 mod terms;
 mod tracking;
 

@@ -10,3 +10,4 @@ pub mod Laws
 pub mod Access
 pub mod Equations
 pub mod Starts
+pub mod Shaped

@@ -95,3 +95,7 @@ row_empty a b s = elim (cases_lt b a) [
   | inl l ↦ less b a l ∙ sym (ap not (row_has_none a b l))
   | inr g ↦ not_less b a g ∙ sym (ap not (row_has a b g s))
 ]
+
+-- One word is the only one of its set.
+pub only_of_one : (w : ℕ) → w < 4096 → only (one w) ≡ Some w
+only_of_one w s = ap only (sym (one_row w)) ∙ sym (only_one w w (omega arith) (omega arith) s)

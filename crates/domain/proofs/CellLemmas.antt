@@ -2,9 +2,16 @@
 use Rattle.std.proofs.Common.{◌≡◌, ℕ, zero, suc, ◌+◌, ◌<◌, ◌≤◌, ◌==◌, Bool, true, false, ◌&&◌, List, [], ◌∷◌, ◌++◌, map, take, drop, get_or, length, refl, sym, ap, ◌∙◌, arith, inl, inr}
 use Rattle.std.specs.Prelude.{if◌then◌else◌, slice_set, nat_lt, nat_le}
 use Rattle.std.proofs.Math.Path.{fun_ext}
-use Rattle.std.proofs.lemmas.Bool.{cases_eq, eq-eqb, ne_eqb, eqb-true}
+use Rattle.std.proofs.lemmas.Bool.{cases_eq, cases_lt, eq-eqb, ne_eqb, eqb-true}
 use Rattle.std.proofs.lemmas.Bool.Decides.{nat_tests}
+use Rattle.std.proofs.Common.{length-append}
+use Rattle.std.proofs.Math.ListN.{drop_of_length-le}
+use Rattle.std.proofs.lemmas.List.{append-nil, length-map, length-take, length-drop}
 use Rattle.wordset.specs.Words.{Words, all_words, between, meet}
+use Rattle.wordset.specs.Lanes.{words}
+use Rattle.wordset.proofs.SetLemmas.{lt_to, words_past}
+use Rattle.domain.proofs.RelationLemmas.{all_taken}
+use Rattle.domain.proofs.TrackingLemmas.{tracked_words}
 use Rattle.domain.specs.Statements.{TrackedCell, tracked, cell_at}
 use Rattle.domain.specs.Sums.CellsInCode.{words_in_cells, with_cell, freed, IsCellAt}
 
@@ -127,3 +134,62 @@ own_freed cells a cell v = elim (cases_eq a cell) [
 -- All entries of the cell allow all words.
 pub all_freed : (cells : List TrackedCell) (cell : ℕ) → words_in_cells (map (freed cell) cells) ≡ with_cell cell all_words (words_in_cells cells)
 all_freed cells cell = fun_ext (λ a. fun_ext (λ v. freed_entry cells a cell v ∙ own_freed cells a cell v))
+
+freed_at : (cell : ℕ) (xs : List TrackedCell) (i : ℕ) (d : TrackedCell) → i < length xs →
+    slice_set (map (freed cell) (take i xs) ++ drop i xs) i (freed cell (get_or (map (freed cell) (take i xs) ++ drop i xs) i d)) ≡ map (freed cell) (take (suc i) xs) ++ drop (suc i) xs
+freed_at cell [] i d lt = absurd (omega arith)
+freed_at cell (x ∷ xs) zero d lt = refl
+freed_at cell (x ∷ xs) (suc i) d lt = ap (λ (r : List TrackedCell). freed cell x ∷ r) (freed_at cell xs i d (omega arith))
+
+-- One entry more is let go.
+pub freed_on : (cell : ℕ) (xs now more : List TrackedCell) (i : ℕ) → i < length xs → now ≡ map (freed cell) (take i xs) ++ drop i xs →
+    more ≡ slice_set now i (freed cell (cell_at now i)) → more ≡ map (freed cell) (take (i + 1) xs) ++ drop (i + 1) xs
+freed_on cell xs now more i lt e f =
+    let next : suc i ≡ i + 1 = omega arith in
+    f ∙ ap (λ (r : List TrackedCell). slice_set r i (freed cell (cell_at r i))) e ∙ freed_at cell xs i _ lt ∙ ap (λ k. map (freed cell) (take k xs) ++ drop k xs) next
+
+pub freed_length : (cell : ℕ) (xs now : List TrackedCell) (i : ℕ) → now ≡ map (freed cell) (take i xs) ++ drop i xs → length now ≡ length xs
+freed_length cell xs now i e =
+    let all : length now ≡ length (map (freed cell) (take i xs) ++ drop i xs) = ap length e in
+    omega (arith, all, length-append (map (freed cell) (take i xs)) (drop i xs), length-map (take i xs) (freed cell), length-take i xs, length-drop i xs)
+
+pub freed_end : (cell : ℕ) (xs now : List TrackedCell) (i : ℕ) → length xs ≤ i → now ≡ map (freed cell) (take i xs) ++ drop i xs → now ≡ map (freed cell) xs
+freed_end cell xs now i past e =
+    e ∙ ap (λ (r : List TrackedCell). map (freed cell) r ++ drop i xs) (all_taken xs i past) ∙ ap (λ (r : List TrackedCell). map (freed cell) xs ++ r) (drop_of_length-le xs {i = i} past)
+    ∙ append-nil (map (freed cell) xs)
+
+-- ---- the words of one cell are replaced
+
+all_and : (lanes : List ℕ) (v : ℕ) → (all_words v && words lanes v) ≡ words lanes v
+all_and lanes v = elim (cases_lt v 4096) [
+  | inl l ↦ ap (λ b. b && words lanes v) (lt_to v l)
+  | inr g ↦ go (all_words v) (words lanes v) (words_past lanes v g)
+]
+  where
+    go : (x y : Bool) → y ≡ false → (x && y) ≡ y
+    go true y e = refl
+    go false y e = sym e
+
+with_twice : (sets : ℕ → Words) (cell : ℕ) (s t : Words) → with_cell cell s (with_cell cell t sets) ≡ with_cell cell s sets
+with_twice sets cell s t = fun_ext (λ a. go (a == cell) (sets a))
+  where
+    go : (b : Bool) (w : Words) → (if b then s else (if b then t else w)) ≡ (if b then s else w)
+    go true w = refl
+    go false w = refl
+
+own_all : (sets : ℕ → Words) (cell : ℕ) → with_cell cell all_words sets cell ≡ all_words
+own_all sets cell = rw (eq-eqb cell cell refl) refl
+
+pub replaced : (sets mid : ℕ → Words) (cell : ℕ) (lanes : List ℕ) → mid ≡ with_cell cell all_words sets → with_cell cell (meet (mid cell) (words lanes)) mid ≡ with_cell cell (words lanes) sets
+replaced sets mid cell lanes e =
+    let own : mid cell ≡ all_words = ap (λ (m : ℕ → Words). m cell) e ∙ own_all sets cell in
+    let met : meet (mid cell) (words lanes) ≡ words lanes = ap (λ (s : Words). meet s (words lanes)) own ∙ fun_ext (all_and lanes) in
+    ap (λ (s : Words). with_cell cell s mid) met ∙ ap (λ (m : ℕ → Words). with_cell cell (words lanes) m) e ∙ with_twice sets cell (words lanes) all_words
+
+-- All words are met with what a cell's entries allow.
+pub all_tracked : (cell : ℕ) (cells : List TrackedCell) → meet all_words (tracked cell cells) ≡ tracked cell cells
+all_tracked cell cells = fun_ext (tracked_words cell cells)
+
+-- An entry of the cell that allows all words.
+pub freed_is : (t : TrackedCell) (cell : ℕ) (s : Words) → t.address ≡ cell → s ≡ all_words → record { address = cell; set = s } ≡ freed cell t
+freed_is t cell s e f = rw (eq-eqb t.address cell e) (ap (λ (w : Words). record { address = cell; set = w }) f ∙ ap (λ a. record { address = a; set = all_words }) (sym e))

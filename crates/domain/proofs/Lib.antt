@@ -1,11 +1,14 @@
 pub mod TrackingLemmas
 pub mod ProductLemmas
 pub mod NameLemmas
+pub mod UseLemmas
 pub mod SumSetLemmas
 pub mod RelationLemmas
 pub mod CellLemmas
 pub mod FactLemmas
 pub mod SaidLemmas
+pub mod PartLemmas
+pub mod VoidLemmas
 pub mod SetLemmas
 pub mod ChainLemmas
 pub mod OffsetLemmas

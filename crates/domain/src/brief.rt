@@ -1,7 +1,7 @@
 //! Sets of words that are quick to write where their words are in a row.
 
 ghost use Rattle.std.specs.Prelude.{◌≡◌, ◌↔◌, IsTrue, not};
-ghost use Rattle.wordset.specs.Words.{IsWithin, between, meet, nothing, one, has_some, only};
+ghost use Rattle.wordset.specs.Words.{IsWithin, all_words, between, meet, nothing, one, has_some, only};
 ghost use Rattle.wordset.specs.Lanes.{words};
 
 use crate::tracking::{is_range_within, put_row};
@@ -83,6 +83,17 @@ impl BriefSet {
     {
         BriefSet {
             kept: Kept::Row(Word::from_index(1), Word::ZERO),
+            whole: WordSet::empty(),
+        }
+    }
+
+    /// The set of all words.
+    #[tactic(auto, using(crate::proofs::CellLemmas::full_row))]
+    pub fn all() -> BriefSet
+        ensures { brief_words result ≡ all_words }
+    {
+        BriefSet {
+            kept: Kept::Row(Word::ZERO, Word::from_index(0o7777)),
             whole: WordSet::empty(),
         }
     }

@@ -31,6 +31,21 @@ pub struct CellSets<const CAP: usize> {
     ghost long: { length entries ≡ CAP },
 }
 
+impl CellSet {
+    ghost use Rattle.domain.specs.Sums.CellsInCode.{cell_set_of};
+
+    /// Keeps those words of a set that all of some entries of a cell allow.
+    fn keep_among(entries: &[CellSet], cell: Word, place: &mut WordSet)
+        ensures { words place.new ≡ meet (words place.old) (tracked cell (map cell_set_of entries.now)) }
+    {
+        for entry in entries {
+            if entry.cell == cell {
+                entry.set.keep(place);
+            }
+        }
+    }
+}
+
 impl<const CAP: usize> CellSets<CAP> {
     ghost use Rattle.domain.specs.Sums.Brief.{brief_words};
     ghost use Rattle.domain.specs.Sums.CellsInCode.{cell_set_of, cell_sets_of, words_in_cells, with_cell, freed, IsCellAt};
@@ -128,19 +143,23 @@ impl<const CAP: usize> CellSets<CAP> {
         ensures { words place.new ≡ tracked cell (cell_sets_of self.now) }
     {
         *place = WordSet::all();
-        for entry in self.as_slice() {
-            if entry.cell == cell {
-                entry.set.keep(place);
-            }
-        }
+        CellSet::keep_among(self.as_slice(), cell, place);
+    }
+
+    /// The address of the entry at a place.
+    fn address(&self, at: usize) -> Word
+        requires { at < length (cell_sets_of self.now) }
+        ensures { result ≡ (cell_at (cell_sets_of self.now) at).address }
+    {
+        self.entries[at].cell
     }
 
     /// Where the first entry of a cell stands, if there is one.
     fn position(&self, cell: Word) -> Option<usize>
         ensures { IfSome result (λ at. IsCellAt cell (cell_sets_of self.now) at) }
     {
-        for at in 0..self.count {
-            if self.entries[at].cell == cell {
+        for at in 0..self.len() {
+            if self.address(at) == cell {
                 return Some(at);
             }
         }
@@ -153,8 +172,12 @@ impl<const CAP: usize> CellSets<CAP> {
         ensures { cell_sets_of self.new ≡ slice_set (cell_sets_of self.old) at
             (record (cell_at (cell_sets_of self.old) at) { set = meet (cell_at (cell_sets_of self.old) at).set (words set.now) }) }
     {
-        let place = &mut self.entries[at];
-        place.set.meet(set);
+        let mut left = self.entries[at].set;
+        left.meet(set);
+        self.entries[at] = CellSet {
+            cell: self.entries[at].cell,
+            set: left,
+        };
     }
 
     /// Takes away the entries of a cell.
@@ -163,7 +186,7 @@ impl<const CAP: usize> CellSets<CAP> {
             with_cell cell all_words (words_in_cells (cell_sets_of self.old)) }
         ensures few { length (cell_sets_of self.new) ≤ length (cell_sets_of self.old) }
     {
-        for at in 0..self.count {
+        for at in 0..self.len() {
             self.free_at(at, cell);
         }
     }
@@ -174,9 +197,11 @@ impl<const CAP: usize> CellSets<CAP> {
         ensures { cell_sets_of self.new ≡ slice_set (cell_sets_of self.old) at
             (freed cell (cell_at (cell_sets_of self.old) at)) }
     {
-        let place = &mut self.entries[at];
-        if place.cell == cell {
-            place.set.set_row(Word::ZERO, Word::from_index(0o7777));
+        if self.address(at) == cell {
+            self.entries[at] = CellSet {
+                cell,
+                set: BriefSet::all(),
+            };
         }
     }
 

@@ -13,6 +13,7 @@ use wordset::WordSet;
 /// Some names.
 ///
 /// Contracts see them as `names_of` gives them.
+#[derive(Drop)]
 pub enum Names<'a> {
     /// One name.
     One(Location),

@@ -69,7 +69,7 @@ fn add_given(chain: &Chain, word: Word, first: Link, ac: &WordSet, links: Links,
 }
 
 /// Copies chains.
-fn copy_chains(from: &[Chain], to: &mut ArrayVec<Chain, 72>)
+pub(crate) fn copy_chains(from: &[Chain], to: &mut ArrayVec<Chain, 72>)
     requires { length from.now ≤ 72 }
     ensures { map chain_of to.new.items ≡ map chain_of from.now }
 {
@@ -108,13 +108,19 @@ impl<const C: usize, const R: usize> SumFact<C, R> {
         ensures relations { self.new.relations ≡ self.old.relations }
     {
         let mut place = WordSet::all();
-        let name = term.name();
-        self.put_set_of(&name, &mut place);
         match term {
-            Term::Holding(_) => keep_divided(c, set, &mut place),
-            Term::Behind { more, .. } => keep_pointing(image, *more, c, set, &mut place),
+            Term::Holding(name) => {
+                self.put_set_of(name, &mut place);
+                keep_divided(c, set, &mut place);
+                self.set_name(name, &place);
+            }
+            Term::Behind { cell, more } => {
+                let name = Location::Cell(*cell);
+                self.put_set_of(&name, &mut place);
+                keep_pointing(image, *more, c, set, &mut place);
+                self.set_name(&name, &place);
+            }
         }
-        self.set_name(&name, &place);
     }
 
     /// Adds that a part of a relation's sum is in a set.
@@ -141,25 +147,26 @@ impl<const C: usize, const R: usize> SumFact<C, R> {
     /// Adds what a relation of another fact says of its first term and of the rest.
     fn add_parts<const D: usize, const S: usize>(&mut self, image: &Image, fact: &SumFact<D, S>, relation: &Relation)
         requires cells { length (cell_sets_of self.old.cells) + 2 ≤ C }
-        requires relations { length (relations_of self.old.relations) + 2 ≤ R }
+        requires relations { length (relations_of self.old.relations) < R }
         ensures fact { fact_in_code self.new ≡ adding_all OfSums
             (parts_of (image_of image.now) (fact_in_code fact.now) (sum_of relation.now.sum) (brief_words relation.now.set))
             (fact_in_code self.old) }
         ensures cells { length (cell_sets_of self.new.cells) ≤ length (cell_sets_of self.old.cells) + 2 }
-        ensures relations { length (relations_of self.new.relations) ≤ length (relations_of self.old.relations) + 2 }
+        ensures relations { length (relations_of self.new.relations) ≤ length (relations_of self.old.relations) + 1 }
     {
         if relation.sum.len() == 0 {
             return;
         }
+        let summand = relation.sum.get(0);
         let mut first = Sum::zero();
-        first.push(relation.sum.get(0));
+        first.push(summand);
         let mut rest = Sum::zero();
         rest.push_from(&relation.sum, 1);
         let mut set = WordSet::all();
         relation.set.put(&mut set);
         let mut said = WordSet::all();
         fact.put_said_of(image, &rest, &mut said);
-        self.add_part(image, &first, &differences(&set, &said));
+        self.keep_term(image, summand.coefficient, &summand.term, &differences(&set, &said));
         fact.put_said_of(image, &first, &mut said);
         self.add_part(image, &rest, &differences(&set, &said));
     }
@@ -186,7 +193,7 @@ impl<const C: usize, const R: usize> SumFact<C, R> {
     /// Adds what a chain of another fact says of its cell, of the accumulator, and of the accumulator less the cell.
     fn add_parts_of_chain<const D: usize, const S: usize>(&mut self, fact: &SumFact<D, S>, chain: &Chain)
         requires cells { length (cell_sets_of self.old.cells) + 1 ≤ C }
-        requires relations { length (relations_of self.old.relations) + 1 ≤ R }
+        requires relations { length (relations_of self.old.relations) < R }
         ensures fact { fact_in_code self.new ≡ adding_all OfSums
             (parts_of_chain (fact_in_code fact.now) (chain_of chain.now)) (fact_in_code self.old) }
         ensures cells { length (cell_sets_of self.new.cells) ≤ length (cell_sets_of self.old.cells) + 1 }
@@ -211,11 +218,11 @@ impl<const C: usize, const R: usize> SumFact<C, R> {
         }
     }
 
-    /// Lets this fact be another, narrowed. It takes at most two cells and two relations more for each of its relations, and one
+    /// Lets this fact be another, narrowed. It takes at most two cells and one relation more for each of its relations, and one
     /// of each for each chain.
     pub fn narrow<const D: usize, const S: usize>(&mut self, image: &Image, fact: &SumFact<D, S>)
         requires cells { length (cell_sets_of fact.now.cells) + 2 * length (relations_of fact.now.relations) + length fact.now.chains.items ≤ C }
-        requires relations { 3 * length (relations_of fact.now.relations) + length fact.now.chains.items ≤ R }
+        requires relations { 2 * length (relations_of fact.now.relations) + length fact.now.chains.items ≤ R }
         ensures { fact_in_code self.new ≡ narrowed (image_of image.now) (fact_in_code fact.now) }
     {
         self.copy_from(fact);

@@ -1,13 +1,14 @@
 //! Relations: what is said of sums.
 
 ghost use Rattle.std.specs.Prelude.{◌≡◌, ◌<◌, ◌≤◌, ◌+◌, ◌++◌, ◌∷◌, ◌↔◌, [], IsTrue, MatchOption, length, map, slice_set, Some};
+ghost use Rattle.std.specs.List.{list_any};
 ghost use Rattle.wordset.specs.Words.{Words, meet, one, sums};
 ghost use Rattle.wordset.specs.Lanes.{words};
 ghost use Rattle.domain.specs.Facts.{Cell};
 ghost use Rattle.domain.specs.Sums.Terms.{coefficient_in};
 ghost use Rattle.domain.specs.Sums.Terms as said;
 ghost use Rattle.domain.specs.Sums.Brief.{brief_words};
-ghost use Rattle.domain.specs.Sums.Adding.{times, with_relation, set_among};
+ghost use Rattle.domain.specs.Sums.Adding.{times, with_relation, set_among, lacks_all};
 ghost use Rattle.domain.specs.Sums.Moves.{free_of, counted_term, counted_sum, is_behind, has_behind, moved_relation, moved_relations};
 
 use crate::brief::BriefSet;
@@ -65,6 +66,34 @@ fn add_times_each(c: Word, by: &WordSet, set: &mut BriefSet)
     set.put(&mut place);
     let (found, _) = place.sums(&times(c, by));
     set.set(&found);
+}
+
+impl Relation {
+    ghost use Rattle.domain.specs.Sums.InCode.{sum_of};
+    ghost use Rattle.domain.specs.Sums.RelationsInCode.{relation_of};
+
+    /// Keeps those words of a set that all of some relations of a sum allow.
+    fn keep_among(relations: &[Relation], sum: &Sum, place: &mut WordSet)
+        ensures { words place.new ≡ meet (words place.old) (set_among (sum_of sum.now) (map relation_of relations.now)) }
+    {
+        for relation in relations {
+            if relation.sum.is_same(sum) {
+                relation.set.keep(place);
+            }
+        }
+    }
+
+    /// Whether some relation's set has no word.
+    pub(crate) fn is_some_empty(relations: &[Relation]) -> bool
+        ensures { result ≡ list_any (λ r. lacks_all r.set) (map relation_of relations.now) }
+    {
+        for relation in relations {
+            if relation.set.is_empty() {
+                return true;
+            }
+        }
+        false
+    }
 }
 
 impl Term {
@@ -234,6 +263,14 @@ impl<const CAP: usize> Relations<CAP> {
         }
     }
 
+    /// The sum of the relation at a place.
+    fn sum_at(&self, at: usize) -> &Sum
+        requires { at < length (relations_of self.now) }
+        ensures { sum_of result.now ≡ (relation_at (relations_of self.now) at).sum }
+    {
+        &self.relations[at].sum
+    }
+
     /// Where the first relation of a sum stands, if there is one.
     fn position(&self, sum: &Sum) -> Option<usize>
         ensures { MatchOption result
@@ -241,8 +278,8 @@ impl<const CAP: usize> Relations<CAP> {
             relations_of self.now ++ record { sum = sum_of sum.now; set = set } ∷ [])
             (λ at. IsFoundAt (sum_of sum.now) (relations_of self.now) at) }
     {
-        for at in 0..self.count {
-            if self.relations[at].sum.is_same(sum) {
+        for at in 0..self.len() {
+            if self.sum_at(at).is_same(sum) {
                 return Some(at);
             }
         }
@@ -255,9 +292,12 @@ impl<const CAP: usize> Relations<CAP> {
         ensures { relations_of self.new ≡ slice_set (relations_of self.old) at
             (record { sum = sum_of sum.now; set = meet (relation_at (relations_of self.old) at).set (words set.now) }) }
     {
-        let place = &mut self.relations[at];
-        place.sum = *sum;
-        place.set.meet(set);
+        let mut left = self.relations[at].set;
+        left.meet(set);
+        self.relations[at] = Relation {
+            sum: *sum,
+            set: left,
+        };
     }
 
     /// Adds that a sum is in a set: where a relation has the sum already, the two sets are met.
@@ -277,11 +317,7 @@ impl<const CAP: usize> Relations<CAP> {
         ensures { words place.new ≡ set_among (sum_of sum.now) (relations_of self.now) }
     {
         *place = WordSet::all();
-        for relation in self.as_slice() {
-            if relation.sum.is_same(sum) {
-                relation.set.keep(place);
-            }
-        }
+        Relation::keep_among(self.as_slice(), sum, place);
     }
 
     /// Adds those of some relations that speak of none of some names.
@@ -317,6 +353,8 @@ impl<const CAP: usize> Relations<CAP> {
         ensures { relations_of self.new ≡
             relations_of self.old ++ moved_relations cell (one by) (map relation_of others.now) }
     {
+        // The proof needs the number to be a word.
+        let _index = by.index();
         for relation in others {
             self.push_moved_by(relation, cell, by);
         }

@@ -1,7 +1,8 @@
 //! Facts whose relations are of sums.
 
 ghost use Rattle.std.specs.Prelude.{◌≡◌, ◌<◌, ◌≤◌, ◌+◌, ◌++◌, ◌∷◌, [], length, map, drop, ℕ};
-ghost use Rattle.wordset.specs.Words.{nothing, all_words, all_links, between, meet};
+ghost use Rattle.wordset.specs.Words.{some_below};
+ghost use Rattle.std.specs.List.{list_any};
 ghost use Rattle.wordset.specs.Lanes.{words};
 ghost use Rattle.wordset.specs.Links.{links_of};
 ghost use Rattle.peripherals.specs.Loading.{image_of};
@@ -9,7 +10,7 @@ ghost use Rattle.domain.specs.Facts.{Ac, Cell};
 ghost use Rattle.domain.specs.Meaning.{location_of};
 ghost use Rattle.domain.specs.Sums.Terms.{Holding};
 ghost use Rattle.domain.specs.Sums.Facts as said;
-ghost use Rattle.domain.specs.Sums.Adding.{times, with_name, with_term_in, with_shape_in, with_spelled_in, adding, is_equation, is_kept, set_of_term, set_of_shape, set_of_sum};
+ghost use Rattle.domain.specs.Sums.Adding.{times, with_name, with_term_in, with_shape_in, with_spelled_in, adding, lacks_all, is_void, is_equation, is_kept, set_of_term, set_of_shape, set_of_sum};
 ghost use Rattle.domain.specs.Sums.Knowing.{words_of_term, said_of};
 ghost use Rattle.domain.specs.Sums.InCode.{term_of, sum_of};
 ghost use Rattle.domain.specs.Sums.Brief.{brief_words};
@@ -23,7 +24,7 @@ use crate::brief::BriefSet;
 use crate::cell_sets::CellSets;
 use crate::chains::Chain;
 use crate::location::Location;
-use crate::relations::Relations;
+use crate::relations::{Relation, Relations};
 use crate::return_offsets::ReturnOffsets;
 use crate::sets::{at_start, times};
 use crate::shapes::spelled;
@@ -264,7 +265,9 @@ impl<const C: usize, const R: usize> SumFact<C, R> {
     /// Lets a name hold the words of a set; what else the fact says of the name stays.
     pub fn set_name(&mut self, name: &Location, set: &WordSet)
         requires { length (cell_sets_of self.old.cells) < C }
-        ensures { fact_in_code self.new ≡ with_name (location_of name.now) (words set.now) (fact_in_code self.old) }
+        ensures fact { fact_in_code self.new ≡ with_name (location_of name.now) (words set.now) (fact_in_code self.old) }
+        ensures cells { length (cell_sets_of self.new.cells) ≤ length (cell_sets_of self.old.cells) + 1 }
+        ensures relations { self.new.relations ≡ self.old.relations }
     {
         match name {
             Location::Accumulator => self.ac = *set,
@@ -275,7 +278,9 @@ impl<const C: usize, const R: usize> SumFact<C, R> {
     /// Keeps those words of a name that a set has.
     pub fn meet_name(&mut self, name: &Location, set: &WordSet)
         requires { length (cell_sets_of self.old.cells) < C }
-        ensures { fact_in_code self.new ≡ with_term_in (Holding (location_of name.now)) (words set.now) (fact_in_code self.old) }
+        ensures fact { fact_in_code self.new ≡ with_term_in (Holding (location_of name.now)) (words set.now) (fact_in_code self.old) }
+        ensures cells { length (cell_sets_of self.new.cells) ≤ length (cell_sets_of self.old.cells) + 1 }
+        ensures relations { self.new.relations ≡ self.old.relations }
     {
         match name {
             Location::Accumulator => self.ac = self.ac.meet(set),
@@ -283,21 +288,34 @@ impl<const C: usize, const R: usize> SumFact<C, R> {
         }
     }
 
+    /// Keeps those words of a name that a set has, if a term is one.
+    fn meet_term(&mut self, term: &Term, set: &WordSet)
+        requires { length (cell_sets_of self.old.cells) < C }
+        ensures fact { fact_in_code self.new ≡ with_term_in (term_of term.now) (words set.now) (fact_in_code self.old) }
+        ensures cells { length (cell_sets_of self.new.cells) ≤ length (cell_sets_of self.old.cells) + 1 }
+        ensures relations { self.new.relations ≡ self.old.relations }
+    {
+        match term {
+            Term::Holding(name) => self.meet_name(name, set),
+            Term::Behind { .. } => {}
+        }
+    }
+
     /// Adds that a sum of one of the shapes is in a set.
     fn add_shape(&mut self, rules: &Rules, sum: &Sum, set: &WordSet)
         requires cells { length (cell_sets_of self.old.cells) < C }
-        requires relations { length (relations_of self.old.relations) < R }
-        ensures { fact_in_code self.new ≡
+        requires room { length (relations_of self.old.relations) < R }
+        ensures fact { fact_in_code self.new ≡
             with_shape_in (rules_of rules.now) (sum_of sum.now) (words set.now) (fact_in_code self.old) }
+        ensures cells { length (cell_sets_of self.new.cells) ≤ length (cell_sets_of self.old.cells) + 1 }
+        ensures more { length (relations_of self.new.relations) ≤ length (relations_of self.old.relations) + 1 }
     {
         let len = sum.len();
         if len == 0 {
             return;
         }
         if len == 1 {
-            if let Term::Holding(name) = sum.get(0).term {
-                self.meet_name(&name, set);
-            }
+            self.meet_term(&sum.get(0).term, set);
             return;
         }
         if is_kept(rules, sum, set) {
@@ -309,13 +327,43 @@ impl<const C: usize, const R: usize> SumFact<C, R> {
     /// that is no equation.
     pub fn add(&mut self, rules: &Rules, sum: &Sum, set: &WordSet)
         requires cells { length (cell_sets_of self.old.cells) < C }
-        requires relations { length (relations_of self.old.relations) < R }
-        ensures { fact_in_code self.new ≡ adding (rules_of rules.now)
+        requires room { length (relations_of self.old.relations) < R }
+        ensures fact { fact_in_code self.new ≡ adding (rules_of rules.now)
             (record { sum = sum_of sum.now; set = words set.now }) (fact_in_code self.old) }
+        ensures cells { length (cell_sets_of self.new.cells) ≤ length (cell_sets_of self.old.cells) + 1 }
+        ensures more { length (relations_of self.new.relations) ≤ length (relations_of self.old.relations) + 1 }
     {
         match spelled(sum) {
             None => {}
             Some(found) => self.add_shape(rules, &found.sum, &times(found.sign, set)),
         }
+    }
+
+    /// Whether a cell may hold no word.
+    fn has_empty_cell(&self) -> bool
+        ensures { result ≡ some_below 4096 (λ a. lacks_all ((fact_in_code self.now).set (Cell a))) }
+    {
+        let mut place = WordSet::all();
+        for entry in self.cells.as_slice() {
+            // The proof needs the cell's address to be a word.
+            let _index = entry.cell.index();
+            self.cells.put_set_of(entry.cell, &mut place);
+            if place.is_empty() {
+                return true;
+            }
+        }
+        false
+    }
+
+    /// Whether some set that the fact gives has no word, so that no state satisfies it. Sites and offsets are not looked at:
+    /// main has none.
+    pub fn is_void(&self) -> bool
+        ensures { result ≡ is_void (fact_in_code self.now) }
+    {
+        self.mq.is_empty()
+            || self.link.is_empty()
+            || self.ac.is_empty()
+            || self.has_empty_cell()
+            || Relation::is_some_empty(self.relations.as_slice())
     }
 }

@@ -8,4 +8,4 @@ use Rattle.domain.proofs.sets.keep_pointing.Given as goal
 
 abbrev pub invariant-loop-word : goal.invariant-loop-word
 invariant-loop-word l = Gathered (λ x v. (v == x) && some_below 4096 (λ w. tape_word (image_of l.image (plus x l.k)) w && words l.set ((l.c * w) % 4096)))
-    (words l.place) nothing (words l.found) l.word-iterator
+    (words l.fn.place) nothing (words l.found) l.word-iterator

@@ -1,9 +1,12 @@
-use Rattle.std.proofs.Common.{◌≡◌, ℕ, ◌<◌, ◌≤◌, true, arith, eq-eqb}
-use Rattle.std.specs.Prelude.{bit_and}
-use Rattle.std.proofs.lemmas.Bool.{eqb-true}
-use Rattle.std.proofs.lemmas.Nat.{or_lt, and_le_l}
-use Rattle.domain.proofs.OffsetLemmas.{none_in, all_in, has_bit, put_in, moved_up, no_bit, empty_none, within_when, when_within}
+use Rattle.std.proofs.Common.{ℕ, ◌*◌, ◌%◌, ◌^◌, ◌<◌, arith}
+use Rattle.std.proofs.lemmas.Nat.{or_lt}
+use Rattle.domain.proofs.OffsetLemmas.{put_in}
 use Rattle.domain.proofs.return_offsets.ReturnOffsets.insert.Goals as goal
+
+pub invariant_of-self : goal.invariant_of-self
+invariant_of-self c =
+    let low : 1 * 2 ^ c.args.offset % 18446744073709551616 < 18446744073709551616 = omega arith in
+    record { fits = or_lt 64 c.args.self.now.bits (1 * 2 ^ c.args.offset % 18446744073709551616) c.args.self.now.fits low }
 
 pub returns : goal.returns
 returns c = put_in c.args.self.now.bits c.args.offset c.requires

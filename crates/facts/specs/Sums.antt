@@ -15,3 +15,4 @@ pub mod Entailing
 pub mod Landing
 pub mod PartInCode
 pub mod OutcomesInCode
+pub mod Shaped

@@ -20,3 +20,7 @@ pub use parts::{LinkPart, Part};
 pub use place::Place;
 pub use rooms::{ChosenFact, Fact, MetFact, NarrowedFact, NextFact, PartFact, SteppedFact};
 pub use source::FactSource;
+pub mod additions;
+mod carrying;
+pub mod operations;
+pub mod stores;

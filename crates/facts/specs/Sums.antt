@@ -16,3 +16,4 @@ pub mod Landing
 pub mod PartInCode
 pub mod OutcomesInCode
 pub mod Shaped
+pub mod StartInCode

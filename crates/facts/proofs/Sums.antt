@@ -14,3 +14,4 @@ pub mod LandedLemmas
 pub mod JoinedLemmas
 pub mod StartedLemmas
 pub mod ForeseenLemmas
+pub mod ShowingLemmas

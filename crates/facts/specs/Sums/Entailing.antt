@@ -1,6 +1,6 @@
 -- Entailment part by part, as it is tested.
-use Rattle.std.specs.Prelude.{◌≡◌, ℕ, ◌<◌, true, Some, List, [], ◌∷◌, length, get_or}
-use Rattle.wordset.specs.Words.{minus, Words, nothing, only, IsWithin, IsLinkWithin}
+use Rattle.std.specs.Prelude.{◌≡◌, ℕ, ◌<◌, true, Some, List, [], ◌∷◌}
+use Rattle.wordset.specs.Words.{minus, Words, only, IsWithin, IsLinkWithin}
 use Rattle.domain.specs.Facts.{Location, Ac, Cell}
 use Rattle.domain.specs.Statements.{TrackedCell}
 use Rattle.domain.specs.Sums.Chains.{Chain, gives}
@@ -30,15 +30,6 @@ GivesIfAllowed accumulators links own c v w l =
 abbrev pub GivesAllowed : Words → Words → List Chain → Chain → ℕ → Type 0
 GivesAllowed accumulators links own c v =
     (w l : ℕ) → w < 4096 → l < 2 → GivesIfAllowed accumulators links own c v w l
-
--- The chain at a place of a list.
-abbrev pub chain_at : List Chain → ℕ → Chain
-chain_at cs at = get_or cs at (record { cell = 0; more = 0; link = nothing; steps = [] })
-
--- The chain at this place is on the cell.
-pub record IsChainAt (cell : ℕ) (cs : List Chain) (at : ℕ) : Type 0 where
-  pub inside : at < length cs
-  pub same : (chain_at cs at).cell ≡ cell
 
 -- One word is left to each of two names, and their difference is in the set.
 abbrev pub ShowsOfNames : Place → Fact → Location → Location → Words → Type 0

@@ -13,12 +13,13 @@ ghost use Rattle.domain.specs.Sums.CellsInCode.{cell_set_of};
 ghost use Rattle.domain.specs.Sums.Chains.{gives};
 ghost use Rattle.domain.specs.Sums.ChainsInCode.{chain_of, gives_from};
 ghost use Rattle.domain.specs.Sums.FactInCode.{fact_in_code};
+ghost use Rattle.domain.specs.Sums.Facts.{OfEquations};
 ghost use Rattle.domain.specs.Sums.InCode.{sum_of};
 ghost use Rattle.domain.specs.Sums.Knowing.{said_of};
 ghost use Rattle.domain.specs.Sums.Narrowing.{words_known};
 ghost use Rattle.domain.specs.Sums.RelationsInCode.{relation_of};
 ghost use Rattle.domain.specs.Sums.Terms.{difference_of};
-ghost use Rattle.facts.specs.Sums.Entailing.{EachWithin, EntailsRegisters, GivesAllowed, GivesIfAllowed, IsChainAt, ShowsOfNames};
+ghost use Rattle.facts.specs.Sums.Entailing.{EachWithin, EntailsRegisters, GivesAllowed, GivesIfAllowed, ShowsOfNames};
 ghost use Rattle.facts.specs.Sums.Entailment.{Among, EachGives, Entails, KnowsAll, KnowsBy, ShowsChain, ShowsChains, ShowsDifference};
 ghost use Rattle.facts.specs.Sums.PlaceInCode.{place_in_code};
 
@@ -34,7 +35,13 @@ fn is_same_relation(a: &Relation, b: &Relation) -> bool
     ensures { IsTrue result ↔ ((sum_of a.now.sum ≡ sum_of b.now.sum) ×
         SameWords (brief_words a.now.set) (brief_words b.now.set)) }
 {
-    a.sum.is_same(&b.sum) && a.set.is_subset(&b.set) && b.set.is_subset(&a.set)
+    if !a.sum.is_same(&b.sum) {
+        return false;
+    }
+    if !a.set.is_subset(&b.set) {
+        return false;
+    }
+    b.set.is_subset(&a.set)
 }
 
 /// Whether a relation is one of some.
@@ -84,30 +91,26 @@ fn has_word(set: &BriefSet, word: Word) -> bool
     all.contains(word)
 }
 
+/// Whether a chain gives a pair of a cell's word, if it is on the cell.
+fn gives_if_on(chain: &Chain, cell: Word, word: Word, ac: Word, link: Link) -> bool
+    ensures { IsTrue result ↔ ((chain_of chain.now).cell ≡ cell → gives (chain_of chain.now) word ac link ≡ true) }
+{
+    if chain.cell() != cell {
+        return true;
+    }
+    chain.gives(word, ac, link)
+}
+
 /// Whether each chain on a cell gives a pair of the cell's word.
 fn each_gives(chains: &[Chain], cell: Word, word: Word, ac: Word, link: Link) -> bool
     ensures { IsTrue result ↔ EachGives cell word ac link (map chain_of chains.now) }
 {
     for chain in chains {
-        if chain.cell() == cell && !chain.gives(word, ac, link) {
+        if !gives_if_on(chain, cell, word, ac, link) {
             return false;
         }
     }
     true
-}
-
-/// Where the first chain on a cell stands, if there is one.
-fn chain_on(chains: &[Chain], cell: Word) -> Option<usize>
-    ensures { MatchOption result
-        ((v w l : ℕ) → EachGives cell v w l (map chain_of chains.now))
-        (λ at. IsChainAt cell (map chain_of chains.now) at) }
-{
-    for at in 0..chains.len() {
-        if chains[at].cell() == cell {
-            return Some(at);
-        }
-    }
-    None
 }
 
 /// What is allowed beside a word of a cell: words of the accumulator, links, and what chains give.
@@ -132,14 +135,20 @@ impl Allowed<'_> {
         if chain.gives(word, ac, link) {
             return true;
         }
-        !each_gives(self.chains, chain.cell(), word, ac, link)
+        if each_gives(self.chains, chain.cell(), word, ac, link) {
+            return false;
+        }
+        true
     }
     /// The same of both links.
     fn permits_both(&self, chain: &Chain, word: Word, ac: Word) -> bool
         ensures { IsTrue result ↔ ((l : ℕ) → l < 2 → GivesIfAllowed (words self.now.accumulators.now)
             (links_of self.now.links) (map chain_of self.now.chains.now) (chain_of chain.now) word ac l) }
     {
-        self.permits(chain, word, ac, Link::CLEAR) && self.permits(chain, word, ac, Link::SET)
+        if !self.permits(chain, word, ac, Link::CLEAR) {
+            return false;
+        }
+        self.permits(chain, word, ac, Link::SET)
     }
 
     /// Whether a chain gives each pair that is allowed beside a word of its cell.
@@ -175,7 +184,10 @@ impl Allowed<'_> {
             GivesIfAllowed (words self.now.accumulators.now) (links_of self.now.links) (map chain_of self.now.chains.now)
             (chain_of chain.now) word w l) }
     {
-        self.permits_from(other, Link::CLEAR, chain, word) && self.permits_from(other, Link::SET, chain, word)
+        if !self.permits_from(other, Link::CLEAR, chain, word) {
+            return false;
+        }
+        self.permits_from(other, Link::SET, chain, word)
     }
 
     /// Whether a chain gives each pair that is allowed beside a word of its cell. Where another chain is on the cell, only the
@@ -184,10 +196,13 @@ impl Allowed<'_> {
         ensures { IsTrue result ↔ GivesAllowed (words self.now.accumulators.now) (links_of self.now.links)
             (map chain_of self.now.chains.now) (chain_of chain.now) word }
     {
-        match chain_on(self.chains, chain.cell()) {
-            None => self.permits_each(chain, word),
-            Some(at) => self.permits_by(&self.chains[at], chain, word),
+        let cell = chain.cell();
+        for other in self.chains {
+            if other.cell() == cell {
+                return self.permits_by(other, chain, word);
+            }
         }
+        self.permits_each(chain, word)
     }
 
     /// The same of each word of a set.
@@ -381,6 +396,17 @@ impl<A: Allocator> Place<'_, A> {
         }
     }
 
+    /// Whether a fact knows a relation by the rules of equations: it is one of its own, or one word for each of two names
+    /// shows it.
+    fn knows_equation<K: KnownFact>(&self, fact: &K, relation: &Relation) -> bool
+        ensures { IsTrue result ↔ KnowsBy OfEquations (place_in_code self.now) (K.known fact.now) (relation_of relation.now) }
+    {
+        if is_among(relation, fact.relations()) {
+            return true;
+        }
+        self.shows_difference(fact, relation)
+    }
+
     /// Whether a fact knows a relation, by the rules of the place.
     fn knows<K: KnownFact>(&self, fact: &K, relation: &Relation) -> bool
         ensures { IsTrue result ↔ KnowsBy (place_in_code self.now).rules (place_in_code self.now) (K.known fact.now)
@@ -388,9 +414,7 @@ impl<A: Allocator> Place<'_, A> {
     {
         match &self.rules {
             Rules::OfSums => self.says_within(fact, relation),
-            Rules::OfEquations => {
-                is_among(relation, fact.relations()) || self.shows_difference(fact, relation)
-            }
+            Rules::OfEquations => self.knows_equation(fact, relation),
         }
     }
 

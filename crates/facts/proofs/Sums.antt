@@ -15,3 +15,4 @@ pub mod JoinedLemmas
 pub mod StartedLemmas
 pub mod ForeseenLemmas
 pub mod ShowingLemmas
+pub mod SplitLemmas

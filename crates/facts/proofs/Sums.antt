@@ -16,3 +16,4 @@ pub mod StartedLemmas
 pub mod ForeseenLemmas
 pub mod ShowingLemmas
 pub mod SplitLemmas
+pub mod BeginningLemmas

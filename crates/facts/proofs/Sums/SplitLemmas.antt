@@ -1,17 +1,18 @@
 -- Landing part by part: one fact after another, and one name after another.
-use Rattle.std.proofs.Common.{◌≡◌, ℕ, ◌+◌, ◌<◌, ◌≤◌, Bool, true, false, ◌&&◌, ◌||◌, ◌==◌, List, [], ◌∷◌, map, drop, get_or, length, refl, sym, ap, ◌∙◌, subst, arith, inl, inr}
-use Rattle.std.specs.Prelude.{IsTrue, ◌↔◌, ◌⊎◌, if◌then◌else◌}
-use Rattle.std.proofs.lemmas.Bool.{and_from, and_parts, cond_both, eqb-true, eq-eqb, true≢false, false≢true, cases_lt, lt-ltb}
+use Rattle.std.proofs.Common.{◌≡◌, ℕ, ◌+◌, ◌<◌, ◌≤◌, Bool, true, false, ◌&&◌, ◌||◌, ◌==◌, List, [], ◌∷◌, map, drop, get_or, length, refl, sym, ap, ◌∙◌, subst, arith, inl, inr, lit<}
+use Rattle.std.specs.Prelude.{IsTrue, ◌↔◌, ◌⊎◌, if◌then◌else◌, not}
+use Rattle.std.proofs.lemmas.Bool.{and_from, and_parts, cond_both, eqb-true, eq-eqb, true≢false, false≢true, cases_lt, cases_eq, lt-ltb}
 use Rattle.std.proofs.lemmas.List.{drop_more}
 use Rattle.std.proofs.Math.Path.{fun_ext}
 use Rattle.std.proofs.Math.ListN.{drop_of_length-le}
-use Rattle.wordset.specs.Words.{Words, all_words, meet, IsWithin, some_below}
+use Rattle.wordset.specs.Words.{Words, all_words, meet, IsWithin, some_below, has_some}
+use Rattle.wordset.proofs.Tests.{IsSome, some_to, none_of_some}
 use Rattle.domain.specs.Facts.{Location, Ac, Cell, same}
 use Rattle.domain.specs.Sums.Facts.{Fact, Place, Rules, OfEquations, OfSums}
-use Rattle.domain.specs.Sums.Adding.{with_set, with_name, is_void}
+use Rattle.domain.specs.Sums.Adding.{with_set, with_name, lacks_all, is_void}
 use Rattle.domain.specs.Sums.Narrowing.{narrowed}
 use Rattle.domain.proofs.Sums.SumLemmas.{same_name}
-use Rattle.facts.specs.Sums.Entailment.{Entails, EntailsOne, IsVoid, met_at, TakesWord, IsSplit, PartLands, with_one_link, LandsBy, IsIdle}
+use Rattle.facts.specs.Sums.Entailment.{Entails, EntailsOne, IsVoid, met_at, TakesWord, IsSplit, PartLands, with_one_link, LandsBy, Lands, IsIdle}
 use Rattle.facts.specs.Sums.Landing.{fact_at, Takes, TakesAt, IsSplitBy, AllowAll, IsTakenWhole, LandsUnder, IsIdleUnder}
 use Rattle.facts.proofs.EntailLemmas.{not_true}
 
@@ -130,3 +131,93 @@ whole_taken pl n a v (b ∷ bs) lt small all t = elim t [
   | inl k ↦ inl (ap (λ (s : Words). s v) all.0 ∙ lt-ltb v 4096 lt, subst (λ (m : Fact). IsVoid m ⊎ Entails pl m b) (sym (met_whole pl n a b small all.0)) k)
   | inr k ↦ inr (whole_taken pl n a v bs lt small all.1 k)
 ]
+
+-- a name of a fact that isn't void has a word
+no_lack : (set : Words) → lacks_all set ≡ false → IsSome 4096 set
+no_lack set h = some_to 4096 set (go (has_some set) h)
+  where
+    go : (b : Bool) → not b ≡ false → b ≡ true
+    go true e = refl
+    go false e = absurd (true≢false e)
+
+none_lacks : (a : Fact) → is_void a ≡ false → (x : ℕ) → x < 4096 → lacks_all (a.set (Cell x)) ≡ false
+none_lacks a h x lt = none_of_some 4096 (λ y. lacks_all (a.set (Cell y))) (left _ _ (right _ _ (right _ _ (right _ _ h)))) x lt
+  where
+    left : (p q : Bool) → (p || q) ≡ false → p ≡ false
+    left true q e = absurd (true≢false e)
+    left false q e = refl
+
+    right : (p q : Bool) → (p || q) ≡ false → q ≡ false
+    right true q e = absurd (true≢false e)
+    right false q e = e
+
+-- a split by whatever name
+module _ (pl : Place) (a : Fact) (fs : List Fact) (void : is_void a ≡ false) (beyond : (x : ℕ) → 4096 ≤ x → a.set (Cell x) ≡ all_words)
+    (small : (n : Location) (v : ℕ) → a.set n v ≡ true → v < 4096) where
+  whole_by : (x : ℕ) → IsSplitBy pl (Cell x) a fs → AllowAll (Cell x) fs → IsTakenWhole pl a fs
+  whole_by x split all = elim (cases_lt x 4096) [
+    | inl lt ↦ (let w : IsSome 4096 (a.set (Cell x)) = no_lack (a.set (Cell x)) (none_lacks a void x lt) in
+        taken_whole pl (Cell x) a w.at fs (small (Cell x)) all (split w.at w.small w.holds))
+    | inr g ↦ taken_whole pl (Cell x) a 0 fs (small (Cell x)) all (split 0 (lit< tt) (ap (λ (s : Words). s 0) (beyond x g)))
+  ]
+
+  pub split_iff : (b : Bool) → (IsSplitBy pl Ac a fs → ⊥) → ((x : ℕ) → IsSplitBy pl (Cell x) a fs → AllowAll (Cell x) fs) → AllowAll (Cell 4096) fs →
+      (IsTrue b ↔ IsTakenWhole pl a fs) → IsTrue b ↔ IsSplit pl a fs
+  split_iff b no_ac left last whole = (
+    λ t. (Cell 4096, λ v lt has. whole_taken pl (Cell 4096) a v fs lt (small (Cell 4096)) last (whole.0 t)),
+    λ s. whole.1 (by_name s.0 s.1),
+  )
+    where
+      by_name : (n : Location) → IsSplitBy pl n a fs → IsTakenWhole pl a fs
+      by_name Ac k = absurd (no_ac k)
+      by_name (Cell x) k = whole_by x k (left x k)
+
+-- a part lands
+pub part_void : (pl : Place) (a : Fact) (fs : List Fact) → is_void a ≡ true → IsTrue true ↔ PartLands pl a fs
+part_void pl a fs h = (λ t. inl h, λ k. refl)
+
+pub part_entails : (pl : Place) (a : Fact) (fs : List Fact) → EntailsOne pl a fs → IsTrue true ↔ PartLands pl a fs
+part_entails pl a fs h = (λ t. inr (inl h), λ k. refl)
+
+pub part_split : (pl : Place) (a : Fact) (fs : List Fact) (b : Bool) → is_void a ≡ false → (EntailsOne pl a fs → ⊥) → (IsTrue b ↔ IsSplit pl a fs) → IsTrue b ↔ PartLands pl a fs
+part_split pl a fs b void none h = (
+  λ t. inr (inr (h.0 t)),
+  λ k. elim k [ inl v ↦ absurd (true≢false (sym v ∙ void)) | inr m ↦ elim m [ inl e ↦ absurd (none e) | inr s ↦ h.1 s ] ],
+)
+
+-- links one by one
+each_link : (p : ℕ → Type 0) → p 0 → p 1 → (l : ℕ) → l < 2 → p l
+each_link p zero one l lt = elim (cases_eq l 0) [
+  | inl e ↦ subst p (sym e) zero
+  | inr n ↦ (let e : l ≡ 1 = omega (arith, n, lt) in subst p (sym e) one)
+]
+
+pub both_land : (pl : Place) (f : Fact) (fs : List Fact) (b : Bool) → pl.rules ≡ OfSums → LandsUnder pl 0 f fs → (IsTrue b ↔ LandsUnder pl 1 f fs) → IsTrue b ↔ Lands pl f fs
+both_land pl f fs b rules zero one = (
+  λ t. subst (λ r. LandsBy r pl f fs) (sym rules) (each_link (λ l. LandsUnder pl l f fs) zero (one.0 t)),
+  λ k. one.1 (subst (λ r. LandsBy r pl f fs) rules k 1 (lit< tt)),
+)
+
+pub first_fails : (pl : Place) (f : Fact) (fs : List Fact) → pl.rules ≡ OfSums → (LandsUnder pl 0 f fs → ⊥) → IsTrue false ↔ Lands pl f fs
+first_fails pl f fs rules not = not_true (λ k. not (subst (λ r. LandsBy r pl f fs) rules k 0 (lit< tt)))
+
+pub one_lands : (pl : Place) (f : Fact) (fs : List Fact) (b : Bool) → pl.rules ≡ OfEquations → (IsTrue b ↔ EntailsOne pl f fs) → IsTrue b ↔ Lands pl f fs
+one_lands pl f fs b rules h = subst (λ r. IsTrue b ↔ LandsBy r pl f fs) (sym rules) h
+
+pub both_idle : (pl : Place) (f : Fact) (b : Bool) → pl.rules ≡ OfSums → IsIdleUnder pl 0 f → (IsTrue b ↔ IsIdleUnder pl 1 f) → IsTrue b ↔ IsIdle pl.rules pl f
+both_idle pl f b rules zero one = (
+  λ t. subst (λ r. IsIdle r pl f) (sym rules) (each_link (λ l. IsIdleUnder pl l f) zero (one.0 t)),
+  λ k. one.1 (subst (λ r. IsIdle r pl f) rules k 1 (lit< tt)),
+)
+
+pub first_not_idle : (pl : Place) (f : Fact) → pl.rules ≡ OfSums → (IsIdleUnder pl 0 f → ⊥) → IsTrue false ↔ IsIdle pl.rules pl f
+first_not_idle pl f rules not = not_true (λ k. not (subst (λ r. IsIdle r pl f) rules k 0 (lit< tt)))
+
+pub never_idle : (pl : Place) (f : Fact) → pl.rules ≡ OfEquations → IsTrue false ↔ IsIdle pl.rules pl f
+never_idle pl f rules = not_true (λ k. subst (λ r. IsIdle r pl f) rules k)
+
+pub no_link : (pl : Place) (l : ℕ) (f : Fact) (fs : List Fact) → f.link l ≡ false → IsTrue true ↔ LandsUnder pl l f fs
+no_link pl l f fs h = (λ t k. absurd (true≢false (sym k ∙ h)), λ k. refl)
+
+pub under_link : (pl : Place) (l : ℕ) (f part : Fact) (fs : List Fact) (b : Bool) → f.link l ≡ true → part ≡ with_one_link pl l f → (IsTrue b ↔ PartLands pl part fs) → IsTrue b ↔ LandsUnder pl l f fs
+under_link pl l f part fs b has is h = (λ t k. subst (λ x. PartLands pl x fs) is (h.0 t), λ k. h.1 (subst (λ x. PartLands pl x fs) (sym is) (k has)))

@@ -117,6 +117,7 @@ impl<A: Allocator> Place<'_, A> {
         ensures split { IsTrue result → IsSplit (place_in_code self.now) (P.part part.old) (F.facts among.now) }
         ensures left { result ≡ false → (x : ℕ) →
             IsSplitBy (place_in_code self.now) (Cell x) (P.part part.old) (F.facts among.now) → AllowAll (Cell x) (F.facts among.now) }
+        ensures beyond { AllowAll (Cell 4096) (F.facts among.now) }
         ensures kept { P.part part.new ≡ P.part part.old }
     {
         let told = cells_told(among, given);

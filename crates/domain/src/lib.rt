@@ -19,6 +19,7 @@ mod shapes;
 mod sum_fact;
 mod sum_moves;
 mod taking;
+mod sum_parts;
 mod terms;
 mod tracking;
 

@@ -84,7 +84,8 @@ impl<const C: usize, const R: usize> SumFact<C, R> {
     pub fn copy_from<const D: usize, const S: usize>(&mut self, other: &SumFact<D, S>)
         requires cells { length (cell_sets_of other.now.cells) ≤ C }
         requires relations { length (relations_of other.now.relations) ≤ R }
-        ensures { fact_in_code self.new ≡ fact_in_code other.now }
+        ensures fact { fact_in_code self.new ≡ fact_in_code other.now }
+        ensures cells { cell_sets_of self.new.cells ≡ cell_sets_of other.now.cells }
     {
         self.ac = other.ac;
         self.mq = other.mq;

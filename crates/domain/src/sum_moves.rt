@@ -72,7 +72,8 @@ impl<const C: usize, const R: usize> SumFact<C, R> {
     /// Takes over all of another fact but its relations and chains, of which it has none then.
     pub fn take_over<const D: usize, const S: usize>(&mut self, other: &SumFact<D, S>)
         requires { length (cell_sets_of other.now.cells) ≤ C }
-        ensures { fact_in_code self.new ≡ record (fact_in_code other.now) { relations = []; chains = [] } }
+        ensures fact { fact_in_code self.new ≡ record (fact_in_code other.now) { relations = []; chains = [] } }
+        ensures cells { cell_sets_of self.new.cells ≡ cell_sets_of other.now.cells }
     {
         self.ac = other.ac;
         self.mq = other.mq;
@@ -89,7 +90,8 @@ impl<const C: usize, const R: usize> SumFact<C, R> {
     pub fn take_without<const D: usize, const S: usize>(&mut self, other: &SumFact<D, S>, names: &Names<'_>)
         requires cells { length (cell_sets_of other.now.cells) ≤ C }
         requires relations { length (relations_of other.now.relations) ≤ R }
-        ensures { fact_in_code self.new ≡ without_relations (names_of names.now) (fact_in_code other.now) }
+        ensures fact { fact_in_code self.new ≡ without_relations (names_of names.now) (fact_in_code other.now) }
+        ensures cells { cell_sets_of self.new.cells ≡ cell_sets_of other.now.cells }
     {
         self.take_over(other);
         self.relations.push_free_of(other.relations.as_slice(), names);

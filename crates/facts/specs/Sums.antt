@@ -12,3 +12,4 @@ pub mod Equations
 pub mod Starts
 pub mod PlaceInCode
 pub mod OutcomesInCode
+pub mod Shaped

@@ -14,3 +14,6 @@ pub mod LandedLemmas
 pub mod JoinedLemmas
 pub mod StartedLemmas
 pub mod ForeseenLemmas
+pub mod OperandLemmas
+pub mod AskingLemmas
+pub mod ComesLemmas

@@ -287,7 +287,7 @@ impl<A: Allocator> Place<'_, A> {
     {
         match self.routine {
             None => true,
-            Some(_) => cells.is_subset(&self.with_own(listed)),
+            Some(entry) => cells.is_subset(&listed.union(&WordSet::one(entry))),
         }
     }
 

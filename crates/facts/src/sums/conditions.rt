@@ -45,7 +45,10 @@ fn may_go_up<const C: usize, const R: usize>(fact: &SumFact<C, R>) -> bool
     }
     let mut set = WordSet::empty();
     put_own_words(fact, &mut set);
-    !set.contains(Word::ZERO.complement())
+    if set.contains(Word::ZERO.complement()) {
+        return false;
+    }
+    true
 }
 
 /// Whether the return word may be counted up once more by the rules.

@@ -21,6 +21,7 @@ mod sum_moves;
 mod taking;
 mod sum_parts;
 mod terms;
+mod told;
 mod tracking;
 
 pub use fact::Fact;

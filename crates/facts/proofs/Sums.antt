@@ -17,3 +17,4 @@ pub mod ForeseenLemmas
 pub mod OperandLemmas
 pub mod AskingLemmas
 pub mod ComesLemmas
+pub mod DeviceLemmas

@@ -2,7 +2,7 @@
 //!
 //! By the rules of equations facts are not narrowed as a whole, since most of what they say is never asked.
 
-ghost use Rattle.std.specs.Prelude.{◌≡◌, true, Some, flat_map};
+ghost use Rattle.std.specs.Prelude.{◌≡◌, true, Some, map};
 ghost use Rattle.wordset.specs.Words.{Words};
 ghost use Rattle.wordset.specs.Lanes.{words};
 ghost use Rattle.peripherals.specs.Loading.{image_of};
@@ -17,7 +17,8 @@ ghost use Rattle.domain.specs.Sums.Narrowing.{narrowed, words_by, of_term, of_pa
 ghost use Rattle.domain.specs.Sums.InCode.{term_of, sum_of};
 ghost use Rattle.domain.specs.Sums.Brief.{brief_words};
 ghost use Rattle.domain.specs.Sums.ChainsInCode.{chain_of};
-ghost use Rattle.domain.specs.Sums.FactInCode.{fact_in_code, rules_of};
+ghost use Rattle.domain.specs.Sums.FactInCode.{fact_in_code, rules_of, all_parts, all_parts_of_chains};
+ghost use Rattle.domain.specs.Sums.RelationsInCode.{relation_of};
 
 use crate::brief::BriefSet;
 use crate::chains::Chain;
@@ -150,13 +151,23 @@ impl<const C: usize, const R: usize> SumFact<C, R> {
         let ChainWords { cells: _, accumulators: _, differences: _, links: _ } = found;
     }
 
-    /// Leaves in a set of a name what is left to it when a fact is told what the chains of this fact say.
-    fn keep_for_chains(&self, name: &Location, place: &mut WordSet)
-        ensures { (f : said.Fact) → words place.old ≡ f.set (location_of name.now) → words place.new ≡
-            (adding_all OfSums (flat_map (λ c. parts_of_chain (fact_in_code self.now) c) (fact_in_code self.now).chains) f).set
-            (location_of name.now) }
+    /// Leaves in a set of a name what is left to it when a fact is told what some relations of this fact say of their first
+    /// terms and of the rest.
+    fn keep_for_all_parts(&self, image: &Image, relations: &[Relation], name: &Location, place: &mut WordSet)
+        ensures { (f : said.Fact) → words place.old ≡ f.set (location_of name.now) → words place.new ≡ (adding_all OfSums
+            (all_parts (image_of image.now) (fact_in_code self.now) (map relation_of relations.now)) f).set (location_of name.now) }
     {
-        for chain in self.chains() {
+        for relation in relations {
+            self.keep_for_parts(image, relation, name, place);
+        }
+    }
+
+    /// Leaves in a set of a name what is left to it when a fact is told what some chains of this fact say.
+    fn keep_for_chains(&self, chains: &[Chain], name: &Location, place: &mut WordSet)
+        ensures { (f : said.Fact) → words place.old ≡ f.set (location_of name.now) → words place.new ≡ (adding_all OfSums
+            (all_parts_of_chains (fact_in_code self.now) (map chain_of chains.now)) f).set (location_of name.now) }
+    {
+        for chain in chains {
             self.keep_for_chain(chain, name, place);
         }
     }
@@ -166,10 +177,8 @@ impl<const C: usize, const R: usize> SumFact<C, R> {
         ensures { words place.new ≡ (narrowed (image_of image.now) (fact_in_code self.now)).set (location_of name.now) }
     {
         self.put_set_of(name, place);
-        for relation in self.relations().as_slice() {
-            self.keep_for_parts(image, relation, name, place);
-        }
-        self.keep_for_chains(name, place);
+        self.keep_for_all_parts(image, self.relations.as_slice(), name, place);
+        self.keep_for_chains(self.chains.as_slice(), name, place);
     }
 
     /// Puts the words that a name may hold by a fact of which something is asked into a place for them. By the rules of sums

@@ -22,6 +22,7 @@ mod sum_moves;
 mod taking;
 mod sum_parts;
 mod terms;
+mod told;
 mod tracking;
 
 pub use fact::Fact;

@@ -17,3 +17,7 @@ pub mod ForeseenLemmas
 pub mod ShowingLemmas
 pub mod SplitLemmas
 pub mod BeginningLemmas
+pub mod OperandLemmas
+pub mod AskingLemmas
+pub mod ComesLemmas
+pub mod DeviceLemmas

@@ -3,6 +3,7 @@
 #![tactic(auto)]
 
 mod fact;
+mod asked;
 pub mod laws;
 mod location;
 mod brief;
@@ -18,6 +19,7 @@ mod shapes;
 mod sum_fact;
 mod sum_moves;
 mod sum_parts;
+mod taking;
 mod terms;
 mod tracking;
 

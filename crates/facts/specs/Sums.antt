@@ -11,3 +11,5 @@ pub mod Access
 pub mod Equations
 pub mod Starts
 pub mod Shaped
+pub mod PlaceInCode
+pub mod OutcomesInCode

@@ -1,6 +1,16 @@
 //! Facts whose relations are of sums, and what each instruction makes of them, by the rules of all versions of certificates.
 
-pub mod additions;
+mod additions;
 mod carrying;
-pub mod operations;
-pub mod stores;
+mod conditions;
+mod operations;
+mod outcomes;
+mod place;
+mod references;
+mod registers;
+mod rooms;
+mod stores;
+
+pub use outcomes::{Kind, Outcome, Outcomes};
+pub use place::Place;
+pub use rooms::{Fact, NarrowedFact, NextFact, PartFact, SteppedFact};

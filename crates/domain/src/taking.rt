@@ -1,12 +1,13 @@
 //! What may happen to the words of names: the accumulator takes some word of a set, or one of several cells does, unknown
 //! which.
 
-ghost use Rattle.std.specs.Prelude.{◌≡◌, ◌≤◌, ◌<◌, ◌+◌, ◌++◌, ◌∷◌, [], length, map, ℕ};
-ghost use Rattle.wordset.specs.Words.{Words, shifted, union};
+ghost use Rattle.std.specs.Prelude.{◌≡◌, ◌≤◌, ◌<◌, ◌++◌, ◌∷◌, [], length, map};
+ghost use Rattle.wordset.specs.Words.{shifted, union, one};
 ghost use Rattle.wordset.specs.Lanes.{words};
 ghost use Rattle.domain.specs.Facts.{Ac, Cell};
 ghost use Rattle.domain.specs.Sums.Adding.{with_name};
-ghost use Rattle.domain.specs.Sums.Moves.{taking, weakly_updated};
+ghost use Rattle.domain.specs.Sums.Moves.{taking, weakly_updated, weakly_updated_sets, without_relations};
+ghost use Rattle.domain.specs.Sums.Naming.{names_of};
 ghost use Rattle.domain.specs.Sums.CellsInCode.{cell_sets_of, cell_set_of};
 ghost use Rattle.domain.specs.Sums.RelationsInCode.{relations_of};
 ghost use Rattle.domain.specs.Sums.Taken.{changed, changed_among};
@@ -97,15 +98,24 @@ impl<const C: usize, const R: usize> SumFact<C, R> {
         self.set_accumulator(set);
     }
 
-    /// Lets this fact be another after one cell of a set, unknown which, changed.
-    fn take_changed_among<const D: usize, const S: usize>(&mut self, other: &SumFact<D, S>, among: &WordSet, change: &Change<'_>)
+    /// Lets this fact be another after one cell of a set, unknown which, changed, without what it says of some names beside their
+    /// sets.
+    fn take_changed<const D: usize, const S: usize>(
+        &mut self,
+        other: &SumFact<D, S>,
+        names: &Names<'_>,
+        among: &WordSet,
+        change: &Change<'_>,
+    )
         requires cells { length (cell_sets_of other.now.cells) ≤ C }
         requires relations { length (relations_of other.now.relations) ≤ R }
-        ensures { fact_in_code self.new ≡ weakly_updated (words among.now)
-            (λ a. changed change.now ((fact_in_code other.now).set (Cell a))) (fact_in_code other.now) }
+        ensures { fact_in_code self.new ≡ record (without_relations (names_of names.now) (fact_in_code other.now)) {
+          set = λ n. weakly_updated_sets (words among.now)
+            (λ a. changed change.now ((fact_in_code other.now).set (Cell a))) (fact_in_code other.now).set n;
+        } }
     {
-        self.take_without(other, &Names::Cells(among));
-        put_all_changed(other.cells(), among, change, &mut self.cells);
+        self.take_without(other, names);
+        put_all_changed(&other.cells, among, change, &mut self.cells);
     }
 
     /// Lets this fact be another after one cell of a set, unknown which, was counted up by 1.
@@ -115,15 +125,18 @@ impl<const C: usize, const R: usize> SumFact<C, R> {
         ensures { fact_in_code self.new ≡ weakly_updated (words among.now)
             (λ a. shifted ((fact_in_code other.now).set (Cell a)) 1) (fact_in_code other.now) }
     {
-        self.take_changed_among(other, among, &Change::CountsUp);
+        self.take_changed(other, &Names::Cells(among), among, &Change::CountsUp);
     }
 
-    /// Lets this fact be another after one cell of a set, unknown which, took a word of another set.
-    pub fn take_stored_among<const D: usize, const S: usize>(&mut self, other: &SumFact<D, S>, among: &WordSet, set: &WordSet)
+    /// Lets this fact be another after one cell of a set, unknown which, took a word of another set, and the accumulator was
+    /// cleared.
+    pub fn take_deposited_among<const D: usize, const S: usize>(&mut self, other: &SumFact<D, S>, among: &WordSet, set: &WordSet)
         requires cells { length (cell_sets_of other.now.cells) ≤ C }
         requires relations { length (relations_of other.now.relations) ≤ R }
-        ensures { fact_in_code self.new ≡ weakly_updated (words among.now) (λ a. words set.now) (fact_in_code other.now) }
+        ensures { fact_in_code self.new ≡
+            taking Ac (one 0) (weakly_updated (words among.now) (λ a. words set.now) (fact_in_code other.now)) }
     {
-        self.take_changed_among(other, among, &Change::Takes(set));
+        self.take_changed(other, &Names::Changing(among), among, &Change::Takes(set));
+        self.set_accumulator(&WordSet::one(Word::ZERO));
     }
 }

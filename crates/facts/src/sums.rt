@@ -3,6 +3,8 @@
 mod additions;
 mod carrying;
 mod conditions;
+mod dispatch;
+mod memory;
 mod operations;
 mod outcomes;
 mod place;
@@ -13,4 +15,4 @@ mod stores;
 
 pub use outcomes::{Kind, Outcome, Outcomes};
 pub use place::Place;
-pub use rooms::{Fact, NarrowedFact, NextFact, PartFact, SteppedFact};
+pub use rooms::{Fact, NarrowedFact, NextFact, PartFact, SteppedFact, TestedFact};

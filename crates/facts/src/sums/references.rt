@@ -3,16 +3,15 @@
 //! A set is put into a place that is lent for it.
 
 ghost use Rattle.std.specs.Prelude.{◌≡◌, ◌<◌, ◌≤◌, ◌||◌, ◌&&◌, ℕ, length};
-ghost use Rattle.std.specs.Option.{option_map};
 ghost use Rattle.wordset.specs.Words.{only, shifted};
 ghost use Rattle.wordset.specs.Lanes.{words};
 ghost use Rattle.domain.specs.Facts.{tape_word};
-ghost use Rattle.domain.specs.Sums.InCode.{term_of};
 ghost use Rattle.domain.specs.Sums.CellsInCode.{cell_sets_of};
 ghost use Rattle.domain.specs.Sums.RelationsInCode.{relations_of};
 ghost use Rattle.domain.specs.Sums.FactInCode.{fact_in_code};
 ghost use Rattle.domain.specs.Sums.Moves.{counted};
 ghost use Rattle.facts.specs.Sums.References.{own_words, words_in, possible, targets, words_at, is_fixed, are_fixed, one_target, operand_term};
+ghost use Rattle.facts.specs.Sums.Shaped.{term_if};
 ghost use Rattle.facts.specs.Sums.PlaceInCode.{place_in_code};
 
 use crate::entailment::word_of;
@@ -178,7 +177,7 @@ impl<A: Allocator> Place<'_, A> {
 
     /// The one target as a term, where there is one and it is a variable.
     pub(crate) fn one_target(&self, single: &Option<Word>) -> Option<Term>
-        ensures { option_map term_of result ≡ one_target (place_in_code self.now).declaration single.now }
+        ensures { term_if result ≡ one_target (place_in_code self.now).declaration single.now }
     {
         match single {
             None => None,
@@ -205,7 +204,7 @@ impl<A: Allocator> Place<'_, A> {
     /// behind the variable that holds the pointer.
     pub(crate) fn operand_term(&self, indirect: bool, named: Word, targets: &WordSet, single: &Option<Word>) -> Option<Term>
         requires { single.now ≡ only (words targets.now) }
-        ensures { option_map term_of result ≡
+        ensures { term_if result ≡
             operand_term (place_in_code self.now).declaration indirect named (words targets.now) }
     {
         if self.is_behind(indirect, named, targets) {

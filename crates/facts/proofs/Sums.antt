@@ -14,3 +14,6 @@ pub mod LandedLemmas
 pub mod JoinedLemmas
 pub mod StartedLemmas
 pub mod ForeseenLemmas
+pub mod EachRelation
+pub mod CarryingLemmas
+pub mod RowsLemmas

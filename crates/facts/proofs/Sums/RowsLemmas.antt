@@ -6,14 +6,14 @@ use Rattle.std.specs.List.{list_any}
 use Rattle.std.proofs.Math.ListN.{drop_of_length-le}
 use Rattle.std.proofs.lemmas.List.{at_drop_more}
 use Rattle.instruct.specs.Bits.{has_bit}
-use Rattle.wordset.specs.Words.{Words, one, all_words}
+use Rattle.wordset.specs.Words.{Words, one, all_words, shifted}
 use Rattle.domain.specs.Facts.{Location, Ac, Cell, same, is_outside}
 use Rattle.domain.specs.Sums.Terms.{Term, Sum, Summand, sum_of_name, difference_of, speaks_of, name_of_term}
 use Rattle.domain.specs.Sums.Chains.{Step, Chain, longer, all_longer}
 use Rattle.domain.specs.Sums.Facts.{Relation, Fact, OfSums}
 use Rattle.domain.specs.Sums.Adding.{with_set, set_of_sum, adding_all}
 use Rattle.domain.specs.Sums.Moves.{free_of}
-use Rattle.facts.specs.Sums.Additions.{after_tad, without_sums, summed, complemented, incremented, turned}
+use Rattle.facts.specs.Sums.Additions.{has_ac, if_without_ac, after_tad, without_sums, summed, complemented, incremented, turned}
 use Rattle.facts.specs.Sums.Stores.{after_store, stored, begun_by, all_begun}
 use Rattle.facts.specs.Sums.Shaped.{told, begun_beside}
 use Rattle.facts.proofs.Sums.EachRelation.{adding_append, put_on, append_nothing, filter_append, flat_append, map_append}
@@ -48,6 +48,12 @@ pub all_begun_on : {A B : Type 0} (h : A → B) (g : B → List Chain) (xs : Lis
 all_begun_on h g xs i made begun past e =
     sym (ap (λ (os : List _). record made { chains = made.chains ++ flat_map g (map h os) }) (drop_of_length-le xs {i = i} past)
     ∙ ap (λ (cs : List Chain). record made { chains = cs }) (append_nothing made.chains)) ∙ e
+
+-- ---- TAD by the rules of equations
+
+-- What a relation says after a word w was added to the accumulator.
+abbrev pub moved_piece : ℕ → Relation → List Relation
+moved_piece w r = if has_ac r.sum then record { sum = r.sum; set = shifted r.set w } ∷ [] else if_without_ac r
 
 -- ---- group 1
 

@@ -2,6 +2,9 @@
 use Rattle.std.proofs.Common.{◌≡◌, ℕ, ◌+◌, ◌*◌, ◌%◌, ◌<◌, ◌≤◌, ◌==◌, Bool, true, false, ◌&&◌, List, [], ◌∷◌, ◌++◌, drop, length, refl, sym, ap, ◌∙◌, arith, inl, inr}
 use Rattle.std.specs.Prelude.{if◌then◌else◌, nat_lt}
 use Rattle.std.proofs.Math.Path.{fun_ext}
+use Rattle.std.specs.Prelude.{flat_map}
+use Rattle.std.proofs.Common.{map, get_or}
+use Rattle.std.proofs.lemmas.List.{at_drop_more}
 use Rattle.std.proofs.lemmas.Bool.{cases_lt, eq-eqb, eqb-true}
 use Rattle.wordset.specs.Words.{Words, some_below, all_words, meet}
 use Rattle.wordset.proofs.Tests.{some_from, some_to, IsSome, both_ways, and_both, and_first, and_second}
@@ -86,3 +89,14 @@ pub parts_more : (image : Image) (g f : Fact) (set : Words) (xs : Sum) → 0 < l
     ≡ adding_all OfSums (parts_of image g xs set) f
 parts_more image g f set [] e = absurd (omega (arith, e))
 parts_more image g f set (x ∷ xs) e = refl
+
+-- ---- lists of relations, each with its parts
+
+-- One more has its parts added.
+pub parts_on : {A B : Type 0} (g : A → B) (p : B → List Relation) (xs : List A) (i : ℕ) (x : A) (now more all : Fact) → i < length xs → x ≡ get_or xs i x → more ≡ adding_all OfSums (p (g x)) now →
+    adding_all OfSums (flat_map p (map g (drop i xs))) now ≡ all → adding_all OfSums (flat_map p (map g (drop (i + 1) xs))) more ≡ all
+parts_on g p xs i x now more all lt is e before =
+    let here : flat_map p (map g (drop i xs)) ≡ p (g x) ++ flat_map p (map g (drop (i + 1) xs)) =
+        at_drop_more (λ os. flat_map p (map g os)) xs i x lt ∙ ap (λ y. p (g y) ++ flat_map p (map g (drop (i + 1) xs))) (sym is) in
+    ap (λ (f : Fact). adding_all OfSums (flat_map p (map g (drop (i + 1) xs))) f) e ∙ sym (added_both (p (g x)) (flat_map p (map g (drop (i + 1) xs))) now)
+    ∙ ap (λ (rs : List Relation). adding_all OfSums rs now) (sym here) ∙ before

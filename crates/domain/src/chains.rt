@@ -24,6 +24,12 @@ pub enum Step {
     Adds(Word),
 }
 
+impl Default for Step {
+    fn default() -> Self {
+        Step::Ands(Word::ZERO)
+    }
+}
+
 /// The most steps that a chain has: one more than a text may give it, since an instruction adds one.
 pub const MOST_STEPS: usize = 17;
 

@@ -21,6 +21,7 @@ mod sum_moves;
 mod sum_parts;
 mod taking;
 mod terms;
+mod told;
 mod tracking;
 
 pub use fact::Fact;

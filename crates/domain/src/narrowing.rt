@@ -5,21 +5,19 @@
 
 ghost use Rattle.std.specs.Prelude.{◌≡◌, ◌<◌, ◌≤◌, ◌+◌, ◌*◌, ◌++◌, ◌∷◌, ◌&&◌, ◌||◌, ◌==◌, [], length, map, drop, ℕ};
 ghost use Rattle.wordset.specs.Words.{some_below, plus};
+ghost use Rattle.std.specs.List.{list_all};
 ghost use Rattle.wordset.specs.Lanes.{words};
 ghost use Rattle.wordset.specs.Links.{links_of};
 ghost use Rattle.peripherals.specs.Loading.{image_of};
-ghost use Rattle.domain.specs.Meaning.{location_of};
-ghost use Rattle.domain.specs.Facts.{Ac, Cell};
 ghost use Rattle.domain.specs.Sums.Facts.{OfSums};
 ghost use Rattle.domain.specs.Sums.Adding.{adding, adding_all};
-ghost use Rattle.domain.specs.Sums.Chains.{gives};
-ghost use Rattle.domain.specs.Sums.Narrowing.{of_term, of_part, parts_of, parts_of_chain, links_of_chain, narrowed};
+ghost use Rattle.domain.specs.Sums.Narrowing.{of_term, of_part, parts_of, may_give, parts_of_chain, links_of_chain, narrowed};
 ghost use Rattle.domain.specs.Sums.InCode.{term_of, sum_of};
 ghost use Rattle.domain.specs.Sums.Brief.{brief_words};
 ghost use Rattle.domain.specs.Sums.CellsInCode.{cell_sets_of};
 ghost use Rattle.domain.specs.Sums.RelationsInCode.{relations_of, relation_of};
 ghost use Rattle.domain.specs.Sums.ChainsInCode.{chain_of, gives_from};
-ghost use Rattle.domain.specs.Sums.FactInCode.{fact_in_code};
+ghost use Rattle.domain.specs.Sums.FactInCode.{fact_in_code, all_parts, all_parts_of_chains};
 
 use crate::chains::Chain;
 use crate::location::{Location, negated};
@@ -86,6 +84,7 @@ impl<const C: usize, const R: usize> SumFact<C, R> {
         requires relations { length (relations_of other.now.relations) ≤ R }
         ensures fact { fact_in_code self.new ≡ fact_in_code other.now }
         ensures cells { cell_sets_of self.new.cells ≡ cell_sets_of other.now.cells }
+        ensures relations { relations_of self.new.relations ≡ relations_of other.now.relations }
     {
         self.ac = other.ac;
         self.mq = other.mq;
@@ -173,6 +172,12 @@ impl<const C: usize, const R: usize> SumFact<C, R> {
 
     /// What a chain and the fact's sets allow.
     pub fn words_of_chain(&self, chain: &Chain) -> ChainWords
+        ensures cells { (v : ℕ) → v < 4096 → words result.cells v ≡
+            some_below 4096 (λ w. some_below 2 (λ l. may_give (fact_in_code self.now) (chain_of chain.now) v w l)) }
+        ensures accumulators { (w : ℕ) → w < 4096 → words result.accumulators w ≡
+            some_below 4096 (λ v. some_below 2 (λ l. may_give (fact_in_code self.now) (chain_of chain.now) v w l)) }
+        ensures differences { (d : ℕ) → d < 4096 → words result.differences d ≡
+            some_below 4096 (λ v. some_below 2 (λ l. may_give (fact_in_code self.now) (chain_of chain.now) v (plus v d) l)) }
         ensures links { (l : ℕ) → l < 2 → links_of result.links l ≡ links_of_chain (fact_in_code self.now) (chain_of chain.now) l }
     {
         let mut found = ChainWords {
@@ -208,13 +213,44 @@ impl<const C: usize, const R: usize> SumFact<C, R> {
     }
 
     /// Keeps those links that each chain of another fact allows.
-    fn keep_links_of_chains<const D: usize, const S: usize>(&mut self, fact: &SumFact<D, S>) {
+    fn keep_links_of_chains<const D: usize, const S: usize>(&mut self, fact: &SumFact<D, S>)
+        ensures { fact_in_code self.new ≡ record (fact_in_code self.old) {
+          link = λ l. links_of self.old.link l &&
+              list_all (λ c. links_of_chain (fact_in_code fact.now) c l) (fact_in_code fact.now).chains;
+        } }
+    {
         for chain in fact.chains() {
             let ChainWords { cells: _, accumulators: _, differences: _, links } = fact.words_of_chain(chain);
             self.link = Links {
                 clear: self.link.clear && links.clear,
                 set: self.link.set && links.set,
             };
+        }
+    }
+
+    /// Adds what some relations of another fact say of their first terms and of the rest.
+    fn add_all_parts<const D: usize, const S: usize>(&mut self, image: &Image, fact: &SumFact<D, S>, relations: &[Relation])
+        requires cells { length (cell_sets_of self.old.cells) + 2 * length relations.now ≤ C }
+        requires relations { length (relations_of self.old.relations) + length relations.now ≤ R }
+        ensures fact { fact_in_code self.new ≡ adding_all OfSums
+            (all_parts (image_of image.now) (fact_in_code fact.now) (map relation_of relations.now)) (fact_in_code self.old) }
+        ensures cells { length (cell_sets_of self.new.cells) ≤ length (cell_sets_of self.old.cells) + 2 * length relations.now }
+        ensures more { length (relations_of self.new.relations) ≤ length (relations_of self.old.relations) + length relations.now }
+    {
+        for relation in relations {
+            self.add_parts(image, fact, relation);
+        }
+    }
+
+    /// Adds what some chains of another fact say.
+    fn add_all_parts_of_chains<const D: usize, const S: usize>(&mut self, fact: &SumFact<D, S>, chains: &[Chain])
+        requires cells { length (cell_sets_of self.old.cells) + length chains.now ≤ C }
+        requires relations { length (relations_of self.old.relations) + length chains.now ≤ R }
+        ensures { fact_in_code self.new ≡ adding_all OfSums
+            (all_parts_of_chains (fact_in_code fact.now) (map chain_of chains.now)) (fact_in_code self.old) }
+    {
+        for chain in chains {
+            self.add_parts_of_chain(fact, chain);
         }
     }
 
@@ -227,11 +263,7 @@ impl<const C: usize, const R: usize> SumFact<C, R> {
     {
         self.copy_from(fact);
         self.keep_links_of_chains(fact);
-        for relation in fact.relations().as_slice() {
-            self.add_parts(image, fact, relation);
-        }
-        for chain in fact.chains() {
-            self.add_parts_of_chain(fact, chain);
-        }
+        self.add_all_parts(image, fact, fact.relations.as_slice());
+        self.add_all_parts_of_chains(fact, fact.chains.as_slice());
     }
 }

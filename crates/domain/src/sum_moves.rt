@@ -92,6 +92,7 @@ impl<const C: usize, const R: usize> SumFact<C, R> {
         requires relations { length (relations_of other.now.relations) ≤ R }
         ensures fact { fact_in_code self.new ≡ without_relations (names_of names.now) (fact_in_code other.now) }
         ensures cells { cell_sets_of self.new.cells ≡ cell_sets_of other.now.cells }
+        ensures fewer { length (relations_of self.new.relations) ≤ length (relations_of other.now.relations) }
     {
         self.take_over(other);
         self.relations.push_free_of(other.relations.as_slice(), names);
@@ -102,11 +103,13 @@ impl<const C: usize, const R: usize> SumFact<C, R> {
     pub fn take_counted<const D: usize, const S: usize>(&mut self, other: &SumFact<D, S>, cell: Word, set: &WordSet)
         requires cells { length (cell_sets_of other.now.cells) < C }
         requires relations { length (relations_of other.now.relations) ≤ R }
-        ensures { fact_in_code self.new ≡ record (fact_in_code other.now) {
+        ensures fact { fact_in_code self.new ≡ record (fact_in_code other.now) {
           set = with_set (Cell cell) (words set.now) (fact_in_code other.now).set;
           relations = moved_relations cell (one 1) (fact_in_code other.now).relations;
           chains = map (after_count cell 1) (fact_in_code other.now).chains;
         } }
+        ensures cells { length (cell_sets_of self.new.cells) ≤ length (cell_sets_of other.now.cells) + 1 }
+        ensures same { length (relations_of self.new.relations) ≡ length (relations_of other.now.relations) }
     {
         let one = Word::from_index(1);
         self.take_over(other);
@@ -161,7 +164,13 @@ impl<const C: usize, const R: usize> SumFact<C, R> {
 
     /// Lets this fact be what holds after a call: the exit's, with the sites and offsets of the fact at the JMS, its sets of the
     /// cells that were not written, and its relations between them.
-    pub fn take_joined<const D: usize, const S: usize>(&mut self, rules: &Rules, call: &SumFact<D, S>, exit: &SumFact<D, S>, written: &WordSet)
+    pub fn take_joined<const D: usize, const S: usize, const E: usize, const T: usize>(
+        &mut self,
+        rules: &Rules,
+        call: &SumFact<D, S>,
+        exit: &SumFact<E, T>,
+        written: &WordSet,
+    )
         requires cells { length (cell_sets_of call.now.cells) + length (cell_sets_of exit.now.cells) ≤ C }
         requires relations { length (relations_of call.now.relations) + length (relations_of exit.now.relations) ≤ R }
         ensures { fact_in_code self.new ≡

@@ -1,9 +1,8 @@
-//! Parts of a fact that are put into it one by one: the link, MQ, offsets, chains, and relations as they stand.
+//! Parts of a fact that are put into it one by one: chains, and relations as they stand.
 
 ghost use Rattle.std.specs.Prelude.{◌≡◌, ◌<◌, ◌≤◌, ◌+◌, ◌++◌, ◌∷◌, [], length, map};
 ghost use Rattle.wordset.specs.Words.{one, shifted, mirrored};
 ghost use Rattle.wordset.specs.Lanes.{words};
-ghost use Rattle.wordset.specs.Links.{links_of};
 ghost use Rattle.domain.specs.Sums.Adding.{is_equation, is_kept};
 ghost use Rattle.domain.specs.Sums.Moves.{free_of};
 ghost use Rattle.domain.specs.Sums.InCode.{sum_of};
@@ -11,18 +10,16 @@ ghost use Rattle.domain.specs.Sums.Brief.{brief_words};
 ghost use Rattle.domain.specs.Sums.RelationsInCode.{relations_of, relation_of};
 ghost use Rattle.domain.specs.Sums.ChainsInCode.{chain_of};
 ghost use Rattle.domain.specs.Sums.Naming.{names_of};
-ghost use Rattle.domain.specs.Sums.Offsets.{offsets_in};
 ghost use Rattle.domain.specs.Sums.FactInCode.{fact_in_code, rules_of};
 
 use crate::brief::BriefSet;
 use crate::chains::Chain;
 use crate::names::Names;
 use crate::relations::Relation;
-use crate::return_offsets::ReturnOffsets;
 use crate::sum_fact::{Rules, SumFact};
 use crate::terms::{Sum, Term};
 use word12::Word;
-use wordset::{Links, WordSet};
+use wordset::WordSet;
 
 /// Whether a relation of a sum of one of the shapes is an equation: its sum is a name less another, and its set one word.
 fn is_equation_in_brief(sum: &Sum, set: &BriefSet) -> bool
@@ -102,33 +99,6 @@ impl Relation {
 }
 
 impl<const C: usize, const R: usize> SumFact<C, R> {
-    /// Lets the link be one of these.
-    pub fn set_link(&mut self, link: Links)
-        ensures fact { fact_in_code self.new ≡ record (fact_in_code self.old) { link = links_of link } }
-        ensures cells { self.new.cells ≡ self.old.cells }
-        ensures relations { self.new.relations ≡ self.old.relations }
-    {
-        self.link = link;
-    }
-
-    /// Lets MQ hold the words of a set.
-    pub fn set_mq(&mut self, set: &WordSet)
-        ensures fact { fact_in_code self.new ≡ record (fact_in_code self.old) { mq = words set.now } }
-        ensures cells { self.new.cells ≡ self.old.cells }
-        ensures relations { self.new.relations ≡ self.old.relations }
-    {
-        self.mq = *set;
-    }
-
-    /// Lets the running routine's return word have been counted up by one of these.
-    pub fn set_offsets(&mut self, offsets: ReturnOffsets)
-        ensures fact { fact_in_code self.new ≡ record (fact_in_code self.old) { offsets = offsets_in offsets } }
-        ensures cells { self.new.cells ≡ self.old.cells }
-        ensures relations { self.new.relations ≡ self.old.relations }
-    {
-        self.offsets = offsets;
-    }
-
     /// Takes all chains away.
     pub fn clear_chains(&mut self)
         ensures fact { fact_in_code self.new ≡ record (fact_in_code self.old) { chains = [] } }

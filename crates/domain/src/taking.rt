@@ -5,7 +5,6 @@ ghost use Rattle.std.specs.Prelude.{◌≡◌, ◌≤◌, ◌<◌, ◌++◌, ◌
 ghost use Rattle.wordset.specs.Words.{shifted, union, one};
 ghost use Rattle.wordset.specs.Lanes.{words};
 ghost use Rattle.domain.specs.Facts.{Ac, Cell};
-ghost use Rattle.domain.specs.Sums.Adding.{with_name};
 ghost use Rattle.domain.specs.Sums.Moves.{taking, weakly_updated, weakly_updated_sets, without_relations};
 ghost use Rattle.domain.specs.Sums.Naming.{names_of};
 ghost use Rattle.domain.specs.Sums.CellsInCode.{cell_sets_of, cell_set_of};
@@ -78,16 +77,6 @@ fn put_all_changed<const D: usize, const C: usize>(
 }
 
 impl<const C: usize, const R: usize> SumFact<C, R> {
-    /// Lets the accumulator hold the words of a set; what else the fact says of it stays.
-    pub fn set_accumulator(&mut self, set: &WordSet)
-        ensures fact { fact_in_code self.new ≡ with_name Ac (words set.now) (fact_in_code self.old) }
-        ensures cells { self.new.cells ≡ self.old.cells }
-        ensures relations { self.new.relations ≡ self.old.relations }
-        ensures chains { self.new.chains ≡ self.old.chains }
-    {
-        self.ac = *set;
-    }
-
     /// Lets this fact be another after the accumulator took some word of a set.
     pub fn take_for_accumulator<const D: usize, const S: usize>(&mut self, other: &SumFact<D, S>, set: &WordSet)
         requires cells { length (cell_sets_of other.now.cells) ≤ C }
@@ -95,7 +84,7 @@ impl<const C: usize, const R: usize> SumFact<C, R> {
         ensures { fact_in_code self.new ≡ taking Ac (words set.now) (fact_in_code other.now) }
     {
         self.take_without(other, &Names::One(Location::Accumulator));
-        self.set_accumulator(set);
+        self.ac = *set;
     }
 
     /// Lets this fact be another after one cell of a set, unknown which, changed, without what it says of some names beside their
@@ -137,6 +126,6 @@ impl<const C: usize, const R: usize> SumFact<C, R> {
             taking Ac (one 0) (weakly_updated (words among.now) (λ a. words set.now) (fact_in_code other.now)) }
     {
         self.take_changed(other, &Names::Changing(among), among, &Change::Takes(set));
-        self.set_accumulator(&WordSet::one(Word::ZERO));
+        self.ac = WordSet::one(Word::ZERO);
     }
 }

@@ -17,3 +17,7 @@ pub mod ForeseenLemmas
 pub mod EachRelation
 pub mod CarryingLemmas
 pub mod RowsLemmas
+pub mod OperandLemmas
+pub mod AskingLemmas
+pub mod ComesLemmas
+pub mod DeviceLemmas

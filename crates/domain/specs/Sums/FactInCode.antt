@@ -1,10 +1,13 @@
 -- Facts of sums as they're kept in code, and what they mean.
-use Rattle.std.specs.Prelude.{ℕ, [], List, map}
+use Rattle.std.specs.Prelude.{ℕ, [], List, map, flat_map}
 use Rattle.wordset.specs.Words.{Words, nothing, all_words, all_links}
 use Rattle.wordset.specs.Lanes.{words}
 use Rattle.wordset.specs.Links.{links_of}
 use Rattle.domain.specs.Facts.{Location, Ac, Cell}
 use Rattle.domain.specs.Statements.{TrackedCell, tracked}
+use Rattle.processor.specs.Runs.{Image}
+use Rattle.domain.specs.Sums.Chains.{Chain}
+use Rattle.domain.specs.Sums.Narrowing.{parts_of, parts_of_chain}
 use Rattle.domain.specs.Sums.Facts as said
 use Rattle.domain.specs.Sums.Brief.{brief_words}
 use Rattle.domain.specs.Sums.CellsInCode.{cell_sets_of}
@@ -48,3 +51,11 @@ nothing_known = record {
   sites = nothing;
   offsets = nothing;
 }
+
+-- What relations of a fact say of their first terms and of the rest.
+abbrev pub all_parts : Image → said.Fact → List said.Relation → List said.Relation
+all_parts image f relations = flat_map (λ r. parts_of image f r.sum r.set) relations
+
+-- What chains of a fact say.
+abbrev pub all_parts_of_chains : said.Fact → List Chain → List said.Relation
+all_parts_of_chains f chains = flat_map (λ c. parts_of_chain f c) chains

@@ -45,7 +45,10 @@ fn may_go_up<const C: usize, const R: usize>(fact: &SumFact<C, R>) -> bool
     }
     let mut set = WordSet::empty();
     put_own_words(fact, &mut set);
-    !set.contains(Word::ZERO.complement())
+    if set.contains(Word::ZERO.complement()) {
+        return false;
+    }
+    true
 }
 
 /// Whether the return word may be counted up once more by the rules.
@@ -287,7 +290,7 @@ impl<A: Allocator> Place<'_, A> {
     {
         match self.routine {
             None => true,
-            Some(_) => cells.is_subset(&self.with_own(listed)),
+            Some(entry) => cells.is_subset(&listed.union(&WordSet::one(entry))),
         }
     }
 

@@ -130,9 +130,11 @@ impl<A: Allocator> Place<'_, A> {
         ensures { outcomes_in outcomes.new ≡ outcomes_of (place_in_code self.now) (fact_in_code fact.now) at
             (meaning_in (place_in_code self.now) at word) }
     {
-        outcomes.clear();
-        if let Some(operation) = DeviceOperation::of(word, self.declaration.profile()) {
-            self.transfer(at, operation, fact, &mut outcomes.first, &mut outcomes.second);
+        outcomes.third.clear();
+        outcomes.fourth.clear();
+        match DeviceOperation::of(word, self.declaration.profile()) {
+            Some(operation) => self.transfer(at, operation, fact, &mut outcomes.first, &mut outcomes.second),
+            None => outcomes.clear(),
         }
     }
 
@@ -160,13 +162,16 @@ impl<A: Allocator> Place<'_, A> {
         match decode(word, self.declaration.profile()) {
             Instruction::Memory => self.refer(at, word, fact, outcomes),
             Instruction::Operate1 => {
-                outcomes.clear();
-                self.operate(at, word, fact, &mut outcomes.first, &mut outcomes.second);
+                outcomes.third.clear();
+                outcomes.fourth.clear();
+                self.operate(at, word, fact, &mut outcomes.first, &mut outcomes.second)
             }
             Instruction::Operate2 => self.skip(at, word, fact, outcomes),
             Instruction::Operate3 => {
-                outcomes.clear();
-                self.exchange(at, word, fact, &mut outcomes.first);
+                outcomes.second.clear();
+                outcomes.third.clear();
+                outcomes.fourth.clear();
+                self.exchange(at, word, fact, &mut outcomes.first)
             }
             Instruction::Iot => self.transfer_by(at, word, fact, outcomes),
             Instruction::Unsupported => outcomes.clear(),

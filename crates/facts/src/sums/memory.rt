@@ -8,9 +8,9 @@ ghost use Rattle.domain.specs.Sums.Narrowing.{words_known};
 ghost use Rattle.domain.specs.Sums.CellsInCode.{cell_sets_of};
 ghost use Rattle.domain.specs.Sums.RelationsInCode.{relations_of};
 ghost use Rattle.domain.specs.Sums.ChainsInCode.{AreShort};
-ghost use Rattle.domain.specs.Sums.FactInCode.{fact_in_code};
+ghost use Rattle.domain.specs.Sums.FactInCode.{fact_in_code, rules_of};
 ghost use Rattle.facts.specs.Showing.{has_last_or_other};
-ghost use Rattle.facts.specs.Sums.Outcomes.{anded, tad, isz_case, dca_case, stored_by, jmp, call};
+ghost use Rattle.facts.specs.Sums.Outcomes.{anded, chains_after_and, tad, isz_case, dca_case, stored_by, jmp, call};
 ghost use Rattle.facts.specs.Sums.Shaped.{HaveFewTerms};
 ghost use Rattle.facts.specs.Sums.PlaceInCode.{place_in_code};
 ghost use Rattle.facts.specs.Sums.OutcomesInCode.{outcome_in};
@@ -24,6 +24,25 @@ use domain::{Location, Rules, Step, SumFact};
 use std::alloc::Allocator;
 use word12::{Link, Word};
 use wordset::WordSet;
+
+/// Lets the chains of a fact be those of another after an AND of a word, if it is known which.
+fn put_chains_after_and<const C: usize, const R: usize, const D: usize, const S: usize>(
+    rules: &Rules,
+    word: &Option<Word>,
+    fact: &SumFact<D, S>,
+    after: &mut SumFact<C, R>,
+)
+    requires chains { length fact.now.chains.items + length (relations_of fact.now.relations) ≤ 72 }
+    requires short { AreShort (fact_in_code fact.now).chains }
+    ensures { fact_in_code after.new ≡ record (fact_in_code after.old) {
+      chains = chains_after_and (rules_of rules.now) word.now (fact_in_code fact.now);
+    } }
+{
+    match word {
+        None => after.clear_chains(),
+        Some(word) => put_begun_longer(rules, &Step::Ands(*word), fact, after),
+    }
+}
 
 impl<A: Allocator> Place<'_, A> {
     /// AND: all a and v, for the words a of the accumulator and v of the targets.
@@ -49,9 +68,7 @@ impl<A: Allocator> Place<'_, A> {
         let mut read = WordSet::all();
         self.put_words_at(fact, targets, single, &mut read);
         outcome.fact.take_for_accumulator(fact, &held.ands(&read));
-        if let Some(word) = read.only() {
-            put_begun_longer(&self.rules, &Step::Ands(word), fact, &mut outcome.fact);
-        }
+        put_chains_after_and(&self.rules, &read.only(), fact, &mut outcome.fact);
         let comes = is_alive(&self.rules, has_some(targets), &held, true, &outcome.fact);
         outcome.go_to(comes, at.increment());
     }

@@ -2,7 +2,7 @@
 //!
 //! A set is put into a place that is lent for it.
 
-ghost use Rattle.std.specs.Prelude.{◌≡◌, ◌<◌, ◌≤◌, ◌||◌, ◌&&◌, ℕ, length};
+ghost use Rattle.std.specs.Prelude.{◌≡◌, ◌<◌, ◌≤◌, ◌+◌, ◌||◌, ◌&&◌, ℕ, length};
 ghost use Rattle.wordset.specs.Words.{only, shifted};
 ghost use Rattle.wordset.specs.Lanes.{words};
 ghost use Rattle.domain.specs.Facts.{tape_word};
@@ -225,7 +225,8 @@ impl<A: Allocator> Place<'_, A> {
     )
         requires cells { length (cell_sets_of fact.now.cells) < D }
         requires relations { length (relations_of fact.now.relations) ≤ S }
-        ensures { fact_in_code room.new ≡ counted (place_in_code self.now) cell (fact_in_code fact.now) }
+        ensures fact { fact_in_code room.new ≡ counted (place_in_code self.now) cell (fact_in_code fact.now) }
+        ensures cells { length (cell_sets_of room.new.cells) ≤ length (cell_sets_of fact.now.cells) + 1 }
     {
         let mut set = WordSet::all();
         self.put_words_known(fact, &Location::Cell(cell), &mut set);

@@ -17,6 +17,9 @@ pub mod ForeseenLemmas
 pub mod ShowingLemmas
 pub mod SplitLemmas
 pub mod BeginningLemmas
+pub mod EachRelation
+pub mod CarryingLemmas
+pub mod RowsLemmas
 pub mod OperandLemmas
 pub mod AskingLemmas
 pub mod ComesLemmas

@@ -10,6 +10,7 @@ pub mod Laws
 pub mod Access
 pub mod Equations
 pub mod Starts
+pub mod Shaped
 pub mod PlaceInCode
 pub mod Entailing
 pub mod Landing

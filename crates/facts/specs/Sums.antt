@@ -16,5 +16,4 @@ pub mod Entailing
 pub mod Landing
 pub mod PartInCode
 pub mod OutcomesInCode
-pub mod Shaped
 pub mod StartInCode

@@ -114,6 +114,7 @@ fn each_gives(chains: &[Chain], cell: Word, word: Word, ac: Word, link: Link) ->
 }
 
 /// What is allowed beside a word of a cell: words of the accumulator, links, and what chains give.
+#[derive(Drop)]
 struct Allowed<'a> {
     accumulators: &'a WordSet,
     links: Links,

@@ -24,6 +24,8 @@ pub use landing::LandingRooms;
 pub use outcomes::{Kind, Outcome, Outcomes};
 pub use parts::{LinkPart, Part};
 pub use place::Place;
-pub use rooms::{ChosenFact, Fact, MetFact, NarrowedFact, NextFact, PartFact, SteppedFact, TestedFact};
+pub use rooms::{
+    ChosenFact, Fact, MetFact, NarrowedFact, NextFact, PartFact, SteppedFact, TestedFact,
+};
 pub use source::FactSource;
 pub use starts::{StartFact, StartPart};

@@ -255,12 +255,7 @@ impl<A: Allocator> Place<'_, A> {
     }
 
     /// Whether a name has no word outside a set.
-    fn has_within<K: KnownFact>(
-        &self,
-        fact: &K,
-        name: &Location,
-        set: &BriefSet,
-    ) -> bool
+    fn has_within<K: KnownFact>(&self, fact: &K, name: &Location, set: &BriefSet) -> bool
         ensures { IsTrue result ↔
             IsWithin (words_known (place_in_code self.now) (K.known fact.now) (location_of name.now)) (brief_words set.now) }
     {

@@ -64,7 +64,12 @@ fn cells_told<F: FactSource>(among: &F, given: &mut Fact) -> WordSet
 
 impl<A: Allocator> Place<'_, A> {
     /// Whether a fact entails one of some.
-    pub fn entails_one<K: KnownFact, F: FactSource>(&self, fact: &K, among: &F, given: &mut Fact) -> bool
+    pub fn entails_one<K: KnownFact, F: FactSource>(
+        &self,
+        fact: &K,
+        among: &F,
+        given: &mut Fact,
+    ) -> bool
         ensures { IsTrue result ↔ EntailsOne (place_in_code self.now) (K.known fact.now) (F.facts among.now) }
     {
         for at in 0..among.len() {
@@ -97,7 +102,13 @@ impl<A: Allocator> Place<'_, A> {
     }
 
     /// Whether a part is split among some facts by the words of a name.
-    fn is_split_by<P: Part, F: FactSource>(&self, part: &mut P, name: &Location, among: &F, given: &mut Fact) -> bool
+    fn is_split_by<P: Part, F: FactSource>(
+        &self,
+        part: &mut P,
+        name: &Location,
+        among: &F,
+        given: &mut Fact,
+    ) -> bool
         ensures split { IsTrue result ↔
             IsSplitBy (place_in_code self.now) (location_of name.now) (P.part part.old) (F.facts among.now) }
         ensures kept { P.part part.new ≡ P.part part.old }
@@ -113,7 +124,12 @@ impl<A: Allocator> Place<'_, A> {
     }
 
     /// Whether a part is split among some facts by the words of a cell of which one of them tells.
-    fn is_split_by_told<P: Part, F: FactSource>(&self, part: &mut P, among: &F, given: &mut Fact) -> bool
+    fn is_split_by_told<P: Part, F: FactSource>(
+        &self,
+        part: &mut P,
+        among: &F,
+        given: &mut Fact,
+    ) -> bool
         ensures split { IsTrue result → IsSplit (place_in_code self.now) (P.part part.old) (F.facts among.now) }
         ensures left { result ≡ false → (x : ℕ) →
             IsSplitBy (place_in_code self.now) (Cell x) (P.part part.old) (F.facts among.now) → AllowAll (Cell x) (F.facts among.now) }
@@ -147,7 +163,12 @@ impl<A: Allocator> Place<'_, A> {
     }
 
     /// Whether a narrowed fact of one link lands among some facts.
-    pub(crate) fn part_lands<P: Part, F: FactSource>(&self, part: &mut P, among: &F, given: &mut Fact) -> bool
+    pub(crate) fn part_lands<P: Part, F: FactSource>(
+        &self,
+        part: &mut P,
+        among: &F,
+        given: &mut Fact,
+    ) -> bool
         ensures lands { IsTrue result ↔ PartLands (place_in_code self.now) (P.part part.old) (F.facts among.now) }
         ensures kept { P.part part.new ≡ P.part part.old }
     {
@@ -161,7 +182,13 @@ impl<A: Allocator> Place<'_, A> {
     }
 
     /// Whether a fact lands among some facts under a link, if it allows the link. The fact itself is left as it was.
-    fn lands_under<F: FactSource>(&self, fact: &mut NextFact, link: Link, among: &F, rooms: &mut LandingRooms) -> bool
+    fn lands_under<F: FactSource>(
+        &self,
+        fact: &mut NextFact,
+        link: Link,
+        among: &F,
+        rooms: &mut LandingRooms,
+    ) -> bool
         ensures lands { IsTrue result ↔
             LandsUnder (place_in_code self.now) link (fact_in_code fact.old) (F.facts among.now) }
         ensures kept { fact_in_code fact.new ≡ fact_in_code fact.old }
@@ -176,7 +203,12 @@ impl<A: Allocator> Place<'_, A> {
 
     /// Whether a fact lands among some facts: by the rules of sums for each of its links alone, and by those of equations if it
     /// entails one of them. The fact itself is left as it was.
-    pub fn lands<F: FactSource>(&self, fact: &mut NextFact, among: &F, rooms: &mut LandingRooms) -> bool
+    pub fn lands<F: FactSource>(
+        &self,
+        fact: &mut NextFact,
+        among: &F,
+        rooms: &mut LandingRooms,
+    ) -> bool
         ensures lands { IsTrue result ↔
             Lands (place_in_code self.now) (fact_in_code fact.old) (F.facts among.now) }
         ensures kept { fact_in_code fact.new ≡ fact_in_code fact.old }

@@ -43,18 +43,33 @@ pub trait Part {
         ensures { words place.new ≡ (part self.now).set (location_of name.now) };
 
     /// Whether it entails one of some facts.
-    fn entails_one<A: Allocator, F: FactSource>(&self, place: &Place<'_, A>, among: &F, given: &mut Fact) -> bool
+    fn entails_one<A: Allocator, F: FactSource>(
+        &self,
+        place: &Place<'_, A>,
+        among: &F,
+        given: &mut Fact,
+    ) -> bool
         ensures { IsTrue result ↔ EntailsOne (place_in_code place.now) (part self.now) (F.facts among.now) };
 
     /// Whether what another fact's set of a name leaves of it entails that fact, or no state satisfies it.
-    fn is_taken<A: Allocator>(&mut self, place: &Place<'_, A>, name: &Location, other: &Fact) -> bool
+    fn is_taken<A: Allocator>(
+        &mut self,
+        place: &Place<'_, A>,
+        name: &Location,
+        other: &Fact,
+    ) -> bool
         ensures taken { IsTrue result ↔
             Takes (place_in_code place.now) (location_of name.now) (part self.old) (fact_in_code other.now) }
         ensures kept { part self.new ≡ part self.old };
 
     /// Whether it entails one of some facts when it is narrowed once more, or no state satisfies it then and there is one. This
     /// is what a split comes to by a cell of which none of them tells.
-    fn is_taken_whole<A: Allocator, F: FactSource>(&mut self, place: &Place<'_, A>, among: &F, given: &mut Fact) -> bool
+    fn is_taken_whole<A: Allocator, F: FactSource>(
+        &mut self,
+        place: &Place<'_, A>,
+        among: &F,
+        given: &mut Fact,
+    ) -> bool
         ensures taken { IsTrue result ↔
             IsTakenWhole (place_in_code place.now) (part self.old) (F.facts among.now) }
         ensures kept { part self.new ≡ part self.old };
@@ -80,7 +95,12 @@ fn look_at_cells(cells: &[CellSet])
 }
 
 /// Narrows a fact with one link alone; the fact itself is left as it was.
-fn put_part<A: Allocator>(place: &Place<'_, A>, fact: &mut NextFact, link: Link, part: &mut PartFact)
+fn put_part<A: Allocator>(
+    place: &Place<'_, A>,
+    fact: &mut NextFact,
+    link: Link,
+    part: &mut PartFact,
+)
     ensures part { fact_in_code part.new ≡ with_one_link (place_in_code place.now) link (fact_in_code fact.old) }
     ensures kept { fact_in_code fact.new ≡ fact_in_code fact.old }
 {
@@ -148,11 +168,21 @@ impl Part for LinkPart {
         self.part.put_set_of(name, place);
     }
 
-    fn entails_one<A: Allocator, F: FactSource>(&self, place: &Place<'_, A>, among: &F, given: &mut Fact) -> bool {
+    fn entails_one<A: Allocator, F: FactSource>(
+        &self,
+        place: &Place<'_, A>,
+        among: &F,
+        given: &mut Fact,
+    ) -> bool {
         place.entails_one(&self.part, among, given)
     }
 
-    fn is_taken<A: Allocator>(&mut self, place: &Place<'_, A>, name: &Location, other: &Fact) -> bool {
+    fn is_taken<A: Allocator>(
+        &mut self,
+        place: &Place<'_, A>,
+        name: &Location,
+        other: &Fact,
+    ) -> bool {
         let LinkPart { part, chosen, met } = self;
         put_met(place, part, name, other, chosen, met);
         if met.is_void() {
@@ -161,7 +191,12 @@ impl Part for LinkPart {
         place.entails(met, other)
     }
 
-    fn is_taken_whole<A: Allocator, F: FactSource>(&mut self, place: &Place<'_, A>, among: &F, given: &mut Fact) -> bool {
+    fn is_taken_whole<A: Allocator, F: FactSource>(
+        &mut self,
+        place: &Place<'_, A>,
+        among: &F,
+        given: &mut Fact,
+    ) -> bool {
         let LinkPart { part, met, .. } = self;
         part.is_within_room();
         met.narrow(place.image, part);

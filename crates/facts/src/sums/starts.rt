@@ -27,7 +27,10 @@ use super::place::Place;
 use super::rooms::Fact;
 use super::source::FactSource;
 use bin_tape::Image;
-use domain::{BriefSet, Chain, Location, Relation, ReturnOffsets, Rules, Sum, Term, at_start, is_same_location, spelled, times};
+use domain::{
+    BriefSet, Chain, Location, Relation, ReturnOffsets, Rules, Sum, Term, at_start,
+    is_same_location, spelled, times,
+};
 use std::alloc::Allocator;
 use word12::{Link, Word};
 use wordset::{Links, WordSet};
@@ -71,7 +74,12 @@ fn put_words_at_start(image: &Image, name: &Location, place: &mut WordSet)
 
 impl<'a> StartFact<'a> {
     /// The fact of all starts with some links, where a name has the words of a set.
-    pub fn with_name(image: &'a Image, links: Links, name: &Location, set: &WordSet) -> StartFact<'a>
+    pub fn with_name(
+        image: &'a Image,
+        links: Links,
+        name: &Location,
+        set: &WordSet,
+    ) -> StartFact<'a>
         ensures { start_in_code result ≡ with_name (location_of name.now) (words set.now)
             (record (start_fact (image_of image.now)) { link = links_of links }) }
     {
@@ -246,11 +254,21 @@ impl Part for StartPart<'_> {
         put_words_at_start(self.image, name, place);
     }
 
-    fn entails_one<A: Allocator, F: FactSource>(&self, place: &Place<'_, A>, among: &F, given: &mut Fact) -> bool {
+    fn entails_one<A: Allocator, F: FactSource>(
+        &self,
+        place: &Place<'_, A>,
+        among: &F,
+        given: &mut Fact,
+    ) -> bool {
         place.entails_one(&StartFact::new(self.image, self.links), among, given)
     }
 
-    fn is_taken<A: Allocator>(&mut self, place: &Place<'_, A>, name: &Location, other: &Fact) -> bool {
+    fn is_taken<A: Allocator>(
+        &mut self,
+        place: &Place<'_, A>,
+        name: &Location,
+        other: &Fact,
+    ) -> bool {
         let mut set = WordSet::all();
         other.put_set_of(name, &mut set);
         let mut starts = WordSet::all();
@@ -259,10 +277,18 @@ impl Part for StartPart<'_> {
         if self.links.is_empty() || both.is_empty() {
             return true;
         }
-        place.entails(&StartFact::with_name(self.image, self.links, name, &both), other)
+        place.entails(
+            &StartFact::with_name(self.image, self.links, name, &both),
+            other,
+        )
     }
 
-    fn is_taken_whole<A: Allocator, F: FactSource>(&mut self, place: &Place<'_, A>, among: &F, given: &mut Fact) -> bool {
+    fn is_taken_whole<A: Allocator, F: FactSource>(
+        &mut self,
+        place: &Place<'_, A>,
+        among: &F,
+        given: &mut Fact,
+    ) -> bool {
         if self.links.is_empty() {
             return among.len() > 0;
         }
@@ -297,9 +323,14 @@ impl<A: Allocator> Place<'_, A> {
             Lands (place_in_code self.now) (start_fact (place_in_code self.now).image) (F.facts among.now) }
     {
         match &self.rules {
-            Rules::OfEquations => self.entails_one(&StartFact::new(self.image, Links::both()), among, given),
+            Rules::OfEquations => self.entails_one(
+                &StartFact::new(self.image, Links::both()),
+                among,
+                given,
+            ),
             Rules::OfSums => {
-                self.starts_land_under(Link::CLEAR, among, given) && self.starts_land_under(Link::SET, among, given)
+                self.starts_land_under(Link::CLEAR, among, given)
+                    && self.starts_land_under(Link::SET, among, given)
             }
         }
     }

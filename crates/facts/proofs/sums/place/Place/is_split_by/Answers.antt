@@ -16,8 +16,8 @@ loop-at-init g c = (none_taken (place_in_code c.args.self.now) (location_of c.ar
 pub loop-at-preserved : goal.loop-at-preserved
 loop-at-preserved g c = (
   one_taken (place_in_code c.args.self.now) (location_of c.args.name.now) (g.P.Part.part c.args.part.old) (words c.loop-at.taken) (words c.add_taken.new.taken) (g.F.FactSource.facts c.args.among.now) c.loop-at.at (fact_in_code c.put.new.fact) (omega (arith, c.loop-at-test.true, c.len-at-end.ensures)) c.put.ensures
-    (subst (λ (f : Fact). (v : ℕ) → v < 4096 → f.set (location_of c.args.name.now) v ≡ true → (words c.add_taken.new.taken v ≡ true) ↔ ((words c.loop-at.taken v ≡ true) ⊎ TakesAt (place_in_code c.args.self.now) (location_of c.args.name.now) v f (fact_in_code c.put.new.fact)))
-    c.loop-at.invariant.1 c.add_taken.ensures.taken) c.loop-at.invariant.0,
+      (subst (λ (f : Fact). (v : ℕ) → v < 4096 → f.set (location_of c.args.name.now) v ≡ true → (words c.add_taken.new.taken v ≡ true) ↔ ((words c.loop-at.taken v ≡ true) ⊎ TakesAt (place_in_code c.args.self.now) (location_of c.args.name.now) v f (fact_in_code c.put.new.fact)))
+      c.loop-at.invariant.1 c.add_taken.ensures.taken) c.loop-at.invariant.0,
   c.add_taken.ensures.kept ∙ c.loop-at.invariant.1,
 )
 

@@ -14,4 +14,5 @@ pub mod ChainLemmas
 pub mod OffsetLemmas
 pub mod BriefLemmas
 pub mod TermLemmas
+pub mod NameAskedLemmas
 pub mod Sums

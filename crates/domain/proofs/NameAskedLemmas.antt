@@ -1,6 +1,6 @@
 -- What is left to one name when a fact is told something.
 use Rattle.std.proofs.Common.{◌≡◌, ℕ, ◌*◌, ◌%◌, ◌<◌, ◌≤◌, ◌==◌, Bool, true, false, ◌&&◌, List, [], ◌∷◌, ◌++◌, length, map, drop, get_or, Option, Some, None, refl, sym, ap, ◌∙◌, subst, arith}
-use Rattle.std.specs.Prelude.{if◌then◌else◌}
+use Rattle.std.specs.Prelude.{if◌then◌else◌, flat_map}
 use Rattle.std.proofs.Math.Path.{fun_ext}
 use Rattle.std.proofs.Math.ListN.{drop_of_length-le}
 use Rattle.std.proofs.lemmas.Bool.{eq-eqb}
@@ -68,3 +68,9 @@ met_here f n m s p q e h k =
 
 pub met_elsewhere : (f : Fact) (n m : Location) (s : Words) → same n m ≡ false → f.set n ≡ (with_term_in (Holding m) s f).set n
 met_elsewhere f n m s e = rw e refl
+
+-- ---- one thing told after the other
+
+pub none_left : {A B : Type 0} (r : A → B) (p : B → List Relation) (xs : List A) (i : ℕ) (g all : Fact) → length xs ≤ i →
+    adding_all OfSums (flat_map p (map r (drop i xs))) g ≡ all → g ≡ all
+none_left r p xs i g all le e = ap (λ ys. adding_all OfSums (flat_map p (map r ys)) g) (sym (drop_of_length-le xs le)) ∙ e

@@ -15,4 +15,5 @@ pub mod OffsetLemmas
 pub mod BriefLemmas
 pub mod TermLemmas
 pub mod NameAskedLemmas
+pub mod TakenLemmas
 pub mod Sums

@@ -1,7 +1,7 @@
 //! What may happen to the words of names: the accumulator takes some word of a set, or one of several cells does, unknown
 //! which.
 
-ghost use Rattle.std.specs.Prelude.{◌≡◌, ◌≤◌, ◌<◌, ◌++◌, ◌∷◌, [], length, map};
+ghost use Rattle.std.specs.Prelude.{◌≡◌, ◌≤◌, ◌<◌, ◌+◌, ◌++◌, ◌∷◌, [], length, map};
 ghost use Rattle.wordset.specs.Words.{shifted, union, one};
 ghost use Rattle.wordset.specs.Lanes.{words};
 ghost use Rattle.domain.specs.Facts.{Ac, Cell};
@@ -59,19 +59,19 @@ fn push_changed<const D: usize, const C: usize>(
     cells.push(entry.cell, &set);
 }
 
-/// Lets some cells be others after a change of one cell of a set.
-fn put_all_changed<const D: usize, const C: usize>(
+/// Adds to some cells entries of others, with the words that their cells may hold after a change of one cell of a set.
+fn push_all_changed<const D: usize, const C: usize>(
     others: &CellSets<D>,
+    entries: &[CellSet],
     among: &WordSet,
     change: &Change<'_>,
     cells: &mut CellSets<C>,
 )
-    requires { length (cell_sets_of others.now) ≤ C }
-    ensures cells { cell_sets_of cells.new ≡
-        map (changed_among (words among.now) (changed change.now) (cell_sets_of others.now)) (cell_sets_of others.now) }
+    requires { length (cell_sets_of cells.old) + length entries.now ≤ C }
+    ensures { cell_sets_of cells.new ≡ cell_sets_of cells.old ++
+        map (changed_among (words among.now) (changed change.now) (cell_sets_of others.now)) (map cell_set_of entries.now) }
 {
-    cells.clear();
-    for entry in others.as_slice() {
+    for entry in entries {
         push_changed(others, entry, among, change, cells);
     }
 }
@@ -104,7 +104,8 @@ impl<const C: usize, const R: usize> SumFact<C, R> {
         } }
     {
         self.take_without(other, names);
-        put_all_changed(&other.cells, among, change, &mut self.cells);
+        self.cells.clear();
+        push_all_changed(&other.cells, other.cells.as_slice(), among, change, &mut self.cells);
     }
 
     /// Lets this fact be another after one cell of a set, unknown which, was counted up by 1.

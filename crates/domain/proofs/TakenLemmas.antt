@@ -31,7 +31,7 @@ kept : (a : ℕ) (among : Words) (new : Words → Words) (all cells : List Track
 kept a among new all [] v no = refl
 kept a among new all (c ∷ cs) v no = elim (cases_Bool (c.address == a)) [
   | inl e ↦ (let here : has_cell among c.address ≡ false = ap (has_cell among) (eqb-true c.address a e) ∙ no in
-    rw here (ap (λ b. (if c.address == a then c.set v else true) && b) (kept a among new all cs v no)))
+      rw here (ap (λ b. (if c.address == a then c.set v else true) && b) (kept a among new all cs v no)))
   | inr e ↦ rw (address_same among new all c, e) (kept a among new all cs v no)
 ]
 
@@ -45,10 +45,10 @@ given_words : (a : ℕ) (among : Words) (new : Words → Words) (all cells : Lis
 given_words a among new all [] v yes = refl
 given_words a among new all (c ∷ cs) v yes = elim (cases_Bool (c.address == a)) [
   | inl e ↦ (let is : c.address ≡ a = eqb-true c.address a e in
-    let here : has_cell among c.address ≡ true = ap (has_cell among) is ∙ yes in
-    rw (here, e) (ap (λ b. union (tracked c.address all) (new (tracked c.address all)) v && b) (given_words a among new all cs v yes)
-    ∙ ap (λ x. union (tracked x all) (new (tracked x all)) v && ((if has_entry a cs then union (tracked a all) (new (tracked a all)) v else true) && all_words v)) is
-    ∙ twice (union (tracked a all) (new (tracked a all)) v) (has_entry a cs) (all_words v)))
+      let here : has_cell among c.address ≡ true = ap (has_cell among) is ∙ yes in
+      rw (here, e) (ap (λ b. union (tracked c.address all) (new (tracked c.address all)) v && b) (given_words a among new all cs v yes)
+      ∙ ap (λ x. union (tracked x all) (new (tracked x all)) v && ((if has_entry a cs then union (tracked a all) (new (tracked a all)) v else true) && all_words v)) is
+      ∙ twice (union (tracked a all) (new (tracked a all)) v) (has_entry a cs) (all_words v)))
   | inr e ↦ rw (address_same among new all c, e) (given_words a among new all cs v yes)
 ]
   where
@@ -72,14 +72,16 @@ updated_at a among new all v yes past = given_words a among new all all v yes �
     | inr e ↦ rw e (is_word v l ∙ sym (ap (λ b. b || new (tracked a all) v) (none_tracked a all v e ∙ is_word v l)))
   ]
   | inr g ↦ beyond (if has_entry a all then union (tracked a all) (new (tracked a all)) v else true) (all_past v g)
-    ∙ sym (ap (λ b. b || new (tracked a all) v) (tracked_past a all v g) ∙ past g)
+      ∙ sym (ap (λ b. b || new (tracked a all) v) (tracked_past a all v g) ∙ past g)
 ]
   where
     is_word : (v : ℕ) → v < 4096 → all_words v ≡ true
     is_word v l = grind (arith, l)
+
     below : (w : Bool) {l : Bool} → l ≡ true → (w && l) ≡ w
     below true e = e
     below false e = refl
+
     beyond : (w : Bool) {l : Bool} → l ≡ false → (w && l) ≡ false
     beyond true e = e
     beyond false e = refl

@@ -34,7 +34,14 @@ use word12::Word;
 use wordset::WordSet;
 
 /// Leaves in a set of a name what is left to it when a fact is told that c times a term is in another set.
-fn keep_for_term(image: &Image, c: Word, term: &Term, set: &WordSet, name: &Location, place: &mut WordSet)
+fn keep_for_term(
+    image: &Image,
+    c: Word,
+    term: &Term,
+    set: &WordSet,
+    name: &Location,
+    place: &mut WordSet,
+)
     ensures { (f : said.Fact) → words place.old ≡ f.set (location_of name.now) → words place.new ≡
         (adding OfSums (of_term (image_of image.now) c (term_of term.now) (words set.now)) f).set (location_of name.now) }
 {
@@ -100,7 +107,15 @@ fn is_idle(part: &Sum, name: &Location) -> bool
 impl<const C: usize, const R: usize> SumFact<C, R> {
     /// Leaves in a set of a name what is left to it when a fact is told that a part of the sum of one of this fact's relations
     /// is what the relation's set leaves to it, where this fact says as much of the rest.
-    fn keep_for_rest(&self, image: &Image, part: &Sum, rest: &Sum, set: &BriefSet, name: &Location, place: &mut WordSet)
+    fn keep_for_rest(
+        &self,
+        image: &Image,
+        part: &Sum,
+        rest: &Sum,
+        set: &BriefSet,
+        name: &Location,
+        place: &mut WordSet,
+    )
         ensures { (f : said.Fact) → words place.old ≡ f.set (location_of name.now) → words place.new ≡
             (adding_all OfSums (of_part (image_of image.now) (sum_of part.now)
             (differences (brief_words set.now) (said_of (image_of image.now) (fact_in_code self.now) (sum_of rest.now)))) f).set
@@ -118,7 +133,13 @@ impl<const C: usize, const R: usize> SumFact<C, R> {
 
     /// Leaves in a set of a name what is left to it when a fact is told what a relation of this fact says of its first term
     /// and of the rest.
-    fn keep_for_parts(&self, image: &Image, relation: &Relation, name: &Location, place: &mut WordSet)
+    fn keep_for_parts(
+        &self,
+        image: &Image,
+        relation: &Relation,
+        name: &Location,
+        place: &mut WordSet,
+    )
         ensures { (f : said.Fact) → words place.old ≡ f.set (location_of name.now) → words place.new ≡
             (adding_all OfSums (parts_of (image_of image.now) (fact_in_code self.now) (sum_of relation.now.sum)
             (brief_words relation.now.set)) f).set (location_of name.now) }
@@ -148,12 +169,23 @@ impl<const C: usize, const R: usize> SumFact<C, R> {
                 }
             }
         }
-        let ChainWords { cells: _, accumulators: _, differences: _, links: _ } = found;
+        let ChainWords {
+            cells: _,
+            accumulators: _,
+            differences: _,
+            links: _,
+        } = found;
     }
 
     /// Leaves in a set of a name what is left to it when a fact is told what some relations of this fact say of their first
     /// terms and of the rest.
-    fn keep_for_all_parts(&self, image: &Image, relations: &[Relation], name: &Location, place: &mut WordSet)
+    fn keep_for_all_parts(
+        &self,
+        image: &Image,
+        relations: &[Relation],
+        name: &Location,
+        place: &mut WordSet,
+    )
         ensures { (f : said.Fact) → words place.old ≡ f.set (location_of name.now) → words place.new ≡ (adding_all OfSums
             (all_parts (image_of image.now) (fact_in_code self.now) (map relation_of relations.now)) f).set (location_of name.now) }
     {

@@ -78,7 +78,11 @@ fn push_all_changed<const D: usize, const C: usize>(
 
 impl<const C: usize, const R: usize> SumFact<C, R> {
     /// Lets this fact be another after the accumulator took some word of a set.
-    pub fn take_for_accumulator<const D: usize, const S: usize>(&mut self, other: &SumFact<D, S>, set: &WordSet)
+    pub fn take_for_accumulator<const D: usize, const S: usize>(
+        &mut self,
+        other: &SumFact<D, S>,
+        set: &WordSet,
+    )
         requires cells { length (cell_sets_of other.now.cells) ≤ C }
         requires relations { length (relations_of other.now.relations) ≤ R }
         ensures { fact_in_code self.new ≡ taking Ac (words set.now) (fact_in_code other.now) }
@@ -100,16 +104,26 @@ impl<const C: usize, const R: usize> SumFact<C, R> {
         requires relations { length (relations_of other.now.relations) ≤ R }
         ensures { fact_in_code self.new ≡ record (without_relations (names_of names.now) (fact_in_code other.now)) {
           set = λ n. weakly_updated_sets (words among.now)
-            (λ a. changed change.now ((fact_in_code other.now).set (Cell a))) (fact_in_code other.now).set n;
+              (λ a. changed change.now ((fact_in_code other.now).set (Cell a))) (fact_in_code other.now).set n;
         } }
     {
         self.take_without(other, names);
         self.cells.clear();
-        push_all_changed(&other.cells, other.cells.as_slice(), among, change, &mut self.cells);
+        push_all_changed(
+            &other.cells,
+            other.cells.as_slice(),
+            among,
+            change,
+            &mut self.cells,
+        );
     }
 
     /// Lets this fact be another after one cell of a set, unknown which, was counted up by 1.
-    pub fn take_counted_among<const D: usize, const S: usize>(&mut self, other: &SumFact<D, S>, among: &WordSet)
+    pub fn take_counted_among<const D: usize, const S: usize>(
+        &mut self,
+        other: &SumFact<D, S>,
+        among: &WordSet,
+    )
         requires cells { length (cell_sets_of other.now.cells) ≤ C }
         requires relations { length (relations_of other.now.relations) ≤ R }
         ensures { fact_in_code self.new ≡ weakly_updated (words among.now)
@@ -120,7 +134,12 @@ impl<const C: usize, const R: usize> SumFact<C, R> {
 
     /// Lets this fact be another after one cell of a set, unknown which, took a word of another set, and the accumulator was
     /// cleared.
-    pub fn take_deposited_among<const D: usize, const S: usize>(&mut self, other: &SumFact<D, S>, among: &WordSet, set: &WordSet)
+    pub fn take_deposited_among<const D: usize, const S: usize>(
+        &mut self,
+        other: &SumFact<D, S>,
+        among: &WordSet,
+        set: &WordSet,
+    )
         requires cells { length (cell_sets_of other.now.cells) ≤ C }
         requires relations { length (relations_of other.now.relations) ≤ R }
         ensures { fact_in_code self.new ≡

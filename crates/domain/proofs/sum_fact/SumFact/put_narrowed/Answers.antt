@@ -19,7 +19,7 @@ returns g c =
     let image = image_of c.args.image.now in
     let linked : Fact = record f { link = λ l. f.link l && list_all (λ d. links_of_chain f d l) f.chains } in
     let parts : words c.keep_for_all_parts.new.place ≡ (adding_all OfSums (all_parts image f f.relations) linked).set (location_of c.args.name.now) =
-        c.keep_for_all_parts.ensures linked c.put_set_of.ensures
-        ∙ ap (λ (rs : List Relation). (adding_all OfSums (all_parts image f rs) linked).set (location_of c.args.name.now)) c.as_slice.ensures.relations in
+    c.keep_for_all_parts.ensures linked c.put_set_of.ensures
+    ∙ ap (λ (rs : List Relation). (adding_all OfSums (all_parts image f rs) linked).set (location_of c.args.name.now)) c.as_slice.ensures.relations in
     c.keep_for_chains.ensures (adding_all OfSums (all_parts image f f.relations) linked) parts
     ∙ ap (λ (x : Fact). x.set (location_of c.args.name.now)) (sym (added_both (all_parts image f f.relations) (all_parts_of_chains f f.chains) linked))

@@ -20,6 +20,7 @@ use word12::Word;
 use wordset::WordSet;
 
 /// What becomes of the words of the one cell, unknown which, that changes.
+#[derive(Drop)]
 enum Change<'a> {
     /// Its word is counted up by 1.
     CountsUp,

@@ -259,3 +259,11 @@ one_is_enough w l k a e some = fun_ext (λ v. both_ways (images_from w l (one 0)
 pub under_both : (w l : ℕ) (a links : Words) (v : ℕ) → ((links 1 && images_from w l a 1 v) || (links 0 && images_from w l a 0 v)) ≡ images_under w l a links v
 unfolding some_below
 under_both w l a links v = ap (λ b. (links 1 && images_from w l a 1 v) || b) (sym (or_false (links 0 && images_from w l a 0 v)))
+
+-- A set that isn't empty has a word.
+pub some_there : (a : Words) (empty : Bool) → empty ≡ not (has_some a) → empty ≡ false → has_some a ≡ true
+some_there a empty is no = go (has_some a) (sym is ∙ no)
+  where
+    go : (b : Bool) → not b ≡ false → b ≡ true
+    go true e = refl
+    go false e = sym e

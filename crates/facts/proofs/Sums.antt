@@ -14,6 +14,9 @@ pub mod LandedLemmas
 pub mod JoinedLemmas
 pub mod StartedLemmas
 pub mod ForeseenLemmas
+pub mod EachRelation
+pub mod CarryingLemmas
+pub mod RowsLemmas
 pub mod OperandLemmas
 pub mod AskingLemmas
 pub mod ComesLemmas

@@ -10,6 +10,6 @@ pub mod Laws
 pub mod Access
 pub mod Equations
 pub mod Starts
+pub mod Shaped
 pub mod PlaceInCode
 pub mod OutcomesInCode
-pub mod Shaped

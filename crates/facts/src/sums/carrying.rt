@@ -1,6 +1,6 @@
 //! Sums of words of two sets, by the carry with which they come.
 
-ghost use Rattle.std.specs.Prelude.{◌≡◌, ◌<◌};
+ghost use Rattle.std.specs.Prelude.{◌≡◌, ◌&&◌, ℕ};
 ghost use Rattle.wordset.specs.Words.{all_words, union};
 ghost use Rattle.wordset.specs.Lanes.{words};
 ghost use Rattle.wordset.specs.Links.{links_of};
@@ -14,6 +14,8 @@ use wordset::{Links, WordSet};
 fn add_without_carry(word: Word, set: &WordSet, found: &mut WordSet)
     ensures { words found.new ≡ union (words found.old) (sums_with 0 word (words set.now)) }
 {
+    // The proof needs the number to be a word.
+    let _index = word.index();
     let high = WordSet::range(word, Word::from_index(0o7777));
     *found = found.union(&set.shift(word).meet(&high));
 }
@@ -22,6 +24,8 @@ fn add_without_carry(word: Word, set: &WordSet, found: &mut WordSet)
 fn add_with_carry(word: Word, set: &WordSet, found: &mut WordSet)
     ensures { words found.new ≡ union (words found.old) (sums_with 1 word (words set.now)) }
 {
+    // The proof needs the number to be a word.
+    let _index = word.index();
     let high = WordSet::range(word, Word::from_index(0o7777));
     *found = found.union(&set.shift(word).minus(&high));
 }
@@ -104,17 +108,25 @@ fn with_carry(a: &WordSet, b: &WordSet) -> WordSet
     }
 }
 
+/// The sums without a carry, where they are chosen, and else no word.
+fn without_carry_if(chosen: bool, a: &WordSet, b: &WordSet) -> WordSet
+    ensures { (v : ℕ) → words result v ≡ (chosen && sums_carrying 0 (words a.now) (words b.now) v) }
+{
+    if chosen { without_carry(a, b) } else { WordSet::empty() }
+}
+
+/// The sums with a carry, where they are chosen, and else no word.
+fn with_carry_if(chosen: bool, a: &WordSet, b: &WordSet) -> WordSet
+    ensures { (v : ℕ) → words result v ≡ (chosen && sums_carrying 1 (words a.now) (words b.now) v) }
+{
+    if chosen { with_carry(a, b) } else { WordSet::empty() }
+}
+
 /// The sums of words of two sets that leave the link so: those without a carry where the link was so before, and those with a
 /// carry where it was the other one.
 pub(super) fn sums_under(links: Links, a: &WordSet, b: &WordSet, link: Link) -> WordSet
     ensures { words result ≡ sums_under (links_of links) (words a.now) (words b.now) link }
 {
-    let mut found = WordSet::empty();
-    if links.contains(link) {
-        found = without_carry(a, b);
-    }
-    if links.contains(link.complement()) {
-        found = found.union(&with_carry(a, b));
-    }
-    found
+    let same = without_carry_if(links.contains(link), a, b);
+    same.union(&with_carry_if(links.contains(link.complement()), a, b))
 }

@@ -252,18 +252,23 @@ fn images_by(word: Word, set: &WordSet, before: Link, link: Link) -> WordSet
     images_from(word, set, before, link)
 }
 
+/// The same, where it is chosen, and else no word.
+fn images_if(chosen: bool, word: Word, set: &WordSet, before: Link, link: Link) -> WordSet
+    ensures { (v : ℕ) → words result v ≡ (chosen && images_from word link (words set.now) before v) }
+{
+    if chosen {
+        images_by(word, set, before, link)
+    } else {
+        WordSet::empty()
+    }
+}
+
 /// What a word of group 1 makes of some accumulators and links, where it leaves the link so.
 fn images_under(word: Word, set: &WordSet, links: Links, link: Link) -> WordSet
     ensures { words result ≡ images_under word link (words set.now) (links_of links) }
 {
-    let mut found = WordSet::empty();
-    if links.contains(Link::SET) {
-        found = images_by(word, set, Link::SET, link);
-    }
-    if links.contains(Link::CLEAR) {
-        found = found.union(&images_by(word, set, Link::CLEAR, link));
-    }
-    found
+    let high = images_if(links.contains(Link::SET), word, set, Link::SET, link);
+    high.union(&images_if(links.contains(Link::CLEAR), word, set, Link::CLEAR, link))
 }
 
 /// Lets a fact be what another one is after a word of group 1 by the rules of sums, where the link is this one then.

@@ -216,6 +216,8 @@ pub fn put_copied<const C: usize, const R: usize, const D: usize, const S: usize
     requires room { 2 * length (relations_of fact.now.relations) ≤ R }
     ensures { fact_in_code after.new ≡ copied cell (words known.now) (fact_in_code fact.now) }
 {
+    // The proof needs the cell's address to be a word.
+    let _index = cell.index();
     let cells = WordSet::one(cell);
     after.take_without(fact, &Names::Changing(&cells));
     after.set_name(&Location::Cell(cell), known);

@@ -414,7 +414,7 @@ fn put_after_test<const C: usize, const R: usize, const P: usize, const Q: usize
     requires room { length (relations_of fact.now.relations) ≤ R }
     requires spare { length (cell_sets_of fact.now.cells) + 2 * length (relations_of fact.now.relations)
         + length fact.now.chains.items + 1 ≤ P }
-    requires more { 3 * length (relations_of fact.now.relations) + length fact.now.chains.items ≤ Q }
+    requires more { 2 * length (relations_of fact.now.relations) + length fact.now.chains.items ≤ Q }
     requires narrow { P < C }
     requires fits { Q ≤ R }
     ensures may { (pl : Place) → pl.image ≡ image_of image.now →
@@ -448,7 +448,7 @@ pub fn put_branch<const C: usize, const R: usize, const P: usize, const Q: usize
     requires room { length (relations_of fact.now.relations) ≤ R }
     requires spare { length (cell_sets_of fact.now.cells) + 2 * length (relations_of fact.now.relations)
         + length fact.now.chains.items + 1 ≤ P }
-    requires more { 3 * length (relations_of fact.now.relations) + length fact.now.chains.items ≤ Q }
+    requires more { 2 * length (relations_of fact.now.relations) + length fact.now.chains.items ≤ Q }
     requires narrow { P < C }
     requires fits { Q ≤ R }
     ensures may { (pl : Place) → pl.image ≡ image_of image.now → pl.rules ≡ rules_of rules.now →

@@ -376,7 +376,7 @@ fn put_tested<const C: usize, const R: usize, const P: usize, const Q: usize, co
     requires same { length (relations_of fact.now.relations) ≤ Q }
     requires cells { length (cell_sets_of fact.now.cells) + 2 * length (relations_of fact.now.relations)
         + length fact.now.chains.items + 1 ≤ C }
-    requires room { 3 * length (relations_of fact.now.relations) + length fact.now.chains.items ≤ R }
+    requires room { 2 * length (relations_of fact.now.relations) + length fact.now.chains.items ≤ R }
     ensures { fact_in_code tested.new ≡ asked_by (rules_of rules.now) (image_of image.now)
         (with_link (one link) (with_name Ac (words part.now) (fact_in_code fact.now))) }
 {

@@ -2,7 +2,7 @@
 //!
 //! By the rules of equations facts are not narrowed as a whole, since most of what they say is never asked.
 
-ghost use Rattle.std.specs.Prelude.{◌≡◌, true, Some, map};
+ghost use Rattle.std.specs.Prelude.{◌≡◌, true, map};
 ghost use Rattle.wordset.specs.Words.{Words};
 ghost use Rattle.wordset.specs.Lanes.{words};
 ghost use Rattle.peripherals.specs.Loading.{image_of};
@@ -10,9 +10,8 @@ ghost use Rattle.domain.specs.Meaning.{location_of};
 ghost use Rattle.domain.specs.Sums.Facts as said;
 ghost use Rattle.domain.specs.Sums.Facts.{OfSums};
 ghost use Rattle.processor.specs.Runs as runs;
-ghost use Rattle.domain.specs.Sums.Adding.{adding, adding_all, differences, with_spelled_in};
+ghost use Rattle.domain.specs.Sums.Adding.{times, adding, adding_all, differences, with_shape_in, with_term_in};
 ghost use Rattle.domain.specs.Sums.Knowing.{said_of};
-ghost use Rattle.domain.specs.Sums.Spelling.{spelled_of};
 ghost use Rattle.domain.specs.Sums.Narrowing.{narrowed, words_by, of_term, of_part, parts_of, parts_of_chain};
 ghost use Rattle.domain.specs.Sums.InCode.{term_of, sum_of};
 ghost use Rattle.domain.specs.Sums.Brief.{brief_words};
@@ -59,24 +58,38 @@ fn keep_for_sum(sum: &Sum, set: &WordSet, name: &Location, place: &mut WordSet)
     ensures { (f : said.Fact) → words place.old ≡ f.set (location_of name.now) → words place.new ≡
         (adding OfSums (record { sum = sum_of sum.now; set = words set.now }) f).set (location_of name.now) }
 {
-    if let Some(found) = spelled(sum) {
-        keep_for_shape(&found, set, name, place);
+    match spelled(sum) {
+        None => {}
+        Some(found) => keep_for_shape(&found, set, name, place),
     }
 }
 
-/// The same of a sum that is spelled as one of the shapes.
+/// Leaves in a set of a name what is left to it when a fact is told that a term is in another set.
+fn keep_for_name(term: &Term, set: &WordSet, name: &Location, place: &mut WordSet)
+    ensures { (f : said.Fact) → words place.old ≡ f.set (location_of name.now) → words place.new ≡
+        (with_term_in (term_of term.now) (words set.now) f).set (location_of name.now) }
+{
+    match term {
+        Term::Holding(one) => {
+            if !is_same_location(name, one) {
+                return;
+            }
+            *place = place.meet(set);
+        }
+        Term::Behind { .. } => {}
+    }
+}
+
+/// Leaves in a set of a name what is left to it when a fact is told that a sum, which is spelled as one of the shapes, is in
+/// another set.
 fn keep_for_shape(found: &SpelledSum, set: &WordSet, name: &Location, place: &mut WordSet)
     ensures { (f : said.Fact) → words place.old ≡ f.set (location_of name.now) → words place.new ≡
-        (with_spelled_in OfSums (spelled_of (Some found.now)) (words set.now) f).set (location_of name.now) }
+        (with_shape_in OfSums (sum_of found.now.sum) (times found.now.sign (words set.now)) f).set (location_of name.now) }
 {
     if found.sum.len() != 1 {
         return;
     }
-    if let Term::Holding(one) = found.sum.get(0).term {
-        if is_same_location(name, &one) {
-            *place = place.meet(&times(found.sign, set));
-        }
-    }
+    keep_for_name(&found.sum.get(0).term, &times(found.sign, set), name, place);
 }
 
 /// Leaves in a set of a name what is left to it when a fact is told that a part of a relation's sum is in another set.
@@ -101,7 +114,10 @@ fn is_idle(part: &Sum, name: &Location) -> bool
     ensures { (image : runs.Image) (set : Words) (f : said.Fact) → result ≡ true →
         (adding_all OfSums (of_part image (sum_of part.now) set) f).set (location_of name.now) ≡ f.set (location_of name.now) }
 {
-    part.len() == 1 && !is_same_location(name, &part.get(0).term.name())
+    if part.len() != 1 {
+        return false;
+    }
+    !is_same_location(name, &part.get(0).term.name())
 }
 
 impl<const C: usize, const R: usize> SumFact<C, R> {

@@ -6,16 +6,25 @@ use Rattle.std.specs.List.{list_any}
 use Rattle.std.proofs.Math.ListN.{drop_of_length-le}
 use Rattle.std.proofs.lemmas.List.{at_drop_more}
 use Rattle.instruct.specs.Bits.{has_bit}
-use Rattle.wordset.specs.Words.{Words, one, all_words, shifted}
+use Rattle.wordset.specs.Words.{Words, one, all_words, shifted, some_below, has_some, images}
+use Rattle.wordset.specs.Operate.{accumulator_after}
+use Rattle.wordset.specs.Operate as said
+use Rattle.wordset.proofs.Tests.{some_from, some_to, IsSome, both_ways, and_both, and_second}
+use Rattle.wordset.proofs.LaneBits.{or_false}
+use Rattle.wordset.proofs.Cleared.{cleared_same}
+use Rattle.std.proofs.Math.Path.{fun_ext}
 use Rattle.domain.specs.Facts.{Location, Ac, Cell, same, is_outside}
 use Rattle.domain.specs.Sums.Terms.{Term, Sum, Summand, sum_of_name, difference_of, speaks_of, name_of_term}
 use Rattle.domain.specs.Sums.Chains.{Step, Chain, longer, all_longer}
-use Rattle.domain.specs.Sums.Facts.{Relation, Fact, OfSums}
-use Rattle.domain.specs.Sums.Adding.{with_set, set_of_sum, adding_all}
-use Rattle.domain.specs.Sums.Moves.{free_of}
+use Rattle.domain.specs.Sums.Facts.{Relation, Fact, Place, Rules, OfSums, OfEquations}
+use Rattle.domain.specs.Sums.Adding.{with_set, with_name, set_of_sum, adding_all}
+use Rattle.domain.specs.Sums.Narrowing.{asked_by}
+use Rattle.domain.specs.Sums.Moves.{free_of, chains_free_of, without_relations, taking}
 use Rattle.facts.specs.Sums.Additions.{has_ac, if_without_ac, after_tad, without_sums, summed, complemented, incremented, turned}
 use Rattle.facts.specs.Sums.Stores.{after_store, stored, begun_by, all_begun}
-use Rattle.facts.specs.Sums.Shaped.{told, begun_beside}
+use Rattle.facts.specs.Sums.Shaped.{told, begun_beside, images_from}
+use Rattle.facts.specs.Sums.Outcomes.{with_link}
+use Rattle.facts.specs.Sums.Operations.{ac_after, link_after, images_under, tested, cleared2}
 use Rattle.facts.proofs.Sums.EachRelation.{adding_append, put_on, append_nothing, filter_append, flat_append, map_append}
 
 -- ---- relations that are put behind others, and chains
@@ -179,3 +188,82 @@ stored_is y f base one_more two_more done by ac old s t rs eb ea eo es et er e0 
     ∙ ap (λ (p : Sum). whole (set_of_sum f (difference_of Ac (Cell y))) (f.set Ac) (f.set (Cell y)) p t rs (record f { set = with_set Ac (one 0) (with_set (Cell y) all_words f.set); relations = []; chains = [] })) es
     ∙ ap (λ (q : Sum). whole (set_of_sum f (difference_of Ac (Cell y))) (f.set Ac) (f.set (Cell y)) (sum_of_name Ac) q rs (record f { set = with_set Ac (one 0) (with_set (Cell y) all_words f.set); relations = []; chains = [] })) et
     ∙ ap (λ (r : List Relation). whole (set_of_sum f (difference_of Ac (Cell y))) (f.set Ac) (f.set (Cell y)) (sum_of_name Ac) (sum_of_name (Cell y)) r (record f { set = with_set Ac (one 0) (with_set (Cell y) all_words f.set); relations = []; chains = [] })) er
+
+-- The fact before copies are added, where the relations of neither AC nor the target stay.
+pub copied_base : (names : Location → Bool) (y : ℕ) (known : Words) (f : Fact) → ((n : Location) → names n ≡ (same n (Cell y) || same n Ac)) →
+    with_name Ac (one 0) (with_name (Cell y) known (without_relations names f)) ≡ taking Ac (one 0) (taking (Cell y) known f)
+copied_base names y known f h =
+    ap (λ (rs : List Relation). record f { set = with_set Ac (one 0) (with_set (Cell y) known f.set); relations = rs; chains = chains_free_of names f.chains }) (free_of_both names y h f.relations)
+    ∙ ap (λ (b : Bool). record f {
+        set = with_set Ac (one 0) (with_set (Cell y) known f.set);
+        relations = free_of (λ n. same n Ac) (free_of (λ n. same n (Cell y)) f.relations);
+        chains = if b then [] else filter (λ c. not (names (Cell c.cell))) f.chains;
+    }) (h Ac)
+
+-- ---- words of groups 1 and 2
+
+pub images_ac : (w : ℕ) (a l : Words) → images (accumulator_after w) a l ≡ images (ac_after w) a l
+unfolding ac_after
+images_ac w a l = refl
+
+pub images_link : (w : ℕ) (a l : Words) → images (said.link_after w) a l ≡ images (link_after w) a l
+unfolding link_after
+images_link w a l = refl
+
+-- What is asked before CLA or OSR is the narrowed fact.
+pub tested_narrowed : (rules : Rules) (pl : Place) (w : ℕ) (f : Fact) (part : Words) (l : ℕ) → (has_bit 7 w || has_bit 2 w) ≡ true →
+    tested rules pl w f part l ≡ asked_by rules pl.image (with_link (one l) (with_name Ac part f))
+tested_narrowed OfSums pl w f part l e = rw e refl
+tested_narrowed OfEquations pl w f part l e = refl
+
+-- Without them it's the fact as it stands.
+pub tested_as_it_is : (rules : Rules) (pl : Place) (w : ℕ) (f : Fact) (part : Words) (l : ℕ) → (has_bit 7 w || has_bit 2 w) ≡ false →
+    tested rules pl w f part l ≡ with_link (one l) (with_name Ac part f)
+tested_as_it_is OfSums pl w f part l e = rw e refl
+tested_as_it_is OfEquations pl w f part l e = refl
+
+-- And it stays so.
+pub cleared_as_it_is : (w : ℕ) (f : Fact) → has_bit 7 w ≡ false → has_bit 2 w ≡ false → cleared2 w f ≡ f
+cleared_as_it_is w f e d = rw (e, d) refl
+
+-- All accumulators become one by CLA.
+pub cleared_ac : (w x k : ℕ) → has_bit 7 w ≡ true → ac_after w x k ≡ ac_after w 0 k
+unfolding ac_after
+cleared_ac w x k e = ap (λ (s : ℕ × ℕ). s.0) (cleared_same w x k e)
+
+pub cleared_link : (w x k : ℕ) → has_bit 7 w ≡ true → link_after w x k ≡ link_after w 0 k
+unfolding link_after
+cleared_link w x k e = ap (λ (s : ℕ × ℕ). s.1) (cleared_same w x k e)
+
+-- So one of them is enough.
+pub one_is_enough : (w l k : ℕ) (a : Words) → has_bit 7 w ≡ true → has_some a ≡ true → images_from w l (one 0) k ≡ images_from w l a k
+one_is_enough w l k a e some = fun_ext (λ v. both_ways (images_from w l (one 0) k v) (images_from w l a k v) (there v) (back v))
+  where
+    test : ℕ → ℕ → Bool
+    test v x = (ac_after w x k == v) && (link_after w x k == l)
+    same_test : (v x : ℕ) → test v x ≡ test v 0
+    same_test v x = ap (λ n. (n == v) && (link_after w x k == l)) (cleared_ac w x k e) ∙ ap (λ n. (ac_after w 0 k == v) && (n == l)) (cleared_link w x k e)
+    there : (v : ℕ) → images_from w l (one 0) k v ≡ true → images_from w l a k v ≡ true
+    there v q =
+        let s : IsSome 4096 (λ x. one 0 x && test v x) = some_to 4096 (λ x. one 0 x && test v x) q in
+        let t : IsSome 4096 a = some_to 4096 a some in
+        some_from 4096 (λ x. a x && test v x) t.at t.small
+        (and_both (a t.at) (test v t.at) t.holds (same_test v t.at ∙ sym (same_test v s.at) ∙ and_second (one 0 s.at) (test v s.at) s.holds))
+    back : (v : ℕ) → images_from w l a k v ≡ true → images_from w l (one 0) k v ≡ true
+    back v q =
+        let s : IsSome 4096 (λ x. a x && test v x) = some_to 4096 (λ x. a x && test v x) q in
+        some_from 4096 (λ x. one 0 x && test v x) 0 (omega arith)
+        (and_both (one 0 0) (test v 0) refl (sym (same_test v s.at) ∙ and_second (a s.at) (test v s.at) s.holds))
+
+-- Both links together.
+pub under_both : (w l : ℕ) (a links : Words) (v : ℕ) → ((links 1 && images_from w l a 1 v) || (links 0 && images_from w l a 0 v)) ≡ images_under w l a links v
+unfolding some_below
+under_both w l a links v = ap (λ b. (links 1 && images_from w l a 1 v) || b) (sym (or_false (links 0 && images_from w l a 0 v)))
+
+-- A set that isn't empty has a word.
+pub some_there : (a : Words) (empty : Bool) → empty ≡ not (has_some a) → empty ≡ false → has_some a ≡ true
+some_there a empty is no = go (has_some a) (sym is ∙ no)
+  where
+    go : (b : Bool) → not b ≡ false → b ≡ true
+    go true e = refl
+    go false e = sym e

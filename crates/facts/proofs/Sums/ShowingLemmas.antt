@@ -270,9 +270,9 @@ module _ (accumulators links : Words) (own : List Chain) (c : Chain) (v : ℕ) w
       (IsTrue b ↔ Allows w l) → IsTrue b ↔ ((x y : ℕ) → gives_from other k v x y ≡ true → Allows x y)
   from_pair b other k w l has made h = (
     λ t x y g. (let p = and_parts _ _ (and_parts (other.link k) _ g).1 in
-        let ex : w ≡ x = ap (λ s. s.0) made ∙ eqb-true _ x p.0 in let ey : l ≡ y = ap (λ s. s.1) made ∙ eqb-true _ y p.1 in
+        let ex : w ≡ x = ap (λ (s : ℕ × ℕ). s.0) made ∙ eqb-true _ x p.0 in let ey : l ≡ y = ap (λ (s : ℕ × ℕ). s.1) made ∙ eqb-true _ y p.1 in
         subst (λ z. Allows x z) ey (subst (λ z. Allows z l) ex (h.0 t))),
-    λ all. h.1 (all w l (and_from _ _ has (and_from _ _ (eq-eqb _ w (sym (ap (λ s. s.0) made))) (eq-eqb _ l (sym (ap (λ s. s.1) made)))))),
+    λ all. h.1 (all w l (and_from _ _ has (and_from _ _ (eq-eqb _ w (sym (ap (λ (s : ℕ × ℕ). s.0) made))) (eq-eqb _ l (sym (ap (λ (s : ℕ × ℕ). s.1) made)))))),
   )
 
   pub by_first_fails : (other : Chain) → (((w l : ℕ) → gives_from other 0 v w l ≡ true → Allows w l) → ⊥) → IsTrue false ↔ ((w l : ℕ) → gives other v w l ≡ true → Allows w l)

@@ -18,3 +18,4 @@ pub mod Laws
 pub mod CellsInCode
 pub mod RelationsInCode
 pub mod FactInCode
+pub mod Taken

@@ -3,7 +3,9 @@
 #![tactic(auto)]
 
 mod fact;
+mod asked;
 pub mod laws;
+mod lengths;
 mod location;
 mod brief;
 mod cell_sets;
@@ -17,6 +19,8 @@ mod sets;
 mod shapes;
 mod sum_fact;
 mod sum_moves;
+mod sum_parts;
+mod taking;
 mod terms;
 mod told;
 mod tracking;

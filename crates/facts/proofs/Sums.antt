@@ -14,3 +14,13 @@ pub mod LandedLemmas
 pub mod JoinedLemmas
 pub mod StartedLemmas
 pub mod ForeseenLemmas
+pub mod ShowingLemmas
+pub mod SplitLemmas
+pub mod BeginningLemmas
+pub mod EachRelation
+pub mod CarryingLemmas
+pub mod RowsLemmas
+pub mod OperandLemmas
+pub mod AskingLemmas
+pub mod ComesLemmas
+pub mod DeviceLemmas

@@ -10,3 +10,10 @@ pub mod Laws
 pub mod Access
 pub mod Equations
 pub mod Starts
+pub mod Shaped
+pub mod PlaceInCode
+pub mod Entailing
+pub mod Landing
+pub mod PartInCode
+pub mod OutcomesInCode
+pub mod StartInCode

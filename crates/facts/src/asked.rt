@@ -27,7 +27,7 @@ use word12::Word;
 use wordset::WordSet;
 
 /// Whether a memory reference is JMS.
-fn is_jms(word: Word) -> bool
+pub(crate) fn is_jms(word: Word) -> bool
     ensures { result ≡ calls (operation_of word) }
 {
     matches!(Operation::of(word), Operation::Jms)

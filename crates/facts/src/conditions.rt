@@ -22,7 +22,7 @@ use word12::Word;
 use wordset::WordSet;
 
 /// Whether a memory reference reads its operand.
-fn reads_operand(word: Word) -> bool
+pub(crate) fn reads_operand(word: Word) -> bool
     ensures { result ≡ reads_operand (operation_of word) }
 {
     matches!(
@@ -46,7 +46,7 @@ pub(crate) fn counts(word: Word) -> bool
 }
 
 /// The cell that a memory reference names, where it is meant.
-fn named_if(chosen: bool, named: Word) -> WordSet
+pub(crate) fn named_if(chosen: bool, named: Word) -> WordSet
     ensures { (a : ℕ) → words result a ≡ (chosen && (a == named)) }
 {
     if chosen {

@@ -66,7 +66,7 @@ fn branches<'a>(
 }
 
 /// The one target of a reference, where it has one and no other: the named cell of a direct one.
-fn single_target(indirect: bool, named: Word, targets: &WordSet) -> Option<Word>
+pub(crate) fn single_target(indirect: bool, named: Word, targets: &WordSet) -> Option<Word>
     requires { indirect ≡ false → words targets.now ≡ one named }
     ensures { result ≡ only (words targets.now) }
 {

@@ -83,7 +83,7 @@ fn takes_passing(word: Word, skip: bool) -> bool
 /// The words that skip, or those that don't, in a place for them.
 #[inline(never)]
 #[tactic(auto, using(crate::proofs::SkipLemmas::part_passing, crate::proofs::SkipLemmas::part_failing))]
-fn put_part<'b>(
+pub(crate) fn put_part<'b>(
     word: Word,
     link: Link,
     skip: bool,

@@ -1,0 +1,9 @@
+use Rattle.std.proofs.Common.{◌∙◌, sym, ap, map}
+use Rattle.wordset.specs.Lanes.{words}
+use Rattle.wordset.specs.Links.{links_of}
+use Rattle.domain.specs.Sums.ChainsInCode.{chain_of}
+use Rattle.facts.proofs.Sums.ShowingLemmas.{from_none, from_pair}
+use Rattle.facts.proofs.sum_facts.entailment.Allowed.permits_from.Goals as goal
+
+pub returns-then-not-contains : goal.returns-then-not-contains
+returns-then-not-contains c = from_none (words c.args.self.now.accumulators.now) (links_of c.args.self.now.links) (map chain_of c.args.self.now.chains.now) (chain_of c.args.chain.now) c.args.word (chain_of c.args.other.now) c.args.first (sym c.contains.ensures ∙ c.if-not-contains.true)

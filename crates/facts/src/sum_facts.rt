@@ -1,0 +1,31 @@
+//! Facts whose relations are of sums, and what each instruction makes of them, by the rules of all versions of certificates.
+
+mod additions;
+mod carrying;
+mod conditions;
+mod dispatch;
+mod entailment;
+mod known;
+mod landing;
+mod memory;
+mod operations;
+mod outcomes;
+mod parts;
+mod place;
+mod references;
+mod registers;
+mod rooms;
+mod source;
+mod starts;
+mod stores;
+
+pub use known::KnownFact;
+pub use landing::LandingRooms;
+pub use outcomes::{Kind, Outcome, Outcomes};
+pub use parts::{LinkPart, Part};
+pub use place::Place;
+pub use rooms::{
+    ChosenFact, Fact, MetFact, NarrowedFact, NextFact, PartFact, SteppedFact, TestedFact,
+};
+pub use source::FactSource;
+pub use starts::{StartFact, StartPart};

@@ -27,13 +27,13 @@ AreValues v = (n : Location) → v n < 4096
 -- A sum has the same word after its terms were collected and arranged, and with one summand more it has the word of both.
 pub record SumsAreKept : Type 0 where
   pub one_more :
-    (v : Values) (start : Cells) (c : ℕ) (t : Term) (sum : Sum) →
-    sum_value v start (with_summand c t sum) ≡ plus (c * term_value v start t) (sum_value v start sum)
+      (v : Values) (start : Cells) (c : ℕ) (t : Term) (sum : Sum) →
+      sum_value v start (with_summand c t sum) ≡ plus (c * term_value v start t) (sum_value v start sum)
   pub collected : (v : Values) (start : Cells) (sum : Sum) → sum_value v start (collected sum) ≡ sum_value v start sum
   pub arranged : (v : Values) (start : Cells) (sum : Sum) → sum_value v start (arranged sum) ≡ sum_value v start sum
   pub multiplied :
-    (v : Values) (start : Cells) (c : ℕ) (sum : Sum) →
-    sum_value v start (multiplied c sum) ≡ (c * sum_value v start sum) % 4096
+      (v : Values) (start : Cells) (c : ℕ) (sum : Sum) →
+      sum_value v start (multiplied c sum) ≡ (c * sum_value v start sum) % 4096
 
 -- How a sum is spelled: a sum of one of the shapes, with a sign. The sum is as much as this one times the sign, and so the other
 -- way round.
@@ -132,11 +132,11 @@ KeepsOthers names v w = (n : Location) → names n ≡ false → w n ≡ v n
 -- Relations that speak of none of the names that changed stay true, and so do chains that begin on none of them.
 pub record FreeStaysTrue : Type 0 where
   pub relations :
-    (names : Location → Bool) (start : Cells) (v w : Values) (rs : List Relation) →
-    KeepsOthers names v w → AllTrue v start rs → AllTrue w start (free_of names rs)
+      (names : Location → Bool) (start : Cells) (v w : Values) (rs : List Relation) →
+      KeepsOthers names v w → AllTrue v start rs → AllTrue w start (free_of names rs)
   pub chains :
-    (names : Location → Bool) (v w : Values) (link : ℕ) (cs : List Chain) →
-    KeepsOthers names v w → AllGiven v link cs → AllGiven w link (chains_free_of names cs)
+      (names : Location → Bool) (v w : Values) (link : ℕ) (cs : List Chain) →
+      KeepsOthers names v w → AllGiven v link cs → AllGiven w link (chains_free_of names cs)
 
 -- Where one name took a word of a set, the fact of this holds.
 abbrev pub TakingHolds : Type 0

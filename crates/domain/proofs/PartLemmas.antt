@@ -97,6 +97,6 @@ pub parts_on : {A B : Type 0} (g : A → B) (p : B → List Relation) (xs : List
     adding_all OfSums (flat_map p (map g (drop i xs))) now ≡ all → adding_all OfSums (flat_map p (map g (drop (i + 1) xs))) more ≡ all
 parts_on g p xs i x now more all lt is e before =
     let here : flat_map p (map g (drop i xs)) ≡ p (g x) ++ flat_map p (map g (drop (i + 1) xs)) =
-        at_drop_more (λ os. flat_map p (map g os)) xs i x lt ∙ ap (λ y. p (g y) ++ flat_map p (map g (drop (i + 1) xs))) (sym is) in
+    at_drop_more (λ os. flat_map p (map g os)) xs i x lt ∙ ap (λ y. p (g y) ++ flat_map p (map g (drop (i + 1) xs))) (sym is) in
     ap (λ (f : Fact). adding_all OfSums (flat_map p (map g (drop (i + 1) xs))) f) e ∙ sym (added_both (p (g x)) (flat_map p (map g (drop (i + 1) xs))) now)
     ∙ ap (λ (rs : List Relation). adding_all OfSums rs now) (sym here) ∙ before

@@ -41,7 +41,7 @@ found_at sum rs i lt same before = record {
   met = λ set.
       (let d : Relation = record { sum = []; set = nothing } in
       let here : with_relation sum set (drop i rs) ≡ record { sum = sum; set = meet (relation_at rs i).set set } ∷ drop (i + 1) rs =
-          at_drop_more (with_relation sum set) rs i d lt ∙ first_met sum set (relation_at rs i) (drop (i + 1) rs) same in
+      at_drop_more (with_relation sum set) rs i d lt ∙ first_met sum set (relation_at rs i) (drop (i + 1) rs) same in
       let next : i + 1 ≡ suc i = omega arith in
       sym (before set) ∙ ap (λ (r : List Relation). take i rs ++ r) (here ∙ ap (λ k. record { sum = sum; set = meet (relation_at rs i).set set } ∷ drop k rs) next)
       ∙ sym (split rs i (record { sum = sum; set = meet (relation_at rs i).set set }) lt));
@@ -54,7 +54,7 @@ pub passed_on : (sum : Sum) (rs : List Relation) (i : ℕ) → i < length rs →
 passed_on sum rs i lt other before set =
     let d : Relation = record { sum = []; set = nothing } in
     let here : with_relation sum set (drop i rs) ≡ relation_at rs i ∷ with_relation sum set (drop (i + 1) rs) =
-        at_drop_more (with_relation sum set) rs i d lt ∙ first_passed sum set (relation_at rs i) (drop (i + 1) rs) other in
+    at_drop_more (with_relation sum set) rs i d lt ∙ first_passed sum set (relation_at rs i) (drop (i + 1) rs) other in
     ap (λ (t : List Relation). t ++ with_relation sum set (drop (i + 1) rs)) (take_more rs i d lt)
     ∙ append_assoc (take i rs) (relation_at rs i ∷ []) (with_relation sum set (drop (i + 1) rs)) ∙ ap (λ (r : List Relation). take i rs ++ r) (sym here) ∙ before set
 
@@ -108,7 +108,7 @@ pub moved_on : {A : Type 0} (g : A → Relation) (cell by : ℕ) (xs : List A) (
     more ++ moved_relations cell (one by) (map g (drop (i + 1) xs)) ≡ made ++ moved_relations cell (one by) (map g (drop i xs))
 moved_on g cell by xs i x made more lt is known e =
     let here : moved_relations cell (one by) (map g (drop i xs)) ≡ moved_relation cell (one by) (only (one by)) (g x) ++ moved_relations cell (one by) (map g (drop (i + 1) xs)) =
-        at_drop_more (λ os. moved_relations cell (one by) (map g os)) xs i x lt ∙ ap (λ y. moved_relation cell (one by) (only (one by)) (g y) ++ moved_relations cell (one by) (map g (drop (i + 1) xs))) (sym is) in
+    at_drop_more (λ os. moved_relations cell (one by) (map g os)) xs i x lt ∙ ap (λ y. moved_relation cell (one by) (only (one by)) (g y) ++ moved_relations cell (one by) (map g (drop (i + 1) xs))) (sym is) in
     ap (λ (m : List Relation). m ++ moved_relations cell (one by) (map g (drop (i + 1) xs))) e
     ∙ append_assoc made (moved_relation cell (one by) (Some by) (g x)) (moved_relations cell (one by) (map g (drop (i + 1) xs)))
     ∙ ap (λ o. made ++ (moved_relation cell (one by) o (g x) ++ moved_relations cell (one by) (map g (drop (i + 1) xs)))) (sym known) ∙ ap (λ (r : List Relation). made ++ r) (sym here)

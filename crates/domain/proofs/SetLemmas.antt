@@ -22,6 +22,7 @@ kept_one set test v h = both_ways (some_below 4096 (λ x. set x && ((v == x) && 
         let same : v ≡ s.at = eqb-true v s.at (and_first (v == s.at) (test s.at) rest) in
         let passes : test s.at ≡ true = and_second (v == s.at) (test s.at) rest in
         and_both (set v) (test v) (ap set same ∙ has) (ap test same ∙ passes)
+
     from : (set v && test v) ≡ true → some_below 4096 (λ x. set x && ((v == x) && test x)) ≡ true
     from e = some_from 4096 (λ x. set x && ((v == x) && test x)) v h
         (and_both (set v) ((v == v) && test v) (and_first (set v) (test v) e) (and_both (v == v) (test v) (eq-eqb v v refl) (and_second (set v) (test v) e)))
@@ -75,6 +76,7 @@ negative lanes = fun_ext at
   where
     set : Words
     set = words lanes
+
     at : (v : ℕ) → shifted (mirrored (words lanes)) 1 v ≡ times 4095 (words lanes) v
     at v = elim (cases_lt v 4096) [
       | inl l ↦

@@ -79,8 +79,8 @@ put_before c t xs made more all i y d lt is other first small e before =
     let y_other : same_term t (get_or xs i d).term ≡ false = ap (λ (s : Summand). same_term t s.term) (sym is) ∙ other in
     let y_first : term_is_before t (get_or xs i d).term ≡ true = ap (λ (s : Summand). term_is_before t s.term) (sym is) ∙ first in
     let rest : with_summand c t (drop i xs) ≡ with_coefficient c t (drop i xs) =
-        at_drop_more (with_summand c t) xs i d lt ∙ before_first c t (get_or xs i d) (drop (i + 1) xs) y_other y_first small
-        ∙ ap (λ (r : said.Sum). with_coefficient c t r) (sym (drop_more xs i d lt)) in
+    at_drop_more (with_summand c t) xs i d lt ∙ before_first c t (get_or xs i d) (drop (i + 1) xs) y_other y_first small
+    ∙ ap (λ (r : said.Sum). with_coefficient c t r) (sym (drop_more xs i d lt)) in
     ap (λ (m : said.Sum). m ++ drop i xs) e ∙ append_assoc made (with_coefficient c t []) (drop i xs) ∙ ap (λ (r : said.Sum). made ++ r) (in_front c t (drop i xs) ∙ sym rest) ∙ before
 
 -- A term that stands behind all others.

@@ -65,7 +65,11 @@ impl Default for Chain {
 fn added(ac: Word, link: Link, word: Word) -> (Word, Link)
     ensures { result ≡ after_step (said.Adds word) (ac, link) }
 {
-    let after = if ac.carries(word) { link.complement() } else { link };
+    let after = if ac.carries(word) {
+        link.complement()
+    } else {
+        link
+    };
     (ac.add(word), after)
 }
 

@@ -2,14 +2,14 @@
 //! interpretation this is the domain: sets of words, equations between words, and offsets of a return word.
 #![tactic(auto)]
 
-mod fact;
 mod asked;
-pub mod laws;
-mod lengths;
-mod location;
 mod brief;
 mod cell_sets;
 mod chains;
+mod fact;
+pub mod laws;
+mod lengths;
+mod location;
 mod names;
 mod narrowing;
 mod offsets;
@@ -25,14 +25,14 @@ mod terms;
 mod told;
 mod tracking;
 
-pub use fact::Fact;
-pub use location::{Equation, Location, is_same_equation, is_same_location, negated, turned};
+pub use brief::BriefSet;
 pub use cell_sets::{CellSet, CellSets};
 pub use chains::{Chain, Step};
-pub use brief::BriefSet;
+pub use fact::Fact;
+pub use location::{Equation, Location, is_same_equation, is_same_location, negated, turned};
 pub use names::Names;
-pub use offsets::CountedOffsets;
 pub use narrowing::ChainWords;
+pub use offsets::CountedOffsets;
 pub use relations::{Relation, Relations};
 pub use return_offsets::ReturnOffsets;
 pub use sets::{at_start, differences, keep_divided, keep_pointing, times};

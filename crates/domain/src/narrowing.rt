@@ -44,7 +44,14 @@ pub struct ChainWords {
 }
 
 /// Adds what a chain gives of one word of its cell and of one link, where a fact allows it.
-fn add_given(chain: &Chain, word: Word, first: Link, ac: &WordSet, links: Links, found: &mut ChainWords)
+fn add_given(
+    chain: &Chain,
+    word: Word,
+    first: Link,
+    ac: &WordSet,
+    links: Links,
+    found: &mut ChainWords,
+)
     ensures cells { (v : ℕ) → words found.new.cells v ≡ (words found.old.cells v || ((v == word) &&
         some_below 4096 (λ w. some_below 2 (λ l. words ac.now w && (links_of links l && gives_from (chain_of chain.now) first word w l))))) }
     ensures accumulators { (w : ℕ) → words found.new.accumulators w ≡ (words found.old.accumulators w ||
@@ -144,7 +151,12 @@ impl<const C: usize, const R: usize> SumFact<C, R> {
     }
 
     /// Adds what a relation of another fact says of its first term and of the rest.
-    fn add_parts<const D: usize, const S: usize>(&mut self, image: &Image, fact: &SumFact<D, S>, relation: &Relation)
+    fn add_parts<const D: usize, const S: usize>(
+        &mut self,
+        image: &Image,
+        fact: &SumFact<D, S>,
+        relation: &Relation,
+    )
         requires cells { length (cell_sets_of self.old.cells) + 2 ≤ C }
         requires relations { length (relations_of self.old.relations) < R }
         ensures fact { fact_in_code self.new ≡ adding_all OfSums
@@ -165,7 +177,12 @@ impl<const C: usize, const R: usize> SumFact<C, R> {
         relation.set.put(&mut set);
         let mut said = WordSet::all();
         fact.put_said_of(image, &rest, &mut said);
-        self.keep_term(image, summand.coefficient, &summand.term, &differences(&set, &said));
+        self.keep_term(
+            image,
+            summand.coefficient,
+            &summand.term,
+            &differences(&set, &said),
+        );
         fact.put_said_of(image, &first, &mut said);
         self.add_part(image, &rest, &differences(&set, &said));
     }
@@ -189,14 +206,32 @@ impl<const C: usize, const R: usize> SumFact<C, R> {
         let mut set = WordSet::all();
         self.put_set_of(&Location::Cell(chain.cell()), &mut set);
         for word in set.iter() {
-            add_given(chain, word, Link::CLEAR, self.accumulator(), self.link(), &mut found);
-            add_given(chain, word, Link::SET, self.accumulator(), self.link(), &mut found);
+            add_given(
+                chain,
+                word,
+                Link::CLEAR,
+                self.accumulator(),
+                self.link(),
+                &mut found,
+            );
+            add_given(
+                chain,
+                word,
+                Link::SET,
+                self.accumulator(),
+                self.link(),
+                &mut found,
+            );
         }
         found
     }
 
     /// Adds what a chain of another fact says of its cell, of the accumulator, and of the accumulator less the cell.
-    fn add_parts_of_chain<const D: usize, const S: usize>(&mut self, fact: &SumFact<D, S>, chain: &Chain)
+    fn add_parts_of_chain<const D: usize, const S: usize>(
+        &mut self,
+        fact: &SumFact<D, S>,
+        chain: &Chain,
+    )
         requires cells { length (cell_sets_of self.old.cells) + 1 ≤ C }
         requires relations { length (relations_of self.old.relations) < R }
         ensures fact { fact_in_code self.new ≡ adding_all OfSums
@@ -208,8 +243,17 @@ impl<const C: usize, const R: usize> SumFact<C, R> {
         let cell = Location::Cell(chain.cell());
         self.meet_name(&cell, &found.cells);
         self.meet_name(&Location::Accumulator, &found.accumulators);
-        self.add(&Rules::OfSums, &Sum::difference(Location::Accumulator, cell), &found.differences);
-        let ChainWords { cells: _, accumulators: _, differences: _, links: _ } = found;
+        self.add(
+            &Rules::OfSums,
+            &Sum::difference(Location::Accumulator, cell),
+            &found.differences,
+        );
+        let ChainWords {
+            cells: _,
+            accumulators: _,
+            differences: _,
+            links: _,
+        } = found;
     }
 
     /// Keeps those links that each chain of another fact allows.
@@ -220,7 +264,12 @@ impl<const C: usize, const R: usize> SumFact<C, R> {
         } }
     {
         for chain in fact.chains() {
-            let ChainWords { cells: _, accumulators: _, differences: _, links } = fact.words_of_chain(chain);
+            let ChainWords {
+                cells: _,
+                accumulators: _,
+                differences: _,
+                links,
+            } = fact.words_of_chain(chain);
             self.link = Links {
                 clear: self.link.clear && links.clear,
                 set: self.link.set && links.set,
@@ -229,7 +278,12 @@ impl<const C: usize, const R: usize> SumFact<C, R> {
     }
 
     /// Adds what some relations of another fact say of their first terms and of the rest.
-    fn add_all_parts<const D: usize, const S: usize>(&mut self, image: &Image, fact: &SumFact<D, S>, relations: &[Relation])
+    fn add_all_parts<const D: usize, const S: usize>(
+        &mut self,
+        image: &Image,
+        fact: &SumFact<D, S>,
+        relations: &[Relation],
+    )
         requires cells { length (cell_sets_of self.old.cells) + 2 * length relations.now ≤ C }
         requires relations { length (relations_of self.old.relations) + length relations.now ≤ R }
         ensures fact { fact_in_code self.new ≡ adding_all OfSums
@@ -243,7 +297,11 @@ impl<const C: usize, const R: usize> SumFact<C, R> {
     }
 
     /// Adds what some chains of another fact say.
-    fn add_all_parts_of_chains<const D: usize, const S: usize>(&mut self, fact: &SumFact<D, S>, chains: &[Chain])
+    fn add_all_parts_of_chains<const D: usize, const S: usize>(
+        &mut self,
+        fact: &SumFact<D, S>,
+        chains: &[Chain],
+    )
         requires cells { length (cell_sets_of self.old.cells) + length chains.now ≤ C }
         requires relations { length (relations_of self.old.relations) + length chains.now ≤ R }
         ensures { fact_in_code self.new ≡ adding_all OfSums

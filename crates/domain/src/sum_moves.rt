@@ -87,7 +87,11 @@ impl<const C: usize, const R: usize> SumFact<C, R> {
     }
 
     /// Lets this fact be another without what it says of some names beside their sets.
-    pub fn take_without<const D: usize, const S: usize>(&mut self, other: &SumFact<D, S>, names: &Names<'_>)
+    pub fn take_without<const D: usize, const S: usize>(
+        &mut self,
+        other: &SumFact<D, S>,
+        names: &Names<'_>,
+    )
         requires cells { length (cell_sets_of other.now.cells) ≤ C }
         requires relations { length (relations_of other.now.relations) ≤ R }
         ensures fact { fact_in_code self.new ≡ without_relations (names_of names.now) (fact_in_code other.now) }
@@ -95,12 +99,18 @@ impl<const C: usize, const R: usize> SumFact<C, R> {
         ensures fewer { length (relations_of self.new.relations) ≤ length (relations_of other.now.relations) }
     {
         self.take_over(other);
-        self.relations.push_free_of(other.relations.as_slice(), names);
+        self.relations
+            .push_free_of(other.relations.as_slice(), names);
         keep_chains_free_of(other.chains.as_slice(), names, &mut self.chains);
     }
 
     /// Lets this fact be another after a cell's word was counted up by 1, where the cell has these words then.
-    pub fn take_counted<const D: usize, const S: usize>(&mut self, other: &SumFact<D, S>, cell: Word, set: &WordSet)
+    pub fn take_counted<const D: usize, const S: usize>(
+        &mut self,
+        other: &SumFact<D, S>,
+        cell: Word,
+        set: &WordSet,
+    )
         requires cells { length (cell_sets_of other.now.cells) < C }
         requires relations { length (relations_of other.now.relations) ≤ R }
         ensures fact { fact_in_code self.new ≡ record (fact_in_code other.now) {
@@ -113,13 +123,18 @@ impl<const C: usize, const R: usize> SumFact<C, R> {
     {
         let one = Word::from_index(1);
         self.take_over(other);
-        self.relations.push_all_moved_by(other.relations.as_slice(), cell, one);
+        self.relations
+            .push_all_moved_by(other.relations.as_slice(), cell, one);
         count_chains(other.chains.as_slice(), cell, one, &mut self.chains);
         self.cells.replace(cell, set);
     }
 
     /// Adds a step to each chain.
-    pub fn lengthen_chains<const D: usize, const S: usize>(&mut self, other: &SumFact<D, S>, step: &Step)
+    pub fn lengthen_chains<const D: usize, const S: usize>(
+        &mut self,
+        other: &SumFact<D, S>,
+        step: &Step,
+    )
         requires { AreShort (fact_in_code other.now).chains }
         ensures { fact_in_code self.new ≡
             record (fact_in_code self.old) { chains = all_longer (step_of step.now) (fact_in_code other.now).chains } }
@@ -128,7 +143,12 @@ impl<const C: usize, const R: usize> SumFact<C, R> {
     }
 
     /// Adds those entries of another fact's cells that are outside a written set, or those that are in it.
-    fn push_cells<const D: usize, const S: usize>(&mut self, other: &SumFact<D, S>, written: &WordSet, outside: bool)
+    fn push_cells<const D: usize, const S: usize>(
+        &mut self,
+        other: &SumFact<D, S>,
+        written: &WordSet,
+        outside: bool,
+    )
         requires { length (cell_sets_of self.old.cells) + length (cell_sets_of other.now.cells) ≤ C }
     {
         for entry in other.cells.as_slice() {
@@ -150,7 +170,11 @@ impl<const C: usize, const R: usize> SumFact<C, R> {
     }
 
     /// Adds those relations of another fact that speak of no name that a call may change.
-    fn add_outside<const D: usize, const S: usize>(&mut self, other: &SumFact<D, S>, written: &WordSet)
+    fn add_outside<const D: usize, const S: usize>(
+        &mut self,
+        other: &SumFact<D, S>,
+        written: &WordSet,
+    )
         requires { length (relations_of self.old.relations) + length (relations_of other.now.relations) ≤ R }
     {
         let mut set = WordSet::all();
@@ -190,7 +214,8 @@ impl<const C: usize, const R: usize> SumFact<C, R> {
             }
             Rules::OfEquations => {
                 self.push_cells(exit, written, false);
-                self.relations.push_free_of(call.relations.as_slice(), &Names::Changing(written));
+                self.relations
+                    .push_free_of(call.relations.as_slice(), &Names::Changing(written));
                 self.relations.push_all(exit.relations.as_slice());
             }
         }

@@ -12,8 +12,7 @@ loop-relation-preserved g c =
     let small : c.args.by < 4096 = omega (arith, c.index-index.ensures.same, c.index-index.ensures.small) in
     let inside : c.loop-relation.relation-index < length c.args.others.now = c.loop-relation-test.true in
     let more : length (relations_of c.push_moved_by.new.self) ≡ length (relations_of c.loop-relation.self) + 1 =
-        ap length c.push_moved_by.ensures ∙ length-append (relations_of c.loop-relation.self) (moved_relation c.args.cell (one c.args.by) (Some c.args.by) (relation_of c.relation-item.result)) in
-    (
+    ap length c.push_moved_by.ensures ∙ length-append (relations_of c.loop-relation.self) (moved_relation c.args.cell (one c.args.by) (Some c.args.by) (relation_of c.relation-item.result)) in (
       moved_on relation_of c.args.cell c.args.by c.args.others.now c.loop-relation.relation-index c.relation-item.result (relations_of c.loop-relation.self) (relations_of c.push_moved_by.new.self)
           inside c.relation-item.is (only_of_one c.args.by small) c.push_moved_by.ensures ∙ c.loop-relation.invariant.0,
       omega (arith, more, c.loop-relation.invariant.1),

@@ -17,6 +17,6 @@ push_unsigned-requires c =
 pub returns-clause-few : goal.returns-clause-few
 returns-clause-few c =
     let parts : length (filter (λ (s : Summand). is_sign s.coefficient) (sum_of c.collected-collected.result)) + length (filter (λ (s : Summand). not (is_sign s.coefficient)) (sum_of c.collected-collected.result)) ≡ length (sum_of c.collected-collected.result) =
-        both_filters (λ (s : Summand). is_sign s.coefficient) (sum_of c.collected-collected.result) in
+    both_filters (λ (s : Summand). is_sign s.coefficient) (sum_of c.collected-collected.result) in
     rw (c.push_unsigned.ensures, c.push_signed.ensures, c.zero-sum.ensures)
     (omega (arith, length-append (filter (λ (s : Summand). is_sign s.coefficient) (sum_of c.collected-collected.result)) (filter (λ (s : Summand). not (is_sign s.coefficient)) (sum_of c.collected-collected.result)), c.collected-collected.ensures.few))

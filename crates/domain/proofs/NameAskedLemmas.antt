@@ -1,9 +1,9 @@
 -- What is left to one name when a fact is told something.
-use Rattle.std.proofs.Common.{◌≡◌, ℕ, ◌*◌, ◌%◌, ◌<◌, ◌≤◌, ◌==◌, Bool, true, false, ◌&&◌, List, [], ◌∷◌, ◌++◌, length, map, drop, get_or, Option, Some, None, refl, sym, ap, ◌∙◌, subst, arith}
+use Rattle.std.proofs.Common.{◌≡◌, ℕ, ◌*◌, ◌%◌, ◌<◌, ◌≤◌, ◌==◌, Bool, true, false, ◌&&◌, List, [], ◌∷◌, ◌++◌, length, map, drop, get_or, Option, Some, None, refl, sym, ap, ◌∙◌, subst, arith, inl, inr}
 use Rattle.std.specs.Prelude.{if◌then◌else◌, flat_map}
 use Rattle.std.proofs.Math.Path.{fun_ext}
 use Rattle.std.proofs.Math.ListN.{drop_of_length-le}
-use Rattle.std.proofs.lemmas.Bool.{eq-eqb}
+use Rattle.std.proofs.lemmas.Bool.{eq-eqb, cases_Bool, cases_lt}
 use Rattle.wordset.specs.Words.{Words, some_below, plus, meet}
 use Rattle.wordset.specs.Lanes.{words}
 use Rattle.wordset.proofs.SetLemmas.{words_past}
@@ -13,7 +13,9 @@ use Rattle.domain.specs.Sums.Terms.{Term, Holding, Behind, Sum, sum_of_name, nam
 use Rattle.domain.specs.Sums.Facts.{Fact, Relation, OfSums}
 use Rattle.domain.specs.Sums.Shapes.{Spelled, spelled}
 use Rattle.domain.specs.Sums.Adding.{times, with_name, with_term_in, with_shape_in, adding, adding_all}
-use Rattle.domain.specs.Sums.Narrowing.{of_term, of_part}
+use Rattle.domain.specs.Sums.Narrowing.{of_term, of_part, may_give, parts_of_chain}
+use Rattle.domain.specs.Sums.Chains.{Chain}
+use Rattle.domain.specs.Sums.ChainsInCode.{met_with_found}
 use Rattle.domain.specs.Sums.InCode.{summand_at}
 use Rattle.domain.proofs.PartLemmas.{name_added, part_one}
 use Rattle.domain.proofs.Sums.SumLemmas.{same_name}
@@ -74,3 +76,26 @@ met_elsewhere f n m s e = rw e refl
 pub none_left : {A B : Type 0} (r : A → B) (p : B → List Relation) (xs : List A) (i : ℕ) (g all : Fact) → length xs ≤ i →
     adding_all OfSums (flat_map p (map r (drop i xs))) g ≡ all → g ≡ all
 none_left r p xs i g all le e = ap (λ ys. adding_all OfSums (flat_map p (map r ys)) g) (sym (drop_of_length-le xs le)) ∙ e
+
+-- ---- what a chain says
+
+meet_below : (lanes : List ℕ) (s t : Words) → ((v : ℕ) → v < 4096 → s v ≡ t v) → meet (words lanes) s ≡ meet (words lanes) t
+meet_below lanes s t h = fun_ext (λ v. elim (cases_lt v 4096) [
+  | inl l ↦ ap (λ b. words lanes v && b) (h v l)
+  | inr far ↦ ap (λ b. b && s v) (words_past lanes v far) ∙ sym (ap (λ b. b && t v) (words_past lanes v far))
+])
+
+pub chain_told : (f own : Fact) (d : Chain) (n : Location) (lanes : List ℕ) (cells accumulators p : Words) →
+    ((v : ℕ) → v < 4096 → cells v ≡ some_below 4096 (λ w. some_below 2 (λ l. may_give own d v w l))) →
+    ((w : ℕ) → w < 4096 → accumulators w ≡ some_below 4096 (λ v. some_below 2 (λ l. may_give own d v w l))) →
+    words lanes ≡ f.set n → p ≡ met_with_found cells accumulators d.cell n (words lanes) → p ≡ (adding_all OfSums (parts_of_chain own d) f).set n
+chain_told f own d Ac lanes cells accumulators p hc ha h q =
+    let told : Words = λ w. some_below 4096 (λ v. some_below 2 (λ l. may_give own d v w l)) in
+    let first : Fact = adding OfSums (record { sum = sum_of_name (Cell d.cell); set = λ v. some_below 4096 (λ w. some_below 2 (λ l. may_give own d v w l)) }) f in
+    q ∙ meet_below lanes accumulators told ha ∙ told_here first Ac Ac lanes told (meet (words lanes) told) refl h refl
+chain_told f own d (Cell a) lanes cells accumulators p hc ha h q =
+    let told : Words = λ v. some_below 4096 (λ w. some_below 2 (λ l. may_give own d v w l)) in
+    elim (cases_Bool (a == d.cell)) [
+      | inl e ↦ q ∙ (rw e (meet_below lanes cells told hc)) ∙ told_here f (Cell a) (Cell d.cell) lanes told (meet (words lanes) told) e h refl
+      | inr e ↦ q ∙ (rw e h) ∙ told_of_other f (Cell a) (Cell d.cell) told e
+    ]

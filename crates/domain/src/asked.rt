@@ -15,7 +15,7 @@ ghost use Rattle.domain.specs.Sums.Knowing.{said_of};
 ghost use Rattle.domain.specs.Sums.Narrowing.{narrowed, words_by, of_term, of_part, parts_of, parts_of_chain};
 ghost use Rattle.domain.specs.Sums.InCode.{term_of, sum_of};
 ghost use Rattle.domain.specs.Sums.Brief.{brief_words};
-ghost use Rattle.domain.specs.Sums.ChainsInCode.{chain_of};
+ghost use Rattle.domain.specs.Sums.ChainsInCode.{chain_of, met_with_found};
 ghost use Rattle.domain.specs.Sums.FactInCode.{fact_in_code, rules_of, all_parts, all_parts_of_chains};
 ghost use Rattle.domain.specs.Sums.RelationsInCode.{relation_of};
 
@@ -120,6 +120,22 @@ fn is_idle(part: &Sum, name: &Location) -> bool
     !is_same_location(name, &part.get(0).term.name())
 }
 
+/// Keeps those words of a name's set that a chain on a cell allows: the accumulator's, or the cell's.
+fn keep_found(found: &ChainWords, cell: Word, name: &Location, place: &mut WordSet)
+    ensures { words place.new ≡ met_with_found (words found.now.cells) (words found.now.accumulators) cell
+        (location_of name.now) (words place.old) }
+{
+    match name {
+        Location::Accumulator => *place = place.meet(&found.accumulators),
+        Location::Cell(other) => {
+            if *other != cell {
+                return;
+            }
+            *place = place.meet(&found.cells);
+        }
+    }
+}
+
 impl<const C: usize, const R: usize> SumFact<C, R> {
     /// Leaves in a set of a name what is left to it when a fact is told that a part of the sum of one of this fact's relations
     /// is what the relation's set leaves to it, where this fact says as much of the rest.
@@ -177,20 +193,8 @@ impl<const C: usize, const R: usize> SumFact<C, R> {
             (adding_all OfSums (parts_of_chain (fact_in_code self.now) (chain_of chain.now)) f).set (location_of name.now) }
     {
         let found = self.words_of_chain(chain);
-        match name {
-            Location::Accumulator => *place = place.meet(&found.accumulators),
-            Location::Cell(cell) => {
-                if *cell == chain.cell() {
-                    *place = place.meet(&found.cells);
-                }
-            }
-        }
-        let ChainWords {
-            cells: _,
-            accumulators: _,
-            differences: _,
-            links: _,
-        } = found;
+        keep_found(&found, chain.cell(), name, place);
+        let ChainWords { cells: _, accumulators: _, differences: _, links: _ } = found;
     }
 
     /// Leaves in a set of a name what is left to it when a fact is told what some relations of this fact say of their first

@@ -1,6 +1,7 @@
 -- Chains as they're kept in code, and what they mean.
-use Rattle.std.specs.Prelude.{ℕ, ◌<◌, Bool, ◌&&◌, List, [], ◌∷◌, length, map, take}
-use Rattle.wordset.specs.Words.{plus}
+use Rattle.std.specs.Prelude.{ℕ, ◌<◌, ◌==◌, Bool, ◌&&◌, if◌then◌else◌, List, [], ◌∷◌, length, map, take}
+use Rattle.wordset.specs.Words.{plus, Words, meet}
+use Rattle.domain.specs.Facts.{Location, Ac, Cell}
 use Rattle.wordset.specs.Links.{links_of}
 use Rattle.domain.specs.Sums.Chains as said
 use Rattle.domain.specs.declared.chains.Step.{Step}
@@ -30,3 +31,8 @@ gives_from c k v w l = c.link k && said.is_pair_of (said.after_steps c.steps (pl
 abbrev pub AreShort : List said.Chain → Type 0
 AreShort [] = Unit {0}
 AreShort (c ∷ cs) = (length c.steps < 17) × AreShort cs
+
+-- Those of a name's words that a chain on a cell allows: the accumulator's, or the cell's.
+abbrev pub met_with_found : Words → Words → ℕ → Location → Words → Words
+met_with_found cells accumulators cell Ac set = meet set accumulators
+met_with_found cells accumulators cell (Cell a) set = if a == cell then meet set cells else set

@@ -22,7 +22,7 @@ use Rattle.domain.specs.Sums.Narrowing.{asked_by}
 use Rattle.domain.specs.Sums.Moves.{free_of, chains_free_of, without_relations, taking}
 use Rattle.facts.specs.Sums.Additions.{has_ac, if_without_ac, after_tad, without_sums, summed, complemented, incremented, turned}
 use Rattle.facts.specs.Sums.Stores.{after_store, stored, begun_by, all_begun}
-use Rattle.facts.specs.Sums.Shaped.{told, begun_beside, images_from}
+use Rattle.facts.specs.Sums.Shaped.{told, begun_beside, if_stays, images_from}
 use Rattle.facts.specs.Sums.Outcomes.{with_link}
 use Rattle.facts.specs.Sums.Operations.{ac_after, link_after, images_under, tested, cleared2}
 use Rattle.facts.proofs.Sums.EachRelation.{adding_append, put_on, append_nothing, filter_append, flat_append, map_append}
@@ -267,3 +267,59 @@ some_there a empty is no = go (has_some a) (sym is ∙ no)
     go : (b : Bool) → not b ≡ false → b ≡ true
     go true e = refl
     go false e = sym e
+
+-- What a word of group 1 makes of one relation, stage by stage.
+turned_one : (w : ℕ) (r : Relation) →
+    turned w (r ∷ []) ≡ (if has_bit 0 w then flat_map incremented (if has_bit 5 w then complemented r else r ∷ []) else (if has_bit 5 w then complemented r else r ∷ []))
+turned_one w r = go (has_bit 5 w)
+  where
+    go : (m : Bool) → (if has_bit 0 w then flat_map incremented (if m then flat_map complemented (r ∷ []) else r ∷ []) else (if m then flat_map complemented (r ∷ []) else r ∷ [])) ≡
+        (if has_bit 0 w then flat_map incremented (if m then complemented r else r ∷ []) else (if m then complemented r else r ∷ []))
+    go true = ap (λ (x : List Relation). if has_bit 0 w then flat_map incremented x else x) (append_nothing (complemented r))
+    go false = refl
+
+-- One that CMA takes away is gone.
+pub turned_gone : (w : ℕ) (r m : Relation) (s : Bool) → s ≡ false → if_stays s m ≡ (if has_bit 5 w then complemented r else r ∷ []) → [] ≡ turned w (r ∷ [])
+turned_gone w r m s no e =
+    let none : [] ≡ (if has_bit 5 w then complemented r else r ∷ []) = sym (ap (λ b. if_stays b m) no) ∙ e in
+    go (has_bit 0 w) ∙ ap (λ (x : List Relation). if has_bit 0 w then flat_map incremented x else x) none ∙ sym (turned_one w r)
+  where
+    go : (b : Bool) → [] ≡ (if b then flat_map incremented [] else [])
+    go true = refl
+    go false = refl
+
+-- One that it leaves is counted up by IAC.
+pub turned_on : (w : ℕ) (r m last : Relation) (s t : Bool) → s ≡ true → if_stays s m ≡ (if has_bit 5 w then complemented r else r ∷ []) → if_stays t last ≡ (if has_bit 0 w then incremented m else m ∷ []) →
+    if_stays t last ≡ turned w (r ∷ [])
+turned_on w r m last s t yes e d =
+    let some : m ∷ [] ≡ (if has_bit 5 w then complemented r else r ∷ []) = sym (ap (λ b. if_stays b m) yes) ∙ e in
+    d ∙ go (has_bit 0 w) ∙ ap (λ (x : List Relation). if has_bit 0 w then flat_map incremented x else x) some ∙ sym (turned_one w r)
+  where
+    go : (b : Bool) → (if b then incremented m else m ∷ []) ≡ (if b then flat_map incremented (m ∷ []) else m ∷ [])
+    go true = sym (append_nothing (incremented m))
+    go false = refl
+
+-- A relation stays unless it speaks of the accumulator.
+pub stays_unless : (b : Bool) (r : Relation) → if_stays (not b) r ≡ (if b then [] else r ∷ [])
+stays_unless true r = refl
+stays_unless false r = refl
+
+-- Those that stay and are kept by the rules.
+pub kept_none : (k : Relation → Bool) (s : Bool) (r : Relation) (xs : List Relation) → s ≡ false → if_stays s r ≡ xs → [] ≡ filter k xs
+kept_none k s r xs no e = ap (filter k) (sym (ap (λ b. if_stays b r) no) ∙ e)
+
+pub kept_if : (k : Relation → Bool) (s b : Bool) (r : Relation) (xs : List Relation) → s ≡ true → if_stays s r ≡ xs → b ≡ k r → if_stays b r ≡ filter k xs
+kept_if k s b r xs yes e h =
+    go b h ∙ ap (filter k) (sym (ap (λ b. if_stays b r) yes) ∙ e)
+  where
+    go : (b : Bool) → b ≡ k r → if_stays b r ≡ filter k (r ∷ [])
+    go true h = rw (sym h) refl
+    go false h = rw (sym h) refl
+
+pub neither_first : (a b : Bool) → (a || b) ≡ false → a ≡ false
+neither_first false b e = refl
+neither_first true b e = e
+
+pub neither_second : (a b : Bool) → (a || b) ≡ false → b ≡ false
+neither_second false b e = e
+neither_second true b e = absurd (cc)

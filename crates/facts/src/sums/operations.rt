@@ -1,6 +1,6 @@
 //! What is known after words of groups 1 and 2.
 
-ghost use Rattle.std.specs.Prelude.{◌≡◌, ◌<◌, ◌≤◌, ◌+◌, ◌*◌, ◌++◌, ◌&&◌, ◌||◌, ◌==◌, ◌∷◌, [], filter, IsTrue, length, map, not, ℕ};
+ghost use Rattle.std.specs.Prelude.{◌≡◌, ◌<◌, ◌≤◌, ◌+◌, ◌*◌, ◌++◌, ◌&&◌, ◌||◌, ◌==◌, ◌∷◌, [], if◌then◌else◌, filter, IsTrue, length, map, not, ℕ};
 ghost use Rattle.instruct.specs.declared.Profile.TheVariants.{Pdp8E};
 ghost use Rattle.instruct.specs.declared.Instruction.TheVariants.{Operate1};
 ghost use Rattle.instruct.specs.Bits.{has_bit};
@@ -67,10 +67,24 @@ fn reads_switches(word: Word) -> bool
     word.value() >> 2 & 1 == 1
 }
 
+/// Whether a word of group 2 has CLA or OSR, by which the accumulator changes.
+fn changes_accumulator(word: Word) -> bool
+    ensures { result ≡ (has_bit 7 word || has_bit 2 word) }
+{
+    clears(word) || reads_switches(word)
+}
+
+/// Whether a word of group 1 leaves no relation of the accumulator: with CLA, a rotation or BSW.
+fn forgets_accumulator(word: Word) -> bool
+    ensures { result ≡ (has_bit 7 word || moves_bits word) }
+{
+    clears(word) || moves_bits(word)
+}
+
 /// Lets a relation say what it says after CMA, and whether it says something then.
 fn complement(relation: &mut Relation) -> bool
     requires { length (relation_of relation.old).sum < 4 }
-    ensures says { if_stays result (relation_of relation.new) ≡ complemented (relation_of relation.old) }
+    ensures { if_stays result (relation_of relation.new) ≡ complemented (relation_of relation.old) }
 {
     if has_accumulator(&relation.sum) {
         let accumulator = Term::Holding(Location::Accumulator);
@@ -92,18 +106,38 @@ fn increment(relation: &mut Relation) -> bool
     !names(&Location::Accumulator, &relation.sum)
 }
 
+/// The same, where a word of group 1 has CMA; else the relation stays as it is.
+fn complement_if(word: Word, relation: &mut Relation) -> bool
+    requires { length (relation_of relation.old).sum < 4 }
+    ensures { if_stays result (relation_of relation.new) ≡
+        (if has_bit 5 word then complemented (relation_of relation.old) else relation_of relation.old ∷ []) }
+{
+    if complements(word) {
+        return complement(relation);
+    }
+    true
+}
+
+/// Lets a relation say what it says after IAC, where a word of group 1 has it, and whether it says something then.
+fn increment_if(word: Word, relation: &mut Relation) -> bool
+    ensures { if_stays result (relation_of relation.new) ≡
+        (if has_bit 0 word then incremented (relation_of relation.old) else relation_of relation.old ∷ []) }
+{
+    if increments(word) {
+        return increment(relation);
+    }
+    true
+}
+
 /// Lets a relation say what it says after a word of group 1 without CLA, a rotation and BSW, and whether it says something then.
 fn turn(word: Word, relation: &mut Relation) -> bool
     requires { length (relation_of relation.old).sum < 4 }
     ensures { if_stays result (relation_of relation.new) ≡ turned word (relation_of relation.old ∷ []) }
 {
-    if complements(word) && !complement(relation) {
+    if !complement_if(word, relation) {
         return false;
     }
-    if increments(word) {
-        return increment(relation);
-    }
-    true
+    increment_if(word, relation)
 }
 
 /// Adds what a relation says after a word of group 1 without CLA, a rotation and BSW, if the rules keep it.
@@ -167,7 +201,7 @@ fn push_operated<const C: usize, const R: usize>(
     } }
     ensures cells { after.new.cells ≡ after.old.cells }
 {
-    if clears(word) || moves_bits(word) {
+    if forgets_accumulator(word) {
         after.push_relations_free_of(relations, &Names::One(Location::Accumulator));
         return;
     }
@@ -376,7 +410,7 @@ fn put_tested<const C: usize, const R: usize, const P: usize, const Q: usize, co
     requires same { length (relations_of fact.now.relations) ≤ Q }
     requires cells { length (cell_sets_of fact.now.cells) + 2 * length (relations_of fact.now.relations)
         + length fact.now.chains.items + 1 ≤ C }
-    requires room { 3 * length (relations_of fact.now.relations) + length fact.now.chains.items ≤ R }
+    requires room { 2 * length (relations_of fact.now.relations) + length fact.now.chains.items ≤ R }
     ensures { fact_in_code tested.new ≡ asked_by (rules_of rules.now) (image_of image.now)
         (with_link (one link) (with_name Ac (words part.now) (fact_in_code fact.now))) }
 {
@@ -414,7 +448,7 @@ fn put_after_test<const C: usize, const R: usize, const P: usize, const Q: usize
     requires room { length (relations_of fact.now.relations) ≤ R }
     requires spare { length (cell_sets_of fact.now.cells) + 2 * length (relations_of fact.now.relations)
         + length fact.now.chains.items + 1 ≤ P }
-    requires more { 3 * length (relations_of fact.now.relations) + length fact.now.chains.items ≤ Q }
+    requires more { 2 * length (relations_of fact.now.relations) + length fact.now.chains.items ≤ Q }
     requires narrow { P < C }
     requires fits { Q ≤ R }
     ensures may { (pl : Place) → pl.image ≡ image_of image.now →
@@ -422,7 +456,7 @@ fn put_after_test<const C: usize, const R: usize, const P: usize, const Q: usize
     ensures fact { (pl : Place) → pl.image ≡ image_of image.now → fact_in_code after.new ≡
         cleared2 word (tested (rules_of rules.now) pl word (fact_in_code fact.now) (words part.now) link) }
 {
-    if clears(word) || reads_switches(word) {
+    if changes_accumulator(word) {
         put_tested(rules, image, fact, part, link, after, spare);
         put_cleared(word, spare, after);
         return may_be(rules, spare);
@@ -448,7 +482,7 @@ pub fn put_branch<const C: usize, const R: usize, const P: usize, const Q: usize
     requires room { length (relations_of fact.now.relations) ≤ R }
     requires spare { length (cell_sets_of fact.now.cells) + 2 * length (relations_of fact.now.relations)
         + length fact.now.chains.items + 1 ≤ P }
-    requires more { 3 * length (relations_of fact.now.relations) + length fact.now.chains.items ≤ Q }
+    requires more { 2 * length (relations_of fact.now.relations) + length fact.now.chains.items ≤ Q }
     requires narrow { P < C }
     requires fits { Q ≤ R }
     ensures may { (pl : Place) → pl.image ≡ image_of image.now → pl.rules ≡ rules_of rules.now →

@@ -151,6 +151,7 @@ changing_one y small (Cell a) = go (a == y) refl
     no : (b : Bool) → not (not (b && false)) ≡ false
     no true = refl
     no false = refl
+
     go : (b : Bool) → (a == y) ≡ b → not (not (nat_lt a 4096 && (a == y))) ≡ ((a == y) || false)
     go true e = (let is : a ≡ y = eqb-true a y e in let lt : nat_lt a 4096 ≡ true = omega (arith, is, small) in rw (e, lt) refl)
     go false e = rw e (no (nat_lt a 4096))
@@ -195,9 +196,9 @@ pub copied_base : (names : Location → Bool) (y : ℕ) (known : Words) (f : Fac
 copied_base names y known f h =
     ap (λ (rs : List Relation). record f { set = with_set Ac (one 0) (with_set (Cell y) known f.set); relations = rs; chains = chains_free_of names f.chains }) (free_of_both names y h f.relations)
     ∙ ap (λ (b : Bool). record f {
-        set = with_set Ac (one 0) (with_set (Cell y) known f.set);
-        relations = free_of (λ n. same n Ac) (free_of (λ n. same n (Cell y)) f.relations);
-        chains = if b then [] else filter (λ c. not (names (Cell c.cell))) f.chains;
+      set = with_set Ac (one 0) (with_set (Cell y) known f.set);
+      relations = free_of (λ n. same n Ac) (free_of (λ n. same n (Cell y)) f.relations);
+      chains = if b then [] else filter (λ c. not (names (Cell c.cell))) f.chains;
     }) (h Ac)
 
 -- ---- words of groups 1 and 2
@@ -241,14 +242,17 @@ one_is_enough w l k a e some = fun_ext (λ v. both_ways (images_from w l (one 0)
   where
     test : ℕ → ℕ → Bool
     test v x = (ac_after w x k == v) && (link_after w x k == l)
+
     same_test : (v x : ℕ) → test v x ≡ test v 0
     same_test v x = ap (λ n. (n == v) && (link_after w x k == l)) (cleared_ac w x k e) ∙ ap (λ n. (ac_after w 0 k == v) && (n == l)) (cleared_link w x k e)
+
     there : (v : ℕ) → images_from w l (one 0) k v ≡ true → images_from w l a k v ≡ true
     there v q =
         let s : IsSome 4096 (λ x. one 0 x && test v x) = some_to 4096 (λ x. one 0 x && test v x) q in
         let t : IsSome 4096 a = some_to 4096 a some in
         some_from 4096 (λ x. a x && test v x) t.at t.small
         (and_both (a t.at) (test v t.at) t.holds (same_test v t.at ∙ sym (same_test v s.at) ∙ and_second (one 0 s.at) (test v s.at) s.holds))
+
     back : (v : ℕ) → images_from w l a k v ≡ true → images_from w l (one 0) k v ≡ true
     back v q =
         let s : IsSome 4096 (λ x. a x && test v x) = some_to 4096 (λ x. a x && test v x) q in

@@ -384,7 +384,10 @@ fn put_cleared<const C: usize, const R: usize, const D: usize, const S: usize>(
             set = WordSet::one(Word::ZERO);
         }
         after.take_without(fact, &Names::One(Location::Accumulator));
-        after.set_name(&Location::Accumulator, &set.or_any(Word::from_index(0o7777)));
+        after.set_name(
+            &Location::Accumulator,
+            &set.or_any(Word::from_index(0o7777)),
+        );
         return;
     }
     if clears(word) {
@@ -397,7 +400,14 @@ fn put_cleared<const C: usize, const R: usize, const D: usize, const S: usize>(
 
 /// Lets a fact be another one of the states that come to a test, before the accumulator is changed: by the rules of sums it is
 /// narrowed. `spare` is room for it.
-fn put_tested<const C: usize, const R: usize, const P: usize, const Q: usize, const D: usize, const S: usize>(
+fn put_tested<
+    const C: usize,
+    const R: usize,
+    const P: usize,
+    const Q: usize,
+    const D: usize,
+    const S: usize,
+>(
     rules: &Rules,
     image: &Image,
     fact: &SumFact<D, S>,
@@ -434,7 +444,14 @@ fn may_be<const C: usize, const R: usize>(rules: &Rules, fact: &SumFact<C, R>) -
 }
 
 /// Lets a fact be what another one is of the states that come to a test, after CLA and OSR, and whether there may be such states.
-fn put_after_test<const C: usize, const R: usize, const P: usize, const Q: usize, const D: usize, const S: usize>(
+fn put_after_test<
+    const C: usize,
+    const R: usize,
+    const P: usize,
+    const Q: usize,
+    const D: usize,
+    const S: usize,
+>(
     rules: &Rules,
     image: &Image,
     word: Word,
@@ -467,7 +484,14 @@ fn put_after_test<const C: usize, const R: usize, const P: usize, const Q: usize
 
 /// Lets a fact be what another one is of the states that skip by a word of group 2, or that do not, where the link is this one;
 /// and whether there may be such states. `known` are the accumulator's words, and `spare` is room for the fact that is narrowed.
-pub fn put_branch<const C: usize, const R: usize, const P: usize, const Q: usize, const D: usize, const S: usize>(
+pub fn put_branch<
+    const C: usize,
+    const R: usize,
+    const P: usize,
+    const Q: usize,
+    const D: usize,
+    const S: usize,
+>(
     rules: &Rules,
     image: &Image,
     word: Word,
@@ -488,11 +512,11 @@ pub fn put_branch<const C: usize, const R: usize, const P: usize, const Q: usize
     ensures may { (pl : Place) → pl.image ≡ image_of image.now → pl.rules ≡ rules_of rules.now →
         words known.now ≡ ac_of pl (fact_in_code fact.now) →
         result ≡ ((fact_in_code fact.now).link link && (has_some (part2 pl word (fact_in_code fact.now) link skip) &&
-            may_be pl.rules (tested pl.rules pl word (fact_in_code fact.now) (part2 pl word (fact_in_code fact.now) link skip) link))) }
+        may_be pl.rules (tested pl.rules pl word (fact_in_code fact.now) (part2 pl word (fact_in_code fact.now) link skip) link))) }
     ensures fact { (pl : Place) → pl.image ≡ image_of image.now → pl.rules ≡ rules_of rules.now →
         words known.now ≡ ac_of pl (fact_in_code fact.now) → IsTrue result →
         fact_in_code after.new ≡ cleared2 word (tested pl.rules pl word (fact_in_code fact.now)
-            (part2 pl word (fact_in_code fact.now) link skip) link) }
+        (part2 pl word (fact_in_code fact.now) link skip) link) }
 {
     if !fact.link().contains(link) {
         return false;

@@ -11,14 +11,14 @@ pub narrow-requires-cells : goal.narrow-requires-cells
 narrow-requires-cells g c =
     let relations : length (relations_of c.put_with_part-2.new.after.relations) ≡ length (relations_of c.args.fact.now.relations) = ap (λ (h : Fact). length h.relations) c.put_with_part-2.ensures.fact in
     let chains : length c.put_with_part-2.new.after.chains.items ≡ length c.args.fact.now.chains.items =
-        sym (length-map c.put_with_part-2.new.after.chains.items chain_of) ∙ ap (λ (h : Fact). length h.chains) c.put_with_part-2.ensures.fact ∙ length-map c.args.fact.now.chains.items chain_of in
+    sym (length-map c.put_with_part-2.new.after.chains.items chain_of) ∙ ap (λ (h : Fact). length h.chains) c.put_with_part-2.ensures.fact ∙ length-map c.args.fact.now.chains.items chain_of in
     omega (arith, relations, chains, c.put_with_part-2.ensures.cells, c.requires.cells)
 
 pub narrow-requires-relations : goal.narrow-requires-relations
 narrow-requires-relations g c =
     let relations : length (relations_of c.put_with_part-2.new.after.relations) ≡ length (relations_of c.args.fact.now.relations) = ap (λ (h : Fact). length h.relations) c.put_with_part-2.ensures.fact in
     let chains : length c.put_with_part-2.new.after.chains.items ≡ length c.args.fact.now.chains.items =
-        sym (length-map c.put_with_part-2.new.after.chains.items chain_of) ∙ ap (λ (h : Fact). length h.chains) c.put_with_part-2.ensures.fact ∙ length-map c.args.fact.now.chains.items chain_of in
+    sym (length-map c.put_with_part-2.new.after.chains.items chain_of) ∙ ap (λ (h : Fact). length h.chains) c.put_with_part-2.ensures.fact ∙ length-map c.args.fact.now.chains.items chain_of in
     omega (arith, relations, chains, c.requires.room)
 
 pub returns-in-OfEquations : goal.returns-in-OfEquations

@@ -14,4 +14,6 @@ pub mod ChainLemmas
 pub mod OffsetLemmas
 pub mod BriefLemmas
 pub mod TermLemmas
+pub mod NameAskedLemmas
+pub mod TakenLemmas
 pub mod Sums

@@ -2,7 +2,7 @@
 //!
 //! By the rules of equations facts are not narrowed as a whole, since most of what they say is never asked.
 
-ghost use Rattle.std.specs.Prelude.{◌≡◌, true, Some, flat_map};
+ghost use Rattle.std.specs.Prelude.{◌≡◌, true, map};
 ghost use Rattle.wordset.specs.Words.{Words};
 ghost use Rattle.wordset.specs.Lanes.{words};
 ghost use Rattle.peripherals.specs.Loading.{image_of};
@@ -10,14 +10,14 @@ ghost use Rattle.domain.specs.Meaning.{location_of};
 ghost use Rattle.domain.specs.Sums.Facts as said;
 ghost use Rattle.domain.specs.Sums.Facts.{OfSums};
 ghost use Rattle.processor.specs.Runs as runs;
-ghost use Rattle.domain.specs.Sums.Adding.{adding, adding_all, differences, with_spelled_in};
+ghost use Rattle.domain.specs.Sums.Adding.{times, adding, adding_all, differences, with_shape_in, with_term_in};
 ghost use Rattle.domain.specs.Sums.Knowing.{said_of};
-ghost use Rattle.domain.specs.Sums.Spelling.{spelled_of};
 ghost use Rattle.domain.specs.Sums.Narrowing.{narrowed, words_by, of_term, of_part, parts_of, parts_of_chain};
 ghost use Rattle.domain.specs.Sums.InCode.{term_of, sum_of};
 ghost use Rattle.domain.specs.Sums.Brief.{brief_words};
 ghost use Rattle.domain.specs.Sums.ChainsInCode.{chain_of};
-ghost use Rattle.domain.specs.Sums.FactInCode.{fact_in_code, rules_of};
+ghost use Rattle.domain.specs.Sums.FactInCode.{fact_in_code, rules_of, all_parts, all_parts_of_chains};
+ghost use Rattle.domain.specs.Sums.RelationsInCode.{relation_of};
 
 use crate::brief::BriefSet;
 use crate::chains::Chain;
@@ -33,7 +33,14 @@ use word12::Word;
 use wordset::WordSet;
 
 /// Leaves in a set of a name what is left to it when a fact is told that c times a term is in another set.
-fn keep_for_term(image: &Image, c: Word, term: &Term, set: &WordSet, name: &Location, place: &mut WordSet)
+fn keep_for_term(
+    image: &Image,
+    c: Word,
+    term: &Term,
+    set: &WordSet,
+    name: &Location,
+    place: &mut WordSet,
+)
     ensures { (f : said.Fact) → words place.old ≡ f.set (location_of name.now) → words place.new ≡
         (adding OfSums (of_term (image_of image.now) c (term_of term.now) (words set.now)) f).set (location_of name.now) }
 {
@@ -51,24 +58,38 @@ fn keep_for_sum(sum: &Sum, set: &WordSet, name: &Location, place: &mut WordSet)
     ensures { (f : said.Fact) → words place.old ≡ f.set (location_of name.now) → words place.new ≡
         (adding OfSums (record { sum = sum_of sum.now; set = words set.now }) f).set (location_of name.now) }
 {
-    if let Some(found) = spelled(sum) {
-        keep_for_shape(&found, set, name, place);
+    match spelled(sum) {
+        None => {}
+        Some(found) => keep_for_shape(&found, set, name, place),
     }
 }
 
-/// The same of a sum that is spelled as one of the shapes.
+/// Leaves in a set of a name what is left to it when a fact is told that a term is in another set.
+fn keep_for_name(term: &Term, set: &WordSet, name: &Location, place: &mut WordSet)
+    ensures { (f : said.Fact) → words place.old ≡ f.set (location_of name.now) → words place.new ≡
+        (with_term_in (term_of term.now) (words set.now) f).set (location_of name.now) }
+{
+    match term {
+        Term::Holding(one) => {
+            if !is_same_location(name, one) {
+                return;
+            }
+            *place = place.meet(set);
+        }
+        Term::Behind { .. } => {}
+    }
+}
+
+/// Leaves in a set of a name what is left to it when a fact is told that a sum, which is spelled as one of the shapes, is in
+/// another set.
 fn keep_for_shape(found: &SpelledSum, set: &WordSet, name: &Location, place: &mut WordSet)
     ensures { (f : said.Fact) → words place.old ≡ f.set (location_of name.now) → words place.new ≡
-        (with_spelled_in OfSums (spelled_of (Some found.now)) (words set.now) f).set (location_of name.now) }
+        (with_shape_in OfSums (sum_of found.now.sum) (times found.now.sign (words set.now)) f).set (location_of name.now) }
 {
     if found.sum.len() != 1 {
         return;
     }
-    if let Term::Holding(one) = found.sum.get(0).term {
-        if is_same_location(name, &one) {
-            *place = place.meet(&times(found.sign, set));
-        }
-    }
+    keep_for_name(&found.sum.get(0).term, &times(found.sign, set), name, place);
 }
 
 /// Leaves in a set of a name what is left to it when a fact is told that a part of a relation's sum is in another set.
@@ -93,13 +114,24 @@ fn is_idle(part: &Sum, name: &Location) -> bool
     ensures { (image : runs.Image) (set : Words) (f : said.Fact) → result ≡ true →
         (adding_all OfSums (of_part image (sum_of part.now) set) f).set (location_of name.now) ≡ f.set (location_of name.now) }
 {
-    part.len() == 1 && !is_same_location(name, &part.get(0).term.name())
+    if part.len() != 1 {
+        return false;
+    }
+    !is_same_location(name, &part.get(0).term.name())
 }
 
 impl<const C: usize, const R: usize> SumFact<C, R> {
     /// Leaves in a set of a name what is left to it when a fact is told that a part of the sum of one of this fact's relations
     /// is what the relation's set leaves to it, where this fact says as much of the rest.
-    fn keep_for_rest(&self, image: &Image, part: &Sum, rest: &Sum, set: &BriefSet, name: &Location, place: &mut WordSet)
+    fn keep_for_rest(
+        &self,
+        image: &Image,
+        part: &Sum,
+        rest: &Sum,
+        set: &BriefSet,
+        name: &Location,
+        place: &mut WordSet,
+    )
         ensures { (f : said.Fact) → words place.old ≡ f.set (location_of name.now) → words place.new ≡
             (adding_all OfSums (of_part (image_of image.now) (sum_of part.now)
             (differences (brief_words set.now) (said_of (image_of image.now) (fact_in_code self.now) (sum_of rest.now)))) f).set
@@ -117,7 +149,13 @@ impl<const C: usize, const R: usize> SumFact<C, R> {
 
     /// Leaves in a set of a name what is left to it when a fact is told what a relation of this fact says of its first term
     /// and of the rest.
-    fn keep_for_parts(&self, image: &Image, relation: &Relation, name: &Location, place: &mut WordSet)
+    fn keep_for_parts(
+        &self,
+        image: &Image,
+        relation: &Relation,
+        name: &Location,
+        place: &mut WordSet,
+    )
         ensures { (f : said.Fact) → words place.old ≡ f.set (location_of name.now) → words place.new ≡
             (adding_all OfSums (parts_of (image_of image.now) (fact_in_code self.now) (sum_of relation.now.sum)
             (brief_words relation.now.set)) f).set (location_of name.now) }
@@ -147,16 +185,37 @@ impl<const C: usize, const R: usize> SumFact<C, R> {
                 }
             }
         }
-        let ChainWords { cells: _, accumulators: _, differences: _, links: _ } = found;
+        let ChainWords {
+            cells: _,
+            accumulators: _,
+            differences: _,
+            links: _,
+        } = found;
     }
 
-    /// Leaves in a set of a name what is left to it when a fact is told what the chains of this fact say.
-    fn keep_for_chains(&self, name: &Location, place: &mut WordSet)
-        ensures { (f : said.Fact) → words place.old ≡ f.set (location_of name.now) → words place.new ≡
-            (adding_all OfSums (flat_map (λ c. parts_of_chain (fact_in_code self.now) c) (fact_in_code self.now).chains) f).set
-            (location_of name.now) }
+    /// Leaves in a set of a name what is left to it when a fact is told what some relations of this fact say of their first
+    /// terms and of the rest.
+    fn keep_for_all_parts(
+        &self,
+        image: &Image,
+        relations: &[Relation],
+        name: &Location,
+        place: &mut WordSet,
+    )
+        ensures { (f : said.Fact) → words place.old ≡ f.set (location_of name.now) → words place.new ≡ (adding_all OfSums
+            (all_parts (image_of image.now) (fact_in_code self.now) (map relation_of relations.now)) f).set (location_of name.now) }
     {
-        for chain in self.chains() {
+        for relation in relations {
+            self.keep_for_parts(image, relation, name, place);
+        }
+    }
+
+    /// Leaves in a set of a name what is left to it when a fact is told what some chains of this fact say.
+    fn keep_for_chains(&self, chains: &[Chain], name: &Location, place: &mut WordSet)
+        ensures { (f : said.Fact) → words place.old ≡ f.set (location_of name.now) → words place.new ≡ (adding_all OfSums
+            (all_parts_of_chains (fact_in_code self.now) (map chain_of chains.now)) f).set (location_of name.now) }
+    {
+        for chain in chains {
             self.keep_for_chain(chain, name, place);
         }
     }
@@ -166,10 +225,8 @@ impl<const C: usize, const R: usize> SumFact<C, R> {
         ensures { words place.new ≡ (narrowed (image_of image.now) (fact_in_code self.now)).set (location_of name.now) }
     {
         self.put_set_of(name, place);
-        for relation in self.relations().as_slice() {
-            self.keep_for_parts(image, relation, name, place);
-        }
-        self.keep_for_chains(name, place);
+        self.keep_for_all_parts(image, self.relations.as_slice(), name, place);
+        self.keep_for_chains(self.chains.as_slice(), name, place);
     }
 
     /// Puts the words that a name may hold by a fact of which something is asked into a place for them. By the rules of sums

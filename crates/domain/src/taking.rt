@@ -1,7 +1,7 @@
 //! What may happen to the words of names: the accumulator takes some word of a set, or one of several cells does, unknown
 //! which.
 
-ghost use Rattle.std.specs.Prelude.{◌≡◌, ◌≤◌, ◌<◌, ◌++◌, ◌∷◌, [], length, map};
+ghost use Rattle.std.specs.Prelude.{◌≡◌, ◌≤◌, ◌<◌, ◌+◌, ◌++◌, ◌∷◌, [], length, map};
 ghost use Rattle.wordset.specs.Words.{shifted, union, one};
 ghost use Rattle.wordset.specs.Lanes.{words};
 ghost use Rattle.domain.specs.Facts.{Ac, Cell};
@@ -20,6 +20,7 @@ use word12::Word;
 use wordset::WordSet;
 
 /// What becomes of the words of the one cell, unknown which, that changes.
+#[derive(Drop)]
 enum Change<'a> {
     /// Its word is counted up by 1.
     CountsUp,
@@ -59,26 +60,30 @@ fn push_changed<const D: usize, const C: usize>(
     cells.push(entry.cell, &set);
 }
 
-/// Lets some cells be others after a change of one cell of a set.
-fn put_all_changed<const D: usize, const C: usize>(
+/// Adds to some cells entries of others, with the words that their cells may hold after a change of one cell of a set.
+fn push_all_changed<const D: usize, const C: usize>(
     others: &CellSets<D>,
+    entries: &[CellSet],
     among: &WordSet,
     change: &Change<'_>,
     cells: &mut CellSets<C>,
 )
-    requires { length (cell_sets_of others.now) ≤ C }
-    ensures cells { cell_sets_of cells.new ≡
-        map (changed_among (words among.now) (changed change.now) (cell_sets_of others.now)) (cell_sets_of others.now) }
+    requires { length (cell_sets_of cells.old) + length entries.now ≤ C }
+    ensures { cell_sets_of cells.new ≡ cell_sets_of cells.old ++
+        map (changed_among (words among.now) (changed change.now) (cell_sets_of others.now)) (map cell_set_of entries.now) }
 {
-    cells.clear();
-    for entry in others.as_slice() {
+    for entry in entries {
         push_changed(others, entry, among, change, cells);
     }
 }
 
 impl<const C: usize, const R: usize> SumFact<C, R> {
     /// Lets this fact be another after the accumulator took some word of a set.
-    pub fn take_for_accumulator<const D: usize, const S: usize>(&mut self, other: &SumFact<D, S>, set: &WordSet)
+    pub fn take_for_accumulator<const D: usize, const S: usize>(
+        &mut self,
+        other: &SumFact<D, S>,
+        set: &WordSet,
+    )
         requires cells { length (cell_sets_of other.now.cells) ≤ C }
         requires relations { length (relations_of other.now.relations) ≤ R }
         ensures { fact_in_code self.new ≡ taking Ac (words set.now) (fact_in_code other.now) }
@@ -100,15 +105,26 @@ impl<const C: usize, const R: usize> SumFact<C, R> {
         requires relations { length (relations_of other.now.relations) ≤ R }
         ensures { fact_in_code self.new ≡ record (without_relations (names_of names.now) (fact_in_code other.now)) {
           set = λ n. weakly_updated_sets (words among.now)
-            (λ a. changed change.now ((fact_in_code other.now).set (Cell a))) (fact_in_code other.now).set n;
+              (λ a. changed change.now ((fact_in_code other.now).set (Cell a))) (fact_in_code other.now).set n;
         } }
     {
         self.take_without(other, names);
-        put_all_changed(&other.cells, among, change, &mut self.cells);
+        self.cells.clear();
+        push_all_changed(
+            &other.cells,
+            other.cells.as_slice(),
+            among,
+            change,
+            &mut self.cells,
+        );
     }
 
     /// Lets this fact be another after one cell of a set, unknown which, was counted up by 1.
-    pub fn take_counted_among<const D: usize, const S: usize>(&mut self, other: &SumFact<D, S>, among: &WordSet)
+    pub fn take_counted_among<const D: usize, const S: usize>(
+        &mut self,
+        other: &SumFact<D, S>,
+        among: &WordSet,
+    )
         requires cells { length (cell_sets_of other.now.cells) ≤ C }
         requires relations { length (relations_of other.now.relations) ≤ R }
         ensures { fact_in_code self.new ≡ weakly_updated (words among.now)
@@ -119,7 +135,12 @@ impl<const C: usize, const R: usize> SumFact<C, R> {
 
     /// Lets this fact be another after one cell of a set, unknown which, took a word of another set, and the accumulator was
     /// cleared.
-    pub fn take_deposited_among<const D: usize, const S: usize>(&mut self, other: &SumFact<D, S>, among: &WordSet, set: &WordSet)
+    pub fn take_deposited_among<const D: usize, const S: usize>(
+        &mut self,
+        other: &SumFact<D, S>,
+        among: &WordSet,
+        set: &WordSet,
+    )
         requires cells { length (cell_sets_of other.now.cells) ≤ C }
         requires relations { length (relations_of other.now.relations) ≤ R }
         ensures { fact_in_code self.new ≡

@@ -89,3 +89,16 @@ none_alone {xs} {ys} h y u v = none_behind {xs} {ys} (none_after h y) u v
 -- targets are there where all words are
 pub all_reached : {b : Bool} → b ≡ true → b ≡ has_some all_words
 all_reached e = e ∙ sym has_all
+
+-- an outcome that is given where three tests pass, and a fourth
+pub test_fails : {os : List Successor} {r : Bool} (a b c d : Bool) (o : Successor) → r ≡ (a && (b && c)) → r ≡ false → os ≡ [] → os ≡ given (a && (b && (c && d))) o
+test_fails true true true d o e n z = absurd (let q : true ≡ false = sym e ∙ n in cc)
+test_fails true true false d o e n z = z
+test_fails true false c d o e n z = z
+test_fails false b c d o e n z = z
+
+pub test_passes : {os : List Successor} {r : Bool} (a b c d : Bool) (o : Successor) → r ≡ (a && (b && c)) → r ≡ true → os ≡ given d o → os ≡ given (a && (b && (c && d))) o
+test_passes true true true d o e y z = z
+test_passes true true false d o e y z = absurd (let q : false ≡ true = sym e ∙ y in cc)
+test_passes true false c d o e y z = absurd (let q : false ≡ true = sym e ∙ y in cc)
+test_passes false b c d o e y z = absurd (let q : false ≡ true = sym e ∙ y in cc)

@@ -13,8 +13,8 @@ ghost use Rattle.facts.specs.Conditions.{MayWrite};
 ghost use Rattle.facts.specs.Sums.Conditions.{may_read, may_write, called, WritesAreDeclared, EntriesAreKept, WritesAreListed, ReadsAreListed, MayCount, CountsItsReturn};
 ghost use Rattle.facts.specs.Sums.PlaceInCode.{place_in_code, meaning_in};
 
-use crate::conditions::{counts, named_if, reads_operand, stores};
 use crate::asked::is_jms;
+use crate::conditions::{counts, named_if, reads_operand, stores};
 use crate::references::steps_pointer;
 use crate::sums::place::Place;
 use crate::sums::references::put_own_words;
@@ -187,7 +187,12 @@ impl<A: Allocator> Place<'_, A> {
 
     /// Whether each cell that a word may write is a variable or an entry. The one that a JMS itself writes does not count, here
     /// and below.
-    pub fn writes_are_declared<const C: usize, const R: usize>(&self, fact: &SumFact<C, R>, at: Word, word: Word) -> bool
+    pub fn writes_are_declared<const C: usize, const R: usize>(
+        &self,
+        fact: &SumFact<C, R>,
+        at: Word,
+        word: Word,
+    ) -> bool
         ensures { IsTrue result ↔ WritesAreDeclared (place_in_code self.now) (fact_in_code fact.now)
             (meaning_in (place_in_code self.now) at word) }
     {
@@ -251,7 +256,12 @@ impl<A: Allocator> Place<'_, A> {
 
     /// Whether no cell that a word may write is an entry, save that ISZ may count the running routine's own up, as its only
     /// target, where that may be counted up once more.
-    pub fn entries_are_kept<const C: usize, const R: usize>(&self, fact: &SumFact<C, R>, at: Word, word: Word) -> bool
+    pub fn entries_are_kept<const C: usize, const R: usize>(
+        &self,
+        fact: &SumFact<C, R>,
+        at: Word,
+        word: Word,
+    ) -> bool
         ensures { IsTrue result ↔ EntriesAreKept (place_in_code self.now) (fact_in_code fact.now)
             (meaning_in (place_in_code self.now) at word) }
     {
@@ -327,7 +337,12 @@ impl<A: Allocator> Place<'_, A> {
     }
 
     /// Whether each cell that a word may read is on the list of reads, if there is one, or is the running routine's own entry.
-    pub fn reads_are_listed<const C: usize, const R: usize>(&self, fact: &SumFact<C, R>, at: Word, word: Word) -> bool
+    pub fn reads_are_listed<const C: usize, const R: usize>(
+        &self,
+        fact: &SumFact<C, R>,
+        at: Word,
+        word: Word,
+    ) -> bool
         ensures { IsTrue result ↔ ReadsAreListed (place_in_code self.now) (fact_in_code fact.now)
             (meaning_in (place_in_code self.now) at word) }
     {

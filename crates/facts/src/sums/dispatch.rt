@@ -89,10 +89,26 @@ impl<A: Allocator> Place<'_, A> {
         outcomes.fourth.clear();
         if steps_pointer(indirect, named) {
             self.put_counted(fact, named, &mut outcomes.stepped);
-            self.refer_to(at, word, &outcomes.stepped, &reached, &single, &mut outcomes.first, &mut outcomes.second);
+            self.refer_to(
+                at,
+                word,
+                &outcomes.stepped,
+                &reached,
+                &single,
+                &mut outcomes.first,
+                &mut outcomes.second,
+            );
             return;
         }
-        self.refer_to(at, word, fact, &reached, &single, &mut outcomes.first, &mut outcomes.second);
+        self.refer_to(
+            at,
+            word,
+            fact,
+            &reached,
+            &single,
+            &mut outcomes.first,
+            &mut outcomes.second,
+        );
     }
 
     /// The outcomes of a word of group 2. A HLT at a stop has none.
@@ -133,7 +149,13 @@ impl<A: Allocator> Place<'_, A> {
         outcomes.third.clear();
         outcomes.fourth.clear();
         match DeviceOperation::of(word, self.declaration.profile()) {
-            Some(operation) => self.transfer(at, operation, fact, &mut outcomes.first, &mut outcomes.second),
+            Some(operation) => self.transfer(
+                at,
+                operation,
+                fact,
+                &mut outcomes.first,
+                &mut outcomes.second,
+            ),
             None => outcomes.clear(),
         }
     }

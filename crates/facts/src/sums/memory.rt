@@ -110,7 +110,13 @@ impl<A: Allocator> Place<'_, A> {
                 second.go_to(comes, at.increment());
             }
             Rules::OfEquations => {
-                put_added(&held, &read, &self.one_target(single), fact, &mut first.fact);
+                put_added(
+                    &held,
+                    &read,
+                    &self.one_target(single),
+                    fact,
+                    &mut first.fact,
+                );
                 let comes = is_alive(&self.rules, reached, &held, true, &first.fact);
                 first.go_to(comes, at.increment());
                 second.clear();
@@ -195,9 +201,14 @@ impl<A: Allocator> Place<'_, A> {
         let mut old = WordSet::all();
         self.put_words_known(fact, &Location::Cell(cell), &mut old);
         let reached = has_some(targets);
-        first.fact.take_counted(fact, cell, &WordSet::one(Word::ZERO));
+        first
+            .fact
+            .take_counted(fact, cell, &WordSet::one(Word::ZERO));
         let comes = is_alive(&self.rules, reached, &held, true, &first.fact);
-        first.go_to(old.contains(Word::ZERO.complement()) && comes, at.increment().increment());
+        first.go_to(
+            old.contains(Word::ZERO.complement()) && comes,
+            at.increment().increment(),
+        );
         let mut more = old.shift(Word::ZERO.increment());
         more.remove(Word::ZERO);
         second.fact.take_counted(fact, cell, &more);
@@ -230,7 +241,12 @@ impl<A: Allocator> Place<'_, A> {
     }
 
     /// Whether a cell may hold 7777, or whether it may hold another word.
-    fn may_hold<const C: usize, const R: usize>(&self, fact: &SumFact<C, R>, cell: Word, last: bool) -> bool
+    fn may_hold<const C: usize, const R: usize>(
+        &self,
+        fact: &SumFact<C, R>,
+        cell: Word,
+        last: bool,
+    ) -> bool
         ensures { result ≡ has_last_or_other last
             (words_known (place_in_code self.now) (fact_in_code fact.now) (Cell cell)) }
     {
@@ -244,7 +260,12 @@ impl<A: Allocator> Place<'_, A> {
     }
 
     /// Whether some of the cells may hold 7777, or whether some of them may hold another word.
-    fn may_some_hold<const C: usize, const R: usize>(&self, fact: &SumFact<C, R>, cells: &WordSet, last: bool) -> bool
+    fn may_some_hold<const C: usize, const R: usize>(
+        &self,
+        fact: &SumFact<C, R>,
+        cells: &WordSet,
+        last: bool,
+    ) -> bool
         ensures { result ≡ some_below 4096 (λ y. words cells.now y &&
             has_last_or_other last (words_known (place_in_code self.now) (fact_in_code fact.now) (Cell y))) }
     {
@@ -276,10 +297,16 @@ impl<A: Allocator> Place<'_, A> {
         let reached = has_some(targets);
         first.fact.take_counted_among(fact, targets);
         let comes = is_alive(&self.rules, reached, &held, true, &first.fact);
-        first.go_to(self.may_some_hold(fact, targets, true) && comes, at.increment().increment());
+        first.go_to(
+            self.may_some_hold(fact, targets, true) && comes,
+            at.increment().increment(),
+        );
         second.fact.take_counted_among(fact, targets);
         let comes = is_alive(&self.rules, reached, &held, true, &second.fact);
-        second.go_to(self.may_some_hold(fact, targets, false) && comes, at.increment());
+        second.go_to(
+            self.may_some_hold(fact, targets, false) && comes,
+            at.increment(),
+        );
     }
 
     /// ISZ: of one variable, of the running routine's own entry, or of one of several variables.

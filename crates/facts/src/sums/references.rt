@@ -43,7 +43,10 @@ fn add_shifted_if(chosen: bool, more: &WordSet, k: Word, set: &mut WordSet)
 }
 
 /// Puts the words that the running routine's entry may hold into a place for them: a site, one more, and an offset.
-pub(crate) fn put_own_words<const C: usize, const R: usize>(fact: &SumFact<C, R>, place: &mut WordSet)
+pub(crate) fn put_own_words<const C: usize, const R: usize>(
+    fact: &SumFact<C, R>,
+    place: &mut WordSet,
+)
     ensures { words place.new ≡ own_words (fact_in_code fact.now) }
 {
     let mut sites = WordSet::empty();
@@ -202,7 +205,13 @@ impl<A: Allocator> Place<'_, A> {
 
     /// The term that has the operand's word, if there is one: the one target, of which there is none beside it; or what stands
     /// behind the variable that holds the pointer.
-    pub(crate) fn operand_term(&self, indirect: bool, named: Word, targets: &WordSet, single: &Option<Word>) -> Option<Term>
+    pub(crate) fn operand_term(
+        &self,
+        indirect: bool,
+        named: Word,
+        targets: &WordSet,
+        single: &Option<Word>,
+    ) -> Option<Term>
         requires { single.now ≡ only (words targets.now) }
         ensures { term_if result ≡
             operand_term (place_in_code self.now).declaration indirect named (words targets.now) }

@@ -55,7 +55,12 @@ impl<A: Allocator> Place<'_, A> {
     }
 
     /// The outcome that goes on at an address, where nothing changes.
-    fn leave<const C: usize, const R: usize>(&self, fact: &SumFact<C, R>, next: Word, outcome: &mut Outcome)
+    fn leave<const C: usize, const R: usize>(
+        &self,
+        fact: &SumFact<C, R>,
+        next: Word,
+        outcome: &mut Outcome,
+    )
         requires cells { length (cell_sets_of fact.now.cells) ≤ 133 }
         requires relations { length (relations_of fact.now.relations) ≤ 68 }
         ensures { outcome_in outcome.new ≡ goes (place_in_code self.now) all_words (fact_in_code fact.now) all_words
@@ -135,7 +140,12 @@ impl<A: Allocator> Place<'_, A> {
             | DeviceOperation::SkipOnPrinterFlag => self.test_flag(at, fact, first, second),
             DeviceOperation::ReadReaderBuffer
             | DeviceOperation::ReadReaderBufferAndFetchFrame
-            | DeviceOperation::ReadKeyboardBuffer => self.assign(at, fact, &self.with_byte(fact), first),
+            | DeviceOperation::ReadKeyboardBuffer => self.assign(
+                at,
+                fact,
+                &self.with_byte(fact),
+                first,
+            ),
             DeviceOperation::ClearKeyboardFlagAndAccumulator => {
                 self.assign(at, fact, &WordSet::one(Word::ZERO), first)
             }
@@ -253,7 +263,17 @@ impl<A: Allocator> Place<'_, A> {
         ensures { outcome_in outcome.new ≡
             operated2 (place_in_code self.now) at word (fact_in_code fact.now) link skip }
     {
-        if !put_branch(&self.rules, self.image, word, held, fact, link, skip, tested, &mut outcome.fact) {
+        if !put_branch(
+            &self.rules,
+            self.image,
+            word,
+            held,
+            fact,
+            link,
+            skip,
+            tested,
+            &mut outcome.fact,
+        ) {
             outcome.clear();
             return;
         }
@@ -277,9 +297,45 @@ impl<A: Allocator> Place<'_, A> {
         let mut held = WordSet::all();
         self.put_words_known(fact, &Location::Accumulator, &mut held);
         let tested = &mut outcomes.tested;
-        self.branch_one_way(at, word, &held, fact, Link::CLEAR, true, tested, &mut outcomes.first);
-        self.branch_one_way(at, word, &held, fact, Link::CLEAR, false, tested, &mut outcomes.second);
-        self.branch_one_way(at, word, &held, fact, Link::SET, true, tested, &mut outcomes.third);
-        self.branch_one_way(at, word, &held, fact, Link::SET, false, tested, &mut outcomes.fourth);
+        self.branch_one_way(
+            at,
+            word,
+            &held,
+            fact,
+            Link::CLEAR,
+            true,
+            tested,
+            &mut outcomes.first,
+        );
+        self.branch_one_way(
+            at,
+            word,
+            &held,
+            fact,
+            Link::CLEAR,
+            false,
+            tested,
+            &mut outcomes.second,
+        );
+        self.branch_one_way(
+            at,
+            word,
+            &held,
+            fact,
+            Link::SET,
+            true,
+            tested,
+            &mut outcomes.third,
+        );
+        self.branch_one_way(
+            at,
+            word,
+            &held,
+            fact,
+            Link::SET,
+            false,
+            tested,
+            &mut outcomes.fourth,
+        );
     }
 }

@@ -19,7 +19,7 @@ returns g c =
     let y = c.args.cell in
     let old : words c.put_words_known-2.new.place ≡ words_known pl f (Cell y) = c.put_words_known-2.ensures in
     let more : words c.remove.new.self ≡ without 0 (shifted (words_known pl f (Cell y)) 1) =
-        c.remove.ensures ∙ ap (without 0) (c.shift-more.ensures ∙ ap (λ (s : Words). shifted s c.increment-3.result) old ∙ ap (shifted (words_known pl f (Cell y))) c.increment-3.ensures) in
+    c.remove.ensures ∙ ap (without 0) (c.shift-more.ensures ∙ ap (λ (s : Words). shifted s c.increment-3.result) old ∙ ap (shifted (words_known pl f (Cell y))) c.increment-3.ensures) in
     rw c.requires.variable (both_are
     (chosen_goes pl p f (one 0) (one (plus c.args.at 2)) _
     (c.is_alive-comes.ensures p (one 0) c.has_some-reached.ensures refl) c.go_to.ensures

@@ -6,7 +6,7 @@ use Rattle.std.specs.List.{list_any}
 use Rattle.std.proofs.Math.ListN.{drop_of_length-le}
 use Rattle.std.proofs.lemmas.List.{at_drop_more}
 use Rattle.instruct.specs.Bits.{has_bit}
-use Rattle.wordset.specs.Words.{Words, one, all_words, shifted, some_below, has_some, images}
+use Rattle.wordset.specs.Words.{Words, one, only, sums, toggled, carries, all_words, shifted, some_below, has_some, images}
 use Rattle.wordset.specs.Operate.{accumulator_after}
 use Rattle.wordset.specs.Operate as said
 use Rattle.wordset.proofs.Tests.{some_from, some_to, IsSome, both_ways, and_both, and_second}
@@ -20,10 +20,10 @@ use Rattle.domain.specs.Sums.Facts.{Relation, Fact, Place, Rules, OfSums, OfEqua
 use Rattle.domain.specs.Sums.Adding.{with_set, with_name, set_of_sum, adding_all}
 use Rattle.domain.specs.Sums.Narrowing.{asked_by}
 use Rattle.domain.specs.Sums.Moves.{free_of, chains_free_of, without_relations, taking}
-use Rattle.facts.specs.Sums.Additions.{has_ac, if_without_ac, after_tad, without_sums, summed, complemented, incremented, turned}
+use Rattle.facts.specs.Sums.Additions.{has_ac, if_without_ac, equations_after_tad, after_tad, without_sums, summed, complemented, incremented, turned}
 use Rattle.facts.specs.Sums.Stores.{after_store, stored, begun_by, all_begun}
 use Rattle.facts.specs.Sums.Shaped.{told, begun_beside, if_stays, images_from}
-use Rattle.facts.specs.Sums.Outcomes.{with_link}
+use Rattle.facts.specs.Sums.Outcomes.{with_link, added}
 use Rattle.facts.specs.Sums.Operations.{ac_after, link_after, images_under, tested, cleared2}
 use Rattle.facts.proofs.Sums.EachRelation.{adding_append, put_on, append_nothing, filter_append, flat_append, map_append}
 
@@ -327,3 +327,16 @@ neither_first true b e = e
 pub neither_second : (a b : Bool) → (a || b) ≡ false → b ≡ false
 neither_second false b e = e
 neither_second true b e = absurd (cc)
+
+-- TAD by the rules of equations, step by step.
+pub added_is : (known operand : Words) (t : Option Term) (f base related named done : Fact) (a w : Option ℕ) (rs : List Relation) (ac links : Words) → base ≡ record f { relations = []; chains = [] } →
+    a ≡ only known → w ≡ only operand → rs ≡ f.relations → related ≡ record base { relations = equations_after_tad t a w rs } → ac ≡ sums known operand → named ≡ with_name Ac ac related →
+    links ≡ toggled f.link (carries known operand) → done ≡ record named { link = links } → done ≡ added known operand t f
+added_is known operand t f base related named done a w rs ac links e0 ea ew er e1 es e2 el e3 =
+    e3 ∙ ap (λ (k : Words). record named { link = k }) el
+    ∙ ap (λ (h : Fact). record h { link = toggled f.link (carries known operand) })
+    (e2 ∙ ap (λ (s : Words). with_name Ac s related) es ∙ ap (λ (h : Fact). with_name Ac (sums known operand) h)
+    (e1 ∙ ap (λ (h : Fact). record h { relations = equations_after_tad t a w rs }) e0
+    ∙ ap (λ o. record f { relations = equations_after_tad t o w rs; chains = [] }) ea
+    ∙ ap (λ o. record f { relations = equations_after_tad t (only known) o rs; chains = [] }) ew
+    ∙ ap (λ (r : List Relation). record f { relations = equations_after_tad t (only known) (only operand) r; chains = [] }) er))

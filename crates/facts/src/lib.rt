@@ -21,7 +21,7 @@ mod skipping;
 mod state;
 mod successor;
 pub mod sum_laws;
-pub mod sums;
+pub mod sum_facts;
 
 pub use asked::post;
 pub use conditions::{reads, writes};

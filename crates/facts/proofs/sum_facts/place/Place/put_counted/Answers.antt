@@ -1,0 +1,12 @@
+use Rattle.std.proofs.Common.{◌∙◌, ap}
+use Rattle.wordset.specs.Words.{Words, shifted}
+use Rattle.domain.specs.Facts.{Cell}
+use Rattle.domain.specs.Sums.FactInCode.{fact_in_code}
+use Rattle.domain.specs.Sums.Narrowing.{words_known}
+use Rattle.facts.specs.Sums.PlaceInCode.{place_in_code}
+use Rattle.facts.proofs.Sums.ComesLemmas.{counted_is}
+use Rattle.facts.proofs.sum_facts.place.Place.put_counted.Goals as goal
+
+pub returns-clause-fact : goal.returns-clause-fact
+returns-clause-fact g c = counted_is (place_in_code c.args.self.now) c.args.cell (fact_in_code c.args.fact.now) c.take_counted.ensures.fact
+    (c.shift.ensures ∙ ap (λ (s : Words). shifted s c.increment.result) c.put_words_known.ensures ∙ ap (shifted (words_known (place_in_code c.args.self.now) (fact_in_code c.args.fact.now) (Cell c.args.cell))) c.increment.ensures)

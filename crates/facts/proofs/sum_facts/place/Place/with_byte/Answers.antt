@@ -1,0 +1,11 @@
+use Rattle.std.proofs.Common.{◌≡◌, ◌∙◌, sym, ap, refl}
+use Rattle.wordset.specs.Words.{Words, one, plus, all_words}
+use Rattle.wordset.specs.Lanes.{words}
+use Rattle.domain.specs.Sums.Facts.{Fact}
+use Rattle.domain.specs.Sums.FactInCode.{fact_in_code}
+use Rattle.facts.specs.Sums.PlaceInCode.{place_in_code}
+use Rattle.wordset.specs.Words.{or_any}
+use Rattle.facts.proofs.sum_facts.place.Place.with_byte.Goals as goal
+
+pub returns : goal.returns
+returns g c = c.or_any.ensures ∙ ap (λ m. or_any m (words c.put_words_known.new.place)) c.from_byte.ensures.same ∙ ap (or_any 255) c.put_words_known.ensures

@@ -1,5 +1,0 @@
-use Rattle.facts.proofs.Sums.ComesLemmas.{both_are}
-use Rattle.facts.proofs.sums.place.Place.branch.Goals as goal
-
-pub returns : goal.returns
-returns g c = both_are c.branch_one_way.ensures (both_are c.branch_one_way-2.ensures (both_are c.branch_one_way-3.ensures c.branch_one_way-4.ensures))

@@ -1,7 +1,7 @@
 -- What the rows TAD, DCA and those of groups 1 and 2 make of relations and chains, told piece by piece.
-use Rattle.std.proofs.Common.{◌≡◌, ℕ, ◌+◌, ◌<◌, ◌≤◌, ◌==◌, Bool, true, false, not, ◌&&◌, ◌||◌, List, [], ◌∷◌, ◌++◌, map, drop, get_or, length, refl, sym, ap, ◌∙◌, append_assoc, arith}
-use Rattle.std.specs.Prelude.{if◌then◌else◌, flat_map, filter, nat_lt, Option}
-use Rattle.std.proofs.lemmas.Bool.{eqb-true}
+use Rattle.std.proofs.Common.{◌≡◌, ℕ, ◌+◌, ◌<◌, ◌≤◌, ◌==◌, Bool, true, false, not, ◌&&◌, ◌||◌, List, inl, inr, [], ◌∷◌, ◌++◌, map, drop, get_or, length, refl, sym, ap, ◌∙◌, append_assoc, arith}
+use Rattle.std.specs.Prelude.{if◌then◌else◌, flat_map, filter, nat_lt, Option, IsTrue, ◌↔◌}
+use Rattle.std.proofs.lemmas.Bool.{eqb-true, cases_lt}
 use Rattle.std.specs.List.{list_any}
 use Rattle.std.proofs.Math.ListN.{drop_of_length-le}
 use Rattle.std.proofs.lemmas.List.{at_drop_more}
@@ -10,6 +10,8 @@ use Rattle.wordset.specs.Words.{Words, one, only, sums, toggled, carries, all_wo
 use Rattle.wordset.specs.Operate.{accumulator_after}
 use Rattle.wordset.specs.Operate as said
 use Rattle.wordset.proofs.Tests.{some_from, some_to, IsSome, both_ways, and_both, and_second}
+use Rattle.wordset.specs.Lanes.{words}
+use Rattle.wordset.proofs.SetLemmas.{words_past, all_past}
 use Rattle.wordset.proofs.LaneBits.{or_false}
 use Rattle.wordset.proofs.Cleared.{cleared_same}
 use Rattle.std.proofs.Math.Path.{fun_ext}
@@ -21,7 +23,7 @@ use Rattle.domain.specs.Sums.Adding.{with_set, with_name, set_of_sum, adding_all
 use Rattle.domain.specs.Sums.Narrowing.{asked_by}
 use Rattle.domain.specs.Sums.Moves.{free_of, chains_free_of, without_relations, taking}
 use Rattle.facts.specs.Sums.Additions.{has_ac, if_without_ac, equations_after_tad, after_tad, without_sums, summed, complemented, incremented, turned}
-use Rattle.facts.specs.Sums.Stores.{after_store, stored, begun_by, all_begun}
+use Rattle.facts.specs.Sums.Stores.{has_all_words, after_store, stored, begun_by, all_begun}
 use Rattle.facts.specs.Sums.Shaped.{told, begun_beside, if_stays, images_from}
 use Rattle.facts.specs.Sums.Outcomes.{with_link, added}
 use Rattle.facts.specs.Sums.Operations.{ac_after, link_after, images_under, tested, cleared2}
@@ -340,3 +342,57 @@ added_is known operand t f base related named done a w rs ac links e0 ea ew er e
     ∙ ap (λ o. record f { relations = equations_after_tad t o w rs; chains = [] }) ea
     ∙ ap (λ o. record f { relations = equations_after_tad t (only known) o rs; chains = [] }) ew
     ∙ ap (λ (r : List Relation). record f { relations = equations_after_tad t (only known) (only operand) r; chains = [] }) er))
+
+-- ---- tests one behind the other
+
+pub first_fails : (a b : Bool) → a ≡ false → false ≡ (a && b)
+first_fails false b e = refl
+first_fails true b e = absurd (cc)
+
+pub second_fails : (a b c : Bool) → b ≡ false → false ≡ (a && (b && c))
+second_fails true false c e = refl
+second_fails false b c e = refl
+second_fails true true c e = absurd (cc)
+
+pub both_hold : (a b c : Bool) → a ≡ true → b ≡ true → c ≡ (a && (b && c))
+both_hold true true c e d = refl
+both_hold true false c e d = absurd (cc)
+both_hold false b c e d = absurd (cc)
+
+-- A set that is empty has no word.
+pub none_there : (a : Words) (empty : Bool) → empty ≡ not (has_some a) → empty ≡ true → has_some a ≡ false
+none_there a empty is yes = go (has_some a) (sym is ∙ yes)
+  where
+    go : (b : Bool) → not b ≡ true → b ≡ false
+    go false e = refl
+    go true e = sym e
+
+-- All words are there, or not.
+pub all_there : (a : Words) → a ≡ all_words → has_all_words a ≡ true
+all_there a e = ap has_all_words e ∙ whole
+  where
+    whole : has_all_words all_words ≡ true
+    whole = go (some_below 4096 (λ v. not (all_words v))) refl
+      where
+        go : (b : Bool) → some_below 4096 (λ v. not (all_words v)) ≡ b → not b ≡ true
+        go false q = refl
+        go true q =
+            let t : IsSome 4096 (λ v. not (all_words v)) = some_to 4096 (λ v. not (all_words v)) q in
+            let small : t.at < 4096 = t.small in
+            let has : all_words t.at ≡ true = omega arith in
+            sym (sym t.holds ∙ ap not has)
+
+pub not_all_there : (lanes : List ℕ) (r : Bool) → r ≡ false → (IsTrue r ↔ (words lanes ≡ all_words)) → has_all_words (words lanes) ≡ false
+not_all_there lanes r no told = go (some_below 4096 (λ v. not (words lanes v))) refl
+  where
+    each : some_below 4096 (λ v. not (words lanes v)) ≡ false → (v : ℕ) → v < 4096 → (b : Bool) → words lanes v ≡ b → b ≡ true
+    each q v h true e = refl
+    each q v h false e = sym q ∙ some_from 4096 (λ v. not (words lanes v)) v h (ap not e)
+    go : (b : Bool) → some_below 4096 (λ v. not (words lanes v)) ≡ b → not b ≡ false
+    go true q = refl
+    go false q =
+        let whole : words lanes ≡ all_words = fun_ext (λ v. elim (cases_lt v 4096) [
+          | inl l ↦ (let has : all_words v ≡ true = omega arith in each q v l (words lanes v) refl ∙ sym has)
+          | inr g ↦ words_past lanes v g ∙ sym (all_past v g)
+        ]) in
+        sym (told.1 whole) ∙ no

@@ -3,7 +3,7 @@ use Rattle.std.proofs.Common.{◌≡◌, ℕ, ◌+◌, ◌-◌, ◌*◌, ◌%◌
 use Rattle.std.specs.Prelude.{nat_lt, Some, None}
 use Rattle.std.proofs.Math.Path.{fun_ext}
 use Rattle.std.proofs.lemmas.Bool.{cases_lt, eq-eqb, eqb-true, ne_eqb}
-use Rattle.wordset.specs.Words.{Words, some_below, shifted, sums, one, only, minus}
+use Rattle.wordset.specs.Words.{mirrored, Words, some_below, shifted, sums, one, only, minus}
 use Rattle.wordset.proofs.Tests.{some_from, some_to, IsSome, both_ways, and_both, and_first, and_second}
 use Rattle.wordset.proofs.Firsts.{IsOnly, only_word}
 use Rattle.wordset.proofs.SetLemmas.{closed_at, closed_past}
@@ -38,7 +38,7 @@ moved_all a c d m h e = fun_ext (λ v. elim (cases_lt v 4096) [
   | inr g ↦ closed_past (λ w. a (minus w m)) v g ∙ sym (closed_past (λ w. some_below 4096 (λ x. a x && times c (one d) (minus w x))) v g)
 ])
 
-lone_moved : (a : Words) (w m r : ℕ) → IsOnly a w → m < 4096 → r ≡ (w + m) % 4096 → one r ≡ shifted a m
+pub lone_moved : (a : Words) (w m r : ℕ) → IsOnly a w → m < 4096 → r ≡ (w + m) % 4096 → one r ≡ shifted a m
 lone_moved a w m r is low e = fun_ext (λ v. elim (cases_lt v 4096) [
   | inl l ↦ both_ways (one r v) (a (minus v m))
       (λ t. let v_is : v ≡ r = eqb-true v r t in let w_low : w < 4096 = is.small in let back : minus v m ≡ w = omega (arith, e) in ap a back ∙ is.within)
@@ -55,3 +55,13 @@ pub moved_one : (a : Words) (c d w m r : ℕ) → d < 4096 → only a ≡ Some w
 moved_one a c d w m r h is e f =
     let low : m < 4096 = omega (arith, e) in
     lone_moved a w m r (only_word a w is) low f ∙ moved_all a c d m h e
+
+-- One word's complement.
+pub lone_mirrored : (a : Words) (w r : ℕ) → IsOnly a w → r ≡ 4095 - w → one r ≡ mirrored a
+lone_mirrored a w r is e = fun_ext (λ v. elim (cases_lt v 4096) [
+  | inl l ↦ both_ways (one r v) (a (4095 - v))
+      (λ t. let v_is : v ≡ r = eqb-true v r t in let w_low : w < 4096 = is.small in let back : 4095 - v ≡ w = omega (arith, e, v_is) in ap a back ∙ is.within)
+      (λ t. let w_low : w < 4096 = is.small in let u_low : 4095 - v < 4096 = omega arith in let back : 4095 - v ≡ w = is.lone (4095 - v) u_low t in eq-eqb v r (omega (arith, e, back)))
+      ∙ sym (closed_at (λ u. a (4095 - u)) v l)
+  | inr g ↦ (let r_low : r < 4096 = omega (arith, e) in ne_eqb v r (λ q. omega (arith, q))) ∙ sym (closed_past (λ u. a (4095 - u)) v g)
+])

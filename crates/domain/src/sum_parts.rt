@@ -43,6 +43,8 @@ impl BriefSet {
     pub fn shift(&mut self, by: Word)
         ensures { brief_words self.new ≡ shifted (brief_words self.old) by }
     {
+        // The proof needs the number to be a word.
+        let _index = by.index();
         match self.only() {
             Some(word) => self.set_one(word.add(by)),
             None => {

@@ -33,6 +33,7 @@ without_carry_of w s small = fun_ext (λ v. both_ways (meet (shifted s w) (betwe
         and_both (nat_lt v 4096) (some_below 4096 (λ y. s y && (w + y == v + 0 * 4096))) (below v lt)
         (some_from 4096 (λ y. s y && (w + y == v + 0 * 4096)) (minus v w) (omega arith)
         (and_both (s (minus v w)) (w + minus v w == v + 0 * 4096) (and_second (nat_lt v 4096) (s (minus v w)) first) (eq-eqb (w + minus v w) (v + 0 * 4096) is)))
+
     back : (v : ℕ) → sums_with 0 w s v ≡ true → meet (shifted s w) (between w 4095) v ≡ true
     back v e =
         let lt : v < 4096 = is_below v (and_first (nat_lt v 4096) (some_below 4096 (λ y. s y && (w + y == v + 0 * 4096))) e) in
@@ -68,6 +69,7 @@ with_carry_of w s small = fun_ext (λ v. both_ways (difference (shifted s w) (be
         and_both (nat_lt v 4096) (some_below 4096 (λ y. s y && (w + y == v + 1 * 4096))) (below v lt)
         (some_from 4096 (λ y. s y && (w + y == v + 1 * 4096)) (minus v w) (omega arith)
         (and_both (s (minus v w)) (w + minus v w == v + 1 * 4096) (and_second (nat_lt v 4096) (s (minus v w)) first) (eq-eqb (w + minus v w) (v + 1 * 4096) is)))
+
     back : (v : ℕ) → sums_with 1 w s v ≡ true → difference (shifted s w) (between w 4095) v ≡ true
     back v e =
         let lt : v < 4096 = is_below v (and_first (nat_lt v 4096) (some_below 4096 (λ y. s y && (w + y == v + 1 * 4096))) e) in
@@ -98,6 +100,7 @@ sums_turned c a b = fun_ext (λ v. ap (λ t. nat_lt v 4096 && t) (both_ways (som
   where
     of : Words → Words → ℕ → ℕ → Bool
     of a b v x = a x && some_below 4096 (λ y. b y && (x + y == v + c * 4096))
+
     turn : (a b : Words) (v : ℕ) → some_below 4096 (of a b v) ≡ true → some_below 4096 (of b a v) ≡ true
     turn a b v e =
         let x : IsSome 4096 (of a b v) = some_to 4096 (of a b v) e in
@@ -114,7 +117,7 @@ sums_turned c a b = fun_ext (λ v. ap (λ t. nat_lt v 4096 && t) (both_ways (som
 pub no_sums : (c : ℕ) (a b : Words) → ((v : ℕ) → v < 4096 → a v ≡ false) → nothing ≡ sums_carrying c a b
 no_sums c a b none = fun_ext (λ v. both_ways false (sums_carrying c a b v) (λ e. absurd (true≢false (sym e)))
     (λ e. (let x : IsSome 4096 (λ x. a x && some_below 4096 (λ y. b y && (x + y == v + c * 4096))) = some_to 4096 (λ x. a x && some_below 4096 (λ y. b y && (x + y == v + c * 4096)))
-        (and_second (nat_lt v 4096) (some_below 4096 (λ x. a x && some_below 4096 (λ y. b y && (x + y == v + c * 4096)))) e) in
+    (and_second (nat_lt v 4096) (some_below 4096 (λ x. a x && some_below 4096 (λ y. b y && (x + y == v + c * 4096)))) e) in
     absurd (true≢false (sym (and_first (a x.at) (some_below 4096 (λ y. b y && (x.at + y == v + c * 4096))) x.holds) ∙ none x.at x.small)))))
 
 -- A word x of a set makes a sum v with a word y.
@@ -139,7 +142,7 @@ record Made (c : ℕ) (a b : Words) (v : ℕ) : Type 0 where
 made_of : (c : ℕ) (a b : Words) (v : ℕ) → sums_carrying c a b v ≡ true → Made c a b v
 made_of c a b v e =
     let s : IsSome 4096 (λ x. a x && some_below 4096 (λ y. b y && (x + y == v + c * 4096))) = some_to 4096 (λ x. a x && some_below 4096 (λ y. b y && (x + y == v + c * 4096)))
-        (and_second (nat_lt v 4096) (some_below 4096 (λ x. a x && some_below 4096 (λ y. b y && (x + y == v + c * 4096)))) e) in
+    (and_second (nat_lt v 4096) (some_below 4096 (λ x. a x && some_below 4096 (λ y. b y && (x + y == v + c * 4096)))) e) in
     let t : IsSome 4096 (λ y. b y && (s.at + y == v + c * 4096)) = some_to 4096 (λ y. b y && (s.at + y == v + c * 4096)) (and_second (a s.at) (some_below 4096 (λ y. b y && (s.at + y == v + c * 4096))) s.holds) in
     record {
       small = is_below v (and_first (nat_lt v 4096) (some_below 4096 (λ x. a x && some_below 4096 (λ y. b y && (x + y == v + c * 4096)))) e);

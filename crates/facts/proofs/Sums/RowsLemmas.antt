@@ -1,15 +1,17 @@
 -- What the rows TAD, DCA and those of groups 1 and 2 make of relations and chains, told piece by piece.
-use Rattle.std.proofs.Common.{◌≡◌, ℕ, ◌+◌, ◌<◌, ◌≤◌, ◌==◌, Bool, true, false, not, ◌&&◌, ◌||◌, List, [], ◌∷◌, ◌++◌, map, drop, get_or, length, refl, sym, ap, ◌∙◌, append_assoc, arith}
-use Rattle.std.specs.Prelude.{if◌then◌else◌, flat_map, filter, nat_lt, Option}
-use Rattle.std.proofs.lemmas.Bool.{eqb-true}
+use Rattle.std.proofs.Common.{◌≡◌, ℕ, ◌+◌, ◌<◌, ◌≤◌, ◌==◌, Bool, true, false, not, ◌&&◌, ◌||◌, List, inl, inr, [], ◌∷◌, ◌++◌, map, drop, get_or, length, refl, sym, ap, ◌∙◌, append_assoc, arith}
+use Rattle.std.specs.Prelude.{if◌then◌else◌, flat_map, filter, nat_lt, Option, IsTrue, ◌↔◌}
+use Rattle.std.proofs.lemmas.Bool.{eqb-true, cases_lt}
 use Rattle.std.specs.List.{list_any}
 use Rattle.std.proofs.Math.ListN.{drop_of_length-le}
 use Rattle.std.proofs.lemmas.List.{at_drop_more}
 use Rattle.instruct.specs.Bits.{has_bit}
-use Rattle.wordset.specs.Words.{Words, one, all_words, shifted, some_below, has_some, images}
+use Rattle.wordset.specs.Words.{Words, one, only, sums, toggled, carries, all_words, shifted, some_below, has_some, images}
 use Rattle.wordset.specs.Operate.{accumulator_after}
 use Rattle.wordset.specs.Operate as said
 use Rattle.wordset.proofs.Tests.{some_from, some_to, IsSome, both_ways, and_both, and_second}
+use Rattle.wordset.specs.Lanes.{words}
+use Rattle.wordset.proofs.SetLemmas.{words_past, all_past}
 use Rattle.wordset.proofs.LaneBits.{or_false}
 use Rattle.wordset.proofs.Cleared.{cleared_same}
 use Rattle.std.proofs.Math.Path.{fun_ext}
@@ -20,10 +22,10 @@ use Rattle.domain.specs.Sums.Facts.{Relation, Fact, Place, Rules, OfSums, OfEqua
 use Rattle.domain.specs.Sums.Adding.{with_set, with_name, set_of_sum, adding_all}
 use Rattle.domain.specs.Sums.Narrowing.{asked_by}
 use Rattle.domain.specs.Sums.Moves.{free_of, chains_free_of, without_relations, taking}
-use Rattle.facts.specs.Sums.Additions.{has_ac, if_without_ac, after_tad, without_sums, summed, complemented, incremented, turned}
-use Rattle.facts.specs.Sums.Stores.{after_store, stored, begun_by, all_begun}
-use Rattle.facts.specs.Sums.Shaped.{told, begun_beside, images_from}
-use Rattle.facts.specs.Sums.Outcomes.{with_link}
+use Rattle.facts.specs.Sums.Additions.{has_ac, if_without_ac, equations_after_tad, after_tad, without_sums, summed, complemented, incremented, turned}
+use Rattle.facts.specs.Sums.Stores.{has_all_words, after_store, stored, begun_by, all_begun}
+use Rattle.facts.specs.Sums.Shaped.{told, begun_beside, if_stays, images_from}
+use Rattle.facts.specs.Sums.Outcomes.{with_link, added}
 use Rattle.facts.specs.Sums.Operations.{ac_after, link_after, images_under, tested, cleared2}
 use Rattle.facts.proofs.Sums.EachRelation.{adding_append, put_on, append_nothing, filter_append, flat_append, map_append}
 
@@ -151,6 +153,7 @@ changing_one y small (Cell a) = go (a == y) refl
     no : (b : Bool) → not (not (b && false)) ≡ false
     no true = refl
     no false = refl
+
     go : (b : Bool) → (a == y) ≡ b → not (not (nat_lt a 4096 && (a == y))) ≡ ((a == y) || false)
     go true e = (let is : a ≡ y = eqb-true a y e in let lt : nat_lt a 4096 ≡ true = omega (arith, is, small) in rw (e, lt) refl)
     go false e = rw e (no (nat_lt a 4096))
@@ -195,9 +198,9 @@ pub copied_base : (names : Location → Bool) (y : ℕ) (known : Words) (f : Fac
 copied_base names y known f h =
     ap (λ (rs : List Relation). record f { set = with_set Ac (one 0) (with_set (Cell y) known f.set); relations = rs; chains = chains_free_of names f.chains }) (free_of_both names y h f.relations)
     ∙ ap (λ (b : Bool). record f {
-        set = with_set Ac (one 0) (with_set (Cell y) known f.set);
-        relations = free_of (λ n. same n Ac) (free_of (λ n. same n (Cell y)) f.relations);
-        chains = if b then [] else filter (λ c. not (names (Cell c.cell))) f.chains;
+      set = with_set Ac (one 0) (with_set (Cell y) known f.set);
+      relations = free_of (λ n. same n Ac) (free_of (λ n. same n (Cell y)) f.relations);
+      chains = if b then [] else filter (λ c. not (names (Cell c.cell))) f.chains;
     }) (h Ac)
 
 -- ---- words of groups 1 and 2
@@ -241,14 +244,17 @@ one_is_enough w l k a e some = fun_ext (λ v. both_ways (images_from w l (one 0)
   where
     test : ℕ → ℕ → Bool
     test v x = (ac_after w x k == v) && (link_after w x k == l)
+
     same_test : (v x : ℕ) → test v x ≡ test v 0
     same_test v x = ap (λ n. (n == v) && (link_after w x k == l)) (cleared_ac w x k e) ∙ ap (λ n. (ac_after w 0 k == v) && (n == l)) (cleared_link w x k e)
+
     there : (v : ℕ) → images_from w l (one 0) k v ≡ true → images_from w l a k v ≡ true
     there v q =
         let s : IsSome 4096 (λ x. one 0 x && test v x) = some_to 4096 (λ x. one 0 x && test v x) q in
         let t : IsSome 4096 a = some_to 4096 a some in
         some_from 4096 (λ x. a x && test v x) t.at t.small
         (and_both (a t.at) (test v t.at) t.holds (same_test v t.at ∙ sym (same_test v s.at) ∙ and_second (one 0 s.at) (test v s.at) s.holds))
+
     back : (v : ℕ) → images_from w l a k v ≡ true → images_from w l (one 0) k v ≡ true
     back v q =
         let s : IsSome 4096 (λ x. a x && test v x) = some_to 4096 (λ x. a x && test v x) q in
@@ -267,3 +273,126 @@ some_there a empty is no = go (has_some a) (sym is ∙ no)
     go : (b : Bool) → not b ≡ false → b ≡ true
     go true e = refl
     go false e = sym e
+
+-- What a word of group 1 makes of one relation, stage by stage.
+turned_one : (w : ℕ) (r : Relation) →
+    turned w (r ∷ []) ≡ (if has_bit 0 w then flat_map incremented (if has_bit 5 w then complemented r else r ∷ []) else (if has_bit 5 w then complemented r else r ∷ []))
+turned_one w r = go (has_bit 5 w)
+  where
+    go : (m : Bool) → (if has_bit 0 w then flat_map incremented (if m then flat_map complemented (r ∷ []) else r ∷ []) else (if m then flat_map complemented (r ∷ []) else r ∷ [])) ≡
+        (if has_bit 0 w then flat_map incremented (if m then complemented r else r ∷ []) else (if m then complemented r else r ∷ []))
+    go true = ap (λ (x : List Relation). if has_bit 0 w then flat_map incremented x else x) (append_nothing (complemented r))
+    go false = refl
+
+-- One that CMA takes away is gone.
+pub turned_gone : (w : ℕ) (r m : Relation) (s : Bool) → s ≡ false → if_stays s m ≡ (if has_bit 5 w then complemented r else r ∷ []) → [] ≡ turned w (r ∷ [])
+turned_gone w r m s no e =
+    let none : [] ≡ (if has_bit 5 w then complemented r else r ∷ []) = sym (ap (λ b. if_stays b m) no) ∙ e in
+    go (has_bit 0 w) ∙ ap (λ (x : List Relation). if has_bit 0 w then flat_map incremented x else x) none ∙ sym (turned_one w r)
+  where
+    go : (b : Bool) → [] ≡ (if b then flat_map incremented [] else [])
+    go true = refl
+    go false = refl
+
+-- One that it leaves is counted up by IAC.
+pub turned_on : (w : ℕ) (r m last : Relation) (s t : Bool) → s ≡ true → if_stays s m ≡ (if has_bit 5 w then complemented r else r ∷ []) → if_stays t last ≡ (if has_bit 0 w then incremented m else m ∷ []) →
+    if_stays t last ≡ turned w (r ∷ [])
+turned_on w r m last s t yes e d =
+    let some : m ∷ [] ≡ (if has_bit 5 w then complemented r else r ∷ []) = sym (ap (λ b. if_stays b m) yes) ∙ e in
+    d ∙ go (has_bit 0 w) ∙ ap (λ (x : List Relation). if has_bit 0 w then flat_map incremented x else x) some ∙ sym (turned_one w r)
+  where
+    go : (b : Bool) → (if b then incremented m else m ∷ []) ≡ (if b then flat_map incremented (m ∷ []) else m ∷ [])
+    go true = sym (append_nothing (incremented m))
+    go false = refl
+
+-- A relation stays unless it speaks of the accumulator.
+pub stays_unless : (b : Bool) (r : Relation) → if_stays (not b) r ≡ (if b then [] else r ∷ [])
+stays_unless true r = refl
+stays_unless false r = refl
+
+-- Those that stay and are kept by the rules.
+pub kept_none : (k : Relation → Bool) (s : Bool) (r : Relation) (xs : List Relation) → s ≡ false → if_stays s r ≡ xs → [] ≡ filter k xs
+kept_none k s r xs no e = ap (filter k) (sym (ap (λ b. if_stays b r) no) ∙ e)
+
+pub kept_if : (k : Relation → Bool) (s b : Bool) (r : Relation) (xs : List Relation) → s ≡ true → if_stays s r ≡ xs → b ≡ k r → if_stays b r ≡ filter k xs
+kept_if k s b r xs yes e h =
+    go b h ∙ ap (filter k) (sym (ap (λ b. if_stays b r) yes) ∙ e)
+  where
+    go : (b : Bool) → b ≡ k r → if_stays b r ≡ filter k (r ∷ [])
+    go true h = rw (sym h) refl
+    go false h = rw (sym h) refl
+
+pub neither_first : (a b : Bool) → (a || b) ≡ false → a ≡ false
+neither_first false b e = refl
+neither_first true b e = e
+
+pub neither_second : (a b : Bool) → (a || b) ≡ false → b ≡ false
+neither_second false b e = e
+neither_second true b e = absurd (cc)
+
+-- TAD by the rules of equations, step by step.
+pub added_is : (known operand : Words) (t : Option Term) (f base related named done : Fact) (a w : Option ℕ) (rs : List Relation) (ac links : Words) → base ≡ record f { relations = []; chains = [] } →
+    a ≡ only known → w ≡ only operand → rs ≡ f.relations → related ≡ record base { relations = equations_after_tad t a w rs } → ac ≡ sums known operand → named ≡ with_name Ac ac related →
+    links ≡ toggled f.link (carries known operand) → done ≡ record named { link = links } → done ≡ added known operand t f
+added_is known operand t f base related named done a w rs ac links e0 ea ew er e1 es e2 el e3 =
+    e3 ∙ ap (λ (k : Words). record named { link = k }) el
+    ∙ ap (λ (h : Fact). record h { link = toggled f.link (carries known operand) })
+    (e2 ∙ ap (λ (s : Words). with_name Ac s related) es ∙ ap (λ (h : Fact). with_name Ac (sums known operand) h)
+    (e1 ∙ ap (λ (h : Fact). record h { relations = equations_after_tad t a w rs }) e0
+    ∙ ap (λ o. record f { relations = equations_after_tad t o w rs; chains = [] }) ea
+    ∙ ap (λ o. record f { relations = equations_after_tad t (only known) o rs; chains = [] }) ew
+    ∙ ap (λ (r : List Relation). record f { relations = equations_after_tad t (only known) (only operand) r; chains = [] }) er))
+
+-- ---- tests one behind the other
+
+pub first_fails : (a b : Bool) → a ≡ false → false ≡ (a && b)
+first_fails false b e = refl
+first_fails true b e = absurd (cc)
+
+pub second_fails : (a b c : Bool) → b ≡ false → false ≡ (a && (b && c))
+second_fails true false c e = refl
+second_fails false b c e = refl
+second_fails true true c e = absurd (cc)
+
+pub both_hold : (a b c : Bool) → a ≡ true → b ≡ true → c ≡ (a && (b && c))
+both_hold true true c e d = refl
+both_hold true false c e d = absurd (cc)
+both_hold false b c e d = absurd (cc)
+
+-- A set that is empty has no word.
+pub none_there : (a : Words) (empty : Bool) → empty ≡ not (has_some a) → empty ≡ true → has_some a ≡ false
+none_there a empty is yes = go (has_some a) (sym is ∙ yes)
+  where
+    go : (b : Bool) → not b ≡ true → b ≡ false
+    go false e = refl
+    go true e = sym e
+
+-- All words are there, or not.
+pub all_there : (a : Words) → a ≡ all_words → has_all_words a ≡ true
+all_there a e = ap has_all_words e ∙ whole
+  where
+    whole : has_all_words all_words ≡ true
+    whole = go (some_below 4096 (λ v. not (all_words v))) refl
+      where
+        go : (b : Bool) → some_below 4096 (λ v. not (all_words v)) ≡ b → not b ≡ true
+        go false q = refl
+        go true q =
+            let t : IsSome 4096 (λ v. not (all_words v)) = some_to 4096 (λ v. not (all_words v)) q in
+            let small : t.at < 4096 = t.small in
+            let has : all_words t.at ≡ true = omega arith in
+            sym (sym t.holds ∙ ap not has)
+
+pub not_all_there : (lanes : List ℕ) (r : Bool) → r ≡ false → (IsTrue r ↔ (words lanes ≡ all_words)) → has_all_words (words lanes) ≡ false
+not_all_there lanes r no told = go (some_below 4096 (λ v. not (words lanes v))) refl
+  where
+    each : some_below 4096 (λ v. not (words lanes v)) ≡ false → (v : ℕ) → v < 4096 → (b : Bool) → words lanes v ≡ b → b ≡ true
+    each q v h true e = refl
+    each q v h false e = sym q ∙ some_from 4096 (λ v. not (words lanes v)) v h (ap not e)
+    go : (b : Bool) → some_below 4096 (λ v. not (words lanes v)) ≡ b → not b ≡ false
+    go true q = refl
+    go false q =
+        let whole : words lanes ≡ all_words = fun_ext (λ v. elim (cases_lt v 4096) [
+          | inl l ↦ (let has : all_words v ≡ true = omega arith in each q v l (words lanes v) refl ∙ sym has)
+          | inr g ↦ words_past lanes v g ∙ sym (all_past v g)
+        ]) in
+        sym (told.1 whole) ∙ no

@@ -221,7 +221,14 @@ fn put_summed<const C: usize, const R: usize, const D: usize, const S: usize>(
     after.take_over(fact);
     after.set_name(&Location::Accumulator, &WordSet::all());
     let ac = fact.accumulator();
-    add_after_tad(operand, term, ac, &Sum::of_name(Location::Accumulator), ac, after);
+    add_after_tad(
+        operand,
+        term,
+        ac,
+        &Sum::of_name(Location::Accumulator),
+        ac,
+        after,
+    );
     add_each_after_tad(operand, term, ac, fact.relations().as_slice(), after);
 }
 
@@ -402,7 +409,13 @@ pub fn put_added<const C: usize, const R: usize, const D: usize, const S: usize>
         added (words known.now) (words operand.now) (term_if term.now) (fact_in_code fact.now) }
 {
     after.take_over(fact);
-    push_equations(term, &known.only(), &operand.only(), fact.relations().as_slice(), after);
+    push_equations(
+        term,
+        &known.only(),
+        &operand.only(),
+        fact.relations().as_slice(),
+        after,
+    );
     let (sums, carries) = known.sums(operand);
     after.set_name(&Location::Accumulator, &sums);
     after.set_link(fact.link().toggled(carries));

@@ -112,14 +112,22 @@ fn with_carry(a: &WordSet, b: &WordSet) -> WordSet
 fn without_carry_if(chosen: bool, a: &WordSet, b: &WordSet) -> WordSet
     ensures { (v : ℕ) → words result v ≡ (chosen && sums_carrying 0 (words a.now) (words b.now) v) }
 {
-    if chosen { without_carry(a, b) } else { WordSet::empty() }
+    if chosen {
+        without_carry(a, b)
+    } else {
+        WordSet::empty()
+    }
 }
 
 /// The sums with a carry, where they are chosen, and else no word.
 fn with_carry_if(chosen: bool, a: &WordSet, b: &WordSet) -> WordSet
     ensures { (v : ℕ) → words result v ≡ (chosen && sums_carrying 1 (words a.now) (words b.now) v) }
 {
-    if chosen { with_carry(a, b) } else { WordSet::empty() }
+    if chosen {
+        with_carry(a, b)
+    } else {
+        WordSet::empty()
+    }
 }
 
 /// The sums of words of two sets that leave the link so: those without a carry where the link was so before, and those with a

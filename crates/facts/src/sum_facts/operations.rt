@@ -1,6 +1,6 @@
 //! What is known after words of groups 1 and 2.
 
-ghost use Rattle.std.specs.Prelude.{◌≡◌, ◌<◌, ◌≤◌, ◌+◌, ◌*◌, ◌++◌, ◌&&◌, ◌||◌, ◌==◌, ◌∷◌, [], filter, IsTrue, length, map, not, ℕ};
+ghost use Rattle.std.specs.Prelude.{◌≡◌, ◌<◌, ◌≤◌, ◌+◌, ◌*◌, ◌++◌, ◌&&◌, ◌||◌, ◌==◌, ◌∷◌, [], if◌then◌else◌, filter, IsTrue, length, map, not, ℕ};
 ghost use Rattle.instruct.specs.declared.Profile.TheVariants.{Pdp8E};
 ghost use Rattle.instruct.specs.declared.Instruction.TheVariants.{Operate1};
 ghost use Rattle.instruct.specs.Bits.{has_bit};
@@ -67,10 +67,24 @@ fn reads_switches(word: Word) -> bool
     word.value() >> 2 & 1 == 1
 }
 
+/// Whether a word of group 2 has CLA or OSR, by which the accumulator changes.
+fn changes_accumulator(word: Word) -> bool
+    ensures { result ≡ (has_bit 7 word || has_bit 2 word) }
+{
+    clears(word) || reads_switches(word)
+}
+
+/// Whether a word of group 1 leaves no relation of the accumulator: with CLA, a rotation or BSW.
+fn forgets_accumulator(word: Word) -> bool
+    ensures { result ≡ (has_bit 7 word || moves_bits word) }
+{
+    clears(word) || moves_bits(word)
+}
+
 /// Lets a relation say what it says after CMA, and whether it says something then.
 fn complement(relation: &mut Relation) -> bool
     requires { length (relation_of relation.old).sum < 4 }
-    ensures says { if_stays result (relation_of relation.new) ≡ complemented (relation_of relation.old) }
+    ensures { if_stays result (relation_of relation.new) ≡ complemented (relation_of relation.old) }
 {
     if has_accumulator(&relation.sum) {
         let accumulator = Term::Holding(Location::Accumulator);
@@ -92,18 +106,38 @@ fn increment(relation: &mut Relation) -> bool
     !names(&Location::Accumulator, &relation.sum)
 }
 
+/// The same, where a word of group 1 has CMA; else the relation stays as it is.
+fn complement_if(word: Word, relation: &mut Relation) -> bool
+    requires { length (relation_of relation.old).sum < 4 }
+    ensures { if_stays result (relation_of relation.new) ≡
+        (if has_bit 5 word then complemented (relation_of relation.old) else relation_of relation.old ∷ []) }
+{
+    if complements(word) {
+        return complement(relation);
+    }
+    true
+}
+
+/// Lets a relation say what it says after IAC, where a word of group 1 has it, and whether it says something then.
+fn increment_if(word: Word, relation: &mut Relation) -> bool
+    ensures { if_stays result (relation_of relation.new) ≡
+        (if has_bit 0 word then incremented (relation_of relation.old) else relation_of relation.old ∷ []) }
+{
+    if increments(word) {
+        return increment(relation);
+    }
+    true
+}
+
 /// Lets a relation say what it says after a word of group 1 without CLA, a rotation and BSW, and whether it says something then.
 fn turn(word: Word, relation: &mut Relation) -> bool
     requires { length (relation_of relation.old).sum < 4 }
     ensures { if_stays result (relation_of relation.new) ≡ turned word (relation_of relation.old ∷ []) }
 {
-    if complements(word) && !complement(relation) {
+    if !complement_if(word, relation) {
         return false;
     }
-    if increments(word) {
-        return increment(relation);
-    }
-    true
+    increment_if(word, relation)
 }
 
 /// Adds what a relation says after a word of group 1 without CLA, a rotation and BSW, if the rules keep it.
@@ -167,7 +201,7 @@ fn push_operated<const C: usize, const R: usize>(
     } }
     ensures cells { after.new.cells ≡ after.old.cells }
 {
-    if clears(word) || moves_bits(word) {
+    if forgets_accumulator(word) {
         after.push_relations_free_of(relations, &Names::One(Location::Accumulator));
         return;
     }
@@ -350,7 +384,10 @@ fn put_cleared<const C: usize, const R: usize, const D: usize, const S: usize>(
             set = WordSet::one(Word::ZERO);
         }
         after.take_without(fact, &Names::One(Location::Accumulator));
-        after.set_name(&Location::Accumulator, &set.or_any(Word::from_index(0o7777)));
+        after.set_name(
+            &Location::Accumulator,
+            &set.or_any(Word::from_index(0o7777)),
+        );
         return;
     }
     if clears(word) {
@@ -363,7 +400,14 @@ fn put_cleared<const C: usize, const R: usize, const D: usize, const S: usize>(
 
 /// Lets a fact be another one of the states that come to a test, before the accumulator is changed: by the rules of sums it is
 /// narrowed. `spare` is room for it.
-fn put_tested<const C: usize, const R: usize, const P: usize, const Q: usize, const D: usize, const S: usize>(
+fn put_tested<
+    const C: usize,
+    const R: usize,
+    const P: usize,
+    const Q: usize,
+    const D: usize,
+    const S: usize,
+>(
     rules: &Rules,
     image: &Image,
     fact: &SumFact<D, S>,
@@ -400,7 +444,14 @@ fn may_be<const C: usize, const R: usize>(rules: &Rules, fact: &SumFact<C, R>) -
 }
 
 /// Lets a fact be what another one is of the states that come to a test, after CLA and OSR, and whether there may be such states.
-fn put_after_test<const C: usize, const R: usize, const P: usize, const Q: usize, const D: usize, const S: usize>(
+fn put_after_test<
+    const C: usize,
+    const R: usize,
+    const P: usize,
+    const Q: usize,
+    const D: usize,
+    const S: usize,
+>(
     rules: &Rules,
     image: &Image,
     word: Word,
@@ -422,7 +473,7 @@ fn put_after_test<const C: usize, const R: usize, const P: usize, const Q: usize
     ensures fact { (pl : Place) → pl.image ≡ image_of image.now → fact_in_code after.new ≡
         cleared2 word (tested (rules_of rules.now) pl word (fact_in_code fact.now) (words part.now) link) }
 {
-    if clears(word) || reads_switches(word) {
+    if changes_accumulator(word) {
         put_tested(rules, image, fact, part, link, after, spare);
         put_cleared(word, spare, after);
         return may_be(rules, spare);
@@ -433,7 +484,14 @@ fn put_after_test<const C: usize, const R: usize, const P: usize, const Q: usize
 
 /// Lets a fact be what another one is of the states that skip by a word of group 2, or that do not, where the link is this one;
 /// and whether there may be such states. `known` are the accumulator's words, and `spare` is room for the fact that is narrowed.
-pub fn put_branch<const C: usize, const R: usize, const P: usize, const Q: usize, const D: usize, const S: usize>(
+pub fn put_branch<
+    const C: usize,
+    const R: usize,
+    const P: usize,
+    const Q: usize,
+    const D: usize,
+    const S: usize,
+>(
     rules: &Rules,
     image: &Image,
     word: Word,
@@ -454,11 +512,11 @@ pub fn put_branch<const C: usize, const R: usize, const P: usize, const Q: usize
     ensures may { (pl : Place) → pl.image ≡ image_of image.now → pl.rules ≡ rules_of rules.now →
         words known.now ≡ ac_of pl (fact_in_code fact.now) →
         result ≡ ((fact_in_code fact.now).link link && (has_some (part2 pl word (fact_in_code fact.now) link skip) &&
-            may_be pl.rules (tested pl.rules pl word (fact_in_code fact.now) (part2 pl word (fact_in_code fact.now) link skip) link))) }
+        may_be pl.rules (tested pl.rules pl word (fact_in_code fact.now) (part2 pl word (fact_in_code fact.now) link skip) link))) }
     ensures fact { (pl : Place) → pl.image ≡ image_of image.now → pl.rules ≡ rules_of rules.now →
         words known.now ≡ ac_of pl (fact_in_code fact.now) → IsTrue result →
         fact_in_code after.new ≡ cleared2 word (tested pl.rules pl word (fact_in_code fact.now)
-            (part2 pl word (fact_in_code fact.now) link skip) link) }
+        (part2 pl word (fact_in_code fact.now) link skip) link) }
 {
     if !fact.link().contains(link) {
         return false;

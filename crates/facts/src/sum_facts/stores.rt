@@ -154,7 +154,13 @@ pub fn put_stored<const C: usize, const R: usize, const D: usize, const S: usize
     after.take_over(fact);
     after.set_name(&target, &WordSet::all());
     after.set_name(&Location::Accumulator, &WordSet::one(Word::ZERO));
-    add_after_store(cell, &by, &Sum::of_name(Location::Accumulator), fact.accumulator(), after);
+    add_after_store(
+        cell,
+        &by,
+        &Sum::of_name(Location::Accumulator),
+        fact.accumulator(),
+        after,
+    );
     add_after_store(cell, &by, &Sum::of_name(target), &old, after);
     add_each_after_store(cell, &by, fact.relations().as_slice(), after);
 }
@@ -181,7 +187,11 @@ fn add_copied_for<const C: usize, const R: usize>(
         return;
     }
     relation.set.put(set);
-    after.add(&Rules::OfEquations, &with_cell_for_accumulator(cell, &relation.sum), set);
+    after.add(
+        &Rules::OfEquations,
+        &with_cell_for_accumulator(cell, &relation.sum),
+        set,
+    );
 }
 
 /// Adds what some relations say of a cell that takes the accumulator's word.
@@ -329,7 +339,13 @@ pub fn put_begun_longer<const C: usize, const R: usize, const D: usize, const S:
         Rules::OfEquations => after.clear_chains(),
         Rules::OfSums => {
             after.lengthen_chains(fact, step);
-            push_each_begun(step, fact.relations().as_slice(), fact.link(), fact.chains(), after);
+            push_each_begun(
+                step,
+                fact.relations().as_slice(),
+                fact.link(),
+                fact.chains(),
+                after,
+            );
         }
     }
 }

@@ -18,12 +18,11 @@ add_after_tad-requires-terms g c =
 
 pub loop-relation-preserved : goal.loop-relation-preserved
 loop-relation-preserved g c =
-    let inside : c.loop-relation.relation-index < length c.args.relations.now = c.loop-relation-test.true in
-    (
+    let inside : c.loop-relation.relation-index < length c.args.relations.now = c.loop-relation-test.true in (
       added_on OfSums relation_of (after_tad (words c.args.ac.now) (words c.args.operand.now) (term_if c.args.term.now)) c.args.relations.now c.loop-relation.relation-index c.relation-item.result
           (fact_in_code c.loop-relation.after) (fact_in_code c.add_after_tad.new.after) inside c.relation-item.is
           (c.add_after_tad.ensures.fact ∙ ap (λ (s : Words). adding_all OfSums (after_tad (words c.args.ac.now) (words c.args.operand.now) (term_if c.args.term.now) (told (sum_of c.relation-item.result.sum) s)) (fact_in_code c.loop-relation.after)) c.put.ensures)
-      ∙ c.loop-relation.invariant.0,
+          ∙ c.loop-relation.invariant.0,
       omega (arith, c.add_after_tad.ensures.cells, c.loop-relation.invariant.1),
       omega (arith, c.add_after_tad.ensures.more, c.loop-relation.invariant.2),
     )

@@ -13,6 +13,6 @@ use Rattle.facts.proofs.sum_facts.additions.add_each_after_tad.Given as goal
 abbrev pub invariant-loop-relation : goal.invariant-loop-relation
 invariant-loop-relation g l =
     (adding_all OfSums (flat_map (after_tad (words l.ac) (words l.operand) (term_if l.term)) (map relation_of (drop l.relation-index l.relations))) (fact_in_code l.after) ≡
-        adding_all OfSums (flat_map (after_tad (words l.ac) (words l.operand) (term_if l.term)) (map relation_of l.relations)) (fact_in_code l.fn.after)) ×
+    adding_all OfSums (flat_map (after_tad (words l.ac) (words l.operand) (term_if l.term)) (map relation_of l.relations)) (fact_in_code l.fn.after)) ×
     (length (cell_sets_of l.after.cells) ≤ length (cell_sets_of l.fn.after.cells) + 2 * l.relation-index) ×
     (length (relations_of l.after.relations) ≤ length (relations_of l.fn.after.relations) + 2 * l.relation-index)

@@ -16,11 +16,10 @@ push_turned-requires-terms g c =
 
 pub loop-relation-preserved : goal.loop-relation-preserved
 loop-relation-preserved g c =
-    let inside : c.loop-relation.relation-index < length c.args.relations.now = c.loop-relation-test.true in
-    (
+    let inside : c.loop-relation.relation-index < length c.args.relations.now = c.loop-relation-test.true in (
       told_on relation_of (λ r. filter (λ r. is_kept (rules_of c.args.rules.now) r.sum r.set) (turned c.args.word (r ∷ []))) c.args.relations.now c.loop-relation.relation-index c.relation-item.result
           (fact_in_code c.loop-relation.after) (fact_in_code c.push_turned.new.after) inside c.relation-item.is c.push_turned.ensures.fact
-      ∙ c.loop-relation.invariant.0,
+          ∙ c.loop-relation.invariant.0,
       c.push_turned.ensures.cells ∙ c.loop-relation.invariant.1,
       omega (arith, c.push_turned.ensures.more, c.loop-relation.invariant.2),
     )

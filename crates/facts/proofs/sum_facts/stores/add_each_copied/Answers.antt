@@ -13,11 +13,10 @@ add_copied_for-requires-terms g c =
 
 pub loop-relation-preserved : goal.loop-relation-preserved
 loop-relation-preserved g c =
-    let inside : c.loop-relation.relation-index < length c.args.relations.now = c.loop-relation-test.true in
-    (
+    let inside : c.loop-relation.relation-index < length c.args.relations.now = c.loop-relation-test.true in (
       added_on OfEquations relation_of (copied_for c.args.cell) c.args.relations.now c.loop-relation.relation-index c.relation-item.result
           (fact_in_code c.loop-relation.after) (fact_in_code c.add_copied_for.new.after) inside c.relation-item.is c.add_copied_for.ensures.fact
-      ∙ c.loop-relation.invariant.0,
+          ∙ c.loop-relation.invariant.0,
       omega (arith, c.add_copied_for.ensures.cells, c.loop-relation.invariant.1),
       omega (arith, c.add_copied_for.ensures.more, c.loop-relation.invariant.2),
     )

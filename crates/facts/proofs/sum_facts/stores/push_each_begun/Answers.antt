@@ -11,11 +11,10 @@ use Rattle.facts.proofs.sum_facts.stores.push_each_begun.Goals as goal
 
 pub loop-relation-preserved : goal.loop-relation-preserved
 loop-relation-preserved g c =
-    let inside : c.loop-relation.relation-index < length c.args.relations.now = c.loop-relation-test.true in
-    (
+    let inside : c.loop-relation.relation-index < length c.args.relations.now = c.loop-relation-test.true in (
       begun_on relation_of (λ r. all_longer (step_of c.args.step.now) (begun_beside (map chain_of c.args.chains.now) (begun_by (links_of c.args.links) r.sum r.set))) c.args.relations.now c.loop-relation.relation-index c.relation-item.result
           (fact_in_code c.loop-relation.after) (fact_in_code c.push_begun.new.after) inside c.relation-item.is c.push_begun.ensures.fact
-      ∙ c.loop-relation.invariant.0,
+          ∙ c.loop-relation.invariant.0,
       omega (arith, c.push_begun.ensures.more, c.loop-relation.invariant.1),
     )
 

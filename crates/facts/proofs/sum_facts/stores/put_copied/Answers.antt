@@ -21,5 +21,5 @@ returns g c =
     (c.set_name-2.ensures.fact ∙ ap (λ (s : Words). with_name Ac s (fact_in_code c.set_name.new.self)) c.one-2.ensures
     ∙ ap (λ (h : Fact). with_name Ac (one 0) h) (c.set_name.ensures.fact ∙ ap (λ (h : Fact). with_name (Cell y) (words c.args.known.now) h) c.take_without.ensures.fact)
     ∙ copied_base (λ n. not (is_outside (words c.one-cells.result) n)) y (words c.args.known.now) f
-        (λ n. ap (λ (s : Words). not (is_outside s n)) c.one-cells.ensures ∙ changing_one y small n))
+    (λ n. ap (λ (s : Words). not (is_outside s n)) c.one-cells.ensures ∙ changing_one y small n))
     ∙ ap (λ (rs : List Relation). adding_all OfEquations (flat_map (copied_for y) rs) (taking Ac (one 0) (taking (Cell y) (words c.args.known.now) f))) (c.as_slice.ensures.relations ∙ c.relations.ensures)

@@ -122,7 +122,10 @@ fn add_halts<A: Allocator + Copy>(
     let open = sketch.bodies().minus(&declared);
     let pauses = pauses.meet(&open);
     let stops = stops.meet(&open);
-    sketch.stops = sketch.stops.union(&stops).union(&pauses.meet(&evidence.stopped));
+    sketch.stops = sketch
+        .stops
+        .union(&stops)
+        .union(&pauses.meet(&evidence.stopped));
     sketch.pauses = sketch.pauses.union(&pauses.minus(&sketch.stops));
 }
 
@@ -141,7 +144,10 @@ fn add_code<A: Allocator + Copy>(
         return Ok(());
     };
     let entries = found_entries(&found);
-    let body = sketch.free(found.main()).minus(&evidence.called).minus(&entries);
+    let body = sketch
+        .free(found.main())
+        .minus(&evidence.called)
+        .minus(&entries);
     sketch.add_body(owner, &body);
     for routine in found.routines() {
         add_routine(sketch, evidence, routine)?;
@@ -376,7 +382,15 @@ fn learn_call<A: Allocator + Copy, D: Allocator>(
         let first = entry.increment();
         sketch.add_routine(entry, WordSet::one(first))?;
         let profile = declaration.profile();
-        add_code(alloc, image, sketch, evidence, &Owner::Routine(entry), first, profile)?;
+        add_code(
+            alloc,
+            image,
+            sketch,
+            evidence,
+            &Owner::Routine(entry),
+            first,
+            profile,
+        )?;
     }
     Ok(lesson)
 }
@@ -451,12 +465,29 @@ pub(crate) fn learn<A: Allocator + Copy, D: Allocator>(
         Lesson::Never(_) | Lesson::Unclear => return Ok(lesson),
         Lesson::Nothing => {}
         Lesson::New => {
-            add_code(alloc, image, sketch, evidence, &sight.owner, sight.at, profile)?;
+            add_code(
+                alloc,
+                image,
+                sketch,
+                evidence,
+                &sight.owner,
+                sight.at,
+                profile,
+            )?;
         }
     }
     let further = match decode(word, profile) {
         Instruction::Memory => {
-            learn_reference(alloc, image, declaration, evidence, sketch, watcher, &sight, word)?
+            learn_reference(
+                alloc,
+                image,
+                declaration,
+                evidence,
+                sketch,
+                watcher,
+                &sight,
+                word,
+            )?
         }
         Instruction::Operate2 if halts(word) => learn_halt(declaration, evidence, sketch, &sight),
         _ => Lesson::Nothing,

@@ -290,7 +290,9 @@ fn with_data<A: Allocator + Copy>(
         return Err(ProposeFault::NoMemory);
     };
     let least = *given.declaration.variables();
-    let data = WordSet::all().minus(&sketch.bodies()).minus(&sketch.entries());
+    let data = WordSet::all()
+        .minus(&sketch.bodies())
+        .minus(&sketch.entries());
     let Some(found) = with_variables(alloc, image, given, &least.union(&data), turns)? else {
         return Ok(None);
     };

@@ -65,7 +65,10 @@ fn keeps_cell<A: Allocator, B: Allocator>(
 
 /// Whether one declaration says of each cell what another one says of it: the cell stays in its body, an entry stays an entry,
 /// and its routine may still return at each of its offsets. More may be said.
-pub fn keeps_cells<A: Allocator, B: Allocator>(given: &Declaration<A>, more: &Declaration<B>) -> bool
+pub fn keeps_cells<A: Allocator, B: Allocator>(
+    given: &Declaration<A>,
+    more: &Declaration<B>,
+) -> bool
     ensures { result ≡ true → (a : ℕ) → a < 4096 →
         KeepsCell (meaning given.now) (meaning more.now) a }
 {

@@ -14,8 +14,8 @@ ghost use Rattle.search_commands.specs.SearchFaults.{IsProposeFault, IsSearchFau
 ghost use Rattle.search_commands.specs.VerifyText.{IsAnswer, IsProposedAnswerOf, IsVerifiedOf, answer_text, lack_text, no_text};
 
 use crate::stuck::draft_message;
-use crate::widening::{Settled, settle, with_reason};
 use crate::verifying::{Answer, Lack, MOST_TURNS, Proposed, RefuteOptions, VerifyOptions, lack_of};
+use crate::widening::{Settled, settle, with_reason};
 use analyser::{Attempt, GuessFault, guess, guess_or_draft};
 use bin_tape::Image;
 use certificate::Certificate;

@@ -162,7 +162,15 @@ pub(crate) fn settle<A: Allocator + Copy>(
     let mut steps = Turns::new(options.steps);
     let seed = u64::from(options.seed);
     for _widening in 0..MOST_WIDENINGS {
-        let next = next_after(alloc, image, &proposal, &mut evidence, seed, &mut steps, turns)?;
+        let next = next_after(
+            alloc,
+            image,
+            &proposal,
+            &mut evidence,
+            seed,
+            &mut steps,
+            turns,
+        )?;
         match next {
             Next::Wider(wider) => proposal = wider,
             Next::Ended(ending) => return Ok(conclude(image, proposal, ending)),

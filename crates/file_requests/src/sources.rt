@@ -31,6 +31,7 @@ fn unread<'n, S: ByteSource>(names: &'n [&'n str], parts: &[S]) -> &'n str {
 /// Writes the line of a fault to standard error, and below it what is wrong: of a source these lines.
 fn tell_all<R: Eprint, S: ByteSource>(
     rt: &R,
+    alloc: Global,
     fault: Fault,
     names: &[&str],
     parts: &[S],
@@ -38,17 +39,19 @@ fn tell_all<R: Eprint, S: ByteSource>(
     told: &str,
 ) -> Status {
     match fault {
-        Fault::Source(fault) if fault.line == 0 => tell_size(rt, fault, names),
+        Fault::Source(fault) if fault.line == 0 => tell_size(rt, alloc, fault, names),
         Fault::Source(_) => tell_with(rt, fault, told),
         Fault::EmptyImage => tell_with(rt, fault, NO_WORD),
         Fault::Device(DeviceFault::Read) => tell_of(
             rt,
+            alloc,
             fault,
             unread(names, parts),
             "cannot be read",
         ),
         Fault::Device(DeviceFault::Write) => tell_of(
             rt,
+            alloc,
             fault,
             output_name(out),
             "cannot be written",
@@ -66,13 +69,13 @@ fn list_or_tell<R: Files + Input + Print + Eprint>(
 ) -> Status {
     let mut parts = Vec::new(alloc);
     if let Err(fault) = open_parts(rt, names, &mut parts) {
-        return tell_of(rt, fault, unopened(names, parts.len()), "cannot be opened");
+        return tell_of(rt, alloc, fault, unopened(names, parts.len()), "cannot be opened");
     }
     let mut out = Writes::new(io::writer(rt));
     let mut told = String::new(alloc);
     match list(alloc, &mut parts, profile, Some(names), &mut told, &mut out) {
         Ok(status) => status,
-        Err(fault) => tell_all(rt, fault, names, &parts, "-", &told),
+        Err(fault) => tell_all(rt, alloc, fault, names, &parts, "-", &told),
     }
 }
 
@@ -93,11 +96,11 @@ fn assemble_or_tell<R: Files + Input + Print + Eprint>(
     let (names, out) = (asked.sources.as_slice(), asked.out.name());
     let mut file = match open_output(rt, alloc, asked.out) {
         Ok(file) => file,
-        Err(fault) => return tell_of(rt, fault, output_name(out), "cannot be created"),
+        Err(fault) => return tell_of(rt, alloc, fault, output_name(out), "cannot be created"),
     };
     let mut parts = Vec::new(alloc);
     if let Err(fault) = open_parts(rt, names, &mut parts) {
-        return tell_of(rt, fault, unopened(names, parts.len()), "cannot be opened");
+        return tell_of(rt, alloc, fault, unopened(names, parts.len()), "cannot be opened");
     }
     let mut told = String::new(alloc);
     let assembled = assemble(
@@ -110,7 +113,7 @@ fn assemble_or_tell<R: Files + Input + Print + Eprint>(
     );
     match finish_tape(&mut file, assembled) {
         Ok(status) => status,
-        Err(fault) => tell_all(rt, fault, names, &parts, out, &told),
+        Err(fault) => tell_all(rt, alloc, fault, names, &parts, out, &told),
     }
 }
 

@@ -14,6 +14,7 @@ use crate::spots::{Spot, behind_lines, line_counts, line_of, on_line, spot_of};
 use crate::wordless::number_for;
 use command_line::{Destination, Save, Sourced, Task, WatchedSession};
 use command_parts::status::{Fault, Status};
+use command_parts::visible::{lend_names, visible_names, visible_text};
 use declaration::DeclarationFault;
 use fault_texts::{FaultyFile, push_fault};
 use labels::Numbered;
@@ -36,7 +37,7 @@ fn verified<R: Files + Input + Print + Eprint>(
     options: &VerifyOptions,
 ) -> Result<Status, SourcedFault> {
     match source.promise {
-        Promise::Proposed => Ok(verify_alone(rt, alloc, numbered, save, options)?),
+        Promise::Proposed => Ok(verify_alone(rt, alloc, source, numbered, save, options)?),
         _ => verify_program(rt, alloc, source, save, options),
     }
 }
@@ -194,19 +195,22 @@ fn done_with<R: Files + Input + Print + Eprint>(
 }
 
 /// The lines on a fault of a declaration within a source, of which the line stands there.
-fn within_lines<'x>(
+fn within_lines(
     alloc: Global,
     fault: &DeclarationFault,
-    spot: &Spot<'x>,
-    text: &'x [u8],
+    spot: &Spot<'_>,
+    text: &[u8],
 ) -> String {
     let behind = line_of(*fault).saturating_sub(spot.line);
     let shown = Fault::Declared(on_line(*fault, spot.line));
+    let mut told = String::new(alloc);
+    let Ok(name) = visible_text(alloc, spot.name) else {
+        return told;
+    };
     let file = FaultyFile {
-        name: spot.name,
+        name: &name,
         bytes: behind_lines(text, behind),
     };
-    let mut told = String::new(alloc);
     let _ = push_fault(&mut told, shown, &file);
     told
 }
@@ -261,7 +265,8 @@ fn answer_given<R: Files + Input + Print + Eprint>(
     let slices = lend(alloc, &given.parts)?;
     match done_with(rt, alloc, &slices, given, sourced) {
         Ok(status) => {
-            tell_unread(rt, alloc, &sourced.sources, &slices);
+            let shown = visible_names(alloc, &sourced.sources)?;
+            tell_unread(rt, alloc, &lend_names(alloc, &shown)?, &slices);
             Ok(status)
         }
         Err(SourcedFault::Numbering(fault)) => tell_refused(

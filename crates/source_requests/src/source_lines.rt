@@ -2,6 +2,7 @@
 
 use crate::assembled::AssembledSource;
 use command_parts::message::{Mark, Message};
+use command_parts::visible::visible_text;
 use itoa::Buffer;
 use report_commands::reporting::{LinePlace, SourceNote};
 use std::alloc::{AllocError, Global};
@@ -37,6 +38,7 @@ fn push_label_in_brackets(
 
 /// Adds what the source says about an instruction, as a line of its own.
 fn push_source_line(
+    alloc: Global,
     text: &mut Vec<u8>,
     at: Word,
     source: &AssembledSource<'_>,
@@ -51,7 +53,7 @@ fn push_source_line(
         .copied()
         .unwrap_or("-");
     text.extend_from_slice(b"    ")?;
-    text.extend_from_slice(name.as_bytes())?;
+    text.extend_from_slice(visible_text(alloc, name)?.as_bytes())?;
     text.push(b':')?;
     text.extend_from_slice(Buffer::new().format(line).as_bytes())?;
     text.extend_from_slice(b": ")?;
@@ -74,6 +76,7 @@ fn begins_with_tag(note: SourceNote<'_>) -> bool {
 /// Adds a piece of a text, and what the source says where it ends: after an address in brackets what the source calls
 /// it, in advice this in place of the address, and below an instruction its line.
 fn push_piece(
+    alloc: Global,
     text: &mut Vec<u8>,
     piece: &[u8],
     mark: Mark,
@@ -90,7 +93,7 @@ fn push_piece(
         }
         Mark::Instruction(at) => {
             text.extend_from_slice(piece)?;
-            push_source_line(text, at, source)
+            push_source_line(alloc, text, at, source)
         }
     }
 }
@@ -106,7 +109,7 @@ pub fn with_source_lines(
     let mut done = 0usize;
     for placed in told.marks() {
         let piece = bytes.get(done..placed.place).unwrap_or(b"");
-        push_piece(&mut text, piece, placed.mark, source)?;
+        push_piece(alloc, &mut text, piece, placed.mark, source)?;
         done = placed.place;
     }
     text.extend_from_slice(bytes.get(done..).unwrap_or(b""))?;

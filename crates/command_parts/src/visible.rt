@@ -1,7 +1,7 @@
 //! Names and lines of files as they may stand in what is told to people: a control character of theirs could hide or
 //! repaint what a terminal shows.
 
-ghost use Rattle.std.specs.Prelude.{◌≡◌, IfOk, map};
+ghost use Rattle.std.specs.Prelude.{◌≡◌, IfOk};
 ghost use Rattle.std.specs.Str.{chars};
 ghost use Rattle.std.specs.Str.Lossy.{utf8_lossy};
 ghost use Rattle.std.specs.String.{string_bytes};
@@ -42,40 +42,4 @@ pub fn visible_bytes<A: Allocator + Copy>(alloc: A, bytes: &[u8]) -> Result<Stri
 {
     let text = String::from_utf8_lossy(alloc, bytes)?;
     visible_text(alloc, &text)
-}
-
-/// Names as they are shown.
-///
-/// # Errors
-///
-/// Memory was refused.
-pub fn visible_names<A: Allocator + Copy>(
-    alloc: A,
-    names: &[&str],
-) -> Result<Vec<String<A>, A>, AllocError>
-    ensures { IfOk result (λ shown. map string_bytes shown.items ≡ map (λ name. visible_text name.now) names.now) }
-{
-    let mut shown = Vec::new(alloc);
-    for name in names {
-        shown.push(visible_text(alloc, name)?)?;
-    }
-    Ok(shown)
-}
-
-/// The same names, lent.
-///
-/// # Errors
-///
-/// Memory was refused.
-pub fn lend_names<'n, A: Allocator + Copy>(
-    alloc: A,
-    names: &'n [String<A>],
-) -> Result<Vec<&'n str, A>, AllocError>
-    ensures { IfOk result (λ lent. map (λ name. name.now) lent.items ≡ map string_bytes names.now) }
-{
-    let mut lent = Vec::new(alloc);
-    for name in names {
-        lent.push(name.as_str())?;
-    }
-    Ok(lent)
 }

@@ -2,7 +2,7 @@
 
 use crate::telling::{tell, tell_with};
 use command_parts::status::{Fault, Status};
-use command_parts::visible::{lend_names, visible_names, visible_text};
+use command_parts::visible::visible_text;
 use instruct::Profile;
 use pal_asm::PalFault;
 use source_texts::push_faults;
@@ -10,6 +10,32 @@ use std::alloc::{AllocError, Global};
 
 /// What is said about a source that is assembled to no word.
 pub const NO_WORD: &str = "no statement is a word: list shows what the source has\n";
+
+/// Names of files as they are shown to people.
+///
+/// # Errors
+///
+/// Memory was refused.
+pub fn visible_names(alloc: Global, names: &[&str]) -> Result<Vec<String>, AllocError> {
+    let mut shown = Vec::new(alloc);
+    for name in names {
+        shown.push(visible_text(alloc, name)?)?;
+    }
+    Ok(shown)
+}
+
+/// The same names, lent.
+///
+/// # Errors
+///
+/// Memory was refused.
+pub fn lend_names<'n>(alloc: Global, names: &'n [String]) -> Result<Vec<&'n str>, AllocError> {
+    let mut lent = Vec::new(alloc);
+    for name in names {
+        lent.push(name.as_str())?;
+    }
+    Ok(lent)
+}
 
 /// An input as it is named in a sentence.
 pub fn input_name<'n>(name: &'n str) -> &'n str {

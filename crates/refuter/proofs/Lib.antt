@@ -1,1 +1,2 @@
-mod UnsafeLemmas
+pub mod UnsafeLemmas
+pub mod TapeLemmas

@@ -5,3 +5,4 @@ pub mod Extending
 pub mod CompleteText
 pub mod StuckText
 pub mod VerifyText
+pub mod Laws

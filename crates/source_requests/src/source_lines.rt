@@ -1,4 +1,9 @@
-//! Where a source has what is named to people. It is tested, not proved.
+//! Where a source has what is named to people. It is proved that the first line of a text stays as it is; what is put
+//! behind it is tested.
+
+ghost use Rattle.std.specs.Prelude.{◌≡◌, IfOk};
+ghost use Rattle.command_parts.specs.Messages.{BeginsWith, plain};
+ghost use Rattle.source_requests.specs.Told.{first_line};
 
 use crate::assembled::AssembledSource;
 use command_parts::message::{Mark, Message};
@@ -98,20 +103,54 @@ fn push_piece(
     }
 }
 
-/// A text for people with what the source says about its addresses.
+/// The first line of a text, with its end.
+fn first_line(text: &[u8]) -> &[u8]
+    ensures { result.now ≡ first_line text.now }
+{
+    match text.iter().position(|byte| *byte == b'\n') {
+        Some(end) => &text[..end + 1],
+        None => text,
+    }
+}
+
+/// What comes after so many bytes of a text for people, with what the source says about its addresses.
+fn rest_with_source_lines(
+    alloc: Global,
+    source: &AssembledSource<'_>,
+    told: &Message<Global>,
+    from: usize,
+) -> Result<Vec<u8>, AllocError> {
+    let bytes = told.as_bytes();
+    let mut text = Vec::new(alloc);
+    let mut done = from;
+    for placed in told.marks() {
+        if placed.place > done {
+            let piece = bytes.get(done..placed.place).unwrap_or(b"");
+            push_piece(alloc, &mut text, piece, placed.mark, source)?;
+            done = placed.place;
+        }
+    }
+    text.extend_from_slice(bytes.get(done..).unwrap_or(b""))?;
+    Ok(text)
+}
+
+/// A text for people with what the source says about its addresses. Its first line, which is that of an answer, comes
+/// first and as it is.
+///
+/// # Errors
+///
+/// Memory was refused.
 pub fn with_source_lines(
     alloc: Global,
     source: &AssembledSource<'_>,
     told: &Message<Global>,
-) -> Result<Vec<u8>, AllocError> {
-    let bytes = told.as_bytes();
+) -> Result<Vec<u8>, AllocError>
+    ensures { IfOk result (λ text. BeginsWith (first_line (plain told.now)) text.items) }
+{
+    let line = first_line(told.as_bytes());
+    let rest = rest_with_source_lines(alloc, source, told, line.len())?;
     let mut text = Vec::new(alloc);
-    let mut done = 0usize;
-    for placed in told.marks() {
-        let piece = bytes.get(done..placed.place).unwrap_or(b"");
-        push_piece(alloc, &mut text, piece, placed.mark, source)?;
-        done = placed.place;
-    }
-    text.extend_from_slice(bytes.get(done..).unwrap_or(b""))?;
+    text.extend_from_slice(line)?;
+    text.extend_from_slice(&rest)?;
     Ok(text)
 }

@@ -69,7 +69,13 @@ fn list_or_tell<R: Files + Input + Print + Eprint>(
 ) -> Status {
     let mut parts = Vec::new(alloc);
     if let Err(fault) = open_parts(rt, names, &mut parts) {
-        return tell_of(rt, alloc, fault, unopened(names, parts.len()), "cannot be opened");
+        return tell_of(
+            rt,
+            alloc,
+            fault,
+            unopened(names, parts.len()),
+            "cannot be opened",
+        );
     }
     let mut out = Writes::new(io::writer(rt));
     let mut told = String::new(alloc);
@@ -100,7 +106,13 @@ fn assemble_or_tell<R: Files + Input + Print + Eprint>(
     };
     let mut parts = Vec::new(alloc);
     if let Err(fault) = open_parts(rt, names, &mut parts) {
-        return tell_of(rt, alloc, fault, unopened(names, parts.len()), "cannot be opened");
+        return tell_of(
+            rt,
+            alloc,
+            fault,
+            unopened(names, parts.len()),
+            "cannot be opened",
+        );
     }
     let mut told = String::new(alloc);
     let assembled = assemble(

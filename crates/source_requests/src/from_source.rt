@@ -196,12 +196,7 @@ fn done_with<R: Files + Input + Print + Eprint>(
 }
 
 /// The lines on a fault of a declaration within a source, of which the line stands there.
-fn within_lines(
-    alloc: Global,
-    fault: &DeclarationFault,
-    spot: &Spot<'_>,
-    text: &[u8],
-) -> String {
+fn within_lines(alloc: Global, fault: &DeclarationFault, spot: &Spot<'_>, text: &[u8]) -> String {
     let behind = line_of(*fault).saturating_sub(spot.line);
     let shown = Fault::Declared(on_line(*fault, spot.line));
     let mut told = String::new(alloc);

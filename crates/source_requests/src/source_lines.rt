@@ -2,8 +2,9 @@
 //! behind it is tested.
 
 ghost use Rattle.std.specs.Prelude.{◌≡◌, IfOk};
+ghost use Rattle.std.specs.List.{position};
 ghost use Rattle.command_parts.specs.Messages.{BeginsWith, plain};
-ghost use Rattle.source_requests.specs.Told.{first_line};
+ghost use Rattle.source_requests.specs.Told.{first_line, is_line_end};
 
 use crate::assembled::AssembledSource;
 use command_parts::message::{Mark, Message};
@@ -103,11 +104,18 @@ fn push_piece(
     }
 }
 
+/// The place of the first end of a line, if there is one.
+fn place_of_line_end(text: &[u8]) -> Option<usize>
+    ensures { result ≡ position is_line_end text.now }
+{
+    text.iter().position(|byte| *byte == b'\n')
+}
+
 /// The first line of a text, with its end.
 fn first_line(text: &[u8]) -> &[u8]
     ensures { result.now ≡ first_line text.now }
 {
-    match text.iter().position(|byte| *byte == b'\n') {
+    match place_of_line_end(text) {
         Some(end) => &text[..end + 1],
         None => text,
     }

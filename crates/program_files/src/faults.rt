@@ -119,16 +119,19 @@ fn line_of(alloc: Global, name: Option<&str>, said: &str) -> String {
 
 /// The line on an output that cannot be created or written; where there are two it is one of them.
 fn unwritten_line(alloc: Global, names: &FileNames<'_>) -> String {
-    let output = names.output.map(output_name);
-    let second = names.second_output.map(output_name);
-    let mut others = String::new(alloc);
-    if let (Some(first), Some(second)) = (output, second) {
-        if first != second {
-            let _ = write!(others, "{first} or {second}");
-            return line_of(alloc, Some(&others), UNWRITTEN);
+    let Some(output) = names.output else {
+        return String::new(alloc);
+    };
+    let first = output_name(output);
+    match names.second_output {
+        Some(other) if other != output => {
+            let second = output_name(other);
+            let mut both = String::new(alloc);
+            let _ = write!(both, "{first} or {second}");
+            line_of(alloc, Some(&both), UNWRITTEN)
         }
+        _ => line_of(alloc, Some(first), UNWRITTEN),
     }
-    line_of(alloc, output, UNWRITTEN)
 }
 
 /// The lines on a fault that lies in no line of a file: what it means and what to do.

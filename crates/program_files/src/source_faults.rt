@@ -19,7 +19,9 @@ pub const NO_WORD: &str = "no statement is a word: list shows what the source ha
 pub fn visible_names(alloc: Global, names: &[&str]) -> Result<Vec<String>, AllocError> {
     let mut shown = Vec::new(alloc);
     for name in names {
-        shown.push(visible_text(alloc, name)?)?;
+        if shown.push(visible_text(alloc, name)?).is_err() {
+            return Err(AllocError);
+        }
     }
     Ok(shown)
 }

@@ -34,13 +34,13 @@ yes_of j (Err r) first status = cc
 safe_alike : (i k : List (Option ℕ)) (d e : Declaration) → i ≡ k → d ≡ e → IsSafe (image_of i) d → IsSafe (image_of k) e
 safe_alike i k d e words promised safe = rw (words, promised) at safe
 
-pub no_is_never_yes : NoIsNeverYes
-no_is_never_yes A w tape declaration certificate told line explained no yes =
-    let accepted : IsYes _ = yes_of _ yes.is.verdict yes.is.is yes.is.status_is in
-    let words : yes.image ≡ no.image = one_tape (take 65536 tape) yes.image no.image yes.tape no.tape in
-    let promised : yes.declaration ≡ no.declaration = one_declaration declaration yes.declaration no.declaration yes.declares no.declares in
-    let safe : IsSafe (image_of no.image) no.declaration = safe_alike yes.image no.image yes.declaration no.declaration words promised accepted.safe in
-    broken_is_unsafe (image_of no.image) no.declaration w.events.items w.event w.rule (tape_puts_words (take 65536 tape) no.image no.tape) no.is.answers.0 safe
+pub no_is_never_yes : (A : Type 0) → NoIsNeverYes A
+no_is_never_yes A w tape declaration certificate told line explained said checked =
+    let accepted : IsYes (checked_case checked.image checked.declaration checked.lines) = yes_of _ checked.is.verdict checked.is.is checked.is.status_is in
+    let words : checked.image ≡ said.image = one_tape (take 65536 tape) checked.image said.image checked.tape said.tape in
+    let promised : checked.declaration ≡ said.declaration = one_declaration declaration checked.declaration said.declaration checked.declares said.declares in
+    let safe : IsSafe (image_of said.image) said.declaration = safe_alike checked.image said.image checked.declaration said.declaration words promised accepted.safe in
+    broken_is_unsafe (image_of said.image) said.declaration w.events.items w.event w.rule (tape_puts_words (take 65536 tape) said.image said.tape) said.is.answers.0 safe
 
 -- ---- `certify`
 
@@ -63,22 +63,22 @@ read_of bytes lines is =
 same_case : {i k : List (Option ℕ)} {d e : Declaration} {c f : Lines} → i ≡ k → d ≡ e → c ≡ f → checked_case i d c ≡ checked_case k e f
 same_case words promised claims = rw (words, promised, claims) refl
 
-module _ (tape declaration certificate line : List ℕ) (yes : IsCheckedSo (Some tape) (Some declaration) (Some certificate) line Done) where
-  accepted : IsYes (checked_case yes.image yes.declaration yes.lines)
-  accepted = yes_of _ yes.is.verdict yes.is.is yes.is.status_is
+module _ (tape declaration certificate line : List ℕ) (checked : IsCheckedSo (Some tape) (Some declaration) (Some certificate) line Done) where
+  accepted : IsYes (checked_case checked.image checked.declaration checked.lines)
+  accepted = yes_of _ checked.is.verdict checked.is.is checked.is.status_is
 
   -- no condition fails of what is read
   holds : (p : Parts) → AreRead tape declaration certificate p → IsValid (case_of p)
   holds p read =
-      let words : yes.image ≡ p.image = one_tape (take 65536 tape) yes.image p.image yes.tape read.is_tape in
-      let promised : yes.declaration ≡ declaration_of p = one_declaration declaration yes.declaration (declaration_of p) yes.declares read.declares in
-      let both : Ok yes.lines ≡ Ok (certified.meaning p.certificate) = sym (read_of certificate yes.lines yes.claims) ∙ read.is_certificate in
-      let claims : yes.lines ≡ certified.meaning p.certificate = cc in
+      let words : checked.image ≡ p.image = one_tape (take 65536 tape) checked.image p.image checked.tape read.is_tape in
+      let promised : checked.declaration ≡ declaration_of p = one_declaration declaration checked.declaration (declaration_of p) checked.declares read.declares in
+      let both : Ok checked.lines ≡ Ok (certified.meaning p.certificate) = sym (read_of certificate checked.lines checked.claims) ∙ read.is_certificate in
+      let claims : checked.lines ≡ certified.meaning p.certificate = cc in
       subst IsValid (same_case words promised claims) accepted.valid
 
 pub checked_is_certified : CheckedIsCertified
-checked_is_certified t d c line (fault.Tape f) yes refused = absurd (no_fault 65536 t yes.image f yes.tape refused)
-checked_is_certified t d c line (fault.Declaration f) yes refused = absurd (no_declaration_fault d yes.declaration f refused.2 yes.declares refused.1)
-checked_is_certified t d c line (fault.Certificate f) yes refused = not_both c yes.lines f (read_of c yes.lines yes.claims) refused.2
-checked_is_certified t d c line (fault.Refused r) yes refused = absurd (none_fails (holds t d c line yes refused.0 refused.1) refused.2)
-checked_is_certified t d c line fault.NoMemory yes refused = refl
+checked_is_certified t d c line (fault.Tape f) checked refused = absurd (no_fault 65536 t checked.image f checked.tape refused)
+checked_is_certified t d c line (fault.Declaration f) checked refused = absurd (no_declaration_fault d checked.declaration f refused.2 checked.declares refused.1)
+checked_is_certified t d c line (fault.Certificate f) checked refused = not_both c checked.lines f (read_of c checked.lines checked.claims) refused.2
+checked_is_certified t d c line (fault.Refused r) checked refused = absurd (none_fails (holds t d c line checked refused.0 refused.1) refused.2)
+checked_is_certified t d c line fault.NoMemory checked refused = refl

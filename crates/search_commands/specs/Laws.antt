@@ -13,9 +13,9 @@ use Rattle.verdict_texts.specs.CheckText.{IsCheckedSo, yes_text}
 
 -- Where `verify` says no to the bytes of a tape and of a declaration, `check` says yes to no certificate of them: a no and a
 -- yes never stand on the same bytes.
-abbrev pub NoIsNeverYes : Type 0
-NoIsNeverYes =
-    (A : Type 0) (w : Witness A) (tape declaration certificate told line : List ℕ) (explained : Bool) →
+abbrev pub NoIsNeverYes : Type 0 → Type 0
+NoIsNeverYes A =
+    (w : Witness A) (tape declaration certificate told line : List ℕ) (explained : Bool) →
     IsVerified (Some tape) (Some declaration) explained (No w) told →
     IsCheckedSo (Some tape) (Some declaration) (Some certificate) line Done → ⊥
 

@@ -4,8 +4,8 @@ ghost use Rattle.search_commands.specs.Laws.{CertifiedIsChecked, CheckedIsCertif
 
 /// Where `verify` says no, `check` never says yes to the same tape and declaration, whatever the certificate is; and
 /// `check` says yes exactly where `certify` does, unless memory is refused.
-pub fn answers_agree()
-    ensures verified { NoIsNeverYes }
+pub fn answers_agree<A>()
+    ensures verified { NoIsNeverYes A }
     ensures certified { CertifiedIsChecked }
     ensures checked { CheckedIsCertified }
 {}

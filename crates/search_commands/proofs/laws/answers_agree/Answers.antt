@@ -2,4 +2,4 @@ use Rattle.search_commands.proofs.AgreeLemmas.{certified_is_checked, checked_is_
 use Rattle.search_commands.proofs.laws.answers_agree.Goals as goal
 
 pub returns : goal.returns
-returns c = record { verified = no_is_never_yes; certified = certified_is_checked; checked = checked_is_certified }
+returns g c = record { verified = no_is_never_yes _; certified = certified_is_checked; checked = checked_is_certified }

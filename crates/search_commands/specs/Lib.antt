@@ -6,3 +6,4 @@ pub mod CompleteText
 pub mod StuckText
 pub mod VerifyText
 pub mod Laws
+pub mod Adding

@@ -2,6 +2,7 @@
 //! one.
 #![tactic(auto)]
 
+mod adding;
 pub mod completing;
 pub mod declaring;
 mod extending;

@@ -51,6 +51,28 @@ impl<'a> FileNames<'a> {
 }
 
 impl<'a> Request<'a> {
+    /// The name of its command.
+    pub fn command(&self) -> &'static str {
+        match self {
+            Request::Run(_) | Request::Session(_) => "run",
+            Request::Teletype(_) => "teletype",
+            Request::Dump(_) => "dump",
+            Request::Assemble(_) => "assemble",
+            Request::Source(_) => "source",
+            Request::List(_) => "list",
+            Request::Explain { .. } => "explain",
+            Request::Check(_) => "check",
+            Request::Report(_) => "report",
+            Request::Declare(_) => "declare",
+            Request::Guess(_) => "guess",
+            Request::Migrate(_) => "migrate",
+            Request::Watch(_) | Request::WatchSession(_) => "watch",
+            Request::Refute(_) => "refute",
+            Request::Verify(_) => "verify",
+            Request::Sourced(sourced) => sourced.command(),
+        }
+    }
+
     /// The names of its inputs and of its outputs, apart from the parts of a source.
     pub fn names(&self) -> FileNames<'a> {
         match self {

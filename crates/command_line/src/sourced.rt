@@ -107,6 +107,20 @@ pub enum Task<'a> {
 }
 
 impl<'a> Sourced<'a> {
+    /// The name of the command.
+    pub(crate) fn command(&self) -> &'static str {
+        match &self.task {
+            Task::Verify { .. } => "verify",
+            Task::Check { .. } => "check",
+            Task::Report { .. } => "report",
+            Task::Watch { .. } | Task::WatchSession(_) => "watch",
+            Task::Guess { .. } => "guess",
+            Task::Refute { .. } => "refute",
+            Task::Declare { .. } => "declare",
+            Task::Place { .. } => "place",
+        }
+    }
+
     /// The names of the files, apart from the parts of the source.
     pub(crate) fn names(&self) -> FileNames<'a> {
         let none = FileNames {

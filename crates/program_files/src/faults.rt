@@ -33,7 +33,11 @@ fn faulty_input<'a>(fault: &Fault, names: &FileNames<'a>) -> Option<&'a str> {
 }
 
 /// What is in a file.
-fn bytes_of<R: Files + Input>(rt: &R, alloc: Global, name: &str) -> Result<Vec<u8>, Fault> {
+pub(crate) fn bytes_of<R: Files + Input>(
+    rt: &R,
+    alloc: Global,
+    name: &str,
+) -> Result<Vec<u8>, Fault> {
     let mut input = open_input(rt, name)?;
     Ok(read_at_most(alloc, &mut input, MOST)?)
 }
@@ -58,24 +62,6 @@ fn unread_input<'a, R: Files + Input>(
     None
 }
 
-/// Whether these are the characters of a text, as a source has them and a tape hasn't.
-fn is_text(bytes: &[u8]) -> bool {
-    bytes
-        .iter()
-        .all(|byte| matches!(*byte, b'\t'..=b'\r' | b' '..=b'~'))
-}
-
-/// Adds the line on a source that was taken for a tape.
-fn push_source_hint(text: &mut String, fault: &Fault, file: &FaultyFile<'_>) {
-    if matches!(fault, Fault::Tape(_)) && !file.bytes.is_empty() && is_text(file.bytes) {
-        let name = file.name;
-        let _ = writeln!(
-            text,
-            "{name} is text, not a tape: a source needs --source, or must be assembled first for a command without that option; a declaration comes after the tape"
-        );
-    }
-}
-
 /// The lines on an input that has a fault. Of standard input or a pipe, which cannot be read twice, there are none.
 fn input_lines<R: Files + Input>(
     rt: &R,
@@ -94,7 +80,6 @@ fn input_lines<R: Files + Input>(
             bytes: &bytes,
         };
         let _ = push_fault(&mut text, *fault, &file);
-        push_source_hint(&mut text, fault, &file);
     }
     text
 }

@@ -6,6 +6,7 @@ pub mod drafted;
 pub mod faults;
 pub mod files;
 pub mod inputs;
+pub mod recognised;
 pub mod replacing;
 pub mod saving;
 pub mod source_faults;

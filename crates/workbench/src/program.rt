@@ -14,6 +14,7 @@ use file_requests::sources::{assemble_to, list_from};
 use file_requests::tapes::{declare_from, dump_from, run_from, source_from};
 use program_files::faults::{fault_lines, refusal_lines};
 use program_files::inputs::misused_files;
+use program_files::recognised::hint_line;
 use program_files::telling::{tell, tell_lines, tell_misuse};
 use source_requests::answer_sourced;
 use std::alloc::Global;
@@ -57,7 +58,8 @@ pub fn exit_status<R: Env + Files + Input + Print + Eprint + AllocGlobal>(rt: &R
 }
 
 /// Carries out a command line whose files are none twice, and tells the fault that stops it: first its line, since the file that has it is
-/// looked at once more for those below. Of an answer that is no fault it says what the command doesn't.
+/// looked at once more for those below, of which the last says so if it was given in the place of another. Of an answer that is no fault it
+/// says what the command doesn't.
 fn carry_out<R: Files + Input + Print + Eprint>(
     rt: &R,
     alloc: Global,
@@ -80,6 +82,7 @@ fn carry_out<R: Files + Input + Print + Eprint>(
             if line.explained {
                 tell_lines(rt, &fault_lines(rt, alloc, &fault, &line.request.names()));
             }
+            tell_lines(rt, &hint_line(rt, alloc, &fault, &line.request));
             status
         }
     }

@@ -303,6 +303,34 @@ const SHOW: Argument = Argument {
     help: "writes these cells when the run is over, such as 0324 or 0400-0417; separate several by spaces, or repeat the option",
 };
 
+const UNTIL: Argument = Argument {
+    name: "until",
+    short: None,
+    form: Form::Value("PLACE"),
+    help: "stops the run before the instruction at this octal address; PLACE,N stops it when the run gets there for the N-th time",
+};
+
+const UNTIL_WRITE: Argument = Argument {
+    name: "until-write",
+    short: None,
+    form: Form::Values("R"),
+    help: "stops the run before an instruction that writes one of these cells; R is written as for --show",
+};
+
+const UNTIL_READ: Argument = Argument {
+    name: "until-read",
+    short: None,
+    form: Form::Values("R"),
+    help: "stops the run before an instruction that reads one of these cells as a pointer or an operand; R is written as for --show",
+};
+
+const LAST: Argument = Argument {
+    name: "last",
+    short: None,
+    form: Form::Value("N"),
+    help: "writes a line for each of the last N instructions that are executed, before the summary",
+};
+
 const READS: Argument = Argument {
     name: "reads",
     short: None,
@@ -405,7 +433,7 @@ const VERIFY_ARGUMENTS: [Argument; 10] = [
     WHY_VERIFY,
 ];
 
-const RUN_ARGUMENTS: [Argument; 14] = [
+const RUN_ARGUMENTS: [Argument; 18] = [
     TAPE,
     START,
     ROUNDS,
@@ -418,6 +446,10 @@ const RUN_ARGUMENTS: [Argument; 14] = [
     MARK,
     TELETYPE,
     SWITCHES,
+    UNTIL,
+    UNTIL_WRITE,
+    UNTIL_READ,
+    LAST,
     SHOW,
     WHY_INPUT,
 ];

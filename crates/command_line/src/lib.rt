@@ -26,6 +26,7 @@ pub use promises::{
 };
 pub use refused::{Misuse, Refused};
 pub use requests::{CommandLine, Request, parse_arguments};
+pub use shown::Stopping;
 pub use sourced::{Sourced, Task};
 pub use sources::{AssembleRequest, ListRequest};
 pub use tapes::{DeclareRequest, DumpRequest, RunRequest, SourceRequest};

@@ -3,7 +3,7 @@
 use crate::names::FileNames;
 use crate::outputs::punch_of;
 use crate::refused::{Misuse, Refused};
-use crate::shown::shown_cells;
+use crate::shown::{is_stopped, shown_cells};
 use crate::values::{profile_of, read_standard_input_once, run_options, start_of};
 use clap::ArgMatches;
 use options::{Manner, SessionOptions, TeletypeOptions};
@@ -136,6 +136,9 @@ pub fn session_of<'a>(found: &ArgMatches<'a>) -> Result<Session<'a>, Refused> {
     let keys = found.get_str("keys");
     if found.get_str("events").is_some() {
         return Err(Refused::Misuse(Misuse::EventsAndOperator));
+    }
+    if is_stopped(found) {
+        return Err(Refused::Misuse(Misuse::StopsAndOperator));
     }
     read_standard_input_once(&[tape, reader.unwrap_or(""), keys.unwrap_or("")])?;
     let punch = punch_of(found, &[tape, reader.unwrap_or("-"), keys.unwrap_or("-")])?;

@@ -31,6 +31,18 @@ pub enum Misuse {
     NotText,
     /// The value of `--show` has no cell, or something else than addresses and ranges.
     Show,
+    /// The value of `--until` is not an address, or not an address and a number.
+    Until,
+    /// The value of `--until-write` has no cell, or something else than addresses and ranges.
+    UntilWrite,
+    /// The value of `--until-read` has no cell, or something else than addresses and ranges.
+    UntilRead,
+    /// The value of `--last` is not a number from 1 to 1,000,000.
+    Last,
+    /// The last instructions are to be shown, and all of them too.
+    LastAndTrace,
+    /// A run is to be stopped or its last instructions are to be shown, and it has an operator too.
+    StopsAndOperator,
     /// There are events, and an operator too.
     EventsAndOperator,
     /// A run is to be watched by a list of events, and with an operator too.
@@ -85,6 +97,17 @@ impl Misuse {
                 "an argument is not text in UTF-8: rename the file, or give it on standard input",
             Misuse::Show =>
                 "bad value for '--show': expected octal addresses and ranges, such as 0324 0400-0417",
+            Misuse::Until =>
+                "bad value for '--until': expected an octal address such as 0233, or with a number from 1 to 1000000, such as 0233,4",
+            Misuse::UntilWrite =>
+                "bad value for '--until-write': expected octal addresses and ranges, such as 0324 0400-0417",
+            Misuse::UntilRead =>
+                "bad value for '--until-read': expected octal addresses and ranges, such as 0324 0400-0417",
+            Misuse::Last => "bad value for '--last': expected a number from 1 to 1000000",
+            Misuse::LastAndTrace =>
+                "'--last' cannot be combined with '--trace', which writes all instructions",
+            Misuse::StopsAndOperator =>
+                "'--until', '--until-write', '--until-read' and '--last' cannot be combined with the options for the reader, the punch, the teletype and the switches",
             Misuse::EventsAndOperator =>
                 "'--events' cannot be combined with the options for the reader, the punch, the teletype and the switches",
             Misuse::ListAndOperator =>

@@ -3,6 +3,7 @@
 use crate::names::FileNames;
 use crate::outputs::{Destination, kept_destination, no_input, no_source};
 use crate::refused::{Misuse, Refused};
+use crate::shown::{Stopping, stopping_of};
 use crate::values::{
     declare_options, is_start_named, profile_of, read_standard_input_once, run_options, start_of,
 };
@@ -20,6 +21,8 @@ pub struct RunRequest<'a> {
     pub events: Option<&'a str>,
     /// How it is run.
     pub options: RunOptions,
+    /// How it is followed, if it may be stopped.
+    pub stopping: Option<Stopping>,
 }
 
 impl<'a> RunRequest<'a> {
@@ -42,6 +45,7 @@ pub(crate) fn run_request<'a>(found: &ArgMatches<'a>) -> Result<RunRequest<'a>, 
         tape,
         events,
         options: run_options(found)?,
+        stopping: stopping_of(found)?,
     })
 }
 

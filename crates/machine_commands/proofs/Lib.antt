@@ -8,3 +8,7 @@ pub mod WatchedSessionLemmas
 pub mod HeldLemmas
 pub mod TypistLemmas
 pub mod TeletypeLemmas
+pub mod StopLemmas
+pub mod StoppingLemmas
+pub mod StopLawLemmas
+pub mod LastLemmas

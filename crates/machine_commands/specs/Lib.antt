@@ -3,6 +3,10 @@ pub mod Follows
 pub mod Summary
 pub mod Course
 pub mod Running
+pub mod Stops
+pub mod Stopping
+pub mod StopLaws
+pub mod Last
 pub mod WatchText
 pub mod RefuteText
 pub mod Session

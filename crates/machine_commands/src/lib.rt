@@ -3,6 +3,8 @@
 #![tactic(auto)]
 
 pub mod follow;
+pub mod last;
+pub mod laws;
 pub mod messages;
 mod progress;
 pub mod refuting;
@@ -10,6 +12,8 @@ pub mod running;
 mod schedule;
 pub mod session;
 mod shown;
+pub mod stopping;
+mod stops;
 pub mod summary;
 pub mod teletype;
 mod trace;

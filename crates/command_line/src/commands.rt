@@ -228,6 +228,13 @@ const ROUNDS: Argument = Argument {
     help: "the maximum number of rounds; 100000 without it",
 };
 
+const CONTINUE: Argument = Argument {
+    name: "continue",
+    short: None,
+    form: Form::Value("N"),
+    help: "presses CONTINUE at declared pauses, at most N times, and writes how far the run got",
+};
+
 const EVENTS_FILE: Argument = Argument {
     name: "events",
     short: None,
@@ -452,7 +459,7 @@ const SOURCE_ARGUMENTS: [Argument; 8] = [
     WHY_INPUT,
 ];
 
-const WATCH_ARGUMENTS: [Argument; 11] = [
+const WATCH_ARGUMENTS: [Argument; 12] = [
     TAPE_OR_SOURCE,
     DECLARATION_OR_SOURCE,
     EVENTS,
@@ -462,6 +469,7 @@ const WATCH_ARGUMENTS: [Argument; 11] = [
     MARK,
     SWITCHES,
     ROUNDS,
+    CONTINUE,
     SHOW,
     WHY_WATCH,
 ];

@@ -47,6 +47,8 @@ pub enum Misuse {
     PunchToOutput,
     /// The value of `--seed` is not a number from 0 to 99,999,999.
     Seed,
+    /// The value of `--continue` is not a number from 1 to 1,000,000.
+    Continue,
     /// The value of `--profile` is neither `8i` nor `8e`.
     Profile,
     /// Two inputs are to come from standard input.
@@ -98,6 +100,7 @@ impl Misuse {
                 "EVENTS is missing, or an option that takes its place, such as '--steps 1000'",
             Misuse::PunchToOutput => "'--punch' needs the name of a file",
             Misuse::Seed => "bad value for '--seed': expected a number from 0 to 99999999",
+            Misuse::Continue => "bad value for '--continue': expected a number from 1 to 1000000",
             Misuse::Profile => "bad value for '--profile': expected 8i or 8e",
             Misuse::BothStandardInput => "'-' can stand for standard input in only one place",
             Misuse::OutputIsInput => "OUT is also an input: the result needs a file of its own",

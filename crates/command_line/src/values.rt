@@ -14,6 +14,9 @@ const ROUNDS: u32 = 100_000;
 /// The most rounds that may be asked for.
 const MOST_ROUNDS: u32 = 1_000_000;
 
+/// How often CONTINUE may be pressed at most.
+const MOST_CONTINUES: u32 = 1_000_000;
+
 /// How many steps a search for a run makes without `--steps`.
 const SEARCH_STEPS: u32 = 20_000_000;
 
@@ -52,6 +55,17 @@ fn rounds_of(found: &ArgMatches<'_>) -> Result<u32, Refused> {
         Some(text) => {
             decimal_between(1, MOST_ROUNDS, text.as_bytes()).ok_or(Refused::Steps(MOST_ROUNDS))
         }
+    }
+}
+
+/// How often CONTINUE is pressed at declared pauses at most, if it may be.
+pub(crate) fn continues_of(found: &ArgMatches<'_>) -> Result<Option<u32>, Refused> {
+    match found.get_str("continue") {
+        None => Ok(None),
+        Some(text) => match decimal_between(1, MOST_CONTINUES, text.as_bytes()) {
+            Some(times) => Ok(Some(times)),
+            None => Err(Refused::Misuse(Misuse::Continue)),
+        },
     }
 }
 

@@ -129,6 +129,7 @@ pub fn watch_joined<R: Files + Input + Print>(
         &mut reader,
         &mut keys,
         session.options,
+        session.continues,
         session.explained,
         &mut out,
     )

@@ -7,6 +7,7 @@ pub mod WatchText
 pub mod RefuteText
 pub mod Session
 pub mod SessionParts
+pub mod Continued
 pub mod WatchedSession
 pub mod Schedule
 pub mod Typing

@@ -2,6 +2,7 @@
 //! run that breaks its declaration.
 #![tactic(auto)]
 
+mod continuing;
 pub mod follow;
 pub mod messages;
 mod progress;

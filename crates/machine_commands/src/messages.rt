@@ -8,11 +8,13 @@ ghost use Rattle.peripherals.specs.Loading.{image_of};
 ghost use Rattle.refuter.specs.Witnesses.{Breaks, IsLast, IsSpelled};
 ghost use Rattle.command_parts.specs.Answers.{IsMemoryFault};
 ghost use Rattle.command_parts.specs.Messages.{plain};
+ghost use Rattle.machine_commands.specs.Continued.{IsContinuedWatch, IsToldHowFar};
 ghost use Rattle.machine_commands.specs.RefuteText.{IsRefutationOf, IsWitnessOf, unbroken_text};
 ghost use Rattle.machine_commands.specs.Session.{plan_for};
 ghost use Rattle.machine_commands.specs.WatchText.{IsTold, IsToldWithCells, IsWatchOf, broken_text, watched_status, watched_text};
 ghost use Rattle.machine_commands.specs.WatchedSession.{IsPlanWatchedSo};
 
+use crate::continuing::{continued_events_of, how_far_line};
 use crate::progress::{Offered, offered_by, progress_lines};
 use crate::schedule::events_of;
 use crate::shown::shown_of;
@@ -90,7 +92,10 @@ fn broken_line<A: Allocator>(alloc: A, event: usize, rule: Rule) -> Result<Vec<u
 }
 
 /// The line that says what was seen.
-fn watched_line<A: Allocator>(alloc: A, watched: Watched) -> Result<Vec<u8, A>, AllocError>
+pub(crate) fn watched_line<A: Allocator>(
+    alloc: A,
+    watched: Watched,
+) -> Result<Vec<u8, A>, AllocError>
     ensures { IfOk result (λ text. text.items ≡ watched_text watched) }
 {
     match watched {
@@ -249,7 +254,72 @@ pub fn watch_message<A: Allocator + Copy, D: Allocator>(
     watch_offered(alloc, image, declaration, events, offered, explained, show)
 }
 
-/// What `watch` tells of a run with an operator, by the frames in the reader and the keys to strike.
+/// What is told of a run that goes on at declared pauses: how far it went or the rule that is broken, and behind it, if it
+/// is to be explained, more about that, and the cells that are to be shown.
+fn continued_lines<A: Allocator + Copy, D: Allocator>(
+    alloc: A,
+    image: &Image,
+    declaration: &Declaration<D>,
+    events: &[Event],
+    offered: Offered,
+    watched: Watched,
+    continues: u32,
+    explained: bool,
+    show: &WordSet,
+) -> Result<Message<A>, NoMemory>
+    ensures { IfOk result (λ text. IsToldHowFar continues image.now (meaning declaration.now) events.now
+        watched explained (words show.now) (plain text)) }
+{
+    let line = how_far_line(alloc, image, declaration, events, watched, continues)?;
+    let mut text = Message::of(alloc, line);
+    let why = why_of(
+        alloc,
+        image,
+        declaration,
+        events,
+        offered,
+        watched,
+        explained,
+    )?;
+    text.push_message(&why)?;
+    let shown = shown_of(alloc, image, declaration, events, watched, show)?;
+    text.push_text(&shown)?;
+    Ok(text)
+}
+
+/// What is told of the events of a run that goes on at declared pauses.
+fn watch_continued<A: Allocator + Copy, D: Allocator>(
+    alloc: A,
+    image: &Image,
+    declaration: &Declaration<D>,
+    events: &[Event],
+    offered: Offered,
+    continues: u32,
+    explained: bool,
+    show: &WordSet,
+) -> Result<RunMessage<A>, Fault>
+    ensures told { IfOk result (λ run. IsContinuedWatch continues explained (words show.now) image.now
+        (meaning declaration.now) events.now run.status (plain run.told)) }
+    ensures faults { IfErr result IsMemoryFault }
+{
+    let watched = policy::watch(alloc, image, declaration, &Start::zero(), events)?;
+    let told = continued_lines(
+        alloc,
+        image,
+        declaration,
+        events,
+        offered,
+        watched,
+        continues,
+        explained,
+        show,
+    )?;
+    let status = watched_status(watched);
+    Ok(RunMessage { told, status })
+}
+
+/// What `watch` tells of a run with an operator, by the frames in the reader and the keys to strike. With a number of
+/// times the operator presses CONTINUE at declared pauses, at most so many times.
 ///
 /// # Errors
 ///
@@ -262,10 +332,11 @@ pub fn watch_session_message<A: Allocator + Copy, D: Allocator>(
     frames: &[u8],
     keys: &[u8],
     options: &SessionOptions,
+    continues: Option<u32>,
     explained: bool,
 ) -> Result<RunMessage<A>, Fault>
-    ensures told { IfOk result (λ run. IsPlanWatchedSo (plan_for options.now frames.now keys.now)
-        image.now (meaning declaration.now) explained (words options.now.run.show) (plain run.told)
+    ensures told { IfOk result (λ run. IsPlanWatchedSo continues
+        (plan_for options.now frames.now keys.now) image.now (meaning declaration.now) explained (words options.now.run.show) (plain run.told)
         run.status) }
     ensures faults { IfErr result IsMemoryFault }
 {
@@ -283,13 +354,30 @@ pub fn watch_session_message<A: Allocator + Copy, D: Allocator>(
         &Start::zero(),
         declaration.profile(),
     );
-    let events = events_of(alloc, &mut world, &mut operator)?;
     let offered = Offered {
         frames: frames.len(),
         keys: keys.len(),
     };
     let show = &options.run.show;
-    watch_offered(alloc, image, declaration, &events, offered, explained, show)
+    match continues {
+        None => {
+            let events = events_of(alloc, &mut world, &mut operator)?;
+            watch_offered(alloc, image, declaration, &events, offered, explained, show)
+        }
+        Some(times) => {
+            let events = continued_events_of(alloc, &mut world, &mut operator, declaration, times)?;
+            watch_continued(
+                alloc,
+                image,
+                declaration,
+                &events,
+                offered,
+                times,
+                explained,
+                show,
+            )
+        }
+    }
 }
 
 /// The text of the events of a run that breaks the declaration, and what is told of it.

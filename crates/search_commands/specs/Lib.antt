@@ -5,3 +5,5 @@ pub mod Extending
 pub mod CompleteText
 pub mod StuckText
 pub mod VerifyText
+pub mod WidenedText
+pub mod WidenedSearch

@@ -20,6 +20,7 @@ use Rattle.search_commands.specs.declared.verifying.Lack.TheVariants.{Stuck, Tur
 use Rattle.search_commands.specs.declared.verifying.Answer.{Answer}
 use Rattle.search_commands.specs.declared.verifying.Answer.TheVariants.{Yes, No, NotKnown}
 use Rattle.search_commands.specs.declared.verifying.Proposed.{Proposed}
+use Rattle.search_commands.specs.WidenedText.{HasReason, reason_text}
 
 -- The answer is true of a tape's words and a declaration. After a yes every condition holds of the certificate, and so no
 -- run of the program breaks the declaration. After a no the run breaks it: its last event is the first step that isn't
@@ -66,13 +67,18 @@ abbrev pub IsVerified : {A : Type 0} → Option (List ℕ) → Option (List ℕ)
 IsVerified frames text explained answer told = OfProgram frames text (IsVerifiedOf explained) answer told
 
 -- The text that is proposed declares a program that starts where it was asked to, on the machine that was asked for; the answer
--- is true of the words and of what is declared, and this is told of it.
+-- is true of the words and of what is declared. Its line is told, behind a no why no declaration allows what the run does, and
+-- behind that, only where it is to be explained, some lines more, of which nothing is said here.
 pub record IsProposedAnswerOf {A : Type 0} (options : VerifyOptions) (image : List (Option ℕ)) (p : Proposed A) (told : List ℕ) : Type 0 where
   pub declaration : Declaration
   pub declares : Declares p.text.items declaration
   pub start_is : declaration.start ≡ options.start
   pub profile_is : declaration.profile ≡ options.profile
-  pub is : IsVerifiedOf options.search.explained image declaration p.answer told
+  pub answers : IsAnswer image declaration p.answer
+  pub reason : HasReason p.answer p.obstacle
+  pub why : List ℕ
+  pub plain : options.search.explained ≡ false → why ≡ []
+  pub told_is : told ≡ (answer_text declaration p.answer ++ reason_text p.obstacle) ++ why
 
 -- The frames are a tape, and this is told of such an answer for it.
 pub record IsProposedAnswer {A : Type 0} (options : VerifyOptions) (frames : Option (List ℕ)) (p : Proposed A) (told : List ℕ) : Type 0 where

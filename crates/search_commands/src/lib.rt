@@ -10,3 +10,4 @@ mod merging;
 pub mod messages;
 pub mod stuck;
 pub mod verifying;
+mod widening;

@@ -10,12 +10,12 @@ ghost use Rattle.command_parts.specs.Answers.{IsMemoryFault, ReadsTwo};
 ghost use Rattle.command_parts.specs.Faults.{fails_to_write};
 ghost use Rattle.command_parts.specs.Inputs.{HasDeclaration, HasImage, input};
 ghost use Rattle.command_parts.specs.Messages.{plain};
-ghost use Rattle.proposer.specs.Proposals.{IsShown};
 ghost use Rattle.search_commands.specs.SearchFaults.{IsProposeFault, IsSearchFault};
 ghost use Rattle.search_commands.specs.VerifyText.{IsAnswer, IsProposedAnswerOf, IsVerifiedOf, answer_text, lack_text, no_text};
 
 use crate::stuck::draft_message;
 use crate::verifying::{Answer, Lack, MOST_TURNS, Proposed, RefuteOptions, VerifyOptions, lack_of};
+use crate::widening::{Settled, settle, with_reason};
 use analyser::{Attempt, GuessFault, guess, guess_or_draft};
 use bin_tape::Image;
 use certificate::Certificate;
@@ -26,7 +26,7 @@ use command_parts::text::push_place;
 use declaration::Declaration;
 use itoa::Buffer;
 use policy::{Rule, Watched};
-use proposer::{Proposal, Verdict, propose};
+use proposer::propose;
 use refuter::{Witness, refute_within};
 use std::alloc::{AllocError, Allocator};
 use streams::ByteSource;
@@ -240,32 +240,6 @@ fn answer_with_draft<A: Allocator + Copy, D: Allocator>(
     }
 }
 
-/// The answer for a declaration that was proposed with this verdict.
-fn answer_by<A: Allocator + Copy>(
-    alloc: A,
-    image: &Image,
-    declaration: &Declaration<A>,
-    verdict: Verdict<A>,
-    options: &RefuteOptions,
-) -> Result<Searched<A>, Fault>
-    requires { IsShown image.now declaration.now verdict }
-    ensures answer { IfOk result (λ found.
-        IsAnswer image.now (meaning declaration.now) found.answer) }
-    ensures faults { IfErr result IsMemoryFault }
-{
-    let lack = match verdict {
-        Verdict::Safe(certificate) => {
-            return Ok(Searched {
-                answer: Answer::Yes(certificate),
-                draft: None,
-            });
-        }
-        Verdict::Stuck(at) => Lack::Stuck(at),
-        Verdict::TurnsSpent => Lack::TurnsSpent,
-    };
-    answer_on(alloc, image, declaration, options, lack, None)
-}
-
 /// The line that says why it is not known.
 fn lack_line<A: Allocator>(alloc: A, lack: Lack) -> Result<Vec<u8, A>, AllocError>
     ensures { IfOk result (λ text. text.items ≡ lack_text lack) }
@@ -391,6 +365,8 @@ fn message_of<A: Allocator + Copy, D: Allocator>(
         told.answer (told.line.items ++ plain told.why)) }
     ensures line { IfOk result (λ told.
         told.line.items ≡ answer_text (meaning declaration.now) told.answer) }
+    ensures same { IfOk result (λ told. told.answer ≡ found.answer) }
+    ensures plain { IfOk result (λ told. explained ≡ false → plain told.why ≡ []) }
     ensures faults { IfErr result IsMemoryFault }
 {
     let line = answer_line(alloc, declaration, &found.answer)?;
@@ -451,13 +427,17 @@ pub fn verify_proposed_message<A: Allocator + Copy>(
 {
     let mut turns = Turns::new(MOST_TURNS);
     let proposal = propose(alloc, image, options.start, options.profile, &mut turns)?;
-    let Proposal {
+    let last = settle(alloc, image, proposal, &options.search, &mut turns)?;
+    let Settled {
         declaration,
         text,
-        verdict,
-        ..
-    } = proposal;
-    let found = answer_by(alloc, image, &declaration, verdict, &options.search)?;
+        answer,
+        obstacle,
+    } = last;
+    let found = Searched {
+        answer,
+        draft: None,
+    };
     let told = message_of(alloc, image, &declaration, found, options.search.explained)?;
     let AnswerMessage {
         answer,
@@ -465,9 +445,14 @@ pub fn verify_proposed_message<A: Allocator + Copy>(
         why,
         ..
     } = told;
+    let lines = with_reason(alloc, line, obstacle)?;
     Ok(ProposalMessage {
-        proposed: Proposed { text, answer },
-        line,
+        proposed: Proposed {
+            text,
+            answer,
+            obstacle,
+        },
+        line: lines,
         why,
     })
 }

@@ -141,6 +141,7 @@ pub fn watch_session_with_reasons<R: Files + Input + Print>(
         &frames,
         &struck,
         options,
+        session.continues,
         true,
     )?;
     tell_sourced(rt, alloc, source, &watched.told)?;

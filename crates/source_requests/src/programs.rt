@@ -203,6 +203,7 @@ pub fn watch_session_program<R: Files + Input + Print>(
         &mut reader,
         &mut keys,
         session.options,
+        session.continues,
         false,
         &mut out,
     )

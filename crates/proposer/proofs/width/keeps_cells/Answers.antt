@@ -1,7 +1,7 @@
 use Rattle.declaration.specs.Kept.{meaning}
 use Rattle.analyser.proofs.DraftLemmas.{one_more}
-use Rattle.search_commands.specs.Extending.{KeepsCell}
-use Rattle.search_commands.proofs.extending.keeps_cells.Goals as goal
+use Rattle.proposer.specs.Widths.{KeepsCell}
+use Rattle.proposer.proofs.width.keeps_cells.Goals as goal
 
 pub loop-index-preserved : goal.loop-index-preserved
 loop-index-preserved g c =

@@ -7,3 +7,4 @@ pub mod outcome;
 pub mod programs;
 pub mod status;
 pub mod text;
+pub mod visible;

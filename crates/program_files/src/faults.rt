@@ -5,6 +5,7 @@ use crate::files::{is_read_once, open_input};
 use crate::source_faults::{NO_WORD, output_name};
 use command_line::{FileNames, Request};
 use command_parts::status::{DeviceFault, Fault};
+use command_parts::visible::visible_text;
 use declaration::DeclarationFault;
 use explanations::push_advice;
 use fault_texts::{FaultyFile, push_fault};
@@ -17,6 +18,9 @@ use turns::{GuessFault, ProposeFault};
 /// What is said about a run that ends at a word that the machine does not have.
 const UNSUPPORTED: &str =
     "the machine does not implement the word there\nwhat to do: look at it with `pdp8 dump`; a word of the PDP-8/E needs --profile 8e; otherwise execution ran into data\n";
+
+/// What is said about an output after its name.
+const UNWRITTEN: &str = "cannot be created or written";
 
 /// How much of a file is looked at: a byte more than any input may have.
 const MOST: usize = 1_048_577;
@@ -88,9 +92,12 @@ fn input_lines<R: Files + Input>(
     if is_read_once(rt, name) {
         return text;
     }
+    let Ok(shown) = visible_text(alloc, name) else {
+        return text;
+    };
     if let Ok(bytes) = bytes_of(rt, alloc, name) {
         let file = FaultyFile {
-            name,
+            name: &shown,
             bytes: &bytes,
         };
         let _ = push_fault(&mut text, *fault, &file);
@@ -103,26 +110,28 @@ fn input_lines<R: Files + Input>(
 fn line_of(alloc: Global, name: Option<&str>, said: &str) -> String {
     let mut text = String::new(alloc);
     if let Some(name) = name {
-        let _ = writeln!(text, "{name} {said}");
+        if let Ok(shown) = visible_text(alloc, name) {
+            let _ = writeln!(text, "{shown} {said}");
+        }
     }
     text
 }
 
 /// The line on an output that cannot be created or written; where there are two it is one of them.
 fn unwritten_line(alloc: Global, names: &FileNames<'_>) -> String {
-    let mut text = String::new(alloc);
     let Some(output) = names.output else {
-        return text;
+        return String::new(alloc);
     };
     let first = output_name(output);
-    let _ = match names.second_output {
+    match names.second_output {
         Some(other) if other != output => {
             let second = output_name(other);
-            writeln!(text, "{first} or {second} cannot be created or written")
+            let mut both = String::new(alloc);
+            let _ = write!(both, "{first} or {second}");
+            line_of(alloc, Some(&both), UNWRITTEN)
         }
-        _ => writeln!(text, "{first} cannot be created or written"),
-    };
-    text
+        _ => line_of(alloc, Some(first), UNWRITTEN),
+    }
 }
 
 /// The lines on a fault that lies in no line of a file: what it means and what to do.

@@ -6,6 +6,7 @@ use crate::source_faults::tell_of;
 use crate::telling::tell;
 use command_line::{CERTIFICATE_ENDING, DECLARATION_ENDING, EVENTS_ENDING, Save};
 use command_parts::status::{DeviceFault, Fault, Status};
+use command_parts::visible::visible_text;
 use search_commands::verifying::{Answer, Proposed, answer_status};
 use std::alloc::Global;
 use std::rt::Files;
@@ -71,7 +72,10 @@ pub struct Saving<'a> {
 }
 
 /// Tells that a file stays as it is, since it was not written by the command.
-fn tell_kept<R: Eprint>(rt: &R, path: &str) -> Status {
+fn tell_kept<R: Eprint>(rt: &R, alloc: Global, path: &str) -> Status {
+    let Ok(path) = visible_text(alloc, path) else {
+        return Status::Usage;
+    };
     let told = eprintln!(rt;
         "error: {path} is a file that this command did not write, so it is kept: give another '--save NAME', or use --force to replace it"
     );
@@ -81,9 +85,15 @@ fn tell_kept<R: Eprint>(rt: &R, path: &str) -> Status {
 }
 
 /// Tells that a file cannot be written, and which one, if that is asked for.
-fn tell_unwritten<R: Eprint>(rt: &R, fault: Fault, path: &str, explained: bool) -> Status {
+fn tell_unwritten<R: Eprint>(
+    rt: &R,
+    alloc: Global,
+    fault: Fault,
+    path: &str,
+    explained: bool,
+) -> Status {
     if explained {
-        tell_of(rt, fault, path, "cannot be created or written")
+        tell_of(rt, alloc, fault, path, "cannot be created or written")
     } else {
         tell(rt, fault)
     }
@@ -101,12 +111,12 @@ fn save_all<R: Files + Input + Eprint>(
     let forced = saving.save.is_some_and(|save| save.forced);
     for it in saved {
         if !forced && it.is_foreign(rt, alloc) {
-            return tell_kept(rt, &it.path);
+            return tell_kept(rt, alloc, &it.path);
         }
     }
     for it in saved {
         if let Err(fault) = it.write(rt, alloc) {
-            return tell_unwritten(rt, fault, &it.path, saving.explained);
+            return tell_unwritten(rt, alloc, fault, &it.path, saving.explained);
         }
     }
     status

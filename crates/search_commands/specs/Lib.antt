@@ -7,3 +7,4 @@ pub mod StuckText
 pub mod VerifyText
 pub mod WidenedText
 pub mod WidenedSearch
+pub mod Laws

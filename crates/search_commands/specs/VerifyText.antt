@@ -1,5 +1,5 @@
 -- What `verify` says, and when it is true.
-use Rattle.std.specs.Prelude.{ℕ, ◌≡◌, ◌++◌, ⊤, Bool, false, codes, decimal, List, [], Option}
+use Rattle.std.specs.Prelude.{ℕ, ◌≡◌, ◌++◌, ⊤, Bool, false, codes, decimal, drop, List, [], Option}
 use Rattle.word12.specs.Words.{octal_text}
 use Rattle.peripherals.specs.Loading.{image_of}
 use Rattle.declaration.specs.Declaration.{Declaration}
@@ -45,22 +45,29 @@ answer_text d (Yes c) = yes_text d
 answer_text d (No w) = no_text w.event w.rule
 answer_text d (NotKnown lack) = lack_text lack
 
+-- The line of an answer about a declaration that is proposed, made of the line of the same answer about one that is given. A
+-- yes says in place of its first word that it is about the proposal, so nobody takes it for a yes about a declaration of
+-- their own; the other lines are the same.
+abbrev pub proposed_text : {A : Type 0} → Answer A → List ℕ → List ℕ
+proposed_text (Yes c) line = codes "yes, of the declaration proposed" ++ drop 3 line
+proposed_text _ line = line
+
 -- Only a yes is done.
 abbrev pub answer_status : {A : Type 0} → Answer A → Status
 answer_status (Yes c) = Done
 answer_status _ = Refused
 
--- What is told of an answer: its line, and behind it, only where it is to be explained, some lines more, of which nothing is
--- said here.
-pub record IsTold {A : Type 0} (d : Declaration) (answer : Answer A) (explained : Bool) (told : List ℕ) : Type 0 where
+-- What is told of an answer with this line: the line comes first and as it is, and behind it stand, only where the answer is
+-- to be explained, some lines more, of which nothing is said here.
+pub record IsTold (line : List ℕ) (explained : Bool) (told : List ℕ) : Type 0 where
   pub why : List ℕ
   pub plain : explained ≡ false → why ≡ []
-  pub told_is : told ≡ answer_text d answer ++ why
+  pub told_is : told ≡ line ++ why
 
 -- The answer is true of a tape's words and a declaration, and this is told of it.
 pub record IsVerifiedOf {A : Type 0} (explained : Bool) (image : List (Option ℕ)) (declaration : Declaration) (answer : Answer A) (told : List ℕ) : Type 0 where
   pub answers : IsAnswer image declaration answer
-  pub is : IsTold declaration answer explained told
+  pub is : IsTold (answer_text declaration answer) explained told
 
 -- The frames are a tape and the text is that of a declaration; the answer is true of them, and this is told of it.
 abbrev pub IsVerified : {A : Type 0} → Option (List ℕ) → Option (List ℕ) → Bool → Answer A → List ℕ → Type 0
@@ -76,9 +83,7 @@ pub record IsProposedAnswerOf {A : Type 0} (options : VerifyOptions) (image : Li
   pub profile_is : declaration.profile ≡ options.profile
   pub answers : IsAnswer image declaration p.answer
   pub reason : HasReason p.answer p.obstacle
-  pub why : List ℕ
-  pub plain : options.search.explained ≡ false → why ≡ []
-  pub told_is : told ≡ (answer_text declaration p.answer ++ reason_text p.obstacle) ++ why
+  pub is : IsTold (proposed_text p.answer (answer_text declaration p.answer) ++ reason_text p.obstacle) options.search.explained told
 
 -- The frames are a tape, and this is told of such an answer for it.
 pub record IsProposedAnswer {A : Type 0} (options : VerifyOptions) (frames : Option (List ℕ)) (p : Proposed A) (told : List ℕ) : Type 0 where

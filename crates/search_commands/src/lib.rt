@@ -6,6 +6,7 @@ pub mod completing;
 pub mod declaring;
 mod extending;
 pub mod guessing;
+pub mod laws;
 mod merging;
 pub mod messages;
 pub mod stuck;

@@ -11,7 +11,7 @@ ghost use Rattle.command_parts.specs.Faults.{fails_to_write};
 ghost use Rattle.command_parts.specs.Inputs.{HasDeclaration, HasImage, input};
 ghost use Rattle.command_parts.specs.Messages.{plain};
 ghost use Rattle.search_commands.specs.SearchFaults.{IsProposeFault, IsSearchFault};
-ghost use Rattle.search_commands.specs.VerifyText.{IsAnswer, IsProposedAnswerOf, IsVerifiedOf, answer_text, lack_text, no_text};
+ghost use Rattle.search_commands.specs.VerifyText.{IsAnswer, IsProposedAnswerOf, IsVerifiedOf, answer_text, lack_text, no_text, proposed_text};
 
 use crate::stuck::draft_message;
 use crate::verifying::{Answer, Lack, MOST_TURNS, Proposed, RefuteOptions, VerifyOptions, lack_of};
@@ -282,6 +282,25 @@ fn answer_line<A: Allocator + Copy, D: Allocator>(
     }
 }
 
+/// The line of an answer about a declaration that is proposed, by its line about one that is given.
+fn proposed_line<A: Allocator + Copy>(
+    alloc: A,
+    answer: &Answer<A>,
+    line: &[u8],
+) -> Result<Vec<u8, A>, AllocError>
+    ensures { IfOk result (λ text. text.items ≡ proposed_text answer.now line.now) }
+{
+    let mut text = Vec::new(alloc);
+    match answer {
+        Answer::Yes(_) => {
+            text.extend_from_slice(b"yes, of the declaration proposed")?;
+            text.extend_from_slice(line.get(3..).unwrap_or(b""))?;
+        }
+        _ => text.extend_from_slice(line)?,
+    }
+    Ok(text)
+}
+
 /// What the search for a certificate lacks, by what it had found: the lines of `guess --why` after its first one.
 fn lacking_message<A: Allocator + Copy, D: Allocator>(
     alloc: A,
@@ -445,6 +464,7 @@ pub fn verify_proposed_message<A: Allocator + Copy>(
         why,
         ..
     } = told;
+    let line = proposed_line(alloc, &answer, &line)?;
     let lines = with_reason(alloc, line, obstacle)?;
     Ok(ProposalMessage {
         proposed: Proposed {

@@ -4,6 +4,7 @@
 use crate::programs::SourceText;
 use command_parts::inputs::declaration_from;
 use command_parts::status::Fault;
+use command_parts::visible::visible_bytes;
 use declaration::Declaration;
 use labels::{NumberingFault, PlaceFault, machine_of, place};
 use pal_acts::{PlacedWord, SourcePlace};
@@ -20,6 +21,8 @@ pub struct AssembledSource<'x> {
     pub map: SourceMap<Global>,
     /// What it says about each address.
     pub notes: SourceNotes<Global>,
+    /// Its parts.
+    pub parts: &'x [&'x [u8]],
     /// The names of its parts.
     pub names: &'x [&'x str],
     /// The declaration's text in numbers.
@@ -69,14 +72,14 @@ fn note_words<'w>(
     Ok(rest)
 }
 
-/// What a source says about its addresses.
+/// What a source says about its addresses, as it may be shown to people.
 fn notes_of(alloc: Global, map: &SourceMap<Global>) -> Result<SourceNotes<Global>, AllocError> {
     let mut notes = SourceNotes::new(alloc)?;
     let mut rest = map.words();
     for line in map.lines() {
         let SourcePlace { part, line: number } = line.place;
         let place = LinePlace { part, line: number };
-        notes.next_line(place, map.text(line))?;
+        notes.next_line(place, visible_bytes(alloc, map.text(line))?.as_bytes())?;
         rest = note_words(&mut notes, line.place, rest)?;
     }
     Ok(notes)
@@ -113,6 +116,7 @@ pub fn assembled<'x>(
     Ok(AssembledSource {
         map,
         notes,
+        parts: given.parts,
         names: given.names,
         numbers,
     })

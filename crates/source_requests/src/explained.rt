@@ -75,7 +75,7 @@ pub fn verify_alone_with_reasons<R: Files + Input + Print + Eprint>(
     let mut told = Message::of(alloc, found.line);
     told.push_message(&found.why)?;
     let lines = with_source_lines(alloc, source, &told)?;
-    tell_proposed(rt);
+    tell_proposed(rt, source.parts);
     put(&mut Writes::new(io::writer(rt)), &lines)?;
     let saving = Saving {
         save,

@@ -14,11 +14,13 @@ use crate::spots::{Spot, behind_lines, line_counts, line_of, on_line, spot_of};
 use crate::wordless::number_for;
 use command_line::{Destination, Save, Sourced, Task, WatchedSession};
 use command_parts::status::{Fault, Status};
+use command_parts::visible::visible_text;
 use declaration::DeclarationFault;
 use fault_texts::{FaultyFile, push_fault};
 use labels::Numbered;
 use machine_commands::refuting::RefuteOptions;
 use pal_text::{Ending, statements};
+use program_files::source_faults::{lend_names, visible_names};
 use program_files::telling::tell_with;
 use search_commands::verifying::VerifyOptions;
 use source_verdicts::SourcedFault;
@@ -36,7 +38,7 @@ fn verified<R: Files + Input + Print + Eprint>(
     options: &VerifyOptions,
 ) -> Result<Status, SourcedFault> {
     match source.promise {
-        Promise::Proposed => Ok(verify_alone(rt, alloc, numbered, save, options)?),
+        Promise::Proposed => Ok(verify_alone(rt, alloc, source, numbered, save, options)?),
         _ => verify_program(rt, alloc, source, save, options),
     }
 }
@@ -194,19 +196,17 @@ fn done_with<R: Files + Input + Print + Eprint>(
 }
 
 /// The lines on a fault of a declaration within a source, of which the line stands there.
-fn within_lines<'x>(
-    alloc: Global,
-    fault: &DeclarationFault,
-    spot: &Spot<'x>,
-    text: &'x [u8],
-) -> String {
+fn within_lines(alloc: Global, fault: &DeclarationFault, spot: &Spot<'_>, text: &[u8]) -> String {
     let behind = line_of(*fault).saturating_sub(spot.line);
     let shown = Fault::Declared(on_line(*fault, spot.line));
+    let mut told = String::new(alloc);
+    let Ok(name) = visible_text(alloc, spot.name) else {
+        return told;
+    };
     let file = FaultyFile {
-        name: spot.name,
+        name: &name,
         bytes: behind_lines(text, behind),
     };
-    let mut told = String::new(alloc);
     let _ = push_fault(&mut told, shown, &file);
     told
 }
@@ -261,7 +261,8 @@ fn answer_given<R: Files + Input + Print + Eprint>(
     let slices = lend(alloc, &given.parts)?;
     match done_with(rt, alloc, &slices, given, sourced) {
         Ok(status) => {
-            tell_unread(rt, alloc, &sourced.sources, &slices);
+            let shown = visible_names(alloc, &sourced.sources)?;
+            tell_unread(rt, alloc, &lend_names(alloc, &shown)?, &slices);
             Ok(status)
         }
         Err(SourcedFault::Numbering(fault)) => tell_refused(

@@ -3,6 +3,7 @@
 use crate::spots::{Spot, behind_lines, line_counts, spot_of};
 use command_line::{Misuse, Sourced, Task};
 use command_parts::status::{Fault, Status};
+use command_parts::visible::visible_text;
 use fault_texts::{FaultyFile, push_numbered};
 use instruct::Profile;
 use labels::{NumberingFault, PlaceFault, declared_lines};
@@ -209,8 +210,15 @@ fn tell_placing<R: Eprint>(
     if !explained || told.is_err() {
         return Status::Refused;
     }
+    let Ok(name) = visible_text(alloc, spot.name) else {
+        return Status::Refused;
+    };
+    let shown = Spot {
+        name: &name,
+        line: spot.line,
+    };
     let mut lines = String::new(alloc);
-    let _ = push_placing(&mut lines, fault, spot, text);
+    let _ = push_placing(&mut lines, fault, &shown, text);
     tell_lines(rt, &lines);
     Status::Refused
 }
@@ -289,7 +297,7 @@ pub fn read_all<R: Files + Input + Eprint>(
             return Err(fault);
         }
         let name = unopened(&sourced.sources, parts.len());
-        return Ok(Prepared::Told(tell_of(rt, fault, name, "cannot be opened or read")));
+        return Ok(Prepared::Told(tell_of(rt, alloc, fault, name, "cannot be opened or read")));
     }
     let Promised { text, promise } = given_declaration(rt, alloc, sourced, &parts)?;
     if is_asked_twice(&sourced.task, promise) {

@@ -5,6 +5,7 @@ ghost use Rattle.std.specs.Prelude.{◌≤◌};
 use clap::Error;
 use command_line::{CommandLine, Misuse, Refused, Request, parse_arguments};
 use command_parts::status::{DeviceFault, Fault, Status};
+use command_parts::visible::visible_text;
 use explanations::{push_codes, push_explanations};
 use file_requests::joined::{hold_session, sit_down, watch_joined};
 use file_requests::promises::{
@@ -16,7 +17,8 @@ use program_files::faults::{fault_lines, refusal_lines};
 use program_files::inputs::misused_files;
 use program_files::telling::{tell, tell_lines, tell_misuse};
 use source_requests::answer_sourced;
-use std::alloc::Global;
+use std::alloc::{AllocError, Global};
+use std::fmt::Write;
 use std::io::ErrorKind;
 use std::rt::{Env, Files};
 use std::{env, io};
@@ -40,7 +42,7 @@ pub fn exit_status<R: Env + Files + Input + Print + Eprint + AllocGlobal>(rt: &R
     let alloc = rt.alloc();
     let arguments = match env::args(rt) {
         Ok(arguments) => arguments,
-        Err(error) => return refuse(rt, refusal_of(error.kind())).code(),
+        Err(error) => return refuse(rt, alloc, refusal_of(error.kind())).code(),
     };
     let Ok(given) = arguments.collect::<Vec<String>>(alloc) else {
         return tell(rt, Fault::NoMemory).code();
@@ -52,7 +54,7 @@ pub fn exit_status<R: Env + Files + Input + Print + Eprint + AllocGlobal>(rt: &R
     };
     match request {
         Ok(line) => carry_out(rt, alloc, &line).code(),
-        Err(refused) => refuse(rt, refused).code(),
+        Err(refused) => refuse(rt, alloc, refused).code(),
     }
 }
 
@@ -94,10 +96,10 @@ fn refusal_of(kind: ErrorKind) -> Refused {
 }
 
 /// Says why the command line is bad, or gives the help that it asks for.
-fn refuse<R: Print + Eprint>(rt: &R, refused: Refused) -> Status {
+fn refuse<R: Print + Eprint>(rt: &R, alloc: Global, refused: Refused) -> Status {
     let told = match refused {
         Refused::Memory => return tell(rt, Fault::NoMemory),
-        Refused::CommandLine(error) => return say(rt, &error),
+        Refused::CommandLine(error) => return say(rt, alloc, &error),
         Refused::Misuse(misuse) => return tell_misuse(rt, &misuse),
         Refused::Start(fault) => eprintln!(rt; "error: bad value for '--start': {fault}"),
         Refused::Switches(fault) => { eprintln!(rt; "error: bad value for '--switches': {fault}") }
@@ -112,14 +114,35 @@ fn refuse<R: Print + Eprint>(rt: &R, refused: Refused) -> Status {
 }
 
 /// Says what is wrong with the command line, on standard error, or gives help, on standard output.
-fn say<R: Print + Eprint>(rt: &R, text: &Error) -> Status {
-    let written = text.print(rt);
+fn say<R: Print + Eprint>(rt: &R, alloc: Global, text: &Error) -> Status {
     if text.use_stderr() {
+        say_error(rt, alloc, text);
         return Status::Usage;
     }
-    match written {
+    match text.print(rt) {
         Ok(()) => Status::Done,
         Err(_) => tell(rt, Fault::Device(DeviceFault::Write)),
+    }
+}
+
+/// Lines as they are shown, each with its end.
+fn visible_lines(alloc: Global, text: &str) -> Result<String, AllocError> {
+    let mut shown = String::new(alloc);
+    for line in text.lines() {
+        shown.push_str(&visible_text(alloc, line)?)?;
+        shown.push('\n')?;
+    }
+    Ok(shown)
+}
+
+/// Says what is wrong with the command line, which may quote an argument.
+fn say_error<R: Eprint>(rt: &R, alloc: Global, text: &Error) {
+    let mut lines = String::new(alloc);
+    if write!(lines, "{text}").is_err() {
+        return;
+    }
+    if let Ok(shown) = visible_lines(alloc, &lines) {
+        tell_lines(rt, &shown);
     }
 }
 
@@ -164,8 +187,9 @@ fn explain_code<R: Print + Eprint>(
         None => push_codes(&mut text)?,
         Some(code) => {
             if !push_explanations(&mut text, code)? {
+                let shown = visible_text(alloc, code)?;
                 let told = eprintln!(rt;
-                    "error: unknown code '{code}': 'pdp8 explain' lists all codes"
+                    "error: unknown code '{shown}': 'pdp8 explain' lists all codes"
                 );
                 return match told {
                     Ok(()) | Err(_) => Ok(Status::Usage),

@@ -1,1 +1,2 @@
 pub mod Head
+pub mod Kinds

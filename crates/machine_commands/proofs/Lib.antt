@@ -8,3 +8,4 @@ pub mod WatchedSessionLemmas
 pub mod HeldLemmas
 pub mod TypistLemmas
 pub mod TeletypeLemmas
+pub mod ContinuedLemmas

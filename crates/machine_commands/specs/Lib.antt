@@ -8,6 +8,7 @@ pub mod RefuteText
 pub mod Session
 pub mod SessionParts
 pub mod Continued
+pub mod ContinuedParts
 pub mod WatchedSession
 pub mod Schedule
 pub mod Typing

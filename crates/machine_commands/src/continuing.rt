@@ -1,10 +1,11 @@
 //! A run that goes on at declared pauses, and how far it went.
 
-ghost use Rattle.std.specs.Prelude.{◌≡◌, None, IfOk};
+ghost use Rattle.std.specs.Prelude.{◌≡◌, None, IfOk, true, false};
 ghost use Rattle.peripherals.specs.Operator.{plan_of};
 ghost use Rattle.peripherals.specs.World.{view, profile_of};
 ghost use Rattle.declaration.specs.Kept.{meaning};
-ghost use Rattle.machine_commands.specs.Continued.{ComesOn, IsLine, presses, went_text};
+ghost use Rattle.machine_commands.specs.Continued.{ComesOn, IsAtPause, IsLine, presses, went_text};
+ghost use Rattle.machine_commands.specs.ContinuedParts.{IsPressed};
 ghost use Rattle.machine_commands.specs.Schedule.{first_place};
 
 use crate::messages::watched_line;
@@ -18,11 +19,38 @@ use policy::{Watched, run_declared};
 use std::alloc::{AllocError, Allocator};
 
 /// Whether the machine is halted at a declared pause.
-fn is_at_pause<B: Allocator, D: Allocator>(world: &World<B>, declaration: &Declaration<D>) -> bool {
+fn is_at_pause<B: Allocator, D: Allocator>(world: &World<B>, declaration: &Declaration<D>) -> bool
+    ensures yes { result ≡ true → IsAtPause (meaning declaration.now) (view world.now) }
+    ensures no { result ≡ false → IsAtPause (meaning declaration.now) (view world.now) → ⊥ }
+{
     match world.halted_at() {
         Some(at) => declaration.is_pause(at),
         None => false,
     }
+}
+
+/// Presses CONTINUE if the machine is halted at a declared pause and a press is left. Tells whether it was pressed.
+fn press<A: Allocator, B: Allocator, D: Allocator>(
+    world: &mut World<B>,
+    declaration: &Declaration<D>,
+    left: &mut u32,
+    events: &mut Vec<Event, A>,
+) -> Result<bool, NoMemory>
+    requires profile { profile_of world.old ≡ (meaning declaration.now).profile }
+    ensures pressed { IfOk result (λ pressed. IsPressed (meaning declaration.now) pressed
+        left.old left.new (view world.old) (view world.new) events.old.items events.new.items) }
+    ensures profile { profile_of world.new ≡ profile_of world.old }
+{
+    if *left == 0 {
+        return Ok(false);
+    }
+    if !is_at_pause(world, declaration) {
+        return Ok(false);
+    }
+    world.apply(Event::Continue)?;
+    keep(events, &Event::Continue)?;
+    *left -= 1;
+    Ok(true)
 }
 
 /// The events that come with an operator who presses CONTINUE at declared pauses, at most so many times. They end early at
@@ -45,12 +73,10 @@ pub(crate) fn continued_events_of<A: Allocator, B: Allocator, D: Allocator>(
         let seen = world.apply(event)?;
         keep(&mut events, &event)?;
         if ends(&seen) {
-            if left == 0 || !is_at_pause(world, declaration) {
+            let goes_on = press(world, declaration, &mut left, &mut events)?;
+            if !goes_on {
                 return Ok(events);
             }
-            left -= 1;
-            world.apply(Event::Continue)?;
-            keep(&mut events, &Event::Continue)?;
         }
     }
     Ok(events)

@@ -41,6 +41,13 @@ struct Drafted<A: Allocator> {
     text: Vec<u8, A>,
 }
 
+/// What is declared after a step of a run, and whether the run goes on.
+#[derive(Drop)]
+struct Advanced<A: Allocator> {
+    draft: Drafted<A>,
+    goes_on: bool,
+}
+
 /// What a step taught.
 #[derive(Drop)]
 enum Taught<A: Allocator> {
@@ -108,6 +115,63 @@ fn complete<A: Allocator + Copy>(
     Ok(())
 }
 
+/// What a step teaches by which a run leaves a declaration, and whether the run may go on.
+fn widened_by_step<A: Allocator + Copy>(
+    alloc: A,
+    image: &Image,
+    current: Drafted<A>,
+    evidence: &Evidence<A>,
+    watcher: &Watcher<A>,
+) -> Result<Advanced<A>, NoMemory>
+    requires drafted { IsDrafted current }
+    ensures drafted { IfOk result (λ advanced. IsDrafted advanced.draft) }
+    ensures profile { IfOk result (λ advanced. (meaning advanced.draft.declaration).profile ≡
+        (meaning current.declaration).profile) }
+{
+    match teach(alloc, image, &current.declaration, evidence, watcher)? {
+        Taught::More(next) => Ok(Advanced {
+            draft: next,
+            goes_on: true,
+        }),
+        Taught::Never(_) | Taught::Unclear => Ok(Advanced {
+            draft: current,
+            goes_on: false,
+        }),
+    }
+}
+
+/// Makes a step of a run that nobody touches, or widens the declaration if the step would leave it.
+fn advance<A: Allocator + Copy>(
+    alloc: A,
+    image: &Image,
+    current: Drafted<A>,
+    evidence: &mut Evidence<A>,
+    watcher: &mut Watcher<A>,
+) -> Result<Advanced<A>, NoMemory>
+    requires drafted { IsDrafted current }
+    requires profile { profile_of watcher.old.world ≡ (meaning current.declaration).profile }
+    ensures drafted { IfOk result (λ advanced. IsDrafted advanced.draft) }
+    ensures profile { IfOk result (λ advanced. profile_of watcher.new.world ≡
+        (meaning advanced.draft.declaration).profile) }
+{
+    if watcher.world().halted_at().is_some() {
+        return Ok(Advanced {
+            draft: current,
+            goes_on: false,
+        });
+    }
+    let sight = Sight::of(watcher);
+    if watcher.step(&current.declaration)?.is_some() {
+        return widened_by_step(alloc, image, current, evidence, watcher);
+    }
+    evidence.sees(&sight);
+    complete(watcher, &current.declaration)?;
+    Ok(Advanced {
+        draft: current,
+        goes_on: true,
+    })
+}
+
 /// Goes on with a run that nobody touches, and widens the declaration wherever it is left.
 fn run_on<A: Allocator + Copy>(
     alloc: A,
@@ -122,19 +186,10 @@ fn run_on<A: Allocator + Copy>(
 {
     let mut current = first;
     for _step in 0..MOST_STEPS {
-        if watcher.world().halted_at().is_some() {
+        let advanced = advance(alloc, image, current, evidence, watcher)?;
+        current = advanced.draft;
+        if !advanced.goes_on {
             break;
-        }
-        let sight = Sight::of(watcher);
-        match watcher.step(&current.declaration)? {
-            None => {
-                evidence.sees(&sight);
-                complete(watcher, &current.declaration)?;
-            }
-            Some(_) => match teach(alloc, image, &current.declaration, evidence, watcher)? {
-                Taught::More(next) => current = next,
-                Taught::Never(_) | Taught::Unclear => break,
-            },
         }
     }
     Ok(current)

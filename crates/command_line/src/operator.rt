@@ -6,7 +6,7 @@ use crate::refused::{Misuse, Refused};
 use crate::shown::shown_cells;
 use crate::values::{profile_of, read_standard_input_once, run_options, start_of};
 use clap::ArgMatches;
-use options::{Manner, SessionOptions, TeletypeOptions};
+use command_parts::options::{Manner, SessionOptions, TeletypeOptions};
 use word12::Word;
 
 /// A run with an operator, as the options ask for it.

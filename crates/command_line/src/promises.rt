@@ -9,7 +9,7 @@ use crate::refused::{Misuse, Refused};
 use crate::shown::shown_cells;
 use crate::values::{is_start_named, read_standard_input_once, refute_options, verify_options};
 use clap::ArgMatches;
-use options::{RefuteOptions, VerifyOptions};
+use command_parts::options::{RefuteOptions, VerifyOptions};
 use wordset::WordSet;
 
 /// To check a certificate.

@@ -13,7 +13,7 @@ use crate::values::{
     declare_options, is_start_named, read_standard_input_once, refute_options, verify_options,
 };
 use clap::ArgMatches;
-use options::{DeclareOptions, RefuteOptions, VerifyOptions};
+use command_parts::options::{DeclareOptions, RefuteOptions, VerifyOptions};
 use std::alloc::Global;
 use wordset::WordSet;
 

@@ -8,7 +8,7 @@ use crate::values::{
 };
 use clap::ArgMatches;
 use instruct::Profile;
-use options::{DeclareOptions, RunOptions};
+use command_parts::options::{DeclareOptions, RunOptions};
 use word12::Word;
 
 /// To run a tape.

@@ -4,7 +4,7 @@ use crate::refused::{Misuse, Refused};
 use crate::shown::shown_cells;
 use clap::ArgMatches;
 use instruct::Profile;
-use options::{DeclareOptions, RefuteOptions, RunOptions, VerifyOptions};
+use command_parts::options::{DeclareOptions, RefuteOptions, RunOptions, VerifyOptions};
 use streams::text::decimal_between;
 use word12::Word;
 

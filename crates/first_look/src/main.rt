@@ -6,7 +6,7 @@
 
 use instruct::Profile;
 use machine_commands::running::run;
-use options::RunOptions;
+use command_parts::options::RunOptions;
 use std::io;
 use std::process::ExitCode;
 use streams::standard::{Reads, Writes};

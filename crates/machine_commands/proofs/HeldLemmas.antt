@@ -3,7 +3,7 @@ use Rattle.std.proofs.Common.{ℕ, ◌≡◌, Bool, true, false, ◌||◌, List,
 use Rattle.std.specs.Prelude.{IfErr}
 use Rattle.peripherals.specs.declared.operator.Operator.{Operator}
 use Rattle.peripherals.specs.Operator.{plan_of}
-use Rattle.options.specs.declared.SessionOptions.{SessionOptions}
+use Rattle.command_parts.specs.declared.options.SessionOptions.{SessionOptions}
 use Rattle.command_parts.specs.declared.status.DeviceFault.TheVariants.{Read, Write}
 use Rattle.command_parts.specs.declared.status.Fault.{Fault}
 use Rattle.command_parts.specs.declared.status.Fault.TheVariants.{Tape, EmptyImage, Source, Declared, Certificate, Events, Guess, Declare, Device, NoMemory}

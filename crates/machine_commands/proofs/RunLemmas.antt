@@ -9,7 +9,7 @@ use Rattle.peripherals.specs.declared.Event.{Event}
 use Rattle.peripherals.specs.Devices.{WorldState}
 use Rattle.machine_commands.specs.declared.follow.RunOutcome.{RunOutcome}
 use Rattle.wordset.specs.Lanes.{words}
-use Rattle.options.specs.declared.RunOptions.{RunOptions}
+use Rattle.command_parts.specs.declared.options.RunOptions.{RunOptions}
 use Rattle.command_parts.specs.declared.status.Fault.{Fault}
 use Rattle.command_parts.specs.declared.status.Fault.TheVariants.{NoMemory}
 use Rattle.command_parts.specs.declared.status.Status.{Status}

@@ -25,8 +25,8 @@ use Rattle.machine_commands.specs.declared.follow.End.TheVariants.{Unsupported}
 use Rattle.machine_commands.specs.declared.follow.RunOutcome.{RunOutcome}
 use Rattle.machine_commands.specs.Follows.{Follows, Ended, Stuck, Stopped, end_of, goes_on, counted}
 use Rattle.wordset.specs.Lanes.{words}
-use Rattle.options.specs.declared.RunOptions.{RunOptions}
-use Rattle.options.specs.declared.SessionOptions.{SessionOptions}
+use Rattle.command_parts.specs.declared.options.RunOptions.{RunOptions}
+use Rattle.command_parts.specs.declared.options.SessionOptions.{SessionOptions}
 use Rattle.command_parts.specs.declared.status.Fault.{Fault}
 use Rattle.command_parts.specs.declared.status.Fault.TheVariants.{NoMemory}
 use Rattle.command_parts.specs.declared.status.Status.{Status}

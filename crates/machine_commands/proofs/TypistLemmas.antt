@@ -11,7 +11,7 @@ use Rattle.peripherals.specs.Devices.{WorldState, word_at_pc}
 use Rattle.peripherals.specs.Events.{Happens, completed, done, with_devices}
 use Rattle.peripherals.specs.Operator.{Plan, first_due, left_after, round_due}
 use Rattle.peripherals.specs.Seen.{puts_out, seen_of}
-use Rattle.options.specs.declared.TeletypeOptions.{TeletypeOptions}
+use Rattle.command_parts.specs.declared.options.TeletypeOptions.{TeletypeOptions}
 use Rattle.machine_commands.specs.Follows.{goes_on}
 use Rattle.machine_commands.specs.Cuts.{some_left}
 use Rattle.machine_commands.specs.Schedule.{Comes, Over, Cut, Final, Then, Extent, UpToOutput, UpToRead}

@@ -4,7 +4,7 @@ use Rattle.std.proofs.Common.{refl}
 use Rattle.instruct.specs.declared.Profile.{Profile}
 use Rattle.peripherals.specs.declared.Event.{Event}
 use Rattle.peripherals.specs.Devices.{WorldState}
-use Rattle.options.specs.declared.TeletypeOptions.{TeletypeOptions}
+use Rattle.command_parts.specs.declared.options.TeletypeOptions.{TeletypeOptions}
 use Rattle.machine_commands.specs.Schedule.{Comes, Cut, Place, UpToAny, operating}
 use Rattle.machine_commands.specs.TypingParts.{IsLeft, Source, Types, typed_plan}
 

@@ -8,7 +8,7 @@ use Rattle.declaration.specs.Declaration.{Declaration}
 use Rattle.policy.specs.declared.rules.Rule.{Rule}
 use Rattle.policy.specs.declared.watcher.Watched.TheVariants.{Broken}
 use Rattle.policy.specs.Watching.{BreaksAt}
-use Rattle.options.specs.declared.RefuteOptions.{RefuteOptions}
+use Rattle.command_parts.specs.declared.options.RefuteOptions.{RefuteOptions}
 use Rattle.command_parts.specs.Answers.{OfProgram}
 use Rattle.command_parts.specs.declared.status.Status.{Status}
 use Rattle.command_parts.specs.declared.status.Status.TheVariants.{Done, Refused}

@@ -6,7 +6,7 @@ use Rattle.peripherals.specs.Loading.{image_of, laid}
 use Rattle.machine_commands.specs.declared.follow.End.{End}
 use Rattle.machine_commands.specs.declared.follow.End.TheVariants.{Unsupported}
 use Rattle.wordset.specs.Lanes.{words}
-use Rattle.options.specs.declared.RunOptions.{RunOptions}
+use Rattle.command_parts.specs.declared.options.RunOptions.{RunOptions}
 use Rattle.command_parts.specs.declared.status.Status.{Status}
 use Rattle.command_parts.specs.declared.status.Status.TheVariants.{Done, Refused}
 use Rattle.command_parts.specs.Inputs.{HasImage, HasEvents}

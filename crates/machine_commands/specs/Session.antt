@@ -9,8 +9,8 @@ use Rattle.peripherals.specs.Operator.{Plan, struck_as}
 use Rattle.machine_commands.specs.declared.follow.End.{End}
 use Rattle.machine_commands.specs.declared.follow.RunOutcome.{RunOutcome}
 use Rattle.wordset.specs.Lanes.{words}
-use Rattle.options.specs.declared.RunOptions.{RunOptions}
-use Rattle.options.specs.declared.SessionOptions.{SessionOptions}
+use Rattle.command_parts.specs.declared.options.RunOptions.{RunOptions}
+use Rattle.command_parts.specs.declared.options.SessionOptions.{SessionOptions}
 use Rattle.command_parts.specs.declared.status.Fault.{Fault}
 use Rattle.command_parts.specs.declared.status.Fault.TheVariants.{Device}
 use Rattle.command_parts.specs.declared.status.DeviceFault.TheVariants.{Read}

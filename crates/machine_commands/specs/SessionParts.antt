@@ -11,7 +11,7 @@ use Rattle.peripherals.specs.Events.{Happens}
 use Rattle.peripherals.specs.Operator.{Plan, plan_of}
 use Rattle.peripherals.specs.declared.operator.Operator.{Operator}
 use Rattle.peripherals.specs.Seen.{puts_out, seen_of}
-use Rattle.options.specs.declared.RunOptions.{RunOptions}
+use Rattle.command_parts.specs.declared.options.RunOptions.{RunOptions}
 use Rattle.command_parts.specs.declared.status.Status.{Status}
 use Rattle.machine_commands.specs.Follows.{goes_on}
 use Rattle.machine_commands.specs.Schedule.{Extent, Place, Whole, UpToOutput}

@@ -6,7 +6,7 @@ use Rattle.peripherals.specs.declared.Event.{Event}
 use Rattle.peripherals.specs.declared.Event.TheVariants.{Step, Key, PrinterDone, ReaderDone, PunchDone, Switches, Continue}
 use Rattle.peripherals.specs.Devices.{WorldState, word_at_pc}
 use Rattle.peripherals.specs.Operator.{Plan, first_due, left_after, round_due, struck_as}
-use Rattle.options.specs.declared.Manner.{Manner}
+use Rattle.command_parts.specs.declared.options.Manner.{Manner}
 use Rattle.machine_commands.specs.Schedule.{Schedule}
 
 -- The next instruction asks for a key: it is KSF, and finds the keyboard's flag clear.

@@ -5,7 +5,7 @@ use Rattle.peripherals.specs.declared.Event.{Event}
 use Rattle.peripherals.specs.declared.Event.TheVariants.{Step, Key, ReaderDone}
 use Rattle.peripherals.specs.Devices.{WorldState}
 use Rattle.peripherals.specs.Operator.{Plan, one_less}
-use Rattle.options.specs.declared.TeletypeOptions.{TeletypeOptions}
+use Rattle.command_parts.specs.declared.options.TeletypeOptions.{TeletypeOptions}
 use Rattle.machine_commands.specs.Schedule.{Comes, Extent}
 use Rattle.machine_commands.specs.Typing.{answer_due, typed_as, typed_due, typing}
 

@@ -5,7 +5,7 @@ use Rattle.peripherals.specs.declared.Event.{Event}
 use Rattle.peripherals.specs.Operator.{Plan}
 use Rattle.declaration.specs.Declaration.{Declaration}
 use Rattle.policy.specs.declared.watcher.Watched.{Watched}
-use Rattle.options.specs.declared.SessionOptions.{SessionOptions}
+use Rattle.command_parts.specs.declared.options.SessionOptions.{SessionOptions}
 use Rattle.command_parts.specs.declared.status.Fault.{Fault}
 use Rattle.command_parts.specs.declared.status.Status.{Status}
 use Rattle.command_parts.specs.Faults.{IsBytesFault, IsDeclarationInputFault, IsRunFault, IsTapeInputFault}

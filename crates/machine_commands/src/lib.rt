@@ -2,6 +2,7 @@
 //! run that breaks its declaration.
 #![tactic(auto)]
 
+pub mod violations;
 pub mod follow;
 pub mod messages;
 mod progress;

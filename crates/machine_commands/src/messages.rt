@@ -22,13 +22,13 @@ use command_parts::outcome::Outcome;
 use command_parts::status::{Fault, Status};
 use declaration::Declaration;
 use itoa::Buffer;
-use options::{RefuteOptions, SessionOptions};
+use command_parts::options::{RefuteOptions, SessionOptions};
 use peripherals::{Event, NoMemory, Operator, Start, World};
 use policy::{Rule, Watched};
 use refuter::{Witness, refute_within};
 use std::alloc::{AllocError, Allocator};
 use turns::Turns;
-use watch_texts::breach_lines;
+use crate::violations::breach_lines;
 use wordset::WordSet;
 
 /// What is told of a run, and how the command ends.

@@ -11,7 +11,7 @@ ghost use Rattle.machine_commands.specs.RefuteText.{IsToldOfWitness, IsWitnessTe
 use crate::messages::{told_witness, unbroken_line};
 use command_parts::programs::program_from;
 use command_parts::status::{Fault, Status};
-pub use options::RefuteOptions;
+pub use command_parts::options::RefuteOptions;
 use std::alloc::Allocator;
 use streams::{ByteSink, ByteSource, put};
 

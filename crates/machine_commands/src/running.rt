@@ -17,7 +17,7 @@ use command_parts::inputs::{events_from, tape_from};
 use command_parts::status::{Fault, Status};
 use command_parts::text::dump_of;
 use instruct::Profile;
-pub use options::RunOptions;
+pub use command_parts::options::RunOptions;
 use peripherals::{Start, World};
 use std::alloc::Allocator;
 use streams::{ByteSink, ByteSource, put};

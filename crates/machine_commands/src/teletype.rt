@@ -12,7 +12,7 @@ use crate::session::attend;
 pub use crate::typist::{Manner, TeletypeOptions, Typist};
 use command_parts::inputs::tape_from;
 use command_parts::status::{Fault, Status};
-use options::RunOptions;
+use command_parts::options::RunOptions;
 use std::alloc::Allocator;
 use streams::{ByteSink, ByteSource};
 

@@ -16,7 +16,7 @@ ghost use Rattle.machine_commands.specs.TypingParts.{Answered, Brought, IsLeft, 
 
 use crate::schedule::Scheduler;
 use command_parts::status::{DeviceFault, Fault};
-pub use options::{Manner, TeletypeOptions};
+pub use command_parts::options::{Manner, TeletypeOptions};
 use peripherals::{Event, World};
 use std::alloc::Allocator;
 use streams::ByteSource;

@@ -15,7 +15,7 @@ use bin_tape::Image;
 use command_parts::inputs::{bytes_from, declaration_from, tape_from};
 use command_parts::status::{Fault, Status};
 use declaration::Declaration;
-pub use options::SessionOptions;
+pub use command_parts::options::SessionOptions;
 use std::alloc::Allocator;
 use streams::{ByteSink, ByteSource, put};
 

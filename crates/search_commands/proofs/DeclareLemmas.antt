@@ -8,7 +8,7 @@ use Rattle.proposer.specs.Proposals.{AreNeeded, Fits, IsListed, IsShown}
 use Rattle.proposer.specs.declared.Proposal.{Proposal}
 use Rattle.proposer.specs.declared.Verdict.TheVariants.{Safe}
 use Rattle.search_commands.specs.DeclareText.{IsBare, IsProposalOf}
-use Rattle.options.specs.declared.DeclareOptions.{DeclareOptions}
+use Rattle.command_parts.specs.declared.options.DeclareOptions.{DeclareOptions}
 use Rattle.command_parts.specs.declared.status.Status.{Status}
 use Rattle.command_parts.specs.declared.status.Status.TheVariants.{Done, Refused}
 

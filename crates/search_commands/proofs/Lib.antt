@@ -1,3 +1,4 @@
 pub mod DeclareLemmas
 pub mod CompleteLemmas
 pub mod StuckLemmas
+pub mod SourceLemmas

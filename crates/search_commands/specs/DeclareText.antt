@@ -9,8 +9,8 @@ use Rattle.certificate.specs.Reading.{AreLines, certificate_of}
 use Rattle.certificate.specs.Spelling.{Lines}
 use Rattle.judge.specs.Conditions.{IsValid}
 use Rattle.proposer.specs.Needed.{ReadsAreNeeded}
-use Rattle.verdict_texts.specs.CheckText.{checked_case}
-use Rattle.options.specs.declared.DeclareOptions.{DeclareOptions}
+use Rattle.diagnostics.specs.CheckText.{checked_case}
+use Rattle.command_parts.specs.declared.options.DeclareOptions.{DeclareOptions}
 use Rattle.command_parts.specs.declared.status.Status.{Status}
 use Rattle.command_parts.specs.declared.status.Status.TheVariants.{Done, Refused}
 use Rattle.command_parts.specs.Inputs.{HasImage}

@@ -4,7 +4,7 @@ use Rattle.analyser.specs.Versions.{version_of}
 use Rattle.certificate.specs.Reading.{AreLines, certificate_of}
 use Rattle.certificate.specs.Spelling.{Lines, text as spelled}
 use Rattle.declaration.specs.Declaration.{Declaration}
-use Rattle.verdict_texts.specs.CheckText.{IsYes, checked_case}
+use Rattle.diagnostics.specs.CheckText.{IsYes, checked_case}
 use Rattle.command_parts.specs.Answers.{OfProgram}
 use Rattle.command_parts.specs.declared.status.Status.{Status}
 use Rattle.command_parts.specs.declared.status.Status.TheVariants.{Done}

@@ -5,3 +5,7 @@ pub mod Extending
 pub mod CompleteText
 pub mod StuckText
 pub mod VerifyText
+pub mod Faults
+pub mod Verdicts
+pub mod ExplainText
+pub mod MigrateText

@@ -11,9 +11,9 @@ use Rattle.judge.specs.declared.judging.Refusal.{Refusal}
 use Rattle.reasons.specs.Reasons.{Explains}
 use Rattle.reasons.specs.Stuck.{EachFailsByLinesAlone, IsToldOf, NoneFailsBefore}
 use Rattle.reasons.specs.declared.reason.Reason.{Reason}
-use Rattle.verdict_texts.specs.CheckText.{checked_case}
+use Rattle.diagnostics.specs.CheckText.{checked_case}
 use Rattle.command_parts.specs.Inputs.{HasDeclaration, HasImage}
-use Rattle.verdict_texts.specs.WhyText.{why_text}
+use Rattle.diagnostics.specs.WhyText.{why_text}
 
 -- The lines of the condition that is told, if one is.
 abbrev pub told_text : Profile → List (Option ℕ) → Option (Refusal × Reason) → List ℕ

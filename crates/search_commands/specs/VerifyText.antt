@@ -9,8 +9,8 @@ use Rattle.policy.specs.Watching.{number_of}
 use Rattle.certificate.specs.Kept.{meaning}
 use Rattle.certificate.specs.Reading.{AreLines}
 use Rattle.refuter.specs.Witnesses.{Breaks, IsLast, IsSpelled}
-use Rattle.verdict_texts.specs.CheckText.{IsYes, checked_case, yes_text}
-use Rattle.options.specs.declared.VerifyOptions.{VerifyOptions}
+use Rattle.diagnostics.specs.CheckText.{IsYes, checked_case, yes_text}
+use Rattle.command_parts.specs.declared.options.VerifyOptions.{VerifyOptions}
 use Rattle.command_parts.specs.declared.status.Status.{Status}
 use Rattle.command_parts.specs.declared.status.Status.TheVariants.{Done, Refused}
 use Rattle.command_parts.specs.Answers.{OfProgram}

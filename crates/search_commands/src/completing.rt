@@ -24,7 +24,7 @@ use command_parts::inputs::tape_from;
 use command_parts::outcome::{Outcome, deliver};
 use command_parts::status::{Fault, Status};
 use declaration::{Declaration, DeclarationFault};
-use options::DeclareOptions;
+use command_parts::options::DeclareOptions;
 use proposer::{ObservedRuns, Proposal};
 use std::alloc::{AllocError, Allocator};
 use streams::{ByteSink, ByteSource, read_at_most};

@@ -18,7 +18,7 @@ use command_parts::status::{Fault, Status};
 use command_parts::text::push_place;
 use declaration::{Declaration, DeclarationFault};
 use itoa::Buffer;
-pub use options::DeclareOptions;
+pub use command_parts::options::DeclareOptions;
 use proposer::{ObservedRuns, Proposal, Verdict, propose, propose_with_reads};
 use std::alloc::{AllocError, Allocator};
 use streams::{ByteSink, ByteSource};

@@ -31,8 +31,8 @@ use refuter::{Witness, refute_within};
 use std::alloc::{AllocError, Allocator};
 use streams::ByteSource;
 use turns::Turns;
-use verdict_texts::verdict::verdict_line;
-use watch_texts::breach_lines;
+use diagnostics::verdicts::verdict::verdict_line;
+use machine_commands::violations::breach_lines;
 use word12::Word;
 
 /// A program and its declaration, and what a search for a certificate came to.

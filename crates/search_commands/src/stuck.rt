@@ -27,7 +27,7 @@ use judge::Refusal;
 use reasons::{Reason, why_stuck};
 use std::alloc::{AllocError, Allocator};
 use streams::{ByteSink, ByteSource, put};
-use verdict_texts::reason_text::push_why;
+use diagnostics::verdicts::reason_text::push_why;
 use word12::Word;
 
 /// Adds the lines of the condition that is told, if one is.

@@ -15,7 +15,7 @@ use command_parts::inputs::tape_from;
 use command_parts::outcome::write_text;
 use command_parts::programs::program_from;
 use command_parts::status::{Fault, Status};
-pub use options::{RefuteOptions, VerifyOptions};
+pub use command_parts::options::{RefuteOptions, VerifyOptions};
 use refuter::Witness;
 use std::alloc::Allocator;
 use streams::{ByteSink, ByteSource};

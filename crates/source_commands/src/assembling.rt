@@ -20,7 +20,7 @@ use bin_tape::{WriteTapeFault, write_tape};
 use command_parts::status::{DeviceFault, Fault, Status};
 use instruct::Profile;
 use pal_asm::{AssembleFault, Program, Translation, WriteFault};
-use source_texts::push_faults;
+use pal_diagnostics::push_faults;
 use std::alloc::{AllocError, Allocator};
 use streams::{ByteSink, ByteSource};
 

@@ -1,0 +1,153 @@
+-- Bytes have one verdict, and so has what a certificate is migrated to.
+use Rattle.std.proofs.Common.{ℕ, ◌≡◌, ◌≤◌, true, List, [], ◌∷◌, length, take, Option, Some, refl, sym, ap, ◌∙◌, subst, arith}
+use Rattle.std.specs.Prelude.{Result, Ok, Err}
+use Rattle.wordset.specs.Words.{Words, all_words, has_some}
+use Rattle.wordset.proofs.Tests.{some_from}
+use Rattle.bin_tape.proofs.OneAnswer.{one_tape}
+use Rattle.peripherals.specs.Loading.{image_of}
+use Rattle.declaration.specs.Declaration.{Declaration}
+use Rattle.declaration.proofs.AnswerLemmas.{one_declaration}
+use Rattle.domain.specs.Statements.{Statement}
+use Rattle.certificate.specs.declared.Version.{Version}
+use Rattle.certificate.specs.declared.Version.TheVariants.{One, Two}
+use Rattle.certificate.specs.Certificate.{Certificate}
+use Rattle.certificate.specs.Faults.{most_bytes}
+use Rattle.certificate.specs.Made.{migrated}
+use Rattle.certificate.specs.Reading.{AreLines, Each, FitsVersion, IsExit, IsFactLine, IsStatement, certificate_of}
+use Rattle.certificate.specs.Spelling.{ExitLine, FactLine, Lines, text}
+use Rattle.certificate.proofs.TextAnswerLemmas.{spelling_law}
+use Rattle.judge.specs.Conditions.{Case}
+use Rattle.judge.specs.declared.judging.Refusal.{Refusal}
+use Rattle.judge.proofs.ReadingLemmas.{none_fails, one_first}
+use Rattle.facts.specs.declared.Condition.{Condition}
+use Rattle.search_commands.specs.GuessText.{IsGuess}
+use Rattle.diagnostics.specs.CheckText.{IsCheckedSo, IsVerdict, checked_case, verdict_status, verdict_text, yes_text}
+use Rattle.diagnostics.specs.CertificateInputs.{IsTextOf}
+use Rattle.command_laws.specs.Laws.{ChecksAreOne, GuessIsAccepted, GuessIsRead, MigratedIsCheckedAlike}
+use Rattle.command_parts.specs.declared.status.Status.{Status}
+use Rattle.command_parts.specs.declared.status.Status.TheVariants.{Done}
+
+abbrev Verdict : Type 0
+Verdict = Result (Unit {0}) Refusal
+
+abbrev refusal : Condition → ℕ → Refusal
+refusal v a = record { condition = v; address = a }
+
+same_refusal : {v u : Condition} {a b : ℕ} → v ≡ u → a ≡ b → refusal v a ≡ refusal u b
+same_refusal e k = rw (e, k) refl
+
+abbrev judged_as : List (Option ℕ) → Declaration → Certificate → Case
+judged_as image d c = record { image = image_of image; declaration = d; certificate = c }
+
+-- ---- one case has one verdict
+
+same_verdict : (j : Case) (v w : Verdict) → IsVerdict j v → IsVerdict j w → v ≡ w
+same_verdict j (Ok u) (Ok w) holds also = refl
+same_verdict j (Ok u) (Err r) holds first = absurd (none_fails holds.valid first)
+same_verdict j (Err r) (Ok w) first holds = absurd (none_fails holds.valid first)
+same_verdict j (Err r) (Err s) first second =
+    let alike = one_first j r.condition s.condition r.address s.address first second in
+    let whole : refusal r.condition r.address ≡ refusal s.condition s.address = same_refusal alike.0 alike.1 in
+    ap Err whole
+
+same_case : {i k : List (Option ℕ)} {d e : Declaration} {c f : Certificate} → i ≡ k → d ≡ e → c ≡ f → judged_as i d c ≡ judged_as k e f
+same_case words promised claims = rw (words, promised, claims) refl
+
+module _ (t d : List ℕ) (c e : List ℕ) (line line' : List ℕ) (status status' : Status) (x : IsCheckedSo (Some t) (Some d) (Some c) line status) (y : IsCheckedSo (Some t) (Some d) (Some e) line' status')
+    (same : certificate_of x.lines ≡ certificate_of y.lines) where
+  promised_is : x.declaration ≡ y.declaration
+  promised_is = one_declaration d x.declaration y.declaration x.declares y.declares
+
+  case_is : checked_case x.image x.declaration x.lines ≡ checked_case y.image y.declaration y.lines
+  case_is = same_case (one_tape (take 65536 t) x.image y.image x.tape y.tape) promised_is same
+
+  verdict_is : x.is.verdict ≡ y.is.verdict
+  verdict_is =
+      same_verdict (checked_case x.image x.declaration x.lines) x.is.verdict y.is.verdict x.is.is
+      (subst (λ (j : Case). IsVerdict j y.is.verdict) (sym case_is) y.is.is)
+
+  one_answer : (line ≡ line') × (status ≡ status')
+  one_answer = (
+    x.is.line_is ∙ ap (λ v. verdict_text x.declaration v) verdict_is ∙ ap (λ p. verdict_text p y.is.verdict) promised_is ∙ sym y.is.line_is,
+    x.is.status_is ∙ ap verdict_status verdict_is ∙ sym y.is.status_is,
+  )
+
+lines_alike : (c e : Lines) → AreLines c → AreLines e → text c ≡ text e → certificate_of c ≡ certificate_of e
+lines_alike c e one other same = ap certificate_of (spelling_law.lines c e one other same)
+
+pub checks_are_one : ChecksAreOne
+checks_are_one t d c line line' status status' x y =
+    one_answer t d c c line line' status status' x y (lines_alike x.lines y.lines x.claims.lines_are y.claims.lines_are (sym x.claims.text_is ∙ y.claims.text_is))
+
+-- ---- what is guessed
+
+-- what is guessed is checked so, where it is read
+guess_checked : (t d guess : List ℕ) (g : IsGuess (Some t) (Some d) guess) → length guess ≤ most_bytes → IsCheckedSo (Some t) (Some d) (Some guess) (yes_text g.declaration) Done
+guess_checked t d guess g few = record {
+  image = g.image;
+  tape = g.tape;
+  declaration = g.declaration;
+  declares = g.declares;
+  lines = g.is.lines;
+  claims = record { lines_are = g.is.lines_are; text_is = g.is.guess_is; few = few };
+  is = record { verdict = Ok tt; is = g.is.accepted; line_is = refl; status_is = refl };
+}
+
+pub guess_is_accepted : GuessIsAccepted
+guess_is_accepted t d guess line status g checked =
+    sym (checks_are_one t d guess (yes_text g.declaration) line Done status (guess_checked t d guess g checked.claims.few) checked).1
+
+pub guess_is_read : GuessIsRead
+guess_is_read t d guess g few = (yes_text g.declaration, guess_checked t d guess g few)
+
+-- ---- what is migrated
+
+any_word : (mq : Words) → mq ≡ all_words → has_some mq ≡ true
+any_word mq same = some_from 4096 mq 0 (omega arith) (rw same refl)
+
+fits_two : (v : Version) (mq : Words) → FitsVersion v mq → FitsVersion Two mq
+fits_two One mq fits = any_word mq fits
+fits_two Two mq fits = fits
+
+statement_two : (v : Version) (s : Statement) → IsStatement v s → IsStatement Two s
+statement_two v s h = record {
+  ac = h.ac;
+  mq = fits_two v s.mq h.mq;
+  link = h.link;
+  cells = h.cells;
+  cells_rise = h.cells_rise;
+  few_cells = h.few_cells;
+  equations = h.equations;
+  equations_rise = h.equations_rise;
+  few_equations = h.few_equations;
+}
+
+facts_two : (v : Version) (fs : List FactLine) → Each (IsFactLine v) fs → Each (IsFactLine Two) fs
+facts_two v [] h = tt
+facts_two v (f ∷ fs) h = (record { address = h.0.address; statement = statement_two v f.statement h.0.statement }, facts_two v fs h.1)
+
+exits_two : (v : Version) (xs : List ExitLine) → Each (IsExit v) xs → Each (IsExit Two) xs
+exits_two v [] h = tt
+exits_two v (x ∷ xs) h =
+    (record { entry = h.0.entry; offset = h.0.offset; statement = statement_two v x.statement h.0.statement }, exits_two v xs h.1)
+
+migrated_lines : (c : Lines) → AreLines c → AreLines (migrated c)
+migrated_lines c h = record {
+  routines = h.routines;
+  routines_rise = h.routines_rise;
+  few_routines = h.few_routines;
+  facts = facts_two c.version c.facts h.facts;
+  facts_rise = h.facts_rise;
+  exits = exits_two c.version c.exits h.exits;
+  exits_rise = h.exits_rise;
+  ends = h.ends;
+}
+
+pub migrated_is_checked_alike : MigratedIsCheckedAlike
+migrated_is_checked_alike t d c m line line' status status' moved x y =
+    let read : IsTextOf c moved.lines = moved.claims in
+    let lines : x.lines ≡ moved.lines = spelling_law.lines x.lines moved.lines x.claims.lines_are read.lines_are (sym x.claims.text_is ∙ read.text_is) in
+    let both : text (migrated x.lines) ≡ text (migrated moved.lines) = ap (λ (l : Lines). text (migrated l)) lines in
+    let same : text (migrated x.lines) ≡ text y.lines = both ∙ sym moved.text_is ∙ y.claims.text_is in
+    let are : AreLines (migrated x.lines) = migrated_lines x.lines x.claims.lines_are in
+    one_answer t d c m line line' status status' x y (lines_alike (migrated x.lines) y.lines are y.claims.lines_are same)

@@ -1,0 +1,244 @@
+-- A run of any events has an answer, and so has one with an operator; and what sources mean, what is written of them and what
+-- is read of that is one.
+use Rattle.std.specs.Prelude.{ℕ, ◌≡◌, ◌<◌, ◌≤◌, Bool, true, Option, Some, List, [], ◌∷◌, IfSome, length, map, ⊤}
+use Rattle.std.specs.List.{AllByRecursion}
+use Rattle.peripherals.specs.declared.Event.{Event}
+use Rattle.peripherals.specs.declared.Event.TheVariants.{Step, Key, PrinterDone, ReaderDone, PunchDone, Switches, Continue}
+use Rattle.command_parts.specs.declared.options.RunOptions.{RunOptions}
+use Rattle.command_parts.specs.declared.status.Fault.{Fault}
+use Rattle.command_parts.specs.declared.status.Fault.TheVariants.{EmptyImage, Source, Device}
+use Rattle.command_parts.specs.declared.status.Fault.TheVariants as fault
+use Rattle.command_parts.specs.declared.status.Status.{Status}
+use Rattle.instruct.specs.declared.Profile.{Profile}
+use Rattle.bin_tape.specs.Image.{IsEmptyImage}
+use Rattle.bin_tape.specs.Written.{written_tape}
+use Rattle.pal_text.specs.declared.names.Name.{Name}
+use Rattle.pal_acts.specs.Permanent.{permanent_symbols}
+use Rattle.pal_asm.specs.Sources.{Means, IsFault}
+use Rattle.pal_asm.specs.declared.fault.PalFault.{PalFault}
+use Rattle.certificate.specs.Faults.{most_bytes}
+use Rattle.search_commands.specs.GuessText.{IsGuess}
+use Rattle.search_commands.specs.MigrateText.{IsMigrated}
+use Rattle.diagnostics.specs.CheckText.{IsCheckedSo}
+use Rattle.command_parts.specs.declared.status.Status.TheVariants.{Done}
+use Rattle.source_commands.specs.AssembleText.{IsAssembled, IsListing, IsListFault, IsSourceFault}
+use Rattle.source_commands.specs.WrittenSource.{IsTapeSource}
+use Rattle.command_parts.specs.Inputs.{HasImage}
+use Rattle.machine_commands.specs.Running.{IsRunOf}
+use Rattle.peripherals.specs.Operator.{Plan}
+use Rattle.machine_commands.specs.Follows.{Follows}
+use Rattle.machine_commands.specs.Schedule.{Whole}
+use Rattle.machine_commands.specs.Session.{IsHeld, IsSession, IsSessionOf}
+use Rattle.machine_commands.specs.Teletype.{run_of, types_by}
+use Rattle.machine_commands.specs.declared.follow.End.{End}
+use Rattle.command_parts.specs.declared.options.TeletypeOptions.{TeletypeOptions}
+use Rattle.peripherals.specs.Devices.{WorldState}
+use Rattle.processor.specs.Runs.{Run, Taken}
+use Rattle.machine_commands.specs.WatchedSession.{IsSessionWatchedSo}
+use Rattle.declaration.specs.Declaration.{Declaration}
+use Rattle.command_parts.specs.declared.options.SessionOptions.{SessionOptions}
+
+-- What an event carries is a byte, or a word.
+abbrev pub Carries : Event → Type 0
+Carries Step = ⊤
+Carries (Key byte) = byte < 256
+Carries PrinterDone = ⊤
+Carries (ReaderDone byte) = byte < 256
+Carries PunchDone = ⊤
+Carries (Switches word) = word < 4096
+Carries Continue = ⊤
+
+-- Whatever the image and the events, and however a halt counts: there is a run, with its text and its status.
+abbrev pub RunsEnd : Type 0
+RunsEnd =
+    (options : RunOptions) (ends_at_halt : Bool) (events : List Event) (image : List (Option ℕ)) → AllByRecursion Carries events →
+    (text : List ℕ) × (status : Status) × IsRunOf options ends_at_halt events image text status
+
+-- There is no other such text and no other status.
+abbrev pub RunsAreOne : Type 0
+RunsAreOne =
+    (options : RunOptions) (ends_at_halt : Bool) (events : List Event) (image : List (Option ℕ))
+    (text text' : List ℕ) (status status' : Status) →
+    IsRunOf options ends_at_halt events image text status → IsRunOf options ends_at_halt events image text' status' →
+    (text ≡ text') × (status ≡ status')
+
+-- What is still to come is bytes, and a word on the switches.
+pub record CarriesAll (plan : Plan) : Type 0 where
+  pub switches : IfSome plan.switches (λ word. word < 4096)
+  pub frames : AllByRecursion (λ byte. byte < 256) plan.frames
+  pub keys : AllByRecursion (λ byte. byte < 256) plan.keys
+
+-- Whatever an operator has in mind and whatever the image, the run comes to an end: with its text, what was printed and
+-- punched, and its status.
+abbrev pub SessionsEnd : Type 0
+SessionsEnd =
+    (options : RunOptions) (plan : Plan) (image : List (Option ℕ)) → CarriesAll plan →
+    (text : List ℕ) × (printed : List ℕ) × (punched : List ℕ) × (status : Status) ×
+    IsSessionOf options Whole plan image text printed punched status
+
+-- There is no other such end.
+abbrev pub SessionsAreOne : Type 0
+SessionsAreOne =
+    (options : RunOptions) (plan : Plan) (image : List (Option ℕ))
+    (text text' printed printed' punched punched' : List ℕ) (status status' : Status) →
+    IsSessionOf options Whole plan image text printed punched status →
+    IsSessionOf options Whole plan image text' printed' punched' status' →
+    (text ≡ text') × (printed ≡ printed') × (punched ≡ punched') × (status ≡ status')
+
+-- A session at the teletype with these frames and these bytes of keys has one end at most.
+abbrev pub TypedAreOne : Type 0
+TypedAreOne =
+    (options : TeletypeOptions) (frames bytes : List ℕ) (image : List (Option ℕ))
+    (text text' printed printed' punched punched' : List ℕ) (status status' : Status) →
+    IsHeld (types_by options frames bytes) (run_of options) true Whole image text printed punched status →
+    IsHeld (types_by options frames bytes) (run_of options) true Whole image text' printed' punched' status' →
+    (text ≡ text') × (printed ≡ printed') × (punched ≡ punched') × (status ≡ status')
+
+-- What events lead to in so many instructions, that many steps of the instruction table lead to, by some answers of the devices.
+abbrev pub FollowsTheTable : Type 0
+FollowsTheTable =
+    (profile : Profile) (ends_at_halt : Bool) (events : List Event) (w x : WorldState) (lines : List ℕ) (steps : ℕ) (end : End) →
+    Follows profile ends_at_halt events w lines steps end x →
+    (taken : List Taken) × (length taken ≡ steps) × Run profile w.state taken x.state
+
+-- These options, but with the start and the machine that are declared.
+abbrev pub as_declared : Declaration → SessionOptions → SessionOptions
+as_declared d options = record options { run = record options.run { start = d.start; profile = d.profile } }
+
+-- The events of a watched run with an operator are those of the run with the same options, on the declared machine and from the
+-- declared start.
+abbrev pub WatchedAsRun : Type 0
+WatchedAsRun =
+    (options : SessionOptions) (tape text reader keys : List ℕ) (explained : Bool) (told : List ℕ) (seen : Status)
+    (written printed punched : List ℕ) (status : Status) →
+    (watched : IsSessionWatchedSo options (Some tape) (Some text) (Some reader) (Some keys) explained told seen) →
+    (run : IsSession (as_declared watched.declaration options) Whole (Some tape) (Some reader) (Some keys) status written printed punched) →
+    watched.watched.events ≡ run.session.events
+
+-- Sources that tell their bytes, which are these parts.
+abbrev pub telling : List (List ℕ) → List (Option (List ℕ))
+telling parts = map Some parts
+
+-- What is written of a source is one tape.
+abbrev pub TapeIsOne : Type 0
+TapeIsOne =
+    (profile : Profile) (parts : List (List ℕ)) (tape tape' : List ℕ) →
+    IsAssembled profile (telling parts) tape → IsAssembled profile (telling parts) tape' → tape ≡ tape'
+
+-- The image that a source means is read of its tape.
+abbrev pub MeantIsRead : Type 0
+MeantIsRead =
+    (profile : Profile) (parts : List (List ℕ)) (symbols : List (Name × ℕ)) (image : List (Option ℕ)) (tape : List ℕ) →
+    IsAssembled profile (telling parts) tape → Means (permanent_symbols profile) parts symbols image → HasImage (Some tape) image
+
+-- The image that is read of a source's tape is the one that the source means.
+abbrev pub ReadIsMeant : Type 0
+ReadIsMeant =
+    (profile : Profile) (parts : List (List ℕ)) (image : List (Option ℕ)) (tape : List ℕ) →
+    IsAssembled profile (telling parts) tape → HasImage (Some tape) image →
+    (symbols : List (Name × ℕ)) × Means (permanent_symbols profile) parts symbols image
+
+-- A source that means an image with a word has a tape, the one that is written of that image.
+abbrev pub TapeIsThere : Type 0
+TapeIsThere =
+    (profile : Profile) (parts : List (List ℕ)) (symbols : List (Name × ℕ)) (image : List (Option ℕ)) →
+    Means (permanent_symbols profile) parts symbols image → (IsEmptyImage image → ⊥) →
+    IsAssembled profile (telling parts) (written_tape image)
+
+-- A source that means an image without a word has no tape.
+abbrev pub EmptyHasNoTape : Type 0
+EmptyHasNoTape =
+    (profile : Profile) (parts : List (List ℕ)) (symbols : List (Name × ℕ)) (image : List (Option ℕ)) (tape : List ℕ) →
+    Means (permanent_symbols profile) parts symbols image → IsEmptyImage image → IsAssembled profile (telling parts) tape → ⊥
+
+-- Of the source that `source` writes of a tape, whose image has a word, `assemble` makes the tape that is written of that
+-- image.
+abbrev pub WrittenIsAssembled : Type 0
+WrittenIsAssembled =
+    (profile : Profile) (frames text : List ℕ) (image : List (Option ℕ)) →
+    IsTapeSource profile (Some frames) text → HasImage (Some frames) image → (IsEmptyImage image → ⊥) →
+    IsAssembled profile (telling (text ∷ [])) (written_tape image)
+
+-- `assemble` makes no other tape of it.
+abbrev pub AssembledIsWritten : Type 0
+AssembledIsWritten =
+    (profile : Profile) (frames text tape : List ℕ) (image : List (Option ℕ)) →
+    IsTapeSource profile (Some frames) text → HasImage (Some frames) image →
+    IsAssembled profile (telling (text ∷ [])) tape → tape ≡ written_tape image
+
+-- Why a source that means an image may have no tape: the image has no word, a device failed, or memory was refused.
+abbrev pub MayMiss : List (Option ℕ) → Fault → Type 0
+MayMiss image EmptyImage = IsEmptyImage image
+MayMiss image (Device device) = Unit {0}
+MayMiss image fault.NoMemory = Unit {0}
+MayMiss image _ = ⊥
+
+-- What a source with a fault may be told: that fault, that a device failed, or that memory was refused.
+abbrev pub MayBeTold : PalFault → Fault → Type 0
+MayBeTold bad (Source told) = told ≡ bad
+MayBeTold bad (Device device) = Unit {0}
+MayBeTold bad fault.NoMemory = Unit {0}
+MayBeTold bad _ = ⊥
+
+-- A source that means an image is refused a tape only since the image has no word, a device failed, or memory was
+-- refused.
+abbrev pub MeantIsWritten : Type 0
+MeantIsWritten =
+    (profile : Profile) (parts : List (List ℕ)) (symbols : List (Name × ℕ)) (image : List (Option ℕ))
+    (marks : List Bool) (left : List (Option (List ℕ))) (fault : Fault) →
+    Means (permanent_symbols profile) parts symbols image → IsSourceFault profile marks (telling parts) left fault → MayMiss image fault
+
+-- A source with a fault is told, where it has no tape, nothing but that fault, a device that failed, or that memory was
+-- refused.
+abbrev pub FaultIsTold : Type 0
+FaultIsTold =
+    (profile : Profile) (parts : List (List ℕ)) (fault : PalFault) (marks : List Bool) (left : List (Option (List ℕ))) (told : Fault) →
+    IsFault (permanent_symbols profile) parts fault → IsSourceFault profile marks (telling parts) left told → MayBeTold fault told
+
+-- A source with a fault has no tape and no listing.
+abbrev pub FaultIsNotWritten : Type 0
+FaultIsNotWritten =
+    (profile : Profile) (parts : List (List ℕ)) (fault : PalFault) (text : List ℕ) →
+    IsFault (permanent_symbols profile) parts fault →
+    (IsAssembled profile (telling parts) text → ⊥) × (IsListing profile (telling parts) text → ⊥)
+
+-- A source that means an image isn't refused its listing for any fault of the source.
+abbrev pub MeantIsListed : Type 0
+MeantIsListed =
+    (profile : Profile) (parts : List (List ℕ)) (symbols : List (Name × ℕ)) (image : List (Option ℕ))
+    (marks : List Bool) (left : List (Option (List ℕ))) (fault : PalFault) →
+    Means (permanent_symbols profile) parts symbols image → IsListFault profile marks (telling parts) left (Source fault) → ⊥
+
+-- A source with a fault isn't refused its listing for any other fault of the source.
+abbrev pub FaultIsTheOne : Type 0
+FaultIsTheOne =
+    (profile : Profile) (parts : List (List ℕ)) (fault told : PalFault) (marks : List Bool) (left : List (Option (List ℕ))) →
+    IsFault (permanent_symbols profile) parts fault → IsListFault profile marks (telling parts) left (Source told) → told ≡ fault
+
+-- The bytes of a tape, a declaration and a certificate have one verdict: one line and one status.
+abbrev pub ChecksAreOne : Type 0
+ChecksAreOne =
+    (tape declaration certificate line line' : List ℕ) (status status' : Status) →
+    IsCheckedSo (Some tape) (Some declaration) (Some certificate) line status →
+    IsCheckedSo (Some tape) (Some declaration) (Some certificate) line' status' → (line ≡ line') × (status ≡ status')
+
+-- To what `guess` writes for a tape and a declaration, `check` says yes: where it has a verdict, that has the status of
+-- success.
+abbrev pub GuessIsAccepted : Type 0
+GuessIsAccepted =
+    (tape declaration guess line : List ℕ) (status : Status) → IsGuess (Some tape) (Some declaration) guess →
+    IsCheckedSo (Some tape) (Some declaration) (Some guess) line status → status ≡ Done
+
+-- What `guess` writes is read by `check`, if it has no more bytes than are read of a certificate, and has a verdict then: yes.
+abbrev pub GuessIsRead : Type 0
+GuessIsRead =
+    (tape declaration guess : List ℕ) → IsGuess (Some tape) (Some declaration) guess → length guess ≤ most_bytes →
+    (line : List ℕ) × IsCheckedSo (Some tape) (Some declaration) (Some guess) line Done
+
+-- Of what `migrate` writes of a certificate, where `check` has a verdict on both, it says what it says of the
+-- certificate itself, in line and status.
+abbrev pub MigratedIsCheckedAlike : Type 0
+MigratedIsCheckedAlike =
+    (tape declaration certificate migrated line line' : List ℕ) (status status' : Status) → IsMigrated (Some certificate) migrated →
+    IsCheckedSo (Some tape) (Some declaration) (Some certificate) line status →
+    IsCheckedSo (Some tape) (Some declaration) (Some migrated) line' status' → (line ≡ line') × (status ≡ status')

@@ -1,0 +1,146 @@
+//! Laws over the definitions alone. Each is the contract of a function that does nothing.
+
+ghost use Rattle.std.specs.Prelude.{◌≡◌, false, Result, ⊤};
+ghost use Rattle.command_parts.specs.Answers.{FailsBy, ReadsOne, ReadsRun, ReadsTwo};
+ghost use Rattle.command_parts.specs.Inputs.{Input, input};
+ghost use Rattle.command_parts.specs.declared.status.Fault.{Fault};
+ghost use Rattle.diagnostics.specs.CertificateFaults.{ReadsCertificate, ReadsCertified};
+ghost use Rattle.command_laws.specs.InOrder.{CertificateInOrder, CertifiedInOrder, RunInOrder, TapeInOrder, TwoInOrder, Work, later_fault};
+ghost use Rattle.command_laws.specs.Laws.{AssembledIsWritten, ChecksAreOne, EmptyHasNoTape, FaultIsNotWritten, FaultIsTheOne, FaultIsTold, FollowsTheTable, GuessIsAccepted, GuessIsRead, MeantIsListed, MeantIsRead, MeantIsWritten, MigratedIsCheckedAlike, ReadIsMeant, RunsAreOne, RunsEnd, SessionsAreOne, SessionsEnd, TapeIsOne, TapeIsThere, TypedAreOne, WatchedAsRun, WrittenIsAssembled};
+
+use bin_tape::laws::tapes_have_one_answer;
+use pal_asm::laws::{meant_are_words, sources_have_one_answer};
+use peripherals::laws::events_are_runs;
+use streams::ByteSource;
+
+/// From every image each list of events has a run, with its text and its status, and has no other.
+/// So what a run is said to write is there, whatever the tape does.
+pub fn runs_end()
+    ensures end { RunsEnd }
+    ensures one { RunsAreOne }
+{}
+
+/// Whatever tape an operator puts into the reader and whatever keys are struck, a run of so many
+/// rounds comes to an end, and to no other. So what a run with an operator is said to write is
+/// there.
+pub fn sessions_end()
+    ensures end { SessionsEnd }
+    ensures one { SessionsAreOne }
+{}
+
+/// A session at the teletype comes to no other end, whatever frames are in the reader and whatever keys
+/// are struck.
+pub fn typed_sessions_are_one()
+    ensures { TypedAreOne }
+{}
+
+/// A run is one of the instruction table, whether rounds, a list of events, an operator or a session at
+/// the teletype drives it: as many steps of the table as it counts lead to its end.
+pub fn runs_follow_the_table()
+    ensures { FollowsTheTable }
+{
+    events_are_runs();
+}
+
+/// `watch` with an operator watches exactly the events that `run` makes of the same options, where the
+/// run is on the declared machine and begins at the declared start.
+pub fn watched_sessions_are_runs()
+    ensures { WatchedAsRun }
+{
+    tapes_have_one_answer();
+}
+
+/// From a source to its tape and to the image that is read of the tape is one function, in both
+/// directions: a source that means an image with a word has a tape, and one without a word has none;
+/// the tape that `assemble` writes is one, the image that the source means is read of it, and whatever
+/// image is read of it is the one that the source means.
+pub fn sources_are_read_back()
+    ensures there { TapeIsThere }
+    ensures empty { EmptyHasNoTape }
+    ensures tape { TapeIsOne }
+    ensures read { MeantIsRead }
+    ensures meant { ReadIsMeant }
+{
+    sources_have_one_answer();
+    meant_are_words();
+}
+
+/// From a tape to its source and back is one way: of the source that `source` writes of a tape `assemble`
+/// makes the tape that is written of that tape's image, and no other.
+pub fn written_sources_come_back()
+    ensures there { WrittenIsAssembled }
+    ensures only { AssembledIsWritten }
+{
+    sources_have_one_answer();
+    meant_are_words();
+}
+
+/// What `assemble` and `list` answer is exact in both directions. A source that means something is
+/// refused only for want of a word, of memory or of a device; one with a fault is told that fault,
+/// or that a device or memory failed, and nothing is written of it.
+pub fn assemblies_are_exact()
+    ensures meant { MeantIsWritten }
+    ensures told { FaultIsTold }
+    ensures unwritten { FaultIsNotWritten }
+    ensures listed { MeantIsListed }
+    ensures one { FaultIsTheOne }
+{
+    sources_have_one_answer();
+}
+
+/// The bytes of a tape, a declaration and a certificate have at most one verdict. To what `guess` writes
+/// it is yes, and to what `migrate` writes it is that of the certificate which was migrated, unless it's
+/// longer than what is read.
+pub fn checks_are_one()
+    ensures one { ChecksAreOne }
+    ensures guessed { GuessIsAccepted }
+    ensures read { GuessIsRead }
+    ensures migrated { MigratedIsCheckedAlike }
+{}
+
+/// Of a command that reads one input, and then does its work: a fault is that of the input, or after a good one
+/// that of the work; a read failed exactly where the answer says so; and no more is taken than may be.
+pub fn single_inputs_are_told<T>()
+    ensures tape { (work : Work) (tape : Input) (result : Result T Fault) →
+        ReadsOne (later_fault work) tape result → TapeInOrder (later_fault work) tape result }
+    ensures certificate { (work : Work) (certificate : Input) (result : Result T Fault) →
+        ReadsCertificate certificate ⊤ (FailsBy (later_fault work)) result →
+        CertificateInOrder (later_fault work) certificate result }
+{}
+
+/// Of a command that reads a tape and a declaration, and then does its work: a fault is that of the first input that
+/// has one, or after good ones that of the work; a read failed exactly where the answer says so; the declaration isn't
+/// touched after a tape that is refused or whose read failed, but only after a good one; and no more is taken than
+/// may be.
+pub fn two_inputs_are_read_in_order<D: ByteSource, T>()
+    ensures { (work : Work) (tape : Input) (old new : D) (result : Result T Fault) →
+        D.mark old ≡ false →
+        ReadsTwo (later_fault work) tape
+        (input (D.mark new) (D.remaining old) (D.remaining new)) (new ≡ old) result →
+        TwoInOrder (later_fault work) tape
+        (input (D.mark new) (D.remaining old) (D.remaining new)) (new ≡ old) result }
+{}
+
+/// The same of a command that reads a certificate after that, or a text of events.
+pub fn three_inputs_are_read_in_order<D: ByteSource, E: ByteSource, T>()
+    ensures certified { (work : Work) (tape : Input) (old new : D) (old_third new_third : E)
+        (result : Result T Fault) → D.mark old ≡ false → E.mark old_third ≡ false →
+        ReadsCertified (later_fault work) tape
+        (input (D.mark new) (D.remaining old) (D.remaining new))
+        (input (E.mark new_third) (E.remaining old_third) (E.remaining new_third))
+        (new ≡ old) (new_third ≡ old_third) result →
+        CertifiedInOrder (later_fault work) tape
+        (input (D.mark new) (D.remaining old) (D.remaining new))
+        (input (E.mark new_third) (E.remaining old_third) (E.remaining new_third))
+        (new ≡ old) (new_third ≡ old_third) result }
+    ensures run { (work : Work) (tape : Input) (old new : D) (old_third new_third : E)
+        (result : Result T Fault) → D.mark old ≡ false → E.mark old_third ≡ false →
+        ReadsRun (later_fault work) tape
+        (input (D.mark new) (D.remaining old) (D.remaining new))
+        (input (E.mark new_third) (E.remaining old_third) (E.remaining new_third))
+        (new ≡ old) (new_third ≡ old_third) result →
+        RunInOrder (later_fault work) tape
+        (input (D.mark new) (D.remaining old) (D.remaining new))
+        (input (E.mark new_third) (E.remaining old_third) (E.remaining new_third))
+        (new ≡ old) (new_third ≡ old_third) result }
+{}

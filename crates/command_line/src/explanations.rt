@@ -1,0 +1,165 @@
+//! What is said about each condition, rule and fault, which are named by codes: what it asks or means, and what to do.
+//! The pages say the same. This is tested and not proved.
+
+mod conditions;
+mod faults;
+mod rules;
+
+use crate::explanations::conditions::conditions;
+use crate::explanations::faults::faults;
+use crate::explanations::rules::rules;
+use std::alloc::{AllocError, Allocator};
+
+/// The column in which the list of codes says what they mean.
+const COLUMN: usize = 18;
+
+/// What a code stands for.
+#[derive(Clone, Copy)]
+pub(crate) enum Subject {
+    /// A condition or a rule with this name.
+    Asked(&'static str),
+    /// A fault, with an example of its line, without `pdp8: `.
+    Fault(&'static str),
+}
+
+/// What is said about a code.
+#[derive(Clone, Copy)]
+pub(crate) struct Explanation {
+    /// The code. Several faults may have the same code.
+    pub(crate) code: &'static str,
+    /// What it stands for.
+    pub(crate) subject: Subject,
+    /// What it asks, or what the fault means.
+    pub(crate) meaning: &'static str,
+    /// What to do.
+    pub(crate) advice: &'static str,
+}
+
+impl Explanation {
+    /// Adds the line that says what it is, and the beginning of the next line.
+    fn push_subject<A: Allocator>(&self, text: &mut String<A>) -> Result<(), AllocError> {
+        match self.subject {
+            Subject::Asked(name) => {
+                text.push_str(self.code)?;
+                text.push_str(": ")?;
+                text.push_str(name)?;
+                text.push_str("\nasked: ")
+            }
+            Subject::Fault(line) => {
+                text.push_str(line)?;
+                text.push_str("\nmeaning: ")
+            }
+        }
+    }
+
+    /// Adds everything that is said about it.
+    fn push_whole<A: Allocator>(&self, text: &mut String<A>) -> Result<(), AllocError> {
+        self.push_subject(text)?;
+        text.push_str(self.meaning)?;
+        text.push_str("\nwhat to do: ")?;
+        text.push_str(self.advice)?;
+        text.push_str("\n")
+    }
+
+    /// Adds what it means and what to do, one line for each.
+    fn push_advice<A: Allocator>(&self, text: &mut String<A>) -> Result<(), AllocError> {
+        text.push_str(self.meaning)?;
+        text.push_str("\nwhat to do: ")?;
+        text.push_str(self.advice)?;
+        text.push_str("\n")
+    }
+
+    /// Adds its line in the list of codes.
+    fn push_listed<A: Allocator>(&self, text: &mut String<A>) -> Result<(), AllocError> {
+        text.push_str(self.code)?;
+        for _ in self.code.len()..COLUMN {
+            text.push(' ')?;
+        }
+        match self.subject {
+            Subject::Asked(name) => text.push_str(name)?,
+            Subject::Fault(_) => text.push_str(self.meaning)?,
+        }
+        text.push_str("\n")
+    }
+}
+
+/// Adds what a table says about a code, and tells whether it says anything.
+fn push_from<A: Allocator>(
+    text: &mut String<A>,
+    table: &[Explanation],
+    code: &str,
+) -> Result<bool, AllocError> {
+    let mut is_known = false;
+    for explanation in table {
+        if explanation.code.eq_ignore_ascii_case(code) {
+            if is_known {
+                text.push_str("\n")?;
+            }
+            explanation.push_whole(text)?;
+            is_known = true;
+        }
+    }
+    Ok(is_known)
+}
+
+/// Adds what a table advises about a code.
+fn push_advice_from<A: Allocator>(
+    text: &mut String<A>,
+    table: &[Explanation],
+    code: &str,
+) -> Result<(), AllocError> {
+    for explanation in table {
+        if *explanation.code == *code {
+            explanation.push_advice(text)?;
+        }
+    }
+    Ok(())
+}
+
+/// Adds the lines of a table in the list of codes.
+fn push_table<A: Allocator>(text: &mut String<A>, table: &[Explanation]) -> Result<(), AllocError> {
+    for explanation in table {
+        explanation.push_listed(text)?;
+    }
+    Ok(())
+}
+
+/// Adds what is said about a code, such as `V5`, `rule2` or `IR`. If several faults have the code, all of them are
+/// explained, with an empty line between two. Case is ignored. Tells whether the code is in the list.
+///
+/// # Errors
+///
+/// `AllocError` if memory was refused.
+pub fn push_explanations<A: Allocator>(
+    text: &mut String<A>,
+    code: &str,
+) -> Result<bool, AllocError> {
+    let is_condition = push_from(text, conditions(), code)?;
+    let is_rule = push_from(text, rules(), code)?;
+    let is_fault = push_from(text, faults(), code)?;
+    Ok(is_condition || is_rule || is_fault)
+}
+
+/// Adds what the fault with a code such as `TurnsSpent` means, and what to do. It is for faults that are not in a
+/// line of a file. If no fault has the code, it adds nothing.
+///
+/// # Errors
+///
+/// `AllocError` if memory was refused.
+pub fn push_advice<A: Allocator>(text: &mut String<A>, code: &str) -> Result<(), AllocError> {
+    push_advice_from(text, faults(), code)
+}
+
+/// Adds the list of codes, one line for each: conditions, rules and faults.
+///
+/// # Errors
+///
+/// `AllocError` if memory was refused.
+pub fn push_codes<A: Allocator>(text: &mut String<A>) -> Result<(), AllocError> {
+    text.push_str(
+        "pdp8 explain CODE says what a code asks or means, and what to do. The codes:\n",
+    )?;
+    push_table(text, conditions())?;
+    push_table(text, rules())?;
+    push_table(text, faults())
+}

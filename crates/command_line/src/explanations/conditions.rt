@@ -1,0 +1,102 @@
+//! The conditions on a certificate.
+
+use crate::explanations::{Explanation, Subject};
+
+/// What is said about each of them, in the order of the pages.
+static CONDITIONS: [Explanation; 15] = [
+    Explanation {
+        code: "V1",
+        subject: Subject::Asked("the fact at the start holds for every start"),
+        meaning: "there is a fact at the start, and it holds for every start",
+        advice: "At the start, AC, the link, MQ and cells without a word on the tape\nmay hold anything. Clear what you rely on, with `CLA CLL`, and let the fact say\n`ac 0000-7777 link 01`.",
+    },
+    Explanation {
+        code: "V2",
+        subject: Subject::Asked("lines stand where they are allowed"),
+        meaning: "a fact is in a body, and has offsets only in a routine; routine and exit\nlines are at entries",
+        advice: "A fact in a routine's body has an offset, and the routine has its\nown line. Remove the line, or declare the cell as part of a body.",
+    },
+    Explanation {
+        code: "V3",
+        subject: Subject::Asked("each word that the cell may hold is an instruction"),
+        meaning: "at most 64 words are possible, and each is supported",
+        advice: "A word of the PDP-8/E (docs/MACHINE.md), such as MQL, needs\n`profile 8e`. V3 also fails at a cell that is not on the tape and is never\nstored in, because it may hold any word: does the program run on, or jump to a\nmonitor or loader? In code that changes, mask the word (`AND`) before it is\nstored, so that few words are possible.",
+    },
+    Explanation {
+        code: "V4",
+        subject: Subject::Asked("there is a fact wherever the run goes on, and it is entailed"),
+        meaning: "wherever the run may go on there is a fact in the same body that allows\nwhat is possible",
+        advice: "If the address is outside the body, the program runs on past its\nlast instruction, or jumps into data or into a routine. End it with HLT or JMP,\nor declare more of it as the body. Otherwise the fact there claims more than is\ntrue: run `guess` again, or write there what holds in every iteration of a\nloop.",
+    },
+    Explanation {
+        code: "V5",
+        subject: Subject::Asked("what may be written is declared"),
+        meaning: "each cell that a word may write, except the cell in which a JMS stores,\nis a variable or an entry",
+        advice: "Declare the cell, as in `var 0213`, if it is meant to change. An\ninstruction that stores through a pointer may write each cell whose address the\npointer may hold. An indirect reference through a cell 0010 to 0017 also writes\nthat cell, because it increments it. Bound a pointer that may run too far:\ncount the table with ISZ, or compare the pointer with the end of the table\nbefore it is used.",
+    },
+    Explanation {
+        code: "V6",
+        subject: Subject::Asked("what a routine writes is in its written set"),
+        meaning: "each cell that a word may write, except the cell in which a JMS stores,\nis in the routine's written set or is its entry",
+        advice: "The routine's line needs the cell, as in `writes 0213`. At the\ncall, its callers then lose what they knew about that cell. Nothing is asked of\nmain.",
+    },
+    Explanation {
+        code: "V7",
+        subject: Subject::Asked("a JMS goes to a listed entry of lower rank"),
+        meaning: "a JMS calls listed entries of lower rank, and not through an auto-index\ncell",
+        advice: "Declare the routine, as in `sub 0206 body 0207-0211 returns 0`. A\nJMS through a pointer needs a pointer outside 0010 to 0017 that can hold only\nentries. In a routine, the callee must have a lower rank; main may call any\nroutine. So calls that form a circle (recursion) cannot be certified: such a\ncall overwrites a return address that is still needed. Break the circle: Stuck\nnames the call in it that has the lowest address.",
+    },
+    Explanation {
+        code: "V8",
+        subject: Subject::Asked("the caller's written set includes what its callee writes"),
+        meaning: "the callee's entry and what it may write are in the caller's written\nset, and the caller's entry is not in the callee's",
+        advice: "The caller's line needs the callee's entry and all that the callee\nwrites, as in `writes 0206,0213`. Nothing is asked of main.",
+    },
+    Explanation {
+        code: "V9",
+        subject: Subject::Asked("each call is a listed site"),
+        meaning: "a JMS is at a listed site of its callee, at an address of at most 7767",
+        advice: "The callee's line needs the call, as in `sites 0204`. Move a JMS\nthat is at an address from 7770 to 7777: its return address plus an offset\ncould exceed 7777.",
+    },
+    Explanation {
+        code: "V10",
+        subject: Subject::Asked("what the caller knows is enough for the callee"),
+        meaning: "the fact at the callee's first address allows what is possible",
+        advice: "Say at the routine's first address what holds at all its calls, or\nclear the accumulator before the call. The cell after the entry must be in the\nroutine's body.",
+    },
+    Explanation {
+        code: "V11",
+        subject: Subject::Asked("what the exit says is enough for the caller"),
+        meaning: "the fact at each return address allows what is possible",
+        advice: "This is asked for each exit line of the callee. The exit, together\nwith what the caller knew about cells that the callee does not write, must\nentail the fact at the return address, which must be in the caller's own body.\nSay in the exit what holds there, or expect less after the call. If the return\naddress is outside the body, declare the cells after the JMS as code, or\ncorrect the return offset. If these cells are text that the routine reads, V12\nsays what to do.",
+    },
+    Explanation {
+        code: "V12",
+        subject: Subject::Asked("a return uses the routine's own entry and a declared offset"),
+        meaning: "a return is through the routine's own entry, by declared offsets, and\nthe exit lines allow what is possible",
+        advice: "Declare the offset, as in `returns 0 1`, or increment the return\nword (ISZ of the entry) as declared. Return only through the routine's own\nentry. In a certificate each offset needs its exit line, and the fact at the\nreturn must entail it. Offsets are 0 to 7. So a routine that reads the text\nafter its JMS in a loop up to a zero, and then returns beyond the zero, gets no\ncertificate: nothing ties the offset to the word that was read. Put the address\nof the text after the JMS (`returns 1`), or into AC.",
+    },
+    Explanation {
+        code: "V13",
+        subject: Subject::Asked("a HLT is declared"),
+        meaning: "a HLT is at a declared halt",
+        advice: "Declare it, as in `stop 0202`, or as in `pause 0202` if the\noperator may press CONTINUE there; what follows must then be in the body.",
+    },
+    Explanation {
+        code: "V14",
+        subject: Subject::Asked("return words are not overwritten"),
+        meaning: "no word writes an entry, except that a JMS stores its return address\nthere and an ISZ may increment the routine's own",
+        advice: "A routine cannot make its caller skip. Let it return with an offset\nof its own (a skip return), and let the caller then increment its own return\nword. An ISZ may increment its routine's own entry, up to offset 7, if it can\nstore nowhere else.",
+    },
+    Explanation {
+        code: "V15",
+        subject: Subject::Asked("what may be read is listed"),
+        meaning: "each cell that a word may read is on the list of reads or is the\nroutine's entry",
+        advice: "List the cell, as in `read 0212`, or leave out all `read` lines:\nthen any cell may be read. Bound a pointer as for V5.",
+    },
+];
+
+/// What is said about the conditions.
+pub(crate) fn conditions() -> &'static [Explanation] {
+    &CONDITIONS
+}

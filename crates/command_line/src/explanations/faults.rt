@@ -1,0 +1,270 @@
+//! The faults of inputs, searches, files and memory.
+
+use crate::explanations::{Explanation, Subject};
+
+/// What is said about each of them, in the order of the pages.
+static FAULTS: [Explanation; 43] = [
+    Explanation {
+        code: "NoWord",
+        subject: Subject::Fault("tape: NoWord"),
+        meaning: "the tape ends before any word",
+        advice: "it is another file, or its beginning is missing",
+    },
+    Explanation {
+        code: "NoOrigin",
+        subject: Subject::Fault("tape: NoOrigin"),
+        meaning: "a data word comes before any origin",
+        advice: "it is another file, or its beginning is missing",
+    },
+    Explanation {
+        code: "BadFrame",
+        subject: Subject::Fault("tape: BadFrame 2"),
+        meaning: "the frame at this place is not allowed there",
+        advice: "a frame was misread, lost or duplicated: read the tape again; do\nnot correct the sum by hand",
+    },
+    Explanation {
+        code: "WrongField",
+        subject: Subject::Fault("tape: WrongField 1"),
+        meaning: "the frame at this place selects a field other than 0",
+        advice: "the tape loads a field other than 0; nothing can be said about that\nhere",
+    },
+    Explanation {
+        code: "Truncated",
+        subject: Subject::Fault("tape: Truncated"),
+        meaning: "the tape ends within a word or a rubout, or without a trailer",
+        advice: "reading stopped too early: read on to the trailer",
+    },
+    Explanation {
+        code: "NoChecksum",
+        subject: Subject::Fault("tape: NoChecksum"),
+        meaning: "the last word before the trailer is an origin",
+        advice: "a frame was misread, lost or duplicated: read the tape again; do\nnot correct the sum by hand",
+    },
+    Explanation {
+        code: "Checksum",
+        subject: Subject::Fault("tape: Checksum 0201 0200"),
+        meaning: "the first number is the checksum on the tape, the second is the checksum of its words",
+        advice: "a frame was misread, lost or duplicated: read the tape again; do\nnot correct the sum by hand; of a RIM tape: it has no checksum, so its last\nword is taken for one: add one (docs/FORMATS.md)",
+    },
+    Explanation {
+        code: "TooLong",
+        subject: Subject::Fault("tape: TooLong"),
+        meaning: "65,536 frames contain no trailer and no fault, and another frame follows",
+        advice: "it is another file, or its beginning is missing",
+    },
+    Explanation {
+        code: "EmptyImage",
+        subject: Subject::Fault("tape: EmptyImage"),
+        meaning: "the source generates no code, so there is no tape to write",
+        advice: "the source generates no code: is it the right one, or does `$` come\ntoo early?",
+    },
+    Explanation {
+        code: "IC",
+        subject: Subject::Fault("source: IC 1 2"),
+        meaning: "part 1, line 2: a character or a form that the language does not have",
+        advice: "in part p, line l, remove or rewrite what the language\n(docs/PAL.md) does not have: macros, parentheses, texts in quotes, lower-case\nletters",
+    },
+    Explanation {
+        code: "RD",
+        subject: Subject::Fault("source: RD 1 2"),
+        meaning: "a symbol that has a value is given another value",
+        advice: "give the second symbol another name, or the same value",
+    },
+    Explanation {
+        code: "DT",
+        subject: Subject::Fault("source: DT 1 2"),
+        meaning: "a tag whose symbol has another value",
+        advice: "use a tag only once, and do not use the name of an instruction as a\ntag",
+    },
+    Explanation {
+        code: "UA",
+        subject: Subject::Fault("source: UA 1 2"),
+        meaning: "a symbol without a value",
+        advice: "define the symbol, and do so before any line that uses it for a\nvalue or an origin; or the source needs something that is left out\n(docs/PAL.md); of MQL and the like: use `--profile 8e`, or the line\n`profile 8e` if there is a declaration",
+    },
+    Explanation {
+        code: "IR",
+        subject: Subject::Fault("source: IR 1 2"),
+        meaning: "an address that is on neither page zero nor the instruction's page, or is past page zero after Z",
+        advice: "the cell is on another page: put its address into a cell of this\npage and refer to it with `I`",
+    },
+    Explanation {
+        code: "NB",
+        subject: Subject::Fault("source: NB 1 2"),
+        meaning: "a number above 7777, or above 4095 under DECIMAL",
+        advice: "a number has at most twelve bits: 7777, or 4095 under DECIMAL",
+    },
+    Explanation {
+        code: "PA",
+        subject: Subject::Fault("source: PA 1 2"),
+        meaning: "PAUSE in the last part",
+        advice: "also name the part that follows, or remove PAUSE",
+    },
+    Explanation {
+        code: "ST",
+        subject: Subject::Fault("source: ST 1 2"),
+        meaning: "a 1,025th user symbol",
+        advice: "use at most 1,024 user symbols",
+    },
+    Explanation {
+        code: "TL",
+        subject: Subject::Fault("source: TL 1 0"),
+        meaning: "a part has more than 65,536 bytes; with `0 0` there are more than 16 parts",
+        advice: "split the source: a part has at most 65,536 bytes, and there are 1\nto 16 parts",
+    },
+    Explanation {
+        code: "BadLine",
+        subject: Subject::Fault("declaration: BadLine 2"),
+        meaning: "the line is not a line of a declaration",
+        advice: "write line n as one of these lines (docs/DECLARATIONS.md): octal\naddresses, ascending ranges, lower-case letters, offsets 0 to 7 one by one",
+    },
+    Explanation {
+        code: "TwoStarts",
+        subject: Subject::Fault("declaration: TwoStarts 3"),
+        meaning: "the line is a second `start`",
+        advice: "write one `start` line and at most one `profile` line",
+    },
+    Explanation {
+        code: "TwoProfiles",
+        subject: Subject::Fault("declaration: TwoProfiles 3"),
+        meaning: "the line is a second `profile`",
+        advice: "write one `start` line and at most one `profile` line",
+    },
+    Explanation {
+        code: "NoStart",
+        subject: Subject::Fault("declaration: NoStart"),
+        meaning: "there is no `start` line",
+        advice: "write one `start` line and at most one `profile` line",
+    },
+    Explanation {
+        code: "Overlap",
+        subject: Subject::Fault("declaration: Overlap 0200"),
+        meaning: "the cell has two roles that exclude each other (docs/DECLARATIONS.md)",
+        advice: "remove one of the roles that clash (docs/DECLARATIONS.md); code\nthat changes may be both in a body and a variable",
+    },
+    Explanation {
+        code: "EntryInAutoIndex",
+        subject: Subject::Fault("declaration: EntryInAutoIndex 0010"),
+        meaning: "the entry is one of the cells 0010 to 0017",
+        advice: "move the routine: the cells 0010 to 0017 change when they are used\nas pointers",
+    },
+    Explanation {
+        code: "StartNotInMain",
+        subject: Subject::Fault("declaration: StartNotInMain"),
+        meaning: "the start is not in main's body",
+        advice: "put the start into `main`",
+    },
+    Explanation {
+        code: "HaltNotInBody",
+        subject: Subject::Fault("declaration: HaltNotInBody 0204"),
+        meaning: "the stop or pause is not in any body",
+        advice: "put the address into `main`, or into the body of its routine",
+    },
+    Explanation {
+        code: "TooMany",
+        subject: Subject::Fault("declaration: TooMany"),
+        meaning: "more than 64 routines, or more than 16,384 bytes",
+        advice: "use at most 64 routines and 16,384 bytes",
+    },
+    Explanation {
+        code: "NoSymbol",
+        subject: Subject::Fault("declaration: NoSymbol 2"),
+        meaning: "a symbol on the line has no value in the source",
+        advice: "use a symbol of the source, or octal digits",
+    },
+    Explanation {
+        code: "PastMemory",
+        subject: Subject::Fault("declaration: PastMemory 2"),
+        meaning: "an address on the line is below 0000 or above 7777",
+        advice: "name a cell from 0000 to 7777",
+    },
+    Explanation {
+        code: "Backwards",
+        subject: Subject::Fault("declaration: Backwards 2"),
+        meaning: "a range on the line that has a symbol ends below its first address",
+        advice: "put the lower address of the range first",
+    },
+    Explanation {
+        code: "BadLine",
+        subject: Subject::Fault("events: BadLine 2"),
+        meaning: "the line is not an event",
+        advice: "write line n as a line of events (docs/FORMATS.md); use at most\n65,536 bytes and 1,000,000 events",
+    },
+    Explanation {
+        code: "TooMany",
+        subject: Subject::Fault("events: TooMany"),
+        meaning: "more than 1,000,000 events, or more than 65,536 bytes",
+        advice: "write line n as a line of events (docs/FORMATS.md); use at most\n65,536 bytes and 1,000,000 events",
+    },
+    Explanation {
+        code: "Version",
+        subject: Subject::Fault("certificate: Version"),
+        meaning: "the first line has an unknown version",
+        advice: "the first line must be `PDP8-CERTIFICATE 1` or `2`; if the file is\nempty, `guess` without `-o` found nothing",
+    },
+    Explanation {
+        code: "BadLine",
+        subject: Subject::Fault("certificate: BadLine 2"),
+        meaning: "the line is not allowed there, is not spelled as required, is not ended, or is missing",
+        advice: "each line has only one spelling: `0000-0001`, not `0000,0001`; one\nspace between words; no carriage return; or `end` is missing",
+    },
+    Explanation {
+        code: "Order",
+        subject: Subject::Fault("certificate: Order 9"),
+        meaning: "the line is out of order or a duplicate line",
+        advice: "write routines, facts and exits by ascending address, `cell` before\n`equal`, and nothing twice",
+    },
+    Explanation {
+        code: "TooMany",
+        subject: Subject::Fault("certificate: TooMany"),
+        meaning: "more than 64 routines, 1,048,576 bytes, or 64 cells or 32 equations in a fact or an exit",
+        advice: "use at most 64 routines, 64 cells and 32 equations under a line,\nand 1,048,576 bytes; say less",
+    },
+    Explanation {
+        code: "Stuck",
+        subject: Subject::Fault("guess: Stuck 0203"),
+        meaning: "usually `check` would refuse the instruction there by what is known; in a circle of calls, this is the call with the lowest address",
+        advice: "`--why` names the condition",
+    },
+    Explanation {
+        code: "TurnsSpent",
+        subject: Subject::Fault("guess: TurnsSpent"),
+        meaning: "the limit of 2,000,000 turns was reached; a turn is one look at what an instruction may do",
+        advice: "declare fewer variables; mask words (`AND`) before they are stored;\nor search for a run with more `--steps` of `refute`",
+    },
+    Explanation {
+        code: "Undeclarable",
+        subject: Subject::Fault("declare: Undeclarable TooMany"),
+        meaning: "what was found cannot be declared: the declaration's fault follows",
+        advice: "write the declaration by hand; NAME is the fault of the proposal",
+    },
+    Explanation {
+        code: "Mismatch",
+        subject: Subject::Fault("declare: Mismatch"),
+        meaning: "what was found is not for the start, machine or reads that were asked for; no program is known for which this happens",
+        advice: "write the declaration by hand",
+    },
+    Explanation {
+        code: "ReadFault",
+        subject: Subject::Fault("device: ReadFault"),
+        meaning: "an input cannot be opened or read",
+        advice: "a file cannot be opened, read, created or written: check its name,\nits permissions and the room on the disk; `--why` names the file, or both if\nthere are two outputs",
+    },
+    Explanation {
+        code: "WriteFault",
+        subject: Subject::Fault("device: WriteFault"),
+        meaning: "an output cannot be created or written, or a pipe was closed, as by `head`",
+        advice: "a file cannot be opened, read, created or written: check its name,\nits permissions and the room on the disk; `--why` names the file, or both if\nthere are two outputs",
+    },
+    Explanation {
+        code: "NoMemory",
+        subject: Subject::Fault("memory: NoMemory"),
+        meaning: "memory was refused",
+        advice: "give the program more memory",
+    },
+];
+
+/// What is said about the faults.
+pub(crate) fn faults() -> &'static [Explanation] {
+    &FAULTS
+}

@@ -1,0 +1,54 @@
+//! The rules for the steps of a run.
+
+use crate::explanations::{Explanation, Subject};
+
+/// What is said about each of them, in the order of the pages.
+static RULES: [Explanation; 7] = [
+    Explanation {
+        code: "rule1",
+        subject: Subject::Asked("the body"),
+        meaning: "The program counter is in the body of the running routine, and the\ndeclared machine implements the word there.\nfor example: HLT is missing, and execution runs on into data",
+        advice: "end with HLT or JMP; return with `JMP I`; declare all code; use\n`profile 8e` for a word of the PDP-8/E",
+    },
+    Explanation {
+        code: "rule2",
+        subject: Subject::Asked("writes"),
+        meaning: "Each cell that the step writes is a variable, or it is the running\nroutine's own entry and the step is an ISZ.\nfor example: a pointer in 0010 to 0017 is incremented before it is used, so it\nmust begin one lower",
+        advice: "add a `var` line for what is meant to change, including such a\npointer; otherwise as for V5 and V14",
+    },
+    Explanation {
+        code: "rule3",
+        subject: Subject::Asked("calls"),
+        meaning: "A JMS goes to an entry.\nfor example: `JMS I TYPE` goes to the address that TYPE's entry happens to hold",
+        advice: "write `JMS TYPE`; declare a `sub` line for each routine; make\ntables of entries, not of first instructions",
+    },
+    Explanation {
+        code: "rule4",
+        subject: Subject::Asked("returns"),
+        meaning: "If a JMP I goes through an entry, the last call was to this entry, and\nthe JMP I goes to that call's return address plus a declared offset.\nfor example: `JMP I TYPE` in a routine other than TYPE",
+        advice: "return through the routine's own entry; declare each offset; do not\ncall a routine again before it has returned",
+    },
+    Explanation {
+        code: "rule5",
+        subject: Subject::Asked("halts"),
+        meaning: "A HLT is at a declared stop or pause.\nfor example: a HLT is executed if the punch is not ready yet",
+        advice: "add a `stop` or `pause` line, or remove the HLT",
+    },
+    Explanation {
+        code: "rule6",
+        subject: Subject::Asked("fixed code"),
+        meaning: "Each cell of a body that is on the tape and is not a variable holds the\ntape's word.",
+        advice: "no run violates this rule first; declare a cell of a body that is\nmeant to change as a `var` too",
+    },
+    Explanation {
+        code: "rule7",
+        subject: Subject::Asked("reads"),
+        meaning: "If reads are listed, each cell that the step reads is on the list or is\nthe running routine's own entry.\nfor example: the count is one too large, and the word after the table is read",
+        advice: "add a `read` line, or a bound as for V5",
+    },
+];
+
+/// What is said about the rules.
+pub(crate) fn rules() -> &'static [Explanation] {
+    &RULES
+}

@@ -1,0 +1,139 @@
+-- What `check` reads and counts.
+use Rattle.std.proofs.Common.{ℕ, ◌≡◌, ◌<◌, ◌==◌, ◌&&◌, ◌||◌, ◌⊎◌, ◌∷◌, [], Bool, true, false, List, Option, Some, None, refl, sym, ◌∙◌, ap, inl, inr}
+use Rattle.std.specs.Prelude.{IfSome, OnOk, MatchResult, Result, Ok, Err}
+use Rattle.std.specs.List.{list_any}
+use Rattle.std.proofs.lemmas.Bool.{true≢false, eq-eqb}
+use Rattle.wordset.specs.Words.{Words, SameWords, some_below}
+use Rattle.policy.specs.Runs.{IsSafe}
+use Rattle.judge.specs.Conditions.{Case, IsValid, IsFirst}
+use Rattle.judge.specs.declared.judging.Refusal.{Refusal}
+use Rattle.diagnostics.specs.CheckText.{counted, IsVerdict}
+use Rattle.wordset.specs.Lanes.{words}
+use Rattle.wordset.proofs.Counts.{how_many_same}
+use Rattle.wordset.proofs.Tests.{some_from, some_to}
+use Rattle.declaration.specs.declared.Routine.{Routine}
+use Rattle.declaration.specs.Kept.{bodies, entries}
+use Rattle.certificate.specs.declared.CertificateFault.{CertificateFault}
+use Rattle.certificate.specs.declared.CertificateFault.TheVariants as faults
+use Rattle.certificate.specs.Kept.{Kept, meaning}
+use Rattle.certificate.specs.Faults.{reading, AsksForMemory}
+use Rattle.certificate.proofs.TextAnswerLemmas.{reading_law}
+use Rattle.streams.specs.Bytes.{Gave}
+use Rattle.diagnostics.specs.CertificateFaults.{IsCertificateInputFault}
+use Rattle.command_parts.specs.Faults.{fault_of_certificate}
+use Rattle.diagnostics.specs.CertificateInputs.{FailsInCertificate, HasCertificate}
+use Rattle.command_parts.specs.Inputs.{input}
+
+pub has_certificate : (had : Option (List ℕ)) (c : Kept) → IfSome had (λ bytes. reading bytes ≡ Ok (meaning c)) → HasCertificate had (meaning c)
+has_certificate None c read = tt
+has_certificate (Some bytes) c read =
+    let t = reading_law.lines bytes (meaning c) read in record { lines_are = t.form; text_is = t.text; few = t.few }
+
+-- the fault of what a source had
+abbrev pub Told : Option (List ℕ) → CertificateFault → Type 0
+Told had fault = (fault ≡ faults.NoMemory) ⊎ ((fault ≡ faults.ReadFault) ⊎ IfSome had (λ bytes. reading bytes ≡ Err fault))
+
+told_of : (had : Option (List ℕ)) (fault : CertificateFault) → (fault ≡ faults.NoMemory → ⊥) → (fault ≡ faults.ReadFault → ⊥) → Told had fault →
+    IfSome had (λ bytes. reading bytes ≡ Err fault)
+told_of had fault memory read (inl e) = absurd (memory e)
+told_of had fault memory read (inr (inl e)) = absurd (read e)
+told_of had fault memory read (inr (inr h)) = h
+
+pub certificate_fault_is : (fault : CertificateFault) (failed : Bool) (had left : Option (List ℕ)) →
+    Told had fault → (fault ≡ faults.NoMemory → Gave had left AsksForMemory) → (fault ≡ faults.ReadFault → FailsInCertificate (input failed had left)) → IsCertificateInputFault (input failed had left) (fault_of_certificate fault)
+certificate_fault_is faults.NoMemory failed had left h wanted read = wanted refl
+certificate_fault_is faults.ReadFault failed had left h wanted read = read refl
+certificate_fault_is faults.Version failed had left h wanted read = told_of had faults.Version (λ e. cc) (λ e. cc) h
+certificate_fault_is (faults.BadLine n) failed had left h wanted read = told_of had (faults.BadLine n) (λ e. cc) (λ e. cc) h
+certificate_fault_is (faults.Order n) failed had left h wanted read = told_of had (faults.Order n) (λ e. cc) (λ e. cc) h
+certificate_fault_is faults.TooMany failed had left h wanted read = told_of had faults.TooMany (λ e. cc) (λ e. cc) h
+
+-- some body has the cell
+abbrev pub any_body : List Routine → ℕ → Bool
+any_body rs a = list_any (λ r. words r.body a) rs
+
+or_left : (a b : Bool) → a ≡ true → (a || b) ≡ true
+or_left true b e = refl
+or_left false b e = absurd (true≢false (sym e))
+
+or_right : (a b : Bool) → b ≡ true → (a || b) ≡ true
+or_right true b e = refl
+or_right false b e = e
+
+self_eq : (n : ℕ) → (n == n) ≡ true
+self_eq n = eq-eqb n n refl
+
+both : (a b : Bool) → a ≡ true → b ≡ true → (a && b) ≡ true
+both true b e f = f
+both false b e f = absurd (true≢false (sym e))
+
+second : (a b : Bool) → (a && b) ≡ true → b ≡ true
+second true b e = e
+second false b e = absurd (true≢false (sym e))
+
+-- a routine whose body has the cell
+pub record HasBody (rs : List Routine) (a : ℕ) : Type 0 where
+  pub entry : ℕ
+  pub is_entry : entries rs entry ≡ true
+  pub in_body : bodies rs entry a ≡ true
+
+body_here : (r : Routine) (rs : List Routine) (a : ℕ) (here : Bool) → words r.body a ≡ here → (any_body rs a ≡ true → HasBody rs a) →
+    (here || any_body rs a) ≡ true → HasBody (r ∷ rs) a
+body_here r rs a true is rest h = record {
+  entry = r.entry;
+  is_entry = or_left (r.entry == r.entry) _ (self_eq r.entry);
+  in_body = or_left (r.entry == r.entry && words r.body a) _ (both (r.entry == r.entry) (words r.body a) (self_eq r.entry) is);
+}
+body_here r rs a false is rest h =
+    let more = rest h in
+    record {
+      entry = more.entry;
+      is_entry = or_right (r.entry == more.entry) _ more.is_entry;
+      in_body = or_right (r.entry == more.entry && words r.body a) _ more.in_body;
+    }
+
+body_of_any : (rs : List Routine) (a : ℕ) → any_body rs a ≡ true → HasBody rs a
+body_of_any [] a h = absurd (true≢false (sym h))
+body_of_any (r ∷ rs) a h = body_here r rs a (words r.body a) refl (λ more. body_of_any rs a more) h
+
+any_here : (e b rest any : Bool) → (rest ≡ true → any ≡ true) → ((e && b) || rest) ≡ true → (b || any) ≡ true
+any_here e true rest any more h = refl
+any_here true false rest any more h = more h
+any_here false false rest any more h = more h
+
+any_of_body : (rs : List Routine) (e a : ℕ) → bodies rs e a ≡ true → any_body rs a ≡ true
+any_of_body [] e a h = absurd (true≢false (sym h))
+any_of_body (r ∷ rs) e a h = any_here (r.entry == e) (words r.body a) (bodies rs e a) (any_body rs a) (λ more. any_of_body rs e a more) h
+
+one_truth : (a b : Bool) → (a ≡ true → b ≡ true) → (b ≡ true → a ≡ true) → a ≡ b
+one_truth true b f g = sym (f refl)
+one_truth false true f g = g refl
+one_truth false false f g = refl
+
+pub any_body_is : (rs : List Routine) (a : ℕ) → ((e : ℕ) → entries rs e ≡ true → e < 4096) → any_body rs a ≡ some_below 4096 (λ e. bodies rs e a)
+any_body_is rs a small =
+    one_truth (any_body rs a) (some_below 4096 (λ e. bodies rs e a))
+    (λ h. let found = body_of_any rs a h in some_from 4096 (λ e. bodies rs e a) found.entry (small found.entry found.is_entry) found.in_body)
+    (λ h. let found = some_to 4096 (λ e. bodies rs e a) h in any_of_body rs found.at a found.holds)
+
+-- sets that agree have as many words
+pub counted_same : (s t : Words) (name : List ℕ) → SameWords s t → counted s name ≡ counted t name
+counted_same s t name same = rw (how_many_same 4096 s t same) refl
+
+pub all_bodies : (main : List ℕ) (rs : List Routine) (cells : List ℕ) (n : ℕ) (left : List Routine) → ((e : ℕ) → entries rs e ≡ true → e < 4096) → left ≡ [] →
+    ((a : ℕ) → a < 4096 → (words cells a || any_body left a) ≡ (words main a || any_body rs a)) →
+    (a : ℕ) → a < 4096 → words cells a ≡ (words main a || some_below 4096 (λ e. bodies rs e a))
+all_bodies main rs cells n left small none kept a less =
+    let is : (words cells a || any_body left a) ≡ (words main a || any_body rs a) = kept a less in
+    let bare : (words cells a || false) ≡ (words main a || any_body rs a) = rw none at is in
+    sym (or_false (words cells a)) ∙ bare ∙ ap (λ (b : Bool). words main a || b) (any_body_is rs a small)
+  where
+    or_false : (b : Bool) → (b || false) ≡ b
+    or_false true = refl
+    or_false false = refl
+
+-- what the judge answers is the verdict
+pub verdict_is : (j : Case) (verdict : Result (Unit {0}) Refusal) → MatchResult verdict (λ _. IsValid j) (λ r. IsFirst j r.condition r.address) →
+    OnOk verdict (IsSafe j.image j.declaration) → IsVerdict j verdict
+verdict_is j (Ok u) exact safe = record { valid = exact; safe = safe }
+verdict_is j (Err r) exact safe = exact

@@ -1,0 +1,127 @@
+//! What is said about a pointer where a search for a certificate is stuck: the words that it may hold there, and the
+//! last place where fewer were known. It is tested, not proved.
+
+mod losses;
+mod sets;
+
+use crate::bounds::losses::{Loss, loss_at, may_go_on, refers_to_memory};
+use crate::bounds::sets::push_set;
+use bin_tape::Image;
+use certificate::Certificate;
+use command_parts::message::{Lines, push_text_and_address};
+use declaration::Declaration;
+use facts::{Fact, Location, narrowed};
+use instruct::{name, refers_indirectly, target};
+use std::alloc::{AllocError, Allocator};
+use word12::Word;
+
+/// How many addresses there are.
+const ADDRESSES: usize = 4096;
+
+/// The variable by which the instruction at an address refers to memory, if it does, but for a return.
+fn pointer_at<D: Allocator>(image: &Image, declaration: &Declaration<D>, at: Word) -> Option<Word> {
+    let word = image.get(at)?;
+    let named = target(word, at);
+    let is_told = refers_to_memory(word)
+        && refers_indirectly(word)
+        && declaration.is_variable(named);
+    is_told.then_some(named)
+}
+
+/// Looks at the addresses from which a run may come to this one: gives the first where the bound of the
+/// pointer is lost, and adds the others to the list.
+fn step_back<A: Allocator, D: Allocator, C: Allocator>(
+    seen: &mut Vec<Word, A>,
+    image: &Image,
+    declaration: &Declaration<D>,
+    draft: &Certificate<C>,
+    pointer: Word,
+    here: Word,
+) -> Result<Option<(Word, Loss)>, AllocError> {
+    let mut behind = Fact::any();
+    let mut before = Fact::any();
+    if !draft.fact_into(here, &mut behind) {
+        return Ok(None);
+    }
+    for index in 0..ADDRESSES {
+        let from = Word::from_index(index);
+        let Some(word) = image.get(from) else {
+            continue;
+        };
+        if !may_go_on(declaration, from, word, here) || !draft.fact_into(from, &mut before) {
+            continue;
+        }
+        if let Some(loss) = loss_at(&before, from, word, &behind, here, pointer) {
+            return Ok(Some((from, loss)));
+        }
+        if !seen.iter().any(|other| *other == from) {
+            seen.push(from)?;
+        }
+    }
+    Ok(None)
+}
+
+/// The last place before an address where fewer words of a pointer were known, or where a test said nothing
+/// of it, and why the bound was lost there.
+fn lost_before<A: Allocator + Copy, D: Allocator, C: Allocator>(
+    alloc: A,
+    image: &Image,
+    declaration: &Declaration<D>,
+    draft: &Certificate<C>,
+    pointer: Word,
+    at: Word,
+) -> Result<Option<(Word, Loss)>, AllocError> {
+    let mut seen = Vec::new(alloc);
+    seen.push(at)?;
+    for index in 0..ADDRESSES {
+        let Some(here) = seen.get(index) else {
+            return Ok(None);
+        };
+        let here = *here;
+        let found = step_back(&mut seen, image, declaration, draft, pointer, here)?;
+        if found.is_some() {
+            return Ok(found);
+        }
+    }
+    Ok(None)
+}
+
+/// Adds what is said about the pointer of the instruction at which a search is stuck, by the draft of what it found:
+/// the words that it may hold there, and where its bound was lost. If the instruction uses no variable, or the draft
+/// has no fact there, nothing is added.
+///
+/// # Errors
+///
+/// `AllocError` if memory was refused.
+pub fn push_bound<A: Allocator + Copy, L: Lines, D: Allocator, C: Allocator>(
+    alloc: A,
+    text: &mut L,
+    image: &Image,
+    declaration: &Declaration<D>,
+    draft: &Certificate<C>,
+    at: Word,
+) -> Result<(), AllocError> {
+    let Some(pointer) = pointer_at(image, declaration, at) else {
+        return Ok(());
+    };
+    let mut fact = Fact::any();
+    if !draft.fact_into(at, &mut fact) {
+        return Ok(());
+    }
+    push_text_and_address(text, b"the pointer ", pointer)?;
+    text.push_text(b" may hold ")?;
+    push_set(text, &narrowed(&fact, &Location::Cell(pointer)))?;
+    text.push_text(b" there\n")?;
+    let Some((from, loss)) = lost_before(alloc, image, declaration, draft, pointer, at)? else {
+        return Ok(());
+    };
+    push_text_and_address(text, b"the bound of ", pointer)?;
+    push_text_and_address(text, b" was lost at ", from)?;
+    text.push_text(b" ")?;
+    if let Some(word) = image.get(from) {
+        text.push_text(name(word, declaration.profile()).as_str().as_bytes())?;
+    }
+    text.push_text(b": ")?;
+    text.push_text(loss.told())?;
+    text.push_text(b"\n")
+}

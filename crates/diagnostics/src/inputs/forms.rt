@@ -1,0 +1,54 @@
+//! The forms that lines have.
+
+use crate::inputs::lines::first_word;
+
+/// The form of a line of a declaration, by its first word.
+pub(crate) fn declaration_form(line: &[u8]) -> &'static str {
+    match first_word(line) {
+        b"start" => "expected `start A`, where A is one to four octal digits",
+        b"main" =>
+            "expected `main R..`, where R is an address such as 0200 or a range such as 0200-0213",
+        b"sub" =>
+            "expected `sub E body R.. returns d..`, where E is the entry, R an address or a range such as 0215-0221, and d a digit from 0 to 7",
+        b"var" =>
+            "expected `var R..`, where R is an address such as 0224 or a range such as 0224-0230",
+        b"stop" => "expected `stop A..`, where A is one to four octal digits",
+        b"pause" => "expected `pause A..`, where A is one to four octal digits",
+        b"profile" => "expected `profile 8i` or `profile 8e`",
+        b"read" =>
+            "expected `read R..`, where R is an address such as 0224 or a range such as 0224-0230",
+        _ =>
+            "expected start, main, sub, var, stop, pause, profile or read at the beginning of the line, in lower case; / begins a comment",
+    }
+}
+
+/// The form of a line of a list of events, by its first word.
+pub(crate) fn event_form(line: &[u8]) -> &'static str {
+    match first_word(line) {
+        b"step" => "expected `step` or `step N`, where N is a decimal number from 1 to 1000000",
+        b"key" => "expected `key B`, where B is one to three octal digits up to 377",
+        b"reader" => "expected `reader B`, where B is one to three octal digits up to 377",
+        b"switches" => "expected `switches W`, where W is one to four octal digits",
+        b"printer" => "expected `printer` and nothing else",
+        b"punch" => "expected `punch` and nothing else",
+        b"continue" => "expected `continue` and nothing else",
+        _ =>
+            "expected step, key, reader, printer, punch, switches or continue, in lower case; / begins a comment",
+    }
+}
+
+/// The form of a line of a certificate, by its first word.
+pub(crate) fn certificate_form(line: &[u8]) -> &'static str {
+    match first_word(line) {
+        b"routine" => "expected `routine E rank R sites S writes S`, with one space between words",
+        b"fact" =>
+            "expected `fact A ac S link L offsets O`, in version 2 with `mq S` before `link`, with one space between words",
+        b"exit" =>
+            "expected `exit E D ac S link L`, in version 2 with `mq S` before `link`, with one space between words",
+        b"cell" => "expected `cell A S`, below a fact or an exit, with one space between words",
+        b"equal" => "expected `equal X Y W`, below a fact or an exit, with one space between words",
+        b"end" => "expected `end`, a line feed, and nothing after it",
+        _ =>
+            "expected routine, fact, exit, cell, equal or end at the beginning of the line; the last line is `end` with a line feed, and there are no comments",
+    }
+}

@@ -1,0 +1,85 @@
+//! What is said about a tape that is refused.
+
+use crate::inputs::{FaultyFile, push_said};
+use bin_tape::TapeFault;
+use peripherals::NoMemory;
+use std::alloc::Allocator;
+use std::fmt::Write;
+
+/// Adds the lines on a fault of a tape.
+pub(crate) fn push_tape<A: Allocator>(
+    text: &mut String<A>,
+    fault: TapeFault,
+    file: &FaultyFile<'_>,
+) -> Result<(), NoMemory> {
+    match fault {
+        TapeFault::TooLong => push_said(
+            text,
+            file,
+            "its first 65536 frames have no trailer (a frame 200) after the last word",
+        ),
+        TapeFault::NoWord => push_said(
+            text,
+            file,
+            "it ends before any word: is it a tape in the format of the Binary Loader?",
+        ),
+        TapeFault::NoOrigin => push_said(
+            text,
+            file,
+            "a data word comes first; the first word must say where the next ones go, and its first frame is 100 to 177",
+        ),
+        TapeFault::BadFrame(place) => push_frame(
+            text,
+            file,
+            place,
+            "a word begins with a frame from 000 to 177, and its second frame is from 000 to 077; 200 ends the tape, and 300 and 377 may stand between words",
+        ),
+        TapeFault::WrongField(place) => {
+            push_frame(
+                text,
+                file,
+                place,
+                "it selects a field of memory other than 0, and there is only field 0",
+            )
+        }
+        TapeFault::Truncated => push_said(
+            text,
+            file,
+            "it ends within a word or a rubout, or has no trailer (a frame 200) after the checksum",
+        ),
+        TapeFault::NoChecksum => push_said(
+            text,
+            file,
+            "its last word is an origin, not a checksum; is it a RIM tape, which has no checksum?",
+        ),
+        TapeFault::Checksum(read, counted) => {
+            let name = file.name;
+            let read = read.value();
+            let counted = counted.value();
+            writeln!(
+                text,
+                "{name}: its last word, the checksum, is {read:04o}, and the frames of the words before it add up to {counted:04o}: a frame was misread, or it is a RIM tape, which has no checksum"
+            )
+            .map_err(|_| NoMemory)
+        }
+        TapeFault::ReadFault => Ok(()),
+    }
+}
+
+/// Adds the line of a frame, and what may stand there.
+fn push_frame<A: Allocator>(
+    text: &mut String<A>,
+    file: &FaultyFile<'_>,
+    place: usize,
+    said: &str,
+) -> Result<(), NoMemory> {
+    let name = file.name;
+    match file.bytes.get(place) {
+        Some(frame) => writeln!(
+            text,
+            "{name}: frame {place}, counted from 0, is {frame:03o}: {said}"
+        ),
+        None => writeln!(text, "{name}: frame {place}, counted from 0: {said}"),
+    }
+    .map_err(|_| NoMemory)
+}

@@ -1,0 +1,8 @@
+//! What the commands on certificates share: how a certificate is read, the line of a verdict, and why it is no.
+
+pub mod certificates;
+pub mod explanation;
+mod gathered;
+pub mod messages;
+pub mod reason_text;
+pub mod verdict;

@@ -1,0 +1,51 @@
+//! A verdict on a certificate, and why, with the addresses of what is told marked, for whoever has the program's
+//! source.
+
+ghost use Rattle.std.specs.Prelude.{IfOk};
+ghost use Rattle.certificate.specs.Kept.{meaning as lines_of};
+ghost use Rattle.command_parts.specs.Messages.{plain};
+ghost use Rattle.declaration.specs.Kept.{meaning};
+ghost use Rattle.diagnostics.specs.WhyText.{IsExplanationOf};
+
+use crate::verdicts::explanation::{push_explanation, push_fact};
+use crate::verdicts::verdict::verdict_status;
+use bin_tape::Image;
+use certificate::Certificate;
+use command_parts::message::Message;
+use command_parts::status::Status;
+use declaration::Declaration;
+use judge::judge;
+use std::alloc::{AllocError, Allocator};
+
+/// What is said about a certificate, and how the command ends.
+#[derive(Drop)]
+pub struct VerdictMessage<A: Allocator> {
+    /// What is told.
+    pub told: Message<A>,
+    /// How the command ends.
+    pub status: Status,
+}
+
+/// What `check` says about a certificate, and why the verdict is no.
+///
+/// # Errors
+///
+/// Memory was refused.
+#[inline(never)]
+pub fn check_message<A: Allocator + Copy, D: Allocator, C: Allocator>(
+    alloc: A,
+    image: &Image,
+    declaration: &Declaration<D>,
+    certificate: &Certificate<C>,
+) -> Result<VerdictMessage<A>, AllocError>
+    // What is told is the verdict, and why it is no.
+    ensures { IfOk result (λ message. IsExplanationOf image.now (meaning declaration.now)
+        (lines_of certificate.now) message.status (plain message.told)) }
+{
+    let verdict = judge(image, declaration, certificate);
+    let mut told = Message::new(alloc);
+    push_explanation(alloc, &mut told, image, declaration, certificate, &verdict)?;
+    push_fact(alloc, &mut told, certificate, &verdict)?;
+    let status = verdict_status(&verdict);
+    Ok(VerdictMessage { told, status })
+}

@@ -1,0 +1,211 @@
+//! The line of a verdict.
+
+ghost use Rattle.std.specs.Prelude.{◌≡◌, ◌++◌, codes, OnOk, IfOk, Option};
+ghost use Rattle.word12.specs.Words.{octal_text};
+ghost use Rattle.wordset.specs.Words.{SameWords};
+ghost use Rattle.wordset.specs.Lanes.{words};
+ghost use Rattle.declaration.specs.Kept.{meaning};
+ghost use Rattle.diagnostics.specs.CheckText.{condition_text, counted, in_bodies, is_halt, no_text, reads_text, verdict_status, verdict_text, yes_text};
+
+use command_parts::status::Status;
+use declaration::Declaration;
+use itoa::Buffer;
+use judge::{Condition, Refusal};
+use std::alloc::{AllocError, Allocator};
+use wordset::WordSet;
+
+/// The name of a condition.
+pub fn condition_name(condition: Condition) -> &'static str
+    ensures { result.now ≡ condition_text condition }
+{
+    match condition {
+        Condition::V1 => "V1",
+        Condition::V2 => "V2",
+        Condition::V3 => "V3",
+        Condition::V4 => "V4",
+        Condition::V5 => "V5",
+        Condition::V6 => "V6",
+        Condition::V7 => "V7",
+        Condition::V8 => "V8",
+        Condition::V9 => "V9",
+        Condition::V10 => "V10",
+        Condition::V11 => "V11",
+        Condition::V12 => "V12",
+        Condition::V13 => "V13",
+        Condition::V14 => "V14",
+        Condition::V15 => "V15",
+    }
+}
+
+/// The line for a condition that fails.
+fn no_line<A: Allocator>(alloc: A, refusal: Refusal) -> Result<Vec<u8, A>, AllocError>
+    ensures { IfOk result (λ text. text.items ≡ no_text refusal) }
+{
+    let mut text = Vec::new(alloc);
+    text.extend_from_slice(b"no: ")?;
+    text.extend_from_slice(condition_name(refusal.condition).as_bytes())?;
+    text.extend_from_slice(b" at ")?;
+    text.extend_from_slice(&refusal.address.to_octal())?;
+    text.extend_from_slice(b"\n")?;
+    Ok(text)
+}
+
+/// The cells of all bodies.
+fn cells_of_bodies<D: Allocator>(declaration: &Declaration<D>) -> WordSet
+    ensures { SameWords (words result) (in_bodies (meaning declaration.now)) }
+{
+    declaration.is_declared();
+    let mut cells = *declaration.main();
+    for routine in declaration.routines() {
+        cells = cells.union(routine.body());
+    }
+    cells
+}
+
+/// The entries of all routines.
+fn entries_of<D: Allocator>(declaration: &Declaration<D>) -> WordSet
+    ensures { SameWords (words result) (meaning declaration.now).entry }
+{
+    let mut cells = WordSet::empty();
+    for routine in declaration.routines() {
+        cells.insert(routine.entry());
+    }
+    cells
+}
+
+/// The declared halts.
+fn halts_of<D: Allocator>(declaration: &Declaration<D>) -> WordSet
+    ensures { SameWords (words result) (is_halt (meaning declaration.now)) }
+{
+    declaration.stops().union(declaration.pauses())
+}
+
+/// Adds how many cells a set has, and what they are.
+fn push_count<A: Allocator>(
+    text: &mut Vec<u8, A>,
+    cells: &WordSet,
+    name: &[u8],
+) -> Result<(), AllocError>
+    ensures { OnOk result
+        (text.new.items ≡ text.old.items ++ counted (words cells.now) name.now) }
+{
+    let mut digits = Buffer::new();
+    text.extend_from_slice(digits.format(cells.count()).as_bytes())?;
+    text.extend_from_slice(name)
+}
+
+/// Adds how many cells are in bodies.
+fn push_bodies<A: Allocator, D: Allocator>(
+    text: &mut Vec<u8, A>,
+    declaration: &Declaration<D>,
+) -> Result<(), AllocError>
+    ensures { OnOk result (text.new.items ≡ text.old.items
+        ++ counted (in_bodies (meaning declaration.now)) (codes " body cells, ")) }
+{
+    push_count(text, &cells_of_bodies(declaration), b" body cells, ")
+}
+
+/// Adds how many cells are variables.
+fn push_variables<A: Allocator, D: Allocator>(
+    text: &mut Vec<u8, A>,
+    declaration: &Declaration<D>,
+) -> Result<(), AllocError>
+    ensures { OnOk result (text.new.items ≡ text.old.items
+        ++ counted (meaning declaration.now).variable (codes " variable cells, ")) }
+{
+    push_count(text, declaration.variables(), b" variable cells, ")
+}
+
+/// Adds how many entries there are.
+fn push_entries<A: Allocator, D: Allocator>(
+    text: &mut Vec<u8, A>,
+    declaration: &Declaration<D>,
+) -> Result<(), AllocError>
+    ensures { OnOk result (text.new.items ≡ text.old.items
+        ++ counted (meaning declaration.now).entry (codes " entries, ")) }
+{
+    push_count(text, &entries_of(declaration), b" entries, ")
+}
+
+/// Adds how many declared halts there are.
+fn push_halts<A: Allocator, D: Allocator>(
+    text: &mut Vec<u8, A>,
+    declaration: &Declaration<D>,
+) -> Result<(), AllocError>
+    ensures { OnOk result (text.new.items ≡ text.old.items
+        ++ counted (is_halt (meaning declaration.now)) (codes " halts")) }
+{
+    push_count(text, &halts_of(declaration), b" halts")
+}
+
+/// Adds how many cells are in bodies, how many are variables, how many entries there are and how many
+/// declared halts.
+fn push_counts<A: Allocator, D: Allocator>(
+    text: &mut Vec<u8, A>,
+    declaration: &Declaration<D>,
+) -> Result<(), AllocError>
+    ensures { let d = meaning declaration.now in OnOk result (text.new.items ≡ text.old.items
+        ++ counted (in_bodies d) (codes " body cells, ")
+        ++ counted d.variable (codes " variable cells, ")
+        ++ counted d.entry (codes " entries, ") ++ counted (is_halt d) (codes " halts")) }
+{
+    push_bodies(text, declaration)?;
+    push_variables(text, declaration)?;
+    push_entries(text, declaration)?;
+    push_halts(text, declaration)
+}
+
+/// Adds how many cells may be read, where they are listed.
+fn push_reads<A: Allocator, D: Allocator>(
+    text: &mut Vec<u8, A>,
+    declaration: &Declaration<D>,
+) -> Result<(), AllocError>
+    ensures { OnOk result
+        (text.new.items ≡ text.old.items ++ reads_text (meaning declaration.now).reads) }
+{
+    let Some(cells) = declaration.reads() else {
+        return Ok(());
+    };
+    text.extend_from_slice(b", ")?;
+    push_count(text, cells, b" read cells")
+}
+
+/// The line of a program that is safe.
+fn yes_line<A: Allocator, D: Allocator>(
+    alloc: A,
+    declaration: &Declaration<D>,
+) -> Result<Vec<u8, A>, AllocError>
+    ensures { IfOk result (λ text. text.items ≡ yes_text (meaning declaration.now)) }
+{
+    let mut text = Vec::new(alloc);
+    text.extend_from_slice(b"yes: ")?;
+    push_counts(&mut text, declaration)?;
+    push_reads(&mut text, declaration)?;
+    text.extend_from_slice(b"\n")?;
+    Ok(text)
+}
+
+/// The line of a verdict.
+pub fn verdict_line<A: Allocator, D: Allocator>(
+    alloc: A,
+    declaration: &Declaration<D>,
+    verdict: &Result<(), Refusal>,
+) -> Result<Vec<u8, A>, AllocError>
+    ensures { IfOk result (λ text.
+        text.items ≡ verdict_text (meaning declaration.now) verdict.now) }
+{
+    match verdict {
+        Ok(()) => yes_line(alloc, declaration),
+        Err(refusal) => no_line(alloc, *refusal),
+    }
+}
+
+/// A program that is not certified is refused.
+pub fn verdict_status(verdict: &Result<(), Refusal>) -> Status
+    ensures { result ≡ verdict_status verdict.now }
+{
+    match verdict {
+        Ok(()) => Status::Done,
+        Err(_) => Status::Refused,
+    }
+}

@@ -1,8 +1,0 @@
-//! The requests of a command line on tapes, sources, declarations and certificates in files: which files are
-//! opened, and in which order. It is tested and not proved.
-#![tactic(auto)]
-
-pub mod joined;
-pub mod promises;
-pub mod sources;
-pub mod tapes;

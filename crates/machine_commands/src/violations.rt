@@ -1,0 +1,472 @@
+//! The lines that say what a step that violates a rule is about to do. They are tested, not proved.
+
+ghost use Rattle.std.specs.Prelude.{◌≡◌, false, [], IfOk};
+ghost use Rattle.command_parts.specs.Messages.{plain};
+
+use bin_tape::Image;
+use command_parts::message::{
+    Lines, Message, push_text_and_address, push_text_and_advised, push_text_and_word,
+};
+use declaration::{Declaration, Owner};
+use instruct::{Operation, Profile};
+use itoa::Buffer;
+use peripherals::{Event, NoMemory, Start};
+use policy::{Call, Rule, Watched, Watcher};
+use processor::{Cpu, DecodedInstruction, Reference, is_auto_index};
+use std::alloc::{AllocError, Allocator};
+use word12::Word;
+
+/// What a rule asks.
+fn asked(rule: Rule) -> &'static [u8] {
+    match rule {
+        Rule::StaysInBody =>
+            b"control stays in the running routine's body, at words that are supported",
+        Rule::WritesDeclared => b"only declared variables are written",
+        Rule::CallsEntries => b"a JMS goes to a declared entry",
+        Rule::ReturnsToItsCall => b"a return goes to a declared place after its own call",
+        Rule::HaltsDeclared => b"a HLT is at a declared halt",
+        Rule::KeepsCode => b"code stays as it is on the tape",
+        Rule::ReadsListed => b"only cells on the list of reads are read",
+    }
+}
+
+/// Adds the line that says what a rule asks.
+fn push_asked<L: Lines>(text: &mut L, rule: Rule) -> Result<(), AllocError> {
+    text.push_text(b"rule ")?;
+    text.push_text(Buffer::new().format(rule.number()).as_bytes())?;
+    text.push_text(b": ")?;
+    text.push_text(asked(rule))?;
+    text.push_text(b"\n")
+}
+
+/// Adds a line that is a text, an address and a text.
+fn push_line<L: Lines>(
+    text: &mut L,
+    before: &[u8],
+    at: Word,
+    after: &[u8],
+) -> Result<(), AllocError> {
+    push_text_and_address(text, before, at)?;
+    text.push_text(after)?;
+    text.push_text(b"\n")
+}
+
+/// Adds the rest of a line: a text, an address within a line of a declaration that is advised, and a text.
+fn push_advice<L: Lines>(
+    text: &mut L,
+    before: &[u8],
+    at: Word,
+    after: &[u8],
+) -> Result<(), AllocError> {
+    push_text_and_advised(text, before, at)?;
+    text.push_text(after)?;
+    text.push_text(b"\n")
+}
+
+/// Adds the rest of a line: a text, a word that is not an address, and a text.
+fn push_word_line<L: Lines>(
+    text: &mut L,
+    before: &[u8],
+    word: Word,
+    after: &[u8],
+) -> Result<(), AllocError> {
+    push_text_and_word(text, before, word)?;
+    text.push_text(after)?;
+    text.push_text(b"\n")
+}
+
+/// Adds the line of what a cell holds, and of the word that would take its place.
+fn push_change<L: Lines>(
+    text: &mut L,
+    cpu: &Cpu,
+    cell: Word,
+    then: Word,
+) -> Result<(), AllocError> {
+    text.push_address(cell)?;
+    push_text_and_word(text, b" holds ", cpu.memory.get(cell))?;
+    push_word_line(text, b", and would hold ", then, b"")
+}
+
+/// Adds what else a cell is that is not a variable, an entry or an instruction, and what to declare if the program
+/// may write it.
+fn push_variable_advice<L: Lines, D: Allocator>(
+    text: &mut L,
+    declaration: &Declaration<D>,
+    cell: Word,
+) -> Result<(), AllocError> {
+    if declaration.is_entry(cell) {
+        return text.push_text(b" but an entry\n");
+    }
+    if declaration.owner_of(cell).is_some() {
+        return push_advice(text, b" but code; if it may change, add `var ", cell, b"`");
+    }
+    push_advice(text, b"; if it may be written, add `var ", cell, b"`")
+}
+
+/// Adds the line of the pointer from which an address comes, if the reference is indirect.
+fn push_pointer<L: Lines>(text: &mut L, reference: &Reference) -> Result<(), AllocError> {
+    if !reference.indirect {
+        return Ok(());
+    }
+    push_line(
+        text,
+        b"the address comes from the pointer ",
+        reference.named,
+        b"",
+    )
+}
+
+/// Adds the lines of a cell that is written: the pointer that is incremented, or what is stored into; and of the
+/// words there before and after.
+fn push_write<L: Lines, D: Allocator>(
+    text: &mut L,
+    declaration: &Declaration<D>,
+    cpu: &Cpu,
+    reference: &Reference,
+) -> Result<(), AllocError> {
+    let named = reference.named;
+    if reference.steps_pointer() && !declaration.is_variable(named) {
+        push_text_and_address(text, b"it increments the pointer ", named)?;
+        text.push_text(b", which is not a variable")?;
+        push_variable_advice(text, declaration, named)?;
+        return push_change(text, cpu, named, cpu.memory.get(named).increment());
+    }
+    let place = reference.place;
+    push_text_and_address(text, b"it stores into ", place)?;
+    text.push_text(b", which is not a variable")?;
+    push_variable_advice(text, declaration, place)?;
+    push_pointer(text, reference)?;
+    match reference.operation {
+        Operation::Isz => push_change(text, cpu, place, cpu.memory.get(place).increment()),
+        _ => push_change(text, cpu, place, cpu.ac),
+    }
+}
+
+/// Adds the line of what a cell holds.
+fn push_held<L: Lines>(text: &mut L, cpu: &Cpu, cell: Word) -> Result<(), AllocError> {
+    text.push_address(cell)?;
+    push_word_line(text, b" holds ", cpu.memory.get(cell), b"")
+}
+
+/// Adds that a cell is not on the list of reads, and what to declare if it may be read.
+fn push_read_advice<L: Lines>(text: &mut L, cell: Word) -> Result<(), AllocError> {
+    push_advice(
+        text,
+        b", which is not on the list of reads; if it may be read, add `read ",
+        cell,
+        b"`",
+    )
+}
+
+/// Adds the lines of a cell that is read and is not on the list, the pointer or the operand, and of its word.
+fn push_read<L: Lines, D: Allocator>(
+    text: &mut L,
+    declaration: &Declaration<D>,
+    calls: &[Call],
+    cpu: &Cpu,
+    reference: &Reference,
+) -> Result<(), AllocError> {
+    let named = reference.named;
+    let own = calls.last().is_some_and(|call| call.entry == named);
+    if reference.indirect && !declaration.may_read(named) && !own {
+        push_text_and_address(text, b"it reads the pointer ", named)?;
+        push_read_advice(text, named)?;
+        return push_held(text, cpu, named);
+    }
+    push_text_and_address(text, b"it reads ", reference.place)?;
+    push_read_advice(text, reference.place)?;
+    push_held(text, cpu, reference.place)
+}
+
+/// Adds the line of the addresses to which a call may return: those by the offsets that are declared of its
+/// routine.
+fn push_returns<L: Lines, D: Allocator>(
+    text: &mut L,
+    declaration: &Declaration<D>,
+    call: &Call,
+) -> Result<(), AllocError> {
+    let mut is_one_told = false;
+    for index in 0..8usize {
+        let offset = Word::from_index(index);
+        if declaration.has_offset(call.entry, offset) {
+            if is_one_told {
+                text.push_text(b" or ")?;
+            } else {
+                push_text_and_address(text, b"the routine ", call.entry)?;
+                text.push_text(b" may return to ")?;
+            }
+            text.push_address(call.after.add(offset))?;
+            is_one_told = true;
+        }
+    }
+    if is_one_told {
+        return text.push_text(b"\n");
+    }
+    push_line(
+        text,
+        b"no return is declared for the routine ",
+        call.entry,
+        b"",
+    )
+}
+
+/// Adds what to declare of a return through the running routine's own entry, if it goes to one of the eight
+/// addresses from the call on.
+fn push_offset_advice<L: Lines>(
+    text: &mut L,
+    call: &Call,
+    entry: Word,
+    to: Word,
+) -> Result<(), AllocError> {
+    let offset = to.add(call.after.complement()).increment().value();
+    if call.entry != entry || offset > 7 {
+        return Ok(());
+    }
+    text.push_text(b"if it may return there, add ")?;
+    text.push_text(Buffer::new().format(offset).as_bytes())?;
+    push_advice(text, b" to the returns of `sub ", entry, b"`")
+}
+
+/// Adds the lines of a return through an entry: where it goes, the call that it does not return from, and where that
+/// may return to.
+fn push_return<L: Lines, D: Allocator>(
+    text: &mut L,
+    declaration: &Declaration<D>,
+    calls: &[Call],
+    cpu: &Cpu,
+    entry: Word,
+) -> Result<(), AllocError> {
+    push_text_and_address(text, b"it goes to ", cpu.memory.get(entry))?;
+    push_text_and_address(text, b" by the word in the entry ", entry)?;
+    match calls.last() {
+        None => text.push_text(b"; the call stack is empty\n"),
+        Some(call) => {
+            push_text_and_address(text, b"; the last call is to ", call.entry)?;
+            push_line(text, b", and the address after it is ", call.after, b"")?;
+            push_returns(text, declaration, call)?;
+            push_offset_advice(text, call, entry, cpu.memory.get(entry))
+        }
+    }
+}
+
+/// Adds the line of an address that is not in the running routine's body: what it is, or what to declare if it is
+/// code of that routine.
+fn push_outside<L: Lines, D: Allocator>(
+    text: &mut L,
+    declaration: &Declaration<D>,
+    calls: &[Call],
+    at: Word,
+) -> Result<(), AllocError> {
+    text.push_address(at)?;
+    text.push_text(b" is not in the running routine's body")?;
+    if declaration.is_entry(at) {
+        return text.push_text(
+            b": it is an entry, which holds a return address and is never executed\n",
+        );
+    }
+    let Some(owner) = declaration.owner_of(at) else {
+        return push_body_advice(text, calls, at);
+    };
+    match owner {
+        Owner::Main => text.push_text(b": it is in main's body\n"),
+        Owner::Routine(entry) => push_advice(text, b": it is in the body of `sub ", entry, b"`"),
+    }
+}
+
+/// Adds what to declare of an address that is in no body, if it is code of the running routine.
+fn push_body_advice<L: Lines>(text: &mut L, calls: &[Call], at: Word) -> Result<(), AllocError> {
+    text.push_text(b"; if it belongs there, add ")?;
+    match calls.last() {
+        None => push_advice(text, b"`main ", at, b"`"),
+        Some(call) => push_advice(text, b"it to the body of `sub ", call.entry, b"`"),
+    }
+}
+
+/// Adds the line of a JMS to an address that is not an entry, and what to declare if a routine begins there.
+fn push_no_entry<L: Lines, D: Allocator>(
+    text: &mut L,
+    declaration: &Declaration<D>,
+    place: Word,
+) -> Result<(), AllocError> {
+    push_text_and_address(text, b"it goes to ", place)?;
+    text.push_text(b", which is not an entry; ")?;
+    if is_auto_index(place) {
+        return text.push_text(b"no routine can begin in 0010 to 0017\n");
+    }
+    push_text_and_advised(text, b"if a routine begins there, add `sub ", place)?;
+    text.push_text(b" body .. returns ..`")?;
+    if declaration.owner_of(place).is_some() || declaration.is_variable(place) {
+        text.push_text(b", and remove it from the body and the variables")?;
+    }
+    text.push_text(b"\n")
+}
+
+/// Adds the line of a HLT at an address where none is declared, and what to declare if it may stand there.
+fn push_no_halt<L: Lines>(text: &mut L, at: Word) -> Result<(), AllocError> {
+    text.push_address(at)?;
+    push_text_and_advised(
+        text,
+        b" is not a declared halt; if it may halt there, add `stop ",
+        at,
+    )?;
+    push_advice(
+        text,
+        b"`, or `pause ",
+        at,
+        b"` if the operator may continue",
+    )
+}
+
+/// Adds the line of a step that leaves the running routine's body, or is at no instruction.
+fn push_stray<L: Lines, D: Allocator>(
+    text: &mut L,
+    declaration: &Declaration<D>,
+    calls: &[Call],
+    cpu: &Cpu,
+) -> Result<(), AllocError> {
+    let inside = match calls.last() {
+        None => declaration.in_main(cpu.pc),
+        Some(call) => declaration.in_body(call.entry, cpu.pc),
+    };
+    if !inside {
+        return push_outside(text, declaration, calls, cpu.pc);
+    }
+    push_word_line(
+        text,
+        b"the word ",
+        cpu.memory.get(cpu.pc),
+        b" is not an instruction of the declared machine",
+    )
+}
+
+/// Adds the lines that say what a memory reference does that its rule does not allow.
+fn push_reference<L: Lines, D: Allocator>(
+    text: &mut L,
+    declaration: &Declaration<D>,
+    calls: &[Call],
+    cpu: &Cpu,
+    rule: Rule,
+) -> Result<(), AllocError> {
+    let DecodedInstruction::Refers(reference) = cpu.fetch() else {
+        return Ok(());
+    };
+    match rule {
+        Rule::WritesDeclared => push_write(text, declaration, cpu, &reference),
+        Rule::CallsEntries => push_no_entry(text, declaration, reference.place),
+        Rule::ReturnsToItsCall => push_return(text, declaration, calls, cpu, reference.named),
+        _ => push_read(text, declaration, calls, cpu, &reference),
+    }
+}
+
+/// Adds the lines that say what the step does that its rule does not allow.
+fn push_act<L: Lines, D: Allocator>(
+    text: &mut L,
+    declaration: &Declaration<D>,
+    calls: &[Call],
+    cpu: &Cpu,
+    rule: Rule,
+) -> Result<(), AllocError> {
+    match rule {
+        Rule::StaysInBody => push_stray(text, declaration, calls, cpu),
+        Rule::HaltsDeclared => push_no_halt(text, cpu.pc),
+        Rule::KeepsCode => push_line(text, b"the word at ", cpu.pc, b" is not that of the tape"),
+        Rule::WritesDeclared | Rule::CallsEntries | Rule::ReturnsToItsCall | Rule::ReadsListed =>
+            push_reference(text, declaration, calls, cpu, rule),
+    }
+}
+
+/// Adds the line of the routine that runs, and where it was called from.
+fn push_running<L: Lines>(text: &mut L, calls: &[Call]) -> Result<(), AllocError> {
+    match calls.last() {
+        None => text.push_text(b"the main program is running\n"),
+        Some(call) => {
+            push_text_and_address(text, b"the routine ", call.entry)?;
+            let site = call.after.add(Word::from_index(0o7777));
+            push_line(text, b" is running, called at ", site, b"")
+        }
+    }
+}
+
+/// An instruction that was carried out: its address and its word.
+#[derive(Clone, Copy)]
+struct Executed {
+    at: Word,
+    word: Word,
+}
+
+/// The instruction at the program counter.
+fn next_of(cpu: &Cpu) -> Executed {
+    Executed {
+        at: cpu.pc,
+        word: cpu.memory.get(cpu.pc),
+    }
+}
+
+/// Adds the instruction from which control came, for a step that leaves the running routine's body.
+fn push_origin<L: Lines>(
+    text: &mut L,
+    profile: Profile,
+    rule: Rule,
+    last: Option<Executed>,
+) -> Result<(), AllocError> {
+    let Some(executed) = last else {
+        return Ok(());
+    };
+    if rule != Rule::StaysInBody {
+        return Ok(());
+    }
+    text.push_text(b"control came from:\n")?;
+    text.push_instruction(executed.at, Some(executed.word), profile)
+}
+
+/// What a step that violates a rule is about to do: the instruction with its address, what the rule asks, what the
+/// step does in place of it, where control came from, and the routine that runs.
+fn lines_of<A: Allocator + Copy, D: Allocator, C: Allocator>(
+    alloc: A,
+    declaration: &Declaration<D>,
+    watcher: &Watcher<C>,
+    rule: Rule,
+    last: Option<Executed>,
+) -> Result<Message<A>, AllocError> {
+    let cpu = watcher.world().cpu();
+    let calls = watcher.calls();
+    let word = cpu.memory.get(cpu.pc);
+    let mut text = Message::new(alloc);
+    text.push_instruction(cpu.pc, Some(word), declaration.profile())?;
+    push_asked(&mut text, rule)?;
+    push_act(&mut text, declaration, calls, cpu, rule)?;
+    push_origin(&mut text, declaration.profile(), rule, last)?;
+    push_running(&mut text, calls)?;
+    Ok(text)
+}
+
+/// The lines after the verdict of a watched run: what the step is about to do that violates a rule. There are none if
+/// they are not asked for, or no rule is violated.
+pub fn breach_lines<A: Allocator + Copy, D: Allocator>(
+    alloc: A,
+    image: &Image,
+    declaration: &Declaration<D>,
+    events: &[Event],
+    watched: Watched,
+    explained: bool,
+) -> Result<Message<A>, NoMemory>
+    ensures { IfOk result (λ text. explained ≡ false → plain text ≡ []) }
+{
+    let Watched::Broken { event, rule } = watched else {
+        return Ok(Message::new(alloc));
+    };
+    if !explained {
+        return Ok(Message::new(alloc));
+    }
+    let mut watcher = Watcher::new(alloc, image, declaration, &Start::zero());
+    let mut last = None;
+    for index in 0..event {
+        if let Some(happened) = events.get(index) {
+            if *happened == Event::Step && watcher.world().halted_at().is_none() {
+                last = Some(next_of(watcher.world().cpu()));
+            }
+            watcher.next(declaration, *happened)?;
+        }
+    }
+    Ok(lines_of(alloc, declaration, &watcher, rule, last)?)
+}

@@ -1,2 +1,0 @@
-pub mod DraftText
-pub mod ReportText

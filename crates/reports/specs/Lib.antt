@@ -1,0 +1,3 @@
+pub mod Head
+pub mod DraftText
+pub mod ReportText

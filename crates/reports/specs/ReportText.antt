@@ -1,0 +1,17 @@
+-- What `report` writes.
+use Rattle.std.specs.Prelude.{ℕ, ◌≡◌, ◌++◌, List, Option}
+use Rattle.certificate.specs.Spelling.{Lines}
+use Rattle.declaration.specs.Declaration.{Declaration}
+use Rattle.command_parts.specs.declared.status.Status.{Status}
+use Rattle.reports.specs.declared.pen.ReportForm.{ReportForm}
+use Rattle.reports.specs.Head.{head_of, opening}
+use Rattle.diagnostics.specs.CheckText.{IsVerdictOf}
+
+-- The page is what stands before the verdict in its form, then the line of the verdict on the image, the declaration and the
+-- certificate's lines, as `check` writes it, then what stands right behind that verdict, and then more; and the status is that of
+-- the verdict.
+pub record IsReportOf (form : ReportForm) (image : List (Option ℕ)) (declaration : Declaration) (lines : Lines) (status : Status) (page : List ℕ) : Type 0 where
+  pub line : List ℕ
+  pub checked : IsVerdictOf image declaration lines status line
+  pub rest : List ℕ
+  pub page_is : page ≡ head_of form ++ (line ++ (opening form checked.verdict ++ rest))

@@ -1,0 +1,41 @@
+//! The reports: what a certificate says, or what a search for one had found, as plain text or as a page of HTML.
+#![tactic(auto)]
+
+mod access;
+mod graph;
+mod known;
+mod listing;
+mod map;
+mod page;
+mod pen;
+mod report;
+mod routines;
+mod source_notes;
+mod style;
+mod variables;
+
+use listing::push_listing;
+pub use page::page_below;
+use pen::Pen;
+pub use pen::ReportForm;
+pub use report::{Finding, Report};
+pub use source_notes::{LinePlace, SourceNote, SourceNotes};
+use std::alloc::{AllocError, Allocator};
+pub use style::{head_of, opening, stuck_opening};
+
+/// The listing as plain text, as it stands below the verdict and its reason.
+///
+/// # Errors
+///
+/// Memory was refused.
+pub fn listing_below<A: Allocator + Copy, D: Allocator, C: Allocator>(
+    alloc: A,
+    report: &Report<'_, A, D, C>,
+) -> Result<Vec<u8, A>, AllocError> {
+    let mut pen = Pen::new(alloc, ReportForm::Text, &report.lines());
+    push_listing(&mut pen, report);
+    pen.into_bytes()
+}
+
+pub mod drafting;
+pub mod reporting;

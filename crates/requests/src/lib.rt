@@ -1,0 +1,16 @@
+//! The files and streams that the requests of a command line work on, what is said about faults, and the files that
+//! `verify --save` writes. It is tested, not proved.
+#![tactic(auto)]
+
+pub mod of_files;
+pub mod of_sources;
+pub mod drafted;
+pub mod faults;
+pub mod files;
+pub mod inputs;
+pub mod replacing;
+pub mod saving;
+pub mod source_faults;
+pub mod stuck;
+pub mod tellers;
+pub mod telling;

@@ -1,0 +1,163 @@
+//! The files and streams of a run with an operator.
+
+ghost use Rattle.std.specs.Prelude.{◌≡◌, false};
+
+use command_line::{Session, TeletypeSession, WatchedSession};
+use command_parts::status::{DeviceFault, Fault, Status};
+use either::Either;
+use machine_commands::session::{Outputs, run_session};
+use machine_commands::teletype::{Typist, teletype};
+use machine_commands::watched_session::watch_session;
+use crate::files::open_input;
+use crate::replacing::ResultFile;
+use crate::tellers::{Nowhere, open_input_if, report_to, tell_to};
+use std::alloc::Global;
+use std::io::{self, Printer};
+use std::rt::Files;
+use streams::ByteSink;
+use streams::standard::{Reads, Writes};
+
+/// Where the punched bytes go: to a file, or nowhere.
+type Punch<'r, R> = Either<ResultFile<'r, R>, Nowhere>;
+
+/// Sees to it that the punch's file can be made or written, and leaves it as it is; where it is left out, what is punched
+/// goes nowhere.
+fn open_punch<'r, R: Files>(
+    rt: &'r R,
+    alloc: Global,
+    name: Option<&'r str>,
+) -> Result<Punch<'r, R>, Fault> {
+    let Some(name) = name else {
+        return Ok(Either::Right(Nowhere));
+    };
+    let mut file = ResultFile::new(rt, alloc, name)?;
+    match file.check() {
+        Ok(()) => Ok(Either::Left(file)),
+        Err(_) => Err(Fault::Device(DeviceFault::Write)),
+    }
+}
+
+/// Puts what was punched in its place. It goes out by one write before the summary, so it is whole also where that
+/// fails; a run that punched nothing leaves an empty file.
+fn finish_punch<R: Files>(
+    punch: &mut Punch<'_, R>,
+    failed: bool,
+    answer: Result<Status, Fault>,
+) -> Result<Status, Fault> {
+    let Either::Left(file) = punch else {
+        return answer;
+    };
+    if failed {
+        return answer;
+    }
+    let done = match answer {
+        Ok(_) => file.finish_or_empty(),
+        Err(_) => file.finish(),
+    };
+    match done {
+        Ok(()) => answer,
+        Err(_) => Err(Fault::Device(DeviceFault::Write)),
+    }
+}
+
+/// Where the characters of a session go: to standard output or nowhere.
+fn type_to<'r, R: Print>(rt: &'r R, teletype: bool) -> Writes<Either<Printer<'r, R>, Nowhere>>
+    ensures { result.failed ≡ false }
+{
+    if teletype {
+        Writes::new(Either::Left(io::writer(rt)))
+    } else {
+        Writes::new(Either::Right(Nowhere))
+    }
+}
+
+/// Runs a tape with an operator. The files are opened in this order: the tape, the reader's frames
+/// and the keys, and then it is seen that the punch's can be made.
+///
+/// # Errors
+///
+/// As for `run_session`, and `Device` where a file can't be opened or made.
+#[inline(never)]
+pub fn hold_session<R: Files + Input + Print + Eprint>(
+    rt: &R,
+    alloc: Global,
+    session: &Session<'_>,
+) -> Result<Status, Fault> {
+    let joined = &session.joined;
+    let mut frames = open_input(rt, session.tape)?;
+    let mut reader = open_input_if(rt, joined.reader)?;
+    let mut keys = open_input_if(rt, joined.keys)?;
+    let mut punch = open_punch(rt, alloc, joined.punch)?;
+    let mut outputs = Outputs {
+        report: report_to(rt, joined.teletype),
+        teletype: type_to(rt, joined.teletype),
+        punch: Writes::new(&mut punch),
+    };
+    let answer = run_session(
+        alloc,
+        &mut frames,
+        &mut reader,
+        &mut keys,
+        session.options,
+        &mut outputs,
+    );
+    let failed = outputs.punch.failed();
+    finish_punch(&mut punch, failed, answer)
+}
+
+/// Watches the run of a tape with an operator. The files are opened in this order: the tape, the
+/// declaration, the reader's frames and the keys.
+///
+/// # Errors
+///
+/// As for `watch_session`, and `Device` where a file can't be opened.
+#[inline(never)]
+pub fn watch_joined<R: Files + Input + Print>(
+    rt: &R,
+    alloc: Global,
+    session: &WatchedSession<'_>,
+) -> Result<Status, Fault> {
+    let mut frames = open_input(rt, session.tape)?;
+    let mut text = open_input(rt, session.declaration)?;
+    let mut reader = open_input_if(rt, session.reader)?;
+    let mut keys = open_input_if(rt, session.keys)?;
+    let mut out = Writes::new(io::writer(rt));
+    watch_session(
+        alloc,
+        &mut frames,
+        &mut text,
+        &mut reader,
+        &mut keys,
+        session.options,
+        session.explained,
+        &mut out,
+    )
+}
+
+/// Holds a session at the teletype: keys come from standard input, what is printed goes to standard
+/// output, and the summary to standard error. The tape is opened first, then the reader's frames, and then
+/// it is seen that the punch's file can be made.
+///
+/// # Errors
+///
+/// As for `teletype`, and `Device` where a file can't be opened or made.
+#[inline(never)]
+pub fn sit_down<R: Files + Input + Print + Eprint>(
+    rt: &R,
+    alloc: Global,
+    session: &TeletypeSession<'_>,
+) -> Result<Status, Fault> {
+    let mut frames = open_input(rt, session.tape)?;
+    let reader = open_input_if(rt, session.reader)?;
+    let keys = Reads::new(rt.reader());
+    let mut punch = open_punch(rt, alloc, session.punch)?;
+    let mut outputs = Outputs {
+        report: tell_to(rt),
+        teletype: Writes::new(io::writer(rt)),
+        punch: Writes::new(&mut punch),
+    };
+    let mut typist = Typist::new(reader, keys, session.options);
+    let answer = teletype(alloc, &mut frames, &mut typist, &mut outputs);
+    let failed = outputs.punch.failed();
+    finish_punch(&mut punch, failed, answer)
+}

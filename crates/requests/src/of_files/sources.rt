@@ -1,0 +1,149 @@
+//! Sources that are assembled or listed, and what is told of their faults.
+
+use command_line::{AssembleRequest, ListRequest};
+use command_parts::status::{DeviceFault, Fault, Status};
+use instruct::Profile;
+use crate::files::{Outlet, finish, open_inputs, open_output, open_parts};
+use crate::source_faults::{
+    NO_WORD, input_name, output_name, tell_of, tell_size, unopened,
+};
+use crate::telling::{tell, tell_with};
+use source_commands::assembling::{assemble, list};
+use std::alloc::Global;
+use std::io;
+use std::rt::Files;
+use streams::ByteSource;
+use streams::standard::Writes;
+
+/// The name of the first part of which a read failed.
+fn unread<'n, S: ByteSource>(names: &'n [&'n str], parts: &[S]) -> &'n str {
+    for (index, part) in parts.iter().enumerate() {
+        if part.failed() {
+            return match names.get(index) {
+                Some(name) => input_name(name),
+                None => "a source",
+            };
+        }
+    }
+    "a source"
+}
+
+/// Writes the line of a fault to standard error, and below it what is wrong: of a source these lines.
+fn tell_all<R: Eprint, S: ByteSource>(
+    rt: &R,
+    fault: Fault,
+    names: &[&str],
+    parts: &[S],
+    out: &str,
+    told: &str,
+) -> Status {
+    match fault {
+        Fault::Source(fault) if fault.line == 0 => tell_size(rt, fault, names),
+        Fault::Source(_) => tell_with(rt, fault, told),
+        Fault::EmptyImage => tell_with(rt, fault, NO_WORD),
+        Fault::Device(DeviceFault::Read) => tell_of(
+            rt,
+            fault,
+            unread(names, parts),
+            "cannot be read",
+        ),
+        Fault::Device(DeviceFault::Write) => tell_of(
+            rt,
+            fault,
+            output_name(out),
+            "cannot be written",
+        ),
+        _ => tell(rt, fault),
+    }
+}
+
+/// Lists the source whose parts are in these files, and tells below the line of a fault what is wrong.
+fn list_or_tell<R: Files + Input + Print + Eprint>(
+    rt: &R,
+    alloc: Global,
+    names: &[&str],
+    profile: Profile,
+) -> Status {
+    let mut parts = Vec::new(alloc);
+    if let Err(fault) = open_parts(rt, names, &mut parts) {
+        return tell_of(rt, fault, unopened(names, parts.len()), "cannot be opened");
+    }
+    let mut out = Writes::new(io::writer(rt));
+    let mut told = String::new(alloc);
+    match list(alloc, &mut parts, profile, Some(names), &mut told, &mut out) {
+        Ok(status) => status,
+        Err(fault) => tell_all(rt, fault, names, &parts, "-", &told),
+    }
+}
+
+/// Puts a tape that was written in its place.
+fn finish_tape<R: Files + Print>(
+    file: &mut Outlet<'_, R>,
+    assembled: Result<Status, Fault>,
+) -> Result<Status, Fault> {
+    finish(file, assembled?)
+}
+
+/// Assembles the parts of these files into a tape, and tells below the line of a fault what is wrong.
+fn assemble_or_tell<R: Files + Input + Print + Eprint>(
+    rt: &R,
+    alloc: Global,
+    asked: &AssembleRequest<'_>,
+) -> Status {
+    let (names, out) = (asked.sources.as_slice(), asked.out.name());
+    let mut file = match open_output(rt, alloc, asked.out) {
+        Ok(file) => file,
+        Err(fault) => return tell_of(rt, fault, output_name(out), "cannot be created"),
+    };
+    let mut parts = Vec::new(alloc);
+    if let Err(fault) = open_parts(rt, names, &mut parts) {
+        return tell_of(rt, fault, unopened(names, parts.len()), "cannot be opened");
+    }
+    let mut told = String::new(alloc);
+    let assembled = assemble(
+        alloc,
+        &mut parts,
+        asked.profile,
+        Some(names),
+        &mut told,
+        &mut Writes::new(&mut file),
+    );
+    match finish_tape(&mut file, assembled) {
+        Ok(status) => status,
+        Err(fault) => tell_all(rt, fault, names, &parts, out, &told),
+    }
+}
+
+/// Lists the source whose parts are in files.
+#[inline(never)]
+pub fn list_from<R: Files + Input + Print + Eprint>(
+    rt: &R,
+    alloc: Global,
+    asked: &ListRequest<'_>,
+) -> Result<Status, Fault> {
+    if asked.explained {
+        return Ok(list_or_tell(rt, alloc, &asked.sources, asked.profile));
+    }
+    let mut parts = open_inputs(rt, alloc, &asked.sources)?;
+    let mut out = Writes::new(io::writer(rt));
+    let mut told = String::new(alloc);
+    list(alloc, &mut parts, asked.profile, None, &mut told, &mut out)
+}
+
+/// Assembles the parts of files into a tape.
+#[inline(never)]
+pub fn assemble_to<R: Files + Input + Print + Eprint>(
+    rt: &R,
+    alloc: Global,
+    asked: &AssembleRequest<'_>,
+) -> Result<Status, Fault> {
+    if asked.explained {
+        return Ok(assemble_or_tell(rt, alloc, asked));
+    }
+    let mut file = open_output(rt, alloc, asked.out)?;
+    let mut parts = open_inputs(rt, alloc, &asked.sources)?;
+    let mut told = String::new(alloc);
+    let mut tape = Writes::new(&mut file);
+    let status = assemble(alloc, &mut parts, asked.profile, None, &mut told, &mut tape)?;
+    finish(&mut file, status)
+}

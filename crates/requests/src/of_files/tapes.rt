@@ -1,0 +1,92 @@
+//! Commands that work on a tape alone.
+
+use command_line::{DeclareRequest, DumpRequest, RunRequest, SourceRequest};
+use command_parts::status::{Fault, Status};
+use machine_commands::running::{dump, run, run_events};
+use crate::files::{finish, open_input, open_output};
+use search_commands::completing::complete;
+use search_commands::declaring::declare;
+use source_commands::sourcing::{declared_source, source};
+use std::alloc::Global;
+use std::io;
+use std::rt::Files;
+use streams::standard::Writes;
+
+/// Names the words of the tape of a file.
+#[inline(never)]
+pub fn dump_from<R: Files + Input + Print>(
+    rt: &R,
+    alloc: Global,
+    asked: &DumpRequest<'_>,
+) -> Result<Status, Fault> {
+    let mut frames = open_input(rt, asked.tape)?;
+    let mut out = Writes::new(io::writer(rt));
+    dump(alloc, &mut frames, asked.profile, &mut out)
+}
+
+/// Runs a tape, in rounds or by the events of a file.
+#[inline(never)]
+pub fn run_from<R: Files + Input + Print>(
+    rt: &R,
+    alloc: Global,
+    asked: &RunRequest<'_>,
+) -> Result<Status, Fault> {
+    let mut frames = open_input(rt, asked.tape)?;
+    let Some(events) = asked.events else {
+        let mut out = Writes::new(io::writer(rt));
+        return run(alloc, &mut frames, asked.options, &mut out);
+    };
+    let mut list = open_input(rt, events)?;
+    let mut out = Writes::new(io::writer(rt));
+    run_events(alloc, &mut frames, &mut list, asked.options, &mut out)
+}
+
+/// Writes a source of the tape of a file. A declaration is opened before the file that the source goes
+/// to is made.
+#[inline(never)]
+pub fn source_from<R: Files + Input + Print>(
+    rt: &R,
+    alloc: Global,
+    asked: &SourceRequest<'_>,
+) -> Result<Status, Fault> {
+    let mut frames = open_input(rt, asked.tape)?;
+    let Some(declaration) = asked.declaration else {
+        let mut file = open_output(rt, alloc, asked.out)?;
+        let mut text = Writes::new(&mut file);
+        let status = source(alloc, &mut frames, asked.start, asked.profile, &mut text)?;
+        return finish(&mut file, status);
+    };
+    let mut promise = open_input(rt, declaration)?;
+    let mut file = open_output(rt, alloc, asked.out)?;
+    let mut text = Writes::new(&mut file);
+    let status = declared_source(alloc, &mut frames, &mut promise, &mut text)?;
+    finish(&mut file, status)
+}
+
+/// Proposes a declaration for the tape of a file, or completes that of a file, which is opened before the
+/// file that it goes to is made.
+#[inline(never)]
+pub fn declare_from<R: Files + Input + Print>(
+    rt: &R,
+    alloc: Global,
+    asked: &DeclareRequest<'_>,
+) -> Result<Status, Fault> {
+    let mut frames = open_input(rt, asked.tape)?;
+    let Some(from) = asked.from else {
+        let mut file = open_output(rt, alloc, asked.out)?;
+        let mut text = Writes::new(&mut file);
+        let status = declare(alloc, &mut frames, asked.options, &mut text)?;
+        return finish(&mut file, status);
+    };
+    let mut promise = open_input(rt, from)?;
+    let mut file = open_output(rt, alloc, asked.out)?;
+    let mut text = Writes::new(&mut file);
+    let status = complete(
+        alloc,
+        &mut frames,
+        &mut promise,
+        asked.options.reads,
+        &mut text,
+    )?;
+    finish(&mut file, status)
+}

@@ -1,0 +1,303 @@
+//! Sources and their declarations, read and written in numbers, and what is said about their faults.
+
+use crate::of_sources::spots::{Spot, behind_lines, line_counts, spot_of};
+use command_line::{Misuse, Sourced, Task};
+use command_parts::status::{Fault, Status};
+use diagnostics::inputs::{FaultyFile, push_numbered};
+use instruct::Profile;
+use labels::{NumberingFault, PlaceFault, declared_lines};
+use crate::files::open_input;
+use crate::source_faults::{tell_of, tell_source, unopened};
+use crate::telling::{tell_lines, tell_misuse};
+use std::alloc::{AllocError, Global};
+use std::fmt::Write;
+use std::rt::Files;
+use streams::read_at_most;
+use streams::text::{Lines, Words};
+
+/// A byte more than a part of a source may have.
+const MOST_PART: usize = 65_537;
+
+/// A byte more than a declaration may have.
+const MOST_DECLARATION: usize = 16_385;
+
+/// Where a declaration comes from.
+#[derive(Clone, Copy, PartialEq, Eq, Debug)]
+pub enum Promise {
+    /// From a file.
+    File,
+    /// From lines within the source.
+    Within,
+    /// It is proposed.
+    Proposed,
+}
+
+/// A source and its declaration with symbols, as they were read.
+#[derive(Drop)]
+pub struct Given {
+    /// The parts of the source.
+    pub parts: Vec<Vec<u8>>,
+    /// The declaration with its symbols.
+    pub text: Vec<u8>,
+    /// Where it comes from.
+    pub promise: Promise,
+}
+
+/// What became of the files of a source and its declaration.
+#[derive(Drop)]
+pub enum Prepared {
+    /// They cannot be taken, which has been told, and this is the status.
+    Told(Status),
+    /// They were read.
+    Read(Given),
+}
+
+/// Reads the parts of a source in order, up to the first that cannot be read, and puts them after those that were
+/// read.
+fn read_parts<R: Files + Input>(
+    rt: &R,
+    alloc: Global,
+    names: &[&str],
+    parts: &mut Vec<Vec<u8>>,
+) -> Result<(), Fault> {
+    for name in names {
+        let mut input = open_input(rt, name)?;
+        let part = read_at_most(alloc, &mut input, MOST_PART)?;
+        if parts.push(part).is_err() {
+            return Err(Fault::NoMemory);
+        }
+    }
+    Ok(())
+}
+
+/// The bytes of parts, lent.
+pub fn lend<'t>(alloc: Global, parts: &'t [Vec<u8>]) -> Result<Vec<&'t [u8]>, AllocError> {
+    let mut slices = Vec::new(alloc);
+    for part in parts {
+        slices.push(part.as_slice())?;
+    }
+    Ok(slices)
+}
+
+/// Whether a declaration says something, apart from comments.
+pub(crate) fn says_something(declaration: &[u8]) -> bool {
+    for line in Lines::of(declaration) {
+        if Words::of(line).next().is_some() {
+            return true;
+        }
+    }
+    false
+}
+
+/// The line that names a machine.
+fn machine_line(profile: Profile) -> &'static [u8] {
+    match profile {
+        Profile::Pdp8I => b"profile 8i\n",
+        Profile::Pdp8E => b"profile 8e\n",
+    }
+}
+
+/// A declaration that is to be proposed, of which only the machine is known.
+fn unknown_declaration(alloc: Global, task: &Task<'_>) -> Result<Vec<u8>, AllocError> {
+    let mut text = Vec::new(alloc);
+    match task {
+        Task::Verify { options, .. } => text.extend_from_slice(machine_line(options.profile))?,
+        Task::Declare { options, .. } => text.extend_from_slice(machine_line(options.profile))?,
+        _ => {}
+    }
+    Ok(text)
+}
+
+/// A declaration with its symbols, and where it comes from.
+#[derive(Drop)]
+struct Promised {
+    text: Vec<u8>,
+    promise: Promise,
+}
+
+/// Whether a declaration is proposed where no file is named, by what the source says about one.
+fn is_proposed(task: &Task<'_>, within: &[u8]) -> bool {
+    match task {
+        Task::Verify { .. } | Task::Declare { .. } => !says_something(within),
+        _ => false,
+    }
+}
+
+/// The declaration of a source: that of the file, else its lines within the source.
+fn given_declaration<R: Files + Input>(
+    rt: &R,
+    alloc: Global,
+    sourced: &Sourced<'_>,
+    parts: &[Vec<u8>],
+) -> Result<Promised, Fault> {
+    if let Some(name) = sourced.declaration {
+        let mut input = open_input(rt, name)?;
+        return Ok(Promised {
+            text: read_at_most(alloc, &mut input, MOST_DECLARATION)?,
+            promise: Promise::File,
+        });
+    }
+    let slices = lend(alloc, parts)?;
+    let text = declared_lines(alloc, &slices)?;
+    if is_proposed(&sourced.task, &text) {
+        return Ok(Promised {
+            text: unknown_declaration(alloc, &sourced.task)?,
+            promise: Promise::Proposed,
+        });
+    }
+    Ok(Promised {
+        text,
+        promise: Promise::Within,
+    })
+}
+
+/// What is wrong with a line of a declaration that has symbols.
+fn said_of(fault: PlaceFault) -> &'static str {
+    match fault {
+        PlaceFault::BadLine(_) =>
+            "a word with a capital letter must be a symbol, a symbol and + or - a number, or two addresses with - between them",
+        PlaceFault::NoSymbol(_) => "the source defines no such symbol",
+        PlaceFault::PastMemory(_) => "an address must be from 0000 to 7777",
+        PlaceFault::Backwards(_) => "the range ends below its first address",
+        PlaceFault::TooMany => "the declaration has more than 16384 bytes",
+        PlaceFault::NoMemory => "memory was refused",
+    }
+}
+
+/// The number of the line that has a fault; 0 if it is not about a line.
+fn line_of(fault: PlaceFault) -> usize {
+    match fault {
+        PlaceFault::BadLine(number)
+        | PlaceFault::NoSymbol(number)
+        | PlaceFault::PastMemory(number)
+        | PlaceFault::Backwards(number) => number,
+        PlaceFault::TooMany | PlaceFault::NoMemory => 0,
+    }
+}
+
+/// Adds the line of a declaration that has a fault, and what is wrong.
+fn push_placing(
+    told: &mut String,
+    fault: PlaceFault,
+    spot: &Spot<'_>,
+    text: &[u8],
+) -> Result<(), AllocError> {
+    let (name, said) = (spot.name, said_of(fault));
+    if spot.line == 0 {
+        return writeln!(told, "{name}: {said}").map_err(|_| AllocError);
+    }
+    let file = FaultyFile {
+        name,
+        bytes: behind_lines(text, line_of(fault).saturating_sub(spot.line)),
+    };
+    if push_numbered(told, &file, spot.line).is_err() {
+        return Err(AllocError);
+    }
+    writeln!(told, "{said}").map_err(|_| AllocError)
+}
+
+/// Tells the fault of a declaration with symbols, and below it the line and what is wrong, if that is asked for.
+fn tell_placing<R: Eprint>(
+    rt: &R,
+    alloc: Global,
+    fault: PlaceFault,
+    spot: &Spot<'_>,
+    text: &[u8],
+    explained: bool,
+) -> Status {
+    let told = eprintln!(rt; "pdp8: declaration: {fault}");
+    if !explained || told.is_err() {
+        return Status::Refused;
+    }
+    let mut lines = String::new(alloc);
+    let _ = push_placing(&mut lines, fault, spot, text);
+    tell_lines(rt, &lines);
+    Status::Refused
+}
+
+/// Where the fault of a declaration with symbols stands: in its file, or in a part of the source.
+fn placing_spot<'n>(
+    alloc: Global,
+    fault: PlaceFault,
+    sourced: &Sourced<'n>,
+    parts: &[&[u8]],
+) -> Result<Spot<'n>, AllocError> {
+    let line = line_of(fault);
+    if let Some(name) = sourced.declaration {
+        return Ok(Spot { name, line });
+    }
+    let counts = line_counts(alloc, parts)?;
+    Ok(spot_of(&sourced.sources, &counts, line))
+}
+
+/// Tells that a source or its declaration is refused. A fault that is not about one of their lines is passed on.
+///
+/// # Errors
+///
+/// `EmptyImage` and `NoMemory`.
+pub fn tell_refused<R: Eprint>(
+    rt: &R,
+    alloc: Global,
+    fault: NumberingFault,
+    sourced: &Sourced<'_>,
+    parts: &[&[u8]],
+    text: &[u8],
+) -> Result<Status, Fault> {
+    let explained = sourced.task.is_explained();
+    match fault {
+        NumberingFault::Source(fault) => Ok(tell_source(
+            rt,
+            alloc,
+            fault,
+            &sourced.sources,
+            parts,
+            labels::machine_of(text),
+            explained,
+        )),
+        NumberingFault::EmptyImage => Err(Fault::EmptyImage),
+        NumberingFault::Placing(fault) => {
+            let spot = placing_spot(alloc, fault, sourced, parts)?;
+            Ok(tell_placing(rt, alloc, fault, &spot, text, explained))
+        }
+        NumberingFault::NoMemory => Err(Fault::NoMemory),
+    }
+}
+
+/// Whether a start or a machine is named beside a declaration within the source.
+fn is_asked_twice(task: &Task<'_>, promise: Promise) -> bool {
+    match task {
+        Task::Verify { asked, .. } | Task::Declare { asked, .. } => {
+            *asked && promise == Promise::Within
+        }
+        _ => false,
+    }
+}
+
+/// Reads a source and its declaration.
+///
+/// # Errors
+///
+/// `Device` if a file cannot be opened or read, and `NoMemory`.
+pub fn read_all<R: Files + Input + Eprint>(
+    rt: &R,
+    alloc: Global,
+    sourced: &Sourced<'_>,
+) -> Result<Prepared, Fault> {
+    let mut parts = Vec::new(alloc);
+    if let Err(fault) = read_parts(rt, alloc, &sourced.sources, &mut parts) {
+        if !sourced.task.is_explained() {
+            return Err(fault);
+        }
+        let name = unopened(&sourced.sources, parts.len());
+        return Ok(Prepared::Told(tell_of(rt, fault, name, "cannot be opened or read")));
+    }
+    let Promised { text, promise } = given_declaration(rt, alloc, sourced, &parts)?;
+    if is_asked_twice(&sourced.task, promise) {
+        return Ok(Prepared::Told(tell_misuse(rt, &Misuse::DeclarationAndStart)));
+    }
+    Ok(Prepared::Read(Given {
+        parts,
+        text,
+        promise,
+    }))
+}

@@ -1,0 +1,114 @@
+//! Where a source has what is named to people. It is tested, not proved.
+
+use crate::of_sources::assembled::AssembledSource;
+use command_parts::message::{Mark, Message};
+use itoa::Buffer;
+use reports::reporting::{LinePlace, SourceNote};
+use std::alloc::{AllocError, Global};
+use word12::Word;
+
+/// Adds what the source calls an address, or its digits where the source has no name for it.
+fn push_label(
+    text: &mut Vec<u8>,
+    at: Word,
+    note: Option<SourceNote<'_>>,
+) -> Result<(), AllocError> {
+    match note {
+        Some(note) if !note.label.is_empty() => text.extend_from_slice(note.label),
+        _ => text.extend_from_slice(&at.to_octal()),
+    }
+}
+
+/// Adds in brackets what the source calls an address, if it does.
+fn push_label_in_brackets(
+    text: &mut Vec<u8>,
+    note: Option<SourceNote<'_>>,
+) -> Result<(), AllocError> {
+    let Some(note) = note else {
+        return Ok(());
+    };
+    if note.label.is_empty() {
+        return Ok(());
+    }
+    text.extend_from_slice(b" (")?;
+    text.extend_from_slice(note.label)?;
+    text.extend_from_slice(b")")
+}
+
+/// Adds what the source says about an instruction, as a line of its own.
+fn push_source_line(
+    text: &mut Vec<u8>,
+    at: Word,
+    source: &AssembledSource<'_>,
+) -> Result<(), AllocError> {
+    let Some(note) = source.notes.at(at) else {
+        return Ok(());
+    };
+    let LinePlace { part, line } = note.place;
+    let name = source
+        .names
+        .get(part.saturating_sub(1))
+        .copied()
+        .unwrap_or("-");
+    text.extend_from_slice(b"    ")?;
+    text.extend_from_slice(name.as_bytes())?;
+    text.push(b':')?;
+    text.extend_from_slice(Buffer::new().format(line).as_bytes())?;
+    text.extend_from_slice(b": ")?;
+    if !note.label.is_empty() && !begins_with_tag(note) {
+        text.extend_from_slice(note.label)?;
+        text.extend_from_slice(b"  ")?;
+    }
+    text.extend_from_slice(note.text)?;
+    text.extend_from_slice(b"\n")
+}
+
+/// Whether a source's line begins with the tag that is the name of its address.
+fn begins_with_tag(note: SourceNote<'_>) -> bool {
+    match note.text.strip_prefix(note.label) {
+        Some(rest) => rest.starts_with(b","),
+        None => false,
+    }
+}
+
+/// Adds a piece of a text, and what the source says where it ends: after an address in brackets what the source calls
+/// it, in advice this in place of the address, and below an instruction its line.
+fn push_piece(
+    text: &mut Vec<u8>,
+    piece: &[u8],
+    mark: Mark,
+    source: &AssembledSource<'_>,
+) -> Result<(), AllocError> {
+    match mark {
+        Mark::Address(at) => {
+            text.extend_from_slice(piece)?;
+            push_label_in_brackets(text, source.notes.at(at))
+        }
+        Mark::AdvisedAddress(at) => {
+            text.extend_from_slice(piece.get(..piece.len().saturating_sub(4)).unwrap_or(b""))?;
+            push_label(text, at, source.notes.at(at))
+        }
+        Mark::Instruction(at) => {
+            text.extend_from_slice(piece)?;
+            push_source_line(text, at, source)
+        }
+    }
+}
+
+/// A text for people with what the source says about its addresses.
+pub fn with_source_lines(
+    alloc: Global,
+    source: &AssembledSource<'_>,
+    told: &Message<Global>,
+) -> Result<Vec<u8>, AllocError> {
+    let bytes = told.as_bytes();
+    let mut text = Vec::new(alloc);
+    let mut done = 0usize;
+    for placed in told.marks() {
+        let piece = bytes.get(done..placed.place).unwrap_or(b"");
+        push_piece(&mut text, piece, placed.mark, source)?;
+        done = placed.place;
+    }
+    text.extend_from_slice(bytes.get(done..).unwrap_or(b""))?;
+    Ok(text)
+}

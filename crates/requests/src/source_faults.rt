@@ -1,0 +1,80 @@
+//! What is said about the faults of a source.
+
+use crate::telling::{tell, tell_with};
+use command_parts::status::{Fault, Status};
+use instruct::Profile;
+use pal_asm::PalFault;
+use pal_diagnostics::push_faults;
+use std::alloc::Global;
+
+/// What is said about a source that is assembled to no word.
+pub const NO_WORD: &str = "the source generates no code: list shows what it contains\n";
+
+/// An input as it is named in a sentence.
+pub fn input_name<'n>(name: &'n str) -> &'n str {
+    if name == "-" { "standard input" } else { name }
+}
+
+/// An output as it is named in a sentence.
+pub fn output_name<'n>(name: &'n str) -> &'n str {
+    if name == "-" { "standard output" } else { name }
+}
+
+/// The name of the part that cannot be opened, after the ones that are open.
+pub fn unopened<'n>(names: &'n [&'n str], opened: usize) -> &'n str {
+    match names.get(opened) {
+        Some(name) => input_name(name),
+        None => "a source",
+    }
+}
+
+/// Writes the line of a fault to standard error, and below it, if a device failed, of which file.
+pub fn tell_of<R: Eprint>(rt: &R, fault: Fault, name: &str, happened: &str) -> Status {
+    let status = tell(rt, fault);
+    if status != Status::Device {
+        return status;
+    }
+    match eprintln!(rt; "{name} {happened}") {
+        Ok(()) | Err(_) => status,
+    }
+}
+
+/// Writes the line of the fault of a size to standard error, and below it what is too long or too many.
+pub fn tell_size<R: Eprint>(rt: &R, fault: PalFault, names: &[&str]) -> Status {
+    let status = tell(rt, Fault::Source(fault));
+    let count = names.len();
+    let told = match names.get(fault.part.wrapping_sub(1)) {
+        Some(name) => eprintln!(rt;
+            "{name}: TL: the part has more than 65536 bytes\nsplit it into parts, in order, each except the last with PAUSE at its end"
+        ),
+        None => eprintln!(rt;
+            "TL: the source has {count} parts, and the maximum is 16\njoin some of them, without the PAUSE between them"
+        ),
+    };
+    match told {
+        Ok(()) | Err(_) => status,
+    }
+}
+
+/// Writes the line of a source's fault to standard error, and below it what is wrong, if that is asked
+/// for.
+pub fn tell_source<R: Eprint>(
+    rt: &R,
+    alloc: Global,
+    fault: PalFault,
+    names: &[&str],
+    parts: &[&[u8]],
+    profile: Profile,
+    explained: bool,
+) -> Status {
+    if !explained {
+        return tell(rt, Fault::Source(fault));
+    }
+    if fault.line == 0 {
+        return tell_size(rt, fault, names);
+    }
+    let mut told = String::new(alloc);
+    match push_faults(alloc, &mut told, names, parts, profile) {
+        Ok(()) | Err(_) => tell_with(rt, Fault::Source(fault), &told),
+    }
+}

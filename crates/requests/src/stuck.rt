@@ -1,0 +1,92 @@
+//! What is said about a search for a certificate that is stuck. It is tested, not proved.
+
+use bin_tape::Image;
+use diagnostics::bounds::push_bound;
+use certificate::Certificate;
+use command_parts::message::{Lines, Message};
+use command_parts::status::Fault;
+use declaration::Declaration;
+use diagnostics::inputs::{push_omissions, push_stuck_remedy};
+use search_commands::messages::AnswerMessage;
+use search_commands::stuck::draft_message;
+use search_commands::verifying::{Answer, Lack};
+use std::alloc::{AllocError, Global};
+use std::fmt::Write;
+use turns::GuessFault;
+use word12::Word;
+
+/// A search that is stuck: the program, where it is stuck, and what it had found.
+#[derive(Clone, Copy)]
+pub struct Stuck<'x> {
+    /// The words of the program.
+    pub image: &'x Image,
+    /// Its declaration.
+    pub declaration: &'x Declaration<Global>,
+    /// The address at which the search is stuck.
+    pub at: Word,
+    /// What it had found.
+    pub draft: &'x Certificate<Global>,
+}
+
+/// Adds the lines that say why a search is stuck, between what the tape and the declaration show by themselves, and
+/// what to do and what the draft says about the pointer there.
+#[inline(never)]
+pub fn push_stuck(
+    alloc: Global,
+    told: &mut Message<Global>,
+    stuck: &Stuck<'_>,
+    why: &Message<Global>,
+) -> Result<(), AllocError> {
+    let (image, declaration, at) = (stuck.image, stuck.declaration, stuck.at);
+    let mut others = Message::new(alloc);
+    push_omissions(&mut others, image, declaration, Some(at))?;
+    told.push_message(&others)?;
+    if !others.is_empty() && !why.is_empty() {
+        told.push_text(b"where the search is stuck:\n")?;
+    }
+    told.push_message(why)?;
+    push_stuck_remedy(told, image, declaration, at)?;
+    push_bound(alloc, told, image, declaration, stuck.draft, at)
+}
+
+/// The line of a search that is stuck.
+fn stuck_line(alloc: Global, at: Word) -> Result<Message<Global>, AllocError> {
+    let mut line = String::new(alloc);
+    let fault = Fault::Guess(GuessFault::Stuck(at));
+    writeln!(line, "{fault}").map_err(|_| AllocError)?;
+    Ok(Message::of(alloc, line.into_bytes()))
+}
+
+/// What is said about a search that is stuck: its line, why it is stuck, and what to do.
+#[inline(never)]
+pub fn stuck_message(alloc: Global, stuck: &Stuck<'_>) -> Result<Message<Global>, AllocError> {
+    let mut told = stuck_line(alloc, stuck.at)?;
+    let why = draft_message(alloc, stuck.image, stuck.declaration, stuck.draft, stuck.at)?;
+    push_stuck(alloc, &mut told, stuck, &why)?;
+    Ok(told)
+}
+
+/// What is said about an answer: its line, and why; where the search is stuck with all that is known about that.
+#[inline(never)]
+pub fn answer_message(
+    alloc: Global,
+    image: &Image,
+    declaration: &Declaration<Global>,
+    found: &AnswerMessage<Global>,
+) -> Result<Message<Global>, AllocError> {
+    let mut told = Message::new(alloc);
+    told.push_text(&found.line)?;
+    match (&found.answer, &found.draft) {
+        (Answer::NotKnown(Lack::Stuck(at)), Some(draft)) => {
+            let stuck = Stuck {
+                image,
+                declaration,
+                at: *at,
+                draft,
+            };
+            push_stuck(alloc, &mut told, &stuck, &found.why)?;
+        }
+        _ => told.push_message(&found.why)?,
+    }
+    Ok(told)
+}

@@ -1,0 +1,27 @@
+use Rattle.declaration.specs.Kept.{meaning}
+use Rattle.certificate.specs.Kept.{meaning as lines_of}
+use Rattle.command_parts.proofs.AnswerLemmas.{delivered, delivers_by, nothing_written, three_good, three_refused}
+use Rattle.search_commands.proofs.checking.check.Goals as goal
+
+pub returns-in-Err-clause-reads : goal.returns-in-Err-clause-reads
+returns-in-Err-clause-reads g c = three_refused c.in-Err.ensures.reads
+
+pub returns-in-Err-clause-checked : goal.returns-in-Err-clause-checked
+returns-in-Err-clause-checked g c = nothing_written c.in-Err.fault c.requires.writable c.in-Err.ensures.unwritten
+
+pub returns-in-Ok-clause-reads : goal.returns-in-Ok-clause-reads
+returns-in-Ok-clause-reads g c = three_good c.deliver.result (delivers_by _ c.verdict_of.result c.deliver.result c.verdict_of.ensures.faults c.deliver.ensures.faults) c.in-Ok.ensures.reads
+
+pub returns-in-Ok-clause-checked : goal.returns-in-Ok-clause-checked
+returns-in-Ok-clause-checked g c =
+    delivered c.verdict_of.result c.verdict_of.ensures.verdict
+    (λ status text is. record {
+      image = c.in-Ok.certified.program.image;
+      tape = c.in-Ok.ensures.image;
+      declaration = meaning c.in-Ok.certified.program.declaration;
+      declares = c.in-Ok.ensures.declares;
+      lines = lines_of c.in-Ok.certified.certificate;
+      claims = c.in-Ok.ensures.claims;
+      is = is;
+    })
+    c.deliver.ensures.writes

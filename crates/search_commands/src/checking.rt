@@ -1,0 +1,76 @@
+//! The command that checks a certificate.
+
+ghost use Rattle.std.specs.Prelude.{◌≡◌, false, IfOk, IfErr};
+ghost use Rattle.certificate.specs.Kept.{meaning as lines_of};
+ghost use Rattle.declaration.specs.Kept.{meaning};
+ghost use Rattle.command_parts.specs.Answers.{IsLaterFault, IsMemoryFault, WritesAnswer, output};
+ghost use Rattle.command_parts.specs.Faults.{fails_to_write};
+ghost use Rattle.command_parts.specs.Inputs.{input};
+ghost use Rattle.diagnostics.specs.CertificateFaults.{ReadsCertified};
+ghost use Rattle.diagnostics.specs.CertificateInputs.{OfCertified};
+ghost use Rattle.diagnostics.specs.CheckText.{IsVerdictOf};
+
+use command_parts::outcome::{Outcome, deliver};
+use command_parts::status::{Fault, Status};
+use judge::judge;
+use std::alloc::Allocator;
+use streams::{ByteSink, ByteSource};
+use diagnostics::verdicts::certificates::{Certified, certified_from};
+use diagnostics::verdicts::verdict::{verdict_line, verdict_status};
+
+/// The verdict on a certificate of a program: its line, and its status.
+pub fn verdict_of<A: Allocator + Copy>(
+    alloc: A,
+    certified: &Certified<A>,
+) -> Result<Outcome<A>, Fault>
+    ensures verdict { IfOk result (λ verdict. IsVerdictOf certified.now.program.image
+        (meaning certified.now.program.declaration) (lines_of certified.now.certificate)
+        verdict.status verdict.text.items) }
+    ensures faults { IfErr result IsMemoryFault }
+    ensures unwritten { fails_to_write result ≡ false }
+{
+    let program = &certified.program;
+    let verdict = judge(&program.image, &program.declaration, &certified.certificate);
+    let text = verdict_line(alloc, &program.declaration, &verdict)?;
+    let status = verdict_status(&verdict);
+    Ok(Outcome { text, status })
+}
+
+/// Checks a certificate of a tape and a declaration, and writes the verdict: yes, with the numbers of
+/// cells in bodies, of variables, of entries, of declared halts and, where they are listed, of cells
+/// that may be read; or the first condition that fails and its address, and then the status is
+/// `Refused`. After a yes the program keeps its declaration in every run.
+///
+/// # Errors
+///
+/// The fault of the tape, of the declaration or of the certificate's text: each is read and, if it
+/// has a fault, refused before the next is read; `Device` where a read or a write failed, after
+/// which a prefix of the line went out; `NoMemory`.
+pub fn check<A: Allocator + Copy, R: ByteSource, D: ByteSource, C: ByteSource, W: ByteSink>(
+    alloc: A,
+    tape: &mut R,
+    declaration: &mut D,
+    certificate: &mut C,
+    out: &mut W,
+) -> Result<Status, Fault>
+    requires readable { R.mark tape.old ≡ false }
+    requires declaration_readable { D.mark declaration.old ≡ false }
+    requires certificate_readable { C.mark certificate.old ≡ false }
+    requires writable { W.mark out.old ≡ false }
+    // What is written is the verdict.
+    ensures checked { WritesAnswer
+        (OfCertified (R.remaining tape.old) (D.remaining declaration.old)
+        (C.remaining certificate.old) IsVerdictOf)
+        (output (W.mark out.new) (W.taken out.old) (W.taken out.new)) result }
+    // The inputs are read in order; after good ones a write may fail, or memory be refused.
+    ensures reads { ReadsCertified (IsLaterFault IsMemoryFault)
+        (input (R.mark tape.new) (R.remaining tape.old) (R.remaining tape.new))
+        (input (D.mark declaration.new) (D.remaining declaration.old) (D.remaining declaration.new))
+        (input (C.mark certificate.new) (C.remaining certificate.old) (C.remaining certificate.new))
+        (declaration.new ≡ declaration.old) (certificate.new ≡ certificate.old) result }
+{
+    match certified_from(alloc, tape, declaration, certificate) {
+        Ok(certified) => deliver(verdict_of(alloc, &certified), out),
+        Err(fault) => Err(fault),
+    }
+}

@@ -1,2 +1,0 @@
-pub mod ExplainText
-pub mod MigrateText

@@ -8,6 +8,7 @@ pub use machine_commands::{
     follow, refuting, running, session, teletype, watched_session, watching,
 };
 pub use reports::{drafting, reporting};
-pub use search_commands::{completing, declaring, guessing, stuck, verifying};
+pub use search_commands::{
+    checking, completing, declaring, explaining, guessing, migrating, stuck, verifying,
+};
 pub use source_commands::{assembling, sourcing};
-pub use search_commands::{checking, explaining, migrating};

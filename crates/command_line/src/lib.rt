@@ -1,8 +1,8 @@
 //! The command line of `pdp8`: its commands, operands and options, and what they ask for.
 #![tactic(auto)]
 
-pub mod explanations;
 mod commands;
+pub mod explanations;
 mod names;
 mod operator;
 mod outputs;

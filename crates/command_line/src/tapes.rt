@@ -7,8 +7,8 @@ use crate::values::{
     declare_options, is_start_named, profile_of, read_standard_input_once, run_options, start_of,
 };
 use clap::ArgMatches;
-use instruct::Profile;
 use command_parts::options::{DeclareOptions, RunOptions};
+use instruct::Profile;
 use word12::Word;
 
 /// To run a tape.

@@ -3,8 +3,8 @@
 use crate::refused::{Misuse, Refused};
 use crate::shown::shown_cells;
 use clap::ArgMatches;
-use instruct::Profile;
 use command_parts::options::{DeclareOptions, RefuteOptions, RunOptions, VerifyOptions};
+use instruct::Profile;
 use streams::text::decimal_between;
 use word12::Word;
 

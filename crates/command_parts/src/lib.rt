@@ -1,9 +1,9 @@
 //! What the commands share: what they read, the lines that several write, how they fail and how they end.
 #![tactic(auto)]
 
-pub mod options;
 pub mod inputs;
 pub mod message;
+pub mod options;
 pub mod outcome;
 pub mod programs;
 pub mod status;

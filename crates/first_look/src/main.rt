@@ -4,9 +4,9 @@
 //! Of a fault it tells nothing: its status is 1.
 #![tactic(auto)]
 
+use command_parts::options::RunOptions;
 use instruct::Profile;
 use machine_commands::running::run;
-use command_parts::options::RunOptions;
 use std::io;
 use std::process::ExitCode;
 use streams::standard::{Reads, Writes};

@@ -2,7 +2,6 @@
 //! run that breaks its declaration.
 #![tactic(auto)]
 
-pub mod violations;
 pub mod follow;
 pub mod messages;
 mod progress;
@@ -15,5 +14,6 @@ pub mod summary;
 pub mod teletype;
 mod trace;
 mod typist;
+pub mod violations;
 pub mod watched_session;
 pub mod watching;

@@ -16,19 +16,19 @@ ghost use Rattle.machine_commands.specs.WatchedSession.{IsPlanWatchedSo};
 use crate::progress::{Offered, offered_by, progress_lines};
 use crate::schedule::events_of;
 use crate::shown::shown_of;
+use crate::violations::breach_lines;
 use bin_tape::Image;
 use command_parts::message::{Lines, Message};
+use command_parts::options::{RefuteOptions, SessionOptions};
 use command_parts::outcome::Outcome;
 use command_parts::status::{Fault, Status};
 use declaration::Declaration;
 use itoa::Buffer;
-use command_parts::options::{RefuteOptions, SessionOptions};
 use peripherals::{Event, NoMemory, Operator, Start, World};
 use policy::{Rule, Watched};
 use refuter::{Witness, refute_within};
 use std::alloc::{AllocError, Allocator};
 use turns::Turns;
-use crate::violations::breach_lines;
 use wordset::WordSet;
 
 /// What is told of a run, and how the command ends.

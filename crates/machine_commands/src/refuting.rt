@@ -9,9 +9,9 @@ ghost use Rattle.command_parts.specs.declared.status.Status.TheVariants.{Done, R
 ghost use Rattle.machine_commands.specs.RefuteText.{IsToldOfWitness, IsWitnessText, WritesWitness, unbroken_text};
 
 use crate::messages::{told_witness, unbroken_line};
+pub use command_parts::options::RefuteOptions;
 use command_parts::programs::program_from;
 use command_parts::status::{Fault, Status};
-pub use command_parts::options::RefuteOptions;
 use std::alloc::Allocator;
 use streams::{ByteSink, ByteSource, put};
 

@@ -11,8 +11,8 @@ pub use crate::session::Outputs;
 use crate::session::attend;
 pub use crate::typist::{Manner, TeletypeOptions, Typist};
 use command_parts::inputs::tape_from;
-use command_parts::status::{Fault, Status};
 use command_parts::options::RunOptions;
+use command_parts::status::{Fault, Status};
 use std::alloc::Allocator;
 use streams::{ByteSink, ByteSource};
 

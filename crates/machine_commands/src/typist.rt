@@ -15,8 +15,8 @@ ghost use Rattle.machine_commands.specs.Typing.{asked_after, asks, is_read, type
 ghost use Rattle.machine_commands.specs.TypingParts.{Answered, Brought, IsLeft, rounds_left, source, typed_plan};
 
 use crate::schedule::Scheduler;
-use command_parts::status::{DeviceFault, Fault};
 pub use command_parts::options::{Manner, TeletypeOptions};
+use command_parts::status::{DeviceFault, Fault};
 use peripherals::{Event, World};
 use std::alloc::Allocator;
 use streams::ByteSource;

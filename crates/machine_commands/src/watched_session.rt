@@ -13,9 +13,9 @@ ghost use Rattle.machine_commands.specs.WatchedSession.{IsPlanWatched, IsPlanWat
 use crate::messages::watch_session_message;
 use bin_tape::Image;
 use command_parts::inputs::{bytes_from, declaration_from, tape_from};
+pub use command_parts::options::SessionOptions;
 use command_parts::status::{Fault, Status};
 use declaration::Declaration;
-pub use command_parts::options::SessionOptions;
 use std::alloc::Allocator;
 use streams::{ByteSink, ByteSource, put};
 

@@ -13,21 +13,21 @@ ghost use Rattle.reports.specs.Head.{head_of, stuck_opening};
 ghost use Rattle.reports.specs.DraftText.{IsDraftPage, IsDraftReport, IsDraftWorkFault, stuck_line};
 
 use crate::reporting::below_lines;
+use crate::{Finding, Report, ReportForm, SourceNotes, head_of, stuck_opening};
 use analyser::{Attempt, guess_or_draft};
 use bin_tape::Image;
-use diagnostics::bounds::push_bound;
 use certificate::Certificate;
 use command_parts::programs::program_from;
 use command_parts::status::{Fault, Status};
 use command_parts::text::push_place;
 use declaration::Declaration;
-use judge::Refusal;
-use reasons::{Reason, why_stuck};
-use crate::{Finding, Report, ReportForm, SourceNotes, head_of, stuck_opening};
-use std::alloc::{AllocError, Allocator};
-use streams::{ByteSink, ByteSource, put};
+use diagnostics::bounds::push_bound;
 use diagnostics::verdicts::reason_text::push_why;
 use diagnostics::verdicts::verdict::condition_name;
+use judge::Refusal;
+use reasons::{Reason, why_stuck};
+use std::alloc::{AllocError, Allocator};
+use streams::{ByteSink, ByteSource, put};
 use word12::Word;
 
 /// Why a search is stuck at an address, as lines: the condition that fails there, if one is told, and what

@@ -11,20 +11,20 @@ ghost use Rattle.diagnostics.specs.CertificateInputs.{OfCertified};
 ghost use Rattle.reports.specs.Head.{head_of, opening};
 ghost use Rattle.reports.specs.ReportText.{IsReportOf};
 
+use crate::{Finding, Report, head_of, listing_below, opening, page_below};
+pub use crate::{LinePlace, ReportForm, SourceNote, SourceNotes};
 use bin_tape::Image;
 use certificate::Certificate;
 use command_parts::outcome::{Outcome, deliver};
 use command_parts::status::{Fault, Status};
 use declaration::Declaration;
-use judge::{Refusal, judge};
-use reasons::why;
-use crate::{Finding, Report, head_of, listing_below, opening, page_below};
-pub use crate::{LinePlace, ReportForm, SourceNote, SourceNotes};
-use std::alloc::{AllocError, Allocator};
-use streams::{ByteSink, ByteSource};
 use diagnostics::verdicts::certificates::{Certified, certified_from};
 use diagnostics::verdicts::reason_text::push_why;
 use diagnostics::verdicts::verdict::{condition_name, verdict_line, verdict_status};
+use judge::{Refusal, judge};
+use reasons::why;
+use std::alloc::{AllocError, Allocator};
+use streams::{ByteSink, ByteSource};
 
 /// Why a verdict is no, as lines; of a yes there are none.
 fn why_lines<A: Allocator, D: Allocator, C: Allocator>(

@@ -3,10 +3,10 @@
 
 use crate::files::{is_read_once, open_input};
 use crate::source_faults::{NO_WORD, output_name};
+use command_line::explanations::push_advice;
 use command_line::{FileNames, Request};
 use command_parts::status::{DeviceFault, Fault};
 use declaration::DeclarationFault;
-use command_line::explanations::push_advice;
 use diagnostics::inputs::{FaultyFile, push_fault};
 use std::alloc::Global;
 use std::fmt::Write;

@@ -2,12 +2,12 @@
 //! `verify --save` writes. It is tested, not proved.
 #![tactic(auto)]
 
-pub mod of_files;
-pub mod of_sources;
 pub mod drafted;
 pub mod faults;
 pub mod files;
 pub mod inputs;
+pub mod of_files;
+pub mod of_sources;
 pub mod replacing;
 pub mod saving;
 pub mod source_faults;

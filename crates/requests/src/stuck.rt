@@ -1,11 +1,11 @@
 //! What is said about a search for a certificate that is stuck. It is tested, not proved.
 
 use bin_tape::Image;
-use diagnostics::bounds::push_bound;
 use certificate::Certificate;
 use command_parts::message::{Lines, Message};
 use command_parts::status::Fault;
 use declaration::Declaration;
+use diagnostics::bounds::push_bound;
 use diagnostics::inputs::{push_omissions, push_stuck_remedy};
 use search_commands::messages::AnswerMessage;
 use search_commands::stuck::draft_message;

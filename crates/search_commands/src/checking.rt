@@ -12,11 +12,11 @@ ghost use Rattle.diagnostics.specs.CheckText.{IsVerdictOf};
 
 use command_parts::outcome::{Outcome, deliver};
 use command_parts::status::{Fault, Status};
+use diagnostics::verdicts::certificates::{Certified, certified_from};
+use diagnostics::verdicts::verdict::{verdict_line, verdict_status};
 use judge::judge;
 use std::alloc::Allocator;
 use streams::{ByteSink, ByteSource};
-use diagnostics::verdicts::certificates::{Certified, certified_from};
-use diagnostics::verdicts::verdict::{verdict_line, verdict_status};
 
 /// The verdict on a certificate of a program: its line, and its status.
 pub fn verdict_of<A: Allocator + Copy>(

@@ -13,12 +13,12 @@ ghost use Rattle.proposer.specs.Proposals.{AreNeeded, Fits, IsListed, IsShown, I
 use crate::verifying::Lack;
 use bin_tape::Image;
 use command_parts::inputs::tape_from;
+pub use command_parts::options::DeclareOptions;
 use command_parts::outcome::{Outcome, deliver};
 use command_parts::status::{Fault, Status};
 use command_parts::text::push_place;
 use declaration::{Declaration, DeclarationFault};
 use itoa::Buffer;
-pub use command_parts::options::DeclareOptions;
 use proposer::{ObservedRuns, Proposal, Verdict, propose, propose_with_reads};
 use std::alloc::{AllocError, Allocator};
 use streams::{ByteSink, ByteSource};

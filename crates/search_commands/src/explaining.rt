@@ -16,12 +16,12 @@ ghost use Rattle.diagnostics.specs.WhyText.{IsExplanationOf, fact_shown};
 use certificate::{Certificate, WriteFault};
 use command_parts::outcome::Outcome;
 use command_parts::status::{Fault, Status};
-use judge::{Refusal, judge};
-use std::alloc::{AllocError, Allocator};
-use streams::{ByteSink, ByteSource, put};
 use diagnostics::verdicts::certificates::{Certified, certified_from};
 use diagnostics::verdicts::explanation::push_explanation;
 use diagnostics::verdicts::verdict::verdict_status;
+use judge::{Refusal, judge};
+use std::alloc::{AllocError, Allocator};
+use streams::{ByteSink, ByteSource, put};
 
 /// Writes the lines of the fact at the address of a refusal as the certificate has them.
 fn put_fact<A: Allocator, W: ByteSink>(

@@ -8,9 +8,9 @@ ghost use Rattle.search_commands.specs.SearchFaults.{IsSearchFault};
 
 use command_parts::programs::program_from;
 use command_parts::status::{Fault, Status};
+use diagnostics::verdicts::certificates::write_certificate;
 use std::alloc::Allocator;
 use streams::{ByteSink, ByteSource};
-use diagnostics::verdicts::certificates::write_certificate;
 
 /// Searches for a certificate that shows that no run of a tape violates its declaration, and writes its text: of
 /// version 1 for a PDP-8/I, of version 2 for a PDP-8/E. Every condition holds for it, so `check` says yes to it; it

@@ -2,16 +2,15 @@
 //! program complies with one.
 #![tactic(auto)]
 
-pub mod of_sources;
+pub mod checking;
 pub mod completing;
 pub mod declaring;
+pub mod explaining;
 mod extending;
 pub mod guessing;
 mod merging;
 pub mod messages;
+pub mod migrating;
+pub mod of_sources;
 pub mod stuck;
 pub mod verifying;
-
-pub mod checking;
-pub mod explaining;
-pub mod migrating;

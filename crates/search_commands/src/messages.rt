@@ -24,15 +24,15 @@ use command_parts::programs::{Program, program_from};
 use command_parts::status::Fault;
 use command_parts::text::push_place;
 use declaration::Declaration;
+use diagnostics::verdicts::verdict::verdict_line;
 use itoa::Buffer;
+use machine_commands::violations::breach_lines;
 use policy::{Rule, Watched};
 use proposer::{Proposal, Verdict, propose};
 use refuter::{Witness, refute_within};
 use std::alloc::{AllocError, Allocator};
 use streams::ByteSource;
 use turns::Turns;
-use diagnostics::verdicts::verdict::verdict_line;
-use machine_commands::violations::breach_lines;
 use word12::Word;
 
 /// A program and its declaration, and what a search for a certificate came to.

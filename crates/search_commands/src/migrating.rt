@@ -8,9 +8,9 @@ ghost use Rattle.diagnostics.specs.CertificateFaults.{ReadsCertificate};
 ghost use Rattle.search_commands.specs.MigrateText.{IsMigrated};
 
 use command_parts::status::{Fault, Status};
+use diagnostics::verdicts::certificates::{certificate_from, write_certificate};
 use std::alloc::Allocator;
 use streams::{ByteSink, ByteSource};
-use diagnostics::verdicts::certificates::{certificate_from, write_certificate};
 
 /// Migrates a certificate to version 2 and writes its text. It claims what it claimed before; of MQ
 /// a certificate of version 1 says then that it may hold any word. One of version 2 is written as it

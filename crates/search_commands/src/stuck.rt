@@ -22,12 +22,12 @@ use command_parts::programs::program_from;
 use command_parts::status::{Fault, Status};
 use command_parts::text::push_place;
 use declaration::Declaration;
+use diagnostics::verdicts::reason_text::push_why;
 use instruct::Profile;
 use judge::Refusal;
 use reasons::{Reason, why_stuck};
 use std::alloc::{AllocError, Allocator};
 use streams::{ByteSink, ByteSource, put};
-use diagnostics::verdicts::reason_text::push_why;
 use word12::Word;
 
 /// Adds the lines of the condition that is told, if one is.

@@ -12,10 +12,10 @@ use crate::messages::{
 use analyser::GuessFault;
 use certificate::Certificate;
 use command_parts::inputs::tape_from;
+pub use command_parts::options::{RefuteOptions, VerifyOptions};
 use command_parts::outcome::write_text;
 use command_parts::programs::program_from;
 use command_parts::status::{Fault, Status};
-pub use command_parts::options::{RefuteOptions, VerifyOptions};
 use refuter::Witness;
 use std::alloc::Allocator;
 use streams::{ByteSink, ByteSource};

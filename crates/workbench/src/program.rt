@@ -3,19 +3,19 @@
 ghost use Rattle.std.specs.Prelude.{◌≤◌};
 
 use clap::Error;
+use command_line::explanations::{push_codes, push_explanations};
 use command_line::{CommandLine, Misuse, Refused, Request, parse_arguments};
 use command_parts::status::{DeviceFault, Fault, Status};
-use command_line::explanations::{push_codes, push_explanations};
+use requests::faults::{fault_lines, refusal_lines};
+use requests::inputs::misused_files;
 use requests::of_files::joined::{hold_session, sit_down, watch_joined};
 use requests::of_files::promises::{
     check_from, guess_from, migrate_from, refute_from, report_from, verify_from, watch_from,
 };
 use requests::of_files::sources::{assemble_to, list_from};
 use requests::of_files::tapes::{declare_from, dump_from, run_from, source_from};
-use requests::faults::{fault_lines, refusal_lines};
-use requests::inputs::misused_files;
-use requests::telling::{tell, tell_lines, tell_misuse};
 use requests::of_sources::answer_sourced;
+use requests::telling::{tell, tell_lines, tell_misuse};
 use std::alloc::Global;
 use std::io::ErrorKind;
 use std::rt::{Env, Files};

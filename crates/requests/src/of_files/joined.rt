@@ -2,15 +2,15 @@
 
 ghost use Rattle.std.specs.Prelude.{◌≡◌, false};
 
+use crate::files::open_input;
+use crate::replacing::ResultFile;
+use crate::tellers::{Nowhere, open_input_if, report_to, tell_to};
 use command_line::{Session, TeletypeSession, WatchedSession};
 use command_parts::status::{DeviceFault, Fault, Status};
 use either::Either;
 use machine_commands::session::{Outputs, run_session};
 use machine_commands::teletype::{Typist, teletype};
 use machine_commands::watched_session::watch_session;
-use crate::files::open_input;
-use crate::replacing::ResultFile;
-use crate::tellers::{Nowhere, open_input_if, report_to, tell_to};
 use std::alloc::Global;
 use std::io::{self, Printer};
 use std::rt::Files;

@@ -1,5 +1,10 @@
 //! Commands that work on a tape and its declaration, or on a certificate.
 
+use crate::drafted::{need_rereading, report_stuck};
+use crate::files::{Outlet, finish, open_input, open_output};
+use crate::saving::{Saving, save_answer, save_proposed};
+use crate::stuck::{Stuck, answer_message, stuck_message};
+use crate::tellers::{report_to, tell_to};
 use analyser::Attempt;
 use command_line::{
     CheckRequest, GuessRequest, MigrateRequest, RefuteRequest, ReportRequest, VerifyRequest,
@@ -9,14 +14,12 @@ use command_parts::inputs::{declaration_from, tape_from};
 use command_parts::status::{Fault, Status};
 use machine_commands::refuting::refute;
 use machine_commands::watching::watch;
-use crate::drafted::{need_rereading, report_stuck};
-use crate::files::{Outlet, finish, open_input, open_output};
-use crate::saving::{Saving, save_answer, save_proposed};
-use crate::stuck::{Stuck, answer_message, stuck_message};
-use crate::tellers::{report_to, tell_to};
 use reports::reporting::{ReportForm, report};
+use search_commands::checking::check;
+use search_commands::explaining::explain;
 use search_commands::guessing::guess;
 use search_commands::messages::{seek, verify_message};
+use search_commands::migrating::migrate;
 use search_commands::verifying::{verify, verify_proposed};
 use std::alloc::Global;
 use std::io;
@@ -24,9 +27,6 @@ use std::rt::Files;
 use streams::standard::Writes;
 use streams::{ByteSink, put};
 use turns::GuessFault;
-use search_commands::checking::check;
-use search_commands::explaining::explain;
-use search_commands::migrating::migrate;
 
 /// Migrates the certificate of a file.
 #[inline(never)]

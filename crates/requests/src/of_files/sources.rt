@@ -1,13 +1,11 @@
 //! Sources that are assembled or listed, and what is told of their faults.
 
+use crate::files::{Outlet, finish, open_inputs, open_output, open_parts};
+use crate::source_faults::{NO_WORD, input_name, output_name, tell_of, tell_size, unopened};
+use crate::telling::{tell, tell_with};
 use command_line::{AssembleRequest, ListRequest};
 use command_parts::status::{DeviceFault, Fault, Status};
 use instruct::Profile;
-use crate::files::{Outlet, finish, open_inputs, open_output, open_parts};
-use crate::source_faults::{
-    NO_WORD, input_name, output_name, tell_of, tell_size, unopened,
-};
-use crate::telling::{tell, tell_with};
 use source_commands::assembling::{assemble, list};
 use std::alloc::Global;
 use std::io;

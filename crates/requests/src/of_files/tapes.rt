@@ -1,9 +1,9 @@
 //! Commands that work on a tape alone.
 
+use crate::files::{finish, open_input, open_output};
 use command_line::{DeclareRequest, DumpRequest, RunRequest, SourceRequest};
 use command_parts::status::{Fault, Status};
 use machine_commands::running::{dump, run, run_events};
-use crate::files::{finish, open_input, open_output};
 use search_commands::completing::complete;
 use search_commands::declaring::declare;
 use source_commands::sourcing::{declared_source, source};

@@ -1,21 +1,23 @@
 //! What is done with a program of which the source is given where it is asked why, or for a report of a search that is
 //! stuck. The source is assembled once, and one search is made.
 
+use crate::drafted::report_stuck;
+use crate::files::{finish, open_input, open_output};
 use crate::of_sources::assembled::AssembledSource;
 use crate::of_sources::programs::tell_proposed;
 use crate::of_sources::source_lines::with_source_lines;
+use crate::saving::{Saving, save_answer, save_proposed};
+use crate::stuck::{Stuck, answer_message, stuck_message};
+use crate::tellers::{open_input_if, report_to, tell_to};
 use analyser::{Attempt, guess_or_draft};
 use command_line::{Destination, Save, WatchedSession};
 use command_parts::inputs::{bytes_from, events_from};
 use command_parts::message::Message;
 use command_parts::status::{Fault, Status};
+use diagnostics::verdicts::certificates::certificate_from;
+use diagnostics::verdicts::messages::check_message;
 use machine_commands::messages::{refute_message, watch_message, watch_session_message};
 use machine_commands::refuting::RefuteOptions;
-use crate::drafted::report_stuck;
-use crate::files::{finish, open_input, open_output};
-use crate::saving::{Saving, save_answer, save_proposed};
-use crate::stuck::{Stuck, answer_message, stuck_message};
-use crate::tellers::{open_input_if, report_to, tell_to};
 use search_commands::messages::{verify_message, verify_proposed_message};
 use search_commands::verifying::VerifyOptions;
 use std::alloc::Global;
@@ -24,8 +26,6 @@ use std::rt::Files;
 use streams::put;
 use streams::standard::Writes;
 use turns::GuessFault;
-use diagnostics::verdicts::certificates::certificate_from;
-use diagnostics::verdicts::messages::check_message;
 use wordset::WordSet;
 
 /// Writes to standard output what is told, with what the source says about its addresses.

@@ -12,6 +12,7 @@ use crate::of_sources::programs::{
 };
 use crate::of_sources::spots::{Spot, behind_lines, line_counts, line_of, on_line, spot_of};
 use crate::of_sources::wordless::number_for;
+use crate::telling::tell_with;
 use command_line::{Destination, Save, Sourced, Task, WatchedSession};
 use command_parts::status::{Fault, Status};
 use declaration::DeclarationFault;
@@ -19,9 +20,8 @@ use diagnostics::inputs::{FaultyFile, push_fault};
 use labels::Numbered;
 use machine_commands::refuting::RefuteOptions;
 use pal_text::{Ending, statements};
-use crate::telling::tell_with;
-use search_commands::verifying::VerifyOptions;
 use search_commands::of_sources::SourcedFault;
+use search_commands::verifying::VerifyOptions;
 use std::alloc::Global;
 use std::rt::Files;
 use wordset::WordSet;

@@ -1,14 +1,14 @@
 //! Sources and their declarations, read and written in numbers, and what is said about their faults.
 
+use crate::files::open_input;
 use crate::of_sources::spots::{Spot, behind_lines, line_counts, spot_of};
+use crate::source_faults::{tell_of, tell_source, unopened};
+use crate::telling::{tell_lines, tell_misuse};
 use command_line::{Misuse, Sourced, Task};
 use command_parts::status::{Fault, Status};
 use diagnostics::inputs::{FaultyFile, push_numbered};
 use instruct::Profile;
 use labels::{NumberingFault, PlaceFault, declared_lines};
-use crate::files::open_input;
-use crate::source_faults::{tell_of, tell_source, unopened};
-use crate::telling::{tell_lines, tell_misuse};
 use std::alloc::{AllocError, Global};
 use std::fmt::Write;
 use std::rt::Files;

@@ -3,25 +3,25 @@
 
 ghost use Rattle.std.specs.Prelude.{◌≡◌, false};
 
+use crate::files::{finish, open_input, open_output};
 use crate::of_sources::numbering::Promise;
+use crate::saving::{Saving, save_answer, save_proposed};
+use crate::tellers::{open_input_if, report_to};
 use command_line::{Destination, Save, WatchedSession};
 use command_parts::status::{Fault, Status};
 use labels::{Numbered, name_declaration};
 use machine_commands::refuting::RefuteOptions;
 use machine_commands::watched_session::watch_session;
-use crate::files::{finish, open_input, open_output};
-use crate::saving::{Saving, save_answer, save_proposed};
-use crate::tellers::{open_input_if, report_to};
 use reports::reporting::{ReportForm, SourceNotes, report};
 use search_commands::completing::complete;
 use search_commands::declaring::{DeclareOptions, declare};
-use search_commands::verifying::{VerifyOptions, verify_proposed};
 use search_commands::of_sources::SourcedFault;
 use search_commands::of_sources::checking::check_source;
 use search_commands::of_sources::guessing::guess_source;
 use search_commands::of_sources::refuting::refute_source;
 use search_commands::of_sources::verifying::verify_source;
 use search_commands::of_sources::watching::watch_source;
+use search_commands::verifying::{VerifyOptions, verify_proposed};
 use std::alloc::Global;
 use std::io;
 use std::rt::Files;

@@ -8,6 +8,7 @@ ghost use Rattle.diagnostics.specs.CertificateInputs.{TakesCertificate};
 ghost use Rattle.search_commands.specs.Faults.{IsCheckSourceFault, IsGoodProgram, is_fault_of_program, sourced_read_fails, sourced_write_fails};
 ghost use Rattle.search_commands.specs.Verdicts.{IsSourceChecked, IsSourceCheckedSo};
 
+use crate::checking::check;
 use crate::of_sources::fault::SourcedFault;
 use crate::of_sources::memory::SliceSource;
 use command_parts::status::Status;
@@ -15,7 +16,6 @@ use labels::laws::numbered_programs_are_meant;
 use labels::number;
 use std::alloc::Allocator;
 use streams::{ByteSink, ByteSource};
-use crate::checking::check;
 
 /// Checks a certificate of the program of a source and of its declaration, which may have symbols of the
 /// source, as `check` does it of the tape that the source means and of the declaration in numbers.

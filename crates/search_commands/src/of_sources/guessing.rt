@@ -7,13 +7,13 @@ ghost use Rattle.command_parts.specs.declared.status.Status.TheVariants.{Done, R
 ghost use Rattle.search_commands.specs.Faults.{IsGuessSourceFault, sourced_write_fails};
 ghost use Rattle.search_commands.specs.Verdicts.{IsSourceGuess, IsSourceStuck};
 
+use crate::guessing::guess;
 use crate::of_sources::fault::SourcedFault;
 use crate::of_sources::memory::SliceSource;
+use crate::stuck::guess_or_explain;
 use command_parts::status::Status;
 use labels::laws::numbered_programs_are_meant;
 use labels::number;
-use crate::guessing::guess;
-use crate::stuck::guess_or_explain;
 use std::alloc::Allocator;
 use streams::ByteSink;
 

@@ -10,11 +10,11 @@ ghost use Rattle.search_commands.specs.Verdicts.{IsSourceWitnessText, IsToldOfSo
 
 use crate::of_sources::fault::SourcedFault;
 use crate::of_sources::memory::SliceSource;
+use command_parts::options::RefuteOptions;
 use command_parts::status::Status;
 use labels::laws::numbered_programs_are_meant;
 use labels::number;
 use machine_commands::refuting::refute;
-use command_parts::options::RefuteOptions;
 use std::alloc::Allocator;
 use streams::ByteSink;
 

@@ -8,10 +8,10 @@ ghost use Rattle.search_commands.specs.Verdicts.{IsSomeSourceAnswer, IsSourceVer
 
 use crate::of_sources::fault::SourcedFault;
 use crate::of_sources::memory::SliceSource;
+use crate::verifying::{Answer, verify};
+use command_parts::options::RefuteOptions;
 use labels::laws::numbered_programs_are_meant;
 use labels::number;
-use command_parts::options::RefuteOptions;
-use crate::verifying::{Answer, verify};
 use std::alloc::Allocator;
 use streams::ByteSink;
 

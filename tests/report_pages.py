@@ -8,7 +8,7 @@ from pathlib import Path
 import sets
 from reports import ADDRESS, BEGIN, END, Report, all_of_fact, may_write, shown
 
-STYLE = Path(__file__).parent.parent / "crates" / "report_texts" / "src" / "style.rt"
+STYLE = Path(__file__).parent.parent / "crates" / "reports" / "src" / "style.rt"
 MOST_SAME = 8
 LARGER = (" If the count were larger, the pointer would go further; if the program could then write outside its variables, the "
           "verdict would be no (V5).")

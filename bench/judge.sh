@@ -7,7 +7,8 @@
 # are made by certificate/make.py.
 # PDP8 and SPEED name built programs in place of this repository's. PLAIN names the source of a checker in plain Rust,
 # which is built by rustc -O and takes its turn in the same run: its words are `bench-check TAPE DECLARATION CERTIFICATE
-# ROUNDS`, and it prints its own seconds.
+# ROUNDS`, and the first line that it prints is `parse SECONDS judge SECONDS seconds per round`, the means of its rounds. As
+# with ours, the least of nine such means is told.
 set -euo pipefail
 top=$(cd "$(dirname "$0")/.." && pwd)
 program=${PDP8:-$top/crates/pdp8/out/pdp8}
@@ -45,13 +46,15 @@ for folder in "${folders[@]}"; do
         seconds "$folder/c" "$speed" read $((rounds + 1)) >>"$work/read-many"
         seconds "$work/whole" "$speed" judge 1 "${words[@]}" >>"$work/one"
         seconds "$work/whole" "$speed" judge $((rounds + 1)) "${words[@]}" >>"$work/many"
-        [ -z "${PLAIN:-}" ] || "$work/plain" bench-check "$folder/t" "$folder/d" "$folder/c" $rounds >"$work/said"
+        [ -z "${PLAIN:-}" ] || "$work/plain" bench-check "$folder/t" "$folder/d" "$folder/c" $rounds | sed -n 1p >>"$work/plain-many"
     done
     grep -q "accepted $((rounds + 1))" "$work/answer" || { cat "$work/answer"; exit 1; }
     for _ in 1 2 3 4 5 6 7 8 9 10 11; do
         seconds /dev/null "$program" check "$folder/t" "$folder/d" "$folder/c" >>"$work/check"
     done
     echo "$(wc -c <"$folder/c") bytes: $(a_round read-) seconds to read, $(a_round "") to judge, $(least <"$work/check") from start to end"
-    [ -z "${PLAIN:-}" ] || tail -1 "$work/said"
+    if [ -n "${PLAIN:-}" ]; then
+        echo "plain Rust: $(cut -d ' ' -f 2 "$work/plain-many" | least) seconds to read, $(cut -d ' ' -f 4 "$work/plain-many" | least) to judge"
+    fi
     rm "$work"/*one "$work"/*many "$work/check"
 done

@@ -77,7 +77,7 @@ dist: run
 
 # The comparisons with SIMH, palbart and the reference in Python; what is missing on the machine is named.
 compare:
-	python3 tests/compare.py $(BUILT)
+	python3 tests/compare.py --program $(BUILT)
 
 # Times the first look, the first run and the gate, each in a fresh clone with nothing kept from earlier runs.
 time:

@@ -1,7 +1,7 @@
 """Runs programs with a tape in the reader on SIMH's pdp8 and on this repository's program, and compares what they say
 and what they punch.
 
-usage: desk.py SIMH PROGRAM FOLDER, where FOLDER takes the tapes.
+usage: tape_readers.py SIMH PROGRAM FOLDER, where FOLDER takes the tapes.
 """
 import random
 import re

@@ -2,7 +2,7 @@
 # Times a million rounds of the program with a tape in the reader and a punch, which copies the tape, and the same rounds
 # without them, by turns in one run, and prints for each the least processor time of nine runs and how many times as long
 # the first takes as the second.
-# usage: bench/desk.sh, with the program pdp8 built.
+# usage: bench/tape_readers.sh, with the program pdp8 built.
 set -euo pipefail
 top=$(cd "$(dirname "$0")/.." && pwd)
 program=${PDP8:-$top/crates/pdp8/out/pdp8}
@@ -19,10 +19,10 @@ TIMEFORMAT='%U %S'
 seconds() { { time "$@" >"$work/out" 2>&1 </dev/null; } 2>&1 | awk '{ print $1 + $2 }'; }
 
 for _ in 1 2 3 4 5 6 7 8 9; do
-    echo "desk $(seconds "$program" run "$work/copier.bin" --steps 1000000 --reader "$work/frames" --punch "$work/punched")"
+    echo "reader $(seconds "$program" run "$work/copier.bin" --steps 1000000 --reader "$work/frames" --punch "$work/punched")"
     echo "plain $(seconds "$program" run "$work/plain.bin" --steps 1000000)"
 done >"$work/times"
 awk '
     !($1 in least) || $2 < least[$1] { least[$1] = $2 }
-    END { printf "desk %.3f s, plain %.3f s: %.2f times as long\n", least["desk"], least["plain"], least["desk"] / least["plain"] }
+    END { printf "reader %.3f s, plain %.3f s: %.2f times as long\n", least["reader"], least["plain"], least["reader"] / least["plain"] }
 ' "$work/times"

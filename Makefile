@@ -38,7 +38,7 @@ run:
 
 # The gate: the page of definitions, the links of pages and the length of README, whether each edit applies and that there aren't too many;
 # every proof from nothing, the edits in must-fail/, every test and the program; and then, with the program that was proved,
-# whether pages, help, man page and completions agree, and all cases.
+# whether pages, help, man page and completions agree, whether the reports of the examples are what the reference makes, and all cases.
 test:
 	python3 tests/definitions.py
 	python3 tests/links.py
@@ -46,6 +46,7 @@ test:
 	RT_JOBS=$(LANES) rt ci
 	python3 tests/agreement.py $(BUILT)
 	python3 tests/explained.py $(BUILT)
+	python3 tests/reports.py $(BUILT)
 	python3 tests/cases.py $(BUILT)
 
 # All cases, with the program that is built.

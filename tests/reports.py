@@ -1,9 +1,9 @@
 #!/usr/bin/env python3
-"""Compares what `report` writes with what the Python in reference/ makes of the same certificate. No gate runs it.
+"""Compares what `report` writes with what the Python in reference/ makes of the same certificate. The gate runs it.
 
 usage: tests/reports.py PDP8 [NAME..]             compares the examples, and their broken variants: text and page
-       tests/reports.py PDP8 --write FILE NAME..  writes the wanted lines of these examples as cases to FILE
-       tests/reports.py PDP8 --pages FILE NAME..  the same with their pages, without head and numbers beside the map
+       tests/reports.py PDP8 --pages FILE NAME..  writes the wanted pages of these examples as cases to FILE, without their
+                                                  heads and the numbers beside the map
        tests/reports.py PDP8 TAPE DECLARATION CERTIFICATE  compares the report of these three files
 
 What is known, read, written, called and returned to is worked out by reference/. Of the program only the names of words
@@ -299,37 +299,36 @@ def without_head(page):
     return "".join(line for line in lines if not line.startswith("<text"))
 
 
-def cases_of(pdp8, loads, pages):
-    """The cases of these loads."""
+def cases_of(pdp8, loads):
+    """The cases of the pages of these loads."""
     from report_pages import Page
     for name, tape, declaration, certificate in loads:
-        want = wanted(pdp8, tape, declaration, certificate, Page if pages else None)
-        status = "[1]\n" if "no: " in want.partition("\n")[0] or "<h1>no: " in want else ""
+        want = wanted(pdp8, tape, declaration, certificate, Page)
         command = f"report {name}.bin {declaration.name} {certificate.name} -"
-        filters, body = (" | sed '1,/<body>/d' | grep -v '^<text'", without_head(want)) if pages else (" --text", want)
-        yield f"```console\n$ pdp8 {command}{filters}\n{body}{'' if pages else status}```\n\n"
+        yield f"```console\n$ pdp8 {command} | sed '1,/<body>/d' | grep -v '^<text'\n{without_head(want)}```\n\n"
 
 
 def compared(pdp8, loads):
     """Compares reports with what they are to be, and says how many are wrong."""
     from report_pages import Page
-    wrong = 0
+    count = wrong = 0
     for name, tape, declaration, certificate in loads:
+        count += 1
         page = ran(pdp8, "report", tape, declaration, certificate, "-")
         wrong += differs(name, wanted(pdp8, tape, declaration, certificate), ran(pdp8, "report", tape, declaration, certificate, "-", "--text"))
         wrong += differs(name + ", page", wanted(pdp8, tape, declaration, certificate, Page), page)
         for fault in faults_of_page(page):
             wrong += 1
             print(f"{name}, page: {fault}")
-    print(f"{wrong} wrong")
+    print(f"reports: {count} as text and as pages, {wrong} wrong")
     return int(wrong > 0)
 
 
 def main():
     pdp8, *names = sys.argv[1:]
     with tempfile.TemporaryDirectory() as room:
-        if names[:1] in (["--write"], ["--pages"]):
-            cases = cases_of(pdp8, examples(pdp8, names[2:], room), names[0] == "--pages")
+        if names[:1] == ["--pages"]:
+            cases = cases_of(pdp8, examples(pdp8, names[2:], room))
             return 0 if Path(names[1]).write_text("".join(cases)) else 1
         if len(names) == 3 and Path(names[0]).exists():
             return compared(pdp8, [(names[0], *map(Path, names))])

@@ -17,7 +17,7 @@ _pdp8() {
             COMPREPLY=($(compgen -W '8i 8e' -- "$word"))
             return
             ;;
-        --start | --steps | --seed | --save | --switches | --show)
+        --start | --steps | --continue | --seed | --save | --switches | --show | --until | --until-write | --until-read | --last)
             return
             ;;
     esac
@@ -31,9 +31,9 @@ _pdp8() {
         list) options='--profile --why --help' ;;
         source) options='--output --start --declaration --profile --force --why --help' ;;
         dump) options='--profile --why --help' ;;
-        run) options='--start --steps --trace --profile --events --reader --punch --keys --mark --teletype --switches --show --why --help' ;;
+        run) options='--start --steps --trace --profile --events --reader --punch --keys --mark --teletype --switches --until --until-write --until-read --last --show --why --help' ;;
         teletype) options='--start --profile --reader --punch --switches --mark --raw --show --why --help' ;;
-        watch) options='--source --reader --keys --mark --switches --steps --show --why --help' ;;
+        watch) options='--source --reader --keys --mark --switches --steps --continue --show --why --help' ;;
         check) options='--source --why --help' ;;
         report) options='--output --source --text --why --help' ;;
         guess) options='--output --source --report --why --help' ;;

@@ -16,7 +16,7 @@ import sys
 
 TOP = os.path.join(os.path.dirname(os.path.abspath(__file__)), '..')
 PAGE, MANUAL, COMPLETIONS = 'docs/COMMANDS.md', 'share/pdp8.1', 'share/pdp8.bash'
-OPTION = re.compile(r'(?:(-\w), )?(--\w+)(?:[ =](\w+))?')
+OPTION = re.compile(r'(?:(-\w), )?(--[\w-]+)(?:[ =](\w+))?')
 GIVEN_BY_CLAP = ('--help', '--version')
 
 

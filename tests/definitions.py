@@ -1,18 +1,20 @@
 """Makes docs/DEFINITIONS.md from the comments of the crates' specs/, and sees to it that it is what they make.
 
-usage: tests/definitions.py                          names each difference; exit status 1 where there is one
+usage: tests/definitions.py                          names each difference; exit status 1 if there is one
        tests/definitions.py --write                  makes the page
+       tests/definitions.py --all                    prints the same for all definitions that public contracts reach
        tests/definitions.py --compare BEFORE AFTER   the definitions that public contracts reach: which were lost or added
                                                      from one folder to the other, and which read otherwise
        tests/definitions.py --behind CRATE::NAME..   each module with the definitions behind these names: those that the
                                                      definitions of this name reach, themselves among them, or the
                                                      contracts of the public functions of this name
 
-The page has each definition that a public contract reaches. A public contract is the clauses of a public function, or what
-a public type or trait says by ghost items, but for invariants; it reaches the definitions that it names and those that they
-name. A module in specs/inside/, or one whose first comment says that it serves private contracts, must not be reached.
+The page has the definitions that a yes rests on, each with its comment and its formula. A public contract is the clauses of a
+public function, or what a public type or trait says by ghost items, but for invariants; it reaches the definitions that it
+names and those that they name. A module in specs/inside/, or one whose first comment says that it serves private contracts,
+must not be reached.
 
-Each must have a comment that says more than its name: the lines right above it, without a blank line between, or the first
+Each definition that a public contract reaches must have a comment that says more than its name: the lines right above it, without a blank line between, or the first
 comment of a module that has no other definition. A comment above one definition isn't taken to cover the next ones.
 
 The crates stand in the order and under the headings of crates.txt, each with the first sentence of its src/lib.rt. The
@@ -33,23 +35,42 @@ INSIDE = ("invariant", "inverse")
 # A comment of these and of the words of its name says nothing.
 SMALL = "a all an and are as at be by each for from has have in is it its no not of on one or that the this to what which with"
 
-FRONT = """\
-# The definitions, in reading order
+# What a yes says: `IsSafe` of a program and its declaration, which bytes are a declaration's text and a tape, and what a tape puts
+# into memory.
+YES = ("policy::IsSafe", "declaration::Declares", "bin_tape::IsTape", "peripherals::image_of")
 
-What is promised of the code is said in terms of the definitions below. The checker sees to it that the code keeps them; that \
-they say what a PDP-8, a tape or a safe program is, only a reader can see. So here is each definition that the contract of a \
-public function, type or trait reaches, with its comment, under its module. Each crate stands after those that it uses, and \
-so does each module of a crate.
-
-What isn't listed need not be believed: everything under `proofs/`, and the definitions that only private contracts cite.
-
+OWN = """\
 Contracts use the toolchain's own definitions besides: numbers, lists, options and results with their tests (`IfOk`, `IfErr`, \
 `IfSome`), bit by bit `bit_and` and `bit_or`, `codes` for the bytes of a text, `decimal`, `lines`, and for sources and sinks \
 `Appends` (known bytes grow by these) and `Consumes` (known bytes begin with these, and lose them). What is taken from a \
 crate's `specs.declared` is a public type of its `src/`. A name that stands in several modules may mean something else in each.
-
-`tests/definitions.py --write` makes this page, and `make test` fails where it isn't what the comments make.
 """
+
+FRONT = """\
+# The definitions behind a yes, in reading order
+
+A yes says that a program is safe: no run violates its declaration. What that means is said by the definitions below, and by \
+nothing else. The prover ensures that the code keeps to them. That they say what a PDP-8, a tape and a safe program are, only a \
+reader can see. So each definition stands here with its comment and its formula, under its module. Each crate stands after \
+those that it uses, and so does each module of a crate. The last one, `IsSafe`, is what a yes says.
+
+The words of the answer itself, and how it is written, are defined in `diagnostics` and `command_parts`: \
+[THEOREM](THEOREM.md#what-must-be-believed) lists them.
+
+""" + OWN + """
+`python3 tests/definitions.py --all` prints this page for all definitions that the contract of some public function, type or \
+trait reaches, and `--behind CRATE::NAME` lists those behind a name. What neither prints need not be believed: everything under \
+`proofs/`, and the definitions that only private contracts cite. `tests/definitions.py --write` makes this page, and `make test` \
+fails if it is out of date.
+"""
+
+FRONT_OF_ALL = """\
+# The definitions, in reading order
+
+What is promised of the code is said in terms of these definitions: those that the contract of a public function, type or trait \
+reaches.
+
+""" + OWN
 
 
 class Definitions:
@@ -201,26 +222,31 @@ def wrapped(text, indent=""):
     return "\n".join(lines).replace("\0", " ")
 
 
-def rows(module, definitions):
-    """A row for each of these definitions of a module."""
-    for it in definitions:
-        yield wrapped(f"- `{it.name}`: {comment_of(module, it) or 'no comment'}", "  ")
+def shown(module, definition):
+    """A definition: its name, its comment and its formula."""
+    formula = definition.text.strip()
+    return wrapped(f"**`{definition.name}`** {comment_of(module, definition) or 'no comment'}") + f"\n\n```antt\n{formula}\n```"
 
 
-def page(definitions, reached):
-    """The text of the page."""
-    parts = [re.sub(r"[^\n]+", lambda it: wrapped(it[0]), FRONT).strip()]
+def page(definitions, reached, front):
+    """The text of the page of these definitions."""
+    parts = [re.sub(r"[^\n]+", lambda it: wrapped(it[0]), front).strip()]
     for heading, crates in crates_in_order(definitions.root):
-        shown = [it for it in crates if any(key[0] == it for key in reached)]
-        parts += [f"## {heading}"] if shown else []
-        for crate in shown:
+        used = [it for it in crates if any(key[0] == it for key in reached)]
+        parts += [f"## {heading}"] if used else []
+        for crate in used:
             parts += [f"### {crate}", wrapped(sentence_of(definitions.folders[crate]))]
             for module in in_order(crate, definitions.modules[crate]):
                 taken = [it for it in module.definitions.values() if (crate, module.name, it.name) in reached]
                 if taken:
                     file = f"crates/{crate}/specs/{module.name.replace('.', '/')}.antt"
-                    parts += [f"#### [{module.name}](../{file})", wrapped(module.first), "\n".join(rows(module, taken))]
+                    parts += [f"#### [{module.name}](../{file})", wrapped(module.first), *(shown(module, it) for it in taken)]
     return "\n\n".join(it for it in parts if it) + "\n"
+
+
+def page_of_yes(definitions):
+    """The text of the page of the definitions that a yes rests on."""
+    return page(definitions, definitions.behind(YES), FRONT)
 
 
 def lacking(definitions, reached):
@@ -244,7 +270,7 @@ def differences(definitions, reached):
         yield f"there is no {PAGE}: tests/definitions.py --write makes it"
         return
     with open(f"{definitions.root}/{PAGE}", encoding="utf-8") as file:
-        if file.read() != page(definitions, reached):
+        if file.read() != page_of_yes(definitions):
             yield f"{PAGE} isn't what the comments make: tests/definitions.py --write makes it"
 
 
@@ -295,6 +321,10 @@ def main(words):
             print(f"there is no definition and no public function {error.args[0]}", file=sys.stderr)
             return 1
         return 0
+    if words == ["--all"]:
+        definitions = Definitions(ROOT)
+        print(page(definitions, definitions.reached(), FRONT_OF_ALL), end="")
+        return 0
     if words not in ([], ["--write"]):
         print(__doc__, file=sys.stderr)
         return 2
@@ -302,10 +332,10 @@ def main(words):
     reached = definitions.reached()
     if words:
         with open(f"{ROOT}/{PAGE}", "w", encoding="utf-8") as file:
-            file.write(page(definitions, reached))
+            file.write(page_of_yes(definitions))
     found = list(differences(definitions, reached))
     print("".join(f"{it}\n" for it in found), end="")
-    print(f"definitions: {len(reached)} to believe, {len(found)} differences")
+    print(f"definitions: {len(definitions.behind(YES))} behind a yes, {len(reached)} in all public contracts, {len(found)} differences")
     return 1 if found else 0
 
 

@@ -5,7 +5,7 @@ pseudo-terminal as the other end of a line, by socat, where it is installed.
 usage: tests/teletype.py PDP8    PDP8 is the built program; names what went otherwise, exit status 1 where anything did
 
 The programs are those of tests/cases/teletype.md: the game `guess`, which answers each line, and the line editor `edit`, which
-takes a key back at a rubout; and examples/echo. No gate runs this: it wants tmux, and waits for screens.
+takes a key back at a rubout; and examples/echo. `pdp8` alone says that it waits for a tape. No gate runs this: it wants tmux, and waits for screens.
 """
 import contextlib
 import os
@@ -102,6 +102,12 @@ ECHOING = [
     (('A',), ['A']),
     (('B', 'C'), ['ABC']),
 ]
+# Nothing is asked for, and the end of standard input is no tape.
+WAITING = ['pdp8 waits for a tape on standard input; pdp8 help lists the commands']
+ALONE = [
+    ((), WAITING),
+    (('C-d',), [*WAITING, 'pdp8: tape: NoWord', 'OVER']),
+]
 
 
 def at_a_terminal(folder, pdp8):
@@ -109,6 +115,7 @@ def at_a_terminal(folder, pdp8):
         play(folder, pdp8, 'pdp8 teletype guess.bin --switches 42 2>/dev/null', GUESSING),
         play(folder, pdp8, 'stty -icanon -echo; pdp8 teletype edit.bin 2>/dev/null', EDITING),
         play(folder, pdp8, 'stty raw -echo; pdp8 teletype echo.bin 2>/dev/null', ECHOING),
+        play(folder, pdp8, 'pdp8', ALONE),
     ]
 
 

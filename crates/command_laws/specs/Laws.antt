@@ -1,6 +1,6 @@
 -- A run of any events has an answer, and so has one with an operator; and what sources mean, what is written of them and what
 -- is read of that is one.
-use Rattle.std.specs.Prelude.{ℕ, ◌≡◌, ◌<◌, ◌≤◌, Bool, true, Option, Some, List, [], ◌∷◌, IfSome, length, map, ⊤}
+use Rattle.std.specs.Prelude.{None, ℕ, ◌≡◌, ◌<◌, ◌≤◌, Bool, true, Option, Some, List, [], ◌∷◌, IfSome, length, map, ⊤}
 use Rattle.std.specs.List.{AllByRecursion}
 use Rattle.peripherals.specs.declared.Event.{Event}
 use Rattle.peripherals.specs.declared.Event.TheVariants.{Step, Key, PrinterDone, ReaderDone, PunchDone, Switches, Continue}
@@ -105,13 +105,13 @@ FollowsTheTable =
 abbrev pub as_declared : Declaration → SessionOptions → SessionOptions
 as_declared d options = record options { run = record options.run { start = d.start; profile = d.profile } }
 
--- The events of a watched run with an operator are those of the run with the same options, on the declared machine and from the
+-- The events of a watched run with an operator who presses no CONTINUE are those of the run with the same options, on the declared machine and from the
 -- declared start.
 abbrev pub WatchedAsRun : Type 0
 WatchedAsRun =
     (options : SessionOptions) (tape text reader keys : List ℕ) (explained : Bool) (told : List ℕ) (seen : Status)
     (written printed punched : List ℕ) (status : Status) →
-    (watched : IsSessionWatchedSo options (Some tape) (Some text) (Some reader) (Some keys) explained told seen) →
+    (watched : IsSessionWatchedSo options None (Some tape) (Some text) (Some reader) (Some keys) explained told seen) →
     (run : IsSession (as_declared watched.declaration options) Whole (Some tape) (Some reader) (Some keys) status written printed punched) →
     watched.watched.events ≡ run.session.events
 

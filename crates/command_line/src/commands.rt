@@ -228,6 +228,13 @@ const ROUNDS: Argument = Argument {
     help: "the maximum number of rounds; 100000 without it",
 };
 
+const CONTINUE: Argument = Argument {
+    name: "continue",
+    short: None,
+    form: Form::Value("N"),
+    help: "presses CONTINUE at declared pauses, at most N times, and writes how far the run got",
+};
+
 const EVENTS_FILE: Argument = Argument {
     name: "events",
     short: None,
@@ -301,6 +308,34 @@ const SHOW: Argument = Argument {
     short: None,
     form: Form::Values("R"),
     help: "writes these cells when the run is over, such as 0324 or 0400-0417; separate several by spaces, or repeat the option",
+};
+
+const UNTIL: Argument = Argument {
+    name: "until",
+    short: None,
+    form: Form::Value("PLACE"),
+    help: "stops the run before the instruction at this octal address; PLACE,N stops it when the run gets there for the N-th time",
+};
+
+const UNTIL_WRITE: Argument = Argument {
+    name: "until-write",
+    short: None,
+    form: Form::Values("R"),
+    help: "stops the run before an instruction that writes one of these cells; R is written as for --show",
+};
+
+const UNTIL_READ: Argument = Argument {
+    name: "until-read",
+    short: None,
+    form: Form::Values("R"),
+    help: "stops the run before an instruction that reads one of these cells as a pointer or an operand; R is written as for --show",
+};
+
+const LAST: Argument = Argument {
+    name: "last",
+    short: None,
+    form: Form::Value("N"),
+    help: "writes a line for each of the last N instructions that are executed, before the summary",
 };
 
 const READS: Argument = Argument {
@@ -405,7 +440,7 @@ const VERIFY_ARGUMENTS: [Argument; 10] = [
     WHY_VERIFY,
 ];
 
-const RUN_ARGUMENTS: [Argument; 14] = [
+const RUN_ARGUMENTS: [Argument; 18] = [
     TAPE,
     START,
     ROUNDS,
@@ -418,6 +453,10 @@ const RUN_ARGUMENTS: [Argument; 14] = [
     MARK,
     TELETYPE,
     SWITCHES,
+    UNTIL,
+    UNTIL_WRITE,
+    UNTIL_READ,
+    LAST,
     SHOW,
     WHY_INPUT,
 ];
@@ -452,7 +491,7 @@ const SOURCE_ARGUMENTS: [Argument; 8] = [
     WHY_INPUT,
 ];
 
-const WATCH_ARGUMENTS: [Argument; 11] = [
+const WATCH_ARGUMENTS: [Argument; 12] = [
     TAPE_OR_SOURCE,
     DECLARATION_OR_SOURCE,
     EVENTS,
@@ -462,6 +501,7 @@ const WATCH_ARGUMENTS: [Argument; 11] = [
     MARK,
     SWITCHES,
     ROUNDS,
+    CONTINUE,
     SHOW,
     WHY_WATCH,
 ];
@@ -532,112 +572,112 @@ const EXPLAIN_ARGUMENTS: [Argument; 1] = [CODE];
 
 const VERIFY: Entry = Entry {
     name: "verify",
-    usage: Some("pdp8 verify [OPTIONS] <TAPE> [DECLARATION]"),
+    usage: "pdp8 verify [OPTIONS] <TAPE> [DECLARATION]",
     about: "Says whether a program complies with its declaration: yes, no or not known",
     after_help: "Without DECLARATION, and without /: lines in the source, a declaration is proposed for the start and the machine of --start and --profile. A declaration that is given determines both.\n\nExamples:\n  pdp8 verify hello.bin hello.declaration\n  pdp8 verify --source hello.pal --save new",
 };
 
 const RUN: Entry = Entry {
     name: "run",
-    usage: None,
+    usage: "pdp8 run [OPTIONS] <TAPE>",
     about: "Runs a tape, and writes where the run ended and what was printed and punched",
     after_help: "Example:\n  pdp8 run hello.bin --start 200 --trace",
 };
 
 const SESSION: Entry = Entry {
     name: "teletype",
-    usage: None,
+    usage: "pdp8 teletype [OPTIONS] <TAPE>",
     about: "Runs a tape with you at the teletype: what it prints appears at once, and it gets a key when it asks for one",
     after_help: "Keys come from standard input, what is printed goes to standard output, and the summary goes to standard error. The session ends at a halt, at an unsupported word, or when a key is asked for and none is left.\n\nExample:\n  pdp8 teletype echo.bin",
 };
 
 const DUMP: Entry = Entry {
     name: "dump",
-    usage: None,
+    usage: "pdp8 dump [OPTIONS] <TAPE>",
     about: "Writes the address, the word and its name for each word on a tape",
     after_help: "Example:\n  pdp8 dump hello.bin",
 };
 
 const ASSEMBLE: Entry = Entry {
     name: "assemble",
-    usage: Some("pdp8 assemble [OPTIONS] [-o] <OUT> <SOURCE>..."),
+    usage: "pdp8 assemble [OPTIONS] [-o] <OUT> <SOURCE>...",
     about: "Assembles a PAL III source and writes its tape",
     after_help: "Without -o, OUT comes first, and is emptied before a source is read, even if the source is then refused.\n\nExample:\n  pdp8 assemble -o hello.bin hello.pal",
 };
 
 const LIST: Entry = Entry {
     name: "list",
-    usage: None,
+    usage: "pdp8 list [OPTIONS] <SOURCE>...",
     about: "Assembles a PAL III source and writes its listing",
     after_help: "Example:\n  pdp8 list hello.pal",
 };
 
 const SOURCE_OF_TAPE: Entry = Entry {
     name: "source",
-    usage: Some("pdp8 source [OPTIONS] <TAPE> [-o] <OUT>"),
+    usage: "pdp8 source [OPTIONS] <TAPE> [-o] <OUT>",
     about: "Writes a PAL III source of a tape, from which assemble makes the same words",
     after_help: "A file stays as it was if there is nothing to write, and so does a source that this command did not write, unless --force is given. Without a declaration, the control flow is followed from the start, for the machine of --profile. A declaration that is given determines both.\n\nExample:\n  pdp8 source hello.bin -o found.pal",
 };
 
 const WATCH: Entry = Entry {
     name: "watch",
-    usage: Some("pdp8 watch [OPTIONS] <TAPE> <DECLARATION> [EVENTS]"),
+    usage: "pdp8 watch [OPTIONS] <TAPE> <DECLARATION> [EVENTS]",
     about: "Writes whether a run complies with its declaration, or which rule it first violates and where",
     after_help: "Examples:\n  pdp8 watch hello.bin hello.declaration hello.events\n  pdp8 watch --source hello.pal hello.declaration hello.events",
 };
 
 const CHECK: Entry = Entry {
     name: "check",
-    usage: Some("pdp8 check [OPTIONS] <TAPE> <DECLARATION> <CERTIFICATE>"),
+    usage: "pdp8 check [OPTIONS] <TAPE> <DECLARATION> <CERTIFICATE>",
     about: "Writes whether a certificate shows that no run violates its declaration",
     after_help: "Examples:\n  pdp8 check hello.bin hello.declaration hello.certificate --why\n  pdp8 check --source hello.pal hello.declaration hello.certificate --why",
 };
 
 const REPORT: Entry = Entry {
     name: "report",
-    usage: Some("pdp8 report [OPTIONS] <TAPE> <DECLARATION> <CERTIFICATE> [-o] <OUT>"),
+    usage: "pdp8 report [OPTIONS] <TAPE> <DECLARATION> <CERTIFICATE> [-o] <OUT>",
     about: "Writes what a certificate says as a page of HTML: verdict, memory, routines, listing",
     after_help: "A file stays as it was if there is nothing to write; with --source, OUT is given by -o. The verdict and the status are those of check.\n\nExamples:\n  pdp8 report hello.bin hello.declaration hello.certificate -o hello.html\n  pdp8 report --source hello.pal hello.declaration hello.certificate -o hello.html",
 };
 
 const DECLARE: Entry = Entry {
     name: "declare",
-    usage: Some("pdp8 declare [OPTIONS] <TAPE> [-o] <OUT>"),
+    usage: "pdp8 declare [OPTIONS] <TAPE> [-o] <OUT>",
     about: "Proposes a declaration: what the program of a tape may do",
     after_help: "A file stays as it was if there is nothing to write; with --source, OUT is given by -o. If no certificate is found, the declaration is written all the same, with comments that say why if there is room for them, and the status is 1.\n\nExamples:\n  pdp8 declare hello.bin -o new.declaration\n  pdp8 declare --source hello.pal -o new.declaration",
 };
 
 const GUESS: Entry = Entry {
     name: "guess",
-    usage: Some("pdp8 guess [OPTIONS] <TAPE> <DECLARATION> [-o] <OUT>"),
+    usage: "pdp8 guess [OPTIONS] <TAPE> <DECLARATION> [-o] <OUT>",
     about: "Searches for a certificate showing that no run violates a declaration",
     after_help: "The operand OUT is emptied before an input is read, or with --source after the source and the declaration are read. It stays empty if nothing is found. With --source and without DECLARATION, OUT is given by -o. A certificate that is found shows the program to be safe: this is proved.\n\nExamples:\n  pdp8 guess hello.bin hello.declaration -o new.certificate\n  pdp8 guess --source hello.pal hello.declaration -o new.certificate",
 };
 
 const REFUTE: Entry = Entry {
     name: "refute",
-    usage: Some("pdp8 refute [OPTIONS] <TAPE> <DECLARATION> [-o] <OUT>"),
+    usage: "pdp8 refute [OPTIONS] <TAPE> <DECLARATION> [-o] <OUT>",
     about: "Searches for a run that violates a declaration, and writes its events",
     after_help: "A file stays as it was if nothing is found. With --source and without DECLARATION, OUT is given by -o. The same seed gives the same answer.\n\nExamples:\n  pdp8 refute hello.bin hello.declaration -o found.events --why\n  pdp8 refute --source hello.pal hello.declaration -o found.events --why",
 };
 
 const PLACE: Entry = Entry {
     name: "place",
-    usage: Some("pdp8 place [OPTIONS] [-o] <OUT> <SOURCE>..."),
+    usage: "pdp8 place [OPTIONS] [-o] <OUT> <SOURCE>...",
     about: "Writes a declaration with the symbols of a source replaced by their addresses",
     after_help: "Without -o, OUT comes first. It stays as it was if an input is refused or there is no declaration.\n\nExample:\n  pdp8 place -o numbers.declaration --declaration symbols.declaration my.pal",
 };
 
 const MIGRATE: Entry = Entry {
     name: "migrate",
-    usage: Some("pdp8 migrate [OPTIONS] <CERTIFICATE> [-o] <OUT>"),
+    usage: "pdp8 migrate [OPTIONS] <CERTIFICATE> [-o] <OUT>",
     about: "Writes a certificate in version 2, which says what MQ may hold",
     after_help: "The operand OUT is emptied before the certificate is read, even if the certificate is then refused.\n\nExample:\n  pdp8 migrate hello.certificate -o hello-2.certificate",
 };
 
 const EXPLAIN: Entry = Entry {
     name: "explain",
-    usage: None,
+    usage: "pdp8 explain [CODE]",
     about: "Writes what a condition, a rule or a fault means, and what to do",
     after_help: "Without CODE it lists the codes. Those of `no: V5 at 0210`, `broken: event 50 rule 2` and `pdp8: source: IR 1 2` are V5, rule2 and IR.\n\nExample:\n  pdp8 explain V5",
 };
@@ -675,4 +715,12 @@ pub(crate) fn command<'a>(alloc: Global) -> Result<Command<'a>, AllocError> {
         program = with_entry(alloc, program, entry, arguments)?;
     }
     Ok(program)
+}
+
+/// Whether some command has an option of this name, which is given with its dashes.
+pub(crate) fn is_option(name: &str) -> bool {
+    let Some(word) = name.strip_prefix("--") else {
+        return false;
+    };
+    COMMANDS.iter().any(|(_, arguments)| arguments.iter().any(|argument| argument.name == word))
 }

@@ -83,6 +83,20 @@ impl Explanation {
     }
 }
 
+/// Whether a code is meant by a word as it stands in an answer: `rule 2` is rule2.
+fn is_spaced(code: &[u8], given: &[u8]) -> bool {
+    code.len() == 5
+        && given.len() == 6
+        && given[4] == b' '
+        && given[5] == code[4]
+        && given[..4].eq_ignore_ascii_case(&code[..4])
+}
+
+/// Whether a code is meant, in capital or small letters.
+fn is_meant(code: &str, given: &str) -> bool {
+    code.eq_ignore_ascii_case(given) || is_spaced(code.as_bytes(), given.as_bytes())
+}
+
 /// Adds what a table says about a code, and tells whether it says anything.
 fn push_from<A: Allocator>(
     text: &mut String<A>,
@@ -91,7 +105,7 @@ fn push_from<A: Allocator>(
 ) -> Result<bool, AllocError> {
     let mut is_known = false;
     for explanation in table {
-        if explanation.code.eq_ignore_ascii_case(code) {
+        if is_meant(explanation.code, code) {
             if is_known {
                 text.push_str("\n")?;
             }

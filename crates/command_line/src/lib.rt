@@ -6,14 +6,14 @@ pub mod explanations;
 mod names;
 mod operator;
 mod outputs;
-mod promises;
+mod programs;
 mod refused;
 mod requests;
 mod shown;
-mod sourced;
 mod sources;
 mod table;
 mod tapes;
+pub mod tips;
 mod values;
 
 pub use names::FileNames;
@@ -21,12 +21,9 @@ pub use operator::{Joined, Session, TeletypeSession, WatchedSession};
 pub use outputs::{
     CERTIFICATE_ENDING, DECLARATION_ENDING, Destination, EVENTS_ENDING, Save, is_source_name,
 };
-pub use promises::{
-    CheckRequest, GuessRequest, MigrateRequest, RefuteRequest, ReportRequest, VerifyRequest,
-    WatchRequest,
-};
+pub use programs::{ProgramNames, ProgramRequest, Task};
 pub use refused::{Misuse, Refused};
 pub use requests::{CommandLine, Request, parse_arguments};
-pub use sourced::{Sourced, Task};
+pub use shown::Stopping;
 pub use sources::{AssembleRequest, ListRequest};
-pub use tapes::{DeclareRequest, DumpRequest, RunRequest, SourceRequest};
+pub use tapes::{DumpRequest, MigrateRequest, RunRequest, SourceRequest};

@@ -26,7 +26,7 @@ pub struct FileNames<'a> {
 
 impl<'a> FileNames<'a> {
     /// No names.
-    pub(crate) const NONE: FileNames<'static> = FileNames {
+    pub const NONE: FileNames<'static> = FileNames {
         tape: None,
         declaration: None,
         certificate: None,
@@ -51,6 +51,31 @@ impl<'a> FileNames<'a> {
 }
 
 impl<'a> Request<'a> {
+    /// The name of its command.
+    pub fn command(&self) -> &'static str {
+        match self {
+            Request::Run(_) | Request::Session(_) => "run",
+            Request::Teletype(_) => "teletype",
+            Request::Dump(_) => "dump",
+            Request::Assemble(_) => "assemble",
+            Request::Source(_) => "source",
+            Request::List(_) => "list",
+            Request::Explain { .. } => "explain",
+            Request::Migrate(_) => "migrate",
+            Request::Program(asked) => asked.task.command(),
+        }
+    }
+
+    /// The names of the parts of its source, if it has one.
+    pub fn parts(&self) -> &[&'a str] {
+        match self {
+            Request::Assemble(asked) => &asked.sources,
+            Request::List(asked) => &asked.sources,
+            Request::Program(asked) => asked.program.parts(),
+            _ => &[],
+        }
+    }
+
     /// The names of its inputs and of its outputs, apart from the parts of a source.
     pub fn names(&self) -> FileNames<'a> {
         match self {
@@ -60,17 +85,12 @@ impl<'a> Request<'a> {
             Request::Dump(dump) => dump.names(),
             Request::Assemble(assemble) => assemble.names(),
             Request::Source(source) => source.names(),
-            Request::List(_) | Request::Explain { .. } => FileNames::NONE,
-            Request::Check(check) => check.names(),
-            Request::Report(report) => report.names(),
-            Request::Declare(declare) => declare.names(),
-            Request::Guess(guess) => guess.names(),
+            Request::List(_) | Request::Explain { .. } => FileNames {
+                output: Some("-"),
+                ..FileNames::NONE
+            },
             Request::Migrate(migrate) => migrate.names(),
-            Request::Watch(watch) => watch.names(),
-            Request::WatchSession(session) => session.names(),
-            Request::Refute(refute) => refute.names(),
-            Request::Verify(verify) => verify.names(),
-            Request::Sourced(sourced) => sourced.names(),
+            Request::Program(asked) => asked.names(),
         }
     }
 }

@@ -3,8 +3,8 @@
 use crate::names::FileNames;
 use crate::outputs::punch_of;
 use crate::refused::{Misuse, Refused};
-use crate::shown::shown_cells;
-use crate::values::{profile_of, read_standard_input_once, run_options, start_of};
+use crate::shown::{is_stopped, shown_cells};
+use crate::values::{continues_of, profile_of, read_standard_input_once, run_options, start_of};
 use clap::ArgMatches;
 use command_parts::options::{Manner, SessionOptions, TeletypeOptions};
 use word12::Word;
@@ -46,6 +46,8 @@ pub struct WatchedSession<'a> {
     pub keys: Option<&'a str>,
     /// How the tape is run; the start and the machine are the declaration's.
     pub options: SessionOptions,
+    /// How often CONTINUE is pressed at declared pauses at most, if it may be.
+    pub continues: Option<u32>,
     /// Whether it is said what violates a rule.
     pub explained: bool,
 }
@@ -112,7 +114,7 @@ pub fn has_operator(found: &ArgMatches<'_>) -> bool {
 
 /// Whether a watched run has an operator.
 pub fn is_watched_with_operator(found: &ArgMatches<'_>) -> bool {
-    ["reader", "keys", "switches", "steps"]
+    ["reader", "keys", "switches", "steps", "continue"]
         .iter()
         .any(|name| found.get_str(name).is_some())
         || found.get_flag("mark")
@@ -136,6 +138,9 @@ pub fn session_of<'a>(found: &ArgMatches<'a>) -> Result<Session<'a>, Refused> {
     let keys = found.get_str("keys");
     if found.get_str("events").is_some() {
         return Err(Refused::Misuse(Misuse::EventsAndOperator));
+    }
+    if is_stopped(found) {
+        return Err(Refused::Misuse(Misuse::StopsAndOperator));
     }
     read_standard_input_once(&[tape, reader.unwrap_or(""), keys.unwrap_or("")])?;
     let punch = punch_of(found, &[tape, reader.unwrap_or("-"), keys.unwrap_or("-")])?;
@@ -179,6 +184,7 @@ pub fn watched_session_of<'a>(
         reader,
         keys,
         options: session_options(found)?,
+        continues: continues_of(found)?,
         explained: found.get_flag("why"),
     })
 }

@@ -1,5 +1,10 @@
 //! Where the result of a command goes.
 
+ghost use Rattle.std.specs.Prelude.{◌≡◌, ◌&&◌, not, codes};
+ghost use Rattle.std.specs.List.{list_any};
+ghost use Rattle.std.specs.Str.{bytes_eq};
+ghost use Rattle.command_line.specs.Outputs.{is_same_file, without_here};
+
 use crate::refused::{Misuse, Refused};
 use clap::ArgMatches;
 
@@ -27,16 +32,39 @@ impl<'a> Destination<'a> {
     }
 }
 
+/// A name without `./` at its front.
+fn without_here(name: &[u8]) -> &[u8]
+    ensures { result.now ≡ without_here name.now }
+{
+    match name.strip_prefix(b"./") {
+        Some(rest) => rest,
+        None => name,
+    }
+}
+
 /// Whether two names are those of one file, as far as the names tell: a leading `./` does not matter.
-pub fn is_same_file(left: &str, right: &str) -> bool {
-    let left = left.strip_prefix("./").unwrap_or(left);
-    let right = right.strip_prefix("./").unwrap_or(right);
-    *left == *right
+pub fn is_same_file(left: &str, right: &str) -> bool
+    ensures { result ≡ is_same_file left.now right.now }
+{
+    without_here(left.as_bytes()) == without_here(right.as_bytes())
+}
+
+/// Whether a file is one of these, as far as the names tell.
+fn is_one_of(name: &str, others: &[&str]) -> bool
+    ensures { result ≡ list_any (λ other. is_same_file other.now name.now) others.now }
+{
+    others.iter().any(|other| is_same_file(other, name))
 }
 
 /// Whether the file that an output goes to is one of these; standard output is none.
-pub fn is_taken(name: &str, others: &[&str]) -> bool {
-    name != "-" && others.iter().any(|other| is_same_file(other, name))
+pub fn is_taken(name: &str, others: &[&str]) -> bool
+    ensures { result ≡ (not (bytes_eq name.now (codes "-")) &&
+        list_any (λ other. is_same_file other.now name.now) others.now) }
+{
+    if name == "-" {
+        return false;
+    }
+    is_one_of(name, others)
 }
 
 /// What the name of a source ends in.

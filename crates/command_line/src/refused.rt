@@ -31,6 +31,18 @@ pub enum Misuse {
     NotText,
     /// The value of `--show` has no cell, or something else than addresses and ranges.
     Show,
+    /// The value of `--until` is not an address, or not an address and a number.
+    Until,
+    /// The value of `--until-write` has no cell, or something else than addresses and ranges.
+    UntilWrite,
+    /// The value of `--until-read` has no cell, or something else than addresses and ranges.
+    UntilRead,
+    /// The value of `--last` is not a number from 1 to 1,000,000.
+    Last,
+    /// The last instructions are to be shown, and all of them too.
+    LastAndTrace,
+    /// A run is to be stopped or its last instructions are to be shown, and it has an operator too.
+    StopsAndOperator,
     /// There are events, and an operator too.
     EventsAndOperator,
     /// A run is to be watched by a list of events, and with an operator too.
@@ -47,6 +59,8 @@ pub enum Misuse {
     PunchToOutput,
     /// The value of `--seed` is not a number from 0 to 99,999,999.
     Seed,
+    /// The value of `--continue` is not a number from 1 to 1,000,000.
+    Continue,
     /// The value of `--profile` is neither `8i` nor `8e`.
     Profile,
     /// Two inputs are to come from standard input.
@@ -78,13 +92,34 @@ pub enum Misuse {
 }
 
 impl Misuse {
-    /// What is said about it.
-    pub fn text(&self) -> &'static str {
-        match self {
+    /// What is said about the value of an option or an argument that is not as expected.
+    fn value_text(&self) -> Option<&'static str> {
+        Some(match self {
             Misuse::NotText =>
                 "an argument is not text in UTF-8: rename the file, or give it on standard input",
             Misuse::Show =>
                 "bad value for '--show': expected octal addresses and ranges, such as 0324 0400-0417",
+            Misuse::Until =>
+                "bad value for '--until': expected an octal address such as 0233, or with a number from 1 to 1000000, such as 0233,4",
+            Misuse::UntilWrite =>
+                "bad value for '--until-write': expected octal addresses and ranges, such as 0324 0400-0417",
+            Misuse::UntilRead =>
+                "bad value for '--until-read': expected octal addresses and ranges, such as 0324 0400-0417",
+            Misuse::Last => "bad value for '--last': expected a number from 1 to 1000000",
+            Misuse::Seed => "bad value for '--seed': expected a number from 0 to 99999999",
+            Misuse::Continue => "bad value for '--continue': expected a number from 1 to 1000000",
+            Misuse::Profile => "bad value for '--profile': expected 8i or 8e",
+            _ => return None,
+        })
+    }
+
+    /// What is said about arguments that cannot be combined, or of which one is missing.
+    fn combination_text(&self) -> Option<&'static str> {
+        Some(match self {
+            Misuse::LastAndTrace =>
+                "'--last' cannot be combined with '--trace', which writes all instructions",
+            Misuse::StopsAndOperator =>
+                "'--until', '--until-write', '--until-read' and '--last' cannot be combined with the options for the reader, the punch, the teletype and the switches",
             Misuse::EventsAndOperator =>
                 "'--events' cannot be combined with the options for the reader, the punch, the teletype and the switches",
             Misuse::ListAndOperator =>
@@ -96,10 +131,16 @@ impl Misuse {
                 "'-o OUT' is missing: with '--source', each operand here is taken for an input",
             Misuse::NoEvents =>
                 "EVENTS is missing, or an option that takes its place, such as '--steps 1000'",
-            Misuse::PunchToOutput => "'--punch' needs the name of a file",
-            Misuse::Seed => "bad value for '--seed': expected a number from 0 to 99999999",
-            Misuse::Profile => "bad value for '--profile': expected 8i or 8e",
             Misuse::BothStandardInput => "'-' can stand for standard input in only one place",
+            Misuse::ReportOfStandardInput =>
+                "'-' cannot be read twice: with '--report', the inputs must be files",
+            _ => return None,
+        })
+    }
+
+    /// What is said about the result's file, if that is wrong.
+    fn result_text(&self) -> Option<&'static str> {
+        Some(match self {
             Misuse::OutputIsInput => "OUT is also an input: the result needs a file of its own",
             Misuse::OutputIsSource =>
                 "OUT is named like a source: it receives the tape, and comes before the sources",
@@ -109,8 +150,18 @@ impl Misuse {
                 "OUT is named like a source: the result needs a file name with another ending",
             Misuse::SourceIsKept =>
                 "OUT is a file that this command did not write, so it is kept: give OUT another name, or use --force to replace it",
+            _ => return None,
+        })
+    }
+
+    /// What is said about the file of `--report`, `--punch` or `--save`, if that is wrong.
+    fn option_text(&self) -> Option<&'static str> {
+        Some(match self {
+            Misuse::ReportIsTaken =>
+                "the file of '--report' is also an input or OUT: the report needs a file of its own",
             Misuse::ReportIsSource =>
                 "the file of '--report' is named like a source: the report needs a file name with another ending",
+            Misuse::PunchToOutput => "'--punch' needs the name of a file",
             Misuse::PunchIsTaken =>
                 "the file of '--punch' is also an input: what is punched needs a file of its own",
             Misuse::PunchIsSource =>
@@ -118,11 +169,17 @@ impl Misuse {
             Misuse::SaveIsFolder =>
                 "'--save NAME' needs a file name: the names of the files begin with NAME, such as found",
             Misuse::SaveIsTaken => "'--save NAME' would replace an input: give another NAME",
-            Misuse::ReportIsTaken =>
-                "the file of '--report' is also an input or OUT: the report needs a file of its own",
-            Misuse::ReportOfStandardInput =>
-                "'-' cannot be read twice: with '--report', the inputs must be files",
-        }
+            _ => return None,
+        })
+    }
+
+    /// What is said about it.
+    pub fn text(&self) -> &'static str {
+        self.value_text()
+            .or_else(|| self.combination_text())
+            .or_else(|| self.result_text())
+            .or_else(|| self.option_text())
+            .unwrap_or("the command line is wrong")
     }
 }
 

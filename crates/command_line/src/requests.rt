@@ -1,23 +1,12 @@
 //! What the command line asks for.
 
 use crate::commands::command;
-use crate::operator::{
-    Session, TeletypeSession, WatchedSession, has_operator, is_watched_with_operator, session_of,
-    teletype_of,
-};
-use crate::promises::{
-    CheckRequest, GuessRequest, MigrateRequest, RefuteRequest, ReportRequest, VerifyRequest,
-    WatchRequest, check_request, guess_request, migrate_request, refute_request, report_request,
-    verify_request, watch_request, watch_session_request,
-};
+use crate::operator::{Session, TeletypeSession, has_operator, session_of, teletype_of};
+use crate::programs::{ProgramRequest, place_request, program_request};
 use crate::refused::Refused;
-use crate::sourced::{
-    Sourced, has_source, place_request, sourced_check, sourced_declare, sourced_guess,
-    sourced_refute, sourced_report, sourced_verify, sourced_watch,
-};
 use crate::sources::{AssembleRequest, ListRequest, assemble_request, list_request};
 use crate::tapes::{
-    DeclareRequest, DumpRequest, RunRequest, SourceRequest, declare_request, dump_request,
+    DumpRequest, MigrateRequest, RunRequest, SourceRequest, dump_request, migrate_request,
     run_request, source_request,
 };
 use clap::ArgMatches;
@@ -41,14 +30,6 @@ pub enum Request<'a> {
     Source(SourceRequest<'a>),
     /// To list a source.
     List(ListRequest<'a>),
-    /// To check a certificate.
-    Check(CheckRequest<'a>),
-    /// To write what a certificate says.
-    Report(ReportRequest<'a>),
-    /// To propose a declaration.
-    Declare(DeclareRequest<'a>),
-    /// To search for a certificate.
-    Guess(GuessRequest<'a>),
     /// To migrate a certificate.
     Migrate(MigrateRequest<'a>),
     /// To say what a condition, a rule or a fault means.
@@ -56,16 +37,8 @@ pub enum Request<'a> {
         /// Its code; without one the codes are listed.
         code: Option<&'a str>,
     },
-    /// To watch a run.
-    Watch(WatchRequest<'a>),
-    /// To watch a run with an operator.
-    WatchSession(WatchedSession<'a>),
-    /// To search for a run that violates a declaration.
-    Refute(RefuteRequest<'a>),
-    /// To say whether a program complies with its declaration.
-    Verify(VerifyRequest<'a>),
-    /// To work on a source and its declaration.
-    Sourced(Sourced<'a>),
+    /// To work on a program and its declaration.
+    Program(ProgramRequest<'a>),
 }
 
 /// A command line that can be carried out.
@@ -85,59 +58,25 @@ fn run_or_session<'a>(found: &ArgMatches<'a>) -> Result<Request<'a>, Refused> {
     Ok(Request::Run(run_request(found)?))
 }
 
-/// What `watch` asks for.
-fn watch_or_session<'a>(found: &ArgMatches<'a>) -> Result<Request<'a>, Refused> {
-    if is_watched_with_operator(found) {
-        return Ok(Request::WatchSession(watch_session_request(found)?));
-    }
-    Ok(Request::Watch(watch_request(found)?))
-}
-
-/// What a command that has `--source` asks for.
-fn sourced_request<'a>(
-    alloc: Global,
-    command: &str,
-    found: &ArgMatches<'a>,
-) -> Result<Sourced<'a>, Refused> {
-    match command {
-        "verify" => sourced_verify(alloc, found),
-        "watch" => sourced_watch(alloc, found),
-        "guess" => sourced_guess(alloc, found),
-        "refute" => sourced_refute(alloc, found),
-        "report" => sourced_report(alloc, found),
-        "declare" => sourced_declare(alloc, found),
-        _ => sourced_check(alloc, found),
-    }
-}
-
 /// What a command asks for, with what was found after it.
 fn request_of<'a>(
     alloc: Global,
     command: &str,
     found: &ArgMatches<'a>,
 ) -> Result<Request<'a>, Refused> {
-    if has_source(found) {
-        return Ok(Request::Sourced(sourced_request(alloc, command, found)?));
-    }
     match command {
         "dump" => Ok(Request::Dump(dump_request(found)?)),
         "teletype" => Ok(Request::Teletype(teletype_of(found)?)),
         "assemble" => Ok(Request::Assemble(assemble_request(alloc, found)?)),
         "list" => Ok(Request::List(list_request(alloc, found)?)),
         "source" => Ok(Request::Source(source_request(found)?)),
-        "watch" => watch_or_session(found),
-        "check" => Ok(Request::Check(check_request(found)?)),
-        "report" => Ok(Request::Report(report_request(found)?)),
-        "declare" => Ok(Request::Declare(declare_request(found)?)),
-        "guess" => Ok(Request::Guess(guess_request(found)?)),
-        "refute" => Ok(Request::Refute(refute_request(found)?)),
-        "verify" => Ok(Request::Verify(verify_request(found)?)),
         "migrate" => Ok(Request::Migrate(migrate_request(found)?)),
-        "place" => Ok(Request::Sourced(place_request(alloc, found)?)),
+        "place" => Ok(Request::Program(place_request(alloc, found)?)),
         "explain" => Ok(Request::Explain {
             code: found.get_str("CODE"),
         }),
-        _ => run_or_session(found),
+        "run" => run_or_session(found),
+        _ => Ok(Request::Program(program_request(alloc, command, found)?)),
     }
 }
 

@@ -48,8 +48,8 @@ pub(crate) struct Argument {
 pub(crate) struct Entry {
     /// Its name.
     pub(crate) name: &'static str,
-    /// How it is used, where clap would write it otherwise.
-    pub(crate) usage: Option<&'static str>,
+    /// How it is used.
+    pub(crate) usage: &'static str,
     /// What it does, in a line.
     pub(crate) about: &'static str,
     /// What stands below its options.
@@ -102,10 +102,8 @@ impl Entry {
     fn built<'a>(&self, alloc: Global, arguments: &[Argument]) -> Result<Command<'a>, AllocError> {
         let mut command = Command::new(alloc, self.name)
             .about(self.about)
+            .override_usage(self.usage)
             .after_help(self.after_help);
-        if let Some(usage) = self.usage {
-            command = command.override_usage(usage);
-        }
         for argument in arguments {
             command = command.arg(argument.built(alloc)?)?;
         }

@@ -1,13 +1,12 @@
-//! What may be asked for with a tape alone.
+//! What may be asked for with a tape alone, or with a certificate alone.
 
 use crate::names::FileNames;
-use crate::outputs::{Destination, kept_destination, no_input, no_source};
+use crate::outputs::{Destination, emptied_destination, kept_destination, no_input, no_source};
 use crate::refused::{Misuse, Refused};
-use crate::values::{
-    declare_options, is_start_named, profile_of, read_standard_input_once, run_options, start_of,
-};
+use crate::shown::{Stopping, stopping_of};
+use crate::values::{is_start_named, profile_of, read_standard_input_once, run_options, start_of};
 use clap::ArgMatches;
-use command_parts::options::{DeclareOptions, RunOptions};
+use command_parts::options::RunOptions;
 use instruct::Profile;
 use word12::Word;
 
@@ -20,6 +19,8 @@ pub struct RunRequest<'a> {
     pub events: Option<&'a str>,
     /// How it is run.
     pub options: RunOptions,
+    /// How it is followed, if it may be stopped.
+    pub stopping: Option<Stopping>,
 }
 
 impl<'a> RunRequest<'a> {
@@ -42,6 +43,7 @@ pub(crate) fn run_request<'a>(found: &ArgMatches<'a>) -> Result<RunRequest<'a>, 
         tape,
         events,
         options: run_options(found)?,
+        stopping: stopping_of(found)?,
     })
 }
 
@@ -118,42 +120,30 @@ pub(crate) fn source_request<'a>(found: &ArgMatches<'a>) -> Result<SourceRequest
     })
 }
 
-/// To propose a declaration.
+/// To migrate a certificate.
 #[derive(Clone, Copy)]
-pub struct DeclareRequest<'a> {
-    /// The name of the tape's file.
-    pub tape: &'a str,
-    /// The name of the file of a declaration that is completed, if there is one.
-    pub from: Option<&'a str>,
-    /// Where the declaration goes.
+pub struct MigrateRequest<'a> {
+    /// The name of the certificate's file.
+    pub certificate: &'a str,
+    /// Where the migrated certificate goes.
     pub out: Destination<'a>,
-    /// What it is proposed for.
-    pub options: DeclareOptions,
 }
 
-impl<'a> DeclareRequest<'a> {
+impl<'a> MigrateRequest<'a> {
     pub(crate) fn names(&self) -> FileNames<'a> {
         FileNames {
-            tape: Some(self.tape),
-            declaration: self.from,
+            certificate: Some(self.certificate),
             output: Some(self.out.name()),
             ..FileNames::NONE
         }
     }
 }
 
-/// The declaration that is asked for.
-pub(crate) fn declare_request<'a>(found: &ArgMatches<'a>) -> Result<DeclareRequest<'a>, Refused> {
-    let tape = found.get_str("TAPE").unwrap_or("-");
-    let from = found.get_str("from");
-    read_standard_input_once(&[tape, from.unwrap_or("")])?;
-    if from.is_some() && is_start_named(found) {
-        return Err(Refused::Misuse(Misuse::DeclarationAndStart));
-    }
-    Ok(DeclareRequest {
-        tape,
-        from,
-        out: no_source(kept_destination(found), &[tape, from.unwrap_or("-")])?,
-        options: declare_options(found)?,
+/// The certificate in another version that is asked for.
+pub(crate) fn migrate_request<'a>(found: &ArgMatches<'a>) -> Result<MigrateRequest<'a>, Refused> {
+    let certificate = found.get_str("CERTIFICATE").unwrap_or("-");
+    Ok(MigrateRequest {
+        certificate,
+        out: no_source(emptied_destination(found), &[certificate])?,
     })
 }

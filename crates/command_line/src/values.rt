@@ -1,4 +1,7 @@
-//! The values of options that several commands have.
+//! The values of options and operands that several commands have.
+
+ghost use Rattle.std.specs.Prelude.{◌≡◌};
+ghost use Rattle.command_line.specs.Requested.{operand};
 
 use crate::refused::{Misuse, Refused};
 use crate::shown::shown_cells;
@@ -14,6 +17,9 @@ const ROUNDS: u32 = 100_000;
 /// The most rounds that may be asked for.
 const MOST_ROUNDS: u32 = 1_000_000;
 
+/// How often CONTINUE may be pressed at most.
+const MOST_CONTINUES: u32 = 1_000_000;
+
 /// How many steps a search for a run makes without `--steps`.
 const SEARCH_STEPS: u32 = 20_000_000;
 
@@ -25,6 +31,16 @@ const SEED: u32 = 1;
 
 /// The greatest seed.
 const MOST_SEED: u32 = 99_999_999;
+
+/// The value of an operand; one that is left out is `-`, which stands for standard input.
+pub(crate) fn operand_of<'a>(found: &ArgMatches<'a>, name: &str) -> &'a str
+    ensures { result.now ≡ operand found.now name.now }
+{
+    match found.get_str(name) {
+        Some(value) => value,
+        None => "-",
+    }
+}
 
 /// The machine that is meant.
 pub(crate) fn profile_of(found: &ArgMatches<'_>) -> Result<Profile, Refused> {
@@ -52,6 +68,17 @@ fn rounds_of(found: &ArgMatches<'_>) -> Result<u32, Refused> {
         Some(text) => {
             decimal_between(1, MOST_ROUNDS, text.as_bytes()).ok_or(Refused::Steps(MOST_ROUNDS))
         }
+    }
+}
+
+/// How often CONTINUE is pressed at declared pauses at most, if it may be.
+pub(crate) fn continues_of(found: &ArgMatches<'_>) -> Result<Option<u32>, Refused> {
+    match found.get_str("continue") {
+        None => Ok(None),
+        Some(text) => match decimal_between(1, MOST_CONTINUES, text.as_bytes()) {
+            Some(times) => Ok(Some(times)),
+            None => Err(Refused::Misuse(Misuse::Continue)),
+        },
     }
 }
 

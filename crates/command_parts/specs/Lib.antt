@@ -6,3 +6,4 @@ pub mod LinkText
 pub mod Dumping
 pub mod Messages
 pub mod Answers
+pub mod Visible

@@ -8,3 +8,4 @@ pub mod outcome;
 pub mod programs;
 pub mod status;
 pub mod text;
+pub mod visible;

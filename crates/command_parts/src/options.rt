@@ -19,6 +19,19 @@ pub struct RunOptions {
     pub show: WordSet,
 }
 
+/// Where a run is stopped: before the first step that one of these asks for.
+#[derive(Clone, Copy, PartialEq, Eq, Debug)]
+pub struct Stops {
+    /// The address of an instruction, if the run is stopped at one.
+    pub place: Option<Word>,
+    /// How many steps come to that address, with the one before which the run is stopped.
+    pub times: u32,
+    /// The run is stopped before a step that writes one of these cells.
+    pub written: WordSet,
+    /// The run is stopped before a step that reads one of these cells.
+    pub read: WordSet,
+}
+
 /// How a tape is run with an operator.
 #[derive(Clone, Copy, PartialEq, Eq, Debug)]
 pub struct SessionOptions {

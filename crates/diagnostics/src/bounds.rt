@@ -2,9 +2,11 @@
 //! last place where fewer were known. It is tested, not proved.
 
 mod losses;
+mod relations;
 mod sets;
 
 use crate::bounds::losses::{Loss, loss_at, may_go_on, refers_to_memory};
+use crate::bounds::relations::{Relation, lost_relation};
 use crate::bounds::sets::push_set;
 use bin_tape::Image;
 use certificate::Certificate;
@@ -28,6 +30,14 @@ fn pointer_at<D: Allocator>(image: &Image, declaration: &Declaration<D>, at: Wor
     is_told.then_some(named)
 }
 
+/// Where the bound of a pointer was lost: behind an instruction, on the way to an address, and why.
+#[derive(Clone, Copy)]
+struct LostBound {
+    from: Word,
+    to: Word,
+    loss: Loss,
+}
+
 /// Looks at the addresses from which a run may come to this one: gives the first where the bound of the
 /// pointer is lost, and adds the others to the list.
 fn step_back<A: Allocator, D: Allocator, C: Allocator>(
@@ -37,7 +47,7 @@ fn step_back<A: Allocator, D: Allocator, C: Allocator>(
     draft: &Certificate<C>,
     pointer: Word,
     here: Word,
-) -> Result<Option<(Word, Loss)>, AllocError> {
+) -> Result<Option<LostBound>, AllocError> {
     let mut behind = Fact::any();
     let mut before = Fact::any();
     if !draft.fact_into(here, &mut behind) {
@@ -52,7 +62,11 @@ fn step_back<A: Allocator, D: Allocator, C: Allocator>(
             continue;
         }
         if let Some(loss) = loss_at(&before, from, word, &behind, here, pointer) {
-            return Ok(Some((from, loss)));
+            return Ok(Some(LostBound {
+                from,
+                to: here,
+                loss,
+            }));
         }
         if !seen.iter().any(|other| *other == from) {
             seen.push(from)?;
@@ -70,7 +84,7 @@ fn lost_before<A: Allocator + Copy, D: Allocator, C: Allocator>(
     draft: &Certificate<C>,
     pointer: Word,
     at: Word,
-) -> Result<Option<(Word, Loss)>, AllocError> {
+) -> Result<Option<LostBound>, AllocError> {
     let mut seen = Vec::new(alloc);
     seen.push(at)?;
     for index in 0..ADDRESSES {
@@ -112,16 +126,78 @@ pub fn push_bound<A: Allocator + Copy, L: Lines, D: Allocator, C: Allocator>(
     text.push_text(b" may hold ")?;
     push_set(text, &narrowed(&fact, &Location::Cell(pointer)))?;
     text.push_text(b" there\n")?;
-    let Some((from, loss)) = lost_before(alloc, image, declaration, draft, pointer, at)? else {
+    let Some(lost) = lost_before(alloc, image, declaration, draft, pointer, at)? else {
         return Ok(());
     };
-    push_text_and_address(text, b"the bound of ", pointer)?;
-    push_text_and_address(text, b" was lost at ", from)?;
-    text.push_text(b" ")?;
-    if let Some(word) = image.get(from) {
-        text.push_text(name(word, declaration.profile()).as_str().as_bytes())?;
+    push_lost(alloc, text, image, declaration, draft, pointer, &lost)
+}
+
+/// Adds the relation that a loop loses, if the bound was lost where paths meet and there is one; otherwise where the
+/// bound was lost, and why.
+fn push_lost<A: Allocator + Copy, L: Lines, D: Allocator, C: Allocator>(
+    alloc: A,
+    text: &mut L,
+    image: &Image,
+    declaration: &Declaration<D>,
+    draft: &Certificate<C>,
+    pointer: Word,
+    lost: &LostBound,
+) -> Result<(), AllocError> {
+    if lost.loss != Loss::Meeting {
+        return push_loss(text, image, declaration, pointer, lost);
     }
+    let (from, head) = (lost.from, lost.to);
+    let found = lost_relation(alloc, image, declaration, draft, pointer, from, head)?;
+    match found {
+        Some((relation, at)) => push_relation(text, image, declaration, &relation, at),
+        None => push_loss(text, image, declaration, pointer, lost),
+    }
+}
+
+/// Adds the name of the word at an address, if the tape has one.
+fn push_name<L: Lines, D: Allocator>(
+    text: &mut L,
+    image: &Image,
+    declaration: &Declaration<D>,
+    at: Word,
+) -> Result<(), AllocError> {
+    match image.get(at) {
+        Some(word) => text.push_text(name(word, declaration.profile()).as_str().as_bytes()),
+        None => Ok(()),
+    }
+}
+
+/// Adds a relation that a loop keeps on one way, and the instruction at which it is lost on another.
+fn push_relation<L: Lines, D: Allocator>(
+    text: &mut L,
+    image: &Image,
+    declaration: &Declaration<D>,
+    relation: &Relation,
+    at: Word,
+) -> Result<(), AllocError> {
+    push_text_and_address(text, b"", relation.pointer)?;
+    push_text_and_address(text, b" = ", relation.cell)?;
+    text.push_text(b" + ")?;
+    text.push_text(&relation.more.to_octal())?;
+    push_text_and_address(text, b" holds until ", at)?;
+    text.push_text(b" ")?;
+    push_name(text, image, declaration, at)?;
+    text.push_text(b"\n")
+}
+
+/// Adds where the bound of a pointer was lost, and why.
+fn push_loss<L: Lines, D: Allocator>(
+    text: &mut L,
+    image: &Image,
+    declaration: &Declaration<D>,
+    pointer: Word,
+    lost: &LostBound,
+) -> Result<(), AllocError> {
+    push_text_and_address(text, b"the bound of ", pointer)?;
+    push_text_and_address(text, b" was lost at ", lost.from)?;
+    text.push_text(b" ")?;
+    push_name(text, image, declaration, lost.from)?;
     text.push_text(b": ")?;
-    text.push_text(loss.told())?;
+    text.push_text(lost.loss.told())?;
     text.push_text(b"\n")
 }

@@ -183,6 +183,7 @@ fn watched_with_operator<A: Allocator + Copy>(
         &mut plan.source(2, b"\x00\x01"),
         &mut plan.source(3, b"A"),
         session(),
+        None,
         false,
         out,
     )

@@ -4,8 +4,6 @@
 #![tactic(auto)]
 
 #[cfg(test)]
-mod desk;
-#[cfg(test)]
 mod failing;
 #[cfg(test)]
 mod faults;
@@ -13,3 +11,5 @@ mod faults;
 mod fixtures;
 #[cfg(test)]
 mod program;
+#[cfg(test)]
+mod runtime;

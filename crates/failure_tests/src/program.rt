@@ -1,6 +1,6 @@
 //! The whole program where a file or a stream fails: what is written until then, what is told and the status.
 
-use crate::desk::{ROOMY, Rooms, run_program};
+use crate::runtime::{ROOMY, Rooms, run_program};
 
 /// Words with a file of which a read fails after some bytes.
 const FAILING_READS: [&str; 24] = [

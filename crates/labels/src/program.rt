@@ -5,7 +5,7 @@ ghost use Rattle.bin_tape.specs.Image.{IsEmptyImage};
 ghost use Rattle.bin_tape.specs.Written.{written_tape};
 ghost use Rattle.pal_acts.specs.Permanent.{permanent_symbols};
 ghost use Rattle.pal_asm.specs.Sources.{texts, Means};
-ghost use Rattle.pal_asm.specs.Programs.{symbols_in, image_in};
+ghost use Rattle.pal_asm.specs.Programs.{symbols_in, image_in, mapped_symbols, mapped_image};
 ghost use Rattle.labels.specs.Within.{machine};
 ghost use Rattle.labels.specs.Programs.{IsEmptyFault, IsNumbered, IsNumberingFault, IsSourceFault, placing_fault};
 
@@ -13,17 +13,19 @@ use crate::fault::PlaceFault;
 use crate::placing::place;
 use crate::within::machine_of;
 use bin_tape::{Image, WriteTapeFault, write_tape};
-use pal_asm::{AssembleFault, PalFault, Translation, translate};
+use pal_asm::{AssembleFault, PalFault, SourceMap, Translation, map_source, translate};
 use std::alloc::Allocator;
 use streams::{ByteSink, Failed};
 
-/// A program's tape, and its declaration in numbers.
+/// A program's tape, its declaration in numbers, and the source with its lines.
 #[derive(Drop)]
-pub struct Numbered<A: Allocator> {
+pub struct Numbered<A: Allocator + Copy> {
     /// The tape's frames.
     pub tape: Vec<u8, A>,
     /// The declaration's text.
     pub declaration: Vec<u8, A>,
+    /// What the source says of each word.
+    pub map: SourceMap<A>,
 }
 
 /// Why a source and its declaration are refused.
@@ -104,6 +106,24 @@ pub(crate) fn translation_of<A: Allocator + Copy>(
     }
 }
 
+/// The same with the source's lines.
+fn mapped<A: Allocator + Copy>(
+    alloc: A,
+    parts: &[&[u8]],
+    declaration: &[u8],
+) -> Result<SourceMap<A>, NumberingFault>
+    ensures means { IfOk result (λ map. Means
+        (permanent_symbols (machine declaration.now)) (texts parts.now)
+        (mapped_symbols map) (mapped_image map)) }
+    ensures refused { IfErr result (IsSourceFault (machine declaration.now) (texts parts.now)) }
+{
+    match map_source(alloc, parts, machine_of(declaration)) {
+        Ok(map) => Ok(map),
+        Err(AssembleFault::Source(fault)) => Err(NumberingFault::Source(fault)),
+        Err(AssembleFault::NoMemory) => Err(NumberingFault::NoMemory),
+    }
+}
+
 /// What a fault of a declaration is for a source and its declaration.
 fn placing_fault(fault: PlaceFault) -> NumberingFault
     ensures { result ≡ placing_fault fault }
@@ -124,10 +144,14 @@ fn numbered_of<A: Allocator + Copy>(
         numbered.tape.items numbered.declaration.items) }
     ensures refused { IfErr result (IsNumberingFault (texts parts.now) declaration.now) }
 {
-    let translation = translation_of(alloc, parts, declaration)?;
-    let tape = tape_of(alloc, translation.image())?;
-    match place(alloc, declaration, translation.symbols()) {
-        Ok(declaration) => Ok(Numbered { tape, declaration }),
+    let map = mapped(alloc, parts, declaration)?;
+    let tape = tape_of(alloc, map.image())?;
+    match place(alloc, declaration, map.symbols()) {
+        Ok(declaration) => Ok(Numbered {
+            tape,
+            declaration,
+            map,
+        }),
         Err(fault) => Err(placing_fault(fault)),
     }
 }

@@ -8,3 +8,8 @@ pub mod WatchedSessionLemmas
 pub mod HeldLemmas
 pub mod TypistLemmas
 pub mod TeletypeLemmas
+pub mod ContinuedLemmas
+pub mod StopLemmas
+pub mod StoppingLemmas
+pub mod StopLawLemmas
+pub mod LastLemmas

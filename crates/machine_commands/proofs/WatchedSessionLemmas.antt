@@ -13,7 +13,8 @@ use Rattle.command_parts.specs.Messages.{plain}
 use Rattle.command_parts.specs.declared.status.Fault.{Fault}
 use Rattle.machine_commands.specs.Follows.{goes_on}
 use Rattle.machine_commands.specs.Running.{fresh}
-use Rattle.machine_commands.specs.Schedule.{Comes, Over, Final, Then, Place, Whole, operating}
+use Rattle.machine_commands.specs.Continued.{ComesOn, IsContinuedWatch}
+use Rattle.machine_commands.specs.Schedule.{Comes, Over, Final, Then, Place, Whole, first_place, operating}
 use Rattle.machine_commands.specs.Session.{comes_by}
 use Rattle.machine_commands.specs.WatchText.{IsWatchOf}
 use Rattle.machine_commands.specs.declared.messages.RunMessage.{RunMessage}
@@ -52,7 +53,7 @@ gathered_all p plan now last w x events gathered is = rw (append-nil events) at 
 -- what is told of the events of a plan is told of the plan
 pub plan_watched : {A : Type 0} (plan : Plan) (image : List (Option ℕ)) (d : Declaration) (explained : Bool) (named : ℕ → Bool) (p : Profile) (w : WorldState) (events : List Event) (result : Result (RunMessage A) Fault) →
     p ≡ d.profile → w ≡ fresh image d.start → comes_by plan p w Whole events → IfOk result (λ run. IsWatchOf explained named image d events run.status (plain run.told)) →
-    IfOk result (λ run. IsPlanWatchedSo plan image d explained named (plain run.told) run.status)
+    IfOk result (λ run. IsPlanWatchedSo None plan image d explained named (plain run.told) run.status)
 plan_watched plan image d explained named p w events (Ok run) profile begins come seen = record {
   events = events;
   come = rw (profile, begins) at come;
@@ -62,6 +63,20 @@ plan_watched plan image d explained named p w events (Ok run) profile begins com
   status_is = seen.status_is;
 }
 plan_watched plan image d explained named p w events (Err f) profile begins come seen = tt
+
+-- and so it is for a run that goes on at pauses
+pub plan_continued : {A : Type 0} (n : ℕ) (plan : Plan) (image : List (Option ℕ)) (d : Declaration) (explained : Bool) (named : ℕ → Bool) (w : WorldState) (events : List Event) (result : Result (RunMessage A) Fault) →
+    w ≡ fresh image d.start → ComesOn d n (first_place plan) w events → IfOk result (λ run. IsContinuedWatch n explained named image d events run.status (plain run.told)) →
+    IfOk result (λ run. IsPlanWatchedSo (Some n) plan image d explained named (plain run.told) run.status)
+plan_continued n plan image d explained named w events (Ok run) begins come seen = record {
+  events = events;
+  come = rw begins at come;
+  watched = seen.watched;
+  sees = seen.sees;
+  is = seen.is;
+  status_is = seen.status_is;
+}
+plan_continued n plan image d explained named w events (Err f) begins come seen = tt
 
 -- a test that was turned round
 pub not_back : (a b : Bool) → not a ≡ b → a ≡ not b

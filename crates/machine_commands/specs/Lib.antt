@@ -3,10 +3,16 @@ pub mod Follows
 pub mod Summary
 pub mod Course
 pub mod Running
+pub mod Stops
+pub mod Stopping
+pub mod StopLaws
+pub mod Last
 pub mod WatchText
 pub mod RefuteText
 pub mod Session
 pub mod SessionParts
+pub mod Continued
+pub mod ContinuedParts
 pub mod WatchedSession
 pub mod Schedule
 pub mod Typing

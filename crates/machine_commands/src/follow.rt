@@ -28,6 +28,8 @@ pub enum End {
     Unsupported(Word),
     /// The rounds or the events were used up, and the program counter has this address.
     Bound(Word),
+    /// The run was stopped as it was asked to be, before the instruction at this address.
+    Stopped(Word),
 }
 
 /// How far a run came.

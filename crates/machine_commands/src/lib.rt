@@ -2,7 +2,10 @@
 //! run that breaks its declaration.
 #![tactic(auto)]
 
+mod continuing;
 pub mod follow;
+pub mod last;
+pub mod laws;
 pub mod messages;
 mod progress;
 pub mod refuting;
@@ -10,6 +13,8 @@ pub mod running;
 mod schedule;
 pub mod session;
 mod shown;
+pub mod stopping;
+mod stops;
 pub mod summary;
 pub mod teletype;
 mod trace;

@@ -1,18 +1,23 @@
 //! What is told of runs, with its addresses marked for whoever has the program's source. The commands write the same
 //! as plain text.
 
-ghost use Rattle.std.specs.Prelude.{◌≡◌, [], false, IfOk, IfErr, IfSome};
+ghost use Rattle.std.specs.Prelude.{◌≡◌, [], false, None, Some, IfOk, IfErr, IfSome, IfNone};
 ghost use Rattle.wordset.specs.Lanes.{words};
 ghost use Rattle.declaration.specs.Kept.{meaning};
 ghost use Rattle.peripherals.specs.Loading.{image_of};
+ghost use Rattle.peripherals.specs.Operator.{plan_of};
+ghost use Rattle.peripherals.specs.World.{profile_of, view};
 ghost use Rattle.refuter.specs.Witnesses.{Breaks, IsLast, IsSpelled};
 ghost use Rattle.command_parts.specs.Answers.{IsMemoryFault};
 ghost use Rattle.command_parts.specs.Messages.{plain};
+ghost use Rattle.machine_commands.specs.Continued.{IsContinuedWatch, IsToldHowFar};
 ghost use Rattle.machine_commands.specs.RefuteText.{IsRefutationOf, IsWitnessOf, unbroken_text};
+ghost use Rattle.machine_commands.specs.Running.{fresh};
 ghost use Rattle.machine_commands.specs.Session.{plan_for};
 ghost use Rattle.machine_commands.specs.WatchText.{IsTold, IsToldWithCells, IsWatchOf, broken_text, watched_status, watched_text};
 ghost use Rattle.machine_commands.specs.WatchedSession.{IsPlanWatchedSo};
 
+use crate::continuing::{continued_events_of, how_far_line};
 use crate::progress::{Offered, offered_by, progress_lines};
 use crate::schedule::events_of;
 use crate::shown::shown_of;
@@ -90,7 +95,10 @@ fn broken_line<A: Allocator>(alloc: A, event: usize, rule: Rule) -> Result<Vec<u
 }
 
 /// The line that says what was seen.
-fn watched_line<A: Allocator>(alloc: A, watched: Watched) -> Result<Vec<u8, A>, AllocError>
+pub(crate) fn watched_line<A: Allocator>(
+    alloc: A,
+    watched: Watched,
+) -> Result<Vec<u8, A>, AllocError>
     ensures { IfOk result (λ text. text.items ≡ watched_text watched) }
 {
     match watched {
@@ -103,10 +111,12 @@ fn watched_line<A: Allocator>(alloc: A, watched: Watched) -> Result<Vec<u8, A>, 
     }
 }
 
-/// The line that says in how many steps nothing was found.
-pub(crate) fn unbroken_line<A: Allocator>(alloc: A, steps: u32) -> Result<Vec<u8, A>, AllocError>
-    ensures { IfOk result (λ text. text.items ≡ unbroken_text steps) }
+/// The line that says in how many steps nothing was found: a turn is a step, and all turns are spent.
+pub(crate) fn unbroken_line<A: Allocator>(alloc: A, turns: &Turns) -> Result<Vec<u8, A>, AllocError>
+    requires { turns.now.spent ≡ turns.now.limit }
+    ensures { IfOk result (λ text. text.items ≡ unbroken_text turns.now.limit) }
 {
+    let steps = turns.spent();
     let mut text = Vec::new(alloc);
     text.extend_from_slice(b"not broken in ")?;
     text.extend_from_slice(Buffer::new().format(steps).as_bytes())?;
@@ -249,7 +259,126 @@ pub fn watch_message<A: Allocator + Copy, D: Allocator>(
     watch_offered(alloc, image, declaration, events, offered, explained, show)
 }
 
-/// What `watch` tells of a run with an operator, by the frames in the reader and the keys to strike.
+/// What is told of a run that goes on at declared pauses: how far it went or the rule that is broken, and behind it, if it
+/// is to be explained, more about that, and the cells that are to be shown.
+fn continued_lines<A: Allocator + Copy, D: Allocator>(
+    alloc: A,
+    image: &Image,
+    declaration: &Declaration<D>,
+    events: &[Event],
+    offered: Offered,
+    watched: Watched,
+    continues: u32,
+    explained: bool,
+    show: &WordSet,
+) -> Result<Message<A>, NoMemory>
+    ensures { IfOk result (λ text. IsToldHowFar continues image.now (meaning declaration.now) events.now
+        watched explained (words show.now) (plain text)) }
+{
+    let line = how_far_line(alloc, image, declaration, events, watched, continues)?;
+    let mut text = Message::of(alloc, line);
+    let why = why_of(
+        alloc,
+        image,
+        declaration,
+        events,
+        offered,
+        watched,
+        explained,
+    )?;
+    text.push_message(&why)?;
+    let shown = shown_of(alloc, image, declaration, events, watched, show)?;
+    text.push_text(&shown)?;
+    Ok(text)
+}
+
+/// What is told of the events of a run that goes on at declared pauses.
+fn watch_continued<A: Allocator + Copy, D: Allocator>(
+    alloc: A,
+    image: &Image,
+    declaration: &Declaration<D>,
+    events: &[Event],
+    offered: Offered,
+    continues: u32,
+    explained: bool,
+    show: &WordSet,
+) -> Result<RunMessage<A>, Fault>
+    ensures told { IfOk result (λ run. IsContinuedWatch continues explained (words show.now) image.now
+        (meaning declaration.now) events.now run.status (plain run.told)) }
+    ensures faults { IfErr result IsMemoryFault }
+{
+    let watched = policy::watch(alloc, image, declaration, &Start::zero(), events)?;
+    let told = continued_lines(
+        alloc,
+        image,
+        declaration,
+        events,
+        offered,
+        watched,
+        continues,
+        explained,
+        show,
+    )?;
+    let status = watched_status(watched);
+    Ok(RunMessage { told, status })
+}
+
+/// What is told of the run that an operator brings from here on, which ends at the first HLT.
+fn watch_to_halt<A: Allocator + Copy, B: Allocator, D: Allocator>(
+    alloc: A,
+    image: &Image,
+    declaration: &Declaration<D>,
+    world: &mut World<B>,
+    operator: &mut Operator<'_>,
+    offered: Offered,
+    explained: bool,
+    show: &WordSet,
+) -> Result<RunMessage<A>, Fault>
+    requires first { operator.old.last ≡ None }
+    requires profile { profile_of world.old ≡ (meaning declaration.now).profile }
+    requires begins { view world.old ≡ fresh image.now (meaning declaration.now).start }
+    ensures told { IfOk result (λ run. IsPlanWatchedSo None (plan_of operator.old) image.now
+        (meaning declaration.now) explained (words show.now) (plain run.told) run.status) }
+    ensures faults { IfErr result IsMemoryFault }
+{
+    let events = events_of(alloc, world, operator)?;
+    watch_offered(alloc, image, declaration, &events, offered, explained, show)
+}
+
+/// What is told of the run that an operator brings from here on, who presses CONTINUE at declared pauses.
+fn watch_past_pauses<A: Allocator + Copy, B: Allocator, D: Allocator>(
+    alloc: A,
+    image: &Image,
+    declaration: &Declaration<D>,
+    world: &mut World<B>,
+    operator: &mut Operator<'_>,
+    offered: Offered,
+    continues: u32,
+    explained: bool,
+    show: &WordSet,
+) -> Result<RunMessage<A>, Fault>
+    requires first { operator.old.last ≡ None }
+    requires profile { profile_of world.old ≡ (meaning declaration.now).profile }
+    requires begins { view world.old ≡ fresh image.now (meaning declaration.now).start }
+    ensures told { IfOk result (λ run. IsPlanWatchedSo (Some continues) (plan_of operator.old) image.now
+        (meaning declaration.now) explained (words show.now) (plain run.told) run.status) }
+    ensures faults { IfErr result IsMemoryFault }
+{
+    let events = continued_events_of(alloc, world, operator, declaration, continues)?;
+    watch_continued(
+        alloc,
+        image,
+        declaration,
+        &events,
+        offered,
+        continues,
+        explained,
+        show,
+    )
+}
+
+/// What `watch` tells of a run with an operator, by the frames in the reader and the keys to strike. With a number of
+/// times the operator presses CONTINUE at declared pauses, at most so many times.
 ///
 /// # Errors
 ///
@@ -262,20 +391,16 @@ pub fn watch_session_message<A: Allocator + Copy, D: Allocator>(
     frames: &[u8],
     keys: &[u8],
     options: &SessionOptions,
+    continues: Option<u32>,
     explained: bool,
 ) -> Result<RunMessage<A>, Fault>
-    ensures told { IfOk result (λ run. IsPlanWatchedSo (plan_for options.now frames.now keys.now)
-        image.now (meaning declaration.now) explained (words options.now.run.show) (plain run.told)
-        run.status) }
+    ensures told { IfOk result (λ run. IsPlanWatchedSo continues
+        (plan_for options.now frames.now keys.now) image.now (meaning declaration.now) explained
+        (words options.now.run.show) (plain run.told) run.status) }
     ensures faults { IfErr result IsMemoryFault }
 {
-    let mut operator = Operator::new(
-        options.switches,
-        options.run.rounds,
-        frames,
-        keys,
-        options.mark,
-    );
+    let (rounds, mark) = (options.run.rounds, options.mark);
+    let mut operator = Operator::new(options.switches, rounds, frames, keys, mark);
     let mut world = World::load(
         alloc,
         image,
@@ -283,13 +408,35 @@ pub fn watch_session_message<A: Allocator + Copy, D: Allocator>(
         &Start::zero(),
         declaration.profile(),
     );
-    let events = events_of(alloc, &mut world, &mut operator)?;
     let offered = Offered {
         frames: frames.len(),
         keys: keys.len(),
     };
     let show = &options.run.show;
-    watch_offered(alloc, image, declaration, &events, offered, explained, show)
+    let (world, operator) = (&mut world, &mut operator);
+    match continues {
+        None => watch_to_halt(
+            alloc,
+            image,
+            declaration,
+            world,
+            operator,
+            offered,
+            explained,
+            show,
+        ),
+        Some(times) => watch_past_pauses(
+            alloc,
+            image,
+            declaration,
+            world,
+            operator,
+            offered,
+            times,
+            explained,
+            show,
+        ),
+    }
 }
 
 /// The text of the events of a run that breaks the declaration, and what is told of it.
@@ -327,20 +474,23 @@ fn witness_message<A: Allocator + Copy, D: Allocator>(
     Ok(ToldWitness { events: text, told })
 }
 
-/// Looks for a run that breaks the declaration, and says what is told of it if one is found.
+/// Looks for a run that breaks the declaration, and says what is told of it if one is found. Where none is found all
+/// turns are spent.
 pub(crate) fn told_witness<A: Allocator + Copy, D: Allocator>(
     alloc: A,
     image: &Image,
     declaration: &Declaration<D>,
     options: &RefuteOptions,
+    turns: &mut Turns,
 ) -> Result<Option<ToldWitness<A>>, Fault>
     ensures told { IfOk result (λ found. IfSome found (λ told. IsWitnessOf options.now.explained
         image.now (meaning declaration.now) told.events.items (plain told.told))) }
+    ensures spent { IfOk result (λ found. IfNone found (turns.new.spent ≡ turns.new.limit)) }
+    ensures limit { turns.new.limit ≡ turns.old.limit }
     ensures faults { IfErr result IsMemoryFault }
 {
-    let mut turns = Turns::new(options.steps);
     let seed = u64::from(options.seed);
-    match refute_within(alloc, image, declaration, seed, &mut turns)? {
+    match refute_within(alloc, image, declaration, seed, turns)? {
         None => Ok(None),
         Some(found) => {
             match witness_message(alloc, image, declaration, found, options.explained) {
@@ -367,7 +517,8 @@ pub fn refute_message<A: Allocator + Copy, D: Allocator>(
         (meaning declaration.now) found.status found.events.items (plain found.told)) }
     ensures faults { IfErr result IsMemoryFault }
 {
-    match told_witness(alloc, image, declaration, options) {
+    let mut turns = Turns::new(options.steps);
+    match told_witness(alloc, image, declaration, options, &mut turns) {
         Ok(Some(found)) => {
             let ToldWitness { events, told } = found;
             let status = Status::Refused;
@@ -378,7 +529,7 @@ pub fn refute_message<A: Allocator + Copy, D: Allocator>(
             })
         }
         Ok(None) => {
-            let line = unbroken_line(alloc, options.steps)?;
+            let line = unbroken_line(alloc, &turns)?;
             Ok(RefutationMessage {
                 events: Vec::new(alloc),
                 told: Message::of(alloc, line),

@@ -14,6 +14,7 @@ use command_parts::programs::program_from;
 use command_parts::status::{Fault, Status};
 use std::alloc::Allocator;
 use streams::{ByteSink, ByteSource, put};
+use turns::Turns;
 
 /// Looks for a run of a tape's program that breaks its declaration, and writes it: to `out` the text
 /// of its events, of which the last one breaks a rule, and to `report` the line that `watch` writes
@@ -76,8 +77,9 @@ pub fn refute<A: Allocator + Copy, R: ByteSource, D: ByteSource, W: ByteSink, P:
 {
     let program = program_from(alloc, tape, declaration)?;
     let (image, promised) = (&program.image, &program.declaration);
-    let Some(found) = told_witness(alloc, image, promised, &options)? else {
-        let line = unbroken_line(alloc, options.steps)?;
+    let mut turns = Turns::new(options.steps);
+    let Some(found) = told_witness(alloc, image, promised, &options, &mut turns)? else {
+        let line = unbroken_line(alloc, &turns)?;
         put(report, &line)?;
         return Ok(Status::Done);
     };

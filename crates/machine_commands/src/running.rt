@@ -28,13 +28,13 @@ pub(crate) fn status_of(end: End) -> Status
 {
     match end {
         End::Unsupported(_) => Status::Refused,
-        End::Halted(_) | End::Bound(_) => Status::Done,
+        End::Halted(_) | End::Bound(_) | End::Stopped(_) => Status::Done,
     }
 }
 
 /// Lets an image's machine go through a course, and writes the trace, if it is asked for, the summary,
 /// and the cells that are to be shown.
-fn run_course<A: Allocator + Copy, W: ByteSink>(
+pub(crate) fn run_course<A: Allocator + Copy, W: ByteSink>(
     alloc: A,
     image: &Image,
     options: RunOptions,

@@ -103,14 +103,14 @@ impl Scheduler for Operator<'_> {
 }
 
 /// Adds an event.
-fn keep<A: Allocator>(events: &mut Vec<Event, A>, event: &Event) -> Result<(), NoMemory>
+pub(crate) fn keep<A: Allocator>(events: &mut Vec<Event, A>, event: &Event) -> Result<(), NoMemory>
     ensures { OnOk result (events.new.items ≡ events.old.items ++ event.now ∷ []) }
 {
     events.push(*event).map_err(|_| NoMemory)
 }
 
 /// Whether a run ends with what was seen: at a halt and at an unsupported word.
-fn ends(seen: &Seen) -> bool
+pub(crate) fn ends(seen: &Seen) -> bool
     ensures { result ≡ not (goes_on true seen.now) }
 {
     matches!(seen, Seen::Halted | Seen::Unsupported(_))

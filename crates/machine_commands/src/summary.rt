@@ -27,6 +27,7 @@ fn push_end<A: Allocator>(text: &mut Vec<u8, A>, end: End) -> Result<(), AllocEr
         End::Unsupported(at) => push_place(text, b"UNSUPPORTED ", at),
         End::Halted(at) => push_place(text, b"HALT ", at),
         End::Bound(at) => push_place(text, b"BOUND ", at),
+        End::Stopped(at) => push_place(text, b"STOPPED ", at),
     }
 }
 
@@ -182,7 +183,7 @@ pub(crate) fn push_shown<A: Allocator, B: Allocator>(
 }
 
 /// Adds the summary of a run, and behind it the cells that are to be shown.
-fn push_closing<A: Allocator, B: Allocator>(
+pub(crate) fn push_closing<A: Allocator, B: Allocator>(
     text: &mut Vec<u8, A>,
     outcome: &RunOutcome,
     world: &World<B>,

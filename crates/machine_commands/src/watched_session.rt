@@ -27,23 +27,33 @@ fn write_watched<A: Allocator + Copy, D: Allocator, W: ByteSink>(
     frames: &[u8],
     keys: &[u8],
     options: &SessionOptions,
+    continues: Option<u32>,
     explained: bool,
     out: &mut W,
 ) -> Result<Status, Fault>
     requires writable { W.mark out.old ≡ false }
     ensures watched { IfOk result (λ status. Writes
-        (λ told. IsPlanWatchedSo (plan_for options.now frames.now keys.now) image.now
+        (λ told. IsPlanWatchedSo continues (plan_for options.now frames.now keys.now) image.now
         (meaning declaration.now) explained (words options.now.run.show) told status)
         (W.taken out.old) (W.taken out.new)) }
     ensures faults { IfErr result IsRunFault }
     ensures front { W.mark out.new ≡ true → FrontOf
-        (IsPlanWatched (plan_for options.now frames.now keys.now) image.now
+        (IsPlanWatched continues (plan_for options.now frames.now keys.now) image.now
         (meaning declaration.now) explained (words options.now.run.show))
         (W.taken out.old) (W.taken out.new) }
     ensures nothing { OnErr result (W.mark out.new ≡ false → W.taken out.new ≡ W.taken out.old) }
     ensures marks { W.mark out.new ≡ fails_to_write result }
 {
-    match watch_session_message(alloc, image, declaration, frames, keys, options, explained) {
+    match watch_session_message(
+        alloc,
+        image,
+        declaration,
+        frames,
+        keys,
+        options,
+        continues,
+        explained,
+    ) {
         Ok(seen) => {
             put(out, seen.told.as_bytes())?;
             Ok(seen.status)
@@ -54,8 +64,10 @@ fn write_watched<A: Allocator + Copy, D: Allocator, W: ByteSink>(
 
 /// Watches the run of a tape that an operator brings, on the declared machine and from the declared
 /// start: the events that `run_session` makes of the same frames, keys and options. Of the options the
-/// start, the machine and the trace aren't looked at. It writes as `watch` does of a list of these
-/// events.
+/// start, the machine and the trace aren't looked at. With a number of times the operator also presses
+/// CONTINUE at declared pauses, at most so many times, and the round goes on; without one the run ends at
+/// the first HLT. It writes as `watch` does of a list of these events, and with a number the line of a clean
+/// run says how far it went.
 ///
 /// # Errors
 ///
@@ -77,6 +89,7 @@ pub fn watch_session<
     reader: &mut F,
     keys: &mut K,
     options: SessionOptions,
+    continues: Option<u32>,
     explained: bool,
     out: &mut W,
 ) -> Result<Status, Fault>
@@ -87,7 +100,7 @@ pub fn watch_session<
     requires writable { W.mark out.old ≡ false }
     // What is written is what is seen of the run.
     ensures watched { IfOk result (λ status. Writes
-        (λ told. IsSessionWatchedSo options (R.remaining tape.old) (D.remaining declaration.old)
+        (λ told. IsSessionWatchedSo options continues (R.remaining tape.old) (D.remaining declaration.old)
         (F.remaining reader.old) (K.remaining keys.old) explained told status)
         (W.taken out.old) (W.taken out.new)) }
     // A fault is that of the first input that has one.
@@ -98,7 +111,7 @@ pub fn watch_session<
         (input (K.mark keys.new) (K.remaining keys.old) (K.remaining keys.new))) }
     // Where a write failed, a front of that went out,
     ensures front { W.mark out.new ≡ true → FrontOf
-        (IsSessionWatched options (R.remaining tape.old) (D.remaining declaration.old)
+        (IsSessionWatched options continues (R.remaining tape.old) (D.remaining declaration.old)
         (F.remaining reader.old) (K.remaining keys.old) explained)
         (W.taken out.old) (W.taken out.new) }
     // and any other fault leaves the output as it was.
@@ -139,6 +152,6 @@ pub fn watch_session<
     let frames = bytes_from(alloc, reader, options.run.rounds)?;
     let struck = bytes_from(alloc, keys, options.run.rounds)?;
     write_watched(
-        alloc, &image, &promised, &frames, &struck, &options, explained, out,
+        alloc, &image, &promised, &frames, &struck, &options, continues, explained, out,
     )
 }

@@ -1,6 +1,7 @@
--- What a program and a translation are, as their calls show it.
+-- What a program, a translation and a map are, as their calls show it.
 use Rattle.std.specs.Prelude.{ℕ, List, Option}
 use Rattle.pal_text.specs.declared.names.Name.{Name}
+use Rattle.pal_asm.specs.declared.map.SourceMap.{SourceMap}
 use Rattle.pal_asm.specs.declared.program.Program.{Program}
 use Rattle.pal_asm.specs.declared.translation.Translation.{Translation}
 
@@ -23,3 +24,11 @@ symbols_in t = t.own.entries
 -- The image of a translation.
 abbrev pub image_in : {A : Type 0} → Translation A → List (Option ℕ)
 image_in t = t.image
+
+-- The own symbols of a source that is mapped.
+abbrev pub mapped_symbols : {A : Type 0} → SourceMap A → List (Name × ℕ)
+mapped_symbols m = m.own.entries
+
+-- The image of a source that is mapped.
+abbrev pub mapped_image : {A : Type 0} → SourceMap A → List (Option ℕ)
+mapped_image m = m.image

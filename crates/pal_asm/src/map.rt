@@ -1,19 +1,20 @@
-//! What a source means with what it says of each word: the line and its text. It is tested and not proved.
+//! What a source means, which is proved, with what it says of each word: the line and its text, which are tested.
 
-ghost use Rattle.std.specs.Prelude.{◌≡◌, None};
-ghost use Rattle.pal_asm.specs.Sources.{texts, size_fault};
+ghost use Rattle.std.specs.Prelude.{◌≡◌, None, IfOk, IfErr};
+ghost use Rattle.pal_acts.specs.Permanent.{permanent_symbols};
+ghost use Rattle.pal_acts.specs.Sources.{IsSource};
+ghost use Rattle.pal_asm.specs.Kept.{RefusesActs};
+ghost use Rattle.pal_asm.specs.Programs.{mapped_image, mapped_symbols};
+ghost use Rattle.pal_asm.specs.Sources.{Means, Refuses, texts, size_fault};
 
 use crate::fault::AssembleFault;
 use crate::front::Front;
+use crate::program::assemble_words;
 use crate::reading::{Reading, read_source};
 use crate::sizes::fault_of_sizes;
-use crate::translation::fault_of;
 use bin_tape::Image;
 use instruct::Profile;
-use pal_acts::{
-    AssembledWords, PlacedWord, SourcePlace, SymbolTable, Symbols, assemble_with_words,
-    permanent_table,
-};
+use pal_acts::{AssembledWords, PlacedWord, SourcePlace, SymbolTable, Symbols, permanent_table};
 use pal_text::characters::is_character_code;
 use pal_text::lines_of;
 use std::alloc::{AllocError, Allocator};
@@ -39,12 +40,16 @@ pub struct SourceMap<A: Allocator + Copy> {
 
 impl<A: Allocator + Copy> SourceMap<A> {
     /// The words of the program, each at its address.
-    pub fn image(&self) -> &Image {
+    pub fn image(&self) -> &Image
+        ensures { result.now ≡ mapped_image self.now }
+    {
         &self.image
     }
 
     /// The symbols that the source defines with their values, in the order of their definition.
-    pub fn symbols(&self) -> &SymbolTable<A> {
+    pub fn symbols(&self) -> &SymbolTable<A>
+        ensures { result.now.entries ≡ mapped_symbols self.now }
+    {
         &self.own
     }
 
@@ -100,23 +105,45 @@ fn push_part<A: Allocator + Copy>(
     Ok(())
 }
 
+/// The lines of a source, and their texts one after another.
+#[derive(Drop)]
+struct MappedLines<A: Allocator> {
+    lines: Vec<MappedLine, A>,
+    texts: Vec<u8, A>,
+}
+
+/// The lines of these parts.
+fn mapped_lines<A: Allocator + Copy>(
+    alloc: A,
+    fronts: &[Front<'_>],
+) -> Result<MappedLines<A>, AllocError> {
+    let mut lines = Vec::new(alloc);
+    let mut texts = Vec::new(alloc);
+    for front in fronts {
+        push_part(alloc, front, &mut lines, &mut texts)?;
+    }
+    Ok(MappedLines { lines, texts })
+}
+
 /// The map of what was assembled, with the lines of these parts.
 fn map_of<A: Allocator + Copy>(
     alloc: A,
     found: AssembledWords<'_, A>,
     fronts: &[Front<'_>],
-) -> Result<SourceMap<A>, AllocError> {
+) -> Result<SourceMap<A>, AssembleFault>
+    ensures image { IfOk result (λ map. mapped_image map ≡ found.entry.image) }
+    ensures symbols { IfOk result (λ map. mapped_symbols map ≡ found.entry.symbols.own.entries) }
+    ensures memory { IfErr result (λ fault. fault ≡ AssembleFault.NoMemory) }
+{
     let AssembledWords {
         symbols,
         image,
         words,
     } = found;
     let Symbols { own, .. } = symbols;
-    let mut lines = Vec::new(alloc);
-    let mut texts = Vec::new(alloc);
-    for front in fronts {
-        push_part(alloc, front, &mut lines, &mut texts)?;
-    }
+    let Ok(MappedLines { lines, texts }) = mapped_lines(alloc, fronts) else {
+        return Err(AssembleFault::NoMemory);
+    };
     Ok(SourceMap {
         image,
         own,
@@ -126,33 +153,36 @@ fn map_of<A: Allocator + Copy>(
     })
 }
 
-/// What a source means that was read.
+/// What a source means that was read, with its lines, or its fault.
 #[inline(never)]
 fn map_reading<A: Allocator + Copy>(
     alloc: A,
     reading: &Reading<'_, A>,
     profile: Profile,
-) -> Result<SourceMap<A>, AssembleFault> {
+) -> Result<SourceMap<A>, AssembleFault>
+    ensures found { IfOk result (λ map. IsSource (permanent_symbols profile) 1024
+        reading.now.acts (mapped_symbols map) (mapped_image map)) }
+    ensures refused { IfErr result (RefusesActs (permanent_symbols profile) reading.now.acts) }
+{
     let Ok(permanent) = permanent_table(alloc, profile) else {
         return Err(AssembleFault::NoMemory);
     };
-    let found = match assemble_with_words(alloc, &permanent, &reading.acts) {
-        Ok(found) => found,
-        Err(refused) => return Err(fault_of(refused)),
-    };
-    match map_of(alloc, found, &reading.fronts) {
-        Ok(map) => Ok(map),
-        Err(_) => Err(AssembleFault::NoMemory),
+    match assemble_words(alloc, &permanent, &reading.acts) {
+        Ok(found) => map_of(alloc, found, &reading.fronts),
+        Err(fault) => Err(fault),
     }
 }
 
-/// What a source means whose parts aren't too many or too long.
+/// What a source means whose parts aren't too many or too long, with its lines, or its fault.
 fn map_parts<A: Allocator + Copy>(
     alloc: A,
     parts: &[&[u8]],
     profile: Profile,
 ) -> Result<SourceMap<A>, AssembleFault>
     requires { size_fault (texts parts.now) ≡ None }
+    ensures meaning { IfOk result (λ map. Means (permanent_symbols profile) (texts parts.now)
+        (mapped_symbols map) (mapped_image map)) }
+    ensures refused { IfErr result (Refuses (permanent_symbols profile) (texts parts.now)) }
 {
     let Ok(reading) = read_source(alloc, parts) else {
         return Err(AssembleFault::NoMemory);
@@ -170,7 +200,11 @@ pub fn map_source<A: Allocator + Copy>(
     alloc: A,
     parts: &[&[u8]],
     profile: Profile,
-) -> Result<SourceMap<A>, AssembleFault> {
+) -> Result<SourceMap<A>, AssembleFault>
+    ensures meaning { IfOk result (λ map. Means (permanent_symbols profile) (texts parts.now)
+        (mapped_symbols map) (mapped_image map)) }
+    ensures refused { IfErr result (Refuses (permanent_symbols profile) (texts parts.now)) }
+{
     match fault_of_sizes(parts) {
         Some(fault) => Err(AssembleFault::Source(fault)),
         None => map_parts(alloc, parts, profile),

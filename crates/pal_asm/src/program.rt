@@ -72,7 +72,7 @@ impl<A: Allocator + Copy> Program<A> {
 }
 
 /// What acts mean with their words, or their fault at its place.
-fn assemble_words<'p, A: Allocator + Copy>(
+pub(crate) fn assemble_words<'p, A: Allocator + Copy>(
     alloc: A,
     permanent: &'p SymbolTable<A>,
     acts: &Acts<A>,

@@ -2,6 +2,7 @@
 #![tactic(auto)]
 
 use std::fs;
+use std::io::IsTerminal;
 use std::process::ExitCode;
 
 /// What is opened in the place of a standard stream that is closed: it can be neither read nor
@@ -14,5 +15,6 @@ fn main(rt: HostRuntime) -> ExitCode {
         fs::open(&rt, NO_STREAM),
         fs::open(&rt, NO_STREAM),
     ];
-    ExitCode::from(workbench::exit_status(&rt))
+    let at_terminal = rt.reader().is_terminal();
+    ExitCode::from(workbench::exit_status(&rt, at_terminal))
 }

@@ -1,1 +1,2 @@
 pub mod TouchLemmas
+pub mod WidthLemmas

@@ -13,7 +13,13 @@ ghost use Rattle.proposer.specs.Needed.{ReadsAreNeeded};
 ghost use Rattle.proposer.specs.declared.Verdict.TheVariants.{TurnsSpent};
 ghost use Rattle.proposer.specs.Proposals.{AreNeeded, Fits, IsListed, IsShown, IsSpentUp, IsTold, is_safe};
 
+mod evidence;
+mod learning;
+mod obstacles;
+mod sketch;
 mod variables;
+mod widening;
+mod width;
 
 use crate::variables::{lists_needed, read, written};
 use analyser::guess_within;
@@ -22,10 +28,14 @@ use certificate::Certificate;
 pub use control_flow::ObservedRuns;
 use control_flow::{Breadth, Findings, Map, Tape, push_reads, surveyed};
 use declaration::{Declaration, DeclarationFault};
+pub use evidence::Evidence;
 use instruct::Profile;
 use judge::judge;
+pub use learning::Obstacle;
 use std::alloc::Allocator;
 pub use turns::{GuessFault, ProposeFault, Turns};
+pub use widening::{Widening, widened};
+pub use width::{is_alike, keeps_cells};
 use word12::Word;
 use wordset::WordSet;
 
@@ -91,7 +101,7 @@ pub fn propose<A: Allocator + Copy>(
 {
     let tape = Tape::of(image);
     let map = Map::of(&tape, start, profile);
-    let proposal = widened(alloc, &tape, &map, turns)?;
+    let proposal = broadened(alloc, &tape, &map, turns)?;
     if proposal.is_safe() {
         return cut_down(alloc, &tape, &map, proposal, turns);
     }
@@ -226,7 +236,7 @@ fn relisted<A: Allocator + Copy>(
 }
 
 /// The proposal with the fewest variables of those that may be enough, or with the most.
-fn widened<A: Allocator + Copy>(
+fn broadened<A: Allocator + Copy>(
     alloc: A,
     tape: &Tape<'_>,
     map: &Map,

@@ -1,0 +1,2 @@
+pub mod UnsafeLemmas
+pub mod TapeLemmas

@@ -9,6 +9,8 @@ ghost use Rattle.declaration.specs.Kept.{meaning};
 ghost use Rattle.peripherals.specs.Loading.{image_of};
 ghost use Rattle.refuter.specs.Witnesses.{Breaks, IsSpelled, IsLast};
 
+pub mod laws;
+
 use bin_tape::Image;
 use declaration::Declaration;
 use peripherals::{Event, EventsFault, NoMemory, Start, events};

@@ -9,7 +9,7 @@ use Rattle.command_parts.specs.Answers.{IsMemoryFault}
 use Rattle.command_parts.specs.Inputs.{HasDeclaration, HasImage}
 use Rattle.command_parts.specs.declared.status.Fault.{Fault}
 use Rattle.command_parts.specs.declared.status.Fault.TheVariants.{Guess}
-use Rattle.reports.specs.declared.pen.ReportForm.{ReportForm}
+use Rattle.reports.specs.declared.writer.ReportForm.{ReportForm}
 use Rattle.reports.specs.Head.{head_of, stuck_opening}
 
 -- The line of a search that is stuck at an address, as `verify` writes it.

@@ -1,8 +1,8 @@
 -- What stands before the verdict in a report, and right behind it.
 use Rattle.std.specs.Prelude.{ℕ, codes, List, [], Result, Ok, Err}
 use Rattle.judge.specs.declared.judging.Refusal.{Refusal}
-use Rattle.reports.specs.declared.pen.ReportForm.{ReportForm}
-use Rattle.reports.specs.declared.pen.ReportForm.TheVariants.{Text, Page}
+use Rattle.reports.specs.declared.writer.ReportForm.{ReportForm}
+use Rattle.reports.specs.declared.writer.ReportForm.TheVariants.{Text, Page}
 use Rattle.reports.specs.declared.style.TheConstants.{HEAD}
 
 -- Plain text begins with the verdict, a page of HTML with its head: how it looks, and the tag of its heading.

@@ -1,3 +1,4 @@
 pub mod Head
+pub mod Kinds
 pub mod DraftText
 pub mod ReportText

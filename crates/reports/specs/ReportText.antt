@@ -3,7 +3,7 @@ use Rattle.std.specs.Prelude.{ℕ, ◌≡◌, ◌++◌, List, Option}
 use Rattle.certificate.specs.Spelling.{Lines}
 use Rattle.declaration.specs.Declaration.{Declaration}
 use Rattle.command_parts.specs.declared.status.Status.{Status}
-use Rattle.reports.specs.declared.pen.ReportForm.{ReportForm}
+use Rattle.reports.specs.declared.writer.ReportForm.{ReportForm}
 use Rattle.reports.specs.Head.{head_of, opening}
 use Rattle.diagnostics.specs.CheckText.{IsVerdictOf}
 

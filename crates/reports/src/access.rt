@@ -1,7 +1,7 @@
 //! What an instruction may read, write, call and jump to, as far as the fact at its address tells.
 
-use crate::pen::Pen;
 use crate::report::{Kind, Report, place_in};
+use crate::writer::ReportWriter;
 use certificate::RoutineClaim;
 use declaration::Declaration;
 use facts::{Fact, Place, reads, writes};
@@ -39,15 +39,15 @@ pub(crate) fn writes_through<B: Allocator, D: Allocator, C: Allocator>(
 }
 
 /// Writes an item with addresses, if there are any.
-fn write_places<A: Allocator>(pen: &mut Pen<A>, name: &[u8], set: &WordSet) {
+fn write_places<A: Allocator>(writer: &mut ReportWriter<A>, name: &[u8], set: &WordSet) {
     if set.is_empty() {
         return;
     }
-    pen.item(name);
+    writer.item(name);
     if set.is_all() {
-        pen.put(b"any");
+        writer.put(b"any");
     } else {
-        pen.places(set);
+        writer.places(set);
     }
 }
 
@@ -156,17 +156,17 @@ fn access_of<D: Allocator>(
 }
 
 /// Writes what an instruction may do, beside what its name says.
-fn write_each<A: Allocator>(pen: &mut Pen<A>, access: &Access) {
-    write_places(pen, b"reads ", &access.reads);
-    write_places(pen, b"writes ", &access.writes);
-    write_places(pen, b"calls ", &access.calls);
-    write_places(pen, b"jumps to ", &access.jumps);
-    write_places(pen, b"returns to ", &access.returns);
+fn write_each<A: Allocator>(writer: &mut ReportWriter<A>, access: &Access) {
+    write_places(writer, b"reads ", &access.reads);
+    write_places(writer, b"writes ", &access.writes);
+    write_places(writer, b"calls ", &access.calls);
+    write_places(writer, b"jumps to ", &access.jumps);
+    write_places(writer, b"returns to ", &access.returns);
 }
 
 /// Writes what the word of the tape does at an address where no other may stand.
 fn write_fixed<A: Allocator, D: Allocator>(
-    pen: &mut Pen<A>,
+    writer: &mut ReportWriter<A>,
     place: &Place<'_, D>,
     routine: &RoutineClaim,
     fact: &Fact,
@@ -177,15 +177,15 @@ fn write_fixed<A: Allocator, D: Allocator>(
         let mut access = Access::none();
         access.add_indirect(place, routine, fact, at, word);
         access.writes = writes(fact, at, word, place);
-        write_each(pen, &access);
+        write_each(writer, &access);
     } else if stores(place.declaration, word) {
-        write_places(pen, b"writes ", &WordSet::one(target(word, at)));
+        write_places(writer, b"writes ", &WordSet::one(target(word, at)));
     }
 }
 
 /// Writes which words may stand at an address, and what they do, unless they are many.
 fn write_varying<A: Allocator, D: Allocator>(
-    pen: &mut Pen<A>,
+    writer: &mut ReportWriter<A>,
     place: &Place<'_, D>,
     routine: &RoutineClaim,
     fact: &Fact,
@@ -193,19 +193,19 @@ fn write_varying<A: Allocator, D: Allocator>(
 ) {
     let words = place.possible_words(fact, at);
     if words.is_all() {
-        return pen.item(b"may be any word");
+        return writer.item(b"may be any word");
     }
-    pen.item(b"may be ");
-    pen.words(&words);
+    writer.item(b"may be ");
+    writer.words(&words);
     if words.count() <= MOST_WORDS {
-        write_each(pen, &access_of(place, routine, fact, at, &words));
+        write_each(writer, &access_of(place, routine, fact, at, &words));
     }
 }
 
 /// Writes what the words at an address may do: the cells that they write, and where they go and what they read by
 /// indirect references. `routine` is what is claimed about that in whose body they are.
 pub(crate) fn write_access<A: Allocator, B: Allocator, D: Allocator, C: Allocator>(
-    pen: &mut Pen<A>,
+    writer: &mut ReportWriter<A>,
     report: &Report<'_, B, D, C>,
     kind: &Kind,
     routine: &RoutineClaim,
@@ -214,10 +214,10 @@ pub(crate) fn write_access<A: Allocator, B: Allocator, D: Allocator, C: Allocato
 ) {
     let place = place_in(report.image, report.declaration, kind, routine);
     if report.declaration.is_variable(at) {
-        return write_varying(pen, &place, routine, fact, at);
+        return write_varying(writer, &place, routine, fact, at);
     }
     match report.image.get(at) {
-        Some(word) => write_fixed(pen, &place, routine, fact, at, word),
-        None => write_varying(pen, &place, routine, fact, at),
+        Some(word) => write_fixed(writer, &place, routine, fact, at, word),
+        None => write_varying(writer, &place, routine, fact, at),
     }
 }

@@ -1,9 +1,9 @@
 //! The routines as a graph: main above, and each routine below those that call it.
 
 use crate::map::colour_of;
-use crate::pen::Pen;
 use crate::report::{Finding, Report, claimed_of};
 use crate::routines::{write_offsets, write_written};
+use crate::writer::ReportWriter;
 use declaration::{Owner, Routine};
 use std::alloc::{AllocError, Allocator};
 use word12::Word;
@@ -16,7 +16,7 @@ const DOWN: usize = 80;
 
 /// Where a box stands: its row, and its place in the row.
 #[derive(Clone, Copy)]
-struct Spot {
+struct BoxPlace {
     row: usize,
     column: usize,
 }
@@ -27,9 +27,9 @@ const COLUMNS: &[u8] =
 <th>words skipped after the call when it returns\n";
 
 /// The box of main, which is the first.
-const MAIN: Spot = Spot { row: 0, column: 0 };
+const MAIN: BoxPlace = BoxPlace { row: 0, column: 0 };
 
-impl Spot {
+impl BoxPlace {
     /// The middle of the box.
     fn middle(&self) -> usize {
         self.column.saturating_mul(ACROSS).saturating_add(70)
@@ -67,22 +67,22 @@ fn greater(words: &WordSet, word: Word) -> usize {
 fn spots_of<A: Allocator, B: Allocator, D: Allocator, C: Allocator>(
     alloc: A,
     report: &Report<'_, B, D, C>,
-) -> Result<Vec<Spot, A>, AllocError> {
+) -> Result<Vec<BoxPlace, A>, AllocError> {
     let ranks = ranks_of(report);
-    let mut spots = Vec::new(alloc);
+    let mut box_places = Vec::new(alloc);
     for routine in report.declaration.routines() {
         let row = greater(&ranks, rank_of(report, routine.entry())).saturating_add(1);
-        let column = count_in(&spots, row);
-        spots.push(Spot { row, column })?;
+        let column = count_in(&box_places, row);
+        box_places.push(BoxPlace { row, column })?;
     }
-    Ok(spots)
+    Ok(box_places)
 }
 
 /// How many boxes are in a row.
-fn count_in(spots: &[Spot], row: usize) -> usize {
+fn count_in(box_places: &[BoxPlace], row: usize) -> usize {
     let mut count = 0usize;
-    for spot in spots {
-        if spot.row == row {
+    for box_place in box_places {
+        if box_place.row == row {
             count = count.saturating_add(1);
         }
     }
@@ -90,9 +90,9 @@ fn count_in(spots: &[Spot], row: usize) -> usize {
 }
 
 /// The box of the routine at a place in the order of the declaration.
-fn spot_at(spots: &[Spot], place: usize) -> Spot {
-    match spots.get(place) {
-        Some(spot) => *spot,
+fn box_place_at(box_places: &[BoxPlace], place: usize) -> BoxPlace {
+    match box_places.get(place) {
+        Some(box_place) => *box_place,
         None => MAIN,
     }
 }
@@ -119,120 +119,135 @@ fn callers_of<B: Allocator, D: Allocator, C: Allocator>(
 }
 
 /// Writes a line from a caller's box to a callee's.
-fn write_line<A: Allocator>(pen: &mut Pen<A>, caller: &Spot, callee: &Spot) {
-    pen.numbered(b"<path class=l d=\"M", caller.middle());
-    pen.numbered(b" ", caller.top().saturating_add(40));
-    pen.numbered(b"L", callee.middle());
-    pen.numbered(b" ", callee.top());
-    pen.put(b"\" />");
+fn write_line<A: Allocator>(writer: &mut ReportWriter<A>, caller: &BoxPlace, callee: &BoxPlace) {
+    writer.numbered(b"<path class=l d=\"M", caller.middle());
+    writer.numbered(b" ", caller.top().saturating_add(40));
+    writer.numbered(b"L", callee.middle());
+    writer.numbered(b" ", callee.top());
+    writer.put(b"\" />");
 }
 
 /// Writes the lines from the callers of a routine to it.
 fn write_lines<A: Allocator, B: Allocator, D: Allocator, C: Allocator>(
-    pen: &mut Pen<A>,
+    writer: &mut ReportWriter<A>,
     report: &Report<'_, B, D, C>,
-    spots: &[Spot],
+    box_places: &[BoxPlace],
     place: usize,
     routine: &Routine,
 ) {
-    let callee = spot_at(spots, place);
+    let callee = box_place_at(box_places, place);
     let claimed = claimed_of(report.certificate, routine.entry());
     let (main, others) = callers_of(report, &claimed.sites);
     if main {
-        write_line(pen, &MAIN, &callee);
+        write_line(writer, &MAIN, &callee);
     }
     for (at, other) in report.declaration.routines().iter().enumerate() {
         if others.contains(other.entry()) {
-            write_line(pen, &spot_at(spots, at), &callee);
+            write_line(writer, &box_place_at(box_places, at), &callee);
         }
     }
 }
 
 /// Writes a box with a name.
-fn write_box<A: Allocator>(pen: &mut Pen<A>, spot: &Spot, class: &[u8], name: &[u8]) {
-    let left = spot.column.saturating_mul(ACROSS).saturating_add(10);
-    pen.numbered(b"<rect class=b width=120 height=40 x=", left);
-    pen.numbered(b" y=", spot.top());
-    pen.put(b" /><rect width=10 height=40 class=");
-    pen.put(class);
-    pen.numbered(b" x=", left);
-    pen.numbered(b" y=", spot.top());
-    pen.numbered(b" /><text class=n x=", left.saturating_add(18));
-    pen.numbered(b" y=", spot.top().saturating_add(24));
-    pen.put(b">");
-    pen.put(name);
-    pen.put(b"</text>\n");
+fn write_box<A: Allocator>(
+    writer: &mut ReportWriter<A>,
+    box_place: &BoxPlace,
+    class: &[u8],
+    name: &[u8],
+) {
+    let left = box_place.column.saturating_mul(ACROSS).saturating_add(10);
+    writer.numbered(b"<rect class=b width=120 height=40 x=", left);
+    writer.numbered(b" y=", box_place.top());
+    writer.put(b" /><rect width=10 height=40 class=");
+    writer.put(class);
+    writer.numbered(b" x=", left);
+    writer.numbered(b" y=", box_place.top());
+    writer.numbered(b" /><text class=n x=", left.saturating_add(18));
+    writer.numbered(b" y=", box_place.top().saturating_add(24));
+    writer.put(b">");
+    writer.put(name);
+    writer.put(b"</text>\n");
 }
 
 /// Writes the box of a routine, which leads to its line.
-fn write_routine_box<A: Allocator>(pen: &mut Pen<A>, spot: &Spot, place: usize, entry: Word) {
-    pen.link(entry);
-    write_box(pen, spot, colour_of(place), &entry.to_octal());
-    pen.put(b"</a>");
+fn write_routine_box<A: Allocator>(
+    writer: &mut ReportWriter<A>,
+    box_place: &BoxPlace,
+    place: usize,
+    entry: Word,
+) {
+    writer.link(entry);
+    write_box(writer, box_place, colour_of(place), &entry.to_octal());
+    writer.put(b"</a>");
 }
 
 /// Writes the row of a routine in the table.
 fn write_row<A: Allocator, B: Allocator, D: Allocator, C: Allocator>(
-    pen: &mut Pen<A>,
+    writer: &mut ReportWriter<A>,
     report: &Report<'_, B, D, C>,
     routine: &Routine,
 ) {
-    pen.put(b"<tr><td>");
-    pen.place(routine.entry());
+    writer.put(b"<tr><td>");
+    writer.place(routine.entry());
     match report.certificate.routine(routine.entry()) {
-        None => pen.put(b"<td colspan=3>nothing is claimed about it"),
+        None => writer.put(b"<td colspan=3>nothing is claimed about it"),
         Some(claimed) => {
-            pen.numbered(b"<td>", claimed.rank);
-            pen.put(b"<td>");
-            pen.places(&claimed.sites);
-            pen.put(b"<td>");
-            write_written(pen, &claimed.writes);
+            writer.numbered(b"<td>", claimed.rank);
+            writer.put(b"<td>");
+            writer.places(&claimed.sites);
+            writer.put(b"<td>");
+            write_written(writer, &claimed.writes);
         }
     }
-    pen.put(b"<td>");
-    write_offsets(pen, routine);
-    pen.put(b"\n")
+    writer.put(b"<td>");
+    write_offsets(writer, routine);
+    writer.put(b"\n")
 }
 
 /// The lowest row and the last column that have a box.
-fn corner(spots: &[Spot]) -> Spot {
+fn corner(box_places: &[BoxPlace]) -> BoxPlace {
     let mut corner = MAIN;
-    for spot in spots {
-        corner.row = corner.row.max(spot.row);
-        corner.column = corner.column.max(spot.column);
+    for box_place in box_places {
+        corner.row = corner.row.max(box_place.row);
+        corner.column = corner.column.max(box_place.column);
     }
     corner
 }
 
 /// Writes the drawing: the lines, and above them the boxes.
 fn write_drawing<A: Allocator, B: Allocator, D: Allocator, C: Allocator>(
-    pen: &mut Pen<A>,
+    writer: &mut ReportWriter<A>,
     report: &Report<'_, B, D, C>,
-    spots: &[Spot],
+    box_places: &[BoxPlace],
 ) {
-    let Spot { row, column } = corner(spots);
+    let BoxPlace { row, column } = corner(box_places);
     let width = column.saturating_add(1).saturating_mul(ACROSS);
     let height = row.saturating_add(1).saturating_mul(DOWN);
-    pen.numbered(b"<svg role=img aria-label=\"graph of calls\" width=", width);
-    pen.numbered(b" viewBox=\"0 0 ", width);
-    pen.numbered(b" ", height.saturating_sub(30));
-    pen.put(b"\">\n");
+    writer.numbered(b"<svg role=img aria-label=\"graph of calls\" width=", width);
+    writer.numbered(b" viewBox=\"0 0 ", width);
+    writer.numbered(b" ", height.saturating_sub(30));
+    writer.put(b"\">\n");
     for (place, routine) in report.declaration.routines().iter().enumerate() {
-        write_lines(pen, report, spots, place, routine);
+        write_lines(writer, report, box_places, place, routine);
     }
-    write_box(pen, &MAIN, b"m", b"main");
-    write_boxes(pen, report, spots);
-    pen.put(b"</svg>\n");
+    write_box(writer, &MAIN, b"m", b"main");
+    write_boxes(writer, report, box_places);
+    writer.put(b"</svg>\n");
 }
 
 /// Writes the boxes of the routines.
 fn write_boxes<A: Allocator, B: Allocator, D: Allocator, C: Allocator>(
-    pen: &mut Pen<A>,
+    writer: &mut ReportWriter<A>,
     report: &Report<'_, B, D, C>,
-    spots: &[Spot],
+    box_places: &[BoxPlace],
 ) {
     for (place, routine) in report.declaration.routines().iter().enumerate() {
-        write_routine_box(pen, &spot_at(spots, place), place, routine.entry());
+        write_routine_box(
+            writer,
+            &box_place_at(box_places, place),
+            place,
+            routine.entry(),
+        );
     }
 }
 
@@ -253,23 +268,23 @@ fn ranks_text(finding: Finding) -> &'static [u8] {
 
 /// Writes the routines: a drawing of who calls whom, and a table.
 pub(crate) fn write_graph<A: Allocator, S: Allocator, B: Allocator, D: Allocator, C: Allocator>(
-    pen: &mut Pen<A>,
+    writer: &mut ReportWriter<A>,
     alloc: S,
     report: &Report<'_, B, D, C>,
 ) -> Result<(), AllocError> {
-    pen.put(b"<h2 id=routines>Routines, addresses in octal and ranks in decimal</h2>\n");
+    writer.put(b"<h2 id=routines>Routines, addresses in octal and ranks in decimal</h2>\n");
     if report.declaration.routines().is_empty() {
-        pen.put(b"<p>There are none: everything is main.</p>\n");
+        writer.put(b"<p>There are none: everything is main.</p>\n");
         return Ok(());
     }
-    let spots = spots_of(alloc, report)?;
-    write_drawing(pen, report, &spots);
-    pen.put(b"<p>A line leads from a caller down to what it calls. ");
-    pen.put(ranks_text(report.finding));
-    pen.put(COLUMNS);
+    let box_places = spots_of(alloc, report)?;
+    write_drawing(writer, report, &box_places);
+    writer.put(b"<p>A line leads from a caller down to what it calls. ");
+    writer.put(ranks_text(report.finding));
+    writer.put(COLUMNS);
     for routine in report.declaration.routines() {
-        write_row(pen, report, routine);
+        write_row(writer, report, routine);
     }
-    pen.put(b"</table>\n");
+    writer.put(b"</table>\n");
     Ok(())
 }

@@ -1,43 +1,43 @@
 //! What is known at an address, item by item, and what of it is the same as on the line above.
 
-use crate::pen::Pen;
+use crate::writer::ReportWriter;
 use facts::{Equation, Fact, Location, TrackedCells, narrowed};
 use std::alloc::Allocator;
 use word12::{Link, Word};
 use wordset::{Links, WordSet};
 
 /// Writes AC, or the address of a cell in brackets, for the word in it.
-fn write_held_in<A: Allocator>(pen: &mut Pen<A>, name: &Location) {
+fn write_held_in<A: Allocator>(writer: &mut ReportWriter<A>, name: &Location) {
     match name {
-        Location::Accumulator => pen.put(b"AC"),
-        Location::Cell(cell) => write_bracketed(pen, *cell),
+        Location::Accumulator => writer.put(b"AC"),
+        Location::Cell(cell) => write_bracketed(writer, *cell),
     }
 }
 
 /// Writes the address of a cell in brackets, for the word in it.
-fn write_bracketed<A: Allocator>(pen: &mut Pen<A>, cell: Word) {
-    pen.put(b"[");
-    pen.word(cell);
-    pen.put(b"]");
+fn write_bracketed<A: Allocator>(writer: &mut ReportWriter<A>, cell: Word) {
+    writer.put(b"[");
+    writer.word(cell);
+    writer.put(b"]");
 }
 
 /// Writes an item on a register or a cell: which words it may hold.
-fn write_item<A: Allocator>(pen: &mut Pen<A>, name: &[u8], set: &WordSet, same: bool) {
-    if !pen.begin_item(same) {
+fn write_item<A: Allocator>(writer: &mut ReportWriter<A>, name: &[u8], set: &WordSet, same: bool) {
+    if !writer.begin_item(same) {
         return;
     }
-    pen.put(name);
+    writer.put(name);
     if set.is_all() {
-        pen.put(b" any");
+        writer.put(b" any");
     } else {
-        pen.put(if set.only().is_some() {
+        writer.put(if set.only().is_some() {
             b" is "
         } else {
             b" in "
         });
-        pen.words(set);
+        writer.words(set);
     }
-    pen.end_item(same);
+    writer.end_item(same);
 }
 
 /// What the link may be.
@@ -51,26 +51,36 @@ fn link_text(links: Links) -> &'static [u8] {
 }
 
 /// Writes the items on AC, MQ and the link; on MQ only where something is known about it or was above.
-fn write_registers<A: Allocator>(pen: &mut Pen<A>, fact: &Fact, above: &Fact, near: bool) {
+fn write_registers<A: Allocator>(
+    writer: &mut ReportWriter<A>,
+    fact: &Fact,
+    above: &Fact,
+    near: bool,
+) {
     let ac = fact.accumulator();
-    write_item(pen, b"AC", &ac, near && ac == above.accumulator());
+    write_item(writer, b"AC", &ac, near && ac == above.accumulator());
     let mq = fact.mq();
     if !mq.is_all() || (near && !above.mq().is_all()) {
-        write_item(pen, b"MQ", &mq, near && mq == above.mq());
+        write_item(writer, b"MQ", &mq, near && mq == above.mq());
     }
     let same = near && fact.link() == above.link();
-    if pen.begin_item(same) {
-        pen.put(link_text(fact.link()));
-        pen.end_item(same);
+    if writer.begin_item(same) {
+        writer.put(link_text(fact.link()));
+        writer.end_item(same);
     }
 }
 
 /// Writes the items on cells; one that is not tracked above may hold any word there.
-fn write_cells<A: Allocator>(pen: &mut Pen<A>, cells: &TrackedCells, above: &Fact, near: bool) {
+fn write_cells<A: Allocator>(
+    writer: &mut ReportWriter<A>,
+    cells: &TrackedCells,
+    above: &Fact,
+    near: bool,
+) {
     for index in 0..cells.len() {
         let tracked = cells.get(index);
         let same = near && above.set(&Location::Cell(tracked.cell)) == tracked.set;
-        write_item(pen, &tracked.cell.to_octal(), &tracked.set, same);
+        write_item(writer, &tracked.cell.to_octal(), &tracked.set, same);
     }
 }
 
@@ -85,11 +95,15 @@ fn is_tracked(cells: &TrackedCells, cell: Word) -> bool {
 }
 
 /// Writes an item on each cell of which nothing is known any more.
-fn write_lost_cells<A: Allocator>(pen: &mut Pen<A>, cells: &TrackedCells, above: &TrackedCells) {
+fn write_lost_cells<A: Allocator>(
+    writer: &mut ReportWriter<A>,
+    cells: &TrackedCells,
+    above: &TrackedCells,
+) {
     for index in 0..above.len() {
         let tracked = above.get(index);
         if !is_tracked(cells, tracked.cell) && !tracked.set.is_all() {
-            write_item(pen, &tracked.cell.to_octal(), &WordSet::all(), false);
+            write_item(writer, &tracked.cell.to_octal(), &WordSet::all(), false);
         }
     }
 }
@@ -105,58 +119,63 @@ fn relates(equations: &[Equation], equation: &Equation) -> bool {
 }
 
 /// Writes an equation, and the words that all that is known leaves to the name on its left.
-fn write_equation<A: Allocator>(pen: &mut Pen<A>, equation: &Equation, left: &WordSet) {
-    write_held_in(pen, &equation.left);
-    pen.put(b" = ");
-    write_bracketed(pen, equation.right);
-    pen.put(b" + ");
-    pen.word(equation.more);
+fn write_equation<A: Allocator>(writer: &mut ReportWriter<A>, equation: &Equation, left: &WordSet) {
+    write_held_in(writer, &equation.left);
+    writer.put(b" = ");
+    write_bracketed(writer, equation.right);
+    writer.put(b" + ");
+    writer.word(equation.more);
     if !left.is_all() {
-        pen.put(b", so ");
-        pen.words(left);
+        writer.put(b", so ");
+        writer.words(left);
     }
 }
 
 /// Writes the items of equations.
-fn write_equations<A: Allocator>(pen: &mut Pen<A>, fact: &Fact, above: &Fact, near: bool) {
+fn write_equations<A: Allocator>(
+    writer: &mut ReportWriter<A>,
+    fact: &Fact,
+    above: &Fact,
+    near: bool,
+) {
     for equation in fact.equations() {
         let left = narrowed(fact, &equation.left);
         let same = near
             && above.equations().contains(equation)
             && narrowed(above, &equation.left) == left;
-        if pen.begin_item(same) {
-            write_equation(pen, equation, &left);
-            pen.end_item(same);
+        if writer.begin_item(same) {
+            write_equation(writer, equation, &left);
+            writer.end_item(same);
         }
     }
 }
 
 /// Writes an item on each pair of names that no equation relates any more.
 fn write_lost_equations<A: Allocator>(
-    pen: &mut Pen<A>,
+    writer: &mut ReportWriter<A>,
     equations: &[Equation],
     above: &[Equation],
 ) {
     for equation in above {
         if !relates(equations, equation) {
-            pen.item(b"");
-            write_held_in(pen, &equation.left);
-            pen.put(b" and ");
-            write_bracketed(pen, equation.right);
-            pen.put(b" unrelated");
+            writer.item(b"");
+            write_held_in(writer, &equation.left);
+            writer.put(b" and ");
+            write_bracketed(writer, equation.right);
+            writer.put(b" unrelated");
         }
     }
 }
 
 /// Writes how far a return word may have been counted up: some of the digits 0 to 7.
-fn write_offsets<A: Allocator>(pen: &mut Pen<A>, fact: &Fact) {
+fn write_offsets<A: Allocator>(writer: &mut ReportWriter<A>, fact: &Fact) {
     let mut some = false;
     for offset in 0..8usize {
         if fact.offsets().contains(offset) {
             if some {
-                pen.put(b",");
+                writer.put(b",");
             }
-            pen.number(offset);
+            writer.number(offset);
             some = true;
         }
     }
@@ -173,34 +192,44 @@ fn is_uncounted(fact: &Fact) -> bool {
 }
 
 /// Writes the item on how far the return word was counted up, where it may have been or was above.
-fn write_counted<A: Allocator>(pen: &mut Pen<A>, fact: &Fact, above: &Fact, near: bool) {
+fn write_counted<A: Allocator>(
+    writer: &mut ReportWriter<A>,
+    fact: &Fact,
+    above: &Fact,
+    near: bool,
+) {
     let same = near && fact.offsets() == above.offsets();
     let told = !is_uncounted(fact) || (near && !is_uncounted(above));
-    if told && pen.begin_item(same) {
-        pen.put(b"return word up by ");
-        write_offsets(pen, fact);
-        pen.end_item(same);
+    if told && writer.begin_item(same) {
+        writer.put(b"return word up by ");
+        write_offsets(writer, fact);
+        writer.end_item(same);
     }
 }
 
 /// Writes what a fact says as items: where that above is near, what differs from it, and in a page also what does
 /// not.
-pub(crate) fn write_fact<A: Allocator>(pen: &mut Pen<A>, fact: &Fact, above: &Fact, near: bool) {
-    write_registers(pen, fact, above, near);
-    write_cells(pen, fact.cells(), above, near);
+pub(crate) fn write_fact<A: Allocator>(
+    writer: &mut ReportWriter<A>,
+    fact: &Fact,
+    above: &Fact,
+    near: bool,
+) {
+    write_registers(writer, fact, above, near);
+    write_cells(writer, fact.cells(), above, near);
     if near {
-        write_lost_cells(pen, fact.cells(), above.cells());
+        write_lost_cells(writer, fact.cells(), above.cells());
     }
-    write_equations(pen, fact, above, near);
+    write_equations(writer, fact, above, near);
     if near {
-        write_lost_equations(pen, fact.equations(), above.equations());
+        write_lost_equations(writer, fact.equations(), above.equations());
     }
-    write_counted(pen, fact, above, near);
+    write_counted(writer, fact, above, near);
 }
 
 /// Writes what holds after a return, in which the return word is not spoken of.
-pub(crate) fn write_exit<A: Allocator>(pen: &mut Pen<A>, exit: &Fact) {
-    write_registers(pen, exit, exit, false);
-    write_cells(pen, exit.cells(), exit, false);
-    write_equations(pen, exit, exit, false);
+pub(crate) fn write_exit<A: Allocator>(writer: &mut ReportWriter<A>, exit: &Fact) {
+    write_registers(writer, exit, exit, false);
+    write_cells(writer, exit.cells(), exit, false);
+    write_equations(writer, exit, exit, false);
 }

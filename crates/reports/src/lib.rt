@@ -7,21 +7,21 @@ mod known;
 mod listing;
 mod map;
 mod page;
-mod pen;
 mod report;
 mod routines;
 mod source_notes;
 mod style;
 mod variables;
+mod writer;
 
 use listing::push_listing;
 pub use page::page_below;
-use pen::Pen;
-pub use pen::ReportForm;
 pub use report::{Finding, Report};
 pub use source_notes::{LinePlace, SourceNote, SourceNotes};
 use std::alloc::{AllocError, Allocator};
 pub use style::{head_of, opening, stuck_opening};
+pub use writer::ReportForm;
+use writer::ReportWriter;
 
 /// The listing as plain text, as it stands below the verdict and its reason.
 ///
@@ -32,9 +32,9 @@ pub fn listing_below<A: Allocator + Copy, D: Allocator, C: Allocator>(
     alloc: A,
     report: &Report<'_, A, D, C>,
 ) -> Result<Vec<u8, A>, AllocError> {
-    let mut pen = Pen::new(alloc, ReportForm::Text, &report.lines());
-    push_listing(&mut pen, report);
-    pen.into_bytes()
+    let mut writer = ReportWriter::new(alloc, ReportForm::Text, &report.lines());
+    push_listing(&mut writer, report);
+    writer.into_bytes()
 }
 
 pub mod drafting;

@@ -2,10 +2,10 @@
 
 use crate::access::write_access;
 use crate::known::write_fact;
-use crate::pen::Pen;
 use crate::report::{Finding, Kind, Report, before, claimed_of, unclaimed};
 use crate::routines::{write_exits, write_routine};
 use crate::source_notes::SourceNote;
+use crate::writer::ReportWriter;
 use certificate::{Certificate, RoutineClaim};
 use facts::Fact;
 use instruct::{Instruction, decode, name, refers_indirectly, target};
@@ -21,7 +21,7 @@ const ALONE: usize = 21;
 
 /// Writes the name of a word; that of a direct memory reference leads to the line of its cell.
 fn write_name<A: Allocator, B: Allocator, D: Allocator, C: Allocator>(
-    pen: &mut Pen<A>,
+    writer: &mut ReportWriter<A>,
     report: &Report<'_, B, D, C>,
     at: Word,
     word: Word,
@@ -30,124 +30,124 @@ fn write_name<A: Allocator, B: Allocator, D: Allocator, C: Allocator>(
     let found = name(word, profile);
     let length = found.as_str().len();
     let is_memory = matches!(decode(word, profile), Instruction::Memory);
-    let linked = is_memory && !refers_indirectly(word) && pen.has_line(target(word, at));
+    let linked = is_memory && !refers_indirectly(word) && writer.has_line(target(word, at));
     if linked {
-        pen.link(target(word, at));
+        writer.link(target(word, at));
     }
-    pen.say(found.as_str().as_bytes());
-    pen.begin_items(15usize.saturating_sub(length).max(2));
+    writer.say(found.as_str().as_bytes());
+    writer.begin_items(15usize.saturating_sub(length).max(2));
     if linked {
-        pen.mark(b"</a>");
+        writer.mark(b"</a>");
     }
 }
 
 /// Writes address and word, and the name of an instruction.
 fn write_word<A: Allocator, B: Allocator, D: Allocator, C: Allocator>(
-    pen: &mut Pen<A>,
+    writer: &mut ReportWriter<A>,
     report: &Report<'_, B, D, C>,
     at: Word,
 ) {
-    pen.mark(if report.is_marked(at) {
+    writer.mark(if report.is_marked(at) {
         b"<tr class=bad id=a"
     } else {
         b"<tr id=a"
     });
-    pen.mark(&at.to_octal());
-    pen.mark(b"><td>");
-    pen.word(at);
-    pen.put(b" ");
-    pen.mark(b"<td>");
-    pen.begin_items(SHORT);
+    writer.mark(&at.to_octal());
+    writer.mark(b"><td>");
+    writer.word(at);
+    writer.put(b" ");
+    writer.mark(b"<td>");
+    writer.begin_items(SHORT);
     let Some(word) = report.image.get(at) else {
-        pen.put(b"----");
-        return pen.mark(b"<td>");
+        writer.put(b"----");
+        return writer.mark(b"<td>");
     };
-    pen.word(word);
-    pen.mark(b"<td class=c>");
+    writer.word(word);
+    writer.mark(b"<td class=c>");
     if report.is_code(at) {
-        pen.put(b" ");
-        write_name(pen, report, at, word);
+        writer.put(b" ");
+        write_name(writer, report, at, word);
     }
 }
 
 /// Writes what is declared of an address.
 fn write_declared<A: Allocator, B: Allocator, D: Allocator, C: Allocator>(
-    pen: &mut Pen<A>,
+    writer: &mut ReportWriter<A>,
     report: &Report<'_, B, D, C>,
     at: Word,
 ) {
     let declaration = report.declaration;
     if declaration.start() == at {
-        pen.item(b"start");
+        writer.item(b"start");
     }
     if declaration.is_stop(at) {
-        pen.item(b"stop");
+        writer.item(b"stop");
     }
     if declaration.is_pause(at) {
-        pen.item(b"pause");
+        writer.item(b"pause");
     }
     if declaration.is_entry(at) {
-        pen.item(b"entry");
+        writer.item(b"entry");
     }
 }
 
 /// Writes which words a variable may hold, and where nothing is known about it.
 pub(crate) fn write_variable<A: Allocator, B: Allocator, D: Allocator, C: Allocator>(
-    pen: &mut Pen<A>,
+    writer: &mut ReportWriter<A>,
     report: &Report<'_, B, D, C>,
     cell: Word,
 ) {
     let Some(held) = report.held_in(cell) else {
-        return pen.item(b"any word");
+        return writer.item(b"any word");
     };
-    pen.item(b"holds ");
+    writer.item(b"holds ");
     if held.words.is_all() {
-        pen.put(b"any word");
+        writer.put(b"any word");
     } else {
-        pen.words(&held.words);
+        writer.words(&held.words);
     }
     let unknown = report.facts.minus(&held.known_at);
     if !unknown.is_empty() {
-        pen.item(b"any word at ");
-        pen.places(&unknown);
+        writer.item(b"any word at ");
+        writer.places(&unknown);
     }
 }
 
 /// Writes what is said about an address without a fact.
 fn write_unknown<A: Allocator, B: Allocator, D: Allocator, C: Allocator>(
-    pen: &mut Pen<A>,
+    writer: &mut ReportWriter<A>,
     report: &Report<'_, B, D, C>,
     kind: &Kind,
     at: Word,
 ) {
     match kind {
         Kind::Main | Kind::Routine(_) => match report.finding {
-            Finding::Shown => pen.item(b"never reached"),
-            Finding::Refused(_) | Finding::Stuck(_) => pen.item(b"no fact"),
+            Finding::Shown => writer.item(b"never reached"),
+            Finding::Refused(_) | Finding::Stuck(_) => writer.item(b"no fact"),
         },
-        Kind::Variable => write_variable(pen, report, at),
+        Kind::Variable => write_variable(writer, report, at),
         Kind::Entry | Kind::Other | Kind::Unset => {}
     }
 }
 
 /// Writes the mark of the address at which the verdict is no or the search is stuck.
 fn write_mark<A: Allocator, B: Allocator, D: Allocator, C: Allocator>(
-    pen: &mut Pen<A>,
+    writer: &mut ReportWriter<A>,
     report: &Report<'_, B, D, C>,
     at: Word,
 ) {
     if !report.is_marked(at) {
         return;
     }
-    pen.mark(b"<b>");
+    writer.mark(b"<b>");
     if report.failing.is_empty() {
-        pen.item(b"STUCK HERE");
+        writer.item(b"STUCK HERE");
     } else {
-        pen.item(b"HERE ");
-        pen.say(report.failing.as_bytes());
-        pen.put(b" FAILS");
+        writer.item(b"HERE ");
+        writer.say(report.failing.as_bytes());
+        writer.put(b" FAILS");
     }
-    pen.mark(b"</b>");
+    writer.mark(b"</b>");
 }
 
 /// Whether an address is even.
@@ -158,7 +158,7 @@ fn is_even(at: Word) -> bool {
 /// Facts to read what is claimed into: those at even and those at odd addresses, so that the one above
 /// an address mostly stands here already.
 #[derive(Drop)]
-struct Desk {
+struct ClaimCache {
     even: Fact,
     odd: Fact,
     /// The address of the fact that was read last.
@@ -168,10 +168,10 @@ struct Desk {
     entry: Option<Word>,
 }
 
-impl Desk {
-    /// A desk with nothing on it.
-    fn new() -> Desk {
-        Desk {
+impl ClaimCache {
+    /// A cache with nothing in it.
+    fn new() -> ClaimCache {
+        ClaimCache {
             even: Fact::any(),
             odd: Fact::any(),
             last: None,
@@ -217,56 +217,56 @@ impl Desk {
 
 /// Writes what is known and done at an address with a fact.
 fn write_with_fact<A: Allocator, B: Allocator, D: Allocator, C: Allocator>(
-    pen: &mut Pen<A>,
+    writer: &mut ReportWriter<A>,
     report: &Report<'_, B, D, C>,
-    desk: &mut Desk,
+    cache: &mut ClaimCache,
     at: Word,
 ) {
     let kind = report.kind_of(at);
     let above = before(at);
-    let near = at != Word::ZERO && desk.last == Some(above) && report.kind_of(above) == kind;
-    if !desk.read(report.certificate, at) {
-        return write_unknown(pen, report, &kind, at);
+    let near = at != Word::ZERO && cache.last == Some(above) && report.kind_of(above) == kind;
+    if !cache.read(report.certificate, at) {
+        return write_unknown(writer, report, &kind, at);
     }
-    desk.look_up(report.certificate, &kind);
-    let fact = desk.fact(is_even(at));
-    write_fact(pen, fact, desk.fact(!is_even(at)), near);
-    pen.end_same();
-    write_access(pen, report, &kind, &desk.routine, fact, at);
+    cache.look_up(report.certificate, &kind);
+    let fact = cache.fact(is_even(at));
+    write_fact(writer, fact, cache.fact(!is_even(at)), near);
+    writer.end_same();
+    write_access(writer, report, &kind, &cache.routine, fact, at);
 }
 
 /// Writes what the source says about an address, if it says something: in a page in a further column.
-fn write_note<A: Allocator>(pen: &mut Pen<A>, note: Option<SourceNote<'_>>) {
+fn write_note<A: Allocator>(writer: &mut ReportWriter<A>, note: Option<SourceNote<'_>>) {
     let Some(note) = note else {
         return;
     };
-    pen.mark(b"<td>");
-    pen.note();
+    writer.mark(b"<td>");
+    writer.note();
     if !note.label.is_empty() {
-        pen.say(note.label);
-        pen.put(b", ");
+        writer.say(note.label);
+        writer.put(b", ");
     }
-    pen.numbered(b"line ", note.line);
+    writer.numbered(b"line ", note.line);
     if note.is_first {
-        pen.put(b": ");
-        pen.say(note.text);
+        writer.put(b": ");
+        writer.say(note.text);
     }
 }
 
 /// Writes the line of an address.
 fn write_line<A: Allocator, B: Allocator, D: Allocator, C: Allocator>(
-    pen: &mut Pen<A>,
+    writer: &mut ReportWriter<A>,
     report: &Report<'_, B, D, C>,
-    desk: &mut Desk,
+    cache: &mut ClaimCache,
     at: Word,
 ) {
-    write_word(pen, report, at);
-    pen.mark(b"<td>");
-    write_declared(pen, report, at);
-    write_with_fact(pen, report, desk, at);
-    write_mark(pen, report, at);
-    write_note(pen, report.note_at(at));
-    pen.put(b"\n");
+    write_word(writer, report, at);
+    writer.mark(b"<td>");
+    write_declared(writer, report, at);
+    write_with_fact(writer, report, cache, at);
+    write_mark(writer, report, at);
+    write_note(writer, report.note_at(at));
+    writer.put(b"\n");
 }
 
 /// The last address of the row of variables that begins at one, of which nothing is said.
@@ -287,46 +287,46 @@ fn last_quiet<B: Allocator, D: Allocator, C: Allocator>(
 
 /// Writes the line of a row of variables of which nothing is said.
 fn write_quiet<A: Allocator, B: Allocator, D: Allocator, C: Allocator>(
-    pen: &mut Pen<A>,
+    writer: &mut ReportWriter<A>,
     report: &Report<'_, B, D, C>,
     first: Word,
 ) {
-    pen.mark(b"<tr id=a");
-    pen.mark(&first.to_octal());
-    pen.mark(b"><td colspan=3>");
+    writer.mark(b"<tr id=a");
+    writer.mark(&first.to_octal());
+    writer.mark(b"><td colspan=3>");
     let last = last_quiet(report, first);
-    pen.run(first, last, false);
-    pen.mark(b"<td>");
-    pen.begin_items(if first == last { ALONE } else { SHORT });
-    pen.item(b"any word\n");
+    writer.run(first, last, false);
+    writer.mark(b"<td>");
+    writer.begin_items(if first == last { ALONE } else { SHORT });
+    writer.item(b"any word\n");
 }
 
 /// Writes the heading of lines of a kind; that of a routine with what is claimed about it.
 fn write_heading<A: Allocator, B: Allocator, D: Allocator, C: Allocator>(
-    pen: &mut Pen<A>,
+    writer: &mut ReportWriter<A>,
     report: &Report<'_, B, D, C>,
     at: Word,
 ) {
-    pen.put(b"\n");
-    pen.mark(b"<tr><th colspan=4>");
+    writer.put(b"\n");
+    writer.mark(b"<tr><th colspan=4>");
     match report.kind_of(at) {
-        Kind::Main => pen.put(b"main\n"),
-        Kind::Variable => pen.put(b"variables\n"),
-        Kind::Other => pen.put(b"other words of the tape\n"),
-        Kind::Unset => pen.put(b"nothing is declared here\n"),
+        Kind::Main => writer.put(b"main\n"),
+        Kind::Variable => writer.put(b"variables\n"),
+        Kind::Other => writer.put(b"other words of the tape\n"),
+        Kind::Unset => writer.put(b"nothing is declared here\n"),
         Kind::Routine(entry) => {
-            pen.put(b"body of routine ");
-            pen.word(entry);
-            pen.put(b"\n");
+            writer.put(b"body of routine ");
+            writer.word(entry);
+            writer.put(b"\n");
         }
         Kind::Entry => {
             for routine in report.declaration.routines() {
                 if routine.entry() == at {
-                    write_routine(pen, report, routine);
+                    write_routine(writer, report, routine);
                 }
             }
-            pen.put(b"\n");
-            write_exits(pen, report, at);
+            writer.put(b"\n");
+            write_exits(writer, report, at);
         }
     }
 }
@@ -354,21 +354,21 @@ fn needs_heading<B: Allocator, D: Allocator, C: Allocator>(
 
 /// Writes the listing.
 pub(crate) fn push_listing<A: Allocator, B: Allocator, D: Allocator, C: Allocator>(
-    pen: &mut Pen<A>,
+    writer: &mut ReportWriter<A>,
     report: &Report<'_, B, D, C>,
 ) {
-    let mut desk = Desk::new();
+    let mut cache = ClaimCache::new();
     let mut last = None;
     for index in 0..4096 {
         let at = Word::from_index(index);
-        if pen.has_line(at) {
+        if writer.has_line(at) {
             if needs_heading(report, at, &last) {
-                write_heading(pen, report, at);
+                write_heading(writer, report, at);
             }
             if report.is_quiet(at) {
-                write_quiet(pen, report, at);
+                write_quiet(writer, report, at);
             } else {
-                write_line(pen, report, &mut desk, at);
+                write_line(writer, report, &mut cache, at);
             }
             last = Some(at);
         }

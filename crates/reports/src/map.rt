@@ -1,7 +1,7 @@
 //! Memory as a map: 64 rows of 64 cells.
 
-use crate::pen::Pen;
 use crate::report::{Kind, Report};
+use crate::writer::ReportWriter;
 use declaration::Declaration;
 use instruct::name;
 use std::alloc::Allocator;
@@ -74,59 +74,59 @@ fn class_of<D: Allocator>(declaration: &Declaration<D>, kind: &Kind) -> &'static
 }
 
 /// Writes the numbers at the side and above.
-fn write_scale<A: Allocator>(pen: &mut Pen<A>) {
+fn write_scale<A: Allocator>(writer: &mut ReportWriter<A>) {
     for row in 0..64usize {
-        pen.numbered(b"<text x=4 y=", TOP + STEP * row + 8);
-        pen.put(b">");
-        pen.word(Word::from_index(64 * row));
-        pen.put(b"</text>");
+        writer.numbered(b"<text x=4 y=", TOP + STEP * row + 8);
+        writer.put(b">");
+        writer.word(Word::from_index(64 * row));
+        writer.put(b"</text>");
     }
     for column in 0..8usize {
-        pen.numbered(b"<text x=", LEFT + 8 * STEP * column);
-        pen.numbered(b" y=10>+", 10 * column);
-        pen.put(b"</text>");
+        writer.numbered(b"<text x=", LEFT + 8 * STEP * column);
+        writer.numbered(b" y=10>+", 10 * column);
+        writer.put(b"</text>");
     }
 }
 
 /// Writes a circle or a dot in the middle of a cell.
-fn write_dot<A: Allocator>(pen: &mut Pen<A>, at: Word, class: &[u8], size: &[u8]) {
-    pen.put(b"<circle class=");
-    pen.put(class);
-    pen.numbered(b" cx=", left_of(at).saturating_add(5));
-    pen.numbered(b" cy=", top_of(at).saturating_add(5));
-    pen.put(b" r=");
-    pen.put(size);
-    pen.put(b" />");
+fn write_dot<A: Allocator>(writer: &mut ReportWriter<A>, at: Word, class: &[u8], size: &[u8]) {
+    writer.put(b"<circle class=");
+    writer.put(class);
+    writer.numbered(b" cx=", left_of(at).saturating_add(5));
+    writer.numbered(b" cy=", top_of(at).saturating_add(5));
+    writer.put(b" r=");
+    writer.put(size);
+    writer.put(b" />");
 }
 
 /// Writes the square of a cell.
-fn write_square<A: Allocator>(pen: &mut Pen<A>, at: Word, class: &[u8]) {
-    pen.put(b"<rect class=");
-    pen.put(class);
-    pen.numbered(b" x=", left_of(at));
-    pen.numbered(b" y=", top_of(at));
-    pen.put(b" width=9 height=9 />");
+fn write_square<A: Allocator>(writer: &mut ReportWriter<A>, at: Word, class: &[u8]) {
+    writer.put(b"<rect class=");
+    writer.put(class);
+    writer.numbered(b" x=", left_of(at));
+    writer.numbered(b" y=", top_of(at));
+    writer.put(b" width=9 height=9 />");
 }
 
 /// Writes the marks of a cell: a variable in a body, a halt, the start, the place of a no.
 fn write_marks<A: Allocator, B: Allocator, D: Allocator, C: Allocator>(
-    pen: &mut Pen<A>,
+    writer: &mut ReportWriter<A>,
     report: &Report<'_, B, D, C>,
     at: Word,
     kind: &Kind,
 ) {
     let declaration = report.declaration;
     if declaration.is_variable(at) && *kind != Kind::Variable {
-        write_dot(pen, at, b"w", b"2.5");
+        write_dot(writer, at, b"w", b"2.5");
     }
     if declaration.is_stop(at) || declaration.is_pause(at) {
-        write_dot(pen, at, b"h", b"3");
+        write_dot(writer, at, b"h", b"3");
     }
     if declaration.start() == at {
-        write_square(pen, at, b"s");
+        write_square(writer, at, b"s");
     }
     if report.is_marked(at) {
-        write_square(pen, at, b"\"s bad\"");
+        write_square(writer, at, b"\"s bad\"");
     }
 }
 
@@ -144,92 +144,95 @@ fn kind_text(kind: &Kind) -> &'static [u8] {
 
 /// Writes the name of a word that is told as an instruction.
 fn write_title_name<A: Allocator, B: Allocator, D: Allocator, C: Allocator>(
-    pen: &mut Pen<A>,
+    writer: &mut ReportWriter<A>,
     report: &Report<'_, B, D, C>,
     at: Word,
     word: Word,
 ) {
     if report.is_code(at) {
-        pen.put(b" ");
-        pen.say(name(word, report.declaration.profile()).as_str().as_bytes());
+        writer.put(b" ");
+        writer.say(name(word, report.declaration.profile()).as_str().as_bytes());
     }
 }
 
 /// Writes what is shown where a pointer rests on a cell.
 fn write_title<A: Allocator, B: Allocator, D: Allocator, C: Allocator>(
-    pen: &mut Pen<A>,
+    writer: &mut ReportWriter<A>,
     report: &Report<'_, B, D, C>,
     at: Word,
     kind: &Kind,
 ) {
-    pen.put(b"<title>");
-    pen.word(at);
-    pen.put(kind_text(kind));
+    writer.put(b"<title>");
+    writer.word(at);
+    writer.put(kind_text(kind));
     if let Kind::Routine(entry) = kind {
-        pen.word(*entry);
+        writer.word(*entry);
     }
     if let Some(word) = report.image.get(at) {
-        pen.put(b": ");
-        pen.word(word);
-        write_title_name(pen, report, at, word);
+        writer.put(b": ");
+        writer.word(word);
+        write_title_name(writer, report, at, word);
     }
-    pen.put(b"</title>");
+    writer.put(b"</title>");
 }
 
 /// Writes a cell, which leads to its line.
 fn write_cell<A: Allocator, B: Allocator, D: Allocator, C: Allocator>(
-    pen: &mut Pen<A>,
+    writer: &mut ReportWriter<A>,
     report: &Report<'_, B, D, C>,
     at: Word,
     line: Word,
 ) {
     let kind = report.kind_of(at);
-    pen.link(line);
-    write_title(pen, report, at, &kind);
-    write_square(pen, at, class_of(report.declaration, &kind));
-    write_marks(pen, report, at, &kind);
-    pen.put(b"</a>\n");
+    writer.link(line);
+    write_title(writer, report, at, &kind);
+    write_square(writer, at, class_of(report.declaration, &kind));
+    write_marks(writer, report, at, &kind);
+    writer.put(b"</a>\n");
 }
 
 /// Writes the cells at which something stands.
 fn write_cells<A: Allocator, B: Allocator, D: Allocator, C: Allocator>(
-    pen: &mut Pen<A>,
+    writer: &mut ReportWriter<A>,
     report: &Report<'_, B, D, C>,
 ) {
     let mut line = Word::ZERO;
     for index in 0..4096 {
         let at = Word::from_index(index);
-        if pen.has_line(at) {
+        if writer.has_line(at) {
             line = at;
         }
         if report.kind_of(at) != Kind::Unset || report.is_marked(at) {
-            write_cell(pen, report, at, line);
+            write_cell(writer, report, at, line);
         }
     }
 }
 
 /// Writes what the colours and marks mean.
-fn write_legend<A: Allocator, D: Allocator>(pen: &mut Pen<A>, declaration: &Declaration<D>) {
-    pen.put(b"<p><span class=\"k m\"></span>main\n");
+fn write_legend<A: Allocator, D: Allocator>(
+    writer: &mut ReportWriter<A>,
+    declaration: &Declaration<D>,
+) {
+    writer.put(b"<p><span class=\"k m\"></span>main\n");
     for (place, routine) in declaration.routines().iter().enumerate() {
-        pen.put(b"<span class=\"k ");
-        pen.put(colour_of(place));
-        pen.put(b"\"></span>routine ");
-        pen.place(routine.entry());
-        pen.put(b"\n");
+        writer.put(b"<span class=\"k ");
+        writer.put(colour_of(place));
+        writer.put(b"\"></span>routine ");
+        writer.place(routine.entry());
+        writer.put(b"\n");
     }
-    pen.put(LEGEND);
+    writer.put(LEGEND);
 }
 
 /// Writes memory as a map.
 pub(crate) fn write_map<A: Allocator, B: Allocator, D: Allocator, C: Allocator>(
-    pen: &mut Pen<A>,
+    writer: &mut ReportWriter<A>,
     report: &Report<'_, B, D, C>,
 ) {
-    pen.put(MAP);
-    write_scale(pen);
-    pen.put(b"\n");
-    write_cells(pen, report);
-    pen.put(b"</svg>\n");
-    write_legend(pen, report.declaration);
+    writer.put(MAP);
+    write_scale(writer);
+    writer.put(b"\n");
+    write_cells(writer, report);
+    writer.put(b"</svg>\n");
+    write_legend(writer, report.declaration);
 }

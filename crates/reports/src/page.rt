@@ -4,8 +4,8 @@ use crate::access::writes_through;
 use crate::graph::write_graph;
 use crate::listing::{push_listing, write_variable};
 use crate::map::write_map;
-use crate::pen::{Pen, ReportForm};
 use crate::report::{Finding, Report};
+use crate::writer::{ReportForm, ReportWriter};
 use declaration::Declaration;
 use instruct::Profile;
 use std::alloc::{AllocError, Allocator};
@@ -93,132 +93,146 @@ fn entries_of<D: Allocator>(declaration: &Declaration<D>) -> WordSet {
 }
 
 /// Writes a point of a list: a text and cells.
-fn write_point<A: Allocator>(pen: &mut Pen<A>, text: &[u8], cells: &WordSet) {
-    pen.put(b"<li>");
-    pen.put(text);
+fn write_point<A: Allocator>(writer: &mut ReportWriter<A>, text: &[u8], cells: &WordSet) {
+    writer.put(b"<li>");
+    writer.put(text);
     if cells.is_empty() {
-        pen.put(b"none");
+        writer.put(b"none");
     } else {
-        pen.places(cells);
+        writer.places(cells);
     }
-    pen.put(b"\n");
+    writer.put(b"\n");
 }
 
 /// Writes the parts of what a yes says.
-fn write_points<A: Allocator, D: Allocator>(pen: &mut Pen<A>, declaration: &Declaration<D>) {
+fn write_points<A: Allocator, D: Allocator>(
+    writer: &mut ReportWriter<A>,
+    declaration: &Declaration<D>,
+) {
     write_point(
-        pen,
+        writer,
         b"only these cells are executed: ",
         &bodies_of(declaration),
     );
     write_point(
-        pen,
+        writer,
         b"only these cells, the variables, are written: ",
         declaration.variables(),
     );
     write_point(
-        pen,
+        writer,
         b"and these entries, by the JMS that calls the routine or by an ISZ of the routine that skips an argument: ",
         &entries_of(declaration),
     );
     match declaration.reads() {
-        None => pen.put(b"<li>any cell may be read: the declaration has no list of reads\n"),
+        None => writer.put(b"<li>any cell may be read: the declaration has no list of reads\n"),
         Some(cells) => write_point(
-            pen,
+            writer,
             b"only these cells and the entry of the running routine are read: ",
             cells,
         ),
     }
-    pen.put(b"<li>each routine returns to the address after its own call plus a declared offset\n");
+    writer.put(
+        b"<li>each routine returns to the address after its own call plus a declared offset\n",
+    );
     write_point(
-        pen,
+        writer,
         b"if it halts, it halts only at: ",
         &declaration.stops().union(declaration.pauses()),
     );
     write_point(
-        pen,
+        writer,
         b"of these, CONTINUE may be pressed only at: ",
         declaration.pauses(),
     );
 }
 
 /// Writes the rest of what a yes says, and what it does not.
-fn write_yes<A: Allocator, D: Allocator>(pen: &mut Pen<A>, declaration: &Declaration<D>) {
-    pen.put(match declaration.profile() {
+fn write_yes<A: Allocator, D: Allocator>(
+    writer: &mut ReportWriter<A>,
+    declaration: &Declaration<D>,
+) {
+    writer.put(match declaration.profile() {
         Profile::Pdp8I => b" This holds for <b>every</b> run on a PDP-8/I that starts at ",
         Profile::Pdp8E => b" This holds for <b>every</b> run on a PDP-8/E that starts at ",
     });
-    pen.place(declaration.start());
-    pen.put(RUN);
-    write_points(pen, declaration);
-    pen.put(NOT_SHOWN);
+    writer.place(declaration.start());
+    writer.put(RUN);
+    write_points(writer, declaration);
+    writer.put(NOT_SHOWN);
 }
 
 /// Writes why nothing is shown: what fails, at which address, what that means, and the reason as it is told.
-fn write_reason<A: Allocator>(pen: &mut Pen<A>, fails: &[u8], at: Word, means: &[u8], why: &[u8]) {
-    pen.put(fails);
-    pen.place(at);
-    pen.put(means);
-    pen.say(why);
-    pen.put(b"</pre>\n");
+fn write_reason<A: Allocator>(
+    writer: &mut ReportWriter<A>,
+    fails: &[u8],
+    at: Word,
+    means: &[u8],
+    why: &[u8],
+) {
+    writer.put(fails);
+    writer.place(at);
+    writer.put(means);
+    writer.say(why);
+    writer.put(b"</pre>\n");
 }
 
 /// Writes the verdict's meaning, after what it opens with.
 fn write_verdict<A: Allocator, B: Allocator, D: Allocator, C: Allocator>(
-    pen: &mut Pen<A>,
+    writer: &mut ReportWriter<A>,
     report: &Report<'_, B, D, C>,
     why: &[u8],
 ) {
     match report.finding {
-        Finding::Shown => write_yes(pen, report.declaration),
+        Finding::Shown => write_yes(writer, report.declaration),
         Finding::Refused(at) => {
-            write_reason(pen, b" A condition on it fails at ", at, REFUSED, why);
+            write_reason(writer, b" A condition on it fails at ", at, REFUSED, why);
         }
         Finding::Stuck(at) => write_reason(
-            pen,
+            writer,
             b" The search for a certificate is stuck at ",
             at,
             STUCK,
             why,
         ),
     }
-    pen.put(PARTS);
+    writer.put(PARTS);
 }
 
 /// Writes the row of a variable.
 fn write_row<A: Allocator, B: Allocator, D: Allocator, C: Allocator>(
-    pen: &mut Pen<A>,
+    writer: &mut ReportWriter<A>,
     report: &Report<'_, B, D, C>,
     cell: Word,
 ) {
-    pen.put(b"<tr><td>");
-    pen.place(cell);
-    pen.put(b"<td>");
+    writer.put(b"<tr><td>");
+    writer.place(cell);
+    writer.put(b"<td>");
     match report.image.get(cell) {
-        Some(word) => pen.word(word),
-        None => pen.put(b"----"),
+        Some(word) => writer.word(word),
+        None => writer.put(b"----"),
     }
-    pen.put(b"<td>");
-    pen.begin_items(0);
-    write_variable(pen, report, cell);
-    pen.put(b"\n");
+    writer.put(b"<td>");
+    writer.begin_items(0);
+    write_variable(writer, report, cell);
+    writer.put(b"\n");
 }
 
 /// Writes the variables of which something is known, each with the words that it may hold anywhere.
 fn write_variables<A: Allocator, B: Allocator, D: Allocator, C: Allocator>(
-    pen: &mut Pen<A>,
+    writer: &mut ReportWriter<A>,
     report: &Report<'_, B, D, C>,
 ) {
-    pen.put(b"<h2 id=variables>Variables, in octal</h2>\n<p>The declared variables: ");
-    pen.places(report.declaration.variables());
-    pen.put(VARIABLES);
+    writer.put(b"<h2 id=variables>Variables, in octal</h2>\n<p>The declared variables: ");
+    writer.places(report.declaration.variables());
+    writer.put(VARIABLES);
     for index in 0..4096 {
         let cell = Word::from_index(index);
         if report.held_in(cell).is_some() {
-            write_row(pen, report, cell);
+            write_row(writer, report, cell);
         }
     }
-    pen.put(b"</table>\n");
+    writer.put(b"</table>\n");
 }
 
 /// What stands beside an instruction; after a no it is only claimed.
@@ -245,19 +259,19 @@ pub fn page_below<A: Allocator + Copy, D: Allocator, C: Allocator>(
     report: &Report<'_, A, D, C>,
     why: &[u8],
 ) -> Result<Vec<u8, A>, AllocError> {
-    let mut pen = Pen::new(alloc, ReportForm::Page, &report.lines());
-    write_verdict(&mut pen, report, why);
-    write_map(&mut pen, report);
-    write_graph(&mut pen, alloc, report)?;
-    write_variables(&mut pen, report);
-    pen.put(b"<h2 id=listing>Listing, in octal</h2>\n<p>Beside each instruction is ");
-    pen.put(listed_text(report.finding));
-    pen.put(ITEMS);
+    let mut writer = ReportWriter::new(alloc, ReportForm::Page, &report.lines());
+    write_verdict(&mut writer, report, why);
+    write_map(&mut writer, report);
+    write_graph(&mut writer, alloc, report)?;
+    write_variables(&mut writer, report);
+    writer.put(b"<h2 id=listing>Listing, in octal</h2>\n<p>Beside each instruction is ");
+    writer.put(listed_text(report.finding));
+    writer.put(ITEMS);
     if writes_through(report) {
-        pen.put(LARGER);
+        writer.put(LARGER);
     }
-    pen.put(NAMES);
-    push_listing(&mut pen, report);
-    pen.put(b"</table>\n</body>\n</html>\n");
-    pen.into_bytes()
+    writer.put(NAMES);
+    push_listing(&mut writer, report);
+    writer.put(b"</table>\n</body>\n</html>\n");
+    writer.into_bytes()
 }

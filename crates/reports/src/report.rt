@@ -1,5 +1,8 @@
 //! What a report is made of.
 
+ghost use Rattle.declaration.specs.Kept.{meaning};
+ghost use Rattle.reports.specs.Kinds.{IsKind, IsOutside};
+
 use crate::source_notes::{SourceNote, SourceNotes};
 use crate::variables::{AllHeld, Held, held_of};
 use bin_tape::Image;
@@ -49,16 +52,17 @@ pub struct Report<'a, A: Allocator, D: Allocator, C: Allocator> {
     pub(crate) failing: &'a str,
     /// What the source says about addresses, where one is known.
     notes: Option<&'a SourceNotes<A>>,
-    /// What stands at each address.
-    kinds: Vec<Kind, A>,
     /// The addresses with a fact.
     pub(crate) facts: WordSet,
     /// What is known about variables.
     pub(crate) held: AllHeld<A>,
 }
 
-/// What stands at an address outside all bodies.
-fn kind_outside<D: Allocator>(image: &Image, declaration: &Declaration<D>, at: Word) -> Kind {
+/// What stands at an address outside all bodies, which is no entry.
+fn kind_outside<D: Allocator>(image: &Image, declaration: &Declaration<D>, at: Word) -> Kind
+    requires { IsOutside (meaning declaration.now) at }
+    ensures { IsKind image.now (meaning declaration.now) at result }
+{
     if declaration.is_variable(at) {
         return Kind::Variable;
     }
@@ -69,7 +73,9 @@ fn kind_outside<D: Allocator>(image: &Image, declaration: &Declaration<D>, at: W
 }
 
 /// What stands at an address.
-fn kind_at<D: Allocator>(image: &Image, declaration: &Declaration<D>, at: Word) -> Kind {
+fn kind_at<D: Allocator>(image: &Image, declaration: &Declaration<D>, at: Word) -> Kind
+    ensures { IsKind image.now (meaning declaration.now) at result }
+{
     if declaration.is_entry(at) {
         return Kind::Entry;
     }
@@ -80,19 +86,6 @@ fn kind_at<D: Allocator>(image: &Image, declaration: &Declaration<D>, at: Word) 
         Owner::Main => Kind::Main,
         Owner::Routine(entry) => Kind::Routine(entry),
     }
-}
-
-/// What stands at each address.
-fn kinds_of<A: Allocator, D: Allocator>(
-    alloc: A,
-    image: &Image,
-    declaration: &Declaration<D>,
-) -> Result<Vec<Kind, A>, AllocError> {
-    let mut kinds = Vec::new(alloc);
-    for index in 0..4096 {
-        kinds.push(kind_at(image, declaration, Word::from_index(index)))?;
-    }
-    Ok(kinds)
 }
 
 /// A routine that is called from nowhere and writes nothing.
@@ -128,7 +121,6 @@ impl<'a, A: Allocator + Copy, D: Allocator, C: Allocator> Report<'a, A, D, C> {
         failing: &'a str,
         notes: Option<&'a SourceNotes<A>>,
     ) -> Result<Report<'a, A, D, C>, AllocError> {
-        let kinds = kinds_of(alloc, image, declaration)?;
         let mut facts = WordSet::empty();
         let held = held_of(alloc, declaration, certificate, &mut facts)?;
         Ok(Report {
@@ -138,7 +130,6 @@ impl<'a, A: Allocator + Copy, D: Allocator, C: Allocator> Report<'a, A, D, C> {
             finding,
             failing,
             notes,
-            kinds,
             facts,
             held,
         })
@@ -147,11 +138,10 @@ impl<'a, A: Allocator + Copy, D: Allocator, C: Allocator> Report<'a, A, D, C> {
 
 impl<A: Allocator, D: Allocator, C: Allocator> Report<'_, A, D, C> {
     /// What stands at an address.
-    pub(crate) fn kind_of(&self, at: Word) -> Kind {
-        match self.kinds.get(at.index()) {
-            Some(kind) => *kind,
-            None => Kind::Unset,
-        }
+    pub(crate) fn kind_of(&self, at: Word) -> Kind
+        ensures { IsKind self.now.image.now (meaning self.now.declaration.now) at result }
+    {
+        kind_at(self.image, self.declaration, at)
     }
 
     /// What the source says about an address; nothing where it is not known.

@@ -3,7 +3,7 @@
 ghost use Rattle.std.specs.Prelude.{◌≡◌};
 ghost use Rattle.reports.specs.Head.{head_of, opening, stuck_opening};
 
-use crate::pen::ReportForm;
+use crate::writer::ReportForm;
 use judge::Refusal;
 
 /// What a page begins with, up to the verdict.

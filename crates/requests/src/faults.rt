@@ -1,11 +1,12 @@
-//! What is said below the line of a fault under `--why`. The file is looked at once more for it, if it can be read
-//! twice; this is tested, not proved.
+//! What is said below the line of a fault. The file is looked at once more for it, if it can be read twice; this is
+//! tested, not proved.
 
 use crate::files::{is_read_once, open_input};
 use crate::source_faults::{NO_WORD, output_name};
 use command_line::explanations::push_advice;
 use command_line::{FileNames, Request};
 use command_parts::status::{DeviceFault, Fault};
+use command_parts::visible::visible_text;
 use declaration::DeclarationFault;
 use diagnostics::inputs::{FaultyFile, push_fault};
 use std::alloc::Global;
@@ -17,6 +18,9 @@ use turns::{GuessFault, ProposeFault};
 /// What is said about a run that ends at a word that the machine does not have.
 const UNSUPPORTED: &str =
     "the machine does not implement the word there\nwhat to do: look at it with `pdp8 dump`; a word of the PDP-8/E needs --profile 8e; otherwise execution ran into data\n";
+
+/// What is said about an output after its name.
+const UNWRITTEN: &str = "cannot be created or written";
 
 /// How much of a file is looked at: a byte more than any input may have.
 const MOST: usize = 1_048_577;
@@ -33,46 +37,55 @@ fn faulty_input<'a>(fault: &Fault, names: &FileNames<'a>) -> Option<&'a str> {
 }
 
 /// What is in a file.
-fn bytes_of<R: Files + Input>(rt: &R, alloc: Global, name: &str) -> Result<Vec<u8>, Fault> {
+pub(crate) fn bytes_of<R: Files + Input>(
+    rt: &R,
+    alloc: Global,
+    name: &str,
+) -> Result<Vec<u8>, Fault> {
     let mut input = open_input(rt, name)?;
     Ok(read_at_most(alloc, &mut input, MOST)?)
 }
 
-/// The first of the inputs that cannot be opened or read, of those that can be read twice.
+/// Whether an input that can be read twice cannot be opened or read.
+fn is_unread<R: Files + Input>(rt: &R, alloc: Global, name: &str) -> bool {
+    !is_read_once(rt, name) && matches!(bytes_of(rt, alloc, name), Err(Fault::Device(_)))
+}
+
+/// The first of the parts of a source that cannot be opened or read.
+fn unread_part<'a, R: Files + Input>(rt: &R, alloc: Global, parts: &[&'a str]) -> Option<&'a str> {
+    for name in parts {
+        if is_unread(rt, alloc, name) {
+            return Some(*name);
+        }
+    }
+    None
+}
+
+/// The first of the other inputs that cannot be opened or read.
 fn unread_input<'a, R: Files + Input>(
     rt: &R,
     alloc: Global,
     names: &FileNames<'a>,
 ) -> Option<&'a str> {
     for name in names.inputs() {
-        let Some(name) = name else {
-            continue;
-        };
-        if is_read_once(rt, name) {
-            continue;
-        }
-        if let Err(Fault::Device(_)) = bytes_of(rt, alloc, name) {
-            return Some(name);
+        if let Some(name) = name {
+            if is_unread(rt, alloc, name) {
+                return Some(name);
+            }
         }
     }
     None
 }
 
-/// Whether these are the characters of a text, as a source has them and a tape hasn't.
-fn is_text(bytes: &[u8]) -> bool {
-    bytes
-        .iter()
-        .all(|byte| matches!(*byte, b'\t'..=b'\r' | b' '..=b'~'))
-}
-
-/// Adds the line on a source that was taken for a tape.
-fn push_source_hint(text: &mut String, fault: &Fault, file: &FaultyFile<'_>) {
-    if matches!(fault, Fault::Tape(_)) && !file.bytes.is_empty() && is_text(file.bytes) {
-        let name = file.name;
-        let _ = writeln!(
-            text,
-            "{name} is text, not a tape: a source needs --source, or must be assembled first for a command without that option; a declaration comes after the tape"
-        );
+/// The first of the inputs of a request that cannot be opened or read, of those that can be read twice.
+fn first_unread<'a, R: Files + Input>(
+    rt: &R,
+    alloc: Global,
+    request: &Request<'a>,
+) -> Option<&'a str> {
+    match unread_part(rt, alloc, request.parts()) {
+        Some(name) => Some(name),
+        None => unread_input(rt, alloc, &request.names()),
     }
 }
 
@@ -88,41 +101,50 @@ fn input_lines<R: Files + Input>(
     if is_read_once(rt, name) {
         return text;
     }
+    let Ok(shown) = visible_text(alloc, name) else {
+        return text;
+    };
     if let Ok(bytes) = bytes_of(rt, alloc, name) {
         let file = FaultyFile {
-            name,
+            name: &shown,
             bytes: &bytes,
         };
         let _ = push_fault(&mut text, *fault, &file);
-        push_source_hint(&mut text, fault, &file);
     }
     text
+}
+
+/// A name as it is told: one without a character as quotes.
+fn told_name<'n>(name: &'n str) -> &'n str {
+    if name.is_empty() { "\"\"" } else { name }
 }
 
 /// A line that is a name and what is said about it, if there is a name.
 fn line_of(alloc: Global, name: Option<&str>, said: &str) -> String {
     let mut text = String::new(alloc);
     if let Some(name) = name {
-        let _ = writeln!(text, "{name} {said}");
+        if let Ok(shown) = visible_text(alloc, told_name(name)) {
+            let _ = writeln!(text, "{shown} {said}");
+        }
     }
     text
 }
 
 /// The line on an output that cannot be created or written; where there are two it is one of them.
 fn unwritten_line(alloc: Global, names: &FileNames<'_>) -> String {
-    let mut text = String::new(alloc);
     let Some(output) = names.output else {
-        return text;
+        return String::new(alloc);
     };
-    let first = output_name(output);
-    let _ = match names.second_output {
+    let first = told_name(output_name(output));
+    match names.second_output {
         Some(other) if other != output => {
-            let second = output_name(other);
-            writeln!(text, "{first} or {second} cannot be created or written")
+            let second = told_name(output_name(other));
+            let mut both = String::new(alloc);
+            let _ = write!(both, "{first} or {second}");
+            line_of(alloc, Some(&both), UNWRITTEN)
         }
-        _ => writeln!(text, "{first} cannot be created or written"),
-    };
-    text
+        _ => line_of(alloc, Some(first), UNWRITTEN),
+    }
 }
 
 /// The lines on a fault that lies in no line of a file: what it means and what to do.
@@ -151,26 +173,40 @@ fn empty_lines(alloc: Global) -> String {
     text
 }
 
-/// What is said below the line of a fault: which file has it, where, and what may stand there; or what the
-/// fault means and what to do.
+/// The line on a file that cannot be read or written.
+fn device_line<R: Files + Input>(
+    rt: &R,
+    alloc: Global,
+    fault: DeviceFault,
+    request: &Request<'_>,
+) -> String {
+    match fault {
+        DeviceFault::Read => {
+            let name = first_unread(rt, alloc, request);
+            line_of(alloc, name, "cannot be opened or read")
+        }
+        DeviceFault::Write => unwritten_line(alloc, &request.names()),
+    }
+}
+
+/// What is said below the line of a fault: which file has it, and if the fault is to be explained also where it is, and
+/// what may stand there; or what the fault means and what to do.
 pub fn fault_lines<R: Files + Input>(
     rt: &R,
     alloc: Global,
     fault: &Fault,
-    names: &FileNames<'_>,
+    request: &Request<'_>,
+    explained: bool,
 ) -> String {
     match fault {
-        Fault::Device(DeviceFault::Read) => {
-            let name = unread_input(rt, alloc, names);
-            line_of(alloc, name, "cannot be opened or read")
-        }
-        Fault::Device(DeviceFault::Write) => unwritten_line(alloc, names),
+        Fault::Device(fault) => device_line(rt, alloc, *fault, request),
+        _ if !explained => String::new(alloc),
         Fault::Guess(GuessFault::TurnsSpent) => advice(alloc, "TurnsSpent"),
         Fault::Declare(ProposeFault::Undeclarable(fault)) => undeclarable_lines(alloc, *fault),
         Fault::Declare(ProposeFault::Mismatch) => advice(alloc, "Mismatch"),
         Fault::EmptyImage => empty_lines(alloc),
         Fault::NoMemory => advice(alloc, "NoMemory"),
-        _ => input_lines(rt, alloc, fault, names),
+        _ => input_lines(rt, alloc, fault, &request.names()),
     }
 }
 

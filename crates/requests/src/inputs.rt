@@ -1,7 +1,7 @@
 //! Outputs that are inputs under another name: files are compared, not their names. It is tested, not proved.
 
 use crate::files::has_bytes;
-use command_line::{Misuse, Request, Save, Task, is_source_name};
+use command_line::{Misuse, Request, Save, is_source_name};
 use std::alloc::{AllocError, Global};
 use std::fs;
 use std::io::Read;
@@ -39,7 +39,7 @@ fn names_file<R: Files>(rt: &R, names: &[&str], file: Identity) -> bool {
 fn is_part<R: Files>(rt: &R, request: &Request<'_>, file: Identity) -> bool {
     match request {
         Request::Assemble(asked) => names_file(rt, &asked.sources, file),
-        Request::Sourced(asked) => names_file(rt, &asked.sources, file),
+        Request::Program(asked) => names_file(rt, asked.program.parts(), file),
         _ => false,
     }
 }
@@ -96,11 +96,7 @@ fn misused_output<R: Files>(rt: &R, request: &Request<'_>) -> Option<Misuse> {
 /// The files that a request saves, if it does.
 fn save_of<'a>(request: &Request<'a>) -> Option<Save<'a>> {
     match request {
-        Request::Verify(asked) => asked.save,
-        Request::Sourced(asked) => match &asked.task {
-            Task::Verify { save, .. } => *save,
-            _ => None,
-        },
+        Request::Program(asked) => asked.task.save(),
         _ => None,
     }
 }

@@ -1,13 +1,9 @@
-//! The requests of a command line on a program that is given by its source, with its declaration in symbols or within
-//! the source. It is tested, not proved.
+//! Sources and their declarations: how they are read and assembled, and what is said about them. It is tested, not
+//! proved, but that the first line of a text stays as it is.
 
-mod assembled;
-mod explained;
-mod from_source;
-mod numbering;
-mod programs;
-mod source_lines;
-mod spots;
-mod wordless;
-
-pub use from_source::answer_sourced;
+pub(crate) mod assembled;
+pub(crate) mod numbering;
+mod part_lines;
+pub(crate) mod proposed;
+pub(crate) mod source_lines;
+pub(crate) mod told;

@@ -1,13 +1,14 @@
-//! The files that `verify --save` writes.
+//! The files that `verify --save` writes, and when the answer is told.
 
 use crate::files::{has_bytes, open_input};
 use crate::replacing::ResultFile;
 use crate::source_faults::tell_of;
-use crate::telling::tell;
 use command_line::{CERTIFICATE_ENDING, DECLARATION_ENDING, EVENTS_ENDING, Save};
 use command_parts::status::{DeviceFault, Fault, Status};
+use command_parts::visible::visible_text;
 use search_commands::verifying::{Answer, Proposed, answer_status};
 use std::alloc::Global;
+use std::io;
 use std::rt::Files;
 use streams::standard::Writes;
 use streams::{put, read_at_most};
@@ -61,17 +62,11 @@ impl Saved {
     }
 }
 
-/// How files are saved.
-#[derive(Clone, Copy)]
-pub struct Saving<'a> {
-    /// What their names begin with, if they are saved.
-    pub save: Option<Save<'a>>,
-    /// Whether it is said which file cannot be written.
-    pub explained: bool,
-}
-
 /// Tells that a file stays as it is, since it was not written by the command.
-fn tell_kept<R: Eprint>(rt: &R, path: &str) -> Status {
+fn tell_kept<R: Eprint>(rt: &R, alloc: Global, path: &str) -> Status {
+    let Ok(path) = visible_text(alloc, path) else {
+        return Status::Usage;
+    };
     let told = eprintln!(rt;
         "error: {path} is a file that this command did not write, so it is kept: give another '--save NAME', or use --force to replace it"
     );
@@ -80,36 +75,54 @@ fn tell_kept<R: Eprint>(rt: &R, path: &str) -> Status {
     }
 }
 
-/// Tells that a file cannot be written, and which one, if that is asked for.
-fn tell_unwritten<R: Eprint>(rt: &R, fault: Fault, path: &str, explained: bool) -> Status {
-    if explained {
-        tell_of(rt, fault, path, "cannot be created or written")
-    } else {
-        tell(rt, fault)
-    }
-}
-
 /// Writes these texts to their files, or none of them where one would replace a file that was not written by the
 /// command. The status is this one, or that of what is told.
 fn save_all<R: Files + Input + Eprint>(
     rt: &R,
     alloc: Global,
-    saving: &Saving<'_>,
+    save: &Option<Save<'_>>,
     saved: &[Saved],
     status: Status,
 ) -> Status {
-    let forced = saving.save.is_some_and(|save| save.forced);
+    let forced = save.is_some_and(|asked| asked.forced);
     for it in saved {
         if !forced && it.is_foreign(rt, alloc) {
-            return tell_kept(rt, &it.path);
+            return tell_kept(rt, alloc, &it.path);
         }
     }
     for it in saved {
         if let Err(fault) = it.write(rt, alloc) {
-            return tell_unwritten(rt, fault, &it.path, saving.explained);
+            return tell_of(rt, alloc, fault, &it.path, "cannot be created or written");
         }
     }
     status
+}
+
+/// Writes an answer to standard output.
+fn tell_answer<R: Print>(rt: &R, told: &[u8]) -> Result<(), Fault> {
+    Ok(put(&mut Writes::new(io::writer(rt)), told)?)
+}
+
+/// Tells an answer, and writes these texts to their files. A yes is told once they are written, so it is not told
+/// where one of them cannot be; the other answers are told first. The status is that of the answer, or of what is said
+/// about a file.
+fn tell_and_save<R: Files + Input + Print + Eprint>(
+    rt: &R,
+    alloc: Global,
+    save: &Option<Save<'_>>,
+    saved: &[Saved],
+    status: Status,
+    told: &[u8],
+) -> Result<Status, Fault> {
+    if status != Status::Done {
+        tell_answer(rt, told)?;
+        return Ok(save_all(rt, alloc, save, saved, status));
+    }
+    let after = save_all(rt, alloc, save, saved, status);
+    if after == Status::Done {
+        tell_answer(rt, told)?;
+    }
+    Ok(after)
 }
 
 /// Adds a text that is to be saved.
@@ -142,47 +155,49 @@ fn push_answer(
     Ok(())
 }
 
-/// Writes what an answer shows, if it is to be saved, and returns the status of the command: that of the answer, or
-/// of what is said about a file.
+/// Tells an answer by this text, and writes what it shows, if that is to be saved: after a yes, which is told once that
+/// is written, the certificate, after a no the events. Returns the status of the command: that of the answer, or of
+/// what is said about a file.
 ///
 /// # Errors
 ///
-/// `NoMemory`.
-pub fn save_answer<R: Files + Input + Eprint>(
+/// `Device` if the answer cannot be written, and `NoMemory`.
+pub fn tell_answer_and_save<R: Files + Input + Print + Eprint>(
     rt: &R,
     alloc: Global,
-    saving: &Saving<'_>,
+    save: &Option<Save<'_>>,
     answer: &Answer<Global>,
+    told: &[u8],
 ) -> Result<Status, Fault> {
     let mut saved = Vec::new(alloc);
-    if let Some(save) = saving.save {
-        push_answer(alloc, save.name, answer, &mut saved)?;
+    if let Some(asked) = save {
+        push_answer(alloc, asked.name, answer, &mut saved)?;
     }
-    Ok(save_all(rt, alloc, saving, &saved, answer_status(answer)))
+    tell_and_save(rt, alloc, save, &saved, answer_status(answer), told)
 }
 
-/// Writes the declaration that was proposed, and what the answer shows, if they are to be saved, and returns the
-/// status of the command.
+/// The same of an answer about a declaration that was proposed, which is saved with what the answer shows.
 ///
 /// # Errors
 ///
-/// As for [`save_answer`].
-pub fn save_proposed<R: Files + Input + Eprint>(
+/// As for [`tell_answer_and_save`].
+pub fn tell_proposed_and_save<R: Files + Input + Print + Eprint>(
     rt: &R,
     alloc: Global,
-    saving: &Saving<'_>,
+    save: &Option<Save<'_>>,
     proposed: &Proposed<Global>,
+    told: &[u8],
 ) -> Result<Status, Fault> {
     let mut saved = Vec::new(alloc);
-    if let Some(save) = saving.save {
+    if let Some(asked) = save {
         let mut text = Vec::new(alloc);
         text.extend_from_slice(&proposed.text)?;
         push_saved(
             &mut saved,
-            Saved::new(alloc, save.name, DECLARATION_ENDING, text)?,
+            Saved::new(alloc, asked.name, DECLARATION_ENDING, text)?,
         )?;
-        push_answer(alloc, save.name, &proposed.answer, &mut saved)?;
+        push_answer(alloc, asked.name, &proposed.answer, &mut saved)?;
     }
     let status = answer_status(&proposed.answer);
-    Ok(save_all(rt, alloc, saving, &saved, status))
+    tell_and_save(rt, alloc, save, &saved, status, told)
 }

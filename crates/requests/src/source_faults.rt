@@ -2,13 +2,42 @@
 
 use crate::telling::{tell, tell_with};
 use command_parts::status::{Fault, Status};
+use command_parts::visible::visible_text;
 use instruct::Profile;
 use pal_asm::PalFault;
 use pal_diagnostics::push_faults;
-use std::alloc::Global;
+use std::alloc::{AllocError, Global};
 
 /// What is said about a source that is assembled to no word.
 pub const NO_WORD: &str = "the source generates no code: list shows what it contains\n";
+
+/// Names of files as they are shown to people.
+///
+/// # Errors
+///
+/// Memory was refused.
+pub fn visible_names(alloc: Global, names: &[&str]) -> Result<Vec<String>, AllocError> {
+    let mut shown = Vec::new(alloc);
+    for name in names {
+        if shown.push(visible_text(alloc, name)?).is_err() {
+            return Err(AllocError);
+        }
+    }
+    Ok(shown)
+}
+
+/// The same names, lent.
+///
+/// # Errors
+///
+/// Memory was refused.
+pub fn lend_names<'n>(alloc: Global, names: &'n [String]) -> Result<Vec<&'n str>, AllocError> {
+    let mut lent = Vec::new(alloc);
+    for name in names {
+        lent.push(name.as_str())?;
+    }
+    Ok(lent)
+}
 
 /// An input as it is named in a sentence.
 pub fn input_name<'n>(name: &'n str) -> &'n str {
@@ -29,31 +58,51 @@ pub fn unopened<'n>(names: &'n [&'n str], opened: usize) -> &'n str {
 }
 
 /// Writes the line of a fault to standard error, and below it, if a device failed, of which file.
-pub fn tell_of<R: Eprint>(rt: &R, fault: Fault, name: &str, happened: &str) -> Status {
+pub fn tell_of<R: Eprint>(
+    rt: &R,
+    alloc: Global,
+    fault: Fault,
+    name: &str,
+    happened: &str,
+) -> Status {
     let status = tell(rt, fault);
     if status != Status::Device {
         return status;
     }
-    match eprintln!(rt; "{name} {happened}") {
-        Ok(()) | Err(_) => status,
+    if let Ok(name) = visible_text(alloc, name) {
+        let _ = eprintln!(rt; "{name} {happened}");
     }
+    status
 }
 
 /// Writes the line of the fault of a size to standard error, and below it what is too long or too many.
-pub fn tell_size<R: Eprint>(rt: &R, fault: PalFault, names: &[&str]) -> Status {
+pub fn tell_size<R: Eprint>(rt: &R, alloc: Global, fault: PalFault, names: &[&str]) -> Status {
     let status = tell(rt, Fault::Source(fault));
     let count = names.len();
-    let told = match names.get(fault.part.wrapping_sub(1)) {
-        Some(name) => eprintln!(rt;
-            "{name}: TL: the part has more than 65536 bytes\nsplit it into parts, in order, each except the last with PAUSE at its end"
-        ),
-        None => eprintln!(rt;
+    let Some(name) = names.get(fault.part.wrapping_sub(1)) else {
+        let _ = eprintln!(rt;
             "TL: the source has {count} parts, and the maximum is 16\njoin some of them, without the PAUSE between them"
-        ),
+        );
+        return status;
     };
-    match told {
-        Ok(()) | Err(_) => status,
+    if let Ok(name) = visible_text(alloc, name) {
+        let _ = eprintln!(rt;
+            "{name}: TL: the part has more than 65536 bytes\nsplit it into parts, in order, each except the last with PAUSE at its end"
+        );
     }
+    status
+}
+
+/// Adds what is wrong with a source whose parts have these names.
+fn push_source_faults(
+    alloc: Global,
+    told: &mut String,
+    names: &[&str],
+    parts: &[&[u8]],
+    profile: Profile,
+) -> Result<(), AllocError> {
+    let shown = visible_names(alloc, names)?;
+    push_faults(alloc, told, &lend_names(alloc, &shown)?, parts, profile)
 }
 
 /// Writes the line of a source's fault to standard error, and below it what is wrong, if that is asked
@@ -71,10 +120,9 @@ pub fn tell_source<R: Eprint>(
         return tell(rt, Fault::Source(fault));
     }
     if fault.line == 0 {
-        return tell_size(rt, fault, names);
+        return tell_size(rt, alloc, fault, names);
     }
     let mut told = String::new(alloc);
-    match push_faults(alloc, &mut told, names, parts, profile) {
-        Ok(()) | Err(_) => tell_with(rt, Fault::Source(fault), &told),
-    }
+    let _ = push_source_faults(alloc, &mut told, names, parts, profile);
+    tell_with(rt, Fault::Source(fault), &told)
 }

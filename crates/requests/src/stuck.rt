@@ -1,4 +1,8 @@
-//! What is said about a search for a certificate that is stuck. It is tested, not proved.
+//! What is said about a search for a certificate that is stuck. It is proved that the line of an answer comes first; the
+//! lines behind it are tested.
+
+ghost use Rattle.std.specs.Prelude.{IfOk};
+ghost use Rattle.command_parts.specs.Messages.{BeginsWith, plain};
 
 use bin_tape::Image;
 use certificate::Certificate;
@@ -57,25 +61,32 @@ fn stuck_line(alloc: Global, at: Word) -> Result<Message<Global>, AllocError> {
     Ok(Message::of(alloc, line.into_bytes()))
 }
 
-/// What is said about a search that is stuck: its line, why it is stuck, and what to do.
+/// What is said about a search that is stuck, after its line: why it is stuck, and what to do.
 #[inline(never)]
-pub fn stuck_message(alloc: Global, stuck: &Stuck<'_>) -> Result<Message<Global>, AllocError> {
-    let mut told = stuck_line(alloc, stuck.at)?;
+fn stuck_reasons(alloc: Global, stuck: &Stuck<'_>) -> Result<Message<Global>, AllocError> {
+    let mut told = Message::new(alloc);
     let why = draft_message(alloc, stuck.image, stuck.declaration, stuck.draft, stuck.at)?;
     push_stuck(alloc, &mut told, stuck, &why)?;
     Ok(told)
 }
 
-/// What is said about an answer: its line, and why; where the search is stuck with all that is known about that.
+/// What is said about a search that is stuck: its line, and behind it why it is stuck, and what to do.
 #[inline(never)]
-pub fn answer_message(
+pub fn stuck_message(alloc: Global, stuck: &Stuck<'_>) -> Result<Message<Global>, AllocError> {
+    let mut told = stuck_line(alloc, stuck.at)?;
+    told.push_message(&stuck_reasons(alloc, stuck)?)?;
+    Ok(told)
+}
+
+/// What is said about an answer, after its line; where the search is stuck with all that is known about that.
+#[inline(never)]
+fn answer_reasons(
     alloc: Global,
     image: &Image,
     declaration: &Declaration<Global>,
     found: &AnswerMessage<Global>,
 ) -> Result<Message<Global>, AllocError> {
     let mut told = Message::new(alloc);
-    told.push_text(&found.line)?;
     match (&found.answer, &found.draft) {
         (Answer::NotKnown(Lack::Stuck(at)), Some(draft)) => {
             let stuck = Stuck {
@@ -88,5 +99,26 @@ pub fn answer_message(
         }
         _ => told.push_message(&found.why)?,
     }
+    Ok(told)
+}
+
+/// What is said about an answer: its line, first and as it is, and behind it why.
+///
+/// # Errors
+///
+/// Memory was refused.
+#[inline(never)]
+pub fn answer_message(
+    alloc: Global,
+    image: &Image,
+    declaration: &Declaration<Global>,
+    found: &AnswerMessage<Global>,
+) -> Result<Message<Global>, AllocError>
+    ensures { IfOk result (λ told. BeginsWith found.now.line.items (plain told)) }
+{
+    let reasons = answer_reasons(alloc, image, declaration, found)?;
+    let mut told = Message::new(alloc);
+    told.push_text(&found.line)?;
+    told.push_message(&reasons)?;
     Ok(told)
 }

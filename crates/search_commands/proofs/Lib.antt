@@ -1,4 +1,5 @@
 pub mod DeclareLemmas
 pub mod CompleteLemmas
 pub mod StuckLemmas
-pub mod SourceLemmas
+mod AgreeLemmas
+pub mod WidenedLemmas

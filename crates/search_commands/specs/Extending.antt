@@ -1,14 +1,8 @@
 -- When one declaration extends another.
 use Rattle.std.specs.Prelude.{ℕ, ◌≡◌, ◌<◌, true, Option, Some, None}
 use Rattle.wordset.specs.Words.{Words, IsWithin}
-use Rattle.declaration.specs.Declaration.{Declaration, Routine}
-
--- Whatever the one declaration says of a cell the other says too: each body that has the cell has it still, an entry stays
--- an entry, and its routine may return at each offset, all of which are below 8, at which it might.
-pub record KeepsCell (given more : Declaration) (a : ℕ) : Type 0 where
-  pub body : (r : Routine) → given.body r a ≡ true → more.body r a ≡ true
-  pub entry : given.entry a ≡ true → more.entry a ≡ true
-  pub offset : (o : ℕ) → o < 8 → given.offset a o ≡ true → more.offset a o ≡ true
+use Rattle.declaration.specs.Declaration.{Declaration}
+use Rattle.proposer.specs.Widths.{KeepsCell}
 
 -- Where reads aren't listed they still aren't, and where they are listed each cell is listed still.
 abbrev pub KeepsReads : Option Words → Option Words → Type 0

@@ -5,7 +5,9 @@ pub mod Extending
 pub mod CompleteText
 pub mod StuckText
 pub mod VerifyText
-pub mod Faults
-pub mod Verdicts
+pub mod WidenedText
+pub mod WidenedSearch
+pub mod Laws
+pub mod Adding
 pub mod ExplainText
 pub mod MigrateText

@@ -1,5 +1,5 @@
 -- What `verify` says, and when it is true.
-use Rattle.std.specs.Prelude.{ℕ, ◌≡◌, ◌++◌, ⊤, Bool, false, codes, decimal, List, [], Option}
+use Rattle.std.specs.Prelude.{ℕ, ◌≡◌, ◌++◌, ⊤, Bool, false, codes, decimal, drop, List, [], Option}
 use Rattle.word12.specs.Words.{octal_text}
 use Rattle.peripherals.specs.Loading.{image_of}
 use Rattle.declaration.specs.Declaration.{Declaration}
@@ -20,6 +20,7 @@ use Rattle.search_commands.specs.declared.verifying.Lack.TheVariants.{Stuck, Tur
 use Rattle.search_commands.specs.declared.verifying.Answer.{Answer}
 use Rattle.search_commands.specs.declared.verifying.Answer.TheVariants.{Yes, No, NotKnown}
 use Rattle.search_commands.specs.declared.verifying.Proposed.{Proposed}
+use Rattle.search_commands.specs.WidenedText.{HasReason, reason_text}
 
 -- The answer is true of a tape's words and a declaration. After a yes every condition holds of the certificate, and so no
 -- run of the program breaks the declaration. After a no the run breaks it: its last event is the first step that isn't
@@ -44,35 +45,45 @@ answer_text d (Yes c) = yes_text d
 answer_text d (No w) = no_text w.event w.rule
 answer_text d (NotKnown lack) = lack_text lack
 
+-- The line of an answer about a declaration that is proposed, made of the line of the same answer about one that is given. A
+-- yes says in place of its first word that it is about the proposal, so nobody takes it for a yes about a declaration of
+-- their own; the other lines are the same.
+abbrev pub proposed_text : {A : Type 0} → Answer A → List ℕ → List ℕ
+proposed_text (Yes c) line = codes "yes, of the declaration proposed" ++ drop 3 line
+proposed_text _ line = line
+
 -- Only a yes is done.
 abbrev pub answer_status : {A : Type 0} → Answer A → Status
 answer_status (Yes c) = Done
 answer_status _ = Refused
 
--- What is told of an answer: its line, and behind it, only where it is to be explained, some lines more, of which nothing is
--- said here.
-pub record IsTold {A : Type 0} (d : Declaration) (answer : Answer A) (explained : Bool) (told : List ℕ) : Type 0 where
+-- What is told of an answer with this line: the line comes first and as it is, and behind it stand, only where the answer is
+-- to be explained, some lines more, of which nothing is said here.
+pub record IsTold (line : List ℕ) (explained : Bool) (told : List ℕ) : Type 0 where
   pub why : List ℕ
   pub plain : explained ≡ false → why ≡ []
-  pub told_is : told ≡ answer_text d answer ++ why
+  pub told_is : told ≡ line ++ why
 
 -- The answer is true of a tape's words and a declaration, and this is told of it.
 pub record IsVerifiedOf {A : Type 0} (explained : Bool) (image : List (Option ℕ)) (declaration : Declaration) (answer : Answer A) (told : List ℕ) : Type 0 where
   pub answers : IsAnswer image declaration answer
-  pub is : IsTold declaration answer explained told
+  pub is : IsTold (answer_text declaration answer) explained told
 
 -- The frames are a tape and the text is that of a declaration; the answer is true of them, and this is told of it.
 abbrev pub IsVerified : {A : Type 0} → Option (List ℕ) → Option (List ℕ) → Bool → Answer A → List ℕ → Type 0
 IsVerified frames text explained answer told = OfProgram frames text (IsVerifiedOf explained) answer told
 
 -- The text that is proposed declares a program that starts where it was asked to, on the machine that was asked for; the answer
--- is true of the words and of what is declared, and this is told of it.
+-- is true of the words and of what is declared. Its line is told, behind a no why no declaration allows what the run does, and
+-- behind that, only where it is to be explained, some lines more, of which nothing is said here.
 pub record IsProposedAnswerOf {A : Type 0} (options : VerifyOptions) (image : List (Option ℕ)) (p : Proposed A) (told : List ℕ) : Type 0 where
   pub declaration : Declaration
   pub declares : Declares p.text.items declaration
   pub start_is : declaration.start ≡ options.start
   pub profile_is : declaration.profile ≡ options.profile
-  pub is : IsVerifiedOf options.search.explained image declaration p.answer told
+  pub answers : IsAnswer image declaration p.answer
+  pub reason : HasReason image declaration p.answer p.obstacle
+  pub is : IsTold (proposed_text p.answer (answer_text declaration p.answer) ++ reason_text p.obstacle) options.search.explained told
 
 -- The frames are a tape, and this is told of such an answer for it.
 pub record IsProposedAnswer {A : Type 0} (options : VerifyOptions) (frames : Option (List ℕ)) (p : Proposed A) (told : List ℕ) : Type 0 where

@@ -1,10 +1,11 @@
 //! The command that adds to a declaration what is missing there.
 
-ghost use Rattle.std.specs.Prelude.{◌≡◌, ◌⊎◌, false, Ok, Err, None, IfSome, IfOk, IfErr};
+ghost use Rattle.std.specs.Prelude.{◌≡◌, ◌⊎◌, false, Ok, Err, None, IfSome, IfOk, IfErr, ℕ, List, Option};
 ghost use Rattle.command_parts.specs.Answers.{IsLaterFault, IsMemoryFault, NeverFails, OfProgram, ReadsTwo, WritesAnswer, output};
 ghost use Rattle.command_parts.specs.Faults.{IsDeclarationInputFault, fails_to_read, fails_to_write};
 ghost use Rattle.command_parts.specs.Inputs.{HasDeclaration, HasImage, TakesAtMost, input};
 ghost use Rattle.command_parts.specs.declared.status.Status.TheVariants.{Done, Refused};
+ghost use Rattle.search_commands.specs.Adding.{AddsIfFit, AddsOnly, IsAddition};
 ghost use Rattle.search_commands.specs.CompleteText.{Completes, IsExtension, IsTried};
 ghost use Rattle.search_commands.specs.Extending.{Extends};
 ghost use Rattle.search_commands.specs.SearchFaults.{IsProposeFault};
@@ -14,6 +15,7 @@ ghost use Rattle.peripherals.specs.Loading.{image_of};
 ghost use Rattle.proposer.specs.Proposals.{IsTold};
 ghost use Rattle.policy.specs.Runs.{IsSafe};
 
+use crate::adding::adds_only;
 use crate::declaring::{MOST_TURNS, copy_of, proposal_for, push_lack, push_seen, push_unfollowed};
 use crate::extending::extends;
 use crate::merging::merged;
@@ -125,24 +127,29 @@ fn lack_in<A: Allocator + Copy, D: Allocator>(
     }
 }
 
-/// What a text declares, if that extends a declaration.
+/// What a text declares, if that extends a declaration by what is proposed and by nothing else.
 fn extension<A: Allocator + Copy, D: Allocator>(
     alloc: A,
     given: &Declaration<D>,
+    proposed: &Declaration<D>,
     text: &[u8],
 ) -> Result<Option<Declaration<A>>, Fault>
     ensures declares { IfOk result (λ found. IfSome found (λ d. Declares text.now (meaning d))) }
     ensures extends { IfOk result (λ found.
         IfSome found (λ d. Extends (meaning given.now) (meaning d))) }
+    ensures adds { IfOk result (λ found. IfSome found (λ d.
+        AddsOnly (meaning given.now) (meaning proposed.now) (meaning d))) }
     ensures faults { IfErr result IsMemoryFault }
 {
     match Declaration::parse(alloc, text) {
         Ok(more) => {
-            if extends(given, &more) {
-                Ok(Some(more))
-            } else {
-                Ok(None)
+            if !extends(given, &more) {
+                return Ok(None);
             }
+            if !adds_only(given, proposed, &more) {
+                return Ok(None);
+            }
+            Ok(Some(more))
         }
         Err(DeclarationFault::NoMemory) => Err(Fault::NoMemory),
         Err(_) => Ok(None),
@@ -154,12 +161,14 @@ fn tried<A: Allocator + Copy, D: Allocator>(
     alloc: A,
     image: &Image,
     given: &Declaration<D>,
+    proposed: &Declaration<D>,
     text: &[u8],
 ) -> Result<Trial, Fault>
     ensures tried { IfOk result (IsTried image.now (meaning given.now) text.now) }
+    ensures adds { IfOk result (AddsIfFit (meaning given.now) (meaning proposed.now) text.now) }
     ensures faults { IfErr result IsMemoryFault }
 {
-    let Some(more) = extension(alloc, given, text)? else {
+    let Some(more) = extension(alloc, given, proposed, text)? else {
         return Ok(Trial::Unfit);
     };
     match lack_in(alloc, image, &more)? {
@@ -197,17 +206,21 @@ fn with_remarks<A: Allocator + Copy>(
 fn remarked<A: Allocator + Copy, D: Allocator>(
     alloc: A,
     given: &Declaration<D>,
+    proposed: &Declaration<D>,
     text: &[u8],
     lack: Lack,
     seen: Option<ObservedRuns>,
     unfollowed: &WordSet,
 ) -> Result<Vec<u8, A>, Fault>
-    requires { IsExtension (meaning given.now) text.now }
+    requires extends { IsExtension (meaning given.now) text.now }
+    requires adds { IsAddition (meaning given.now) (meaning proposed.now) text.now }
+    ensures adds { IfOk result (λ more.
+        IsAddition (meaning given.now) (meaning proposed.now) more.items) }
     ensures extends { IfOk result (λ more. IsExtension (meaning given.now) more.items) }
     ensures faults { IfErr result IsMemoryFault }
 {
     let more = with_remarks(alloc, text, lack, seen, unfollowed)?;
-    match extension(alloc, given, &more)? {
+    match extension(alloc, given, proposed, &more)? {
         Some(_found) => Ok(more),
         None => Ok(copy_of(alloc, text)?),
     }
@@ -231,19 +244,29 @@ fn proposal_by<A: Allocator + Copy>(
     proposal_for(alloc, image, &options, &mut Turns::new(MOST_TURNS))
 }
 
-/// A text for which no certificate is found, if there is one.
-fn refused<A: Allocator>(text: Result<Vec<u8, A>, Fault>) -> Result<Outcome<A>, Fault>
-    ensures text { IfOk result (λ c. text ≡ Ok c.text) }
-    ensures status { IfOk result (λ c. c.status ≡ Refused) }
-    ensures fault { IfErr result (λ fault. text ≡ Err fault) }
+/// What is written of a text that extends a declaration if no certificate is found.
+fn lacking<A: Allocator + Copy, D: Allocator>(
+    alloc: A,
+    given: &Declaration<D>,
+    proposed: &Declaration<D>,
+    text: &[u8],
+    lack: Lack,
+    seen: Option<ObservedRuns>,
+    unfollowed: &WordSet,
+) -> Result<Outcome<A>, Fault>
+    requires extends { IsExtension (meaning given.now) text.now }
+    requires adds { IsAddition (meaning given.now) (meaning proposed.now) text.now }
+    ensures completes { (image : List (Option ℕ)) → IfOk result (λ c.
+        Completes image (meaning given.now) c.status c.text.items) }
+    ensures adds { IfOk result (λ c.
+        IsAddition (meaning given.now) (meaning proposed.now) c.text.items) }
+    ensures faults { IfErr result IsMemoryFault }
 {
-    match text {
-        Ok(text) => Ok(Outcome {
-            text,
-            status: Status::Refused,
-        }),
-        Err(fault) => Err(fault),
-    }
+    let more = remarked(alloc, given, proposed, text, lack, seen, unfollowed)?;
+    Ok(Outcome {
+        text: more,
+        status: Status::Refused,
+    })
 }
 
 /// The text that completes a declaration for which no certificate is found, by what is proposed for the
@@ -258,23 +281,28 @@ fn completed<A: Allocator + Copy>(
     requires { Declares given.now.text.items (meaning given.now.declaration) }
     ensures completes { IfOk result (λ c.
         Completes image.now (meaning given.now.declaration) c.status c.text.items) }
+    ensures adds { IfOk result (λ c. IsAddition (meaning given.now.declaration)
+        (meaning proposal.now.declaration) c.text.items) }
     ensures faults { IfErr result IsMemoryFault }
 {
     let promised = &given.declaration;
-    let text = merged(alloc, &given.text, promised, &proposal.declaration)?;
-    match tried(alloc, image, promised, &text)? {
+    let proposed = &proposal.declaration;
+    let text = merged(alloc, &given.text, promised, proposed)?;
+    match tried(alloc, image, promised, proposed, &text)? {
         Trial::Shown => Ok(Outcome {
             text,
             status: Status::Done,
         }),
         Trial::Lacking(lack) => {
             let seen = proposal.seen;
-            refused(remarked(alloc, promised, &text, lack, seen, &proposal.unfollowed))
+            let unfollowed = &proposal.unfollowed;
+            lacking(alloc, promised, proposed, &text, lack, seen, unfollowed)
         }
         // Nothing is added, so nothing is by what runs did.
         Trial::Unfit => {
             let text = &given.text;
-            refused(remarked(alloc, promised, text, lack, None, &proposal.unfollowed))
+            let unfollowed = &proposal.unfollowed;
+            lacking(alloc, promised, proposed, text, lack, None, unfollowed)
         }
     }
 }

@@ -2,15 +2,17 @@
 //! program complies with one.
 #![tactic(auto)]
 
+mod adding;
 pub mod checking;
 pub mod completing;
 pub mod declaring;
 pub mod explaining;
 mod extending;
 pub mod guessing;
+pub mod laws;
 mod merging;
 pub mod messages;
 pub mod migrating;
-pub mod of_sources;
 pub mod stuck;
 pub mod verifying;
+mod widening;

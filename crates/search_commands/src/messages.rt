@@ -3,24 +3,22 @@
 
 ghost use Rattle.std.specs.Prelude.{◌≡◌, ◌++◌, false, [], IfOk, IfErr};
 ghost use Rattle.declaration.specs.Kept.{meaning};
-ghost use Rattle.analyser.specs.Attempts.{IsAcceptedIfFound, IsDraftIfStuck, claimed_by};
+ghost use Rattle.analyser.specs.Attempts.{IsAcceptedIfFound, claimed_by};
 ghost use Rattle.certificate.specs.Kept.{meaning as lines_of};
 ghost use Rattle.certificate.specs.Reading.{AreLines};
-ghost use Rattle.command_parts.specs.Answers.{IsMemoryFault, ReadsTwo};
+ghost use Rattle.command_parts.specs.Answers.{IsMemoryFault};
 ghost use Rattle.command_parts.specs.Faults.{fails_to_write};
-ghost use Rattle.command_parts.specs.Inputs.{HasDeclaration, HasImage, input};
 ghost use Rattle.command_parts.specs.Messages.{plain};
-ghost use Rattle.proposer.specs.Proposals.{IsShown};
-ghost use Rattle.search_commands.specs.SearchFaults.{IsProposeFault, IsSearchFault};
-ghost use Rattle.search_commands.specs.VerifyText.{IsAnswer, IsProposedAnswerOf, IsVerifiedOf, answer_text, lack_text, no_text};
+ghost use Rattle.search_commands.specs.SearchFaults.{IsProposeFault};
+ghost use Rattle.search_commands.specs.VerifyText.{IsAnswer, IsProposedAnswerOf, IsVerifiedOf, answer_text, lack_text, no_text, proposed_text};
 
 use crate::stuck::draft_message;
 use crate::verifying::{Answer, Lack, MOST_TURNS, Proposed, RefuteOptions, VerifyOptions, lack_of};
+use crate::widening::{Settled, settle, with_reason};
 use analyser::{Attempt, GuessFault, guess, guess_or_draft};
 use bin_tape::Image;
 use certificate::Certificate;
 use command_parts::message::Message;
-use command_parts::programs::{Program, program_from};
 use command_parts::status::Fault;
 use command_parts::text::push_place;
 use declaration::Declaration;
@@ -28,23 +26,11 @@ use diagnostics::verdicts::verdict::verdict_line;
 use itoa::Buffer;
 use machine_commands::violations::breach_lines;
 use policy::{Rule, Watched};
-use proposer::{Proposal, Verdict, propose};
+use proposer::propose;
 use refuter::{Witness, refute_within};
 use std::alloc::{AllocError, Allocator};
-use streams::ByteSource;
 use turns::Turns;
 use word12::Word;
-
-/// A program and its declaration, and what a search for a certificate came to.
-#[derive(Drop)]
-pub struct Sought<A: Allocator> {
-    /// The words of the program.
-    pub image: Image,
-    /// Its declaration.
-    pub declaration: Declaration<A>,
-    /// What the search came to.
-    pub attempt: Attempt<A>,
-}
 
 /// An answer, and what the search for a certificate had found where it was stuck, if that is known.
 #[derive(Drop)]
@@ -75,44 +61,6 @@ pub struct ProposalMessage<A: Allocator> {
     pub line: Vec<u8, A>,
     /// The lines that say why, if that is asked for; there are none after a yes.
     pub why: Message<A>,
-}
-
-/// Reads a tape and then a declaration, and searches for a certificate as `guess` does.
-///
-/// # Errors
-///
-/// The fault of the tape or of the declaration; `Guess` if there is neither a certificate nor a draft; `NoMemory`.
-#[inline(never)]
-pub fn seek<A: Allocator + Copy, T: ByteSource, D: ByteSource>(
-    alloc: A,
-    tape: &mut T,
-    declaration: &mut D,
-) -> Result<Sought<A>, Fault>
-    requires readable { T.mark tape.old ≡ false }
-    requires declaration_readable { D.mark declaration.old ≡ false }
-    // The judge accepts what is found, for the words of the tape and the declaration that were read.
-    ensures tape { IfOk result (λ sought. HasImage (T.remaining tape.old) sought.image) }
-    ensures declares { IfOk result (λ sought.
-        HasDeclaration (D.remaining declaration.old) (meaning sought.declaration)) }
-    ensures accepted { IfOk result (λ sought.
-        IsAcceptedIfFound sought.image sought.declaration sought.attempt) }
-    // A draft's lines are where they may be, and it has a fact where the search is stuck.
-    ensures draft { IfOk result (λ sought.
-        IsDraftIfStuck (meaning sought.declaration) sought.attempt) }
-    // The inputs are read in order; after good ones nothing may be found, or memory be refused.
-    ensures reads { ReadsTwo IsSearchFault
-        (input (T.mark tape.new) (T.remaining tape.old) (T.remaining tape.new))
-        (input (D.mark declaration.new) (D.remaining declaration.old) (D.remaining declaration.new))
-        (declaration.new ≡ declaration.old) result }
-{
-    let program = program_from(alloc, tape, declaration)?;
-    let attempt = guess_or_draft(alloc, &program.image, &program.declaration)?;
-    let Program { image, declaration } = program;
-    Ok(Sought {
-        image,
-        declaration,
-        attempt,
-    })
 }
 
 /// Searches for a run that violates a declaration, for which no certificate was found.
@@ -240,32 +188,6 @@ fn answer_with_draft<A: Allocator + Copy, D: Allocator>(
     }
 }
 
-/// The answer for a declaration that was proposed with this verdict.
-fn answer_by<A: Allocator + Copy>(
-    alloc: A,
-    image: &Image,
-    declaration: &Declaration<A>,
-    verdict: Verdict<A>,
-    options: &RefuteOptions,
-) -> Result<Searched<A>, Fault>
-    requires { IsShown image.now declaration.now verdict }
-    ensures answer { IfOk result (λ found.
-        IsAnswer image.now (meaning declaration.now) found.answer) }
-    ensures faults { IfErr result IsMemoryFault }
-{
-    let lack = match verdict {
-        Verdict::Safe(certificate) => {
-            return Ok(Searched {
-                answer: Answer::Yes(certificate),
-                draft: None,
-            });
-        }
-        Verdict::Stuck(at) => Lack::Stuck(at),
-        Verdict::TurnsSpent => Lack::TurnsSpent,
-    };
-    answer_on(alloc, image, declaration, options, lack, None)
-}
-
 /// The line that says why it is not known.
 fn lack_line<A: Allocator>(alloc: A, lack: Lack) -> Result<Vec<u8, A>, AllocError>
     ensures { IfOk result (λ text. text.items ≡ lack_text lack) }
@@ -306,6 +228,25 @@ fn answer_line<A: Allocator + Copy, D: Allocator>(
         Answer::No(found) => no_line(alloc, found.event, found.rule),
         Answer::NotKnown(lack) => lack_line(alloc, *lack),
     }
+}
+
+/// The line of an answer about a declaration that is proposed, by its line about one that is given.
+fn proposed_line<A: Allocator + Copy>(
+    alloc: A,
+    answer: &Answer<A>,
+    line: &[u8],
+) -> Result<Vec<u8, A>, AllocError>
+    ensures { IfOk result (λ text. text.items ≡ proposed_text answer.now line.now) }
+{
+    let mut text = Vec::new(alloc);
+    match answer {
+        Answer::Yes(_) => {
+            text.extend_from_slice(b"yes, of the declaration proposed")?;
+            text.extend_from_slice(line.get(3..).unwrap_or(b""))?;
+        }
+        _ => text.extend_from_slice(line)?,
+    }
+    Ok(text)
 }
 
 /// What the search for a certificate lacks, by what it had found: the lines of `guess --why` after its first one.
@@ -391,6 +332,8 @@ fn message_of<A: Allocator + Copy, D: Allocator>(
         told.answer (told.line.items ++ plain told.why)) }
     ensures line { IfOk result (λ told.
         told.line.items ≡ answer_text (meaning declaration.now) told.answer) }
+    ensures same { IfOk result (λ told. told.answer ≡ found.answer) }
+    ensures plain { IfOk result (λ told. explained ≡ false → plain told.why ≡ []) }
     ensures faults { IfErr result IsMemoryFault }
 {
     let line = answer_line(alloc, declaration, &found.answer)?;
@@ -451,13 +394,17 @@ pub fn verify_proposed_message<A: Allocator + Copy>(
 {
     let mut turns = Turns::new(MOST_TURNS);
     let proposal = propose(alloc, image, options.start, options.profile, &mut turns)?;
-    let Proposal {
+    let last = settle(alloc, image, proposal, &options.search, &mut turns)?;
+    let Settled {
         declaration,
         text,
-        verdict,
-        ..
-    } = proposal;
-    let found = answer_by(alloc, image, &declaration, verdict, &options.search)?;
+        answer,
+        obstacle,
+    } = last;
+    let found = Searched {
+        answer,
+        draft: None,
+    };
     let told = message_of(alloc, image, &declaration, found, options.search.explained)?;
     let AnswerMessage {
         answer,
@@ -465,9 +412,15 @@ pub fn verify_proposed_message<A: Allocator + Copy>(
         why,
         ..
     } = told;
+    let line = proposed_line(alloc, &answer, &line)?;
+    let lines = with_reason(alloc, line, &obstacle)?;
     Ok(ProposalMessage {
-        proposed: Proposed { text, answer },
-        line,
+        proposed: Proposed {
+            text,
+            answer,
+            obstacle,
+        },
+        line: lines,
         why,
     })
 }

@@ -16,6 +16,7 @@ pub use command_parts::options::{RefuteOptions, VerifyOptions};
 use command_parts::outcome::write_text;
 use command_parts::programs::program_from;
 use command_parts::status::{Fault, Status};
+use proposer::Obstacle;
 use refuter::Witness;
 use std::alloc::Allocator;
 use streams::{ByteSink, ByteSource};
@@ -51,6 +52,8 @@ pub struct Proposed<A: Allocator> {
     pub text: Vec<u8, A>,
     /// Whether the program complies with it.
     pub answer: Answer<A>,
+    /// After a no why no declaration allows what the run does.
+    pub obstacle: Option<Obstacle>,
 }
 
 /// The status of an answer: only a yes is done.

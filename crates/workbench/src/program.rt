@@ -4,19 +4,21 @@ ghost use Rattle.std.specs.Prelude.{◌≤◌};
 
 use clap::Error;
 use command_line::explanations::{push_codes, push_explanations};
+use command_line::tips::is_wrong_tip;
 use command_line::{CommandLine, Misuse, Refused, Request, parse_arguments};
 use command_parts::status::{DeviceFault, Fault, Status};
+use command_parts::visible::visible_text;
 use requests::faults::{fault_lines, refusal_lines};
 use requests::inputs::misused_files;
-use requests::of_files::joined::{hold_session, sit_down, watch_joined};
-use requests::of_files::promises::{
-    check_from, guess_from, migrate_from, refute_from, report_from, verify_from, watch_from,
-};
+use requests::of_files::certificates::migrate_from;
+use requests::of_files::joined::{hold_session, hold_teletype_session};
 use requests::of_files::sources::{assemble_to, list_from};
-use requests::of_files::tapes::{declare_from, dump_from, run_from, source_from};
-use requests::of_sources::answer_sourced;
+use requests::of_files::tapes::{dump_from, run_from, source_from};
+use requests::of_programs::answer_program;
+use requests::recognised::hint_line;
 use requests::telling::{tell, tell_lines, tell_misuse};
-use std::alloc::Global;
+use std::alloc::{AllocError, Global};
+use std::fmt::Write;
 use std::io::ErrorKind;
 use std::rt::{Env, Files};
 use std::{env, io};
@@ -26,6 +28,9 @@ use streams::standard::Writes;
 /// The arguments that stand for none at all.
 static RUN_STANDARD_INPUT: [&str; 3] = ["pdp8", "run", "-"];
 
+/// What is said where nothing is asked for and a person would have to type a tape.
+const WAITING: &str = "pdp8 waits for a tape on standard input; pdp8 help lists the commands\n";
+
 /// Does what the program's arguments ask for, and says with which status it ends: 0 done, 1 refused, 2
 /// a bad command line, 3 a device's fault, 4 want of memory. Without arguments it runs the tape on
 /// standard input. Faults and what is wrong with a command line go to standard error, help to standard
@@ -33,31 +38,40 @@ static RUN_STANDARD_INPUT: [&str; 3] = ["pdp8", "run", "-"];
 /// `teletype`, and the line of `refute` whose events go to standard output, go to standard error too, and
 /// where that fails the status is 3.
 ///
+/// Where standard input is a terminal and there are no arguments, it says that it waits for a tape.
+///
 /// That the status is at most 4 is proved; all else said here is tested.
-pub fn exit_status<R: Env + Files + Input + Print + Eprint + AllocGlobal>(rt: &R) -> u8
+pub fn exit_status<R: Env + Files + Input + Print + Eprint + AllocGlobal>(
+    rt: &R,
+    at_terminal: bool,
+) -> u8
     ensures { result ≤ 4 }
 {
     let alloc = rt.alloc();
     let arguments = match env::args(rt) {
         Ok(arguments) => arguments,
-        Err(error) => return refuse(rt, refusal_of(error.kind())).code(),
+        Err(error) => return refuse(rt, alloc, refusal_of(error.kind())).code(),
     };
     let Ok(given) = arguments.collect::<Vec<String>>(alloc) else {
         return tell(rt, Fault::NoMemory).code();
     };
     let request = if given.len() < 2 {
+        if at_terminal {
+            tell_lines(rt, WAITING);
+        }
         parse_arguments(alloc, RUN_STANDARD_INPUT.as_slice())
     } else {
         parse_arguments(alloc, given.as_slice())
     };
     match request {
         Ok(line) => carry_out(rt, alloc, &line).code(),
-        Err(refused) => refuse(rt, refused).code(),
+        Err(refused) => refuse(rt, alloc, refused).code(),
     }
 }
 
 /// Carries out a command line whose files are none twice, and tells the fault that stops it: first its line, since the file that has it is
-/// looked at once more for those below. Of an answer that is no fault it says what the command doesn't.
+/// looked at once more for those below, of which the last says so if it was given in the place of another. Of an answer that is no fault it
+/// says what the command doesn't.
 fn carry_out<R: Files + Input + Print + Eprint>(
     rt: &R,
     alloc: Global,
@@ -77,9 +91,9 @@ fn carry_out<R: Files + Input + Print + Eprint>(
         }
         Err(fault) => {
             let status = tell(rt, fault);
-            if line.explained {
-                tell_lines(rt, &fault_lines(rt, alloc, &fault, &line.request.names()));
-            }
+            let lines = fault_lines(rt, alloc, &fault, &line.request, line.explained);
+            tell_lines(rt, &lines);
+            tell_lines(rt, &hint_line(rt, alloc, &fault, &line.request));
             status
         }
     }
@@ -94,10 +108,10 @@ fn refusal_of(kind: ErrorKind) -> Refused {
 }
 
 /// Says why the command line is bad, or gives the help that it asks for.
-fn refuse<R: Print + Eprint>(rt: &R, refused: Refused) -> Status {
+fn refuse<R: Print + Eprint>(rt: &R, alloc: Global, refused: Refused) -> Status {
     let told = match refused {
         Refused::Memory => return tell(rt, Fault::NoMemory),
-        Refused::CommandLine(error) => return say(rt, &error),
+        Refused::CommandLine(error) => return say(rt, alloc, &error),
         Refused::Misuse(misuse) => return tell_misuse(rt, &misuse),
         Refused::Start(fault) => eprintln!(rt; "error: bad value for '--start': {fault}"),
         Refused::Switches(fault) => { eprintln!(rt; "error: bad value for '--switches': {fault}") }
@@ -112,14 +126,41 @@ fn refuse<R: Print + Eprint>(rt: &R, refused: Refused) -> Status {
 }
 
 /// Says what is wrong with the command line, on standard error, or gives help, on standard output.
-fn say<R: Print + Eprint>(rt: &R, text: &Error) -> Status {
-    let written = text.print(rt);
+fn say<R: Print + Eprint>(rt: &R, alloc: Global, text: &Error) -> Status {
     if text.use_stderr() {
+        say_error(rt, alloc, text);
         return Status::Usage;
     }
-    match written {
+    match text.print(rt) {
         Ok(()) => Status::Done,
         Err(_) => tell(rt, Fault::Device(DeviceFault::Write)),
+    }
+}
+
+/// The lines of an error as they are shown, each with its end, without a tip that would lead astray and the empty line
+/// below it.
+fn visible_lines(alloc: Global, error: &str) -> Result<String, AllocError> {
+    let mut shown = String::new(alloc);
+    let mut is_dropped = false;
+    for line in error.lines() {
+        let is_gap = is_dropped && line.is_empty();
+        is_dropped = is_wrong_tip(alloc, error, line)?;
+        if !is_dropped && !is_gap {
+            shown.push_str(&visible_text(alloc, line)?)?;
+            shown.push('\n')?;
+        }
+    }
+    Ok(shown)
+}
+
+/// Says what is wrong with the command line, which may quote an argument.
+fn say_error<R: Eprint>(rt: &R, alloc: Global, text: &Error) {
+    let mut lines = String::new(alloc);
+    if write!(lines, "{text}").is_err() {
+        return;
+    }
+    if let Ok(shown) = visible_lines(alloc, &lines) {
+        tell_lines(rt, &shown);
     }
 }
 
@@ -133,20 +174,12 @@ fn answer<R: Files + Input + Print + Eprint>(
     match request {
         Request::Run(asked) => run_from(rt, alloc, asked),
         Request::Session(session) => hold_session(rt, alloc, session),
-        Request::Teletype(session) => sit_down(rt, alloc, session),
+        Request::Teletype(session) => hold_teletype_session(rt, alloc, session),
         Request::Dump(asked) => dump_from(rt, alloc, asked),
         Request::Assemble(asked) => assemble_to(rt, alloc, asked),
         Request::List(asked) => list_from(rt, alloc, asked),
         Request::Source(asked) => source_from(rt, alloc, asked),
-        Request::Watch(asked) => watch_from(rt, alloc, asked),
-        Request::WatchSession(session) => watch_joined(rt, alloc, session),
-        Request::Check(asked) => check_from(rt, alloc, asked),
-        Request::Report(asked) => report_from(rt, alloc, asked),
-        Request::Declare(asked) => declare_from(rt, alloc, asked),
-        Request::Guess(asked) => guess_from(rt, alloc, asked),
-        Request::Refute(asked) => refute_from(rt, alloc, asked),
-        Request::Verify(asked) => verify_from(rt, alloc, asked),
-        Request::Sourced(sourced) => answer_sourced(rt, alloc, sourced),
+        Request::Program(asked) => answer_program(rt, alloc, asked),
         Request::Migrate(asked) => migrate_from(rt, alloc, asked),
         Request::Explain { code } => explain_code(rt, alloc, *code),
     }
@@ -164,8 +197,9 @@ fn explain_code<R: Print + Eprint>(
         None => push_codes(&mut text)?,
         Some(code) => {
             if !push_explanations(&mut text, code)? {
+                let shown = visible_text(alloc, code)?;
                 let told = eprintln!(rt;
-                    "error: unknown code '{code}': 'pdp8 explain' lists all codes"
+                    "error: unknown code '{shown}': 'pdp8 explain' lists all codes"
                 );
                 return match told {
                     Ok(()) | Err(_) => Ok(Status::Usage),

@@ -76,6 +76,28 @@ fn may_return<D: Allocator>(
     false
 }
 
+/// Whether a word stores through a pointer.
+pub(crate) fn stores_through_pointer(word: Word) -> bool {
+    matches!(operation(word), Some(Operation::Dca | Operation::Isz)) && refers_indirectly(word)
+}
+
+/// The addresses to which a call from this one may return.
+pub(crate) fn successors_of_call<D: Allocator>(
+    declaration: &Declaration<D>,
+    entry: Word,
+    at: Word,
+) -> WordSet {
+    let after = at.increment();
+    let mut places = WordSet::empty();
+    for index in 0..8usize {
+        let offset = Word::from_index(index);
+        if declaration.has_offset(entry, offset) {
+            places.insert(after.add(offset));
+        }
+    }
+    places
+}
+
 /// Whether a run may go on from an instruction to an address, as far as the word tells.
 pub(crate) fn may_go_on<D: Allocator>(
     declaration: &Declaration<D>,

@@ -5,12 +5,11 @@ ghost use Rattle.std.specs.Prelude.{◌≡◌, false};
 use crate::files::open_input;
 use crate::replacing::ResultFile;
 use crate::tellers::{Nowhere, open_input_if, report_to, tell_to};
-use command_line::{Session, TeletypeSession, WatchedSession};
+use command_line::{Session, TeletypeSession};
 use command_parts::status::{DeviceFault, Fault, Status};
 use either::Either;
 use machine_commands::session::{Outputs, run_session};
 use machine_commands::teletype::{Typist, teletype};
-use machine_commands::watched_session::watch_session;
 use std::alloc::Global;
 use std::io::{self, Printer};
 use std::rt::Files;
@@ -105,35 +104,6 @@ pub fn hold_session<R: Files + Input + Print + Eprint>(
     finish_punch(&mut punch, failed, answer)
 }
 
-/// Watches the run of a tape with an operator. The files are opened in this order: the tape, the
-/// declaration, the reader's frames and the keys.
-///
-/// # Errors
-///
-/// As for `watch_session`, and `Device` where a file can't be opened.
-#[inline(never)]
-pub fn watch_joined<R: Files + Input + Print>(
-    rt: &R,
-    alloc: Global,
-    session: &WatchedSession<'_>,
-) -> Result<Status, Fault> {
-    let mut frames = open_input(rt, session.tape)?;
-    let mut text = open_input(rt, session.declaration)?;
-    let mut reader = open_input_if(rt, session.reader)?;
-    let mut keys = open_input_if(rt, session.keys)?;
-    let mut out = Writes::new(io::writer(rt));
-    watch_session(
-        alloc,
-        &mut frames,
-        &mut text,
-        &mut reader,
-        &mut keys,
-        session.options,
-        session.explained,
-        &mut out,
-    )
-}
-
 /// Holds a session at the teletype: keys come from standard input, what is printed goes to standard
 /// output, and the summary to standard error. The tape is opened first, then the reader's frames, and then
 /// it is seen that the punch's file can be made.
@@ -142,7 +112,7 @@ pub fn watch_joined<R: Files + Input + Print>(
 ///
 /// As for `teletype`, and `Device` where a file can't be opened or made.
 #[inline(never)]
-pub fn sit_down<R: Files + Input + Print + Eprint>(
+pub fn hold_teletype_session<R: Files + Input + Print + Eprint>(
     rt: &R,
     alloc: Global,
     session: &TeletypeSession<'_>,

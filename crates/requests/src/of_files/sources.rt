@@ -1,7 +1,9 @@
 //! Sources that are assembled or listed, and what is told of their faults.
 
 use crate::files::{Outlet, finish, open_inputs, open_output, open_parts};
-use crate::source_faults::{NO_WORD, input_name, output_name, tell_of, tell_size, unopened};
+use crate::source_faults::{
+    NO_WORD, input_name, lend_names, output_name, tell_of, tell_size, unopened, visible_names,
+};
 use crate::telling::{tell, tell_with};
 use command_line::{AssembleRequest, ListRequest};
 use command_parts::status::{DeviceFault, Fault, Status};
@@ -29,6 +31,7 @@ fn unread<'n, S: ByteSource>(names: &'n [&'n str], parts: &[S]) -> &'n str {
 /// Writes the line of a fault to standard error, and below it what is wrong: of a source these lines.
 fn tell_all<R: Eprint, S: ByteSource>(
     rt: &R,
+    alloc: Global,
     fault: Fault,
     names: &[&str],
     parts: &[S],
@@ -36,17 +39,19 @@ fn tell_all<R: Eprint, S: ByteSource>(
     told: &str,
 ) -> Status {
     match fault {
-        Fault::Source(fault) if fault.line == 0 => tell_size(rt, fault, names),
+        Fault::Source(fault) if fault.line == 0 => tell_size(rt, alloc, fault, names),
         Fault::Source(_) => tell_with(rt, fault, told),
         Fault::EmptyImage => tell_with(rt, fault, NO_WORD),
         Fault::Device(DeviceFault::Read) => tell_of(
             rt,
+            alloc,
             fault,
             unread(names, parts),
             "cannot be read",
         ),
         Fault::Device(DeviceFault::Write) => tell_of(
             rt,
+            alloc,
             fault,
             output_name(out),
             "cannot be written",
@@ -55,22 +60,30 @@ fn tell_all<R: Eprint, S: ByteSource>(
     }
 }
 
-/// Lists the source whose parts are in these files, and tells below the line of a fault what is wrong.
+/// Lists the source whose parts are in these files, and tells below the line of a fault what is wrong, with the names as
+/// they are shown.
 fn list_or_tell<R: Files + Input + Print + Eprint>(
     rt: &R,
     alloc: Global,
     names: &[&str],
+    shown: &[&str],
     profile: Profile,
 ) -> Status {
     let mut parts = Vec::new(alloc);
     if let Err(fault) = open_parts(rt, names, &mut parts) {
-        return tell_of(rt, fault, unopened(names, parts.len()), "cannot be opened");
+        return tell_of(
+            rt,
+            alloc,
+            fault,
+            unopened(shown, parts.len()),
+            "cannot be opened",
+        );
     }
     let mut out = Writes::new(io::writer(rt));
     let mut told = String::new(alloc);
-    match list(alloc, &mut parts, profile, Some(names), &mut told, &mut out) {
+    match list(alloc, &mut parts, profile, Some(shown), &mut told, &mut out) {
         Ok(status) => status,
-        Err(fault) => tell_all(rt, fault, names, &parts, "-", &told),
+        Err(fault) => tell_all(rt, alloc, fault, shown, &parts, "-", &told),
     }
 }
 
@@ -82,33 +95,41 @@ fn finish_tape<R: Files + Print>(
     finish(file, assembled?)
 }
 
-/// Assembles the parts of these files into a tape, and tells below the line of a fault what is wrong.
+/// Assembles the parts of these files into a tape, and tells below the line of a fault what is wrong, with the names as
+/// they are shown.
 fn assemble_or_tell<R: Files + Input + Print + Eprint>(
     rt: &R,
     alloc: Global,
     asked: &AssembleRequest<'_>,
+    shown: &[&str],
 ) -> Status {
     let (names, out) = (asked.sources.as_slice(), asked.out.name());
     let mut file = match open_output(rt, alloc, asked.out) {
         Ok(file) => file,
-        Err(fault) => return tell_of(rt, fault, output_name(out), "cannot be created"),
+        Err(fault) => return tell_of(rt, alloc, fault, output_name(out), "cannot be created"),
     };
     let mut parts = Vec::new(alloc);
     if let Err(fault) = open_parts(rt, names, &mut parts) {
-        return tell_of(rt, fault, unopened(names, parts.len()), "cannot be opened");
+        return tell_of(
+            rt,
+            alloc,
+            fault,
+            unopened(shown, parts.len()),
+            "cannot be opened",
+        );
     }
     let mut told = String::new(alloc);
     let assembled = assemble(
         alloc,
         &mut parts,
         asked.profile,
-        Some(names),
+        Some(shown),
         &mut told,
         &mut Writes::new(&mut file),
     );
     match finish_tape(&mut file, assembled) {
         Ok(status) => status,
-        Err(fault) => tell_all(rt, fault, names, &parts, out, &told),
+        Err(fault) => tell_all(rt, alloc, fault, shown, &parts, out, &told),
     }
 }
 
@@ -120,7 +141,9 @@ pub fn list_from<R: Files + Input + Print + Eprint>(
     asked: &ListRequest<'_>,
 ) -> Result<Status, Fault> {
     if asked.explained {
-        return Ok(list_or_tell(rt, alloc, &asked.sources, asked.profile));
+        let shown = visible_names(alloc, &asked.sources)?;
+        let lent = lend_names(alloc, &shown)?;
+        return Ok(list_or_tell(rt, alloc, &asked.sources, &lent, asked.profile));
     }
     let mut parts = open_inputs(rt, alloc, &asked.sources)?;
     let mut out = Writes::new(io::writer(rt));
@@ -136,7 +159,8 @@ pub fn assemble_to<R: Files + Input + Print + Eprint>(
     asked: &AssembleRequest<'_>,
 ) -> Result<Status, Fault> {
     if asked.explained {
-        return Ok(assemble_or_tell(rt, alloc, asked));
+        let shown = visible_names(alloc, &asked.sources)?;
+        return Ok(assemble_or_tell(rt, alloc, asked, &lend_names(alloc, &shown)?));
     }
     let mut file = open_output(rt, alloc, asked.out)?;
     let mut parts = open_inputs(rt, alloc, &asked.sources)?;

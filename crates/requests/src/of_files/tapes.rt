@@ -1,11 +1,11 @@
 //! Commands that work on a tape alone.
 
 use crate::files::{finish, open_input, open_output};
-use command_line::{DeclareRequest, DumpRequest, RunRequest, SourceRequest};
+use command_line::{DumpRequest, RunRequest, SourceRequest, Stopping};
 use command_parts::status::{Fault, Status};
+use machine_commands::last::{run_events_with_last, run_with_last};
 use machine_commands::running::{dump, run, run_events};
-use search_commands::completing::complete;
-use search_commands::declaring::declare;
+use machine_commands::stopping::{run_events_with_stops, run_with_stops};
 use source_commands::sourcing::{declared_source, source};
 use std::alloc::Global;
 use std::io;
@@ -24,13 +24,63 @@ pub fn dump_from<R: Files + Input + Print>(
     dump(alloc, &mut frames, asked.profile, &mut out)
 }
 
-/// Runs a tape, in rounds or by the events of a file.
+/// Runs a tape in rounds up to where it is stopped.
+fn run_rounds_until<R: Files + Input + Print>(
+    rt: &R,
+    alloc: Global,
+    asked: &RunRequest<'_>,
+    stopping: &Stopping,
+) -> Result<Status, Fault> {
+    let mut frames = open_input(rt, asked.tape)?;
+    let mut out = Writes::new(io::writer(rt));
+    let (options, stops) = (asked.options, &stopping.stops);
+    match stopping.last {
+        None => run_with_stops(alloc, &mut frames, options, stops, &mut out),
+        Some(most) => run_with_last(alloc, &mut frames, options, stops, most, &mut out),
+    }
+}
+
+/// Runs a tape by the events of a file up to where it is stopped.
+fn run_events_until<R: Files + Input + Print>(
+    rt: &R,
+    alloc: Global,
+    asked: &RunRequest<'_>,
+    events: &str,
+    stopping: &Stopping,
+) -> Result<Status, Fault> {
+    let mut frames = open_input(rt, asked.tape)?;
+    let mut list = open_input(rt, events)?;
+    let mut out = Writes::new(io::writer(rt));
+    let (options, stops) = (asked.options, &stopping.stops);
+    match stopping.last {
+        None => { run_events_with_stops(alloc, &mut frames, &mut list, options, stops, &mut out) }
+        Some(most) => {
+            run_events_with_last(
+                alloc,
+                &mut frames,
+                &mut list,
+                options,
+                stops,
+                most,
+                &mut out,
+            )
+        }
+    }
+}
+
+/// Runs a tape, in rounds or by the events of a file, up to where it is stopped if that is asked for.
 #[inline(never)]
 pub fn run_from<R: Files + Input + Print>(
     rt: &R,
     alloc: Global,
     asked: &RunRequest<'_>,
 ) -> Result<Status, Fault> {
+    if let Some(stopping) = &asked.stopping {
+        return match asked.events {
+            None => run_rounds_until(rt, alloc, asked, stopping),
+            Some(events) => run_events_until(rt, alloc, asked, events, stopping),
+        };
+    }
     let mut frames = open_input(rt, asked.tape)?;
     let Some(events) = asked.events else {
         let mut out = Writes::new(io::writer(rt));
@@ -60,33 +110,5 @@ pub fn source_from<R: Files + Input + Print>(
     let mut file = open_output(rt, alloc, asked.out)?;
     let mut text = Writes::new(&mut file);
     let status = declared_source(alloc, &mut frames, &mut promise, &mut text)?;
-    finish(&mut file, status)
-}
-
-/// Proposes a declaration for the tape of a file, or completes that of a file, which is opened before the
-/// file that it goes to is made.
-#[inline(never)]
-pub fn declare_from<R: Files + Input + Print>(
-    rt: &R,
-    alloc: Global,
-    asked: &DeclareRequest<'_>,
-) -> Result<Status, Fault> {
-    let mut frames = open_input(rt, asked.tape)?;
-    let Some(from) = asked.from else {
-        let mut file = open_output(rt, alloc, asked.out)?;
-        let mut text = Writes::new(&mut file);
-        let status = declare(alloc, &mut frames, asked.options, &mut text)?;
-        return finish(&mut file, status);
-    };
-    let mut promise = open_input(rt, from)?;
-    let mut file = open_output(rt, alloc, asked.out)?;
-    let mut text = Writes::new(&mut file);
-    let status = complete(
-        alloc,
-        &mut frames,
-        &mut promise,
-        asked.options.reads,
-        &mut text,
-    )?;
     finish(&mut file, status)
 }

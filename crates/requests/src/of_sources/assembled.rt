@@ -1,54 +1,57 @@
 //! A source that was assembled, and its declaration in numbers. What the source says about its addresses comes with
 //! it.
 
-use crate::of_sources::programs::SourceText;
-use command_parts::inputs::declaration_from;
+use crate::of_sources::numbering::{Given, Promise, lend, says_something};
+use crate::source_faults::visible_names;
+use command_line::Task;
 use command_parts::status::Fault;
-use declaration::Declaration;
-use labels::{NumberingFault, PlaceFault, machine_of, place};
+use command_parts::visible::visible_bytes;
+use labels::{Numbered, NumberingFault, PlaceFault, machine_of, name_declaration, number, place};
 use pal_acts::{PlacedWord, SourcePlace};
-use pal_asm::{AssembleFault, SourceMap, map_source};
+use pal_asm::{SourceMap, map_source};
 use reports::reporting::{LinePlace, SourceNotes};
-use search_commands::of_sources::SourcedFault;
 use std::alloc::{AllocError, Global};
-use streams::standard::Reads;
 
-/// A source that was assembled, what it says about its addresses, and its declaration in numbers.
+/// A source that was assembled, what it says about its addresses, and its declaration.
 #[derive(Drop)]
-pub struct AssembledSource<'x> {
-    /// What the source means, with its lines.
-    pub map: SourceMap<Global>,
+pub struct AssembledSource {
+    /// The tape that it means, its declaration in numbers, and its lines.
+    pub numbered: Numbered<Global>,
     /// What it says about each address.
     pub notes: SourceNotes<Global>,
-    /// The names of its parts.
-    pub names: &'x [&'x str],
-    /// The declaration's text in numbers.
-    pub numbers: Vec<u8>,
+    /// Its parts and its declaration with symbols, as they were read.
+    pub given: Given,
+    /// The names of its parts, as they are shown.
+    pub names: Vec<String>,
+    /// Its declaration with symbols, as it is written for people.
+    pub written: Vec<u8>,
+    /// Its declaration in numbers, as it is written for people.
+    pub shown: Vec<u8>,
 }
 
-impl AssembledSource<'_> {
-    /// The declaration.
+impl AssembledSource {
+    /// Whether there is a declaration; otherwise one is to be proposed.
+    pub fn is_declared(&self) -> bool {
+        self.given.promise != Promise::Proposed
+    }
+
+    /// A declaration in numbers with the symbols of the source, and of a declaration that was given as it was given.
     ///
     /// # Errors
     ///
-    /// `Declared` if it is refused, and `NoMemory`.
-    pub fn declaration(&self, alloc: Global) -> Result<Declaration<Global>, Fault> {
-        declaration_from(alloc, &mut Reads::new(self.numbers.as_slice()))
-    }
-}
-
-/// What a source means, or its fault.
-#[inline(never)]
-fn map_of(
-    alloc: Global,
-    parts: &[&[u8]],
-    declaration: &[u8],
-) -> Result<SourceMap<Global>, NumberingFault> {
-    match map_source(alloc, parts, machine_of(declaration)) {
-        Ok(map) if map.words().is_empty() => Err(NumberingFault::EmptyImage),
-        Ok(map) => Ok(map),
-        Err(AssembleFault::Source(fault)) => Err(NumberingFault::Source(fault)),
-        Err(AssembleFault::NoMemory) => Err(NumberingFault::NoMemory),
+    /// `NoMemory`, since the source has no fault.
+    pub fn with_symbols(&self, alloc: Global, numbers: &[u8]) -> Result<Vec<u8>, Fault> {
+        let kept: &[u8] = if self.is_declared() {
+            &self.written
+        } else {
+            &[]
+        };
+        let parts = lend(alloc, &self.given.parts)?;
+        match name_declaration(alloc, &parts, numbers, kept) {
+            Ok(text) => Ok(text),
+            Err(NumberingFault::Source(fault)) => Err(Fault::Source(fault)),
+            Err(_) => Err(Fault::NoMemory),
+        }
     }
 }
 
@@ -69,51 +72,117 @@ fn note_words<'w>(
     Ok(rest)
 }
 
-/// What a source says about its addresses.
+/// What a source says about its addresses, as it may be shown to people.
 fn notes_of(alloc: Global, map: &SourceMap<Global>) -> Result<SourceNotes<Global>, AllocError> {
     let mut notes = SourceNotes::new(alloc)?;
     let mut rest = map.words();
     for line in map.lines() {
         let SourcePlace { part, line: number } = line.place;
         let place = LinePlace { part, line: number };
-        notes.next_line(place, map.text(line))?;
+        notes.next_line(place, visible_bytes(alloc, map.text(line))?.as_bytes())?;
         rest = note_words(&mut notes, line.place, rest)?;
     }
     Ok(notes)
 }
 
-/// A declaration in numbers.
-fn numbers_of(
+/// A text without its empty lines, and without blanks around the others.
+fn without_empty_lines(alloc: Global, text: &[u8]) -> Result<Vec<u8>, AllocError> {
+    let mut kept = Vec::new(alloc);
+    for line in text.split(|byte| *byte == b'\n') {
+        let line = line.trim_ascii();
+        if !line.is_empty() {
+            kept.extend_from_slice(line)?;
+            kept.extend_from_slice(b"\n")?;
+        }
+    }
+    Ok(kept)
+}
+
+/// The text of a declaration as it is written for people: that of lines within a source has an empty line for
+/// each other line of the source, and those are left out.
+fn as_written(alloc: Global, text: &[u8], promise: Promise) -> Result<Vec<u8>, AllocError> {
+    if promise == Promise::Within {
+        return without_empty_lines(alloc, text);
+    }
+    let mut whole = Vec::new(alloc);
+    whole.extend_from_slice(text)?;
+    Ok(whole)
+}
+
+/// The declaration in numbers of a source that has no fault and no word, and no tape.
+fn wordless(
     alloc: Global,
+    parts: &[&[u8]],
     declaration: &[u8],
-    map: &SourceMap<Global>,
-) -> Result<Vec<u8>, NumberingFault> {
+) -> Result<Numbered<Global>, NumberingFault> {
+    let Ok(map) = map_source(alloc, parts, machine_of(declaration)) else {
+        return Err(NumberingFault::NoMemory);
+    };
     match place(alloc, declaration, map.symbols()) {
-        Ok(numbers) => Ok(numbers),
+        Ok(declaration) => Ok(Numbered {
+            tape: Vec::new(alloc),
+            declaration,
+            map,
+        }),
         Err(PlaceFault::NoMemory) => Err(NumberingFault::NoMemory),
         Err(fault) => Err(NumberingFault::Placing(fault)),
     }
 }
 
-/// Assembles the parts of a source, and writes its declaration in numbers.
+/// The tape of a source and its declaration in numbers. If a declaration alone is asked for, the source may have no
+/// word.
+fn number_for(
+    alloc: Global,
+    parts: &[&[u8]],
+    declaration: &[u8],
+    task: &Task<'_>,
+) -> Result<Numbered<Global>, NumberingFault> {
+    match (number(alloc, parts, declaration), task) {
+        (Err(NumberingFault::EmptyImage), Task::Place { .. }) if says_something(declaration) => {
+            wordless(alloc, parts, declaration)
+        }
+        (numbered, _) => numbered,
+    }
+}
+
+/// The tape of a source that was read, and its declaration in numbers. The source is assembled once.
 ///
 /// # Errors
 ///
-/// `Numbering` as of `number`; `Command` if memory was refused.
+/// As of `number`; but if a declaration alone is asked for, the source may have no word.
 #[inline(never)]
-pub fn assembled<'x>(
+pub fn numbered_from(
     alloc: Global,
-    given: &SourceText<'x>,
-) -> Result<AssembledSource<'x>, SourcedFault> {
-    let map = map_of(alloc, given.parts, given.declaration)?;
-    let numbers = numbers_of(alloc, given.declaration, &map)?;
-    let Ok(notes) = notes_of(alloc, &map) else {
-        return Err(SourcedFault::Command(Fault::NoMemory));
-    };
+    given: &Given,
+    task: &Task<'_>,
+) -> Result<Numbered<Global>, NumberingFault> {
+    match lend(alloc, &given.parts) {
+        Ok(parts) => number_for(alloc, &parts, &given.text, task),
+        Err(_) => Err(NumberingFault::NoMemory),
+    }
+}
+
+/// A source that has no fault and whose parts have these names, with what is said about it.
+///
+/// # Errors
+///
+/// Memory was refused.
+pub fn described(
+    alloc: Global,
+    given: Given,
+    numbered: Numbered<Global>,
+    names: &[&str],
+) -> Result<AssembledSource, AllocError> {
+    let notes = notes_of(alloc, &numbered.map)?;
+    let written = as_written(alloc, &given.text, given.promise)?;
+    let shown = as_written(alloc, &numbered.declaration, given.promise)?;
+    let names = visible_names(alloc, names)?;
     Ok(AssembledSource {
-        map,
+        numbered,
         notes,
-        names: given.names,
-        numbers,
+        given,
+        names,
+        written,
+        shown,
     })
 }

@@ -1,11 +1,13 @@
 //! Sources and their declarations, read and written in numbers, and what is said about their faults.
 
 use crate::files::open_input;
-use crate::of_sources::spots::{Spot, behind_lines, line_counts, spot_of};
+use crate::of_sources::part_lines::{PartLine, behind_lines, line_counts, part_line_of};
+use crate::recognised::declaration_hint;
 use crate::source_faults::{tell_of, tell_source, unopened};
 use crate::telling::{tell_lines, tell_misuse};
-use command_line::{Misuse, Sourced, Task};
+use command_line::{Misuse, ProgramRequest, Task};
 use command_parts::status::{Fault, Status};
+use command_parts::visible::visible_text;
 use diagnostics::inputs::{FaultyFile, push_numbered};
 use instruct::Profile;
 use labels::{NumberingFault, PlaceFault, declared_lines};
@@ -127,10 +129,10 @@ fn is_proposed(task: &Task<'_>, within: &[u8]) -> bool {
 fn given_declaration<R: Files + Input>(
     rt: &R,
     alloc: Global,
-    sourced: &Sourced<'_>,
+    asked: &ProgramRequest<'_>,
     parts: &[Vec<u8>],
 ) -> Result<Promised, Fault> {
-    if let Some(name) = sourced.declaration {
+    if let Some(name) = asked.declaration {
         let mut input = open_input(rt, name)?;
         return Ok(Promised {
             text: read_at_most(alloc, &mut input, MOST_DECLARATION)?,
@@ -139,9 +141,9 @@ fn given_declaration<R: Files + Input>(
     }
     let slices = lend(alloc, parts)?;
     let text = declared_lines(alloc, &slices)?;
-    if is_proposed(&sourced.task, &text) {
+    if is_proposed(&asked.task, &text) {
         return Ok(Promised {
-            text: unknown_declaration(alloc, &sourced.task)?,
+            text: unknown_declaration(alloc, &asked.task)?,
             promise: Promise::Proposed,
         });
     }
@@ -179,18 +181,18 @@ fn line_of(fault: PlaceFault) -> usize {
 fn push_placing(
     told: &mut String,
     fault: PlaceFault,
-    spot: &Spot<'_>,
+    part_line: &PartLine<'_>,
     text: &[u8],
 ) -> Result<(), AllocError> {
-    let (name, said) = (spot.name, said_of(fault));
-    if spot.line == 0 {
+    let (name, said) = (part_line.name, said_of(fault));
+    if part_line.line == 0 {
         return writeln!(told, "{name}: {said}").map_err(|_| AllocError);
     }
     let file = FaultyFile {
         name,
-        bytes: behind_lines(text, line_of(fault).saturating_sub(spot.line)),
+        bytes: behind_lines(text, line_of(fault).saturating_sub(part_line.line)),
     };
-    if push_numbered(told, &file, spot.line).is_err() {
+    if push_numbered(told, &file, part_line.line).is_err() {
         return Err(AllocError);
     }
     writeln!(told, "{said}").map_err(|_| AllocError)
@@ -201,7 +203,7 @@ fn tell_placing<R: Eprint>(
     rt: &R,
     alloc: Global,
     fault: PlaceFault,
-    spot: &Spot<'_>,
+    part_line: &PartLine<'_>,
     text: &[u8],
     explained: bool,
 ) -> Status {
@@ -209,8 +211,15 @@ fn tell_placing<R: Eprint>(
     if !explained || told.is_err() {
         return Status::Refused;
     }
+    let Ok(name) = visible_text(alloc, part_line.name) else {
+        return Status::Refused;
+    };
+    let shown = PartLine {
+        name: &name,
+        line: part_line.line,
+    };
     let mut lines = String::new(alloc);
-    let _ = push_placing(&mut lines, fault, spot, text);
+    let _ = push_placing(&mut lines, fault, &shown, text);
     tell_lines(rt, &lines);
     Status::Refused
 }
@@ -219,15 +228,15 @@ fn tell_placing<R: Eprint>(
 fn placing_spot<'n>(
     alloc: Global,
     fault: PlaceFault,
-    sourced: &Sourced<'n>,
+    asked: &ProgramRequest<'n>,
     parts: &[&[u8]],
-) -> Result<Spot<'n>, AllocError> {
+) -> Result<PartLine<'n>, AllocError> {
     let line = line_of(fault);
-    if let Some(name) = sourced.declaration {
-        return Ok(Spot { name, line });
+    if let Some(name) = asked.declaration {
+        return Ok(PartLine { name, line });
     }
     let counts = line_counts(alloc, parts)?;
-    Ok(spot_of(&sourced.sources, &counts, line))
+    Ok(part_line_of(asked.program.parts(), &counts, line))
 }
 
 /// Tells that a source or its declaration is refused. A fault that is not about one of their lines is passed on.
@@ -239,37 +248,33 @@ pub fn tell_refused<R: Eprint>(
     rt: &R,
     alloc: Global,
     fault: NumberingFault,
-    sourced: &Sourced<'_>,
-    parts: &[&[u8]],
-    text: &[u8],
+    asked: &ProgramRequest<'_>,
+    given: &Given,
 ) -> Result<Status, Fault> {
-    let explained = sourced.task.is_explained();
+    let parts = lend(alloc, &given.parts)?;
+    let text = given.text.as_slice();
+    let explained = asked.explained;
     match fault {
         NumberingFault::Source(fault) => Ok(tell_source(
             rt,
             alloc,
             fault,
-            &sourced.sources,
-            parts,
+            asked.program.parts(),
+            &parts,
             labels::machine_of(text),
             explained,
         )),
         NumberingFault::EmptyImage => Err(Fault::EmptyImage),
         NumberingFault::Placing(fault) => {
-            let spot = placing_spot(alloc, fault, sourced, parts)?;
-            Ok(tell_placing(rt, alloc, fault, &spot, text, explained))
+            let part_line = placing_spot(alloc, fault, asked, &parts)?;
+            let status = tell_placing(rt, alloc, fault, &part_line, text, explained);
+            if let Some(name) = asked.declaration {
+                let command = asked.task.command();
+                tell_lines(rt, &declaration_hint(alloc, command, name, text));
+            }
+            Ok(status)
         }
         NumberingFault::NoMemory => Err(Fault::NoMemory),
-    }
-}
-
-/// Whether a start or a machine is named beside a declaration within the source.
-fn is_asked_twice(task: &Task<'_>, promise: Promise) -> bool {
-    match task {
-        Task::Verify { asked, .. } | Task::Declare { asked, .. } => {
-            *asked && promise == Promise::Within
-        }
-        _ => false,
     }
 }
 
@@ -281,18 +286,18 @@ fn is_asked_twice(task: &Task<'_>, promise: Promise) -> bool {
 pub fn read_all<R: Files + Input + Eprint>(
     rt: &R,
     alloc: Global,
-    sourced: &Sourced<'_>,
+    asked: &ProgramRequest<'_>,
 ) -> Result<Prepared, Fault> {
     let mut parts = Vec::new(alloc);
-    if let Err(fault) = read_parts(rt, alloc, &sourced.sources, &mut parts) {
-        if !sourced.task.is_explained() {
+    if let Err(fault) = read_parts(rt, alloc, asked.program.parts(), &mut parts) {
+        if !asked.explained {
             return Err(fault);
         }
-        let name = unopened(&sourced.sources, parts.len());
-        return Ok(Prepared::Told(tell_of(rt, fault, name, "cannot be opened or read")));
+        let name = unopened(asked.program.parts(), parts.len());
+        return Ok(Prepared::Told(tell_of(rt, alloc, fault, name, "cannot be opened or read")));
     }
-    let Promised { text, promise } = given_declaration(rt, alloc, sourced, &parts)?;
-    if is_asked_twice(&sourced.task, promise) {
+    let Promised { text, promise } = given_declaration(rt, alloc, asked, &parts)?;
+    if asked.asked && promise == Promise::Within {
         return Ok(Prepared::Told(tell_misuse(rt, &Misuse::DeclarationAndStart)));
     }
     Ok(Prepared::Read(Given {

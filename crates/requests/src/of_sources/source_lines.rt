@@ -1,4 +1,10 @@
-//! Where a source has what is named to people. It is tested, not proved.
+//! Where a source has what is named to people. It is proved that the first line of a text stays as it is; what is put
+//! behind it is tested.
+
+ghost use Rattle.std.specs.Prelude.{◌≡◌, IfOk};
+ghost use Rattle.std.specs.List.{position};
+ghost use Rattle.command_parts.specs.Messages.{BeginsWith, plain};
+ghost use Rattle.requests.specs.Told.{first_line, is_line_end};
 
 use crate::of_sources::assembled::AssembledSource;
 use command_parts::message::{Mark, Message};
@@ -37,21 +43,19 @@ fn push_label_in_brackets(
 
 /// Adds what the source says about an instruction, as a line of its own.
 fn push_source_line(
+    alloc: Global,
     text: &mut Vec<u8>,
     at: Word,
-    source: &AssembledSource<'_>,
+    source: &AssembledSource,
 ) -> Result<(), AllocError> {
     let Some(note) = source.notes.at(at) else {
         return Ok(());
     };
     let LinePlace { part, line } = note.place;
-    let name = source
-        .names
-        .get(part.saturating_sub(1))
-        .copied()
-        .unwrap_or("-");
     text.extend_from_slice(b"    ")?;
-    text.extend_from_slice(name.as_bytes())?;
+    if let Some(name) = source.names.get(part.saturating_sub(1)) {
+        text.extend_from_slice(name.as_bytes())?;
+    }
     text.push(b':')?;
     text.extend_from_slice(Buffer::new().format(line).as_bytes())?;
     text.extend_from_slice(b": ")?;
@@ -74,10 +78,11 @@ fn begins_with_tag(note: SourceNote<'_>) -> bool {
 /// Adds a piece of a text, and what the source says where it ends: after an address in brackets what the source calls
 /// it, in advice this in place of the address, and below an instruction its line.
 fn push_piece(
+    alloc: Global,
     text: &mut Vec<u8>,
     piece: &[u8],
     mark: Mark,
-    source: &AssembledSource<'_>,
+    source: &AssembledSource,
 ) -> Result<(), AllocError> {
     match mark {
         Mark::Address(at) => {
@@ -90,25 +95,84 @@ fn push_piece(
         }
         Mark::Instruction(at) => {
             text.extend_from_slice(piece)?;
-            push_source_line(text, at, source)
+            push_source_line(alloc, text, at, source)
         }
     }
 }
 
-/// A text for people with what the source says about its addresses.
-pub fn with_source_lines(
+/// The place of the first end of a line, if there is one.
+fn place_of_line_end(text: &[u8]) -> Option<usize>
+    ensures { result ≡ position is_line_end text.now }
+{
+    text.iter().position(|byte| *byte == b'\n')
+}
+
+/// The first line of a text, with its end.
+fn first_line(text: &[u8]) -> &[u8]
+    ensures { result.now ≡ first_line text.now }
+{
+    match place_of_line_end(text) {
+        Some(end) => &text[..end + 1],
+        None => text,
+    }
+}
+
+/// What comes after so many bytes of a text for people, with what the source says about its addresses.
+fn rest_with_source_lines(
     alloc: Global,
-    source: &AssembledSource<'_>,
+    source: &AssembledSource,
     told: &Message<Global>,
+    from: usize,
 ) -> Result<Vec<u8>, AllocError> {
     let bytes = told.as_bytes();
     let mut text = Vec::new(alloc);
-    let mut done = 0usize;
+    let mut done = from;
     for placed in told.marks() {
-        let piece = bytes.get(done..placed.place).unwrap_or(b"");
-        push_piece(&mut text, piece, placed.mark, source)?;
-        done = placed.place;
+        if placed.place > done {
+            let piece = bytes.get(done..placed.place).unwrap_or(b"");
+            push_piece(alloc, &mut text, piece, placed.mark, source)?;
+            done = placed.place;
+        }
     }
     text.extend_from_slice(bytes.get(done..).unwrap_or(b""))?;
+    Ok(text)
+}
+
+/// A text for people with what the source says about its addresses. Its first line, which is that of an answer, comes
+/// first and as it is.
+///
+/// # Errors
+///
+/// Memory was refused.
+pub fn with_source_lines(
+    alloc: Global,
+    source: &AssembledSource,
+    told: &Message<Global>,
+) -> Result<Vec<u8>, AllocError>
+    ensures { IfOk result (λ text. BeginsWith (first_line (plain told.now)) text.items) }
+{
+    let line = first_line(told.as_bytes());
+    let rest = rest_with_source_lines(alloc, source, told, line.len())?;
+    let mut text = Vec::new(alloc);
+    text.extend_from_slice(line)?;
+    text.extend_from_slice(&rest)?;
+    Ok(text)
+}
+
+/// A text for people, with what a source says about its addresses if there is one.
+///
+/// # Errors
+///
+/// Memory was refused.
+pub fn lines_of(
+    alloc: Global,
+    source: Option<&AssembledSource>,
+    told: &Message<Global>,
+) -> Result<Vec<u8>, AllocError> {
+    if let Some(source) = source {
+        return with_source_lines(alloc, source, told);
+    }
+    let mut text = Vec::new(alloc);
+    text.extend_from_slice(told.as_bytes())?;
     Ok(text)
 }

@@ -1,5 +1,6 @@
 use Rattle.declaration.specs.Kept.{meaning}
 use Rattle.command_parts.specs.declared.status.Status.TheVariants.{Done}
+use Rattle.search_commands.specs.Adding.{IsAddition}
 use Rattle.search_commands.specs.CompleteText.{Completes}
 use Rattle.search_commands.proofs.completing.completed.Goals as goal
 
@@ -7,3 +8,19 @@ pub returns-in-Shown-clause-completes : goal.returns-in-Shown-clause-completes
 returns-in-Shown-clause-completes g c =
     let shown : Completes c.args.image.now (meaning c.args.given.now.declaration) Done c.deref-2.result.now = rw c.in-Shown.is at c.in_ok-tried.ensures.tried in
     rw c.deref-2.ensures.value at shown
+
+pub returns-in-Shown-clause-adds : goal.returns-in-Shown-clause-adds
+returns-in-Shown-clause-adds g c =
+    let added : IsAddition (meaning c.args.given.now.declaration) (meaning c.args.proposal.now.declaration) c.deref-2.result.now = rw c.in-Shown.is at c.in_ok-tried.ensures.adds in
+    rw c.deref-2.ensures.value at added
+
+pub lacking-requires-clause-adds : goal.lacking-requires-clause-adds
+lacking-requires-clause-adds g c =
+    let added : IsAddition (meaning c.args.given.now.declaration) (meaning c.args.proposal.now.declaration) c.deref-2.result.now = rw c.in-Lacking.is at c.in_ok-tried.ensures.adds in
+    rw c.deref-in-Lacking.ensures.value (rw c.deref-2.ensures.value at added)
+
+pub returns-in-Lacking-clause-completes : goal.returns-in-Lacking-clause-completes
+returns-in-Lacking-clause-completes g c = c.lacking.ensures.completes c.args.image.now
+
+pub returns-in-Unfit-clause-completes : goal.returns-in-Unfit-clause-completes
+returns-in-Unfit-clause-completes g c = c.lacking-in-Unfit.ensures.completes c.args.image.now

@@ -1,11 +1,24 @@
+use Rattle.std.proofs.Common.{◌++◌, ◌∙◌, List, ℕ, ap, rules}
 use Rattle.declaration.specs.Kept.{meaning}
+use Rattle.command_parts.specs.Messages.{plain}
+use Rattle.search_commands.specs.VerifyText.{IsAnswer, proposed_text}
+use Rattle.search_commands.specs.WidenedText.{HasReason, reason_text}
 use Rattle.search_commands.proofs.messages.verify_proposed_message.Goals as goal
 
 pub returns-clause-told : goal.returns-clause-told
-returns-clause-told g c = record {
-  declaration = meaning c.in_ok-proposal.proposal.declaration;
-  declares = c.in_ok-proposal.ensures.fits.text;
-  start_is = c.in_ok-proposal.ensures.fits.start;
-  profile_is = c.in_ok-proposal.ensures.fits.profile;
-  is = c.in_ok-told.ensures.told;
-}
+returns-clause-told g c =
+    let settled = c.in_ok-last.ensures.settled in
+    let first = c.in_ok-line.ensures ∙ ap (proposed_text c.in_ok-told.told.answer) (c.deref.ensures.value ∙ c.in_ok-told.ensures.line) in
+    record {
+      declaration = meaning c.in_ok-last.last.declaration;
+      declares = settled.text;
+      start_is = settled.start_is ∙ c.in_ok-proposal.ensures.fits.start;
+      profile_is = settled.profile_is ∙ c.in_ok-proposal.ensures.fits.profile;
+      answers = c.in_ok-told.ensures.told.answers;
+      reason = rw c.in_ok-told.ensures.same settled.reason;
+      is = record {
+        why = plain c.in_ok-told.told.why;
+        plain = c.in_ok-told.ensures.plain;
+        told_is = ap (λ (t : List ℕ). t ++ plain c.in_ok-told.told.why) (c.in_ok-lines.ensures ∙ ap (λ (t : List ℕ). t ++ reason_text c.in_ok-last.last.obstacle) first);
+      };
+    }

@@ -1,0 +1,11 @@
+-- When an output is an input, as far as the names tell.
+use Rattle.std.specs.Prelude.{ℕ, Bool, if◌then◌else◌, codes, drop, take, List}
+use Rattle.std.specs.Str.{bytes_eq}
+
+-- A name without `./` at its front.
+abbrev pub without_here : List ℕ → List ℕ
+without_here name = if bytes_eq (take 2 name) (codes "./") then drop 2 name else name
+
+-- Two names are those of one file: `./` at the front does not matter.
+abbrev pub is_same_file : List ℕ → List ℕ → Bool
+is_same_file left right = bytes_eq (without_here left) (without_here right)

@@ -1,0 +1,324 @@
+//! A runtime whose words, input and files are given, and which keeps what the program writes.
+
+use crate::fixtures::{HALT, HALT_CERTIFICATE, HALT_DECLARED, LETTER, UNDECLARED};
+use std::alloc::{Allocator, Global};
+use std::cell::RefCell;
+use std::env::FillError;
+use std::fmt::Display;
+use std::fs::{Metadata, OpenFile, OpenOptions};
+use std::io::{self, BufRead, ErrorKind, Lines, Read, Seek, SeekFrom, Write};
+use std::rt::{Env, Files};
+use workbench::exit_status;
+
+/// What standard input gives: a source with HLT at 0200.
+static INPUT: &[u8] = b"*200\nHLT\n$\n";
+
+/// What the file of this name has, if there is one. Where the name begins with `failing`, a read behind that fails.
+fn content(name: &str) -> Option<&'static [u8]> {
+    match name {
+        "halt.bin" => Some(HALT),
+        "letter.bin" => Some(LETTER),
+        "halt.pal" => Some(INPUT),
+        "bad.pal" => Some(b"TAD 600\n"),
+        "halt.dcl" => Some(HALT_DECLARED),
+        "wild.dcl" | "failing.dcl" => Some(UNDECLARED),
+        "halt.cert" => Some(HALT_CERTIFICATE),
+        "step.ev" | "failing.ev" => Some(b"step\n"),
+        "failing.bin" => Some(b"\x80\x80\x80\x80\x42\x00\x3c"),
+        "failing.pal" => Some(b"*200\nHLT\n"),
+        "failing.cert" => Some(b"PDP8-CERTIFICATE 1\nfact 0200"),
+        "failing.tape" => Some(b"\x00\x01"),
+        _ => None,
+    }
+}
+
+/// Bytes that are only added to, up to so many.
+#[derive(Drop)]
+struct Page {
+    bytes: RefCell<Vec<u8, Global>>,
+    room: usize,
+}
+
+impl Page {
+    fn new(alloc: Global, room: usize) -> Page {
+        Page {
+            bytes: RefCell::new(Vec::new(alloc)),
+            room,
+        }
+    }
+
+    fn add(&self, more: &[u8]) -> io::Result<()> {
+        let Ok(mut bytes) = self.bytes.try_borrow_mut() else {
+            return Err(unsupported());
+        };
+        if more.len() > self.room.saturating_sub(bytes.len()) {
+            return Err(unsupported());
+        }
+        bytes.extend_from_slice(more).map_err(|_| unsupported())
+    }
+
+    fn into_bytes(self) -> Vec<u8, Global> {
+        self.bytes.into_inner()
+    }
+}
+
+/// A file: the bytes still to be read, whether a read behind them fails, and where the written ones go.
+#[derive(Drop)]
+pub struct Sheet<'d> {
+    rest: &'d [u8],
+    written: &'d Page,
+    fails: bool,
+}
+
+impl Read for Sheet<'_> {
+    fn read(&mut self, buf: &mut [u8]) -> io::Result<usize> {
+        if self.fails && self.rest.is_empty() {
+            return Err(unsupported());
+        }
+        self.rest.read(buf)
+    }
+}
+
+impl Write for Sheet<'_> {
+    fn write(&mut self, buf: &[u8]) -> io::Result<usize> {
+        self.written.add(buf)?;
+        Ok(buf.len())
+    }
+
+    fn flush(&mut self) -> io::Result<()> {
+        Ok(())
+    }
+}
+
+fn unsupported() -> io::Error {
+    io::Error::from(ErrorKind::Unsupported)
+}
+
+impl Seek for Sheet<'_> {
+    fn seek(&mut self, _to: SeekFrom) -> io::Result<u64> {
+        Err(unsupported())
+    }
+}
+
+impl OpenFile for Sheet<'_> {
+    fn metadata(&self) -> io::Result<Metadata> {
+        Err(unsupported())
+    }
+
+    fn set_len(&self, _size: u64) -> io::Result<()> {
+        Err(unsupported())
+    }
+
+    fn sync_all(&self) -> io::Result<()> {
+        Ok(())
+    }
+
+    fn sync_data(&self) -> io::Result<()> {
+        Ok(())
+    }
+}
+
+/// What the program did.
+#[derive(Drop)]
+struct Pages {
+    printed: Page,
+    told: Page,
+    written: Page,
+}
+
+/// The runtime. Its words are those of a text, separated by spaces.
+#[derive(Drop)]
+struct FakeRuntime<'d> {
+    alloc: Global,
+    words: &'d str,
+    pages: &'d Pages,
+}
+
+impl Alloc for FakeRuntime<'_> {
+    type A = Global;
+
+    fn alloc(&self) -> Global {
+        self.alloc
+    }
+}
+
+impl Env for FakeRuntime<'_> {
+    fn arg(&self, i: usize, buf: &mut [u8]) -> Result<usize, FillError> {
+        let Some(word) = self.words.split(' ').nth(i) else {
+            return Err(FillError::NotPresent);
+        };
+        let bytes = word.as_bytes();
+        if bytes.len() > buf.len() {
+            return Err(FillError::TooLong);
+        }
+        buf[..bytes.len()].copy_from_slice(bytes);
+        Ok(bytes.len())
+    }
+
+    fn var(&self, _name: &str, _buf: &mut [u8]) -> Result<usize, FillError> {
+        Err(FillError::NotPresent)
+    }
+
+    fn var_at(&self, _i: usize, _buf: &mut [u8]) -> Result<usize, FillError> {
+        Err(FillError::NotPresent)
+    }
+}
+
+/// Adds the text of a value to a page.
+fn add_text<D: Display + Drop>(alloc: Global, page: &Page, value: D) -> io::Result<()> {
+    match format!(in alloc; "{value}") {
+        Ok(text) => page.add(text.as_bytes()),
+        Err(_) => Err(unsupported()),
+    }
+}
+
+impl Print for FakeRuntime<'_> {
+    fn print<D: Display + Drop>(&self, value: D) -> io::Result<()> {
+        add_text(self.alloc, &self.pages.printed, value)
+    }
+
+    fn println<D: Display + Drop>(&self, value: D) -> io::Result<()> {
+        add_text(self.alloc, &self.pages.printed, value)?;
+        self.pages.printed.add(b"\n")
+    }
+
+    fn write_all(&self, bytes: &[u8]) -> io::Result<()> {
+        self.pages.printed.add(bytes)
+    }
+}
+
+impl Eprint for FakeRuntime<'_> {
+    fn eprint<D: Display + Drop>(&self, value: D) -> io::Result<()> {
+        add_text(self.alloc, &self.pages.told, value)
+    }
+
+    fn eprintln<D: Display + Drop>(&self, value: D) -> io::Result<()> {
+        add_text(self.alloc, &self.pages.told, value)?;
+        self.pages.told.add(b"\n")
+    }
+}
+
+impl Input for FakeRuntime<'_> {
+    type Reader = &'static [u8];
+
+    fn read_line<A: Allocator + Clone>(&self, _buf: &mut String<A>) -> io::Result<usize> {
+        Err(unsupported())
+    }
+
+    fn lines<A: Allocator>(&self, alloc: A) -> Lines<&'static [u8], A> {
+        INPUT.lines(alloc)
+    }
+
+    fn reader(&self) -> &'static [u8] {
+        INPUT
+    }
+}
+
+impl<'d> Files for FakeRuntime<'d> {
+    type File = Sheet<'d>;
+
+    type Dir = &'static [u8];
+
+    fn open_file(&self, how: &OpenOptions, path: &str) -> io::Result<Sheet<'d>> {
+        how.check()?;
+        let found = if how.asks_create() || how.asks_create_new() {
+            Some(b"".as_slice())
+        } else {
+            content(path)
+        };
+        match found {
+            Some(rest) => Ok(Sheet {
+                rest,
+                written: &self.pages.written,
+                fails: path.starts_with("failing"),
+            }),
+            None => Err(io::Error::from(ErrorKind::NotFound)),
+        }
+    }
+
+    fn open_dir(&self, _path: &str) -> io::Result<&'static [u8]> {
+        Err(unsupported())
+    }
+
+    fn metadata(&self, _path: &str) -> io::Result<Metadata> {
+        Err(unsupported())
+    }
+
+    fn symlink_metadata(&self, _path: &str) -> io::Result<Metadata> {
+        Err(unsupported())
+    }
+
+    fn copy(&self, _from: &str, _to: &str) -> io::Result<u64> {
+        Err(unsupported())
+    }
+
+    fn rename(&self, _from: &str, _to: &str) -> io::Result<()> {
+        Ok(())
+    }
+
+    fn remove_file(&self, _path: &str) -> io::Result<()> {
+        Ok(())
+    }
+
+    fn create_dir(&self, _path: &str) -> io::Result<()> {
+        Err(unsupported())
+    }
+
+    fn remove_dir(&self, _path: &str) -> io::Result<()> {
+        Err(unsupported())
+    }
+
+    fn remove_dir_all<B: Allocator>(&self, _alloc: B, _path: &str) -> io::Result<()> {
+        Err(unsupported())
+    }
+}
+
+/// For how many bytes there is room on standard output, on standard error and in files.
+#[derive(Clone, Copy)]
+pub struct Rooms {
+    pub printed: usize,
+    pub told: usize,
+    pub written: usize,
+}
+
+/// There is room for all.
+pub const ROOMY: Rooms = Rooms {
+    printed: usize::MAX,
+    told: usize::MAX,
+    written: usize::MAX,
+};
+
+/// What the program leaves: its status, and what went to standard output, to standard error and to files.
+#[derive(Drop)]
+pub struct Ended {
+    pub status: u8,
+    pub printed: Vec<u8, Global>,
+    pub told: Vec<u8, Global>,
+    pub written: Vec<u8, Global>,
+}
+
+/// Runs the program with these words, separated by spaces, where a write past the room that there is fails.
+pub fn run_program(alloc: Global, words: &str, rooms: Rooms) -> Ended {
+    let pages = Pages {
+        printed: Page::new(alloc, rooms.printed),
+        told: Page::new(alloc, rooms.told),
+        written: Page::new(alloc, rooms.written),
+    };
+    let runtime = FakeRuntime {
+        alloc,
+        words,
+        pages: &pages,
+    };
+    let status = exit_status(&runtime, false);
+    let Pages {
+        printed,
+        told,
+        written,
+    } = pages;
+    Ended {
+        status,
+        printed: printed.into_bytes(),
+        told: told.into_bytes(),
+        written: written.into_bytes(),
+    }
+}

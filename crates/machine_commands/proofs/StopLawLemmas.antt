@@ -1,0 +1,104 @@
+-- A run that is stopped is the run without stops up to there.
+use Rattle.std.proofs.Common.{ℕ, zero, suc, ◌≡◌, ◌+◌, Bool, true, false, List, [], ◌∷◌, ◌++◌, take, drop, refl, sym, ap, ◌∙◌, subst, append_assoc, zero-add, arith}
+use Rattle.instruct.specs.declared.Profile.{Profile}
+use Rattle.command_parts.specs.declared.options.Stops.{Stops}
+use Rattle.peripherals.specs.declared.Event.{Event}
+use Rattle.peripherals.specs.declared.Seen.{Seen}
+use Rattle.peripherals.specs.declared.Seen.TheVariants as seen
+use Rattle.peripherals.specs.Devices.{WorldState}
+use Rattle.peripherals.specs.Events.{Happens}
+use Rattle.peripherals.specs.Seen.{seen_of}
+use Rattle.peripherals.proofs.OneLemmas.{one_world}
+use Rattle.machine_commands.specs.declared.follow.End.{End}
+use Rattle.machine_commands.specs.Follows.{Follows, Ended, Stuck, Stopped, Went, counted, goes_on}
+use Rattle.machine_commands.specs.StopLaws.{GoesOnTo, StoppedIsNotNever, StoppedRunsAreFronts, StopsAreOne}
+use Rattle.machine_commands.specs.Stops.{Ends, GoesOn, Here, Later, NeverStops, Over, StopsAfter, stops_before, visits_with}
+use Rattle.machine_commands.specs.Trace.{trace_of}
+use Rattle.std.proofs.lemmas.Bool.{true≢false, false≢true}
+
+-- a run that goes on is neither stuck nor over
+not_stuck : (h : Bool) (what : Seen) (word : ℕ) → what ≡ seen.Unsupported word → goes_on h what ≡ true → ⊥
+not_stuck h what word is on = let no : goes_on h what ≡ false = ap (goes_on h) is in cc
+
+not_halted : (h : Bool) (what : Seen) → h ≡ true → what ≡ seen.Halted → goes_on h what ≡ true → ⊥
+not_halted true what ends is on = let no : goes_on true what ≡ false = ap (goes_on true) is in cc
+not_halted false what ends is on = cc
+
+-- a run whose first event does not end it
+record WentOn (p : Profile) (h : Bool) (e : Event) (es : List Event) (w : WorldState) (lines : List ℕ) (n : ℕ) (end : End) (x : WorldState) : Type 0 where
+  world : WorldState
+  after : List ℕ
+  steps : ℕ
+  lines_are : lines ≡ trace_of p w e world ++ after
+  steps_are : n ≡ counted (seen_of p w e) + steps
+  happens : Happens p w e world
+  rest : Follows p h es world after steps end x
+
+went_on : (p : Profile) (h : Bool) (e : Event) (es : List Event) (w : WorldState) (lines : List ℕ) (n : ℕ) (end : End) (x : WorldState) →
+    goes_on h (seen_of p w e) ≡ true → Follows p h (e ∷ es) w lines n end x → WentOn p h e es w lines n end x
+went_on p h e es w lines n end x on (Stuck _ _ _ _ word s a) = absurd (not_stuck h (seen_of p w e) word s on)
+went_on p h e es w lines n end x on (Stopped _ _ _ _ ends s a) = absurd (not_halted h (seen_of p w e) ends s on)
+went_on p h e es w lines n end x on (Went _ _ _ m _ what ls k _ s on' a f) = record {
+  world = m;
+  after = ls;
+  steps = k;
+  lines_are = refl;
+  steps_are = ap (λ (t : Seen). counted t + k) (sym s);
+  happens = a;
+  rest = f;
+}
+
+none_first : (p : Profile) (h : Bool) (es : List Event) (w x final : WorldState) (steps all : ℕ) (lines whole : List ℕ) (end last : End) →
+    Follows p h [] w lines steps end x → Follows p h es w whole all last final → GoesOnTo p h es x lines whole steps all last final
+none_first p h es w x final steps all lines whole end last (Ended _) run = record { more = whole; steps_more = all; follows = run; lines_are = refl; steps_are = sym (zero-add all) }
+
+joined_lines : (a b c ls more : List ℕ) (whole lines : List ℕ) → whole ≡ a ++ b → lines ≡ c ++ ls → a ≡ c → b ≡ ls ++ more → whole ≡ lines ++ more
+joined_lines a b c ls more whole lines w l same rest = w ∙ (rw (same, rest, l) (sym (append_assoc c ls more)))
+
+fronts : (stops : Stops) (p : Profile) (h : Bool) (visits : ℕ) (es : List Event) (w x final : WorldState) (count steps all : ℕ) (lines whole : List ℕ) (end last : End) →
+    StopsAfter stops p h visits es w count → Follows p h (take count es) w lines steps end x → Follows p h es w whole all last final →
+    GoesOnTo p h (drop count es) x lines whole steps all last final
+fronts stops p h visits [] w x final count steps all lines whole end last none first run = elim none [ ]
+fronts stops p h visits (e ∷ fs) w x final count steps all lines whole end last (Here _ _ _ _ on) first run = none_first p h (e ∷ fs) w x final steps all lines whole end last first run
+fronts stops p h visits (e ∷ fs) w x final count steps all lines whole end last (Later _ k _ _ _ m off goes happens later) first run =
+    let a : WentOn p h e (take k fs) w lines steps end x = went_on p h e (take k fs) w lines steps end x goes first in
+    let b : WentOn p h e fs w whole all last final = went_on p h e fs w whole all last final goes run in
+    let here : m ≡ a.world = one_world p w e m a.world happens a.happens in
+    let there : b.world ≡ a.world = one_world p w e b.world a.world b.happens a.happens in
+    let stop : StopsAfter stops p h (visits_with stops visits w e) fs a.world k = subst (λ (y : WorldState). StopsAfter stops p h (visits_with stops visits w e) fs y k) here later in
+    let rest : Follows p h fs a.world b.after b.steps last final = subst (λ (y : WorldState). Follows p h fs y b.after b.steps last final) there b.rest in
+    let more : GoesOnTo p h (drop k fs) x a.after b.after a.steps b.steps last final = fronts stops p h (visits_with stops visits w e) fs a.world x final k a.steps b.steps a.after b.after end last stop a.rest rest in
+    record {
+      more = more.more;
+      steps_more = more.steps_more;
+      follows = more.follows;
+      lines_are = joined_lines (trace_of p w e b.world) b.after (trace_of p w e a.world) a.after more.more whole lines b.lines_are a.lines_are (ap (λ (y : WorldState). trace_of p w e y) there) more.lines_are;
+      steps_are = let f = a.steps_are in let g = b.steps_are in let s = more.steps_are in omega (arith, f, g, s);
+    }
+
+pub stopped_runs_are_fronts : StoppedRunsAreFronts
+stopped_runs_are_fronts stops p h es w x final count steps all lines whole end last = fronts stops p h 0 es w x final count steps all lines whole end last
+
+one_stop : (stops : Stops) (p : Profile) (h : Bool) (visits : ℕ) (es : List Event) (w : WorldState) (count other : ℕ) →
+    StopsAfter stops p h visits es w count → StopsAfter stops p h visits es w other → count ≡ other
+one_stop stops p h visits es w count other (Here _ e fs _ on) (Here _ _ _ _ on') = refl
+one_stop stops p h visits es w count other (Here _ e fs _ on) (Later _ k _ _ _ m off goes happens later) = absurd (true≢false (sym on ∙ off))
+one_stop stops p h visits es w count other (Later _ k e fs _ m off goes happens later) (Here _ _ _ _ on) = absurd (true≢false (sym on ∙ off))
+one_stop stops p h visits es w count other (Later _ k e fs _ m off goes happens later) (Later _ j _ _ _ n off' goes' happens' later') =
+    let same : n ≡ m = one_world p w e n m happens' happens in
+    ap suc (one_stop stops p h (visits_with stops visits w e) fs m k j later (subst (λ (y : WorldState). StopsAfter stops p h (visits_with stops visits w e) fs y j) same later'))
+
+pub stops_are_one : StopsAreOne
+stops_are_one stops p h es w count other = one_stop stops p h 0 es w count other
+
+not_never : (stops : Stops) (p : Profile) (h : Bool) (visits : ℕ) (es : List Event) (w : WorldState) (count : ℕ) →
+    StopsAfter stops p h visits es w count → NeverStops stops p h visits es w → ⊥
+not_never stops p h visits es w count (Here _ e fs _ on) (Ends _ _ _ _ off over) = absurd (true≢false (sym on ∙ off))
+not_never stops p h visits es w count (Here _ e fs _ on) (GoesOn _ _ _ _ m off goes happens never) = absurd (true≢false (sym on ∙ off))
+not_never stops p h visits es w count (Later _ k e fs _ m off goes happens later) (Ends _ _ _ _ off' over) = absurd (true≢false (sym goes ∙ over))
+not_never stops p h visits es w count (Later _ k e fs _ m off goes happens later) (GoesOn _ _ _ _ n off' goes' happens' never) =
+    let same : n ≡ m = one_world p w e n m happens' happens in
+    not_never stops p h (visits_with stops visits w e) fs m k later (subst (λ (y : WorldState). NeverStops stops p h (visits_with stops visits w e) fs y) same never)
+
+pub stopped_is_not_never : StoppedIsNotNever
+stopped_is_not_never stops p h es w count = not_never stops p h 0 es w count

@@ -1,0 +1,85 @@
+-- The run of a tape of which the last instructions are shown.
+use Rattle.std.specs.Prelude.{ℕ, ◌≡◌, ◌+◌, ◌-◌, ◌==◌, Bool, true, false, if◌then◌else◌, ◌⊎◌, ◌++◌, List, [], ◌∷◌, Option, take}
+use Rattle.std.proofs.Common.{zero, suc}
+use Rattle.wordset.specs.Lanes.{words}
+use Rattle.peripherals.specs.declared.Event.{Event}
+use Rattle.peripherals.specs.Devices.{WorldState}
+use Rattle.command_parts.specs.declared.options.RunOptions.{RunOptions}
+use Rattle.command_parts.specs.declared.options.Stops.{Stops}
+use Rattle.command_parts.specs.declared.status.Status.{Status}
+use Rattle.command_parts.specs.Inputs.{HasEvents, HasImage}
+use Rattle.machine_commands.specs.declared.follow.End.{End}
+use Rattle.machine_commands.specs.declared.follow.End.TheVariants as end
+use Rattle.machine_commands.specs.Follows.{Follows, rounds}
+use Rattle.machine_commands.specs.Running.{fresh, status_of}
+use Rattle.machine_commands.specs.Stops.{NeverStops, StopsAfter}
+use Rattle.machine_commands.specs.Summary.{closing}
+
+-- How many lines a text has, each of which ends with a line feed.
+abbrev pub lines_in : List ℕ → ℕ
+lines_in [] = 0
+lines_in (c ∷ cs) = if c == 10 then suc (lines_in cs) else lines_in cs
+
+-- A text without so many lines at its front.
+abbrev pub without_lines : ℕ → List ℕ → List ℕ
+without_lines zero text = text
+without_lines (suc n) [] = []
+without_lines (suc n) (c ∷ cs) = if c == 10 then without_lines n cs else without_lines (suc n) cs
+
+-- The last lines of a text, so many or all that there are.
+abbrev pub last_lines : ℕ → List ℕ → List ℕ
+last_lines n text = without_lines (lines_in text - n) text
+
+-- From w the run of these events is stopped before the events behind the first ones; or it is not stopped, and these are all.
+abbrev pub IsCut : Stops → RunOptions → Bool → List Event → List Event → WorldState → Bool → Type 0
+IsCut stops options ends_at_halt events cut w stopped =
+    ((count : ℕ) × StopsAfter stops options.profile ends_at_halt 0 events w count × (cut ≡ take count events) × (stopped ≡ true))
+    ⊎ (NeverStops stops options.profile ends_at_halt 0 events w × (cut ≡ events) × (stopped ≡ false))
+
+-- How a run is said to have ended: where the program counter is, if it was stopped, and else as it ended.
+abbrev pub told : Bool → End → WorldState → End
+told true last x = end.Stopped x.state.pc
+told false last x = last
+
+-- From an image these events, up to where their run is stopped if it is, lead to a world. The text is the last lines of their trace, so
+-- many or all, the summary, and the cells to be shown, each with its word in that world.
+pub record IsLastOfRun (options : RunOptions) (stops : Stops) (most : ℕ) (ends_at_halt : Bool) (events : List Event) (image : List (Option ℕ)) (text : List ℕ) (status : Status) : Type 0 where
+  pub cut : List Event
+  pub stopped : Bool
+  pub is_cut : IsCut stops options ends_at_halt events cut (fresh image options.start) stopped
+  pub lines : List ℕ
+  pub steps : ℕ
+  pub last : End
+  pub final : WorldState
+  pub follows : Follows options.profile ends_at_halt cut (fresh image options.start) lines steps last final
+  pub text_is : text ≡ last_lines most lines ++ closing (words options.show) (told stopped last final) final steps
+  pub status_is : status ≡ status_of (told stopped last final)
+
+-- The same, whichever status that has.
+abbrev pub IsLastText : RunOptions → Stops → ℕ → Bool → List Event → List (Option ℕ) → List ℕ → Type 0
+IsLastText options stops most ends_at_halt events image text =
+    (status : Status) × IsLastOfRun options stops most ends_at_halt events image text status
+
+-- The frames are a tape, and the text is that of the last instructions of the run of its image by so many rounds, which ends at a
+-- halt and is stopped where that is asked for.
+pub record IsLastOfRounds (options : RunOptions) (stops : Stops) (most : ℕ) (frames : Option (List ℕ)) (text : List ℕ) (status : Status) : Type 0 where
+  pub image : List (Option ℕ)
+  pub tape : HasImage frames image
+  pub run : IsLastOfRun options stops most true (rounds options.rounds) image text status
+
+-- The same, whichever status that has.
+abbrev pub IsLastTextOfRounds : RunOptions → Stops → ℕ → Option (List ℕ) → List ℕ → Type 0
+IsLastTextOfRounds options stops most frames text = (status : Status) × IsLastOfRounds options stops most frames text status
+
+-- The frames are a tape, and the text is that of the last instructions of the run of its image by the events that a list spells; such
+-- a run goes on after a halt, and is stopped where that is asked for.
+pub record IsLastOfEvents (options : RunOptions) (stops : Stops) (most : ℕ) (frames list : Option (List ℕ)) (text : List ℕ) (status : Status) : Type 0 where
+  pub image : List (Option ℕ)
+  pub tape : HasImage frames image
+  pub events : List Event
+  pub spelled : HasEvents list events
+  pub run : IsLastOfRun options stops most false events image text status
+
+-- The same, whichever status that has.
+abbrev pub IsLastTextOfEvents : RunOptions → Stops → ℕ → Option (List ℕ) → Option (List ℕ) → List ℕ → Type 0
+IsLastTextOfEvents options stops most frames list text = (status : Status) × IsLastOfEvents options stops most frames list text status

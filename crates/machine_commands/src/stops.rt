@@ -1,0 +1,142 @@
+//! Where a run is stopped.
+
+ghost use Rattle.std.specs.Prelude.{◌≡◌, ◌≤◌, ◌<◌, ◌+◌, ◌||◌, IfOk};
+ghost use Rattle.processor.specs.declared.fetch.DecodedInstruction.TheVariants.{Refers};
+ghost use Rattle.wordset.specs.Lanes.{words};
+ghost use Rattle.processor.specs.Fetch.{fetched};
+ghost use Rattle.processor.specs.Steps.{state_of};
+ghost use Rattle.peripherals.specs.World.{view, profile_of};
+ghost use Rattle.machine_commands.specs.Course.{ends_at_halt, events_in};
+ghost use Rattle.machine_commands.specs.Follows.{goes_on};
+ghost use Rattle.machine_commands.specs.Stops.{IsStop, is_asked_for, is_at, reads_one, stops_before, visits_with, writes_one};
+
+use crate::follow::Course;
+use command_parts::options::Stops;
+use instruct::Operation;
+use peripherals::{Event, NoMemory, Seen, World};
+use processor::{Cpu, DecodedInstruction, Reference};
+use std::alloc::Allocator;
+use word12::Word;
+use wordset::WordSet;
+
+/// Whether a memory reference writes one of these cells.
+fn reference_writes(cells: &WordSet, reference: &Reference) -> bool
+    ensures { result ≡ writes_one (words cells.now) (Refers reference.now) }
+{
+    if reference.steps_pointer() && cells.contains(reference.named) {
+        return true;
+    }
+    match reference.operation {
+        Operation::Isz | Operation::Dca | Operation::Jms => cells.contains(reference.place),
+        _ => false,
+    }
+}
+
+/// Whether a memory reference reads one of these cells.
+fn reference_reads(cells: &WordSet, reference: &Reference) -> bool
+    ensures { result ≡ reads_one (words cells.now) (Refers reference.now) }
+{
+    if reference.indirect && cells.contains(reference.named) {
+        return true;
+    }
+    match reference.operation {
+        Operation::And | Operation::Tad | Operation::Isz => cells.contains(reference.place),
+        _ => false,
+    }
+}
+
+/// Whether an instruction writes or reads one of the cells that are asked for.
+fn touches(stops: &Stops, instruction: &DecodedInstruction) -> bool
+    ensures { result ≡ (writes_one (words stops.now.written) instruction.now
+        || reads_one (words stops.now.read) instruction.now) }
+{
+    match instruction {
+        DecodedInstruction::Refers(reference) => {
+            reference_writes(&stops.written, reference) || reference_reads(&stops.read, reference)
+        }
+        _ => false,
+    }
+}
+
+/// Whether the program counter is at an address, if there is one.
+fn is_at(place: Option<Word>, pc: Word) -> bool
+    ensures { result ≡ is_at place pc }
+{
+    match place {
+        None => false,
+        Some(place) => pc == place,
+    }
+}
+
+/// Whether the next step is asked for, where so many steps before it came to the address.
+fn is_asked_for(stops: &Stops, visits: usize, cpu: &Cpu) -> bool
+    requires { visits < 18446744073709551615 }
+    ensures { result ≡ is_asked_for stops.now cpu.now.profile visits (state_of cpu.now) }
+{
+    if is_at(stops.place, cpu.pc) && visits + 1 == stops.times as usize {
+        return true;
+    }
+    touches(stops, &cpu.fetch())
+}
+
+/// Whether an event stops the run, where so many steps before it came to the address.
+fn stops_before<A: Allocator>(stops: &Stops, visits: usize, world: &World<A>, event: &Event) -> bool
+    requires { visits < 18446744073709551615 }
+    ensures { result
+        ≡ stops_before stops.now (profile_of world.now) visits (view world.now) event.now }
+{
+    match event {
+        Event::Step if world.halted_at().is_none() => is_asked_for(stops, visits, world.cpu()),
+        _ => false,
+    }
+}
+
+/// How many steps came to the address, with an event.
+fn visits_with<A: Allocator>(stops: &Stops, visits: usize, world: &World<A>, event: &Event) -> usize
+    requires { visits < 18446744073709551615 }
+    ensures visits { result ≡ visits_with stops.now visits (view world.now) event.now }
+    ensures few { result ≤ visits + 1 }
+{
+    match event {
+        Event::Step if world.halted_at().is_none() && is_at(stops.place, world.cpu().pc) => {
+            visits + 1
+        }
+        _ => visits,
+    }
+}
+
+/// Whether a run goes on after what was seen, where it ends at a halt or does not.
+fn goes_on(ends_at_halt: bool, seen: &Seen) -> bool
+    ensures { result ≡ goes_on ends_at_halt seen.now }
+{
+    match seen {
+        Seen::Unsupported(_) => false,
+        Seen::Halted => !ends_at_halt,
+        _ => true,
+    }
+}
+
+/// After how many events the run of a course is stopped; none where it is not. It takes the world through
+/// the course up to there.
+pub(crate) fn stop_in<A: Allocator>(
+    world: &mut World<A>,
+    course: &Course<'_>,
+    stops: &Stops,
+) -> Result<Option<usize>, NoMemory>
+    ensures { IfOk result (IsStop stops.now (profile_of world.old) (ends_at_halt course.now)
+        (events_in course.now) (view world.old)) }
+{
+    let mut visits = 0;
+    for index in 0..course.len() {
+        let event = course.event(index);
+        if stops_before(stops, visits, world, &event) {
+            return Ok(Some(index));
+        }
+        visits = visits_with(stops, visits, world, &event);
+        let seen = world.apply(event)?;
+        if !goes_on(course.ends_at_halt(), &seen) {
+            return Ok(None);
+        }
+    }
+    Ok(None)
+}

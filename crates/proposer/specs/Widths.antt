@@ -1,0 +1,23 @@
+-- When one declaration is as wide as another one.
+use Rattle.std.specs.Prelude.{ℕ, ◌≡◌, ◌<◌, true, None}
+use Rattle.wordset.specs.Words.{IsWithin, union}
+use Rattle.declaration.specs.Declaration.{Declaration, Routine}
+
+-- Whatever the one declaration says of a cell the other says too: each body that has the cell has it still, an entry stays
+-- an entry, and its routine may return at each offset, all of which are below 8, at which it might.
+pub record KeepsCell (given more : Declaration) (a : ℕ) : Type 0 where
+  pub body : (r : Routine) → given.body r a ≡ true → more.body r a ≡ true
+  pub entry : given.entry a ≡ true → more.entry a ≡ true
+  pub offset : (o : ℕ) → o < 8 → given.offset a o ≡ true → more.offset a o ≡ true
+
+-- The second declaration is as wide as the first: start and machine are the same; each cell is still in the body that it was
+-- in, each entry is an entry with all its offsets, and each variable a variable; each halt is a halt, though a pause may have
+-- become a stop; and every cell may be read.
+pub record IsAsWide (given more : Declaration) : Type 0 where
+  pub start_is : more.start ≡ given.start
+  pub profile_is : more.profile ≡ given.profile
+  pub cells : (a : ℕ) → a < 4096 → KeepsCell given more a
+  pub variables : IsWithin given.variable more.variable
+  pub stops : IsWithin given.stop (union more.stop more.pause)
+  pub pauses : IsWithin given.pause (union more.stop more.pause)
+  pub reads : more.reads ≡ None

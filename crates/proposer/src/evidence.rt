@@ -1,0 +1,122 @@
+//! What runs did, as far as each declaration that allows them has to say so.
+
+use bin_tape::Image;
+use declaration::{Declaration, Owner};
+use peripherals::{Event, NoMemory};
+use policy::Watcher;
+use run_search::Sight;
+use std::alloc::Allocator;
+use word12::Word;
+use wordset::WordSet;
+
+/// What runs did, as far as each declaration that allows them has to say so.
+#[derive(Drop)]
+pub struct Evidence<A: Allocator> {
+    /// By address the routine that ran when a step was first made from there.
+    owners: Vec<Option<Owner>, A>,
+    /// The cells from which steps were made.
+    pub(crate) ran: WordSet,
+    /// The cells to which a JMS went.
+    pub(crate) called: WordSet,
+    /// The cells that were written, but the running routine's own entry by an ISZ, and entries by a JMS.
+    pub(crate) written: WordSet,
+    /// The pauses after which CONTINUE was pressed.
+    pub(crate) continued: WordSet,
+    /// The halts after which it leads to what no declaration allows, if the operator goes on.
+    pub(crate) stopped: WordSet,
+}
+
+impl<A: Allocator + Copy> Evidence<A> {
+    /// Nothing was seen yet.
+    ///
+    /// # Errors
+    ///
+    /// `NoMemory` where memory was refused.
+    pub fn nothing(alloc: A) -> Result<Evidence<A>, NoMemory> {
+        Ok(Evidence {
+            owners: Vec::from_elem(alloc, None, 4096)?,
+            ran: WordSet::empty(),
+            called: WordSet::empty(),
+            written: WordSet::empty(),
+            continued: WordSet::empty(),
+            stopped: WordSet::empty(),
+        })
+    }
+
+    /// The routine that ran when a step was first made from an address, if one was.
+    pub(crate) fn owner(&self, at: Word) -> Option<Owner> {
+        self.owners.get(at.index()).copied().flatten()
+    }
+
+    /// Whether the tape or a run has put a word into a cell.
+    pub(crate) fn is_set(&self, image: &Image, at: Word) -> bool {
+        image.get(at).is_some() || self.written.contains(at)
+    }
+
+    /// The cell that an event is about to execute though neither the tape nor a run has put a word there, if it does.
+    pub(crate) fn unset_cell(
+        &self,
+        image: &Image,
+        watcher: &Watcher<A>,
+        event: Event,
+    ) -> Option<Word> {
+        let world = watcher.world();
+        let at = world.cpu().pc;
+        if event != Event::Step || world.halted_at().is_some() || self.is_set(image, at) {
+            return None;
+        }
+        Some(at)
+    }
+
+    /// Forgets what runs did: the halts after which they went on are stops from now on.
+    pub(crate) fn forget_continued(&mut self) {
+        for owner in self.owners.iter_mut() {
+            *owner = None;
+        }
+        self.stopped = self.stopped.union(&self.continued);
+        self.ran = WordSet::empty();
+        self.called = WordSet::empty();
+        self.written = WordSet::empty();
+        self.continued = WordSet::empty();
+    }
+
+    /// A step is about to be made.
+    pub(crate) fn sees(&mut self, sight: &Sight) {
+        if let Some(owner) = self.owners.get_mut(sight.at.index()) {
+            if owner.is_none() {
+                *owner = Some(sight.owner);
+            }
+        }
+        self.ran.insert(sight.at);
+        if let Owner::Routine(entry) = sight.owner {
+            self.called.insert(entry);
+        }
+        if let Some(cell) = sight.stored {
+            self.written.insert(cell);
+        }
+        if let Some(cell) = sight.stepped {
+            self.written.insert(cell);
+        }
+    }
+
+    /// The routine that runs was called.
+    pub(crate) fn runs(&mut self, watcher: &Watcher<A>) {
+        if let Some(call) = watcher.calls().last() {
+            self.called.insert(call.entry);
+        }
+    }
+
+    /// An event is about to happen, which breaks no rule.
+    pub(crate) fn meets<D: Allocator>(
+        &mut self,
+        watcher: &Watcher<A>,
+        declaration: &Declaration<D>,
+        event: Event,
+    ) {
+        match (event, watcher.world().halted_at()) {
+            (Event::Step, None) => self.sees(&Sight::of(watcher)),
+            (Event::Continue, Some(at)) if declaration.is_pause(at) => self.continued.insert(at),
+            _ => {}
+        }
+    }
+}

@@ -1,0 +1,496 @@
+//! What a step teaches that breaks a declaration.
+
+use crate::evidence::Evidence;
+use crate::sketch::Sketch;
+use bin_tape::Image;
+use control_flow::{Breadth, Map, Tape};
+use declaration::{Declaration, DeclarationFault, Owner, Routine};
+use instruct::{Instruction, Operation, Profile, decode, halts, refers_indirectly, target};
+use peripherals::NoMemory;
+use policy::Watcher;
+use processor::{effective_address, is_auto_index};
+use run_search::Sight;
+use std::alloc::Allocator;
+use word12::Word;
+use wordset::WordSet;
+
+/// Why no declaration allows what runs did; each with the address at which it is seen.
+#[derive(Clone, Copy, PartialEq, Eq, Debug)]
+pub enum Obstacle {
+    /// Control comes to a word that the machine does not support.
+    Unsupported(Word),
+    /// Control comes to a cell into which neither the tape nor the program has put a word.
+    Unset(Word),
+    /// Control comes to a cell in which a JMS keeps a return address: an entry is in no body.
+    RunsEntry(Word),
+    /// Two routines, or main and a routine, execute the cell: it can be in one body alone.
+    Shared(Word),
+    /// A JMS goes to a cell that is executed: an entry is in no body.
+    CallsBody(Word),
+    /// A JMS goes to a cell that the program stores in: an entry is no variable.
+    CallsVariable(Word),
+    /// A JMS goes to an auto-index cell.
+    CallsPointer(Word),
+    /// The program stores in a cell in which a JMS keeps a return address: an entry is no variable.
+    StoresInEntry(Word),
+    /// A return goes by the return address of another call than the last one.
+    ReturnsForAnother(Word),
+    /// A routine returns to none of the eight cells after its call.
+    ReturnsFar(Word),
+}
+
+/// What a step teaches that breaks a declaration.
+#[derive(Clone, Copy, PartialEq, Eq)]
+pub(crate) enum Lesson {
+    /// Nothing.
+    Nothing,
+    /// What a wider declaration allows.
+    New,
+    /// That a declaration that allows it says less elsewhere.
+    Unclear,
+    /// That no declaration allows it.
+    Never(Obstacle),
+}
+
+impl Lesson {
+    /// What both teach; the first obstacle is told.
+    fn and(self, other: Lesson) -> Lesson {
+        match (self, other) {
+            (Lesson::Never(obstacle), _) => Lesson::Never(obstacle),
+            (_, Lesson::Never(obstacle)) => Lesson::Never(obstacle),
+            (Lesson::Unclear, _) | (_, Lesson::Unclear) => Lesson::Unclear,
+            (Lesson::Nothing, Lesson::Nothing) => Lesson::Nothing,
+            _ => Lesson::New,
+        }
+    }
+}
+
+/// What a program may do that starts at an address, by the words of its tape; none where that can't be declared.
+fn by_words<A: Allocator + Copy>(
+    alloc: A,
+    image: &Image,
+    at: Word,
+    profile: Profile,
+) -> Result<Option<Declaration<A>>, NoMemory> {
+    let tape = Tape::of(image);
+    let map = Map::of(&tape, at, profile);
+    let text = map.text(alloc, &tape, &map.variables(image, Breadth::Stored))?;
+    match Declaration::parse(alloc, &text) {
+        Ok(found) => Ok(Some(found)),
+        Err(DeclarationFault::NoMemory) => Err(NoMemory),
+        Err(_) => Ok(None),
+    }
+}
+
+/// Adds to a routine what its words tell, or adds the routine, if its entry has no other role.
+fn add_routine<A: Allocator + Copy>(
+    sketch: &mut Sketch<A>,
+    evidence: &Evidence<A>,
+    routine: &Routine,
+) -> Result<(), NoMemory> {
+    let entry = routine.entry();
+    let body = sketch.free(routine.body()).minus(&evidence.called);
+    if sketch.entries().contains(entry) {
+        sketch.add_body(&Owner::Routine(entry), &body);
+    } else {
+        let taken = sketch.bodies().union(&sketch.variables);
+        let taken = taken.union(&evidence.ran).union(&evidence.written);
+        if taken.contains(entry) || body.is_empty() {
+            return Ok(());
+        }
+        let mut body = body;
+        body.remove(entry);
+        sketch.add_routine(entry, body)?;
+    }
+    for index in 0..8usize {
+        let offset = Word::from_index(index);
+        if routine.offsets().contains(offset) {
+            sketch.add_return(entry, offset);
+        }
+    }
+    Ok(())
+}
+
+/// Adds halts that are in bodies: those that have to be stops, and the others as they are.
+fn add_halts<A: Allocator + Copy>(
+    sketch: &mut Sketch<A>,
+    evidence: &Evidence<A>,
+    stops: &WordSet,
+    pauses: &WordSet,
+) {
+    let declared = sketch.stops.union(&sketch.pauses);
+    let open = sketch.bodies().minus(&declared);
+    let pauses = pauses.meet(&open);
+    let stops = stops.meet(&open);
+    sketch.stops = sketch
+        .stops
+        .union(&stops)
+        .union(&pauses.meet(&evidence.stopped));
+    sketch.pauses = sketch.pauses.union(&pauses.minus(&sketch.stops));
+}
+
+/// Adds what the words tell of the code at an address, which is in the body of this routine.
+fn add_code<A: Allocator + Copy>(
+    alloc: A,
+    image: &Image,
+    sketch: &mut Sketch<A>,
+    evidence: &Evidence<A>,
+    owner: &Owner,
+    at: Word,
+    profile: Profile,
+) -> Result<(), NoMemory> {
+    sketch.add_body(owner, &WordSet::one(at));
+    let Some(found) = by_words(alloc, image, at, profile)? else {
+        return Ok(());
+    };
+    let entries = found_entries(&found);
+    let body = sketch
+        .free(found.main())
+        .minus(&evidence.called)
+        .minus(&entries);
+    sketch.add_body(owner, &body);
+    for routine in found.routines() {
+        add_routine(sketch, evidence, routine)?;
+    }
+    let variables = found.variables().minus(&sketch.entries());
+    sketch.variables = sketch.variables.union(&variables);
+    add_halts(sketch, evidence, found.stops(), found.pauses());
+    Ok(())
+}
+
+/// The entries of a declaration.
+fn found_entries<A: Allocator>(declaration: &Declaration<A>) -> WordSet {
+    let mut cells = WordSet::empty();
+    for routine in declaration.routines() {
+        cells.insert(routine.entry());
+    }
+    cells
+}
+
+/// The cells that instructions of some bodies name.
+fn named_by(image: &Image, bodies: &WordSet, profile: Profile) -> WordSet {
+    let mut cells = WordSet::empty();
+    for at in bodies.iter() {
+        if let Some(word) = image.get(at) {
+            if decode(word, profile) == Instruction::Memory {
+                cells.insert(target(word, at));
+            }
+        }
+    }
+    cells
+}
+
+/// The cells around one, up and down, as far as they are among these.
+fn row_around(cells: &WordSet, cell: Word) -> WordSet {
+    let top = Word::ZERO.complement();
+    let mut row = WordSet::one(cell);
+    let mut low = cell;
+    let mut high = cell;
+    for _cell in 0..4096usize {
+        let below = low.add(top);
+        if low != Word::ZERO && cells.contains(below) {
+            low = below;
+            row.insert(low);
+        }
+        let above = high.increment();
+        if high != top && cells.contains(above) {
+            high = above;
+            row.insert(high);
+        }
+    }
+    row
+}
+
+/// The buffer that has a cell: the cells around it of which the tape has words, or has none, as of this one, and which no
+/// instruction names and that have no other role.
+fn buffer_of<A: Allocator + Copy>(
+    image: &Image,
+    sketch: &Sketch<A>,
+    cell: Word,
+    profile: Profile,
+) -> WordSet {
+    let bodies = sketch.bodies();
+    let mut cells = WordSet::empty();
+    let is_there = image.get(cell).is_some();
+    for index in 0..4096usize {
+        let at = Word::from_index(index);
+        if image.get(at).is_some() == is_there && !is_auto_index(at) {
+            cells.insert(at);
+        }
+    }
+    let cells = cells.minus(&bodies).minus(&sketch.entries());
+    let cells = cells.minus(&named_by(image, &bodies, profile));
+    if cells.contains(cell) {
+        row_around(&cells, cell)
+    } else {
+        WordSet::one(cell)
+    }
+}
+
+/// What is learned of the place of a step: that it is in the running routine's body.
+fn lesson_of_place<A: Allocator + Copy, D: Allocator>(
+    image: &Image,
+    declaration: &Declaration<D>,
+    evidence: &Evidence<A>,
+    sight: &Sight,
+    word: Word,
+) -> Lesson {
+    let at = sight.at;
+    if evidence.called.contains(at) {
+        return Lesson::Never(Obstacle::RunsEntry(at));
+    }
+    if !evidence.is_set(image, at) {
+        return Lesson::Never(Obstacle::Unset(at));
+    }
+    if decode(word, declaration.profile()) == Instruction::Unsupported {
+        return Lesson::Never(Obstacle::Unsupported(at));
+    }
+    match evidence.owner(at) {
+        Some(owner) if owner != sight.owner => return Lesson::Never(Obstacle::Shared(at)),
+        _ => {}
+    }
+    match declaration.owner_of(at) {
+        Some(owner) if owner == sight.owner => Lesson::Nothing,
+        Some(_) => Lesson::Unclear,
+        None if declaration.is_entry(at) => Lesson::Unclear,
+        None => Lesson::New,
+    }
+}
+
+/// What is learned of a cell that is written: that it may change.
+fn lesson_of_store<A: Allocator + Copy, D: Allocator>(
+    declaration: &Declaration<D>,
+    evidence: &Evidence<A>,
+    cell: Word,
+) -> Lesson {
+    if declaration.is_variable(cell) {
+        return Lesson::Nothing;
+    }
+    if evidence.called.contains(cell) {
+        return Lesson::Never(Obstacle::StoresInEntry(cell));
+    }
+    if declaration.is_entry(cell) {
+        return Lesson::Unclear;
+    }
+    Lesson::New
+}
+
+/// What is learned of a JMS: that it goes to an entry.
+fn lesson_of_call<A: Allocator + Copy, D: Allocator>(
+    declaration: &Declaration<D>,
+    evidence: &Evidence<A>,
+    at: Word,
+    entry: Word,
+) -> Lesson {
+    if declaration.is_entry(entry) {
+        return Lesson::Nothing;
+    }
+    if is_auto_index(entry) {
+        return Lesson::Never(Obstacle::CallsPointer(entry));
+    }
+    if evidence.ran.contains(entry) || entry == at || entry == declaration.start() {
+        return Lesson::Never(Obstacle::CallsBody(entry));
+    }
+    if evidence.written.contains(entry) {
+        return Lesson::Never(Obstacle::CallsVariable(entry));
+    }
+    let first = entry.increment();
+    if evidence.called.contains(first) {
+        return Lesson::Never(Obstacle::RunsEntry(first));
+    }
+    if evidence.ran.contains(first) {
+        return Lesson::Never(Obstacle::Shared(first));
+    }
+    let is_taken = declaration.owner_of(entry).is_some() || declaration.is_variable(entry);
+    if is_taken || declaration.owner_of(first).is_some() || declaration.is_entry(first) {
+        return Lesson::Unclear;
+    }
+    Lesson::New
+}
+
+/// What is learned of a JMP through a cell: how far after its call a routine returns.
+fn lesson_of_return<A: Allocator + Copy, D: Allocator>(
+    declaration: &Declaration<D>,
+    evidence: &Evidence<A>,
+    sight: &Sight,
+    named: Word,
+) -> Lesson {
+    if !declaration.is_entry(named) {
+        return Lesson::Nothing;
+    }
+    if sight.owner == Owner::Routine(named) {
+        if declaration.has_offset(named, sight.offset) {
+            return Lesson::Nothing;
+        }
+        return if sight.offset.index() < 8 {
+            Lesson::New
+        } else {
+            Lesson::Never(Obstacle::ReturnsFar(sight.at))
+        };
+    }
+    if evidence.called.contains(named) {
+        Lesson::Never(Obstacle::ReturnsForAnother(sight.at))
+    } else {
+        Lesson::Unclear
+    }
+}
+
+/// Learns of the cells that a step writes.
+fn learn_stores<A: Allocator + Copy, D: Allocator>(
+    image: &Image,
+    declaration: &Declaration<D>,
+    evidence: &Evidence<A>,
+    sketch: &mut Sketch<A>,
+    sight: &Sight,
+    word: Word,
+) -> Lesson {
+    let mut lesson = Lesson::Nothing;
+    if let Some(cell) = sight.stepped {
+        let further = lesson_of_store(declaration, evidence, cell);
+        if further == Lesson::New {
+            sketch.variables.insert(cell);
+        }
+        lesson = lesson.and(further);
+    }
+    if let Some(cell) = sight.stored {
+        let further = lesson_of_store(declaration, evidence, cell);
+        if further == Lesson::New {
+            let cells = if refers_indirectly(word) {
+                buffer_of(image, sketch, cell, declaration.profile())
+            } else {
+                WordSet::one(cell)
+            };
+            sketch.variables = sketch.variables.union(&cells);
+        }
+        lesson = lesson.and(further);
+    }
+    lesson
+}
+
+/// Learns of a JMS.
+fn learn_call<A: Allocator + Copy, D: Allocator>(
+    alloc: A,
+    image: &Image,
+    declaration: &Declaration<D>,
+    evidence: &Evidence<A>,
+    sketch: &mut Sketch<A>,
+    at: Word,
+    entry: Word,
+) -> Result<Lesson, NoMemory> {
+    let lesson = lesson_of_call(declaration, evidence, at, entry);
+    if lesson == Lesson::New && !sketch.entries().contains(entry) {
+        let first = entry.increment();
+        sketch.add_routine(entry, WordSet::one(first))?;
+        let profile = declaration.profile();
+        add_code(
+            alloc,
+            image,
+            sketch,
+            evidence,
+            &Owner::Routine(entry),
+            first,
+            profile,
+        )?;
+    }
+    Ok(lesson)
+}
+
+/// Learns of a memory reference.
+fn learn_reference<A: Allocator + Copy, D: Allocator>(
+    alloc: A,
+    image: &Image,
+    declaration: &Declaration<D>,
+    evidence: &Evidence<A>,
+    sketch: &mut Sketch<A>,
+    watcher: &Watcher<A>,
+    sight: &Sight,
+    word: Word,
+) -> Result<Lesson, NoMemory> {
+    let lesson = learn_stores(image, declaration, evidence, sketch, sight, word);
+    let memory = &watcher.world().cpu().memory;
+    let further = match Operation::of(word) {
+        Operation::Jms => {
+            let entry = effective_address(memory, word, sight.at);
+            learn_call(alloc, image, declaration, evidence, sketch, sight.at, entry)?
+        }
+        Operation::Jmp if refers_indirectly(word) => {
+            let named = target(word, sight.at);
+            let lesson = lesson_of_return(declaration, evidence, sight, named);
+            if lesson == Lesson::New {
+                sketch.add_return(named, sight.offset);
+            }
+            lesson
+        }
+        _ => Lesson::Nothing,
+    };
+    Ok(lesson.and(further))
+}
+
+/// Learns of a HLT: it is a pause where the word behind it is in the same body, and else a stop.
+fn learn_halt<A: Allocator + Copy, D: Allocator>(
+    declaration: &Declaration<D>,
+    evidence: &Evidence<A>,
+    sketch: &mut Sketch<A>,
+    sight: &Sight,
+) -> Lesson {
+    let at = sight.at;
+    if declaration.is_stop(at) || declaration.is_pause(at) {
+        return Lesson::Nothing;
+    }
+    if declaration.owner_of(at.increment()) == Some(sight.owner) && !evidence.stopped.contains(at) {
+        sketch.pauses.insert(at);
+        sketch.stops.remove(at);
+    } else {
+        sketch.stops.insert(at);
+        sketch.pauses.remove(at);
+    }
+    Lesson::New
+}
+
+/// Learns of the next step of a machine that is watched, which breaks the declaration; what a wider one has to allow goes
+/// into the sketch of this one.
+pub(crate) fn learn<A: Allocator + Copy, D: Allocator>(
+    alloc: A,
+    image: &Image,
+    declaration: &Declaration<D>,
+    evidence: &Evidence<A>,
+    sketch: &mut Sketch<A>,
+    watcher: &Watcher<A>,
+) -> Result<Lesson, NoMemory> {
+    let sight = Sight::of(watcher);
+    let word = watcher.world().cpu().memory.get(sight.at);
+    let profile = declaration.profile();
+    let lesson = lesson_of_place(image, declaration, evidence, &sight, word);
+    match lesson {
+        Lesson::Never(_) | Lesson::Unclear => return Ok(lesson),
+        Lesson::Nothing => {}
+        Lesson::New => {
+            add_code(
+                alloc,
+                image,
+                sketch,
+                evidence,
+                &sight.owner,
+                sight.at,
+                profile,
+            )?;
+        }
+    }
+    let further = match decode(word, profile) {
+        Instruction::Memory => {
+            learn_reference(
+                alloc,
+                image,
+                declaration,
+                evidence,
+                sketch,
+                watcher,
+                &sight,
+                word,
+            )?
+        }
+        Instruction::Operate2 if halts(word) => learn_halt(declaration, evidence, sketch, &sight),
+        _ => Lesson::Nothing,
+    };
+    Ok(lesson.and(further))
+}

@@ -1,0 +1,232 @@
+//! The parts of a declaration while it is widened, and their text.
+
+use bin_tape::Image;
+use control_flow::push_range;
+use declaration::{Declaration, Offsets, Owner};
+use instruct::{Profile, name};
+use peripherals::NoMemory;
+use std::alloc::{AllocError, Allocator};
+use word12::Word;
+use wordset::WordSet;
+
+/// How many ranges a line has at most where there may be several of its kind.
+const MOST_RANGES: usize = 7;
+
+/// A routine: its entry, its body, and the offsets at which it may return.
+#[derive(Clone, Copy)]
+struct SketchedRoutine {
+    entry: Word,
+    body: WordSet,
+    returns: [bool; 8],
+}
+
+/// The parts of a declaration, to which more is added.
+#[derive(Drop)]
+pub(crate) struct Sketch<A: Allocator> {
+    start: Word,
+    profile: Profile,
+    main: WordSet,
+    routines: Vec<SketchedRoutine, A>,
+    pub(crate) variables: WordSet,
+    pub(crate) stops: WordSet,
+    pub(crate) pauses: WordSet,
+}
+
+/// The offsets, each by itself.
+fn each_of(offsets: &Offsets) -> [bool; 8] {
+    let mut each = [false; 8];
+    for index in 0..8usize {
+        each[index] = offsets.contains(Word::from_index(index));
+    }
+    each
+}
+
+impl<A: Allocator + Copy> Sketch<A> {
+    /// The parts of a declaration.
+    pub(crate) fn of<D: Allocator>(
+        alloc: A,
+        declaration: &Declaration<D>,
+    ) -> Result<Sketch<A>, NoMemory> {
+        let mut sketch = Sketch {
+            start: declaration.start(),
+            profile: declaration.profile(),
+            main: *declaration.main(),
+            routines: Vec::new(alloc),
+            variables: *declaration.variables(),
+            stops: *declaration.stops(),
+            pauses: *declaration.pauses(),
+        };
+        for routine in declaration.routines() {
+            let kept = SketchedRoutine {
+                entry: routine.entry(),
+                body: *routine.body(),
+                returns: each_of(&routine.offsets()),
+            };
+            sketch.routines.push(kept).map_err(|_| NoMemory)?;
+        }
+        Ok(sketch)
+    }
+
+    /// The cells of all bodies.
+    pub(crate) fn bodies(&self) -> WordSet {
+        let mut cells = self.main;
+        for routine in &self.routines {
+            cells = cells.union(&routine.body);
+        }
+        cells
+    }
+
+    /// The entries of all routines.
+    pub(crate) fn entries(&self) -> WordSet {
+        let mut cells = WordSet::empty();
+        for routine in &self.routines {
+            cells.insert(routine.entry);
+        }
+        cells
+    }
+
+    /// The cells that may be added to a body: they are in none, and no entry.
+    pub(crate) fn free(&self, cells: &WordSet) -> WordSet {
+        cells.minus(&self.bodies()).minus(&self.entries())
+    }
+
+    /// Adds cells to a body; cells of a routine that is not there are not added.
+    pub(crate) fn add_body(&mut self, owner: &Owner, cells: &WordSet) {
+        match owner {
+            Owner::Main => self.main = self.main.union(cells),
+            Owner::Routine(entry) => {
+                for routine in self.routines.iter_mut() {
+                    if routine.entry == *entry {
+                        routine.body = routine.body.union(cells);
+                    }
+                }
+            }
+        }
+    }
+
+    /// Adds an offset at which a routine may return.
+    pub(crate) fn add_return(&mut self, entry: Word, offset: Word) {
+        for routine in self.routines.iter_mut() {
+            if routine.entry == entry {
+                if let Some(declared) = routine.returns.get_mut(offset.index()) {
+                    *declared = true;
+                }
+            }
+        }
+    }
+
+    /// Adds a routine that does not return yet.
+    pub(crate) fn add_routine(&mut self, entry: Word, body: WordSet) -> Result<(), NoMemory> {
+        let routine = SketchedRoutine {
+            entry,
+            body,
+            returns: [false; 8],
+        };
+        self.routines.push(routine).map_err(|_| NoMemory)
+    }
+
+    /// The text of what there is.
+    pub(crate) fn text(&self, alloc: A, image: &Image) -> Result<Vec<u8, A>, AllocError> {
+        let mut text = Vec::new(alloc);
+        if self.profile == Profile::Pdp8E {
+            text.extend_from_slice(b"profile 8e\n")?;
+        }
+        push_cells(&mut text, b"start", &WordSet::one(self.start))?;
+        push_cells(&mut text, b"main", &self.main)?;
+        for routine in &self.routines {
+            self.push_routine(&mut text, image, routine)?;
+        }
+        push_cells(&mut text, b"var", &self.variables)?;
+        self.push_halts(&mut text, image, b"stop", &self.stops)?;
+        self.push_halts(&mut text, image, b"pause", &self.pauses)?;
+        Ok(text)
+    }
+
+    /// Adds the line of a routine, with the name of its first word.
+    fn push_routine(
+        &self,
+        text: &mut Vec<u8, A>,
+        image: &Image,
+        routine: &SketchedRoutine,
+    ) -> Result<(), AllocError> {
+        text.extend_from_slice(b"sub")?;
+        push_range(text, routine.entry, routine.entry)?;
+        text.extend_from_slice(b" body")?;
+        for (first, last) in routine.body.ranges() {
+            push_range(text, first, last)?;
+        }
+        text.extend_from_slice(b" returns")?;
+        for offset in 0..8usize {
+            if routine.returns[offset] {
+                text.extend_from_slice(b" ")?;
+                text.push(b'0' + offset as u8)?;
+            }
+        }
+        let first = routine.entry.increment();
+        self.push_remark(text, image, b" / begins with ", first)
+    }
+
+    /// Adds a line for each halt of a set, with the name of its word.
+    fn push_halts(
+        &self,
+        text: &mut Vec<u8, A>,
+        image: &Image,
+        kind: &[u8],
+        halts: &WordSet,
+    ) -> Result<(), AllocError> {
+        for at in halts.iter() {
+            text.extend_from_slice(kind)?;
+            push_range(text, at, at)?;
+            self.push_remark(text, image, b" / ", at)?;
+        }
+        Ok(())
+    }
+
+    /// Ends a line with a comment that names the word at an address, if the tape has one.
+    fn push_remark(
+        &self,
+        text: &mut Vec<u8, A>,
+        image: &Image,
+        before: &[u8],
+        at: Word,
+    ) -> Result<(), AllocError> {
+        if let Some(word) = image.get(at) {
+            text.extend_from_slice(before)?;
+            text.extend_from_slice(name(word, self.profile).as_bytes())?;
+        }
+        text.extend_from_slice(b"\n")
+    }
+}
+
+/// Begins a line after so many ranges, if there is none yet or the last is full.
+fn push_line_break<A: Allocator>(
+    text: &mut Vec<u8, A>,
+    kind: &[u8],
+    ranges: usize,
+) -> Result<(), AllocError> {
+    if ranges % MOST_RANGES != 0 {
+        return Ok(());
+    }
+    if ranges != 0 {
+        text.extend_from_slice(b"\n")?;
+    }
+    text.extend_from_slice(kind)
+}
+
+/// Adds lines of a kind with the ranges of a set, if it has a word.
+fn push_cells<A: Allocator>(
+    text: &mut Vec<u8, A>,
+    kind: &[u8],
+    set: &WordSet,
+) -> Result<(), AllocError> {
+    let mut ranges = 0usize;
+    for (first, last) in set.ranges() {
+        push_line_break(text, kind, ranges)?;
+        push_range(text, first, last)?;
+        ranges = ranges.saturating_add(1);
+    }
+    if ranges != 0 {
+        text.extend_from_slice(b"\n")?;
+    }
+    Ok(())
+}

@@ -1,0 +1,257 @@
+//! What writes: words, numbers, sets and items, as plain text or as HTML.
+
+use itoa::Buffer;
+use std::alloc::{AllocError, Allocator};
+use word12::Word;
+use wordset::WordSet;
+
+/// How many runs of a set are shown.
+const MOST_RUNS: usize = 16;
+
+/// How many items of a line are shown that are the same as on the line above.
+const MOST_SAME: usize = 8;
+
+/// In which form a report is written.
+#[derive(Clone, Copy)]
+pub enum ReportForm {
+    /// Plain text.
+    Text,
+    /// A page of HTML.
+    Page,
+}
+
+/// The bytes of a report as far as they are written.
+#[derive(Drop)]
+pub(crate) struct ReportWriter<A: Allocator> {
+    bytes: Vec<u8, A>,
+    /// Whether memory was refused; from there on nothing more is written.
+    written: Result<(), AllocError>,
+    is_page: bool,
+    /// The addresses that have a line of the listing, to which links may lead.
+    lines: WordSet,
+    /// How many blanks stand before the first item of the line.
+    indent: usize,
+    /// Whether the line has an item.
+    has_item: bool,
+    /// How many items of the line are the same as on the line above.
+    same: usize,
+}
+
+/// What a byte is in HTML, if it has a meaning there.
+fn escaped(byte: u8) -> Option<&'static [u8]> {
+    match byte {
+        b'<' => Some(b"&lt;"),
+        b'>' => Some(b"&gt;"),
+        b'&' => Some(b"&amp;"),
+        b'"' => Some(b"&quot;"),
+        b'\'' => Some(b"&#39;"),
+        _ => None,
+    }
+}
+
+impl<A: Allocator> ReportWriter<A> {
+    /// A writer that has written nothing, for a listing with lines at these addresses.
+    pub(crate) fn new(alloc: A, form: ReportForm, lines: &WordSet) -> ReportWriter<A> {
+        ReportWriter {
+            bytes: Vec::new(alloc),
+            written: Ok(()),
+            is_page: matches!(form, ReportForm::Page),
+            lines: *lines,
+            indent: 0,
+            has_item: false,
+            same: 0,
+        }
+    }
+
+    /// What was written, unless memory was refused.
+    pub(crate) fn into_bytes(self) -> Result<Vec<u8, A>, AllocError> {
+        let ReportWriter { bytes, written, .. } = self;
+        match written {
+            Ok(()) => Ok(bytes),
+            Err(refused) => Err(refused),
+        }
+    }
+
+    /// Whether an address has a line of the listing.
+    pub(crate) fn has_line(&self, at: Word) -> bool {
+        self.lines.contains(at)
+    }
+
+    /// Writes bytes as they are.
+    pub(crate) fn put(&mut self, bytes: &[u8]) {
+        if self.written.is_ok() {
+            self.written = self.bytes.extend_from_slice(bytes);
+        }
+    }
+
+    /// Writes markup, in a page alone.
+    pub(crate) fn mark(&mut self, markup: &[u8]) {
+        if self.is_page {
+            self.put(markup);
+        }
+    }
+
+    /// Writes a text that is not markup.
+    pub(crate) fn say(&mut self, text: &[u8]) {
+        if !self.is_page {
+            return self.put(text);
+        }
+        for byte in text {
+            match escaped(*byte) {
+                Some(name) => self.put(name),
+                None => self.put(&[*byte]),
+            }
+        }
+    }
+
+    /// Writes a number in decimal digits.
+    pub(crate) fn number(&mut self, number: usize) {
+        let mut digits = Buffer::new();
+        self.put(digits.format(number).as_bytes());
+    }
+
+    /// Writes a text, and after it a number in decimal digits.
+    pub(crate) fn numbered(&mut self, text: &[u8], number: usize) {
+        self.put(text);
+        self.number(number);
+    }
+
+    /// Writes the four octal digits of a word.
+    pub(crate) fn word(&mut self, word: Word) {
+        self.put(&word.to_octal());
+    }
+
+    /// Writes in a page the beginning of a link to the line of an address.
+    pub(crate) fn link(&mut self, at: Word) {
+        self.mark(b"<a href=#a");
+        self.mark(&at.to_octal());
+        self.mark(b">");
+    }
+
+    /// Writes an address, in a page with a link to its line, if it has one.
+    pub(crate) fn place(&mut self, at: Word) {
+        if !self.has_line(at) {
+            return self.word(at);
+        }
+        self.link(at);
+        self.word(at);
+        self.mark(b"</a>");
+    }
+
+    /// Writes the words from one to another, both of them.
+    pub(crate) fn run(&mut self, first: Word, last: Word, linked: bool) {
+        if linked {
+            self.place(first);
+        } else {
+            self.word(first);
+        }
+        if first != last {
+            self.put(b"-");
+            self.word(last);
+        }
+    }
+
+    /// Writes the words of a set by their runs, at most some of them; `-` if there is none.
+    fn runs(&mut self, set: &WordSet, linked: bool) {
+        if set.is_empty() {
+            self.put(b"-");
+        }
+        let mut runs = set.ranges();
+        let mut rest = *set;
+        for count in 0..MOST_RUNS {
+            let Some((first, last)) = runs.next() else {
+                return;
+            };
+            if count > 0 {
+                self.put(b",");
+            }
+            self.run(first, last, linked);
+            rest = rest.minus(&WordSet::range(first, last));
+        }
+        self.rest(rest.count());
+    }
+
+    /// Writes how many words are not shown.
+    fn rest(&mut self, count: usize) {
+        if count > 0 {
+            self.numbered(b" and ", count);
+            self.put(b" more");
+        }
+    }
+
+    /// Writes the words of a set.
+    pub(crate) fn words(&mut self, set: &WordSet) {
+        self.runs(set, false);
+    }
+
+    /// Writes the addresses of a set, in a page with links to the lines that there are.
+    pub(crate) fn places(&mut self, set: &WordSet) {
+        self.runs(set, true);
+    }
+
+    /// Begins the items of a line, of which the first stands after some blanks.
+    pub(crate) fn begin_items(&mut self, indent: usize) {
+        self.indent = indent;
+        self.has_item = false;
+        self.same = 0;
+    }
+
+    /// Writes what stands between an item and what is before it.
+    fn separate(&mut self) {
+        if self.has_item {
+            return self.put(b"; ");
+        }
+        self.has_item = true;
+        if !self.is_page {
+            for _ in 0..self.indent {
+                self.put(b" ");
+            }
+        }
+    }
+
+    /// Begins an item, unless it is the same as on the line above and is left out; tells whether it was
+    /// begun.
+    pub(crate) fn begin_item(&mut self, same: bool) -> bool {
+        if same {
+            self.same = self.same.saturating_add(1);
+            if !self.is_page || self.same > MOST_SAME {
+                return false;
+            }
+        }
+        self.separate();
+        if same {
+            self.put(b"<i>");
+        }
+        true
+    }
+
+    /// Writes in a page how many items that are the same as on the line above were left out.
+    pub(crate) fn end_same(&mut self) {
+        let more = self.same.saturating_sub(MOST_SAME);
+        if self.is_page && more > 0 {
+            self.separate();
+            self.numbered(b"<i>and ", more);
+            self.put(b" more as above</i>");
+        }
+    }
+
+    /// Ends an item.
+    pub(crate) fn end_item(&mut self, same: bool) {
+        if same {
+            self.mark(b"</i>");
+        }
+    }
+
+    /// Writes in plain text what stands before a note after the items.
+    pub(crate) fn note(&mut self) {
+        if !self.is_page {
+            self.put(b"  / ");
+        }
+    }
+
+    /// Writes an item that has nothing to do with the line above.
+    pub(crate) fn item(&mut self, text: &[u8]) {
+        self.separate();
+        self.say(text);
+    }
+}

@@ -1,0 +1,196 @@
+//! Searches about a program that is open: for a certificate, for a run that violates its declaration, and for a
+//! declaration.
+
+use crate::drafted::report_stuck;
+use crate::files::{Outlet, finish, open_output};
+use crate::of_programs::open::OpenProgram;
+use crate::of_sources::assembled::AssembledSource;
+use crate::of_sources::source_lines::lines_of;
+use crate::stuck::{Stuck, stuck_message};
+use crate::tellers::{report_to, tell_to};
+use crate::telling::tell_lines;
+use analyser::{Attempt, guess, guess_or_draft};
+use certificate::Certificate;
+use command_line::Destination;
+use command_parts::options::{DeclareOptions, RefuteOptions};
+use command_parts::programs::Program;
+use command_parts::status::{Fault, Status};
+use diagnostics::verdicts::certificates::write_certificate;
+use machine_commands::messages::refute_message;
+use search_commands::completing::complete;
+use search_commands::declaring::declare;
+use std::alloc::Global;
+use std::io::Read;
+use std::rt::Files;
+use streams::standard::{Reads, Writes};
+use streams::{ByteSink, put};
+use turns::GuessFault;
+
+/// Writes a certificate that was found.
+fn write_found<R: Files + Print>(
+    file: &mut Outlet<'_, R>,
+    found: &Certificate<Global>,
+) -> Result<Status, Fault> {
+    let status = write_certificate(found, &mut Writes::new(&mut *file))?;
+    finish(file, status)
+}
+
+/// Tells on standard error why a search is stuck, and writes a report of its draft, each if it is asked for.
+#[inline(never)]
+fn tell_stuck<R: Files + Print + Eprint>(
+    rt: &R,
+    alloc: Global,
+    source: Option<&AssembledSource>,
+    stuck: &Stuck<'_>,
+    report: Option<&str>,
+    explained: bool,
+) -> Result<Status, Fault> {
+    if explained {
+        let told = stuck_message(alloc, stuck)?;
+        let _ = put(&mut tell_to(rt), &lines_of(alloc, source, &told)?);
+    }
+    if let Some(name) = report {
+        let notes = source.map(|source| &source.notes);
+        report_stuck(rt, alloc, stuck, name, notes)?;
+    }
+    if explained {
+        return Ok(Status::Refused);
+    }
+    Err(Fault::Guess(GuessFault::Stuck(stuck.at)))
+}
+
+/// Searches for a certificate. If the search is stuck, it says why on standard error and writes a report, each if it is
+/// asked for: one search is made for all of them.
+#[inline(never)]
+pub(crate) fn guessed<R: Files + Print + Eprint, I: Read + Drop>(
+    rt: &R,
+    alloc: Global,
+    opened: &mut OpenProgram<'_, I>,
+    out: Destination<'_>,
+    report: Option<&str>,
+    explained: bool,
+) -> Result<Status, Fault> {
+    let mut file = open_output(rt, alloc, out)?;
+    let source = opened.source;
+    let Program { image, declaration } = opened.read(alloc)?;
+    if !explained && report.is_none() {
+        return write_found(&mut file, &guess(alloc, &image, &declaration)?);
+    }
+    match &guess_or_draft(alloc, &image, &declaration)? {
+        Attempt::Found(found) => write_found(&mut file, found),
+        Attempt::Stuck(at, draft) => {
+            let stuck = Stuck {
+                image: &image,
+                declaration: &declaration,
+                at: *at,
+                draft,
+            };
+            tell_stuck(rt, alloc, source, &stuck, report, explained)
+        }
+    }
+}
+
+/// Searches for a run that violates the declaration. Its events are in their place before the line on them is written.
+#[inline(never)]
+pub(crate) fn refuted<R: Files + Print + Eprint, I: Read + Drop>(
+    rt: &R,
+    alloc: Global,
+    opened: &mut OpenProgram<'_, I>,
+    out: Destination<'_>,
+    options: &RefuteOptions,
+) -> Result<Status, Fault> {
+    let mut file = open_output(rt, alloc, out)?;
+    let source = opened.labels(options.explained);
+    let Program { image, declaration } = opened.read(alloc)?;
+    let found = refute_message(alloc, &image, &declaration, options)?;
+    let lines = lines_of(alloc, source, &found.told)?;
+    put(&mut Writes::new(&mut file), &found.events)?;
+    let status = finish(&mut file, found.status)?;
+    put(&mut report_to(rt, out.name() == "-"), &lines)?;
+    Ok(status)
+}
+
+/// Adds a declaration that is proposed for a program, or its own completed.
+fn push_proposal<I: Read + Drop>(
+    alloc: Global,
+    opened: &mut OpenProgram<'_, I>,
+    options: DeclareOptions,
+    found: &mut Vec<u8>,
+) -> Result<Status, Fault> {
+    let mut frames = Reads::new(&mut opened.frames);
+    let mut out = Writes::new(found);
+    let answer = if opened.is_declared {
+        let mut text = Reads::new(&mut opened.text);
+        complete(alloc, &mut frames, &mut text, options.reads, &mut out)
+    } else {
+        declare(alloc, &mut frames, options, &mut out)
+    };
+    if out.failed() {
+        return Err(Fault::NoMemory);
+    }
+    answer
+}
+
+/// What is said if cells that may be read are to be listed, and the declaration that is completed has no list.
+const NO_LIST: &str =
+    "--reads adds nothing: the declaration has no `read` line, so any cell may be read; to have a list, add a line that says `read`\n";
+
+/// Whether a declaration in numbers lists the cells that may be read.
+fn lists_reads(text: &[u8]) -> bool {
+    text.split(|byte| *byte == b'\n')
+        .any(|line| line.trim_ascii().starts_with(b"read"))
+}
+
+/// Whether reads are to be added to the declaration of a source, and it has no list of them.
+fn lacks_list(source: Option<&AssembledSource>, reads: bool) -> bool {
+    match source {
+        Some(source) => {
+            reads && source.is_declared() && !lists_reads(&source.numbered.declaration)
+        }
+        None => false,
+    }
+}
+
+/// A declaration that was proposed or completed, and the status of the command.
+#[derive(Drop)]
+struct Proposal {
+    text: Vec<u8>,
+    status: Status,
+}
+
+/// A declaration that is proposed for a program, or its own completed; of a source with its symbols.
+fn proposal_for<I: Read + Drop>(
+    alloc: Global,
+    opened: &mut OpenProgram<'_, I>,
+    options: DeclareOptions,
+) -> Result<Proposal, Fault> {
+    let source = opened.source;
+    let mut text = Vec::new(alloc);
+    let status = push_proposal(alloc, opened, options, &mut text)?;
+    if let Some(source) = source {
+        let text = source.with_symbols(alloc, &text)?;
+        return Ok(Proposal { text, status });
+    }
+    Ok(Proposal { text, status })
+}
+
+/// Writes a declaration that is proposed for a program, or its own completed, and says so if no reads are added to it
+/// that should be.
+#[inline(never)]
+pub(crate) fn declared<R: Files + Print + Eprint, I: Read + Drop>(
+    rt: &R,
+    alloc: Global,
+    opened: &mut OpenProgram<'_, I>,
+    out: Destination<'_>,
+    options: DeclareOptions,
+) -> Result<Status, Fault> {
+    let mut file = open_output(rt, alloc, out)?;
+    let is_without_list = lacks_list(opened.source, options.reads);
+    let found = proposal_for(alloc, opened, options)?;
+    put(&mut Writes::new(&mut file), &found.text)?;
+    let status = finish(&mut file, found.status)?;
+    if is_without_list {
+        tell_lines(rt, NO_LIST);
+    }
+    Ok(status)
+}

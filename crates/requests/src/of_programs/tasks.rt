@@ -1,0 +1,189 @@
+//! What is done with a program that is open. The other files of a command are opened before the program is read.
+
+use crate::files::{finish, open_input, open_output};
+use crate::of_programs::open::OpenProgram;
+use crate::of_programs::searches::{declared, guessed, refuted};
+use crate::of_programs::verified::verified;
+use crate::of_sources::assembled::AssembledSource;
+use crate::of_sources::source_lines::lines_of;
+use crate::tellers::open_input_if;
+use command_line::{Destination, ProgramRequest, Task, WatchedSession};
+use command_parts::inputs::{bytes_from, events_from};
+use command_parts::message::Message;
+use command_parts::outcome::deliver;
+use command_parts::programs::Program;
+use command_parts::status::{Fault, Status};
+use diagnostics::verdicts::certificates::{Certified, certificate_from};
+use diagnostics::verdicts::messages::check_message;
+use machine_commands::messages::{watch_message, watch_session_message};
+use reports::reporting::{ReportForm, report_of};
+use search_commands::checking::verdict_of;
+use std::alloc::Global;
+use std::io::{self, Read};
+use std::rt::Files;
+use streams::put;
+use streams::standard::Writes;
+use wordset::WordSet;
+
+/// Writes what is told to standard output, with what a source says about its addresses.
+fn tell_lines<R: Print>(
+    rt: &R,
+    alloc: Global,
+    source: Option<&AssembledSource>,
+    told: &Message<Global>,
+) -> Result<(), Fault> {
+    let lines = lines_of(alloc, source, told)?;
+    Ok(put(&mut Writes::new(io::writer(rt)), &lines)?)
+}
+
+/// Checks the certificate of a file, and says why the verdict is no if that is asked for.
+#[inline(never)]
+fn checked<R: Files + Input + Print, I: Read + Drop>(
+    rt: &R,
+    alloc: Global,
+    opened: &mut OpenProgram<'_, I>,
+    certificate: &str,
+    explained: bool,
+) -> Result<Status, Fault> {
+    let mut claims = open_input(rt, certificate)?;
+    let source = opened.source;
+    let program = opened.read(alloc)?;
+    let certificate = certificate_from(alloc, &mut claims)?;
+    let certified = Certified {
+        program,
+        certificate,
+    };
+    if !explained {
+        let mut out = Writes::new(io::writer(rt));
+        return deliver(verdict_of(alloc, &certified), &mut out);
+    }
+    let Program { image, declaration } = &certified.program;
+    let verdict = check_message(alloc, image, declaration, &certified.certificate)?;
+    tell_lines(rt, alloc, source, &verdict.told)?;
+    Ok(verdict.status)
+}
+
+/// Writes what the certificate of a file says.
+#[inline(never)]
+fn reported<R: Files + Input + Print, I: Read + Drop>(
+    rt: &R,
+    alloc: Global,
+    opened: &mut OpenProgram<'_, I>,
+    certificate: &str,
+    out: Destination<'_>,
+    form: ReportForm,
+) -> Result<Status, Fault> {
+    let mut claims = open_input(rt, certificate)?;
+    let mut file = open_output(rt, alloc, out)?;
+    let notes = opened.source.map(|source| &source.notes);
+    let program = opened.read(alloc)?;
+    let certificate = certificate_from(alloc, &mut claims)?;
+    let certified = Certified {
+        program,
+        certificate,
+    };
+    let page = report_of(alloc, &certified, form, notes);
+    let status = deliver(page, &mut Writes::new(&mut file))?;
+    finish(&mut file, status)
+}
+
+/// Watches a run by the events of a file.
+#[inline(never)]
+fn watched<R: Files + Input + Print, I: Read + Drop>(
+    rt: &R,
+    alloc: Global,
+    opened: &mut OpenProgram<'_, I>,
+    events: &str,
+    show: &WordSet,
+    explained: bool,
+) -> Result<Status, Fault> {
+    let mut list = open_input(rt, events)?;
+    let source = opened.labels(explained);
+    let Program { image, declaration } = opened.read(alloc)?;
+    let events = events_from(alloc, &mut list)?;
+    let run = watch_message(alloc, &image, &declaration, &events, explained, show)?;
+    tell_lines(rt, alloc, source, &run.told)?;
+    Ok(run.status)
+}
+
+/// Watches a run with an operator.
+#[inline(never)]
+fn session_watched<R: Files + Input + Print, I: Read + Drop>(
+    rt: &R,
+    alloc: Global,
+    opened: &mut OpenProgram<'_, I>,
+    session: &WatchedSession<'_>,
+) -> Result<Status, Fault> {
+    let mut reader = open_input_if(rt, session.reader)?;
+    let mut keys = open_input_if(rt, session.keys)?;
+    let (options, explained) = (&session.options, session.explained);
+    let source = opened.labels(explained);
+    let Program { image, declaration } = opened.read(alloc)?;
+    let frames = bytes_from(alloc, &mut reader, options.run.rounds)?;
+    let struck = bytes_from(alloc, &mut keys, options.run.rounds)?;
+    let run = watch_session_message(
+        alloc,
+        &image,
+        &declaration,
+        &frames,
+        &struck,
+        options,
+        session.continues,
+        explained,
+    )?;
+    tell_lines(rt, alloc, source, &run.told)?;
+    Ok(run.status)
+}
+
+/// Writes the declaration of a source in numbers.
+fn placed<R: Files + Print>(
+    rt: &R,
+    alloc: Global,
+    source: Option<&AssembledSource>,
+    out: Destination<'_>,
+) -> Result<Status, Fault> {
+    let mut file = open_output(rt, alloc, out)?;
+    if let Some(source) = source {
+        put(&mut Writes::new(&mut file), &source.shown)?;
+    }
+    finish(&mut file, Status::Done)
+}
+
+/// How a report looks.
+fn report_form(text: bool) -> ReportForm {
+    if text {
+        ReportForm::Text
+    } else {
+        ReportForm::Page
+    }
+}
+
+/// Does what is asked for with a program that is open. Each command has a frame of its own on the stack, since they are
+/// large.
+///
+/// # Errors
+///
+/// The fault of the program, of another file or of the command.
+pub(crate) fn carry_out<R: Files + Input + Print + Eprint, I: Read + Drop>(
+    rt: &R,
+    alloc: Global,
+    opened: &mut OpenProgram<'_, I>,
+    asked: &ProgramRequest<'_>,
+) -> Result<Status, Fault> {
+    let explained = asked.explained;
+    match &asked.task {
+        Task::Verify { save, options } => verified(rt, alloc, opened, *save, options),
+        Task::Check { certificate } => checked(rt, alloc, opened, certificate, explained),
+        Task::Report {
+            certificate,
+            out,
+            text,
+        } => reported(rt, alloc, opened, certificate, *out, report_form(*text)),
+        Task::Watch { events, show } => watched(rt, alloc, opened, events, show, explained),
+        Task::WatchSession(session) => session_watched(rt, alloc, opened, session),
+        Task::Guess { out, report } => guessed(rt, alloc, opened, *out, *report, explained),
+        Task::Refute { out, options } => refuted(rt, alloc, opened, *out, options),
+        Task::Declare { out, options } => declared(rt, alloc, opened, *out, *options),
+        Task::Place { out } => placed(rt, alloc, opened.source, *out),
+    }
+}

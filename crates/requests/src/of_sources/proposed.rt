@@ -1,0 +1,35 @@
+//! What is said about a declaration that is proposed for a source.
+
+/// Whether a line of a source has a comment in which blanks stand before a colon, so that it declares nothing.
+fn is_blanked_declaration(line: &[u8]) -> bool {
+    let mut pieces = line.splitn(2, |byte| *byte == b'/');
+    let _ = pieces.next();
+    match pieces.next() {
+        Some(comment) => !comment.starts_with(b":") && comment.trim_ascii().starts_with(b":"),
+        None => false,
+    }
+}
+
+/// Whether a source has such a line.
+fn has_blanked_declaration(parts: &[Vec<u8>]) -> bool {
+    for part in parts {
+        let mut lines = part.split(|byte| matches!(*byte, b'\n' | b'\r'));
+        if lines.any(is_blanked_declaration) {
+            return true;
+        }
+    }
+    false
+}
+
+/// Says on standard error that the declaration of an answer is proposed, and why it is.
+pub(crate) fn tell_proposed<R: Eprint>(rt: &R, parts: &[Vec<u8>]) {
+    let _ = if has_blanked_declaration(parts) {
+        eprintln!(rt;
+            "no declaration is given, and the source has no /: line, but comments that begin with / and :, with a space between them: the answer is about a proposed declaration"
+        )
+    } else {
+        eprintln!(rt;
+            "no declaration is given, and the source has no /: line: the answer is about a proposed declaration"
+        )
+    };
+}

@@ -1,0 +1,314 @@
+//! Files that were given in the place of others: a source where a tape is wanted, say. They are known by what is in
+//! them; this is tested, not proved.
+
+use crate::faults::bytes_of;
+use crate::files::is_read_once;
+use command_line::{FileNames, Request};
+use command_parts::inputs::tape_from;
+use command_parts::status::Fault;
+use command_parts::visible::visible_text;
+use std::alloc::Global;
+use std::fmt::Write;
+use std::rt::Files;
+use streams::standard::Reads;
+
+/// What is in a file, by the look of it.
+#[derive(Clone, Copy, PartialEq, Eq)]
+enum Kind {
+    Tape,
+    Source,
+    Declaration,
+    Certificate,
+    OtherText,
+    OtherBytes,
+}
+
+/// The words that begin the lines of a declaration.
+const DECLARING: [&[u8]; 8] = [
+    b"start", b"main", b"sub", b"var", b"stop", b"pause", b"profile", b"read",
+];
+
+/// Whether these are the characters of a text, as a source has them and a tape hasn't.
+fn is_text(bytes: &[u8]) -> bool {
+    bytes
+        .iter()
+        .all(|byte| matches!(*byte, b'\t'..=b'\r' | b' '..=b'~'))
+}
+
+/// Whether a line begins like one of a declaration.
+fn declares(line: &[u8]) -> bool {
+    let line = line.trim_ascii();
+    let mut words = line.split(|byte| matches!(*byte, b' ' | b'\t' | b'/'));
+    match words.next() {
+        Some(first) => DECLARING.iter().any(|known| *known == first),
+        None => false,
+    }
+}
+
+/// Whether a line is the end of a source, or sets the location.
+fn is_of_source(line: &[u8]) -> bool {
+    let line = line.trim_ascii();
+    line.starts_with(b"$") || line.starts_with(b"*")
+}
+
+/// Whether bytes are a tape.
+#[inline(never)]
+fn is_tape(bytes: &[u8]) -> bool {
+    let mut frames = Reads::new(bytes);
+    tape_from(&mut frames).is_ok()
+}
+
+/// What is in a file that isn't empty.
+fn kind_of(bytes: &[u8]) -> Kind {
+    if !is_text(bytes) {
+        return if is_tape(bytes) {
+            Kind::Tape
+        } else {
+            Kind::OtherBytes
+        };
+    }
+    if bytes.starts_with(b"PDP8-CERTIFICATE") {
+        return Kind::Certificate;
+    }
+    for line in bytes.split(|byte| *byte == b'\n') {
+        if is_of_source(line) {
+            return Kind::Source;
+        }
+        if declares(line) {
+            return Kind::Declaration;
+        }
+    }
+    Kind::OtherText
+}
+
+/// The name of the tape of a source, without its ending.
+fn stem_of<'n>(name: &'n str) -> &'n str {
+    if name.ends_with(".bin") {
+        return "new";
+    }
+    name.strip_suffix(".pal").unwrap_or(name)
+}
+
+/// What is known of a command whose input has a fault.
+#[derive(Clone, Copy)]
+struct Asked<'a> {
+    /// Its name.
+    command: &'static str,
+    /// Whether it takes `--source`.
+    takes_source: bool,
+    /// Whether it is given a source in place of a tape.
+    is_sourced: bool,
+    /// Its files.
+    names: FileNames<'a>,
+}
+
+impl Asked<'_> {
+    /// Adds the command with a source in place of its tape.
+    fn push_with_source(&self, text: &mut String, source: &str) {
+        let _ = write!(text, "pdp8 {} --source {source}", self.command);
+    }
+
+    /// Adds the operands behind the tape.
+    fn push_operands(&self, text: &mut String) {
+        let names = &self.names;
+        for name in [names.declaration, names.certificate, names.events] {
+            if let Some(name) = name {
+                let _ = write!(text, " {name}");
+            }
+        }
+    }
+
+    /// Adds what to do with a text that was given as a tape.
+    fn push_text_as_tape(&self, text: &mut String, name: &str) {
+        let _ = write!(text, "{name} is text, not a tape: if it is a source, use ");
+        if self.takes_source {
+            self.push_with_source(text, name);
+            self.push_operands(text);
+            return;
+        }
+        let stem = stem_of(name);
+        let command = self.command;
+        let _ = write!(
+            text,
+            "pdp8 assemble -o {stem}.bin {name}, and then pdp8 {command} {stem}.bin"
+        );
+    }
+
+    /// Adds what to do with a declaration that was given as a tape.
+    fn push_declaration_as_tape(&self, text: &mut String, name: &str) {
+        let _ = write!(
+            text,
+            "{name} is a declaration, not a tape: the tape comes before it"
+        );
+        if let Some(other) = self.names.declaration {
+            let command = self.command;
+            let _ = write!(text, ", as in pdp8 {command} {other} {name}");
+        }
+    }
+
+    /// Adds what to do with a file that was given as a tape, if it is none.
+    fn push_as_tape(&self, text: &mut String, name: &str, kind: Kind) {
+        match kind {
+            Kind::Tape | Kind::OtherBytes => {}
+            Kind::Source | Kind::OtherText => self.push_text_as_tape(text, name),
+            Kind::Declaration => self.push_declaration_as_tape(text, name),
+            Kind::Certificate => {
+                let _ = write!(
+                    text,
+                    "{name} is a certificate, not a tape: it comes after the tape and the declaration"
+                );
+            }
+        }
+    }
+
+    /// Where a tape is given.
+    fn place_of_tape(&self) -> &'static str {
+        if self.is_sourced {
+            "--source takes the place of the tape"
+        } else {
+            "the tape comes before the declaration"
+        }
+    }
+
+    /// Adds what to do with a source that was given as a declaration.
+    fn push_source_as_declaration(&self, text: &mut String, name: &str) {
+        let command = self.command;
+        let _ = if self.is_sourced {
+            write!(
+                text,
+                "{name} is a source, not a declaration: each part of the source has a --source of its own"
+            )
+        } else {
+            write!(
+                text,
+                "{name} is a source, not a declaration: pdp8 {command} --source {name} takes its /: lines for the declaration"
+            )
+        };
+    }
+
+    /// Adds what to do with a file that was given as a declaration, if it is none.
+    fn push_as_declaration(&self, text: &mut String, name: &str, kind: Kind) {
+        match kind {
+            Kind::Declaration | Kind::OtherText | Kind::OtherBytes => {}
+            Kind::Source => self.push_source_as_declaration(text, name),
+            Kind::Tape => {
+                let place = self.place_of_tape();
+                let _ = write!(text, "{name} is a tape, not a declaration: {place}");
+            }
+            Kind::Certificate => {
+                let _ = write!(
+                    text,
+                    "{name} is a certificate, not a declaration: it comes after the declaration"
+                );
+            }
+        }
+    }
+
+    /// Adds what to do with a file that was given as a certificate, if it is none.
+    fn push_as_certificate(&self, text: &mut String, name: &str, kind: Kind) {
+        let _ = match kind {
+            Kind::Certificate | Kind::OtherText | Kind::OtherBytes => Ok(()),
+            Kind::Tape => {
+                let place = self.place_of_tape();
+                write!(text, "{name} is a tape, not a certificate: {place}")
+            }
+            Kind::Source => write!(
+                text,
+                "{name} is a source, not a certificate: pdp8 guess --source {name} -o new.certificate searches for one"
+            ),
+            Kind::Declaration => write!(
+                text,
+                "{name} is a declaration, not a certificate: pdp8 guess {} {name} -o new.certificate searches for one",
+                self.names.tape.unwrap_or("--source SOURCE")
+            ),
+        };
+    }
+}
+
+/// Whether a request has a source in place of a tape.
+fn is_sourced(request: &Request<'_>) -> bool {
+    matches!(request, Request::Program(_)) && !request.parts().is_empty()
+}
+
+/// What is known of a request.
+fn asked_of<'a>(request: &Request<'a>) -> Asked<'a> {
+    let command = request.command();
+    Asked {
+        command,
+        takes_source: [
+            "verify", "check", "report", "declare", "guess", "refute", "watch",
+        ]
+        .iter()
+        .any(|name| *name == command),
+        is_sourced: is_sourced(request),
+        names: request.names(),
+    }
+}
+
+/// A line as it is shown, with its end, if there is anything in it.
+fn shown_line(alloc: Global, text: &str) -> String {
+    match visible_text(alloc, text) {
+        Ok(mut shown) if !shown.is_empty() => {
+            let _ = shown.push('\n');
+            shown
+        }
+        _ => String::new(alloc),
+    }
+}
+
+/// The line on a file that was given as the declaration of a source, if it is none; else nothing.
+pub(crate) fn declaration_hint(
+    alloc: Global,
+    command: &'static str,
+    name: &str,
+    text: &[u8],
+) -> String {
+    let asked = Asked {
+        command,
+        takes_source: true,
+        is_sourced: true,
+        names: FileNames::NONE,
+    };
+    let mut told = String::new(alloc);
+    if !text.is_empty() {
+        asked.push_as_declaration(&mut told, name, kind_of(text));
+    }
+    shown_line(alloc, &told)
+}
+
+/// The line on an input that was given in the place of another one, if it can be told; else nothing. Standard input
+/// and pipes cannot be read twice.
+pub fn hint_line<R: Files + Input>(
+    rt: &R,
+    alloc: Global,
+    fault: &Fault,
+    request: &Request<'_>,
+) -> String {
+    let mut text = String::new(alloc);
+    let asked = asked_of(request);
+    let name = match fault {
+        Fault::Tape(_) => asked.names.tape,
+        Fault::Declared(_) => asked.names.declaration,
+        Fault::Certificate(_) => asked.names.certificate,
+        _ => None,
+    };
+    let Some(name) = name else {
+        return text;
+    };
+    if is_read_once(rt, name) {
+        return text;
+    }
+    let Ok(bytes) = bytes_of(rt, alloc, name) else {
+        return text;
+    };
+    if bytes.is_empty() {
+        return text;
+    }
+    let kind = kind_of(&bytes);
+    match fault {
+        Fault::Tape(_) => asked.push_as_tape(&mut text, name, kind),
+        Fault::Declared(_) => asked.push_as_declaration(&mut text, name, kind),
+        _ => asked.push_as_certificate(&mut text, name, kind),
+    }
+    shown_line(alloc, &text)
+}

@@ -1,0 +1,29 @@
+-- What is settled of a proposal is settled of one before it.
+use Rattle.std.proofs.Common.{ℕ, ◌≡◌, ◌∙◌, List, Option, subst}
+use Rattle.peripherals.specs.declared.Event.{Event}
+use Rattle.declaration.specs.Kept.{Kept, meaning}
+use Rattle.proposer.specs.Obstacles.{IsObstacle}
+use Rattle.proposer.specs.declared.learning.Obstacle.{Obstacle}
+use Rattle.refuter.specs.declared.Witness.{Witness}
+use Rattle.search_commands.specs.VerifyText.{IsAnswer}
+use Rattle.search_commands.specs.WidenedSearch.{IsBroken, IsSettled}
+use Rattle.search_commands.specs.declared.verifying.Answer.TheVariants.{No}
+use Rattle.search_commands.specs.declared.widening.Settled.{Settled}
+
+pub settled_before : {A : Type 0} (image : List (Option ℕ)) (first given : Kept) (s : Settled A) → (meaning given).start ≡ (meaning first).start → (meaning given).profile ≡ (meaning first).profile →
+    IsSettled image given s → IsSettled image first s
+settled_before image first given s start profile settled = record {
+  start_is = settled.start_is ∙ start;
+  profile_is = settled.profile_is ∙ profile;
+  text = settled.text;
+  answers = settled.answers;
+  reason = settled.reason;
+}
+
+-- A run that is told breaks the declaration, and what is told of its events is so.
+pub broken_by : {A : Type 0} (image : List (Option ℕ)) (given : Kept) (w : Witness A) (o : Obstacle) (events : List Event) → events ≡ w.events.items → IsAnswer image (meaning given) (No w) → IsObstacle image (meaning given) events o →
+    IsBroken image given w o
+broken_by image given w o events same answers obstacle = record {
+  answers = answers;
+  obstacle = subst (λ (es : List Event). IsObstacle image (meaning given) es o) same obstacle;
+}

@@ -1,7 +1,0 @@
-use Rattle.std.proofs.Common.{ℕ, ◌<◌}
-use Rattle.declaration.specs.Kept.{meaning}
-use Rattle.search_commands.specs.Extending.{KeepsCell}
-use Rattle.search_commands.proofs.extending.keeps_cells.Given as goal
-
-abbrev pub invariant-loop-index : goal.invariant-loop-index
-invariant-loop-index g l = (a : ℕ) → a < l.index → KeepsCell (meaning l.given) (meaning l.more) a

@@ -1,0 +1,33 @@
+-- What the answers of several calls on the same bytes say of one another.
+use Rattle.std.specs.Prelude.{ℕ, ◌≡◌, Bool, List, Some}
+use Rattle.command_parts.specs.declared.status.Status.TheVariants.{Done}
+use Rattle.judge.specs.Certifying.{AreRead, IsRefused, Parts, case_of, declaration_of, words_of}
+use Rattle.judge.specs.Conditions.{IsValid}
+use Rattle.judge.specs.declared.verdict.CertifyFault.{CertifyFault}
+use Rattle.judge.specs.declared.verdict.CertifyFault.TheVariants as fault
+use Rattle.policy.specs.Runs.{IsSafe}
+use Rattle.refuter.specs.declared.Witness.{Witness}
+use Rattle.search_commands.specs.VerifyText.{IsVerified}
+use Rattle.search_commands.specs.declared.verifying.Answer.TheVariants.{No}
+use Rattle.diagnostics.specs.CheckText.{IsCheckedSo, yes_text}
+
+-- Where `verify` says no to the bytes of a tape and of a declaration, `check` says yes to no certificate of them: a no and a
+-- yes never stand on the same bytes.
+abbrev pub NoIsNeverYes : Type 0 → Type 0
+NoIsNeverYes A =
+    (w : Witness A) (tape declaration certificate told line : List ℕ) (explained : Bool) →
+    IsVerified (Some tape) (Some declaration) explained (No w) told →
+    IsCheckedSo (Some tape) (Some declaration) (Some certificate) line Done → ⊥
+
+-- Where `certify` says yes, `check` says yes: of the parts that are read every condition holds and the program is safe, and the
+-- verdict on the same bytes is the yes about that declaration.
+abbrev pub CertifiedIsChecked : Type 0
+CertifiedIsChecked =
+    (tape declaration certificate : List ℕ) (p : Parts) → AreRead tape declaration certificate p → IsValid (case_of p) →
+    IsSafe (words_of p) (declaration_of p) → IsCheckedSo (Some tape) (Some declaration) (Some certificate) (yes_text (declaration_of p)) Done
+
+-- Where `check` says yes, `certify` has no reason to say no but that memory is refused.
+abbrev pub CheckedIsCertified : Type 0
+CheckedIsCertified =
+    (tape declaration certificate line : List ℕ) (why : CertifyFault) →
+    IsCheckedSo (Some tape) (Some declaration) (Some certificate) line Done → IsRefused tape declaration certificate why → why ≡ fault.NoMemory

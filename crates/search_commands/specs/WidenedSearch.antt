@@ -1,0 +1,40 @@
+-- What is promised while a proposal is widened; it serves private contracts.
+use Rattle.std.specs.Prelude.{ℕ, ◌≡◌, List, Option, ⊤}
+use Rattle.declaration.specs.Kept.{Kept, meaning}
+use Rattle.declaration.specs.Text.{Declares}
+use Rattle.proposer.specs.Obstacles.{IsObstacle}
+use Rattle.proposer.specs.Widenings.{Supersedes}
+use Rattle.proposer.specs.declared.learning.Obstacle.{Obstacle}
+use Rattle.refuter.specs.declared.Witness.{Witness}
+use Rattle.search_commands.specs.VerifyText.{IsAnswer}
+use Rattle.search_commands.specs.WidenedText.{HasReason}
+use Rattle.search_commands.specs.declared.verifying.Answer.TheVariants.{No}
+use Rattle.search_commands.specs.declared.widening.Ending.{Ending}
+use Rattle.search_commands.specs.declared.widening.Ending.TheVariants.{Open, Broken}
+use Rattle.search_commands.specs.declared.widening.Next.{Next}
+use Rattle.search_commands.specs.declared.widening.Next.TheVariants.{Wider, Ended}
+use Rattle.search_commands.specs.declared.widening.Settled.{Settled}
+
+-- The run that is told breaks the declaration, and what is told of it is so.
+pub record IsBroken {A : Type 0} (image : List (Option ℕ)) (given : Kept) (w : Witness A) (o : Obstacle) : Type 0 where
+  pub answers : IsAnswer image (meaning given) (No w)
+  pub obstacle : IsObstacle image (meaning given) w.events.items o
+
+-- Where a search ended with a run, that is one.
+abbrev pub IsEnded : {A : Type 0} → List (Option ℕ) → Kept → Ending A → Type 0
+IsEnded image given Open = ⊤
+IsEnded image given (Broken w o) = IsBroken image given w o
+
+-- What comes next takes the place of the declaration, or what is told of it is true.
+abbrev pub IsNext : {A : Type 0} → List (Option ℕ) → Kept → Next A → Type 0
+IsNext image given (Wider p) = Supersedes image given p
+IsNext image given (Ended e) = IsEnded image given e
+
+-- What is proposed in the end is for the same start and machine, the text is one of its texts, the answer is true of it, and
+-- it has a reason if it is a no.
+pub record IsSettled {A : Type 0} (image : List (Option ℕ)) (given : Kept) (s : Settled A) : Type 0 where
+  pub start_is : (meaning s.declaration).start ≡ (meaning given).start
+  pub profile_is : (meaning s.declaration).profile ≡ (meaning given).profile
+  pub text : Declares s.text.items (meaning s.declaration)
+  pub answers : IsAnswer image (meaning s.declaration) s.answer
+  pub reason : HasReason image (meaning s.declaration) s.answer s.obstacle

@@ -1,0 +1,146 @@
+//! Whether nothing is added to a declaration but what is proposed.
+
+ghost use Rattle.std.specs.Prelude.{ℕ, ◌≡◌, ◌<◌, ◌||◌, true};
+ghost use Rattle.declaration.specs.Declaration.{Routine};
+ghost use Rattle.declaration.specs.Kept.{meaning};
+ghost use Rattle.search_commands.specs.Adding.{AddsOnly, AddsToCell, lists};
+
+use declaration::{Declaration, Owner};
+use std::alloc::Allocator;
+use word12::Word;
+
+/// Whether the body that has a cell has it in one of two other declarations.
+fn body_is_known<A: Allocator, B: Allocator, C: Allocator>(
+    given: &Declaration<A>,
+    proposed: &Declaration<B>,
+    more: &Declaration<C>,
+    at: Word,
+) -> bool
+    ensures { result ≡ true → (r : Routine) → (meaning more.now).body r at ≡ true →
+        (meaning given.now).body r at || (meaning proposed.now).body r at ≡ true }
+{
+    let Some(owner) = more.owner_of(at) else {
+        return true;
+    };
+    match owner {
+        Owner::Main => given.in_main(at) || proposed.in_main(at),
+        Owner::Routine(entry) => given.in_body(entry, at) || proposed.in_body(entry, at),
+    }
+}
+
+/// Whether the routine of an entry may return at each offset in one of two other declarations.
+fn offsets_are_known<A: Allocator, B: Allocator, C: Allocator>(
+    given: &Declaration<A>,
+    proposed: &Declaration<B>,
+    more: &Declaration<C>,
+    entry: Word,
+) -> bool
+    ensures { result ≡ true → (o : ℕ) → o < 8 → (meaning more.now).offset entry o ≡ true →
+        (meaning given.now).offset entry o || (meaning proposed.now).offset entry o ≡ true }
+{
+    for index in 0..8usize {
+        let offset = Word::from_index(index);
+        if more.has_offset(entry, offset)
+            && !given.has_offset(entry, offset)
+            && !proposed.has_offset(entry, offset)
+        {
+            return false;
+        }
+    }
+    true
+}
+
+/// Whether a cell is on a list of reads, if there is one.
+fn is_listed<A: Allocator>(declaration: &Declaration<A>, at: Word) -> bool
+    ensures { result ≡ lists (meaning declaration.now).reads at }
+{
+    match declaration.reads() {
+        None => false,
+        Some(cells) => cells.contains(at),
+    }
+}
+
+/// Whether something that holds of a cell is known of it.
+fn is_known(more: bool, given: bool, proposed: bool) -> bool
+    ensures { result ≡ true → more ≡ true → given || proposed ≡ true }
+{
+    !more || given || proposed
+}
+
+/// Whether a cell is an entry, a variable, a halt or a cell to be read in one of two other declarations where it is
+/// one.
+fn roles_are_known<A: Allocator, B: Allocator, C: Allocator>(
+    given: &Declaration<A>,
+    proposed: &Declaration<B>,
+    more: &Declaration<C>,
+    at: Word,
+) -> bool
+    ensures entry { result ≡ true → (meaning more.now).entry at ≡ true →
+        (meaning given.now).entry at || (meaning proposed.now).entry at ≡ true }
+    ensures variable { result ≡ true → (meaning more.now).variable at ≡ true →
+        (meaning given.now).variable at || (meaning proposed.now).variable at ≡ true }
+    ensures stop { result ≡ true → (meaning more.now).stop at ≡ true →
+        (meaning given.now).stop at || (meaning proposed.now).stop at ≡ true }
+    ensures pause { result ≡ true → (meaning more.now).pause at ≡ true →
+        (meaning given.now).pause at || (meaning proposed.now).pause at ≡ true }
+    ensures read { result ≡ true → lists (meaning more.now).reads at ≡ true →
+        lists (meaning given.now).reads at || lists (meaning proposed.now).reads at ≡ true }
+{
+    if !is_known(more.is_entry(at), given.is_entry(at), proposed.is_entry(at)) {
+        return false;
+    }
+    if !is_known(
+        more.is_variable(at),
+        given.is_variable(at),
+        proposed.is_variable(at),
+    ) {
+        return false;
+    }
+    if !is_known(more.is_stop(at), given.is_stop(at), proposed.is_stop(at)) {
+        return false;
+    }
+    if !is_known(more.is_pause(at), given.is_pause(at), proposed.is_pause(at)) {
+        return false;
+    }
+    is_known(
+        is_listed(more, at),
+        is_listed(given, at),
+        is_listed(proposed, at),
+    )
+}
+
+/// Whether nothing is said of a cell but what one of two other declarations says.
+fn adds_to_cell<A: Allocator, B: Allocator, C: Allocator>(
+    given: &Declaration<A>,
+    proposed: &Declaration<B>,
+    more: &Declaration<C>,
+    at: Word,
+) -> bool
+    ensures { result ≡ true →
+        AddsToCell (meaning given.now) (meaning proposed.now) (meaning more.now) at }
+{
+    if !body_is_known(given, proposed, more, at) {
+        return false;
+    }
+    if !offsets_are_known(given, proposed, more, at) {
+        return false;
+    }
+    roles_are_known(given, proposed, more, at)
+}
+
+/// Whether the last declaration says nothing but what one of the other two says.
+pub(crate) fn adds_only<A: Allocator, B: Allocator, C: Allocator>(
+    given: &Declaration<A>,
+    proposed: &Declaration<B>,
+    more: &Declaration<C>,
+) -> bool
+    ensures { result ≡ true →
+        AddsOnly (meaning given.now) (meaning proposed.now) (meaning more.now) }
+{
+    for index in 0..4096usize {
+        if !adds_to_cell(given, proposed, more, Word::from_index(index)) {
+            return false;
+        }
+    }
+    true
+}

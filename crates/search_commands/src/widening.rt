@@ -1,0 +1,253 @@
+//! The answer on a tape alone: what is proposed is widened as long as runs leave it.
+
+ghost use Rattle.std.specs.Prelude.{◌≡◌, ◌++◌, false, None, IfOk, IfErr};
+ghost use Rattle.command_parts.specs.Answers.{IsMemoryFault};
+ghost use Rattle.command_parts.specs.Faults.{fails_to_write};
+ghost use Rattle.declaration.specs.Kept.{meaning};
+ghost use Rattle.declaration.specs.Text.{Declares};
+ghost use Rattle.proposer.specs.Proposals.{IsShown};
+ghost use Rattle.search_commands.specs.SearchFaults.{IsProposeFault};
+ghost use Rattle.search_commands.specs.VerifyText.{IsAnswer};
+ghost use Rattle.search_commands.specs.WidenedSearch.{IsEnded, IsNext, IsSettled};
+ghost use Rattle.search_commands.specs.WidenedText.{HasReason, obstacle_place, obstacle_text, obstacle_words, reason_text};
+
+use crate::verifying::{Answer, Lack, RefuteOptions};
+use bin_tape::Image;
+use command_parts::status::Fault;
+use command_parts::text::push_place;
+use declaration::Declaration;
+use proposer::{Evidence, Obstacle, Proposal, Verdict, Widening, widened};
+use refuter::{Witness, refute_within};
+use std::alloc::{AllocError, Allocator};
+use turns::Turns;
+use word12::Word;
+
+/// How often a proposal is widened at most.
+const MOST_WIDENINGS: usize = 256;
+
+/// The declaration that is proposed in the end, its text, whether the program keeps it, and after a no why no declaration
+/// allows what the run does.
+#[derive(Drop)]
+pub(crate) struct Settled<A: Allocator> {
+    pub(crate) declaration: Declaration<A>,
+    pub(crate) text: Vec<u8, A>,
+    pub(crate) answer: Answer<A>,
+    pub(crate) obstacle: Option<Obstacle>,
+}
+
+/// How the search for a run that leaves a proposal ended.
+#[derive(Drop)]
+enum Ending<A: Allocator> {
+    /// None was found that tells how to widen the proposal, or there is a certificate.
+    Open,
+    /// This one was found, and no declaration allows what it does.
+    Broken(Witness<A>, Obstacle),
+}
+
+/// What comes after a proposal.
+#[derive(Drop)]
+enum Next<A: Allocator> {
+    Wider(Proposal<A>),
+    Ended(Ending<A>),
+}
+
+/// The answer by a verdict alone.
+fn answer_by<A: Allocator>(
+    image: &Image,
+    declaration: &Declaration<A>,
+    verdict: Verdict<A>,
+) -> Answer<A>
+    requires { IsShown image.now declaration.now verdict }
+    ensures answer { IsAnswer image.now (meaning declaration.now) result }
+    ensures open { HasReason image.now (meaning declaration.now) result None }
+{
+    let (_image, _declaration) = (image, declaration);
+    match verdict {
+        Verdict::Safe(certificate) => Answer::Yes(certificate),
+        Verdict::Stuck(at) => Answer::NotKnown(Lack::Stuck(at)),
+        Verdict::TurnsSpent => Answer::NotKnown(Lack::TurnsSpent),
+    }
+}
+
+/// What is said of a proposal in the end.
+fn conclude<A: Allocator>(image: &Image, proposal: Proposal<A>, ending: Ending<A>) -> Settled<A>
+    requires shown { IsShown image.now proposal.declaration proposal.verdict }
+    requires text { Declares proposal.text.items (meaning proposal.declaration) }
+    requires ended { IsEnded image.now proposal.declaration ending }
+    ensures settled { IsSettled image.now proposal.declaration result }
+{
+    let Proposal {
+        declaration,
+        text,
+        verdict,
+        ..
+    } = proposal;
+    match ending {
+        Ending::Open => {
+            let answer = answer_by(image, &declaration, verdict);
+            Settled {
+                declaration,
+                text,
+                answer,
+                obstacle: None,
+            }
+        }
+        Ending::Broken(witness, obstacle) => Settled {
+            declaration,
+            text,
+            answer: Answer::No(witness),
+            obstacle: Some(obstacle),
+        },
+    }
+}
+
+/// What comes after a proposal that a run leaves.
+fn after_run<A: Allocator + Copy>(
+    alloc: A,
+    image: &Image,
+    proposal: &Proposal<A>,
+    evidence: &mut Evidence<A>,
+    witness: Witness<A>,
+    turns: &mut Turns,
+) -> Result<Next<A>, Fault>
+    requires { IsAnswer image.now (meaning proposal.now.declaration) (Answer.No witness) }
+    ensures next { IfOk result (IsNext image.now proposal.now.declaration) }
+    ensures faults { IfErr result IsProposeFault }
+    ensures unwritten { fails_to_write result ≡ false }
+{
+    match widened(alloc, image, proposal, evidence, &witness.events, turns)? {
+        Widening::Wider(wider) => Ok(Next::Wider(wider)),
+        Widening::Never(obstacle) => Ok(Next::Ended(Ending::Broken(witness, obstacle))),
+        Widening::Unclear => Ok(Next::Ended(Ending::Open)),
+    }
+}
+
+/// Looks for a run that leaves a proposal without a certificate, and widens it by that.
+fn next_after<A: Allocator + Copy>(
+    alloc: A,
+    image: &Image,
+    proposal: &Proposal<A>,
+    evidence: &mut Evidence<A>,
+    seed: u64,
+    steps: &mut Turns,
+    turns: &mut Turns,
+) -> Result<Next<A>, Fault>
+    ensures next { IfOk result (IsNext image.now proposal.now.declaration) }
+    ensures faults { IfErr result IsProposeFault }
+    ensures unwritten { fails_to_write result ≡ false }
+{
+    if let Verdict::Safe(_) = &proposal.verdict {
+        return Ok(Next::Ended(Ending::Open));
+    }
+    match refute_within(alloc, image, &proposal.declaration, seed, steps)? {
+        Some(witness) => after_run(alloc, image, proposal, evidence, witness, turns),
+        None => Ok(Next::Ended(Ending::Open)),
+    }
+}
+
+/// Widens a proposal as long as runs leave it, within the steps that there are, and says what is known of the last one.
+#[tactic(auto, using(crate::proofs::WidenedLemmas::settled_before))]
+pub(crate) fn settle<A: Allocator + Copy>(
+    alloc: A,
+    image: &Image,
+    proposal: Proposal<A>,
+    options: &RefuteOptions,
+    turns: &mut Turns,
+) -> Result<Settled<A>, Fault>
+    requires shown { IsShown image.now proposal.declaration proposal.verdict }
+    requires text { Declares proposal.text.items (meaning proposal.declaration) }
+    ensures settled { IfOk result (IsSettled image.now proposal.declaration) }
+    ensures faults { IfErr result IsProposeFault }
+    ensures unwritten { fails_to_write result ≡ false }
+{
+    let mut proposal = proposal;
+    let mut evidence = Evidence::nothing(alloc)?;
+    let mut steps = Turns::new(options.steps);
+    let seed = u64::from(options.seed);
+    for _widening in 0..MOST_WIDENINGS {
+        let next = next_after(
+            alloc,
+            image,
+            &proposal,
+            &mut evidence,
+            seed,
+            &mut steps,
+            turns,
+        )?;
+        match next {
+            Next::Wider(wider) => proposal = wider,
+            Next::Ended(ending) => return Ok(conclude(image, proposal, ending)),
+        }
+    }
+    Ok(conclude(image, proposal, Ending::Open))
+}
+
+/// What a run does that no declaration allows.
+fn obstacle_words(obstacle: &Obstacle) -> &'static [u8]
+    ensures { result.now ≡ obstacle_words obstacle.now }
+{
+    match obstacle {
+        Obstacle::Unsupported(_) => b"the machine does not support the word at ",
+        Obstacle::Unset(_) => b"control comes to a cell into which nothing has put a word, ",
+        Obstacle::RunsEntry(_) => b"control comes to the word that a JMS stores at ",
+        Obstacle::Shared(_) => b"two routines execute the word at ",
+        Obstacle::CallsBody(_) => b"a JMS stores into the code at ",
+        Obstacle::CallsVariable(_) => b"instructions other than JMS also store at ",
+        Obstacle::CallsPointer(_) => b"a JMS stores into the auto-index cell ",
+        Obstacle::StoresInEntry(_) => b"instructions other than JMS also store at ",
+        Obstacle::ReturnsForAnother(_) =>
+            b"control returns from a call other than the last by the JMP at ",
+        Obstacle::ReturnsFar(_) =>
+            b"a routine returns outside the eight words after its call by the JMP at ",
+    }
+}
+
+/// The address at which an obstacle is seen.
+fn obstacle_place(obstacle: &Obstacle) -> Word
+    ensures { result ≡ obstacle_place obstacle.now }
+{
+    match obstacle {
+        Obstacle::Unsupported(at) => *at,
+        Obstacle::Unset(at) => *at,
+        Obstacle::RunsEntry(at) => *at,
+        Obstacle::Shared(at) => *at,
+        Obstacle::CallsBody(at) => *at,
+        Obstacle::CallsVariable(at) => *at,
+        Obstacle::CallsPointer(at) => *at,
+        Obstacle::StoresInEntry(at) => *at,
+        Obstacle::ReturnsForAnother(at) => *at,
+        Obstacle::ReturnsFar(at) => *at,
+    }
+}
+
+/// The line that says why no declaration allows what a run does.
+fn obstacle_line<A: Allocator>(alloc: A, obstacle: &Obstacle) -> Result<Vec<u8, A>, AllocError>
+    ensures { IfOk result (λ text. text.items ≡ obstacle_text obstacle.now) }
+{
+    let mut text = Vec::new(alloc);
+    text.extend_from_slice(b"no declaration allows that: ")?;
+    push_place(
+        &mut text,
+        obstacle_words(obstacle),
+        obstacle_place(obstacle),
+    )?;
+    text.extend_from_slice(b"\n")?;
+    Ok(text)
+}
+
+/// The line of an answer, and behind it why no declaration allows what the run does, if none does.
+pub(crate) fn with_reason<A: Allocator + Copy>(
+    alloc: A,
+    line: Vec<u8, A>,
+    obstacle: &Option<Obstacle>,
+) -> Result<Vec<u8, A>, AllocError>
+    ensures { IfOk result (λ text. text.items ≡ line.items ++ reason_text obstacle.now) }
+{
+    let Some(found) = obstacle else {
+        return Ok(line);
+    };
+    let reason = obstacle_line(alloc, found)?;
+    let mut text = line;
+    text.extend_from_slice(&reason)?;
+    Ok(text)
+}

@@ -24,3 +24,4 @@ pub mod OperandLemmas
 pub mod AskingLemmas
 pub mod ComesLemmas
 pub mod DeviceLemmas
+pub mod KeepingLemmas

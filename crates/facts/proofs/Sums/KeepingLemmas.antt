@@ -1,6 +1,7 @@
 -- A narrowed fact keeps what rows ask of a fact: relations of few terms, and chains with room for one step more.
-use Rattle.std.proofs.Common.{◌≡◌, ℕ, ◌≤◌, Bool, true, false, List, [], ◌∷◌, length, refl, sym, subst, arith}
-use Rattle.std.specs.Prelude.{if◌then◌else◌, Option, Some, None}
+use Rattle.std.proofs.Common.{◌≡◌, ℕ, ◌≤◌, Bool, true, false, ◌&&◌, List, [], ◌∷◌, ◌++◌, length, refl, sym, subst, arith}
+use Rattle.std.specs.Prelude.{if◌then◌else◌, Option, Some, None, flat_map}
+use Rattle.std.specs.List.{list_all}
 use Rattle.std.proofs.lemmas.Bool.{cond_both, false≢true}
 use Rattle.wordset.specs.Words.{Words, meet}
 use Rattle.processor.specs.Runs.{Image}
@@ -11,7 +12,7 @@ use Rattle.domain.specs.Sums.Facts.{Relation, Fact, Rules, OfSums}
 use Rattle.domain.specs.Sums.Chains.{Chain}
 use Rattle.domain.specs.Sums.ChainsInCode.{AreShort}
 use Rattle.domain.specs.Sums.Adding.{times, is_kept, with_relation, with_term_in, with_shape_in, with_spelled_in, adding, adding_all}
-use Rattle.domain.specs.Sums.Narrowing.{narrowed}
+use Rattle.domain.specs.Sums.Narrowing.{narrowed, parts_of, parts_of_chain, links_of_chain}
 use Rattle.domain.proofs.Sums.AddingLemmas.{adding_keeps}
 use Rattle.facts.specs.Sums.Shaped.{HaveFewTerms}
 
@@ -60,13 +61,20 @@ pub adding_few : (rules : Rules) (rs : List Relation) (f : Fact) → HaveFewTerm
 adding_few rules [] f all = all
 adding_few rules (r ∷ rs) f all = adding_few rules rs (adding rules r f) (spelled_added_few rules (spelled r.sum) r.set f (spelled_few r.sum) all)
 
+-- What is added when a fact is narrowed, and to what.
+abbrev all_told : Image → Fact → List Relation
+all_told image f = flat_map (λ (r : Relation). parts_of image f r.sum r.set) f.relations ++ flat_map (λ (c : Chain). parts_of_chain f c) f.chains
+
+abbrev linked : Image → Fact → Fact
+linked image f = record f { link = λ l. f.link l && list_all (λ (c : Chain). links_of_chain f c l) f.chains }
+
 pub narrowed_few : (image : Image) (f : Fact) → HaveFewTerms f.relations → HaveFewTerms (narrowed image f).relations
 unfolding narrowed
-narrowed_few image f all = adding_few OfSums _ _ all
+narrowed_few image f all = adding_few OfSums (all_told image f) (linked image f) all
 
 narrowed_chains : (image : Image) (f : Fact) → (narrowed image f).chains ≡ f.chains
 unfolding narrowed
-narrowed_chains image f = (adding_keeps OfSums _ _).chains
+narrowed_chains image f = (adding_keeps OfSums (all_told image f) (linked image f)).chains
 
 pub narrowed_short : (image : Image) (f : Fact) → AreShort f.chains → AreShort (narrowed image f).chains
 narrowed_short image f short = subst AreShort (sym (narrowed_chains image f)) short

@@ -1,15 +1,16 @@
 -- What the rows TAD, DCA and those of groups 1 and 2 make of relations and chains, told piece by piece.
 use Rattle.std.proofs.Common.{◌≡◌, ℕ, ◌+◌, ◌<◌, ◌≤◌, ◌==◌, Bool, true, false, not, ◌&&◌, ◌||◌, List, inl, inr, [], ◌∷◌, ◌++◌, map, drop, get_or, length, refl, sym, ap, ◌∙◌, append_assoc, arith}
 use Rattle.std.specs.Prelude.{if◌then◌else◌, flat_map, filter, nat_lt, Option, IsTrue, ◌↔◌}
-use Rattle.std.proofs.lemmas.Bool.{eqb-true, cases_lt}
+use Rattle.std.proofs.lemmas.Bool.{eqb-true, eq-eqb, cases_lt}
 use Rattle.std.specs.List.{list_any}
 use Rattle.std.proofs.Math.ListN.{drop_of_length-le}
 use Rattle.std.proofs.lemmas.List.{at_drop_more}
 use Rattle.instruct.specs.Bits.{has_bit}
-use Rattle.wordset.specs.Words.{Words, one, only, sums, toggled, carries, all_words, shifted, some_below, has_some, images}
+use Rattle.instruct.specs.Operates.{operate1_of}
+use Rattle.wordset.specs.Words.{Words, one, only, sums, toggled, carries, all_words, shifted, some_below, has_some, images, with_word}
 use Rattle.wordset.specs.Operate.{accumulator_after}
 use Rattle.wordset.specs.Operate as said
-use Rattle.wordset.proofs.Tests.{some_from, some_to, IsSome, both_ways, and_both, and_second}
+use Rattle.wordset.proofs.Tests.{some_from, some_to, IsSome, both_ways, and_both, and_first, and_second}
 use Rattle.wordset.specs.Lanes.{words}
 use Rattle.wordset.proofs.SetLemmas.{words_past, all_past}
 use Rattle.wordset.proofs.LaneBits.{or_false}
@@ -260,6 +261,34 @@ one_is_enough w l k a e some = fun_ext (λ v. both_ways (images_from w l (one 0)
         let s : IsSome 4096 (λ x. a x && test v x) = some_to 4096 (λ x. a x && test v x) q in
         some_from 4096 (λ x. one 0 x && test v x) 0 (omega arith)
         (and_both (one 0 0) (test v 0) refl (sym (same_test v s.at) ∙ and_second (a s.at) (test v s.at) s.holds))
+
+ac_of_pair : (w x k : ℕ) (r : ℕ × ℕ) → r ≡ operate1_of w (x, k) → ac_after w x k ≡ r.0
+unfolding ac_after
+ac_of_pair w x k r e = sym (ap (λ (s : ℕ × ℕ). s.0) e)
+
+link_of_pair : (w x k : ℕ) (r : ℕ × ℕ) → r ≡ operate1_of w (x, k) → link_after w x k ≡ r.1
+unfolding link_after
+link_of_pair w x k r e = sym (ap (λ (s : ℕ × ℕ). s.1) e)
+
+-- What it makes of one accumulator is put in where the link comes out so, and else nothing.
+pub image_put : (w x k l : ℕ) (r : ℕ × ℕ) (old new : Words) → r ≡ operate1_of w (x, k) → (r.1 == l) ≡ true → new ≡ with_word r.0 old →
+    (v : ℕ) → new v ≡ (old v || ((ac_after w x k == v) && (link_after w x k == l)))
+image_put w x k l r old new is same put v =
+    let ac : ac_after w x k ≡ r.0 = ac_of_pair w x k r is in
+    let link : link_after w x k ≡ l = link_of_pair w x k r is ∙ eqb-true r.1 l same in
+    ap (λ (s : Words). s v) put ∙ ap (λ b. old v || b) (both_ways (v == r.0) ((ac_after w x k == v) && (link_after w x k == l))
+    (λ e. and_both (ac_after w x k == v) (link_after w x k == l) (eq-eqb (ac_after w x k) v (ac ∙ sym (eqb-true v r.0 e))) (eq-eqb (link_after w x k) l link))
+    (λ e. eq-eqb v r.0 (sym (eqb-true (ac_after w x k) v (and_first (ac_after w x k == v) (link_after w x k == l) e)) ∙ ac)))
+
+pub image_left : (w x k l : ℕ) (r : ℕ × ℕ) (old : Words) → r ≡ operate1_of w (x, k) → (r.1 == l) ≡ false →
+    (v : ℕ) → old v ≡ (old v || ((ac_after w x k == v) && (link_after w x k == l)))
+image_left w x k l r old is other v =
+    sym (ap (λ n. old v || ((ac_after w x k == v) && (n == l))) (link_of_pair w x k r is) ∙ ap (λ b. old v || ((ac_after w x k == v) && b)) other ∙ go (old v) (ac_after w x k == v))
+  where
+    go : (a b : Bool) → (a || (b && false)) ≡ a
+    go true b = refl
+    go false true = refl
+    go false false = refl
 
 -- Both links together.
 pub under_both : (w l : ℕ) (a links : Words) (v : ℕ) → ((links 1 && images_from w l a 1 v) || (links 0 && images_from w l a 0 v)) ≡ images_under w l a links v

@@ -127,8 +127,12 @@ own_set image n s = cond_both (same n n) s (words_at_start image n) (λ (w : Wor
 -- nor where the name has none
 empty_void : (image : Image) (n : Location) (s links : Words) → ((x : ℕ) → n ≡ Cell x → x < 4096) → has_some s ≡ false → is_void (with_name n s (begun image links)) ≡ true
 empty_void image Ac s links inside e = or_second _ _ (or_second _ _ (or_first _ _ (ap lacks_all (own_set image Ac s) ∙ ap not e)))
-empty_void image (Cell x) s links inside e = or_second _ _ (or_second _ _ (or_second _ _ (or_first _ _
-    (some_from 4096 (λ a. lacks_all (with_set (Cell x) s (words_at_start image) (Cell a))) x (inside x refl) (ap lacks_all (own_set image (Cell x) s) ∙ ap not e)))))
+empty_void image (Cell x) s links inside e =
+    let sets : Location → Words = with_set (Cell x) s (words_at_start image) in
+    let cells : Bool = some_below 4096 (λ a. lacks_all (sets (Cell a))) in
+    or_second (lacks_all all_words) (not (has_link links) || (lacks_all (sets Ac) || (cells || false))) (or_second (not (has_link links)) (lacks_all (sets Ac) || (cells || false))
+    (or_second (lacks_all (sets Ac)) (cells || false) (or_first cells false
+    (some_from 4096 (λ a. lacks_all (sets (Cell a))) x (inside x refl) (ap lacks_all (own_set image (Cell x) s) ∙ ap not e)))))
 
 -- what a fact takes of the part of all starts
 module _ (pl : Place) (image : Image) (n : Location) (links : Words) (b : Fact) where

@@ -12,7 +12,7 @@ use Rattle.wordset.specs.Operate.{accumulator_after}
 use Rattle.wordset.specs.Operate as said
 use Rattle.wordset.proofs.Tests.{some_from, some_to, IsSome, both_ways, and_both, and_first, and_second}
 use Rattle.wordset.specs.Lanes.{words}
-use Rattle.wordset.proofs.SetLemmas.{words_past, all_past}
+use Rattle.wordset.proofs.SetLemmas.{words_past, all_past, lt_to}
 use Rattle.wordset.proofs.LaneBits.{or_false}
 use Rattle.wordset.proofs.Cleared.{cleared_same}
 use Rattle.std.proofs.Math.Path.{fun_ext}
@@ -128,12 +128,12 @@ filter_twice : (p q r : Relation → Bool) → ((x : Relation) → r x ≡ (q x 
 filter_twice p q r h [] = refl
 filter_twice p q r h (x ∷ xs) =
     ap (λ b. if b then x ∷ filter r xs else filter r xs) (h x)
-    ∙ go (q x) (p x) refl
+    ∙ go (q x) (p x) refl (filter_twice p q r h xs)
   where
-    go : (a b : Bool) → p x ≡ b → (if a && b then x ∷ filter r xs else filter r xs) ≡ filter p (if a then x ∷ filter q xs else filter q xs)
-    go true true e = rw e (ap (λ (ys : List Relation). x ∷ ys) (filter_twice p q r h xs))
-    go true false e = rw e (filter_twice p q r h xs)
-    go false b e = filter_twice p q r h xs
+    go : (a b : Bool) → p x ≡ b → filter r xs ≡ filter p (filter q xs) → (if a && b then x ∷ filter r xs else filter r xs) ≡ filter p (if a then x ∷ filter q xs else filter q xs)
+    go true true e same = rw e (ap (λ (ys : List Relation). x ∷ ys) same)
+    go true false e same = rw e same
+    go false b e same = same
 
 -- Those that a store in the one cell leaves.
 pub free_of_both : (names : Location → Bool) (y : ℕ) → ((n : Location) → names n ≡ (same n (Cell y) || same n Ac)) → (rs : List Relation) →
@@ -156,7 +156,7 @@ changing_one y small (Cell a) = go (a == y) refl
     no false = refl
 
     go : (b : Bool) → (a == y) ≡ b → not (not (nat_lt a 4096 && (a == y))) ≡ ((a == y) || false)
-    go true e = (let is : a ≡ y = eqb-true a y e in let lt : nat_lt a 4096 ≡ true = omega (arith, is, small) in rw (e, lt) refl)
+    go true e = (let is : a ≡ y = eqb-true a y e in let lt : nat_lt a 4096 ≡ true = lt_to a (omega (arith, is, small)) in rw (e, lt) refl)
     go false e = rw e (no (nat_lt a 4096))
 
 -- ---- TAD and DCA as wholes
@@ -297,7 +297,7 @@ under_both w l a links v = ap (λ b. (links 1 && images_from w l a 1 v) || b) (s
 
 -- A set that isn't empty has a word.
 pub some_there : (a : Words) (empty : Bool) → empty ≡ not (has_some a) → empty ≡ false → has_some a ≡ true
-some_there a empty is no = go (has_some a) (sym is ∙ no)
+some_there a empty is not_so = go (has_some a) (sym is ∙ not_so)
   where
     go : (b : Bool) → not b ≡ false → b ≡ true
     go true e = refl
@@ -315,8 +315,8 @@ turned_one w r = go (has_bit 5 w)
 
 -- One that CMA takes away is gone.
 pub turned_gone : (w : ℕ) (r m : Relation) (s : Bool) → s ≡ false → if_stays s m ≡ (if has_bit 5 w then complemented r else r ∷ []) → [] ≡ turned w (r ∷ [])
-turned_gone w r m s no e =
-    let none : [] ≡ (if has_bit 5 w then complemented r else r ∷ []) = sym (ap (λ b. if_stays b m) no) ∙ e in
+turned_gone w r m s gone e =
+    let none : [] ≡ (if has_bit 5 w then complemented r else r ∷ []) = sym (ap (λ b. if_stays b m) gone) ∙ e in
     go (has_bit 0 w) ∙ ap (λ (x : List Relation). if has_bit 0 w then flat_map incremented x else x) none ∙ sym (turned_one w r)
   where
     go : (b : Bool) → [] ≡ (if b then flat_map incremented [] else [])
@@ -326,8 +326,8 @@ turned_gone w r m s no e =
 -- One that it leaves is counted up by IAC.
 pub turned_on : (w : ℕ) (r m last : Relation) (s t : Bool) → s ≡ true → if_stays s m ≡ (if has_bit 5 w then complemented r else r ∷ []) → if_stays t last ≡ (if has_bit 0 w then incremented m else m ∷ []) →
     if_stays t last ≡ turned w (r ∷ [])
-turned_on w r m last s t yes e d =
-    let some : m ∷ [] ≡ (if has_bit 5 w then complemented r else r ∷ []) = sym (ap (λ b. if_stays b m) yes) ∙ e in
+turned_on w r m last s t stays e d =
+    let some : m ∷ [] ≡ (if has_bit 5 w then complemented r else r ∷ []) = sym (ap (λ b. if_stays b m) stays) ∙ e in
     d ∙ go (has_bit 0 w) ∙ ap (λ (x : List Relation). if has_bit 0 w then flat_map incremented x else x) some ∙ sym (turned_one w r)
   where
     go : (b : Bool) → (if b then incremented m else m ∷ []) ≡ (if b then flat_map incremented (m ∷ []) else m ∷ [])
@@ -341,11 +341,11 @@ stays_unless false r = refl
 
 -- Those that stay and are kept by the rules.
 pub kept_none : (k : Relation → Bool) (s : Bool) (r : Relation) (xs : List Relation) → s ≡ false → if_stays s r ≡ xs → [] ≡ filter k xs
-kept_none k s r xs no e = ap (filter k) (sym (ap (λ b. if_stays b r) no) ∙ e)
+kept_none k s r xs gone e = ap (filter k) (sym (ap (λ b. if_stays b r) gone) ∙ e)
 
 pub kept_if : (k : Relation → Bool) (s b : Bool) (r : Relation) (xs : List Relation) → s ≡ true → if_stays s r ≡ xs → b ≡ k r → if_stays b r ≡ filter k xs
-kept_if k s b r xs yes e h =
-    go b h ∙ ap (filter k) (sym (ap (λ b. if_stays b r) yes) ∙ e)
+kept_if k s b r xs stays e h =
+    go b h ∙ ap (filter k) (sym (ap (λ b. if_stays b r) stays) ∙ e)
   where
     go : (b : Bool) → b ≡ k r → if_stays b r ≡ filter k (r ∷ [])
     go true h = rw (sym h) refl
@@ -390,7 +390,7 @@ both_hold false b c e d = absurd (cc)
 
 -- A set that is empty has no word.
 pub none_there : (a : Words) (empty : Bool) → empty ≡ not (has_some a) → empty ≡ true → has_some a ≡ false
-none_there a empty is yes = go (has_some a) (sym is ∙ yes)
+none_there a empty is so = go (has_some a) (sym is ∙ so)
   where
     go : (b : Bool) → not b ≡ true → b ≡ false
     go false e = refl
@@ -408,11 +408,11 @@ all_there a e = ap has_all_words e ∙ whole
         go true q =
             let t : IsSome 4096 (λ v. not (all_words v)) = some_to 4096 (λ v. not (all_words v)) q in
             let small : t.at < 4096 = t.small in
-            let has : all_words t.at ≡ true = omega arith in
+            let has : all_words t.at ≡ true = lt_to t.at small in
             sym (sym t.holds ∙ ap not has)
 
 pub not_all_there : (lanes : List ℕ) (r : Bool) → r ≡ false → (IsTrue r ↔ (words lanes ≡ all_words)) → has_all_words (words lanes) ≡ false
-not_all_there lanes r no told = go (some_below 4096 (λ v. not (words lanes v))) refl
+not_all_there lanes r not_so when = go (some_below 4096 (λ v. not (words lanes v))) refl
   where
     each : some_below 4096 (λ v. not (words lanes v)) ≡ false → (v : ℕ) → v < 4096 → (b : Bool) → words lanes v ≡ b → b ≡ true
     each q v h true e = refl
@@ -421,7 +421,7 @@ not_all_there lanes r no told = go (some_below 4096 (λ v. not (words lanes v)))
     go true q = refl
     go false q =
         let whole : words lanes ≡ all_words = fun_ext (λ v. elim (cases_lt v 4096) [
-          | inl l ↦ (let has : all_words v ≡ true = omega arith in each q v l (words lanes v) refl ∙ sym has)
+          | inl l ↦ (let has : all_words v ≡ true = lt_to v l in each q v l (words lanes v) refl ∙ sym has)
           | inr g ↦ words_past lanes v g ∙ sym (all_past v g)
         ]) in
-        sym (told.1 whole) ∙ no
+        sym (when.1 whole) ∙ not_so

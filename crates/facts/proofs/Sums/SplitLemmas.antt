@@ -2,17 +2,18 @@
 use Rattle.std.proofs.Common.{◌≡◌, ℕ, ◌+◌, ◌<◌, ◌≤◌, Bool, true, false, ◌&&◌, ◌||◌, ◌==◌, List, [], ◌∷◌, map, drop, get_or, length, refl, sym, ap, ◌∙◌, subst, arith, inl, inr, lit<}
 use Rattle.std.specs.Prelude.{IsTrue, ◌↔◌, ◌⊎◌, if◌then◌else◌, not}
 use Rattle.std.proofs.lemmas.Bool.{and_from, and_parts, cond_both, eqb-true, eq-eqb, true≢false, false≢true, cases_lt, cases_eq, lt-ltb, ne_eqb}
+use Rattle.std.specs.List.{list_any}
 use Rattle.std.proofs.lemmas.List.{drop_more}
 use Rattle.std.proofs.Math.Path.{fun_ext}
 use Rattle.std.proofs.Math.ListN.{drop_of_length-le}
-use Rattle.wordset.specs.Words.{Words, all_words, meet, IsWithin, some_below, has_some, with_word}
+use Rattle.wordset.specs.Words.{Words, all_words, meet, IsWithin, some_below, has_some, has_link, with_word}
 use Rattle.wordset.proofs.Tests.{IsSome, some_to, none_of_some, or_left, or_right}
 use Rattle.wordset.proofs.SetLemmas.{all_past}
 use Rattle.wordset.specs.Lanes.{words}
 use Rattle.domain.specs.Statements.{TrackedCell, tracked}
 use Rattle.domain.specs.Sums.FactInCode.{names_words}
 use Rattle.domain.specs.Facts.{Location, Ac, Cell, same}
-use Rattle.domain.specs.Sums.Facts.{Fact, Place, Rules, OfEquations, OfSums}
+use Rattle.domain.specs.Sums.Facts.{Relation, Fact, Place, Rules, OfEquations, OfSums}
 use Rattle.domain.specs.Sums.Adding.{with_set, with_name, lacks_all, is_void}
 use Rattle.domain.specs.Sums.Narrowing.{narrowed}
 use Rattle.domain.proofs.Sums.SumLemmas.{same_name}
@@ -173,7 +174,12 @@ no_lack set h = some_to 4096 set (go (has_some set) h)
     go false e = absurd (true≢false e)
 
 none_lacks : (a : Fact) → is_void a ≡ false → (x : ℕ) → x < 4096 → lacks_all (a.set (Cell x)) ≡ false
-none_lacks a h x lt = none_of_some 4096 (λ y. lacks_all (a.set (Cell y))) (left _ _ (right _ _ (right _ _ (right _ _ h)))) x lt
+none_lacks a h x lt =
+    let beside : Bool = list_any (λ (r : Relation). lacks_all r.set) a.relations in
+    let cells : Bool = some_below 4096 (λ y. lacks_all (a.set (Cell y))) in
+    none_of_some 4096 (λ y. lacks_all (a.set (Cell y)))
+    (left cells beside (right (lacks_all (a.set Ac)) (cells || beside) (right (not (has_link a.link)) (lacks_all (a.set Ac) || (cells || beside))
+    (right (lacks_all a.mq) (not (has_link a.link) || (lacks_all (a.set Ac) || (cells || beside))) h)))) x lt
   where
     left : (p q : Bool) → (p || q) ≡ false → p ≡ false
     left true q e = absurd (true≢false e)

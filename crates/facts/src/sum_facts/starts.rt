@@ -4,7 +4,7 @@
 //! the tape's words.
 
 ghost use Rattle.std.specs.Prelude.{ℕ, ◌≡◌, ◌<◌, ◌↔◌, IsTrue, drop, map};
-ghost use Rattle.wordset.specs.Words.{all_words, nothing, one};
+ghost use Rattle.wordset.specs.Words.{one};
 ghost use Rattle.wordset.specs.Lanes.{words};
 ghost use Rattle.wordset.specs.Links.{links_of};
 ghost use Rattle.bin_tape.specs.Image.{HoldsWords};
@@ -12,10 +12,8 @@ ghost use Rattle.peripherals.specs.Loading.{image_of};
 ghost use Rattle.domain.specs.Facts.{Cell, tape_word};
 ghost use Rattle.domain.specs.Meaning.{location_of};
 ghost use Rattle.domain.specs.Sums.Adding.{set_of_shape, set_of_sum, with_name};
-ghost use Rattle.domain.specs.Sums.Brief.{brief_words};
 ghost use Rattle.domain.specs.Sums.InCode.{sum_of, term_of};
 ghost use Rattle.domain.specs.Sums.Knowing.{said_of, words_of_term};
-ghost use Rattle.domain.specs.Sums.Offsets.{offsets_in};
 ghost use Rattle.facts.specs.Sums.Entailment.{Lands, PartLands, with_one_link};
 ghost use Rattle.facts.specs.Sums.PlaceInCode.{place_in_code};
 ghost use Rattle.facts.specs.Sums.StartInCode.{start_in_code, start_part_in_code};
@@ -26,6 +24,7 @@ use super::parts::{Part, has_facts};
 use super::place::Place;
 use super::rooms::Fact;
 use super::source::FactSource;
+use super::start_fact::StartFact;
 use bin_tape::Image;
 use domain::{
     BriefSet, Chain, Location, Relation, ReturnOffsets, Rules, Sum, Term, at_start,
@@ -34,23 +33,6 @@ use domain::{
 use std::alloc::Allocator;
 use word12::{Link, Word};
 use wordset::{Links, WordSet};
-
-/// The fact of all starts with some links, of which one name may have fewer words.
-///
-/// Contracts see it as the fact that `start_in_code` gives.
-#[derive(Drop)]
-pub struct StartFact<'a> {
-    image: &'a Image,
-    links: Links,
-    name: Location,
-    set: WordSet,
-    every: WordSet,
-    none: BriefSet,
-    offsets: ReturnOffsets,
-    ghost every_word: { words every ≡ all_words },
-    ghost no_site: { brief_words none ≡ nothing },
-    ghost no_offset: { offsets_in offsets ≡ nothing },
-}
 
 /// The word of the tape at an address, if there is one.
 fn tape_at(image: &Image, cell: Word) -> Option<Word>

@@ -6,7 +6,7 @@ use Rattle.domain.specs.Sums.InCode.{sum_of, summand_of}
 use Rattle.domain.proofs.SaidLemmas.{said_none}
 use Rattle.facts.specs.Sums.StartInCode.{start_in_code}
 use Rattle.facts.proofs.Sums.BeginningLemmas.{last_said, more_said}
-use Rattle.facts.proofs.sum_facts.starts.StartFact.+put_said_from.Goals as goal
+use Rattle.facts.proofs.sum_facts.start_fact.StartFact.+put_said_from.Goals as goal
 
 pub returns-then-start-len : goal.returns-then-start-len
 returns-then-start-len t c = c.one.ensures ∙ said_none (image_of c.args.image.now) (start_in_code c.args.self.now) (sum_of c.args.sum.now) c.args.start (omega (arith, c.len-len.ensures.count, c.if-start-len.true))

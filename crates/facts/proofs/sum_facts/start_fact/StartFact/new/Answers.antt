@@ -5,7 +5,7 @@ use Rattle.peripherals.specs.Loading.{image_of}
 use Rattle.domain.specs.Facts.{Ac}
 use Rattle.domain.specs.Sums.Adding.{with_name}
 use Rattle.facts.proofs.Sums.BeginningLemmas.{begun, any_ac}
-use Rattle.facts.proofs.sum_facts.starts.StartFact.new.Goals as goal
+use Rattle.facts.proofs.sum_facts.start_fact.StartFact.new.Goals as goal
 
 pub returns : goal.returns
 returns c =

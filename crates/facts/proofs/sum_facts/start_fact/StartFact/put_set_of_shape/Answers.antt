@@ -7,7 +7,7 @@ use Rattle.domain.specs.Sums.InCode.{sum_of, summand_of, term_of}
 use Rattle.domain.proofs.FactLemmas.{given_of_one}
 use Rattle.facts.specs.Sums.StartInCode.{start_in_code}
 use Rattle.facts.proofs.Sums.BeginningLemmas.{not_of_one}
-use Rattle.facts.proofs.sum_facts.starts.StartFact.put_set_of_shape.Goals as goal
+use Rattle.facts.proofs.sum_facts.start_fact.StartFact.put_set_of_shape.Goals as goal
 
 pub returns-then-len : goal.returns-then-len
 returns-then-len c = c.all.ensures ∙ not_of_one (start_in_code c.args.self.now) (sum_of c.args.sum.now) refl (λ e. omega (arith, e, c.len.ensures.count, c.if-len.true))

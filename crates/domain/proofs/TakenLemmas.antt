@@ -104,3 +104,16 @@ change_past CountsUp s v far = beyond (all_past v far)
     beyond : {l b : Bool} → l ≡ false → (l && b) ≡ false
     beyond e = rw e refl
 change_past (Takes other) s v far = words_past other.now v far
+
+-- ---- relations after a count by a known word
+
+only_one : (by : ℕ) → by < 4096 → only (one by) ≡ Some by
+only_one by small = known_only by small
+
+-- Each of them moves, and none goes.
+pub all_moved : (cell by : ℕ) (rs : List Relation) → by < 4096 → length (moved_relations cell (one by) rs) ≡ length rs
+all_moved cell by rs small = ap (λ (o : Option ℕ). length (flat_map (moved_relation cell (one by) o) rs)) (only_one by small) ∙ go rs
+  where
+    go : (rs : List Relation) → length (flat_map (moved_relation cell (one by) (Some by)) rs) ≡ length rs
+    go [] = refl
+    go (r ∷ rs) = ap suc (go rs)

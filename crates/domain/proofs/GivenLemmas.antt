@@ -4,7 +4,7 @@ use Rattle.std.specs.Prelude.{if◌then◌else◌, nat_lt}
 use Rattle.std.specs.List.{list_all}
 use Rattle.std.proofs.Math.Path.{fun_ext}
 use Rattle.std.proofs.Math.ListN.{drop_of_length-le}
-use Rattle.std.proofs.lemmas.Bool.{cases_Bool, cases_lt, eq-eqb, eqb-true}
+use Rattle.std.proofs.lemmas.Bool.{cases_Bool, cases_lt, eq-eqb, ne_eqb, eqb-true}
 use Rattle.std.proofs.lemmas.List.{at_drop_more}
 use Rattle.wordset.specs.Words.{plus, minus, Words, some_below, nothing, all_words, all_links, with_word}
 use Rattle.wordset.specs.Lanes.{words}
@@ -78,28 +78,28 @@ adds_none g x c none =
 
 -- The pair isn't allowed.
 pub no_accumulator : (ac links : Words) (m a w l : ℕ) → ac m ≡ false → is_allowed_pair ac links m a w l ≡ false
-no_accumulator ac links m a w l no = elim (cases_Bool (m == w)) [
-  | inl e ↦ (let here : ac w ≡ false = ap ac (sym (eqb-true m w e)) ∙ no in rw here refl)
+no_accumulator ac links m a w l lacks = elim (cases_Bool (m == w)) [
+  | inl e ↦ (let here : ac w ≡ false = ap ac (sym (eqb-true m w e)) ∙ lacks in rw here refl)
   | inr n ↦ and_idle (ac w) (links l && ((m == w) && (a == l))) (and_idle (links l) ((m == w) && (a == l)) (ap (λ b. b && (a == l)) n))
 ]
 
 pub no_link : (ac links : Words) (m a w l : ℕ) → links a ≡ false → is_allowed_pair ac links m a w l ≡ false
-no_link ac links m a w l no = and_idle (ac w) (links l && ((m == w) && (a == l))) (elim (cases_Bool (a == l)) [
-  | inl e ↦ (let here : links l ≡ false = ap links (sym (eqb-true a l e)) ∙ no in ap (λ b. b && ((m == w) && (a == l))) here)
+no_link ac links m a w l lacks = and_idle (ac w) (links l && ((m == w) && (a == l))) (elim (cases_Bool (a == l)) [
+  | inl e ↦ (let here : links l ≡ false = ap links (sym (eqb-true a l e)) ∙ lacks in ap (λ b. b && ((m == w) && (a == l))) here)
   | inr n ↦ and_idle (links l) ((m == w) && (a == l)) (and_idle (m == w) (a == l) n)
 ])
 
 -- A chain that doesn't begin with the link gives nothing.
 pub none_begins : (ac links : Words) (c : Chain) (k v w l : ℕ) → c.link k ≡ false → gives_allowed_from ac links c k v w l ≡ false
-none_begins ac links c k v w l no = and_idle (ac w) (links l && gives_from c k v w l) (and_idle (links l) (gives_from c k v w l) (ap (λ b. b && is_pair_of (after_steps c.steps (plus v c.more, k)) w l) no))
+none_begins ac links c k v w l lacks = and_idle (ac w) (links l && gives_from c k v w l) (and_idle (links l) (gives_from c k v w l) (ap (λ b. b && is_pair_of (after_steps c.steps (plus v c.more, k)) w l) lacks))
 
 -- ---- one pair is given
 
 -- Where the link is one of those, the chain gives the pair alone.
 pub gives_pair : (ac links : Words) (c : Chain) (k v m a : ℕ) → c.link k ≡ true → (m, a) ≡ after_steps c.steps (plus v c.more, k) →
     is_allowed_pair ac links m a ≡ gives_allowed_from ac links c k v
-gives_pair ac links c k v m a yes e = fun_ext (λ w. fun_ext (λ l.
-    ap (λ (p : ℕ × ℕ). ac w && (links l && is_pair_of p w l)) e ∙ ap (λ b. ac w && (links l && (b && is_pair_of (after_steps c.steps (plus v c.more, k)) w l))) (sym yes)))
+gives_pair ac links c k v m a begins e = fun_ext (λ w. fun_ext (λ l.
+    ap (λ (p : ℕ × ℕ). ac w && (links l && is_pair_of p w l)) e ∙ ap (λ b. ac w && (links l && (b && is_pair_of (after_steps c.steps (plus v c.more, k)) w l))) (sym begins)))
 
 pair_accumulators : (ac links : Words) (m a w : ℕ) → a < 2 → ac m ≡ true → links a ≡ true → (w == m) ≡ some_below 2 (λ l. is_allowed_pair ac links m a w l)
 pair_accumulators ac links m a w small has one = both_ways (w == m) (some_below 2 (λ l. is_allowed_pair ac links m a w l))
@@ -251,14 +251,21 @@ module _ (f : Fact) (c : Chain) (ac set links : Words) (old new : ChainWords) (i
 
 -- No number from 2 on is a link.
 links_past : (k : Links) (l : ℕ) → 2 ≤ l → links_of k l ≡ false
-links_past k zero h = absurd (omega arith)
-links_past k (suc zero) h = absurd (omega arith)
-links_past k (suc (suc l)) h = refl
+links_past k l h = rw (ne_eqb l 0 (λ z. omega (arith, h, z)), ne_eqb l 1 (λ z. omega (arith, h, z))) refl
 
-pub met_in_common : (one other both : Links) (l : ℕ) → both ≡ record { clear = one.clear && other.clear; set = one.set && other.set } → links_of both l ≡ (links_of one l && links_of other l)
-met_in_common one other both zero e = ap (λ (k : Links). links_of k zero) e
-met_in_common one other both (suc zero) e = ap (λ (k : Links). links_of k (suc zero)) e
-met_in_common one other both (suc (suc l)) e = ap (λ (k : Links). links_of k (suc (suc l))) e
+-- A link that is in a set of links is 0 or 1.
+pub link_small : (k : Links) (l : ℕ) → links_of k l ≡ true → l < 2
+link_small k l e = elim (cases_lt l 2) [ inl lt ↦ lt | inr past ↦ absurd (true_false (sym e ∙ links_past k l past)) ]
+
+-- Links that two sets have in common.
+pub met_in_common : (one other : Links) (clear set : Bool) (l : ℕ) → clear ≡ (one.clear && other.clear) → set ≡ (one.set && other.set) →
+    links_of (record { clear = clear; set = set }) l ≡ (links_of one l && links_of other l)
+met_in_common one other clear set l e f = go (l == 0) (l == 1)
+  where
+    go : (p q : Bool) → (if p then clear else (if q then set else false)) ≡ ((if p then one.clear else (if q then one.set else false)) && (if p then other.clear else (if q then other.set else false)))
+    go true q = e
+    go false true = f
+    go false false = refl
 
 -- Links that are met with those of a chain.
 pub met_with_chain : (old new other : Links) (allowed : Words) (l : ℕ) → links_of new l ≡ (links_of old l && links_of other l) → (l < 2 → links_of other l ≡ allowed l) →

@@ -21,12 +21,13 @@ use Rattle.wordset.proofs.Tests.{true_false}
 use Rattle.domain.proofs.Sums.AddingLemmas.{adding_keeps}
 use Rattle.domain.proofs.NameLemmas.{has_cell_words}
 use Rattle.domain.proofs.TrackingLemmas.{tracked_words}
+use Rattle.domain.proofs.PartLemmas.{added_both}
 
 term_keeps : (f : Fact) (set : Words) (t : Term) → f.relations ≡ (with_term_in t set f).relations
 term_keeps f set (Holding n) = refl
 term_keeps f set (Behind x k) = refl
 
--- A sum of one term adds no relation.
+-- A sum of one term adds lacks relation.
 pub short_adds_none : (f : Fact) (set : Words) (xs : Sum) → length xs < 2 → f.relations ≡ (with_shape_in OfSums xs set f).relations
 short_adds_none f set [] lt = refl
 short_adds_none f set (x ∷ []) lt = term_keeps f set x.term
@@ -40,28 +41,22 @@ longer_adds f set (x ∷ y ∷ ys) lt = refl
 
 -- ---- relations of which all names are outside the written set, one by one
 
-passed_over : (w : Words) (r : Relation) (rs : List Relation) → speaks_of (λ n. not (is_outside w n)) r.sum ≡ true → outside w (r ∷ rs) ≡ outside w rs
-passed_over w r rs e = rw e refl
+one_apart : (w : Words) (r : Relation) (rs : List Relation) → outside w (r ∷ rs) ≡ outside w (r ∷ []) ++ outside w rs
+one_apart w r rs = elim (cases_Bool (speaks_of (λ n. not (is_outside w n)) r.sum)) [ inl e ↦ rw e refl | inr e ↦ rw e refl ]
 
-taken_too : (w : Words) (r : Relation) (rs : List Relation) → speaks_of (λ n. not (is_outside w n)) r.sum ≡ false → outside w (r ∷ rs) ≡ r ∷ outside w rs
-taken_too w r rs e = rw e refl
+pub passed_over : (w : Words) (r : Relation) (f : Fact) → speaks_of (λ n. not (is_outside w n)) r.sum ≡ true → f.relations ≡ (adding_all OfSums (outside w (r ∷ [])) f).relations
+passed_over w r f e = rw e refl
 
--- One that speaks of a written name adds nothing.
-pub outside_passed : {A : Type 0} (g : A → Relation) (w : Words) (xs : List A) (i : ℕ) (x : A) (h all : Fact) → i < length xs → x ≡ get_or xs i x →
-    speaks_of (λ n. not (is_outside w n)) (g x).sum ≡ true → adding_all OfSums (outside w (map g (drop i xs))) h ≡ all → adding_all OfSums (outside w (map g (drop (i + 1) xs))) h ≡ all
-outside_passed g w xs i x h all lt is speaks before =
-    let here : outside w (map g (drop i xs)) ≡ outside w (map g (drop (i + 1) xs)) =
-    at_drop_more (λ os. outside w (map g os)) xs i x lt ∙ ap (λ y. outside w (g y ∷ map g (drop (i + 1) xs))) (sym is) ∙ passed_over w (g x) (map g (drop (i + 1) xs)) speaks in
-    ap (λ (rs : List Relation). adding_all OfSums rs h) (sym here) ∙ before
+pub taken_too : (w : Words) (r : Relation) (f : Fact) → speaks_of (λ n. not (is_outside w n)) r.sum ≡ false → (adding OfSums r f).relations ≡ (adding_all OfSums (outside w (r ∷ [])) f).relations
+taken_too w r f e = rw e refl
 
--- One that doesn't is added.
-pub outside_taken : {A : Type 0} (g : A → Relation) (w : Words) (xs : List A) (i : ℕ) (x : A) (h all : Fact) → i < length xs → x ≡ get_or xs i x →
-    speaks_of (λ n. not (is_outside w n)) (g x).sum ≡ false → adding_all OfSums (outside w (map g (drop i xs))) h ≡ all →
-    adding_all OfSums (outside w (map g (drop (i + 1) xs))) (adding OfSums (g x) h) ≡ all
-outside_taken g w xs i x h all lt is speaks before =
-    let here : outside w (map g (drop i xs)) ≡ g x ∷ outside w (map g (drop (i + 1) xs)) =
-    at_drop_more (λ os. outside w (map g os)) xs i x lt ∙ ap (λ y. outside w (g y ∷ map g (drop (i + 1) xs))) (sym is) ∙ taken_too w (g x) (map g (drop (i + 1) xs)) speaks in
-    ap (λ (rs : List Relation). adding_all OfSums rs h) (sym here) ∙ before
+-- One more is gone through.
+pub outside_on : {A : Type 0} (g : A → Relation) (w : Words) (xs : List A) (i : ℕ) (x : A) (h all : Fact) → i < length xs → x ≡ get_or xs i x →
+    adding_all OfSums (outside w (map g (drop i xs))) h ≡ all → adding_all OfSums (outside w (map g (drop (i + 1) xs))) (adding_all OfSums (outside w (g x ∷ [])) h) ≡ all
+outside_on g w xs i x h all lt is before =
+    let here : outside w (map g (drop i xs)) ≡ outside w (g x ∷ []) ++ outside w (map g (drop (i + 1) xs)) =
+    at_drop_more (λ os. outside w (map g os)) xs i x lt ∙ ap (λ y. outside w (g y ∷ map g (drop (i + 1) xs))) (sym is) ∙ one_apart w (g x) (map g (drop (i + 1) xs)) in
+    sym (added_both (outside w (g x ∷ [])) (outside w (map g (drop (i + 1) xs))) h) ∙ ap (λ (rs : List Relation). adding_all OfSums rs h) (sym here) ∙ before
 
 -- None is left.
 pub outside_end : {A : Type 0} (g : A → Relation) (w : Words) (xs : List A) (i : ℕ) (h all : Fact) → length xs ≤ i →
@@ -97,32 +92,32 @@ apart w x a p e f = elim (cases_Bool (x == a)) [
 
 -- A cell outside the set keeps its words, and of one of the set nothing is told.
 outside_words : (w : Words) (a : ℕ) (cells : List TrackedCell) (v : ℕ) → w a ≡ false → tracked a (cells_outside w cells) v ≡ tracked a cells v
-outside_words w a [] v no = refl
-outside_words w a (c ∷ cs) v no = elim (cases_Bool (w c.address)) [
-  | inl e ↦ (let other : (c.address == a) ≡ false = apart w c.address a true e no in rw (e, other) (outside_words w a cs v no))
-  | inr e ↦ rw e (ap (λ b. (if c.address == a then c.set v else true) && b) (outside_words w a cs v no))
+outside_words w a [] v lacks = refl
+outside_words w a (c ∷ cs) v lacks = elim (cases_Bool (w c.address)) [
+  | inl e ↦ (let other : (c.address == a) ≡ false = apart w c.address a true e lacks in rw (e, other) (outside_words w a cs v lacks))
+  | inr e ↦ rw e (ap (λ b. (if c.address == a then c.set v else true) && b) (outside_words w a cs v lacks))
 ]
 
 none_outside : (w : Words) (a : ℕ) (cells : List TrackedCell) (v : ℕ) → w a ≡ true → tracked a (cells_outside w cells) v ≡ all_words v
-none_outside w a [] v yes = refl
-none_outside w a (c ∷ cs) v yes = elim (cases_Bool (w c.address)) [
-  | inl e ↦ rw e (none_outside w a cs v yes)
-  | inr e ↦ (let other : (c.address == a) ≡ false = apart w c.address a false e yes in rw (e, other) (none_outside w a cs v yes))
+none_outside w a [] v has = refl
+none_outside w a (c ∷ cs) v has = elim (cases_Bool (w c.address)) [
+  | inl e ↦ rw e (none_outside w a cs v has)
+  | inr e ↦ (let other : (c.address == a) ≡ false = apart w c.address a false e has in rw (e, other) (none_outside w a cs v has))
 ]
 
 -- A cell of the set keeps its words, and of one outside it nothing is told.
 within_words : (w : Words) (a : ℕ) (cells : List TrackedCell) (v : ℕ) → w a ≡ true → tracked a (cells_within w cells) v ≡ tracked a cells v
-within_words w a [] v yes = refl
-within_words w a (c ∷ cs) v yes = elim (cases_Bool (w c.address)) [
-  | inl e ↦ rw e (ap (λ b. (if c.address == a then c.set v else true) && b) (within_words w a cs v yes))
-  | inr e ↦ (let other : (c.address == a) ≡ false = apart w c.address a false e yes in rw (e, other) (within_words w a cs v yes))
+within_words w a [] v has = refl
+within_words w a (c ∷ cs) v has = elim (cases_Bool (w c.address)) [
+  | inl e ↦ rw e (ap (λ b. (if c.address == a then c.set v else true) && b) (within_words w a cs v has))
+  | inr e ↦ (let other : (c.address == a) ≡ false = apart w c.address a false e has in rw (e, other) (within_words w a cs v has))
 ]
 
 none_within : (w : Words) (a : ℕ) (cells : List TrackedCell) (v : ℕ) → w a ≡ false → tracked a (cells_within w cells) v ≡ all_words v
-none_within w a [] v no = refl
-none_within w a (c ∷ cs) v no = elim (cases_Bool (w c.address)) [
-  | inl e ↦ (let other : (c.address == a) ≡ false = apart w c.address a true e no in rw (e, other) (none_within w a cs v no))
-  | inr e ↦ rw e (none_within w a cs v no)
+none_within w a [] v lacks = refl
+none_within w a (c ∷ cs) v lacks = elim (cases_Bool (w c.address)) [
+  | inl e ↦ (let other : (c.address == a) ≡ false = apart w c.address a true e lacks in rw (e, other) (none_within w a cs v lacks))
+  | inr e ↦ rw e (none_within w a cs v lacks)
 ]
 
 -- ---- the sets after a call

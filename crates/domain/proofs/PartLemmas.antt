@@ -13,7 +13,7 @@ use Rattle.wordset.proofs.SetLemmas.{words_past, all_past}
 use Rattle.domain.specs.Facts.{Location, Ac, Cell}
 use Rattle.domain.specs.Statements.{TrackedCell, tracked}
 use Rattle.processor.specs.Runs.{Image}
-use Rattle.domain.specs.Sums.Terms.{Sum, Holding, sum_of_name}
+use Rattle.domain.specs.Sums.Terms.{Sum, Holding, sum_of_name, difference_of}
 use Rattle.domain.specs.Sums.Shapes.{Spelled, spelled}
 use Rattle.domain.specs.Sums.Knowing.{said_of}
 use Rattle.domain.specs.Sums.Narrowing.{of_term, of_part, parts_of}
@@ -130,3 +130,8 @@ known_sum sum s t f same = go (spelled sum)
     go : (o : Option Spelled) → with_spelled_in OfSums o s f ≡ with_spelled_in OfSums o t f
     go None = refl
     go (Some p) = ap (λ (x : Words). with_shape_in OfSums p.sum x f) (times_known p.sign s t same)
+
+-- What is told of the accumulator less a cell is a relation.
+pub difference_told : (a : ℕ) (set : Words) (f : Fact) →
+    record f { relations = (adding OfSums (record { sum = difference_of Ac (Cell a); set = set }) f).relations } ≡ adding OfSums (record { sum = difference_of Ac (Cell a); set = set }) f
+difference_told a set f = refl

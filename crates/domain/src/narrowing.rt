@@ -135,14 +135,20 @@ fn add_all_given(
     }
 }
 
+/// Whether both are so.
+fn are_both(one: bool, other: bool) -> bool
+    ensures { result ≡ (one && other) }
+{
+    one && other
+}
+
 /// The links that two sets of links have in common.
 fn met_links(one: Links, other: Links) -> Links
     ensures { (l : ℕ) → links_of result l ≡ (links_of one l && links_of other l) }
 {
-    Links {
-        clear: one.clear && other.clear,
-        set: one.set && other.set,
-    }
+    let clear = are_both(one.clear, other.clear);
+    let set = are_both(one.set, other.set);
+    Links { clear, set }
 }
 
 /// Copies chains.
@@ -336,9 +342,8 @@ impl<const C: usize, const R: usize> SumFact<C, R> {
         let found = fact.words_of_chain(chain);
         let cell = Location::Cell(chain.cell());
         self.meet_name(&cell, &found.cells);
-        self.meet_name(&Location::Accumulator, &found.accumulators);
-        self.add(
-            &Rules::OfSums,
+        self.meet_accumulator(&found.accumulators);
+        self.relations.add_longer(
             &Sum::difference(Location::Accumulator, cell),
             &found.differences,
         );

@@ -352,7 +352,7 @@ impl<const CAP: usize> Relations<CAP> {
     }
 
     /// Adds what a relation of two or more terms says, and nothing of one that says something of one name alone.
-    fn add_longer(&mut self, sum: &Sum, set: &WordSet)
+    pub fn add_longer(&mut self, sum: &Sum, set: &WordSet)
         requires { length (relations_of self.old) < CAP }
         ensures relations { (f : facts.Fact) → relations_of self.old ≡ f.relations → relations_of self.new ≡
             (adding OfSums (record { sum = sum_of sum.now; set = words set.now }) f).relations }
@@ -376,6 +376,19 @@ impl<const CAP: usize> Relations<CAP> {
         self.add_longer(&relation.sum, &set);
     }
 
+    /// Adds what a relation says that speaks of no name that a call may change.
+    fn add_if_outside(&mut self, relation: &Relation, written: &WordSet)
+        requires { length (relations_of self.old) < CAP }
+        ensures relations { (f : facts.Fact) → relations_of self.old ≡ f.relations → relations_of self.new ≡
+            (adding_all OfSums (outside (words written.now) (relation_of relation.now ∷ [])) f).relations }
+        ensures few { length (relations_of self.new) ≤ length (relations_of self.old) + 1 }
+    {
+        if relation.sum.speaks_of(&Names::Changing(written)) {
+            return;
+        }
+        self.add_copy(relation);
+    }
+
     /// Adds what those of some relations say that speak of no name that a call may change.
     pub fn add_outside(&mut self, others: &[Relation], written: &WordSet)
         requires { length (relations_of self.old) + length others.now ≤ CAP }
@@ -383,9 +396,7 @@ impl<const CAP: usize> Relations<CAP> {
             (adding_all OfSums (outside (words written.now) (map relation_of others.now)) f).relations }
     {
         for relation in others {
-            if !relation.sum.speaks_of(&Names::Changing(written)) {
-                self.add_copy(relation);
-            }
+            self.add_if_outside(relation, written);
         }
     }
 

@@ -1,40 +1,25 @@
-use Rattle.std.proofs.Common.{◌≡◌, ◌<◌, ◌≤◌, ◌+◌, length, map, refl, ◌∙◌, ap, sym, arith}
+use Rattle.std.proofs.Common.{◌≡◌, ◌<◌, ◌≤◌, ◌+◌, [], ◌∷◌, length, map, refl, ◌∙◌, ap, sym, arith}
 use Rattle.wordset.specs.Lanes.{words}
 use Rattle.domain.specs.Sums.Facts.{Fact, OfSums}
-use Rattle.domain.specs.Sums.Adding.{adding, adding_all}
+use Rattle.domain.specs.Sums.Adding.{adding_all}
 use Rattle.domain.specs.Sums.Moves.{outside}
-use Rattle.domain.specs.Sums.InCode.{sum_of}
 use Rattle.domain.specs.Sums.RelationsInCode.{relation_of, relations_of}
-use Rattle.domain.proofs.JoinedLemmas.{outside_passed, outside_taken, outside_end}
+use Rattle.domain.proofs.JoinedLemmas.{outside_on, outside_end}
 use Rattle.domain.proofs.relations.Relations.add_outside.Goals as goal
 
 pub loop-relation-init : goal.loop-relation-init
 loop-relation-init g c = (λ f h. (f, h, refl), omega arith)
 
-pub loop-relation-preserved-then-not-speaks_of : goal.loop-relation-preserved-then-not-speaks_of
-loop-relation-preserved-then-not-speaks_of g c = (
-  (λ f h.
-    let before = c.loop-relation.invariant.0 f h in (
-      adding OfSums (relation_of c.relation-item.result) before.0,
-      c.add_copy.ensures.relations before.0 before.1,
-      outside_taken relation_of (words c.args.written.now) c.args.others.now c.loop-relation.relation-index c.relation-item.result before.0
-          (adding_all OfSums (outside (words c.args.written.now) (map relation_of c.args.others.now)) f) c.loop-relation-test.true c.relation-item.is
-          (sym c.speaks_of.ensures ∙ c.if-not-speaks_of.true) before.2,
-    )),
-  omega (arith, c.add_copy.ensures.few, c.loop-relation.invariant.1),
-)
-
 pub loop-relation-preserved : goal.loop-relation-preserved
 loop-relation-preserved g c = (
   (λ f h.
     let before = c.loop-relation.invariant.0 f h in (
-      before.0,
-      before.1,
-      outside_passed relation_of (words c.args.written.now) c.args.others.now c.loop-relation.relation-index c.relation-item.result before.0
-          (adding_all OfSums (outside (words c.args.written.now) (map relation_of c.args.others.now)) f) c.loop-relation-test.true c.relation-item.is
-          (sym c.speaks_of.ensures ∙ c.if-not-speaks_of.false) before.2,
+      adding_all OfSums (outside (words c.args.written.now) (relation_of c.relation-item.result ∷ [])) before.0,
+      c.add_if_outside.ensures.relations before.0 before.1,
+      outside_on relation_of (words c.args.written.now) c.args.others.now c.loop-relation.relation-index c.relation-item.result before.0
+          (adding_all OfSums (outside (words c.args.written.now) (map relation_of c.args.others.now)) f) c.loop-relation-test.true c.relation-item.is before.2,
     )),
-  omega (arith, c.loop-relation.invariant.1),
+  omega (arith, c.add_if_outside.ensures.few, c.loop-relation.invariant.1),
 )
 
 pub returns : goal.returns

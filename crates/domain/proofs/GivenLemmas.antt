@@ -104,33 +104,32 @@ gives_pair ac links c k v m a begins e = fun_ext (λ w. fun_ext (λ l.
 pair_accumulators : (ac links : Words) (m a w : ℕ) → a < 2 → ac m ≡ true → links a ≡ true → (w == m) ≡ some_below 2 (λ l. is_allowed_pair ac links m a w l)
 pair_accumulators ac links m a w small has one = both_ways (w == m) (some_below 2 (λ l. is_allowed_pair ac links m a w l))
     (λ e. let same : w ≡ m = eqb-true w m e in some_from 2 (λ l. is_allowed_pair ac links m a w l) a small
-        (and_both (ac w) (links a && ((m == w) && (a == a))) (ap ac same ∙ has)
-        (and_both (links a) ((m == w) && (a == a)) one (and_both (m == w) (a == a) (eq-eqb m w (sym same)) (eq-eqb a a refl)))))
+    (and_both (ac w) (links a && ((m == w) && (a == a))) (ap ac same ∙ has)
+    (and_both (links a) ((m == w) && (a == a)) one (and_both (m == w) (a == a) (eq-eqb m w (sym same)) (eq-eqb a a refl)))))
     (λ e. let s : IsSome 2 (λ l. is_allowed_pair ac links m a w l) = some_to 2 (λ l. is_allowed_pair ac links m a w l) e in
-        let rest : (links s.at && ((m == w) && (a == s.at))) ≡ true = and_second (ac w) (links s.at && ((m == w) && (a == s.at))) s.holds in
-        let both : ((m == w) && (a == s.at)) ≡ true = and_second (links s.at) ((m == w) && (a == s.at)) rest in
-        eq-eqb w m (sym (eqb-true m w (and_first (m == w) (a == s.at) both))))
+    let rest : (links s.at && ((m == w) && (a == s.at))) ≡ true = and_second (ac w) (links s.at && ((m == w) && (a == s.at))) s.holds in
+    let both : ((m == w) && (a == s.at)) ≡ true = and_second (links s.at) ((m == w) && (a == s.at)) rest in
+    eq-eqb w m (sym (eqb-true m w (and_first (m == w) (a == s.at) both))))
 
 pair_links : (ac links : Words) (m a l : ℕ) → m < 4096 → ac m ≡ true → links a ≡ true → (l == a) ≡ some_below 4096 (λ w. is_allowed_pair ac links m a w l)
 pair_links ac links m a l small has one = both_ways (l == a) (some_below 4096 (λ w. is_allowed_pair ac links m a w l))
     (λ e. let same : l ≡ a = eqb-true l a e in some_from 4096 (λ w. is_allowed_pair ac links m a w l) m small
-        (and_both (ac m) (links l && ((m == m) && (a == l))) has
-        (and_both (links l) ((m == m) && (a == l)) (ap links same ∙ one) (and_both (m == m) (a == l) (eq-eqb m m refl) (eq-eqb a l (sym same))))))
+    (and_both (ac m) (links l && ((m == m) && (a == l))) has
+    (and_both (links l) ((m == m) && (a == l)) (ap links same ∙ one) (and_both (m == m) (a == l) (eq-eqb m m refl) (eq-eqb a l (sym same))))))
     (λ e. let s : IsSome 4096 (λ w. is_allowed_pair ac links m a w l) = some_to 4096 (λ w. is_allowed_pair ac links m a w l) e in
-        let rest : (links l && ((m == s.at) && (a == l))) ≡ true = and_second (ac s.at) (links l && ((m == s.at) && (a == l))) s.holds in
-        let both : ((m == s.at) && (a == l)) ≡ true = and_second (links l) ((m == s.at) && (a == l)) rest in
-        eq-eqb l a (sym (eqb-true a l (and_second (m == s.at) (a == l) both))))
-
+    let rest : (links l && ((m == s.at) && (a == l))) ≡ true = and_second (ac s.at) (links l && ((m == s.at) && (a == l))) s.holds in
+    let both : ((m == s.at) && (a == l)) ≡ true = and_second (links l) ((m == s.at) && (a == l)) rest in
+    eq-eqb l a (sym (eqb-true a l (and_second (m == s.at) (a == l) both))))
 
 pair_difference : (x m d : ℕ) → x < 4096 → m < 4096 → (d == (m + (0 + (4096 - x % 4096)) % 4096) % 4096) ≡ (all_words d && (plus x d == m))
 pair_difference x m d sx sm = both_ways (d == (m + (0 + (4096 - x % 4096)) % 4096) % 4096) (all_words d && (plus x d == m))
     (λ e. let is : d ≡ (m + (0 + (4096 - x % 4096)) % 4096) % 4096 = eqb-true d ((m + (0 + (4096 - x % 4096)) % 4096) % 4096) e in
-        let below : d < 4096 = omega (arith, is) in
-        let sum : (x + d) % 4096 ≡ m = omega (arith, is, sx, sm) in
-        and_both (all_words d) (plus x d == m) (lt_to d below) (eq-eqb (plus x d) m sum))
+    let below : d < 4096 = omega (arith, is) in
+    let sum : (x + d) % 4096 ≡ m = omega (arith, is, sx, sm) in
+    and_both (all_words d) (plus x d == m) (lt_to d below) (eq-eqb (plus x d) m sum))
     (λ e. let below : d < 4096 = elim (cases_lt d 4096) [ inl lt ↦ lt | inr past ↦ absurd (true_false (sym (and_first (all_words d) (plus x d == m) e) ∙ all_past d past)) ] in
-        let sum : (x + d) % 4096 ≡ m = eqb-true (plus x d) m (and_second (all_words d) (plus x d == m) e) in
-        eq-eqb d ((m + (0 + (4096 - x % 4096)) % 4096) % 4096) (omega (arith, below, sum, sx, sm)))
+    let sum : (x + d) % 4096 ≡ m = eqb-true (plus x d) m (and_second (all_words d) (plus x d == m) e) in
+    eq-eqb d ((m + (0 + (4096 - x % 4096)) % 4096) % 4096) (omega (arith, below, sum, sx, sm)))
 
 link_yes : (l a : ℕ) → a < 2 → (l == a) ≡ (all_links l && (l == a))
 link_yes l a small = both_ways (l == a) (all_links l && (l == a))
@@ -147,7 +146,7 @@ pub adds_pair : (ac links : Words) (x m a : ℕ) (old new : ChainWords) → x < 
     AddsGiven (is_allowed_pair ac links m a) x old new
 adds_pair ac links x m a old new sx sm sa has one ec ew ed el =
     let there : some_below 4096 (λ w. some_below 2 (λ l. is_allowed_pair ac links m a w l)) ≡ true =
-        some_from 4096 (λ w. some_below 2 (λ l. is_allowed_pair ac links m a w l)) m sm (sym (pair_accumulators ac links m a m sa has one) ∙ eq-eqb m m refl) in
+    some_from 4096 (λ w. some_below 2 (λ l. is_allowed_pair ac links m a w l)) m sm (sym (pair_accumulators ac links m a m sa has one) ∙ eq-eqb m m refl) in
     record {
       cells = λ v. ap (λ (s : Words). s v) ec ∙ or_sure (words old.cells v) (v == x) (cells_given (is_allowed_pair ac links m a) x v) (and_sure (v == x) there);
       accumulators = λ w. ap (λ (s : Words). s w) ew ∙ or_sure (words old.accumulators w) (w == m) (accumulators_given (is_allowed_pair ac links m a) x w) (pair_accumulators ac links m a w sa has one);
@@ -171,11 +170,11 @@ guarded false q r s e = refl
 pub adds_both : (g h j : ℕ → ℕ → Bool) (x : ℕ) (old mid new : ChainWords) → ((w l : ℕ) → (g w l || h w l) ≡ j w l) → AddsGiven g x old mid → AddsGiven h x mid new → AddsGiven j x old new
 adds_both g h j x old mid new each first second =
     let of_links : (w : ℕ) → (some_below 2 (λ l. g w l) || some_below 2 (λ l. h w l)) ≡ some_below 2 (λ l. j w l) =
-        λ w. some_or 2 (λ l. g w l) (λ l. h w l) ∙ some_same 2 (λ l. g w l || h w l) (λ l. j w l) (λ l. each w l) in
+    λ w. some_or 2 (λ l. g w l) (λ l. h w l) ∙ some_same 2 (λ l. g w l || h w l) (λ l. j w l) (λ l. each w l) in
     let of_words : (l : ℕ) → (some_below 4096 (λ w. g w l) || some_below 4096 (λ w. h w l)) ≡ some_below 4096 (λ w. j w l) =
-        λ l. some_or 4096 (λ w. g w l) (λ w. h w l) ∙ some_same 4096 (λ w. g w l || h w l) (λ w. j w l) (λ w. each w l) in
+    λ l. some_or 4096 (λ w. g w l) (λ w. h w l) ∙ some_same 4096 (λ w. g w l || h w l) (λ w. j w l) (λ w. each w l) in
     let of_all : (some_below 4096 (λ w. some_below 2 (λ l. g w l)) || some_below 4096 (λ w. some_below 2 (λ l. h w l))) ≡ some_below 4096 (λ w. some_below 2 (λ l. j w l)) =
-        some_or 4096 (λ w. some_below 2 (λ l. g w l)) (λ w. some_below 2 (λ l. h w l)) ∙ some_same 4096 (λ w. some_below 2 (λ l. g w l) || some_below 2 (λ l. h w l)) (λ w. some_below 2 (λ l. j w l)) of_links in
+    some_or 4096 (λ w. some_below 2 (λ l. g w l)) (λ w. some_below 2 (λ l. h w l)) ∙ some_same 4096 (λ w. some_below 2 (λ l. g w l) || some_below 2 (λ l. h w l)) (λ w. some_below 2 (λ l. j w l)) of_links in
     record {
       cells = λ v. together (words old.cells v) (cells_given g x v) (cells_given h x v) (first.cells v) (second.cells v)
           (guarded (v == x) (some_below 4096 (λ w. some_below 2 (λ l. g w l))) (some_below 4096 (λ w. some_below 2 (λ l. h w l))) (some_below 4096 (λ w. some_below 2 (λ l. j w l))) of_all);
@@ -204,11 +203,11 @@ from_either ac links c v w l =
 one_of_set : (set t : ℕ → Bool) (v : ℕ) → v < 4096 → some_below 4096 (λ x. set x && ((v == x) && t x)) ≡ (set v && t v)
 one_of_set set t v small = both_ways (some_below 4096 (λ x. set x && ((v == x) && t x))) (set v && t v)
     (λ e. let s : IsSome 4096 (λ x. set x && ((v == x) && t x)) = some_to 4096 (λ x. set x && ((v == x) && t x)) e in
-        let rest : ((v == s.at) && t s.at) ≡ true = and_second (set s.at) ((v == s.at) && t s.at) s.holds in
-        let same : v ≡ s.at = eqb-true v s.at (and_first (v == s.at) (t s.at) rest) in
-        and_both (set v) (t v) (ap set same ∙ and_first (set s.at) ((v == s.at) && t s.at) s.holds) (ap t same ∙ and_second (v == s.at) (t s.at) rest))
+    let rest : ((v == s.at) && t s.at) ≡ true = and_second (set s.at) ((v == s.at) && t s.at) s.holds in
+    let same : v ≡ s.at = eqb-true v s.at (and_first (v == s.at) (t s.at) rest) in
+    and_both (set v) (t v) (ap set same ∙ and_first (set s.at) ((v == s.at) && t s.at) s.holds) (ap t same ∙ and_second (v == s.at) (t s.at) rest))
     (λ e. some_from 4096 (λ x. set x && ((v == x) && t x)) v small
-        (and_both (set v) ((v == v) && t v) (and_first (set v) (t v) e) (and_both (v == v) (t v) (eq-eqb v v refl) (and_second (set v) (t v) e))))
+    (and_both (set v) ((v == v) && t v) (and_first (set v) (t v) e) (and_both (v == v) (t v) (eq-eqb v v refl) (and_second (set v) (t v) e))))
 
 from_nothing : (s : Words) (old : Words) (v : ℕ) (b : Bool) → old ≡ nothing → s v ≡ (old v || b) → s v ≡ b
 from_nothing s old v b none e = e ∙ ap (λ (o : Words). o v || b) none
@@ -280,7 +279,7 @@ pub links_on : {A : Type 0} (f : A → Chain) (p : Chain → Bool) (xs : List A)
     (now && list_all p (map f (drop i xs))) ≡ all → (more && list_all p (map f (drop (i + 1) xs))) ≡ all
 links_on f p xs i x now more all lt is e before =
     let here : list_all p (map f (drop i xs)) ≡ (p (f x) && list_all p (map f (drop (i + 1) xs))) =
-        at_drop_more (λ os. list_all p (map f os)) xs i x lt ∙ ap (λ y. p (f y) && list_all p (map f (drop (i + 1) xs))) (sym is) in
+    at_drop_more (λ os. list_all p (map f os)) xs i x lt ∙ ap (λ y. p (f y) && list_all p (map f (drop (i + 1) xs))) (sym is) in
     ap (λ b. b && list_all p (map f (drop (i + 1) xs))) e ∙ three now (p (f x)) (list_all p (map f (drop (i + 1) xs))) ∙ ap (λ b. now && b) (sym here) ∙ before
   where
     three : (p q r : Bool) → ((p && q) && r) ≡ (p && (q && r))

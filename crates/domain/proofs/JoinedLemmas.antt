@@ -27,7 +27,7 @@ term_keeps : (f : Fact) (set : Words) (t : Term) → f.relations ≡ (with_term_
 term_keeps f set (Holding n) = refl
 term_keeps f set (Behind x k) = refl
 
--- A sum of one term adds lacks relation.
+-- A sum of one term adds no relation.
 pub short_adds_none : (f : Fact) (set : Words) (xs : Sum) → length xs < 2 → f.relations ≡ (with_shape_in OfSums xs set f).relations
 short_adds_none f set [] lt = refl
 short_adds_none f set (x ∷ []) lt = term_keeps f set x.term

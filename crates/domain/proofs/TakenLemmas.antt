@@ -1,18 +1,19 @@
 -- Cells of which one changes, unknown which.
 use Rattle.std.proofs.Common.{◌≡◌, ℕ, suc, ◌<◌, ◌≤◌, ◌==◌, Bool, true, false, ◌&&◌, ◌||◌, List, [], ◌∷◌, length, map, refl, sym, ap, ◌∙◌, inl, inr, arith}
-use Rattle.std.specs.Prelude.{if◌then◌else◌, nat_lt, flat_map, Option, Some}
+use Rattle.std.specs.Prelude.{if◌then◌else◌, not, nat_lt, flat_map, Option, Some}
 use Rattle.std.proofs.Math.Path.{fun_ext}
 use Rattle.std.proofs.lemmas.Bool.{cases_Bool, cases_lt, eqb-true}
 use Rattle.wordset.specs.Words.{Words, all_words, union, one, only}
 use Rattle.wordset.proofs.SetLemmas.{all_past, words_past}
 use Rattle.wordset.proofs.Tests.{or_right}
-use Rattle.domain.specs.Facts.{Location, Ac, Cell, has_cell}
+use Rattle.domain.specs.Facts.{Location, Ac, Cell, same, has_cell, is_outside}
 use Rattle.domain.specs.Statements.{TrackedCell, tracked}
-use Rattle.domain.specs.Sums.Moves.{weakly_updated_sets, moved_relation, moved_relations}
+use Rattle.domain.specs.Sums.Moves.{weakly_updated_sets, moved_relation, moved_relations, cells_of, free_of}
 use Rattle.domain.specs.Sums.Taken.{changed, changed_among}
 use Rattle.domain.specs.declared.taking.Change.{Change}
 use Rattle.domain.specs.declared.taking.Change.TheVariants.{CountsUp, Takes}
 use Rattle.domain.specs.Sums.FactInCode.{names_words}
+use Rattle.domain.specs.Sums.Terms.{Sum, name_of_term, speaks_of}
 use Rattle.domain.specs.Sums.Facts.{Relation}
 use Rattle.domain.proofs.PartLemmas.{tracked_past}
 use Rattle.domain.proofs.BriefLemmas.{only_of_one}
@@ -44,6 +45,7 @@ has_entry a (c ∷ cs) = (c.address == a) || has_entry a cs
 
 given_words : (a : ℕ) (among : Words) (new : Words → Words) (all cells : List TrackedCell) (v : ℕ) → has_cell among a ≡ true →
     tracked a (map (changed_among among new all) cells) v ≡ ((if has_entry a cells then union (tracked a all) (new (tracked a all)) v else true) && all_words v)
+unfolding has_entry
 given_words a among new all [] v has = refl
 given_words a among new all (c ∷ cs) v has = elim (cases_Bool (c.address == a)) [
   | inl e ↦ (let is : c.address ≡ a = eqb-true c.address a e in
@@ -117,3 +119,39 @@ all_moved cell by rs small = ap (λ (o : Option ℕ). length (flat_map (moved_re
     go : (rs : List Relation) → length (flat_map (moved_relation cell (one by) (Some by)) rs) ≡ length rs
     go [] = refl
     go (r ∷ rs) = ap suc (go rs)
+
+-- ---- what goes with the accumulator and the cells of a set
+
+changing_names : (w : Words) (n : Location) → not (is_outside w n) ≡ (cells_of w n || same n Ac)
+changing_names w Ac = refl
+changing_names w (Cell a) = go (has_cell w a)
+  where
+    go : (b : Bool) → not (not b) ≡ (b || false)
+    go true = refl
+    go false = refl
+
+speaks_changing : (w : Words) (sum : Sum) → speaks_of (λ n. not (is_outside w n)) sum ≡ (speaks_of (cells_of w) sum || speaks_of (λ m. same m Ac) sum)
+speaks_changing w [] = refl
+speaks_changing w (x ∷ xs) =
+    ap (λ b. b || speaks_of (λ n. not (is_outside w n)) xs) (changing_names w (name_of_term x.term))
+    ∙ ap (λ b. (cells_of w (name_of_term x.term) || same (name_of_term x.term) Ac) || b) (speaks_changing w xs)
+    ∙ across (cells_of w (name_of_term x.term)) (same (name_of_term x.term) Ac) (speaks_of (cells_of w) xs) (speaks_of (λ m. same m Ac) xs)
+  where
+    across : (p q r s : Bool) → ((p || q) || (r || s)) ≡ ((p || r) || (q || s))
+    across true q r s = refl
+    across false true true s = refl
+    across false true false s = refl
+    across false false true s = refl
+    across false false false s = refl
+
+-- The relations that speak of neither, one after the other.
+pub free_of_both : (w : Words) (rs : List Relation) → free_of (λ n. not (is_outside w n)) rs ≡ free_of (λ m. same m Ac) (free_of (cells_of w) rs)
+free_of_both w [] = refl
+free_of_both w (r ∷ rs) = elim (cases_Bool (speaks_of (cells_of w) r.sum)) [
+  | inl e ↦ (let all : speaks_of (λ n. not (is_outside w n)) r.sum ≡ true = speaks_changing w r.sum ∙ ap (λ b. b || speaks_of (λ m. same m Ac) r.sum) e in rw (e, all) (free_of_both w rs))
+  | inr e ↦ (let some : speaks_of (λ n. not (is_outside w n)) r.sum ≡ speaks_of (λ m. same m Ac) r.sum = speaks_changing w r.sum ∙ ap (λ b. b || speaks_of (λ m. same m Ac) r.sum) e in
+      elim (cases_Bool (speaks_of (λ m. same m Ac) r.sum)) [
+        | inl f ↦ (let all : speaks_of (λ n. not (is_outside w n)) r.sum ≡ true = some ∙ f in rw (e, all, f) (free_of_both w rs))
+        | inr f ↦ (let none : speaks_of (λ n. not (is_outside w n)) r.sum ≡ false = some ∙ f in rw (e, none, f) (ap (λ (xs : List Relation). r ∷ xs) (free_of_both w rs)))
+      ])
+]

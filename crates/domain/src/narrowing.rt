@@ -61,14 +61,7 @@ impl ChainWords {
 }
 
 /// Adds an accumulator and a link that a chain gives of a word of its cell, where a fact allows both of them.
-fn add_pair(
-    word: Word,
-    made: Word,
-    after: Link,
-    ac: &WordSet,
-    links: Links,
-    found: &mut ChainWords,
-)
+fn add_pair(word: Word, made: Word, after: Link, ac: &WordSet, links: Links, found: &mut ChainWords)
     ensures { AddsGiven (is_allowed_pair (words ac.now) (links_of links) made after) word found.old found.new }
 {
     // The proof needs the words to be words.
@@ -106,13 +99,7 @@ fn add_given_from(
 }
 
 /// Adds what a chain gives of one word of its cell, where a fact allows it.
-fn add_given(
-    chain: &Chain,
-    word: Word,
-    ac: &WordSet,
-    links: Links,
-    found: &mut ChainWords,
-)
+fn add_given(chain: &Chain, word: Word, ac: &WordSet, links: Links, found: &mut ChainWords)
     ensures { AddsGiven (gives_allowed (words ac.now) (links_of links) (chain_of chain.now) word) word found.old found.new }
 {
     add_given_from(chain, word, Link::CLEAR, ac, links, found);
@@ -120,13 +107,7 @@ fn add_given(
 }
 
 /// Adds what a chain gives of the words of a set, where a fact allows it.
-fn add_all_given(
-    chain: &Chain,
-    set: &WordSet,
-    ac: &WordSet,
-    links: Links,
-    found: &mut ChainWords,
-)
+fn add_all_given(chain: &Chain, set: &WordSet, ac: &WordSet, links: Links, found: &mut ChainWords)
     ensures { AddsAllGiven (gives_allowed (words ac.now) (links_of links) (chain_of chain.now)) (words set.now)
         found.old found.new }
 {

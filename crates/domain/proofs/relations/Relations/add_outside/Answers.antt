@@ -13,12 +13,12 @@ loop-relation-init g c = (λ f h. (f, h, refl), omega arith)
 pub loop-relation-preserved : goal.loop-relation-preserved
 loop-relation-preserved g c = (
   (λ f h.
-    let before = c.loop-relation.invariant.0 f h in (
-      adding_all OfSums (outside (words c.args.written.now) (relation_of c.relation-item.result ∷ [])) before.0,
-      c.add_if_outside.ensures.relations before.0 before.1,
-      outside_on relation_of (words c.args.written.now) c.args.others.now c.loop-relation.relation-index c.relation-item.result before.0
-          (adding_all OfSums (outside (words c.args.written.now) (map relation_of c.args.others.now)) f) c.loop-relation-test.true c.relation-item.is before.2,
-    )),
+      let before = c.loop-relation.invariant.0 f h in (
+        adding_all OfSums (outside (words c.args.written.now) (relation_of c.relation-item.result ∷ [])) before.0,
+        c.add_if_outside.ensures.relations before.0 before.1,
+        outside_on relation_of (words c.args.written.now) c.args.others.now c.loop-relation.relation-index c.relation-item.result before.0
+            (adding_all OfSums (outside (words c.args.written.now) (map relation_of c.args.others.now)) f) c.loop-relation-test.true c.relation-item.is before.2,
+      )),
   omega (arith, c.add_if_outside.ensures.few, c.loop-relation.invariant.1),
 )
 

@@ -13,7 +13,7 @@ returns g c =
     let lt : c.args.at < c.args.self.now.count = count_in_use relation_of c.args.self.now.relations c.args.self.now.count c.args.at c.requires in
     let le : c.args.self.now.count ≤ length c.args.self.now.relations = omega (arith, c.args.self.now.few, c.args.self.now.long) in
     let got : relation_at (relations_of c.args.self.now) c.args.at ≡ relation_of (get_or c.args.self.now.relations c.args.at c.index-self-at.result) =
-        place_in_use relation_of c.args.self.now.relations c.args.self.now.count c.args.at c.index-self-at.result _ lt le in
+    place_in_use relation_of c.args.self.now.relations c.args.self.now.count c.args.at c.index-self-at.result _ lt le in
     set_in_use relation_of c.args.self.now.relations c.args.self.now.count c.args.at _ lt
     ∙ ap (λ (r : Relation). slice_set (relations_of c.args.self.now) c.args.at r)
     (ap (λ (s : Words). record { sum = sum_of c.args.sum.now; set = s }) c.meet.ensures

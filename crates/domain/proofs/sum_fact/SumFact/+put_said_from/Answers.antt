@@ -31,8 +31,8 @@ returns g t c =
     let xs : Sum = sum_of c.args.sum.now in
     let more : c.args.start + 1 < length xs = omega (arith, c.len-len.ensures.count, c.if-start-len.false, c.if-start-len-2.false) in
     let first : words c.times-first.result ≡ times (summand_at xs c.args.start).coefficient (words_of_term image f (summand_at xs c.args.start).term) =
-        c.times-first.ensures ∙ ap (λ (s : Words). times c.get-summand.result.coefficient s) c.put_words_of_term.ensures
-        ∙ ap (λ (s : Summand). times s.coefficient (words_of_term image f s.term)) c.get-summand.ensures in
+    c.times-first.ensures ∙ ap (λ (s : Words). times c.get-summand.result.coefficient s) c.put_words_of_term.ensures
+    ∙ ap (λ (s : Summand). times s.coefficient (words_of_term image f s.term)) c.get-summand.ensures in
     let part : sum_of c.push_from.new.self ≡ drop c.args.start xs = c.push_from.ensures ∙ ap (λ (s : Sum). s ++ drop c.args.start xs) c.zero-part.ensures in
     c.meet.ensures
     ∙ ap (λ (s : Words). meet s (words c.sums-both.result.0)) (c.put_set_of_sum.ensures ∙ ap (λ (s : Sum). set_of_sum f s) part)

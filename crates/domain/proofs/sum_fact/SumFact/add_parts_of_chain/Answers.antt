@@ -23,18 +23,18 @@ returns-clause-fact g c =
     let told2 : Words = λ w. some_below 4096 (λ v. some_below 2 (λ l. may_give own d v w l)) in
     let told3 : Words = λ e. some_below 4096 (λ v. some_below 2 (λ l. may_give own d v (plus v e) l)) in
     let first : fact_in_code c.meet_name.new.self ≡ adding OfSums (record { sum = sum_of_name (Cell d.cell); set = told }) (fact_in_code c.args.self.now) =
-        c.meet_name.ensures.fact ∙ ap (λ k. with_term_in (Holding (Cell k)) (words c.words_of_chain-found.result.cells) (fact_in_code c.args.self.now)) c.cell.ensures
-        ∙ known_name (fact_in_code c.args.self.now) (Cell d.cell) (words c.words_of_chain-found.result.cells) told
-        (names_past c.args.self.now.ac (cell_sets_of c.args.self.now.cells) (Cell d.cell)) c.words_of_chain-found.ensures.cells in
+    c.meet_name.ensures.fact ∙ ap (λ k. with_term_in (Holding (Cell k)) (words c.words_of_chain-found.result.cells) (fact_in_code c.args.self.now)) c.cell.ensures
+    ∙ known_name (fact_in_code c.args.self.now) (Cell d.cell) (words c.words_of_chain-found.result.cells) told
+    (names_past c.args.self.now.ac (cell_sets_of c.args.self.now.cells) (Cell d.cell)) c.words_of_chain-found.ensures.cells in
     let second : fact_in_code c.meet_accumulator.new.self ≡ adding OfSums (record { sum = sum_of_name Ac; set = told2 }) (fact_in_code c.meet_name.new.self) =
-        c.meet_accumulator.ensures.fact ∙ known_name (fact_in_code c.meet_name.new.self) Ac (words c.words_of_chain-found.result.accumulators) told2
-        (names_past c.meet_name.new.self.ac (cell_sets_of c.meet_name.new.self.cells) Ac) c.words_of_chain-found.ensures.accumulators in
+    c.meet_accumulator.ensures.fact ∙ known_name (fact_in_code c.meet_name.new.self) Ac (words c.words_of_chain-found.result.accumulators) told2
+    (names_past c.meet_name.new.self.ac (cell_sets_of c.meet_name.new.self.cells) Ac) c.words_of_chain-found.ensures.accumulators in
     let before : Fact = fact_in_code c.meet_accumulator.new.self in
     let sum : sum_of c.difference.result ≡ difference_of Ac (Cell d.cell) = c.difference.ensures ∙ ap (λ k. difference_of Ac (Cell k)) c.cell.ensures in
     let third : relations_of c.add_longer.new.self ≡ (adding OfSums (record { sum = difference_of Ac (Cell d.cell); set = told3 }) before).relations =
-        c.add_longer.ensures.relations before refl
-        ∙ ap (λ (s : Sum). (adding OfSums (record { sum = s; set = words c.words_of_chain-found.result.differences }) before).relations) sum
-        ∙ ap (λ (x : Fact). x.relations) (known_sum (difference_of Ac (Cell d.cell)) (words c.words_of_chain-found.result.differences) told3 before c.words_of_chain-found.ensures.differences) in
+    c.add_longer.ensures.relations before refl
+    ∙ ap (λ (s : Sum). (adding OfSums (record { sum = s; set = words c.words_of_chain-found.result.differences }) before).relations) sum
+    ∙ ap (λ (x : Fact). x.relations) (known_sum (difference_of Ac (Cell d.cell)) (words c.words_of_chain-found.result.differences) told3 before c.words_of_chain-found.ensures.differences) in
     ap (λ (rs : List Relation). record before { relations = rs }) third ∙ difference_told d.cell told3 before
     ∙ ap (λ (f : Fact). adding OfSums (record { sum = difference_of Ac (Cell d.cell); set = told3 }) f)
     (second ∙ ap (λ (f : Fact). adding OfSums (record { sum = sum_of_name Ac; set = told2 }) f) first)

@@ -1,6 +1,6 @@
 -- What the rows TAD, DCA and those of groups 1 and 2 make of relations and chains, told piece by piece.
 use Rattle.std.proofs.Common.{◌≡◌, ℕ, ◌+◌, ◌<◌, ◌≤◌, ◌==◌, Bool, true, false, not, ◌&&◌, ◌||◌, List, inl, inr, [], ◌∷◌, ◌++◌, map, drop, get_or, length, refl, sym, ap, ◌∙◌, append_assoc, arith}
-use Rattle.std.specs.Prelude.{if◌then◌else◌, flat_map, filter, nat_lt, Option, IsTrue, ◌↔◌}
+use Rattle.std.specs.Prelude.{if◌then◌else◌, flat_map, filter, nat_lt, Option, None, Some, IsTrue, ◌↔◌}
 use Rattle.std.proofs.lemmas.Bool.{eqb-true, eq-eqb, cases_lt}
 use Rattle.std.specs.List.{list_any}
 use Rattle.std.proofs.Math.ListN.{drop_of_length-le}
@@ -17,18 +17,33 @@ use Rattle.wordset.proofs.LaneBits.{or_false}
 use Rattle.wordset.proofs.Cleared.{cleared_same}
 use Rattle.std.proofs.Math.Path.{fun_ext}
 use Rattle.domain.specs.Facts.{Location, Ac, Cell, same, is_outside}
-use Rattle.domain.specs.Sums.Terms.{Term, Sum, Summand, sum_of_name, difference_of, speaks_of, name_of_term}
+use Rattle.domain.specs.Sums.Terms.{Term, Holding, Sum, Summand, sum_of_name, difference_of, speaks_of, name_of_term, coefficient_in}
 use Rattle.domain.specs.Sums.Chains.{Step, Chain, longer, all_longer}
 use Rattle.domain.specs.Sums.Facts.{Relation, Fact, Place, Rules, OfSums, OfEquations}
-use Rattle.domain.specs.Sums.Adding.{with_set, with_name, set_of_sum, adding_all}
+use Rattle.domain.specs.Sums.Adding.{times, with_set, with_name, set_of_sum, adding, adding_all}
 use Rattle.domain.specs.Sums.Narrowing.{asked_by}
-use Rattle.domain.specs.Sums.Moves.{free_of, chains_free_of, without_relations, taking}
-use Rattle.facts.specs.Sums.Additions.{has_ac, if_without_ac, equations_after_tad, after_tad, without_sums, summed, complemented, incremented, turned}
-use Rattle.facts.specs.Sums.Stores.{has_all_words, after_store, stored, begun_by, all_begun}
-use Rattle.facts.specs.Sums.Shaped.{told, begun_beside, if_stays, images_from}
+use Rattle.domain.specs.Sums.Moves.{counted_sum, has_behind, moved_relation, free_of, chains_free_of, without_relations, taking}
+use Rattle.facts.specs.Sums.Additions.{names, has_ac, if_without_ac, equations_after_tad, after_tad, without_sums, summed, complemented, incremented, turned}
+use Rattle.facts.specs.Sums.Stores.{has_all_words, after_store, stored, begun_by, all_begun, has_chain_on}
+use Rattle.facts.specs.Sums.Shaped.{told, begun_at, begun_beside, if_stays, images_from}
 use Rattle.facts.specs.Sums.Outcomes.{with_link, added}
 use Rattle.facts.specs.Sums.Operations.{ac_after, link_after, images_under, tested, cleared2}
+use Rattle.facts.proofs.EntailLemmas.{drop_item}
 use Rattle.facts.proofs.Sums.EachRelation.{adding_append, put_on, append_nothing, filter_append, flat_append, map_append}
+
+-- ---- names of which sums speak
+
+naming_drop : {A : Type 0} (f : A → Summand) (n : Location) (xs : List A) (i : ℕ) (x : A) → i < length xs → x ≡ get_or xs i x →
+    names n (map f (drop i xs)) ≡ (same (name_of_term (f x).term) n || names n (map f (drop (i + 1) xs)))
+naming_drop f n xs i x lt is = ap (λ ys. names n (map f ys)) (drop_item xs i x lt is)
+
+pub naming_found : {A : Type 0} (f : A → Summand) (n : Location) (xs : List A) (i : ℕ) (x : A) → i < length xs → x ≡ get_or xs i x → same (name_of_term (f x).term) n ≡ true →
+    names n (map f (drop i xs)) ≡ names n (map f xs) → true ≡ names n (map f xs)
+naming_found f n xs i x lt is has h = sym (ap (λ b. b || names n (map f (drop (i + 1) xs))) has) ∙ sym (naming_drop f n xs i x lt is) ∙ h
+
+pub naming_step : {A : Type 0} (f : A → Summand) (n : Location) (xs : List A) (i : ℕ) (x : A) → i < length xs → x ≡ get_or xs i x → same (name_of_term (f x).term) n ≡ false →
+    names n (map f (drop i xs)) ≡ names n (map f xs) → names n (map f (drop (i + 1) xs)) ≡ names n (map f xs)
+naming_step f n xs i x lt is other h = sym (ap (λ b. b || names n (map f (drop (i + 1) xs))) other) ∙ sym (naming_drop f n xs i x lt is) ∙ h
 
 -- ---- relations that are put behind others, and chains
 
@@ -107,6 +122,31 @@ begun_each p chains links (r ∷ rs) =
     ap (map (longer p)) (filter_append _ (begun_by links r.sum r.set) (all_begun links rs))
     ∙ map_append (longer p) (begun_beside chains (begun_by links r.sum r.set)) (begun_beside chains (all_begun links rs))
     ∙ ap (λ (x : List Chain). all_longer p (begun_beside chains (begun_by links r.sum r.set)) ++ x) (begun_each p chains links rs)
+
+-- The one that begins on a cell, where none is on it yet.
+pub begun_one : (p : Step) (chains : List Chain) (f new : Fact) (c : Chain) (xs : List Chain) (made : Chain) (x k : ℕ) (links : Words) → xs ≡ begun_at (Some x) links (Some k) →
+    c ≡ record { cell = x; more = k; link = links; steps = [] } → has_chain_on x chains ≡ false → made ≡ longer p c → new ≡ record f { chains = f.chains ++ made ∷ [] } →
+    new ≡ record f { chains = f.chains ++ all_longer p (begun_beside chains xs) }
+begun_one p chains f new c xs made x k links is ec out em en =
+    let first : Chain = record { cell = x; more = k; link = links; steps = [] } in
+    en ∙ ap (λ (d : Chain). record f { chains = f.chains ++ d ∷ [] }) (em ∙ ap (longer p) ec)
+    ∙ ap (λ (b : Bool). record f { chains = f.chains ++ all_longer p (if not b then first ∷ [] else []) }) (sym out)
+    ∙ ap (λ (cs : List Chain). record f { chains = f.chains ++ all_longer p (begun_beside chains cs) }) (sym is)
+
+-- ---- relations that move by the words that were added to a cell
+
+pub moved_unknown : (a : ℕ) (by : Words) (sum : Sum) (set found : Words) (f new : Fact) (o : Option ℕ) → o ≡ None → o ≡ only by → has_behind a sum ≡ false →
+    found ≡ sums set (times (coefficient_in (Holding (Cell a)) sum) by) → new ≡ adding OfSums (told sum found) f → new ≡ adding_all OfSums (moved_relation a by (only by) (told sum set)) f
+moved_unknown a by sum set found f new o none is out ef en =
+    en ∙ ap (λ (w : Words). adding OfSums (told sum w) f) ef
+    ∙ ap (λ (b : Bool). adding_all OfSums (if b then [] else told sum (sums set (times (coefficient_in (Holding (Cell a)) sum) by)) ∷ []) f) (sym out)
+    ∙ ap (λ (q : Option ℕ). adding_all OfSums (moved_relation a by q (told sum set)) f) (sym none ∙ is)
+
+pub moved_known : (a : ℕ) (by : Words) (sum counted : Sum) (set found : Words) (f new : Fact) (o : Option ℕ) (d : ℕ) → o ≡ Some d → o ≡ only by → counted ≡ counted_sum a d sum →
+    found ≡ sums set (times (coefficient_in (Holding (Cell a)) sum) by) → new ≡ adding OfSums (told counted found) f → new ≡ adding_all OfSums (moved_relation a by (only by) (told sum set)) f
+moved_known a by sum counted set found f new o d some is ec ef en =
+    en ∙ ap (λ (s : Sum). adding OfSums (told s found) f) ec ∙ ap (λ (w : Words). adding OfSums (told (counted_sum a d sum) w) f) ef
+    ∙ ap (λ (q : Option ℕ). adding_all OfSums (moved_relation a by q (told sum set)) f) (sym some ∙ is)
 
 -- ---- relations of neither the accumulator nor a cell
 

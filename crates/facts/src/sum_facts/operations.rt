@@ -22,7 +22,7 @@ ghost use Rattle.facts.specs.Sums.Outcomes.{ac_of, with_link};
 ghost use Rattle.facts.specs.Sums.Operations.{ac_after, link_after, moves_bits, relations_operated, chains_operated, operated, images_under, operated_under, part2, tested, cleared2, may_be};
 ghost use Rattle.facts.specs.Sums.Shaped.{HaveFewTerms, if_stays, images_from};
 
-use super::additions::{accumulator_with_rest, has_accumulator, names};
+use super::additions::{accumulator_with_rest, has_accumulator, names, put_accumulator};
 use super::rooms::{NextFact, TestedFact};
 use super::stores::put_begun_longer;
 use crate::skipping::put_part;
@@ -246,8 +246,7 @@ fn put_operated<const C: usize, const R: usize, const D: usize, const S: usize>(
     requires chains { length fact.now.chains.items + length (relations_of fact.now.relations) ≤ 72 }
     requires cells { length (cell_sets_of fact.now.cells) ≤ C }
     requires room { length (relations_of fact.now.relations) ≤ R }
-    ensures fact { fact_in_code after.new ≡ operated (rules_of rules.now) word (fact_in_code fact.now) }
-    ensures cells { cell_sets_of after.new.cells ≡ cell_sets_of fact.now.cells }
+    ensures { fact_in_code after.new ≡ operated (rules_of rules.now) word (fact_in_code fact.now) }
 {
     after.take_over(fact);
     push_operated(rules, word, fact.relations().as_slice(), after);
@@ -321,9 +320,9 @@ pub fn put_operated_under<const C: usize, const R: usize, const D: usize, const 
     ensures { fact_in_code after.new ≡ operated_under word (fact_in_code fact.now) link }
 {
     put_operated(&Rules::OfSums, word, fact, after);
-    after.set_name(
-        &Location::Accumulator,
+    put_accumulator(
         &images_under(word, fact.accumulator(), fact.link(), link),
+        after,
     );
     after.set_link(Links::one(link));
 }
@@ -348,7 +347,7 @@ pub fn put_all_operated<const C: usize, const R: usize, const D: usize, const S:
 {
     put_operated(&Rules::OfEquations, word, fact, after);
     let (images, links) = known.map_operate(word, fact.link());
-    after.set_name(&Location::Accumulator, &images);
+    put_accumulator(&images, after);
     after.set_link(links);
 }
 

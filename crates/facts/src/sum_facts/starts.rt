@@ -221,11 +221,18 @@ pub struct StartPart<'a> {
     links: Links,
 }
 
-/// The proof needs the image to be looked at, since it holds words.
+/// The proof needs the image as a value, since it then holds words.
+fn look_at_words(image: Image)
+    ensures { HoldsWords image }
+{
+    let _word = image.get(Word::ZERO);
+}
+
+/// The same of an image that is lent.
 fn look_into(image: &Image)
     ensures { HoldsWords image.now }
 {
-    let _word = image.get(Word::ZERO);
+    look_at_words(*image);
 }
 
 /// The proof needs the cell of a name to be looked at, since it is a word.

@@ -9,7 +9,7 @@ use Rattle.facts.proofs.sum_facts.parts.put_part.Goals as goal
 
 pub returns-clause-part : goal.returns-clause-part
 returns-clause-part g c =
-    c.narrow.ensures ∙ ap (narrowed (image_of c.args.place.now.image.now))
+    c.narrow.ensures.fact ∙ ap (narrowed (image_of c.args.place.now.image.now))
     (c.set_link.ensures.fact ∙ ap (λ (k : Words). record (fact_in_code c.args.fact.now) { link = k }) c.one.ensures)
 
 pub returns-clause-kept : goal.returns-clause-kept

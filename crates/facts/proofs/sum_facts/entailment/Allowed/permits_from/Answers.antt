@@ -13,7 +13,7 @@ returns-then-not-contains c = from_none (words c.args.self.now.accumulators.now)
 
 pub returns : goal.returns
 returns c = from_pair (words c.args.self.now.accumulators.now) (links_of c.args.self.now.links) (map chain_of c.args.self.now.chains.now) (chain_of c.args.chain.now) c.args.word
-    c.permits.result (chain_of c.args.other.now) c.args.first c.after_steps.result.0 c.after_steps.result.1
+    c.permits.result (chain_of c.args.other.now) c.args.first c.after_steps-ac.result.0 c.after_steps-ac.result.1
     (sym (ap (λ (s : Words). s c.args.first) c.links.ensures) ∙ (sym c.contains.ensures ∙ c.if-not-contains.false))
-    (c.after_steps.ensures ∙ ap (λ x. after_steps (chain_of c.args.other.now).steps (x, c.args.first)) (c.add.ensures ∙ ap (plus c.args.word) c.more.ensures))
+    (c.after_steps-ac.ensures ∙ ap (λ x. after_steps (chain_of c.args.other.now).steps (x, c.args.first)) (c.add.ensures ∙ ap (plus c.args.word) c.more.ensures))
     c.permits.ensures

@@ -8,9 +8,9 @@ use Rattle.facts.proofs.sum_facts.parts.LinkPartPart.is_taken_whole.Goals as goa
 pub returns-then-is_void-clause-taken : goal.returns-then-is_void-clause-taken
 returns-then-is_void-clause-taken g c =
     void_whole (place_in_code c.args.place.now) (part_in_code c.args.self.now) (fact_in_code c.narrow.new.self) (g.F.FactSource.facts c.args.among.now) c.has_facts.result
-    c.narrow.ensures (sym c.is_void.ensures ∙ c.if-is_void.true) c.has_facts.ensures
+    c.narrow.ensures.fact (sym c.is_void.ensures ∙ c.if-is_void.true) c.has_facts.ensures
 
 pub returns-clause-taken : goal.returns-clause-taken
 returns-clause-taken g c =
     some_whole (place_in_code c.args.place.now) (part_in_code c.args.self.now) (fact_in_code c.narrow.new.self) (g.F.FactSource.facts c.args.among.now) c.entails_one.result
-    c.narrow.ensures (sym c.is_void.ensures ∙ c.if-is_void.false) c.entails_one.ensures
+    c.narrow.ensures.fact (sym c.is_void.ensures ∙ c.if-is_void.false) c.entails_one.ensures

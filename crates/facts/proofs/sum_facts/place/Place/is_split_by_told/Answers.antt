@@ -1,4 +1,4 @@
-use Rattle.std.proofs.Common.{◌≡◌, ◌<◌, Bool, true, false, refl}
+use Rattle.std.proofs.Common.{◌≡◌, ◌<◌, Bool, true, false, refl, arith}
 use Rattle.wordset.specs.Lanes.{words}
 use Rattle.domain.specs.Facts.{Cell}
 use Rattle.facts.proofs.Sums.SplitLemmas.{told_or_all}

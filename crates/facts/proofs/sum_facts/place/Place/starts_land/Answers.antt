@@ -16,10 +16,10 @@ returns-in-OfEquations g c = one_lands (place_in_code c.args.self.now) (start_fa
     (subst (λ (f : Fact). IsTrue c.entails_one.result ↔ EntailsOne (place_in_code c.args.self.now) f (g.F.FactSource.facts c.args.among.now))
     (c.new.ensures ∙ ap (λ (k : Words). begun (place_in_code c.args.self.now).image k) c.both.ensures) c.entails_one.ensures)
 
-pub returns-in-OfSums-then-not-starts_land_under : goal.returns-in-OfSums-then-not-starts_land_under
-returns-in-OfSums-then-not-starts_land_under g c = first_part_fails (place_in_code c.args.self.now) (start_fact (place_in_code c.args.self.now).image) (g.F.FactSource.facts c.args.among.now) refl (ap rules_of c.in-OfSums.is)
+pub returns-then-not-starts_land_under : goal.returns-then-not-starts_land_under
+returns-then-not-starts_land_under g c = first_part_fails (place_in_code c.args.self.now) (start_fact (place_in_code c.args.self.now).image) (g.F.FactSource.facts c.args.among.now) refl (ap rules_of c.in-OfSums.is)
     (not_both _ c.if-not-starts_land_under.true c.starts_land_under.ensures.1)
 
-pub returns-in-OfSums : goal.returns-in-OfSums
-returns-in-OfSums g c = both_parts_land (place_in_code c.args.self.now) (start_fact (place_in_code c.args.self.now).image) (g.F.FactSource.facts c.args.among.now) c.starts_land_under-2.result refl refl (ap rules_of c.in-OfSums.is)
-    (c.starts_land_under.ensures.0 c.if-not-starts_land_under.false) c.starts_land_under-2.ensures
+pub returns-else-not-starts_land_under : goal.returns-else-not-starts_land_under
+returns-else-not-starts_land_under g c = both_parts_land (place_in_code c.args.self.now) (start_fact (place_in_code c.args.self.now).image) (g.F.FactSource.facts c.args.among.now) c.starts_land_under-in-OfSums.result refl refl (ap rules_of c.in-OfSums.is)
+    (c.starts_land_under.ensures.0 c.if-not-starts_land_under.false) c.starts_land_under-in-OfSums.ensures

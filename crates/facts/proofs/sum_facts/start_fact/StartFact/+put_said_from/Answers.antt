@@ -20,7 +20,7 @@ returns-then-start-len-2 t c =
 pub returns : goal.returns
 returns t c =
     more_said (image_of c.args.image.now) (start_in_code c.args.self.now) (sum_of c.args.sum.now) (sum_of c.push_from.new.self) c.args.start (summand_of c.get-summand.result)
-    (words c.put_words_of_term.new.place) (words c.times-first.result) (words c.put_said_from.new.place) (words c.sums.result.0) (words c.put_set_of_sum.new.place) _
+    (words c.put_words_of_term.new.place) (words c.times-first.result) (words c.put_said_from.new.place) (words c.sums-both.result.0) (words c.put_set_of_sum.new.place) _
     (omega (arith, c.len-len.ensures.count, c.if-start-len.false, c.if-start-len-2.false)) c.get-summand.ensures
-    c.put_words_of_term.ensures c.times-first.ensures c.put_said_from.ensures c.sums.ensures.words
+    c.put_words_of_term.ensures c.times-first.ensures c.put_said_from.ensures c.sums-both.ensures.words
     (c.push_from.ensures ∙ ap (λ (s : Sum). s ++ drop c.args.start (sum_of c.args.sum.now)) c.zero-part.ensures) c.put_set_of_sum.ensures c.meet.ensures

@@ -18,7 +18,7 @@ returns g c =
     let small : y < 4096 = omega (arith, c.index-index.ensures.same, c.index-index.ensures.small) in
     c.add_each_copied.ensures
     ∙ ap (λ (h : Fact). adding_all OfEquations (flat_map (copied_for y) _) h)
-    (c.set_name-2.ensures.fact ∙ ap (λ (s : Words). with_name Ac s (fact_in_code c.set_name.new.self)) c.one-2.ensures
+    (c.set_name-2.ensures.fact ∙ ap (λ (s : Words). with_name Ac s (fact_in_code c.set_name.new.self)) c.one.ensures
     ∙ ap (λ (h : Fact). with_name Ac (one 0) h) (c.set_name.ensures.fact ∙ ap (λ (h : Fact). with_name (Cell y) (words c.args.known.now) h) c.take_without.ensures.fact)
     ∙ copied_base (λ n. not (is_outside (words c.one-cells.result) n)) y (words c.args.known.now) f
     (λ n. ap (λ (s : Words). not (is_outside s n)) c.one-cells.ensures ∙ changing_one y small n))

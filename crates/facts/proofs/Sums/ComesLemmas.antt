@@ -81,10 +81,10 @@ none_after {xs} {ys} {zs} h e = ap (λ y. xs ++ y) e ∙ go xs ∙ h
     go (o ∷ os) = ap (λ r. o ∷ r) (go os)
 
 pub none_behind : {xs ys us vs zs : List Successor} → xs ++ ys ≡ zs → us ≡ [] → vs ≡ [] → xs ++ (ys ++ (us ++ vs)) ≡ zs
-none_behind {xs} {ys} {us} {vs} h u v = ap (λ t. xs ++ (ys ++ t)) (ap (λ t. t ++ vs) u ∙ v) ∙ ap (λ t. xs ++ t) (none_after {ys} refl refl) ∙ h
+none_behind {xs} {ys} {us} {vs} h u v = ap (λ t. xs ++ (ys ++ t)) (ap (λ t. t ++ vs) u ∙ v) ∙ ap (λ t. xs ++ t) (none_after {xs = ys} {ys = []} {zs = ys} refl refl) ∙ h
 
 pub none_alone : {xs ys us vs zs : List Successor} → xs ≡ zs → ys ≡ [] → us ≡ [] → vs ≡ [] → xs ++ (ys ++ (us ++ vs)) ≡ zs
-none_alone {xs} {ys} h y u v = none_behind {xs} {ys} (none_after h y) u v
+none_alone {xs} {ys} h y u v = none_behind {xs = xs} {ys = ys} (none_after {xs = xs} {ys = ys} h y) u v
 
 -- targets are there where all words are
 pub all_reached : {b : Bool} → b ≡ true → b ≡ has_some all_words

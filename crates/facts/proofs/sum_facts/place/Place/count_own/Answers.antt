@@ -14,6 +14,6 @@ returns g c =
     let f : Fact = (fact_in_code c.args.fact.now) in
     let p : Words = (words c.args.targets.now) in
     rw c.requires.variable (goes_on pl p f all_words (one (plus c.args.at 1)) _
-    (c.is_alive.ensures p all_words c.has_some.ensures (all_reached refl)) c.go_to.ensures c.put_words_known.ensures (ap one c.increment.ensures)
+    (c.is_alive-comes.ensures p all_words c.has_some.ensures (all_reached refl)) c.go_to.ensures c.put_words_known.ensures (ap one c.increment.ensures)
     (c.set_offsets.ensures.fact ∙ ap (λ (x : Fact). record x { offsets = _ }) c.copy_from.ensures.fact
     ∙ ap (λ (o : Words). record f { offsets = o }) (c.counted.ensures ∙ ap counted_up c.offsets.ensures)))

@@ -1,4 +1,9 @@
-use Rattle.std.proofs.Common.{◌∙◌, sym, Bool, ap, refl}
+use Rattle.std.proofs.Common.{◌∙◌, sym, Bool, ap, refl, subst}
+use Rattle.wordset.specs.Words.{one, only}
+use Rattle.domain.specs.Sums.Facts.{Fact}
+use Rattle.domain.specs.Sums.ChainsInCode.{AreShort}
+use Rattle.facts.specs.Sums.Shaped.{HaveFewTerms}
+use Rattle.facts.proofs.Sums.CountedLemmas.{few_moved, short_counted}
 use Rattle.domain.specs.Sums.FactInCode.{fact_in_code}
 use Rattle.facts.specs.Sums.References.{targets}
 use Rattle.facts.specs.Sums.PlaceInCode.{place_in_code}
@@ -17,3 +22,9 @@ returns g c = none_behind (c.refer_to-2.ensures (fact_in_code c.args.fact.now)
 
 pub single_target-single-requires : goal.single_target-single-requires
 single_target-single-requires g c = λ direct. c.put_targets.ensures ∙ ap (λ (b : Bool). targets (place_in_code c.args.self.now) b c.target-named.result (fact_in_code c.args.fact.now)) direct
+
+pub refer_to-requires-clause-terms : goal.refer_to-requires-clause-terms
+refer_to-requires-clause-terms g c = subst (λ (f : Fact). HaveFewTerms f.relations) (sym c.put_counted.ensures.fact) (few_moved c.target-named.result (one 1) (only (one 1)) (fact_in_code c.args.fact.now).relations c.requires.terms)
+
+pub refer_to-requires-clause-short : goal.refer_to-requires-clause-short
+refer_to-requires-clause-short g c = subst (λ (f : Fact). AreShort f.chains) (sym c.put_counted.ensures.fact) (short_counted c.target-named.result 1 (fact_in_code c.args.fact.now).chains c.requires.short)

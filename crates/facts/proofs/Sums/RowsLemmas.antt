@@ -388,6 +388,7 @@ not_all_there lanes r no told = go (some_below 4096 (λ v. not (words lanes v)))
     each : some_below 4096 (λ v. not (words lanes v)) ≡ false → (v : ℕ) → v < 4096 → (b : Bool) → words lanes v ≡ b → b ≡ true
     each q v h true e = refl
     each q v h false e = sym q ∙ some_from 4096 (λ v. not (words lanes v)) v h (ap not e)
+
     go : (b : Bool) → some_below 4096 (λ v. not (words lanes v)) ≡ b → not b ≡ false
     go true q = refl
     go false q =

@@ -7,16 +7,17 @@ use Rattle.facts.proofs.Sums.CountedLemmas.{few_moved, short_counted}
 use Rattle.domain.specs.Sums.FactInCode.{fact_in_code}
 use Rattle.facts.specs.Sums.References.{targets}
 use Rattle.facts.specs.Sums.PlaceInCode.{place_in_code}
+use Rattle.facts.specs.Sums.OutcomesInCode.{outcome_in}
 use Rattle.facts.proofs.Sums.ComesLemmas.{none_behind}
 use Rattle.facts.proofs.sum_facts.place.Place.refer.Goals as goal
 
 pub returns-then-steps_pointer : goal.returns-then-steps_pointer
-returns-then-steps_pointer g c = none_behind (c.refer_to.ensures (fact_in_code c.args.fact.now)
+returns-then-steps_pointer g c = none_behind (outcome_in c.refer_to.new.first) (outcome_in c.refer_to.new.second) (c.refer_to.ensures (fact_in_code c.args.fact.now)
     (rw (← c.refers_indirectly-indirect.ensures, ← c.target-named.ensures, sym c.steps_pointer.ensures ∙ c.if-steps_pointer.true) c.put_counted.ensures.fact)
     (rw (← c.refers_indirectly-indirect.ensures, ← c.target-named.ensures) c.put_targets.ensures)) c.clear.ensures c.clear-2.ensures
 
 pub returns : goal.returns
-returns g c = none_behind (c.refer_to-2.ensures (fact_in_code c.args.fact.now)
+returns g c = none_behind (outcome_in c.refer_to-2.new.first) (outcome_in c.refer_to-2.new.second) (c.refer_to-2.ensures (fact_in_code c.args.fact.now)
     (rw (← c.refers_indirectly-indirect.ensures, ← c.target-named.ensures, sym c.steps_pointer.ensures ∙ c.if-steps_pointer.false) refl)
     (rw (← c.refers_indirectly-indirect.ensures, ← c.target-named.ensures) c.put_targets.ensures)) c.clear.ensures c.clear-2.ensures
 

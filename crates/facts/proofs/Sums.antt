@@ -25,3 +25,4 @@ pub mod CountedLemmas
 pub mod AskingLemmas
 pub mod ComesLemmas
 pub mod DeviceLemmas
+pub mod KeepingLemmas

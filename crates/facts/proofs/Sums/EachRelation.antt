@@ -57,11 +57,11 @@ few_terms h (y ∷ ys) (suc i) x lt is t = few_terms h ys i x (omega arith) is t
 -- A filter of what a list makes, piece by piece.
 pub filter_append : {A : Type 0} (p : A → Bool) (xs ys : List A) → filter p (xs ++ ys) ≡ filter p xs ++ filter p ys
 filter_append p [] ys = refl
-filter_append p (x ∷ xs) ys = go (p x)
+filter_append {A} p (x ∷ xs) ys = go (p x) (filter_append p xs ys)
   where
-    go : (b : Bool) → (if b then x ∷ filter p (xs ++ ys) else filter p (xs ++ ys)) ≡ ((if b then x ∷ filter p xs else filter p xs) ++ filter p ys)
-    go true = ap (λ (r : List _). x ∷ r) (filter_append p xs ys)
-    go false = filter_append p xs ys
+    go : (b : Bool) → filter p (xs ++ ys) ≡ filter p xs ++ filter p ys → (if b then x ∷ filter p (xs ++ ys) else filter p (xs ++ ys)) ≡ ((if b then x ∷ filter p xs else filter p xs) ++ filter p ys)
+    go true h = ap (λ (r : List A). x ∷ r) h
+    go false h = h
 
 pub flat_append : {A B : Type 0} (g : A → List B) (xs ys : List A) → flat_map g (xs ++ ys) ≡ flat_map g xs ++ flat_map g ys
 flat_append g [] ys = refl

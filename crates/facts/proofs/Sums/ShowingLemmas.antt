@@ -1,6 +1,7 @@
 -- Entailment part by part: one entry, relation or chain after another.
-use Rattle.std.proofs.Common.{◌≡◌, ℕ, ◌+◌, ◌<◌, ◌≤◌, Bool, true, false, ◌&&◌, ◌||◌, ◌==◌, List, [], ◌∷◌, map, drop, get_or, length, refl, sym, ap, ◌∙◌, subst, arith, inl, inr, Option, Some, None}
-use Rattle.std.specs.Prelude.{IsTrue, ◌↔◌, ◌⊎◌, if◌then◌else◌}
+use Rattle.std.proofs.Common.{◌≡◌, ℕ, ◌+◌, ◌<◌, ◌≤◌, Bool, true, false, ◌&&◌, ◌||◌, ◌==◌, List, [], ◌∷◌, ◌++◌, map, drop, get_or, length, refl, sym, ap, ◌∙◌, subst, arith, inl, inr, Option, Some, None}
+use Rattle.std.specs.Prelude.{IsTrue, ◌↔◌, ◌⊎◌, if◌then◌else◌, flat_map}
+use Rattle.std.specs.List.{list_all}
 use Rattle.std.proofs.lemmas.Bool.{and_from, and_parts, cond_both, eqb-true, eq-eqb, true≢false, false≢true, cases_eq, cases_lt, ne_eqb}
 use Rattle.std.proofs.lemmas.List.{drop_more}
 use Rattle.wordset.specs.Words.{Words, IsWithin, SameWords, IsLinkWithin, meet, minus, plus, only, some_below}
@@ -16,7 +17,7 @@ use Rattle.domain.specs.Sums.Shapes.{Spelled, spelled}
 use Rattle.domain.specs.Sums.Facts.{Relation, Fact, Place, Rules, OfEquations, OfSums}
 use Rattle.domain.specs.Sums.Adding.{adding, adding_all, with_shape_in, with_spelled_in, with_term_in, is_kept, times}
 use Rattle.domain.specs.Sums.Terms.{Term, Holding, Behind}
-use Rattle.domain.specs.Sums.Narrowing.{narrowed, words_by, words_known}
+use Rattle.domain.specs.Sums.Narrowing.{narrowed, parts_of, parts_of_chain, links_of_chain, words_by, words_known}
 use Rattle.domain.specs.Sums.FactInCode.{names_words}
 use Rattle.domain.proofs.ChainLemmas.{two_links}
 use Rattle.domain.proofs.Sums.SumLemmas.{same_name, same_is}
@@ -96,7 +97,9 @@ added_less rules (r ∷ rs) f n v h = spelled_less rules (spelled r.sum) r.set f
 
 narrowed_less : (image : Image) (f : Fact) (n : Location) (v : ℕ) → (narrowed image f).set n v ≡ true → f.set n v ≡ true
 unfolding narrowed
-narrowed_less image f n v h = added_less OfSums _ _ n v h
+narrowed_less image f n v h =
+    added_less OfSums (flat_map (λ (r : Relation). parts_of image f r.sum r.set) f.relations ++ flat_map (λ (c : Chain). parts_of_chain f c) f.chains)
+    (record f { link = λ l. f.link l && list_all (λ (c : Chain). links_of_chain f c l) f.chains }) n v h
 
 -- a set as it stands shows what it is when narrowed
 pub known_less : (pl : Place) (f : Fact) (n : Location) (v : ℕ) → words_known pl f n v ≡ true → f.set n v ≡ true
@@ -346,6 +349,93 @@ difference_shown pl f r m n b e h = (
 
 pub no_difference : (pl : Place) (f : Fact) (r : Relation) → ((m n : Location) → r.sum ≡ difference_of m n → ⊥) → IsTrue false ↔ ShowsDifference pl f r
 no_difference pl f r none = not_true (λ d. none d.0 d.1 d.4)
+
+pub not_two : (sum : Sum) → (length sum ≡ 2 → ⊥) → (m n : Location) → sum ≡ difference_of m n → ⊥
+not_two sum other m n e = other (ap length e)
+
+pub first_other : (sum : Sum) (s : Summand) → s ≡ summand_at sum 0 → (s.coefficient ≡ 1 → ⊥) → (m n : Location) → sum ≡ difference_of m n → ⊥
+first_other sum s is other m n e = other (ap (λ (x : Summand). x.coefficient) (is ∙ ap (λ (xs : Sum). summand_at xs 0) e))
+
+pub second_other : (sum : Sum) (s : Summand) → s ≡ summand_at sum 1 → (s.coefficient ≡ 4095 → ⊥) → (m n : Location) → sum ≡ difference_of m n → ⊥
+second_other sum s is other m n e = other (ap (λ (x : Summand). x.coefficient) (is ∙ ap (λ (xs : Sum). summand_at xs 1) e))
+
+behind_not : (x k : ℕ) (n : Location) → Behind x k ≡ Holding n → ⊥
+behind_not x k n e = cc
+
+pub first_behind : (sum : Sum) (s : Summand) (x k : ℕ) → s ≡ summand_at sum 0 → s.term ≡ Behind x k → (m n : Location) → sum ≡ difference_of m n → ⊥
+first_behind sum s x k is b m n e = behind_not x k m (sym b ∙ ap (λ (y : Summand). y.term) (is ∙ ap (λ (xs : Sum). summand_at xs 0) e))
+
+pub second_behind : (sum : Sum) (s : Summand) (x k : ℕ) → s ≡ summand_at sum 1 → s.term ≡ Behind x k → (m n : Location) → sum ≡ difference_of m n → ⊥
+second_behind sum s x k is b m n e = behind_not x k n (sym b ∙ ap (λ (y : Summand). y.term) (is ∙ ap (λ (xs : Sum). summand_at xs 1) e))
+
+pub is_difference : (sum : Sum) (s t : Summand) (m n : Location) → length sum ≡ 2 → s ≡ summand_at sum 0 → t ≡ summand_at sum 1 → s.coefficient ≡ 1 → t.coefficient ≡ 4095 →
+    s.term ≡ Holding m → t.term ≡ Holding n → sum ≡ difference_of m n
+is_difference [] s t m n l es et cs ct ts te = absurd (omega (arith, l))
+is_difference (a ∷ []) s t m n l es et cs ct ts te = absurd (omega (arith, l))
+is_difference (a ∷ b ∷ []) s t m n l es et cs ct ts te =
+    ap (λ (x : Summand). x ∷ b ∷ []) (sym es ∙ summand_is s (record { coefficient = 1; term = Holding m }) cs ts)
+    ∙ ap (λ (x : Summand). record { coefficient = 1; term = Holding m } ∷ x ∷ []) (sym et ∙ summand_is t (record { coefficient = 4095; term = Holding n }) ct te)
+is_difference (a ∷ b ∷ c ∷ cs) s t m n l es et cf ct ts te = absurd (omega (arith, l))
+
+-- sets that are the same by two names
+pub links_as : (a b c d : Words) → a ≡ c → b ≡ d → IsLinkWithin c d → IsLinkWithin a b
+links_as a b c d e f h = subst (λ (s : Words). IsLinkWithin a s) (sym f) (subst (λ (s : Words). IsLinkWithin s d) (sym e) h)
+
+pub within_as : (a b c d : Words) → a ≡ c → b ≡ d → IsWithin c d → IsWithin a b
+within_as a b c d e f h = subst (λ (s : Words). IsWithin a s) (sym f) (subst (λ (s : Words). IsWithin s d) (sym e) h)
+
+abbrev pub HasOffsetsOf : Words → Words → Type 0
+HasOffsetsOf a b = (o : ℕ) → o < 64 → a o ≡ true → b o ≡ true
+
+pub offsets_as : (a b c d : Words) → a ≡ c → b ≡ d → HasOffsetsOf c d → HasOffsetsOf a b
+offsets_as a b c d e f h = subst (λ (s : Words). HasOffsetsOf a s) (sym f) (subst (λ (s : Words). HasOffsetsOf s d) (sym e) h)
+
+-- the registers, each by the sets that were compared
+module _ (pl : Place) (a b : Fact) where
+  pub registers_not_link : (s t : Words) → s ≡ a.link → t ≡ b.link → (IsLinkWithin s t → ⊥) → IsTrue false ↔ EntailsRegisters pl a b
+  registers_not_link s t e f not = not_true (λ r. not (links_as s t a.link b.link e f r.link))
+
+  pub registers_not_offsets : (s t : Words) → s ≡ a.offsets → t ≡ b.offsets → (HasOffsetsOf s t → ⊥) → IsTrue false ↔ EntailsRegisters pl a b
+  registers_not_offsets s t e f not = not_true (λ r. not (offsets_as s t a.offsets b.offsets e f r.offsets))
+
+  pub registers_not_mq : (s t : Words) → s ≡ a.mq → t ≡ b.mq → (IsWithin s t → ⊥) → IsTrue false ↔ EntailsRegisters pl a b
+  registers_not_mq s t e f not = not_true (λ r. not (within_as s t a.mq b.mq e f r.mq))
+
+  pub registers_not_sites : (s t : Words) → s ≡ a.sites → t ≡ b.sites → (IsWithin s t → ⊥) → IsTrue false ↔ EntailsRegisters pl a b
+  registers_not_sites s t e f not = not_true (λ r. not (within_as s t a.sites b.sites e f r.sites))
+
+  pub registers_iff : (x : Bool) (ls lt os ot ms mt ss st ac : Words) → ls ≡ a.link → lt ≡ b.link → os ≡ a.offsets → ot ≡ b.offsets → ms ≡ a.mq → mt ≡ b.mq → ss ≡ a.sites → st ≡ b.sites → ac ≡ b.set Ac →
+      IsLinkWithin ls lt → HasOffsetsOf os ot → IsWithin ms mt → IsWithin ss st → (IsTrue x ↔ IsWithin (words_known pl a Ac) ac) → IsTrue x ↔ EntailsRegisters pl a b
+  registers_iff x ls lt os ot ms mt ss st ac els elt eos eot ems emt ess est eac l o m s h = (
+    λ t. record {
+      ac = subst (λ (w : Words). IsWithin (words_known pl a Ac) w) eac (h.0 t);
+      mq = within_as a.mq b.mq ms mt (sym ems) (sym emt) m;
+      link = links_as a.link b.link ls lt (sym els) (sym elt) l;
+      sites = within_as a.sites b.sites ss st (sym ess) (sym est) s;
+      offsets = offsets_as a.offsets b.offsets os ot (sym eos) (sym eot) o;
+    },
+    λ r. h.1 (subst (λ (w : Words). IsWithin (words_known pl a Ac) w) (sym eac) r.ac),
+  )
+
+-- an entry among others
+pub entry_here : {A : Type 0} (f : A → TrackedCell) (a : ℕ) (xs : List A) (i : ℕ) (x : A) → i < length xs → x ≡ get_or xs i x → (f x).address ≡ a →
+    (v : ℕ) → tracked a (map f (drop i xs)) v ≡ true → (f x).set v ≡ true
+entry_here f a xs i x lt e same v h =
+    let p = and_parts (if (f x).address == a then (f x).set v else true) (tracked a (map f (drop (i + 1) xs)) v) (subst (λ ys. tracked a (map f ys) v ≡ true) (drop_item xs i x lt e) h) in
+    let q : ((f x).address == a) ≡ true = eq-eqb (f x).address a same in
+    subst (λ b. (if b then (f x).set v else true) ≡ true) q p.0
+
+pub entry_passed : {A : Type 0} (f : A → TrackedCell) (a : ℕ) (xs : List A) (i : ℕ) (x : A) → i < length xs → x ≡ get_or xs i x →
+    (v : ℕ) → tracked a (map f (drop i xs)) v ≡ true → tracked a (map f (drop (i + 1) xs)) v ≡ true
+entry_passed f a xs i x lt e v h =
+    (and_parts (if (f x).address == a then (f x).set v else true) (tracked a (map f (drop (i + 1) xs)) v) (subst (λ ys. tracked a (map f ys) v ≡ true) (drop_item xs i x lt e) h)).1
+
+-- a chain on another cell
+pub on_other : (x y : ℕ) (P : Type 0) → (x ≡ y → ⊥) → IsTrue true ↔ (x ≡ y → P)
+on_other x y P other = (λ t e. absurd (other e), λ h. refl)
+
+pub on_same : (x y : ℕ) (b c : Bool) → x ≡ y → b ≡ c → IsTrue b ↔ (x ≡ y → c ≡ true)
+on_same x y b c same is = (λ t e. sym is ∙ t, λ h. is ∙ h same)
 
 -- all parts together
 pub entails_iff : (pl : Place) (a b : Fact) (ac : Words) (cells : List TrackedCell) (t : Bool) → names_words ac cells ≡ b.set → EntailsRegisters pl a b → EachWithin pl a cells → KnowsAll pl a b.relations →

@@ -22,4 +22,5 @@ returns g c =
     c.keep_for_all_parts.ensures linked c.put_set_of.ensures
     ∙ ap (λ (rs : List Relation). (adding_all OfSums (all_parts image f rs) linked).set (location_of c.args.name.now)) c.as_slice.ensures.relations in
     c.keep_for_chains.ensures (adding_all OfSums (all_parts image f f.relations) linked) parts
+    ∙ ap (λ cs. (adding_all OfSums (all_parts_of_chains f (map chain_of cs)) (adding_all OfSums (all_parts image f f.relations) linked)).set (location_of c.args.name.now)) c.as_slice-2.ensures.value
     ∙ ap (λ (x : Fact). x.set (location_of c.args.name.now)) (sym (added_both (all_parts image f f.relations) (all_parts_of_chains f f.chains) linked))

@@ -15,7 +15,7 @@ pub returns-then-has_accumulator : goal.returns-then-has_accumulator
 returns-then-has_accumulator c =
     let r : Relation = relation_of c.args.relation.now in
     rw (sym c.has_accumulator.ensures ∙ c.if-has_accumulator.true)
-    (ap (λ (s : Sum). told s (brief_words c.complement.new.self) ∷ []) (c.accumulator_with_rest.ensures ∙ ap (λ n. ac_with_rest n (Holding Ac) r.sum) c.from_index.ensures)
+    (ap (λ (s : Sum). told s (brief_words c.complement.new.self) ∷ []) (c.accumulator_with_rest-relation.ensures ∙ ap (λ n. ac_with_rest n (Holding Ac) r.sum) c.from_index.ensures)
     ∙ ap (λ (s : Words). told (ac_with_rest 4095 (Holding Ac) r.sum) s ∷ []) c.complement.ensures)
 
 pub returns : goal.returns

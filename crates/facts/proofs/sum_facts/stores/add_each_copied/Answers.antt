@@ -6,8 +6,8 @@ use Rattle.facts.specs.Sums.Stores.{copied_for}
 use Rattle.facts.proofs.Sums.EachRelation.{added_on, all_added_on, few_terms}
 use Rattle.facts.proofs.sum_facts.stores.add_each_copied.Goals as goal
 
-pub add_copied_for-requires-terms : goal.add_copied_for-requires-terms
-add_copied_for-requires-terms g c =
+pub add_copied_for-requires-clause-terms : goal.add_copied_for-requires-clause-terms
+add_copied_for-requires-clause-terms g c =
     let few : length (relation_of c.relation-item.result).sum ≤ 3 = few_terms relation_of c.args.relations.now c.loop-relation.relation-index c.relation-item.result c.loop-relation-test.true c.relation-item.is c.requires.terms in
     omega (arith, few)
 

@@ -15,7 +15,7 @@ pub returns : goal.returns
 returns g c =
     let y : ℕ = c.args.cell in
     let f : Fact = fact_in_code c.args.fact.now in
-    let small : y < 4096 = omega (arith, c.index-_index.ensures.same, c.index-_index.ensures.small) in
+    let small : y < 4096 = omega (arith, c.index-index.ensures.same, c.index-index.ensures.small) in
     c.add_each_copied.ensures
     ∙ ap (λ (h : Fact). adding_all OfEquations (flat_map (copied_for y) _) h)
     (c.set_name-2.ensures.fact ∙ ap (λ (s : Words). with_name Ac s (fact_in_code c.set_name.new.self)) c.one-2.ensures

@@ -1,0 +1,25 @@
+use Rattle.std.proofs.Common.{◌≡◌, ◌<◌, ◌≤◌, length, refl, sym, ap, ◌∙◌, arith}
+use Rattle.std.proofs.Math.Path.{fun_ext}
+use Rattle.wordset.specs.Words.{all_words}
+use Rattle.domain.specs.Sums.Terms.{Summand}
+use Rattle.domain.specs.Sums.Adding.{set_of_term}
+use Rattle.domain.specs.Sums.InCode.{sum_of, summand_of, term_of}
+use Rattle.domain.proofs.FactLemmas.{given_of_one}
+use Rattle.facts.specs.Sums.StartInCode.{start_in_code}
+use Rattle.facts.proofs.Sums.BeginningLemmas.{not_of_one}
+use Rattle.facts.proofs.sum_facts.start_fact.StartFact.put_set_of_shape.Goals as goal
+
+pub returns-then-len-ne1 : goal.returns-then-len-ne1
+returns-then-len-ne1 c = c.all.ensures ∙ not_of_one (start_in_code c.args.self.now) (sum_of c.args.sum.now) refl (λ e. omega (arith, e, c.len.ensures.count, c.if-len-ne1.true))
+
+pub returns-in-Holding : goal.returns-in-Holding
+returns-in-Holding c =
+    c.put_set_of.ensures ∙ ap (λ t. set_of_term (start_in_code c.args.self.now) t) (sym (ap term_of c.in-Holding.is))
+    ∙ ap (λ (s : Summand). set_of_term (start_in_code c.args.self.now) s.term) c.get.ensures
+    ∙ given_of_one (start_in_code c.args.self.now) (sum_of c.args.sum.now) (omega (arith, c.len.ensures.count, c.if-len-ne1.false))
+
+pub returns-in-Behind : goal.returns-in-Behind
+returns-in-Behind c =
+    c.all.ensures ∙ ap (λ t. set_of_term (start_in_code c.args.self.now) t) (sym (ap term_of c.in-Behind.is))
+    ∙ ap (λ (s : Summand). set_of_term (start_in_code c.args.self.now) s.term) c.get.ensures
+    ∙ given_of_one (start_in_code c.args.self.now) (sum_of c.args.sum.now) (omega (arith, c.len.ensures.count, c.if-len-ne1.false))

@@ -2,6 +2,7 @@ use Rattle.std.proofs.Common.{◌∙◌, sym, ap}
 use Rattle.instruct.proofs.KindLemmas.{reference_meaning, group1_meaning, group2_meaning, undefined_meaning}
 use Rattle.domain.specs.Sums.FactInCode.{fact_in_code}
 use Rattle.facts.specs.Sums.PlaceInCode.{place_in_code}
+use Rattle.facts.specs.Sums.OutcomesInCode.{outcome_in}
 use Rattle.facts.proofs.DispatchLemmas.{first_group_8e, kind_here}
 use Rattle.facts.proofs.Sums.ComesLemmas.{none_behind, none_alone}
 use Rattle.facts.proofs.Sums.DeviceLemmas.{of_meaning, of_group3}
@@ -18,7 +19,7 @@ returns-in-Memory g c = of_meaning (place_in_code c.args.self.now) (fact_in_code
 
 pub returns-in-Operate1 : goal.returns-in-Operate1
 returns-in-Operate1 g c = of_meaning (place_in_code c.args.self.now) (fact_in_code c.args.fact.now) c.args.at c.args.word (group1_meaning _ c.args.at c.args.word (kind_here c.args.at c.args.word c.profile.ensures (c.decode.ensures.meaning c.args.at) c.in-Operate1.is))
-    (none_behind c.operate.ensures c.clear.ensures c.clear-2.ensures)
+    (none_behind (outcome_in c.operate.new.first) (outcome_in c.operate.new.second) c.operate.ensures c.clear.ensures c.clear-2.ensures)
 
 pub returns-in-Operate2 : goal.returns-in-Operate2
 returns-in-Operate2 g c = of_meaning (place_in_code c.args.self.now) (fact_in_code c.args.fact.now) c.args.at c.args.word (group2_meaning _ c.args.at c.args.word (kind_here c.args.at c.args.word c.profile.ensures (c.decode.ensures.meaning c.args.at) c.in-Operate2.is)) c.skip.ensures

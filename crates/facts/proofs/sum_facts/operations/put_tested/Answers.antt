@@ -12,10 +12,7 @@ narrow-requires g c =
     let relations : length (relations_of c.put_with_part-in-OfSums.new.after.relations) ≡ length (relations_of c.args.fact.now.relations) = ap (λ (h : Fact). length h.relations) c.put_with_part-in-OfSums.ensures.fact in
     let chains : length c.put_with_part-in-OfSums.new.after.chains.items ≡ length c.args.fact.now.chains.items =
     sym (length-map c.put_with_part-in-OfSums.new.after.chains.items chain_of) ∙ ap (λ (h : Fact). length h.chains) c.put_with_part-in-OfSums.ensures.fact ∙ length-map c.args.fact.now.chains.items chain_of in
-    record {
-      cells = omega (arith, relations, chains, c.put_with_part-in-OfSums.ensures.cells, c.requires.cells);
-      relations = omega (arith, relations, chains, c.requires.room);
-    }
+    omega (arith, relations, chains, c.put_with_part-in-OfSums.ensures.cells, c.requires.cells, c.requires.room)
 
 pub returns-in-OfEquations : goal.returns-in-OfEquations
 returns-in-OfEquations g c = rw c.in-OfEquations.is c.put_with_part.ensures.fact

@@ -1,6 +1,5 @@
-use Rattle.std.proofs.Common.{◌≡◌, map, refl, ap, sym, ◌∙◌, arith}
+use Rattle.std.proofs.Common.{map, ap}
 use Rattle.std.proofs.Math.ListN.{drop_of_length-le}
-use Rattle.wordset.specs.Words.{Words}
 use Rattle.domain.specs.Statements.{tracked}
 use Rattle.domain.specs.Sums.CellsInCode.{cell_set_of}
 use Rattle.facts.proofs.Sums.SplitLemmas.{entry_skipped, with_more, more_not, more_other}

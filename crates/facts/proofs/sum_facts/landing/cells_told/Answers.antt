@@ -1,9 +1,8 @@
-use Rattle.std.proofs.Common.{ℕ, List, ◌≡◌, ◌<◌, ◌≤◌, length, map, refl, ap, sym, subst, ◌∙◌, arith, true, false}
+use Rattle.std.proofs.Common.{ap, sym, subst, ◌∙◌, arith}
 use Rattle.std.proofs.Math.ListN.{drop_of_length-le}
 use Rattle.wordset.specs.Words.{Words}
 use Rattle.domain.specs.Facts.{Location, Cell}
 use Rattle.domain.specs.Statements.{tracked}
-use Rattle.domain.specs.Sums.Facts.{Fact}
 use Rattle.domain.specs.Sums.FactInCode.{fact_in_code}
 use Rattle.facts.specs.Sums.Landing.{AllowAll}
 use Rattle.facts.proofs.Sums.SplitLemmas.{told_step, still_out}

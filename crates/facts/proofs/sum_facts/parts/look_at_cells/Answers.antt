@@ -1,4 +1,4 @@
-use Rattle.std.proofs.Common.{◌≡◌, map, refl, ap, ◌∙◌, arith}
+use Rattle.std.proofs.Common.{map, ap, arith}
 use Rattle.std.proofs.Math.ListN.{drop_of_length-le}
 use Rattle.domain.specs.Statements.{tracked}
 use Rattle.domain.specs.Sums.CellsInCode.{cell_set_of}

@@ -1,6 +1,5 @@
-use Rattle.std.proofs.Common.{ℕ, ap, sym, subst, ◌∙◌, ◌≡◌, true, ◌<◌}
+use Rattle.std.proofs.Common.{ap, sym, ◌∙◌}
 use Rattle.wordset.specs.Words.{Words}
-use Rattle.wordset.specs.Lanes.{words}
 use Rattle.domain.specs.Facts.{Location, Cell}
 use Rattle.domain.specs.Statements.{tracked}
 use Rattle.domain.specs.Sums.CellsInCode.{cell_sets_of}

@@ -1,4 +1,4 @@
-use Rattle.std.proofs.Common.{◌≡◌, ◌∙◌, ap, sym, subst}
+use Rattle.std.proofs.Common.{◌∙◌, ap, subst}
 use Rattle.wordset.specs.Words.{Words, meet, IsWithin}
 use Rattle.wordset.specs.Lanes.{words}
 use Rattle.std.specs.Prelude.{◌||◌}

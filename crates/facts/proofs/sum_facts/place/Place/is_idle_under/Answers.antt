@@ -1,8 +1,7 @@
-use Rattle.std.proofs.Common.{◌≡◌, ◌∙◌, sym, ap, subst, true, false, refl}
+use Rattle.std.proofs.Common.{◌∙◌, sym, ap}
 use Rattle.wordset.specs.Words.{Words}
 use Rattle.facts.specs.Sums.PlaceInCode.{place_in_code}
 use Rattle.facts.specs.Sums.PartInCode.{part_in_code}
-use Rattle.domain.specs.Sums.Facts.{Fact}
 use Rattle.domain.specs.Sums.FactInCode.{fact_in_code}
 use Rattle.facts.proofs.Sums.SplitLemmas.{no_link_idle, under_link_idle}
 use Rattle.facts.proofs.sum_facts.place.Place.is_idle_under.Goals as goal

@@ -1,4 +1,4 @@
-use Rattle.std.proofs.Common.{◌≡◌, ◌∙◌, ℕ, false, sym, subst, refl}
+use Rattle.std.proofs.Common.{◌∙◌, ℕ, subst, refl}
 use Rattle.std.specs.Prelude.{IsTrue, ◌↔◌}
 use Rattle.facts.specs.Sums.PlaceInCode.{place_in_code}
 use Rattle.domain.specs.Sums.Facts.{Fact}

@@ -1,6 +1,4 @@
-use Rattle.std.proofs.Common.{◌≡◌, ◌<◌, Bool, true, false, refl, arith}
-use Rattle.wordset.specs.Lanes.{words}
-use Rattle.domain.specs.Facts.{Cell}
+use Rattle.std.proofs.Common.{arith}
 use Rattle.facts.proofs.Sums.SplitLemmas.{told_or_all}
 use Rattle.wordset.proofs.SetLemmas.{words_past}
 use Rattle.facts.proofs.sum_facts.place.Place.is_split_by_told.Goals as goal

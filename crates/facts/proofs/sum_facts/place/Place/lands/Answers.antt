@@ -1,4 +1,4 @@
-use Rattle.std.proofs.Common.{◌≡◌, ◌∙◌, sym, ap, refl, subst}
+use Rattle.std.proofs.Common.{◌∙◌, ap, subst}
 use Rattle.std.specs.Prelude.{IsTrue, ◌↔◌}
 use Rattle.facts.specs.Sums.PlaceInCode.{place_in_code}
 use Rattle.domain.specs.Sums.Facts.{Fact}

@@ -1,4 +1,4 @@
-use Rattle.std.proofs.Common.{◌≡◌, ◌∙◌, sym, ap}
+use Rattle.std.proofs.Common.{◌∙◌, sym, ap}
 use Rattle.wordset.specs.Words.{Words}
 use Rattle.facts.specs.Sums.PlaceInCode.{place_in_code}
 use Rattle.facts.specs.Sums.PartInCode.{part_in_code}

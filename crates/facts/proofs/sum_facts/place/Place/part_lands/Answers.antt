@@ -1,4 +1,4 @@
-use Rattle.std.proofs.Common.{◌≡◌, ◌∙◌, sym}
+use Rattle.std.proofs.Common.{◌∙◌, sym}
 use Rattle.facts.specs.Sums.PlaceInCode.{place_in_code}
 use Rattle.facts.proofs.Sums.SplitLemmas.{part_void, part_entails, part_split}
 use Rattle.facts.proofs.EntailLemmas.{not_both}

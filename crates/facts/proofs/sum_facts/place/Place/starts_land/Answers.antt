@@ -1,9 +1,9 @@
-use Rattle.std.proofs.Common.{◌≡◌, ◌∙◌, sym, ap, refl, subst}
+use Rattle.std.proofs.Common.{◌∙◌, ap, refl, subst}
 use Rattle.std.specs.Prelude.{IsTrue, ◌↔◌}
 use Rattle.facts.specs.Sums.PlaceInCode.{place_in_code}
 use Rattle.wordset.specs.Words.{Words}
 use Rattle.domain.specs.Sums.Facts.{Fact}
-use Rattle.domain.specs.Sums.FactInCode.{fact_in_code, rules_of}
+use Rattle.domain.specs.Sums.FactInCode.{rules_of}
 use Rattle.facts.specs.Sums.Entailment.{EntailsOne}
 use Rattle.facts.specs.Sums.Starts.{start_fact}
 use Rattle.facts.proofs.Sums.SplitLemmas.{both_parts_land, first_part_fails, one_lands}

@@ -1,6 +1,5 @@
 use Rattle.std.proofs.Common.{ap, ◌∙◌, arith}
 use Rattle.wordset.specs.Words.{Words}
-use Rattle.facts.specs.Sums.PlaceInCode.{place_in_code}
 use Rattle.peripherals.specs.Loading.{image_of}
 use Rattle.domain.specs.Sums.InCode.{sum_of}
 use Rattle.facts.proofs.Sums.ShowingLemmas.{said_given}

@@ -1,9 +1,7 @@
-use Rattle.std.proofs.Common.{◌≡◌, ◌<◌, ◌≤◌, length, refl, sym, ap, ◌∙◌, arith}
-use Rattle.std.proofs.Math.Path.{fun_ext}
-use Rattle.wordset.specs.Words.{all_words}
+use Rattle.std.proofs.Common.{refl, ap, ◌∙◌, arith}
 use Rattle.domain.specs.Sums.Terms.{Summand}
 use Rattle.domain.specs.Sums.Adding.{set_of_term}
-use Rattle.domain.specs.Sums.InCode.{sum_of, summand_of, term_of}
+use Rattle.domain.specs.Sums.InCode.{sum_of}
 use Rattle.domain.proofs.FactLemmas.{given_of_one}
 use Rattle.facts.specs.Sums.StartInCode.{start_in_code}
 use Rattle.facts.proofs.Sums.BeginningLemmas.{not_of_one}

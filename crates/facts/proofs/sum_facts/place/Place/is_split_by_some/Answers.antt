@@ -18,8 +18,10 @@ loop-cell-preserved g c = (
 )
 
 pub returns-then-is_split_by-clause-split : goal.returns-then-is_split_by-clause-split
-returns-then-is_split_by-clause-split g c = λ t. (Cell c.in-Some.cell,
-    subst (λ (f : Fact). IsSplitBy (place_in_code c.args.self.now) (Cell c.in-Some.cell) f (g.F.FactSource.facts c.args.among.now)) c.loop-cell.invariant.1 (c.is_split_by.ensures.split.0 c.if-is_split_by.true))
+returns-then-is_split_by-clause-split g c = λ t. (
+  Cell c.in-Some.cell,
+  subst (λ (f : Fact). IsSplitBy (place_in_code c.args.self.now) (Cell c.in-Some.cell) f (g.F.FactSource.facts c.args.among.now)) c.loop-cell.invariant.1 (c.is_split_by.ensures.split.0 c.if-is_split_by.true),
+)
 
 pub returns-clause-left : goal.returns-clause-left
 returns-clause-left g c = λ e x lt has. all_pass c.loop-cell.invariant.0 c.in-None.ensures.steps x lt has

@@ -1,4 +1,4 @@
-use Rattle.std.proofs.Common.{◌∙◌, sym, ap, arith}
+use Rattle.std.proofs.Common.{◌∙◌, sym, ap, arith, rules}
 use Rattle.instruct.proofs.KindLemmas.{reference_meaning, group1_meaning, group2_meaning, undefined_meaning}
 use Rattle.domain.specs.Sums.FactInCode.{fact_in_code}
 use Rattle.facts.specs.Sums.PlaceInCode.{place_in_code}
@@ -9,21 +9,19 @@ use Rattle.facts.proofs.Sums.DeviceLemmas.{of_meaning, of_group3}
 use Rattle.facts.proofs.sum_facts.place.Place.put_outcomes.Goals as goal
 
 pub operate-requires : goal.operate-requires
-operate-requires g c = record {
-  word = first_group_8e _ _ (sym c.decode.ensures.kind ∙ c.in-Operate1.is);
-  cells = omega (arith, c.requires.cells);
-  relations = c.requires.relations;
-  chains = c.requires.chains;
-  terms = c.requires.terms;
-  short = c.requires.short;
-}
+operate-requires g c = (
+  search rules,
+  (
+    first_group_8e _ _ (sym c.decode.ensures.kind ∙ c.in-Operate1.is),
+    (omega (arith, c.requires.cells), (c.requires.relations, (c.requires.chains, (c.requires.terms, c.requires.short)))),
+  ),
+)
 
 pub transfer_by-requires : goal.transfer_by-requires
-transfer_by-requires g c = record {
-  kind = kind_here c.args.at c.args.word c.profile.ensures (c.decode.ensures.meaning c.args.at) c.in-Iot.is;
-  cells = c.requires.cells;
-  relations = c.requires.relations;
-}
+transfer_by-requires g c = (
+  search rules,
+  (kind_here c.args.at c.args.word c.profile.ensures (c.decode.ensures.meaning c.args.at) c.in-Iot.is, (c.requires.cells, c.requires.relations)),
+)
 
 pub returns-in-Memory : goal.returns-in-Memory
 returns-in-Memory g c = of_meaning (place_in_code c.args.self.now) (fact_in_code c.args.fact.now) c.args.at c.args.word (reference_meaning _ c.args.at c.args.word (kind_here c.args.at c.args.word c.profile.ensures (c.decode.ensures.meaning c.args.at) c.in-Memory.is)) c.refer.ensures

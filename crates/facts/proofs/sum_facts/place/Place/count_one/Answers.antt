@@ -1,5 +1,5 @@
-use Rattle.std.proofs.Common.{◌≡◌, ◌∙◌, sym, ap, refl}
-use Rattle.wordset.specs.Words.{Words, one, plus, all_words}
+use Rattle.std.proofs.Common.{◌≡◌, ◌∙◌, ap}
+use Rattle.wordset.specs.Words.{Words, one, plus}
 use Rattle.wordset.specs.Lanes.{words}
 use Rattle.domain.specs.Sums.Facts.{Fact}
 use Rattle.domain.specs.Sums.FactInCode.{fact_in_code}
@@ -8,7 +8,7 @@ use Rattle.wordset.specs.Words.{shifted, without, has_some}
 use Rattle.domain.specs.Facts.{Cell}
 use Rattle.domain.specs.Sums.Narrowing.{words_known}
 use Rattle.facts.proofs.OutcomeLemmas.{plus_two}
-use Rattle.facts.proofs.Sums.ComesLemmas.{goes_on, chosen_goes, counted_to, both_are, all_reached, zero_there}
+use Rattle.facts.proofs.Sums.ComesLemmas.{goes_on, chosen_goes, counted_to, both_are, zero_there}
 use Rattle.facts.proofs.sum_facts.place.Place.count_one.Goals as goal
 
 pub returns : goal.returns

@@ -350,33 +350,6 @@ difference_shown pl f r m n b e h = (
 pub no_difference : (pl : Place) (f : Fact) (r : Relation) → ((m n : Location) → r.sum ≡ difference_of m n → ⊥) → IsTrue false ↔ ShowsDifference pl f r
 no_difference pl f r none = not_true (λ d. none d.0 d.1 d.4)
 
-pub not_two : (sum : Sum) → (length sum ≡ 2 → ⊥) → (m n : Location) → sum ≡ difference_of m n → ⊥
-not_two sum other m n e = other (ap length e)
-
-pub first_other : (sum : Sum) (s : Summand) → s ≡ summand_at sum 0 → (s.coefficient ≡ 1 → ⊥) → (m n : Location) → sum ≡ difference_of m n → ⊥
-first_other sum s is other m n e = other (ap (λ (x : Summand). x.coefficient) (is ∙ ap (λ (xs : Sum). summand_at xs 0) e))
-
-pub second_other : (sum : Sum) (s : Summand) → s ≡ summand_at sum 1 → (s.coefficient ≡ 4095 → ⊥) → (m n : Location) → sum ≡ difference_of m n → ⊥
-second_other sum s is other m n e = other (ap (λ (x : Summand). x.coefficient) (is ∙ ap (λ (xs : Sum). summand_at xs 1) e))
-
-behind_not : (x k : ℕ) (n : Location) → Behind x k ≡ Holding n → ⊥
-behind_not x k n e = cc
-
-pub first_behind : (sum : Sum) (s : Summand) (x k : ℕ) → s ≡ summand_at sum 0 → s.term ≡ Behind x k → (m n : Location) → sum ≡ difference_of m n → ⊥
-first_behind sum s x k is b m n e = behind_not x k m (sym b ∙ ap (λ (y : Summand). y.term) (is ∙ ap (λ (xs : Sum). summand_at xs 0) e))
-
-pub second_behind : (sum : Sum) (s : Summand) (x k : ℕ) → s ≡ summand_at sum 1 → s.term ≡ Behind x k → (m n : Location) → sum ≡ difference_of m n → ⊥
-second_behind sum s x k is b m n e = behind_not x k n (sym b ∙ ap (λ (y : Summand). y.term) (is ∙ ap (λ (xs : Sum). summand_at xs 1) e))
-
-pub is_difference : (sum : Sum) (s t : Summand) (m n : Location) → length sum ≡ 2 → s ≡ summand_at sum 0 → t ≡ summand_at sum 1 → s.coefficient ≡ 1 → t.coefficient ≡ 4095 →
-    s.term ≡ Holding m → t.term ≡ Holding n → sum ≡ difference_of m n
-is_difference [] s t m n l es et cs ct ts te = absurd (omega (arith, l))
-is_difference (a ∷ []) s t m n l es et cs ct ts te = absurd (omega (arith, l))
-is_difference (a ∷ b ∷ []) s t m n l es et cs ct ts te =
-    ap (λ (x : Summand). x ∷ b ∷ []) (sym es ∙ summand_is s (record { coefficient = 1; term = Holding m }) cs ts)
-    ∙ ap (λ (x : Summand). record { coefficient = 1; term = Holding m } ∷ x ∷ []) (sym et ∙ summand_is t (record { coefficient = 4095; term = Holding n }) ct te)
-is_difference (a ∷ b ∷ c ∷ cs) s t m n l es et cf ct ts te = absurd (omega (arith, l))
-
 -- sets that are the same by two names
 pub links_as : (a b c d : Words) → a ≡ c → b ≡ d → IsLinkWithin c d → IsLinkWithin a b
 links_as a b c d e f h = subst (λ (s : Words). IsLinkWithin a s) (sym f) (subst (λ (s : Words). IsLinkWithin s d) (sym e) h)
@@ -429,13 +402,6 @@ pub entry_passed : {A : Type 0} (f : A → TrackedCell) (a : ℕ) (xs : List A) 
     (v : ℕ) → tracked a (map f (drop i xs)) v ≡ true → tracked a (map f (drop (i + 1) xs)) v ≡ true
 entry_passed f a xs i x lt e v h =
     (and_parts (if (f x).address == a then (f x).set v else true) (tracked a (map f (drop (i + 1) xs)) v) (subst (λ ys. tracked a (map f ys) v ≡ true) (drop_item xs i x lt e) h)).1
-
--- a chain on another cell
-pub on_other : (x y : ℕ) (P : Type 0) → (x ≡ y → ⊥) → IsTrue true ↔ (x ≡ y → P)
-on_other x y P other = (λ t e. absurd (other e), λ h. refl)
-
-pub on_same : (x y : ℕ) (b c : Bool) → x ≡ y → b ≡ c → IsTrue b ↔ (x ≡ y → c ≡ true)
-on_same x y b c same is = (λ t e. sym is ∙ t, λ h. is ∙ h same)
 
 -- all parts together
 pub entails_iff : (pl : Place) (a b : Fact) (ac : Words) (cells : List TrackedCell) (t : Bool) → names_words ac cells ≡ b.set → EntailsRegisters pl a b → EachWithin pl a cells → KnowsAll pl a b.relations →

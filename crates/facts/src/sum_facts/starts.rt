@@ -11,7 +11,7 @@ ghost use Rattle.bin_tape.specs.Image.{HoldsWords};
 ghost use Rattle.peripherals.specs.Loading.{image_of};
 ghost use Rattle.domain.specs.Facts.{Cell, tape_word};
 ghost use Rattle.domain.specs.Meaning.{location_of};
-ghost use Rattle.domain.specs.Sums.Adding.{set_of_shape, set_of_sum, with_name};
+ghost use Rattle.domain.specs.Sums.Adding.{set_of_shape, set_of_sum, set_of_term, with_name};
 ghost use Rattle.domain.specs.Sums.InCode.{sum_of, term_of};
 ghost use Rattle.domain.specs.Sums.Knowing.{said_of, words_of_term};
 ghost use Rattle.facts.specs.Sums.Entailment.{Lands, PartLands, with_one_link};
@@ -105,19 +105,26 @@ impl StartFact<'_> {
         }
     }
 
+    /// Puts the words that a name may hold into a place for them, and all words for a term that is no name.
+    fn put_set_of_term(&self, term: &Term, place: &mut WordSet)
+        ensures { words place.new ≡ set_of_term (start_in_code self.now) (term_of term.now) }
+    {
+        match term {
+            Term::Holding(name) => self.put_set_of(name, place),
+            Term::Behind { .. } => *place = WordSet::all(),
+        }
+    }
+
     /// Puts the set that the fact gives for a sum of one of the shapes into a place for it: that of a name alone, and all words
     /// for any other, since there are no relations.
     fn put_set_of_shape(&self, sum: &Sum, place: &mut WordSet)
         ensures { words place.new ≡ set_of_shape (start_in_code self.now) (sum_of sum.now) }
     {
-        *place = WordSet::all();
         if sum.len() != 1 {
+            *place = WordSet::all();
             return;
         }
-        match sum.get(0).term {
-            Term::Holding(name) => self.put_set_of(&name, place),
-            Term::Behind { .. } => {}
-        }
+        self.put_set_of_term(&sum.get(0).term, place);
     }
 
     /// Puts what the fact says of the terms of a sum from a place on into a place for it.

@@ -19,7 +19,7 @@ returns-then-reads_switches g c =
 pub returns-then-clears : goal.returns-then-clears
 returns-then-clears g c =
     rw (sym c.reads_switches.ensures ∙ c.if-reads_switches.false, sym c.clears.ensures ∙ c.if-clears.true)
-    (c.take_for_accumulator-2.ensures ∙ ap (λ (s : Words). taking Ac s (fact_in_code c.args.fact.now)) c.one.ensures)
+    (c.take_for_accumulator-then-clears.ensures ∙ ap (λ (s : Words). taking Ac s (fact_in_code c.args.fact.now)) c.one.ensures)
 
 pub returns : goal.returns
 returns g c = rw (sym c.reads_switches.ensures ∙ c.if-reads_switches.false, sym c.clears.ensures ∙ c.if-clears.false) c.copy_from.ensures.fact

@@ -11,7 +11,7 @@ use Rattle.facts.proofs.Sums.SplitLemmas.{none_taken, one_taken, all_taken}
 use Rattle.facts.proofs.sum_facts.place.Place.is_split_by.Goals as goal
 
 pub loop-at-init : goal.loop-at-init
-loop-at-init g c = (none_taken (place_in_code c.args.self.now) (location_of c.args.name.now) (g.P.Part.part c.args.part.now) _ (g.F.FactSource.facts c.args.among.now) (λ v. ap (λ (s : Words). s v) c.empty.ensures), refl)
+loop-at-init g c = (none_taken (place_in_code c.args.self.now) (location_of c.args.name.now) (g.P.Part.part c.args.part.now) _ (g.F.FactSource.facts c.args.among.now) (λ v. ap (λ (s : Words). s v) c.empty-taken.ensures), refl)
 
 pub loop-at-preserved : goal.loop-at-preserved
 loop-at-preserved g c = (

@@ -12,14 +12,7 @@ use Rattle.facts.proofs.sum_facts.start_fact.StartFact.put_set_of_shape.Goals as
 pub returns-then-len-ne1 : goal.returns-then-len-ne1
 returns-then-len-ne1 c = c.all.ensures ∙ not_of_one (start_in_code c.args.self.now) (sum_of c.args.sum.now) refl (λ e. omega (arith, e, c.len.ensures.count, c.if-len-ne1.true))
 
-pub returns-in-Holding : goal.returns-in-Holding
-returns-in-Holding c =
-    c.put_set_of.ensures ∙ ap (λ t. set_of_term (start_in_code c.args.self.now) t) (sym (ap term_of c.in-Holding.is))
-    ∙ ap (λ (s : Summand). set_of_term (start_in_code c.args.self.now) s.term) c.get.ensures
-    ∙ given_of_one (start_in_code c.args.self.now) (sum_of c.args.sum.now) (omega (arith, c.len.ensures.count, c.if-len-ne1.false))
-
-pub returns-in-Behind : goal.returns-in-Behind
-returns-in-Behind c =
-    c.all.ensures ∙ ap (λ t. set_of_term (start_in_code c.args.self.now) t) (sym (ap term_of c.in-Behind.is))
-    ∙ ap (λ (s : Summand). set_of_term (start_in_code c.args.self.now) s.term) c.get.ensures
+pub returns : goal.returns
+returns c =
+    c.put_set_of_term.ensures ∙ ap (λ (s : Summand). set_of_term (start_in_code c.args.self.now) s.term) c.get.ensures
     ∙ given_of_one (start_in_code c.args.self.now) (sum_of c.args.sum.now) (omega (arith, c.len.ensures.count, c.if-len-ne1.false))

@@ -1,6 +1,5 @@
 use Rattle.std.proofs.Common.{refl, sym, ap, ◌∙◌}
 use Rattle.wordset.specs.Words.{Words}
-use Rattle.wordset.specs.Lanes.{words}
 use Rattle.domain.specs.Sums.Facts.{OfSums}
 use Rattle.domain.specs.Sums.Adding.{adding}
 use Rattle.domain.specs.Sums.InCode.{sum_of}

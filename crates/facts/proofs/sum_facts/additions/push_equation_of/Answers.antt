@@ -4,10 +4,9 @@ use Rattle.domain.specs.Facts.{Ac, same}
 use Rattle.domain.specs.Sums.Terms.{Sum}
 use Rattle.domain.specs.Sums.Facts.{Relation, Fact}
 use Rattle.domain.specs.Sums.Moves.{free_of}
-use Rattle.domain.specs.Sums.InCode.{term_of, sum_of}
+use Rattle.domain.specs.Sums.InCode.{sum_of}
 use Rattle.domain.specs.Sums.RelationsInCode.{relation_of}
 use Rattle.domain.specs.Sums.FactInCode.{fact_in_code}
-use Rattle.facts.specs.Sums.Additions.{ac_is}
 use Rattle.facts.specs.Sums.Shaped.{told}
 use Rattle.facts.proofs.sum_facts.additions.push_equation_of.Goals as goal
 

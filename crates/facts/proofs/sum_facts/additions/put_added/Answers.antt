@@ -1,10 +1,8 @@
-use Rattle.std.proofs.Common.{List, map, ap, refl, ◌∙◌}
-use Rattle.wordset.specs.Words.{Words, only, toggled}
+use Rattle.std.proofs.Common.{map, ap, ◌∙◌}
+use Rattle.wordset.specs.Words.{Words, toggled}
 use Rattle.wordset.specs.Lanes.{words}
 use Rattle.wordset.specs.Links.{links_of, carries_of}
-use Rattle.domain.specs.Facts.{Ac}
-use Rattle.domain.specs.Sums.Facts.{Relation, Fact}
-use Rattle.domain.specs.Sums.Adding.{with_name}
+use Rattle.domain.specs.Sums.Facts.{Fact}
 use Rattle.domain.specs.Sums.RelationsInCode.{relation_of}
 use Rattle.domain.specs.Sums.FactInCode.{fact_in_code}
 use Rattle.facts.specs.Sums.Shaped.{term_if}

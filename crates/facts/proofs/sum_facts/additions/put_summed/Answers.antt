@@ -5,7 +5,6 @@ use Rattle.domain.specs.Facts.{Ac}
 use Rattle.domain.specs.Sums.InCode.{sum_of}
 use Rattle.domain.specs.Sums.Facts.{Fact}
 use Rattle.domain.specs.Sums.Adding.{with_name}
-use Rattle.domain.specs.Sums.RelationsInCode.{relation_of}
 use Rattle.domain.specs.Sums.FactInCode.{fact_in_code}
 use Rattle.facts.specs.Sums.Shaped.{term_if}
 use Rattle.facts.proofs.Sums.RowsLemmas.{summed_is}

@@ -1,4 +1,4 @@
-use Rattle.std.proofs.Common.{ℕ, ◌<◌, ap, ◌∙◌, arith}
+use Rattle.std.proofs.Common.{◌<◌, ap, ◌∙◌, arith}
 use Rattle.wordset.specs.Words.{Words, between, difference, shifted, union}
 use Rattle.wordset.specs.Lanes.{words}
 use Rattle.facts.proofs.Sums.CarryingLemmas.{with_carry_of}

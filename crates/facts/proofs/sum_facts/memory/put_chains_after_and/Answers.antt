@@ -1,4 +1,3 @@
-use Rattle.std.proofs.Common.{◌∙◌, sym}
 use Rattle.facts.proofs.sum_facts.memory.put_chains_after_and.Goals as goal
 
 pub returns-in-None : goal.returns-in-None

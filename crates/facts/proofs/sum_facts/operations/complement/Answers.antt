@@ -4,9 +4,8 @@ use Rattle.domain.specs.Facts.{Ac}
 use Rattle.domain.specs.Sums.Terms.{Sum, Holding}
 use Rattle.domain.specs.Sums.Facts.{Relation}
 use Rattle.domain.specs.Sums.Brief.{brief_words}
-use Rattle.domain.specs.Sums.InCode.{sum_of}
 use Rattle.domain.specs.Sums.RelationsInCode.{relation_of}
-use Rattle.facts.specs.Sums.Additions.{ac_with_rest, if_without_ac}
+use Rattle.facts.specs.Sums.Additions.{ac_with_rest}
 use Rattle.facts.specs.Sums.Shaped.{told, if_stays}
 use Rattle.facts.proofs.Sums.RowsLemmas.{stays_unless}
 use Rattle.facts.proofs.sum_facts.operations.complement.Goals as goal

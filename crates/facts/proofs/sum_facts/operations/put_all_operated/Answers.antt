@@ -1,13 +1,12 @@
 use Rattle.std.proofs.Common.{ap, ◌∙◌}
 use Rattle.wordset.specs.Words.{Words, images}
 use Rattle.wordset.specs.Lanes.{words}
-use Rattle.wordset.specs.Links.{links_of}
 use Rattle.wordset.specs.Operate as said
 use Rattle.domain.specs.Facts.{Ac}
 use Rattle.domain.specs.Sums.Facts.{Fact, OfEquations}
 use Rattle.domain.specs.Sums.Adding.{with_name}
 use Rattle.domain.specs.Sums.FactInCode.{fact_in_code}
-use Rattle.facts.specs.Sums.Operations.{ac_after, link_after, operated}
+use Rattle.facts.specs.Sums.Operations.{link_after, operated}
 use Rattle.facts.proofs.Sums.RowsLemmas.{images_ac, images_link}
 use Rattle.facts.proofs.sum_facts.operations.put_all_operated.Goals as goal
 

@@ -1,15 +1,9 @@
-use Rattle.std.proofs.Common.{◌≡◌, [], ◌∷◌, ap, sym, ◌∙◌, refl}
-use Rattle.std.specs.Prelude.{Option, None, Some, if◌then◌else◌}
+use Rattle.std.proofs.Common.{ap, sym, ◌∙◌}
 use Rattle.wordset.specs.Words.{Words, sums}
 use Rattle.wordset.specs.Lanes.{words}
-use Rattle.domain.specs.Facts.{Cell}
-use Rattle.domain.specs.Sums.Terms.{Sum, Holding, coefficient_in}
-use Rattle.domain.specs.Sums.Facts.{Fact, OfSums}
-use Rattle.domain.specs.Sums.Adding.{times, adding, adding_all}
-use Rattle.domain.specs.Sums.Moves.{moved_relation, counted_sum}
+use Rattle.domain.specs.Sums.Adding.{times}
 use Rattle.domain.specs.Sums.InCode.{sum_of}
 use Rattle.domain.specs.Sums.FactInCode.{fact_in_code}
-use Rattle.facts.specs.Sums.Shaped.{told}
 use Rattle.facts.proofs.Sums.RowsLemmas.{moved_unknown, moved_known}
 use Rattle.facts.proofs.sum_facts.stores.add_moved.Goals as goal
 

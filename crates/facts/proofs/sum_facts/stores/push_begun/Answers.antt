@@ -3,7 +3,6 @@ use Rattle.std.specs.Prelude.{Option, Some}
 use Rattle.wordset.specs.Words.{only}
 use Rattle.wordset.specs.Links.{links_of}
 use Rattle.domain.specs.Sums.Brief.{brief_words}
-use Rattle.domain.specs.Sums.Chains.{Chain, longer}
 use Rattle.domain.specs.Sums.ChainsInCode.{step_of, chain_of}
 use Rattle.domain.specs.Sums.RelationsInCode.{relation_of}
 use Rattle.domain.specs.Sums.FactInCode.{fact_in_code}

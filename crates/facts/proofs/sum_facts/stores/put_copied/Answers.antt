@@ -1,9 +1,9 @@
-use Rattle.std.proofs.Common.{◌≡◌, ℕ, ◌<◌, List, map, ap, ◌∙◌, arith}
+use Rattle.std.proofs.Common.{ℕ, ◌<◌, List, map, ap, ◌∙◌, arith}
 use Rattle.domain.specs.Sums.RelationsInCode.{relation_of}
 use Rattle.std.specs.Prelude.{flat_map, not}
 use Rattle.wordset.specs.Words.{Words, one}
 use Rattle.wordset.specs.Lanes.{words}
-use Rattle.domain.specs.Facts.{Location, Ac, Cell, is_outside}
+use Rattle.domain.specs.Facts.{Ac, Cell, is_outside}
 use Rattle.domain.specs.Sums.Facts.{Relation, Fact, OfEquations}
 use Rattle.domain.specs.Sums.Adding.{with_name, adding_all}
 use Rattle.domain.specs.Sums.Moves.{taking}

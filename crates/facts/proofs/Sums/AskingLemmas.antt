@@ -1,5 +1,5 @@
 -- What is asked of a word: the cells that it reads, writes and calls.
-use Rattle.std.proofs.Common.{◌≡◌, ℕ, ◌<◌, ◌≤◌, ◌==◌, Bool, true, false, ◌&&◌, ◌||◌, ◌⊎◌, Option, Some, None, refl, sym, ap, ◌∙◌, subst, inl, inr}
+use Rattle.std.proofs.Common.{◌≡◌, ℕ, ◌==◌, Bool, true, false, ◌&&◌, ◌||◌, Option, Some, None, refl, sym, ap, ◌∙◌, subst, inl}
 use Rattle.std.proofs.lemmas.Bool.{eqb-true, eq-eqb, false≢true}
 use Rattle.std.proofs.Math.Path.{fun_ext}
 use Rattle.std.specs.Prelude.{IsTrue, ◌↔◌, is_some}
@@ -14,7 +14,7 @@ use Rattle.wordset.proofs.LaneBits.{or_false}
 use Rattle.processor.specs.Machine.{steps_pointer}
 use Rattle.declaration.specs.Declaration.{IsListed}
 use Rattle.domain.specs.Facts.{is_routine}
-use Rattle.domain.specs.Sums.Facts.{Fact, Place, Rules}
+use Rattle.domain.specs.Sums.Facts.{Fact, Place}
 use Rattle.facts.specs.Conditions.{reads_operand, stores, counts, calls}
 use Rattle.facts.specs.Sums.References.{targets}
 use Rattle.facts.specs.Sums.Conditions.{may_read, may_write, called, MayCount, CountsItsReturn, ReadsAreListed}

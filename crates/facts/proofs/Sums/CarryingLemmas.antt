@@ -1,10 +1,10 @@
 -- Sums of words by the carry with which they come.
-use Rattle.std.proofs.Common.{◌≡◌, ℕ, ◌+◌, ◌-◌, ◌*◌, ◌%◌, ◌<◌, ◌≤◌, ◌==◌, Bool, true, false, not, ◌&&◌, ◌||◌, List, refl, sym, ap, ◌∙◌, inl, inr, arith}
+use Rattle.std.proofs.Common.{◌≡◌, ℕ, ◌+◌, ◌-◌, ◌*◌, ◌<◌, ◌≤◌, ◌==◌, Bool, true, false, not, ◌&&◌, refl, sym, ap, ◌∙◌, inl, inr, arith}
 use Rattle.std.specs.Prelude.{nat_le, nat_lt}
 use Rattle.std.proofs.Math.Path.{fun_ext}
 use Rattle.std.proofs.lemmas.Bool.Decides.{nat_tests}
-use Rattle.std.proofs.lemmas.Bool.{lt-ltb, cases_lt, eq-eqb, eqb-true, true≢false}
-use Rattle.wordset.specs.Words.{Words, minus, all_words, nothing, between, meet, difference, shifted, some_below, IsFirstFrom, HasNoneFrom, IsGreatest}
+use Rattle.std.proofs.lemmas.Bool.{cases_lt, eq-eqb, eqb-true, true≢false}
+use Rattle.wordset.specs.Words.{Words, minus, all_words, nothing, between, meet, difference, shifted, some_below, IsFirstFrom, IsGreatest}
 use Rattle.wordset.proofs.Tests.{some_from, some_to, IsSome, both_ways, and_both, and_first, and_second}
 use Rattle.facts.specs.Sums.Additions.{sums_carrying}
 use Rattle.facts.specs.Sums.Shaped.{sums_with}

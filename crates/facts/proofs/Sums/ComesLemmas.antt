@@ -1,5 +1,5 @@
 -- Outcomes by whether they may come about.
-use Rattle.std.proofs.Common.{◌≡◌, ℕ, Bool, true, false, ◌&&◌, List, [], ◌∷◌, ◌++◌, refl, sym, ap, ◌∙◌, lit<}
+use Rattle.std.proofs.Common.{◌≡◌, ℕ, Bool, true, false, ◌&&◌, List, [], ◌∷◌, ◌++◌, refl, sym, ap, ◌∙◌, append_assoc, lit<}
 use Rattle.std.specs.Prelude.{if◌then◌else◌, map}
 use Rattle.std.proofs.Math.Path.{fun_ext}
 use Rattle.wordset.specs.Words.{Words, all_words, one, shifted, has_some, has_link}
@@ -73,6 +73,10 @@ counted_is pl y f e q =
 -- lists of outcomes side by side
 pub both_are : {a b c d : List Successor} → a ≡ b → c ≡ d → a ++ c ≡ b ++ d
 both_are {a} {b} {c} {d} h k = ap (λ x. x ++ c) h ∙ ap (λ x. b ++ x) k
+
+pub two_pairs : (a b c d x y z w : List Successor) → a ++ b ≡ x ++ y → c ++ d ≡ z ++ w → a ++ (b ++ (c ++ d)) ≡ x ++ (y ++ (z ++ w))
+two_pairs a b c d x y z w h k =
+    sym (append_assoc a b (c ++ d)) ∙ ap (λ t. t ++ (c ++ d)) h ∙ ap (λ t. (x ++ y) ++ t) k ∙ append_assoc x y (z ++ w)
 
 pub none_after : {xs ys zs : List Successor} → xs ≡ zs → ys ≡ [] → xs ++ ys ≡ zs
 none_after {xs} {ys} {zs} h e = ap (λ y. xs ++ y) e ∙ go xs ∙ h

@@ -1,4 +1,4 @@
-use Rattle.std.proofs.Common.{◌∙◌, sym, Bool, ap, refl, subst}
+use Rattle.std.proofs.Common.{◌∙◌, sym, Bool, ap, refl, subst, arith, lit<}
 use Rattle.wordset.specs.Words.{one, only}
 use Rattle.domain.specs.Sums.Facts.{Fact}
 use Rattle.domain.specs.Sums.ChainsInCode.{AreShort}
@@ -24,8 +24,23 @@ returns g c = none_behind (outcome_in c.refer_to-2.new.first) (outcome_in c.refe
 pub single_target-single-requires : goal.single_target-single-requires
 single_target-single-requires g c = λ direct. c.put_targets.ensures ∙ ap (λ (b : Bool). targets (place_in_code c.args.self.now) b c.target-named.result (fact_in_code c.args.fact.now)) direct
 
-pub refer_to-requires-clause-terms : goal.refer_to-requires-clause-terms
-refer_to-requires-clause-terms g c = subst (λ (f : Fact). HaveFewTerms f.relations) (sym c.put_counted.ensures.fact) (few_moved c.target-named.result (one 1) (only (one 1)) (fact_in_code c.args.fact.now).relations c.requires.terms)
-
-pub refer_to-requires-clause-short : goal.refer_to-requires-clause-short
-refer_to-requires-clause-short g c = subst (λ (f : Fact). AreShort f.chains) (sym c.put_counted.ensures.fact) (short_counted c.target-named.result 1 (fact_in_code c.args.fact.now).chains c.requires.short)
+pub refer_to-requires : goal.refer_to-requires
+refer_to-requires g c = (
+  lit< tt,
+  (
+    c.single_target-single.ensures,
+    (
+      omega (arith, c.put_counted.ensures.cells, c.requires.cells),
+      (
+        omega (arith, c.put_counted.ensures.relations, c.requires.relations),
+        (
+          omega (arith, c.put_counted.ensures.relations, c.put_counted.ensures.chains, c.requires.chains),
+          (
+            subst (λ (f : Fact). HaveFewTerms f.relations) (sym c.put_counted.ensures.fact) (few_moved c.target-named.result (one 1) (only (one 1)) (fact_in_code c.args.fact.now).relations c.requires.terms),
+            subst (λ (f : Fact). AreShort f.chains) (sym c.put_counted.ensures.fact) (short_counted c.target-named.result 1 (fact_in_code c.args.fact.now).chains c.requires.short),
+          ),
+        ),
+      ),
+    ),
+  ),
+)

@@ -42,12 +42,6 @@ pub append_nothing : {A : Type 0} (xs : List A) → xs ++ [] ≡ xs
 append_nothing [] = refl
 append_nothing (x ∷ xs) = ap (λ (r : List _). x ∷ r) (append_nothing xs)
 
--- Each of them stands there.
-pub all_put_on : {A B C : Type 0} (h : A → B) (g : B → List C) (xs : List A) (i : ℕ) (made begun : List C) → length xs ≤ i →
-    made ++ flat_map g (map h (drop i xs)) ≡ begun → made ≡ begun
-all_put_on h g xs i made begun past e =
-    sym (ap (λ (os : List _). made ++ flat_map g (map h os)) (drop_of_length-le xs {i = i} past) ∙ append_nothing made) ∙ e
-
 -- Each of the relations has at most three terms.
 pub few_terms : {A : Type 0} (h : A → Relation) (xs : List A) (i : ℕ) (x : A) → i < length xs → x ≡ get_or xs i x → HaveFewTerms (map h xs) → length (h x).sum ≤ 3
 few_terms h [] i x lt is t = absurd (omega arith)

@@ -3,8 +3,7 @@ use Rattle.std.proofs.Common.{◌≡◌, ℕ, ◌+◌, ◌<◌, ◌≤◌, Bool,
 use Rattle.std.specs.Prelude.{IsTrue, ◌↔◌, ◌⊎◌, if◌then◌else◌, flat_map}
 use Rattle.std.specs.List.{list_all}
 use Rattle.std.proofs.lemmas.Bool.{and_from, and_parts, cond_both, eqb-true, eq-eqb, true≢false, false≢true, cases_eq, cases_lt, ne_eqb}
-use Rattle.std.proofs.lemmas.List.{drop_more}
-use Rattle.wordset.specs.Words.{Words, IsWithin, SameWords, IsLinkWithin, meet, minus, plus, only, some_below}
+use Rattle.wordset.specs.Words.{Words, IsWithin, SameWords, IsLinkWithin, meet, plus, some_below}
 use Rattle.wordset.proofs.SetLemmas.{lt_to, words_past}
 use Rattle.wordset.specs.Lanes.{words}
 use Rattle.wordset.specs.Links.{links_of}
@@ -12,7 +11,7 @@ use Rattle.wordset.specs.declared.links.Links.{Links}
 use Rattle.processor.specs.Runs.{Image}
 use Rattle.domain.specs.Facts.{Location, Ac, Cell, same}
 use Rattle.domain.specs.Statements.{TrackedCell, tracked}
-use Rattle.domain.specs.Sums.Terms.{Summand, Sum, same_term, same_sum, difference_of}
+use Rattle.domain.specs.Sums.Terms.{Summand, Sum, same_term, same_sum}
 use Rattle.domain.specs.Sums.Shapes.{Spelled, spelled}
 use Rattle.domain.specs.Sums.Facts.{Relation, Fact, Place, Rules, OfEquations, OfSums}
 use Rattle.domain.specs.Sums.Adding.{adding, adding_all, with_shape_in, with_spelled_in, with_term_in, is_kept, times}
@@ -21,14 +20,13 @@ use Rattle.domain.specs.Sums.Narrowing.{narrowed, parts_of, parts_of_chain, link
 use Rattle.domain.specs.Sums.FactInCode.{names_words}
 use Rattle.domain.proofs.ChainLemmas.{two_links}
 use Rattle.domain.proofs.Sums.SumLemmas.{same_name, same_is}
-use Rattle.domain.specs.Sums.Chains.{Chain, gives, after_steps, is_pair_of}
+use Rattle.domain.specs.Sums.Chains.{Chain, gives, after_steps}
 use Rattle.domain.specs.Sums.ChainsInCode.{gives_from}
-use Rattle.domain.specs.Sums.InCode.{summand_at}
 use Rattle.domain.specs.Sums.Knowing.{said_of}
 use Rattle.domain.specs.Sums.Adding.{set_of_sum}
-use Rattle.facts.specs.Sums.Entailment.{Among, EachGives, KnowsAll, KnowsBy, ShowsChain, ShowsChains, ShowsDifference, Entails}
-use Rattle.facts.specs.Sums.Entailing.{EachWithin, EntailsRegisters, GivesIfAllowed, GivesAllowed, ShowsOfNames}
-use Rattle.facts.proofs.EntailLemmas.{not_true, not_both, drop_item, none_is, some_is}
+use Rattle.facts.specs.Sums.Entailment.{Among, EachGives, KnowsAll, KnowsBy, ShowsChain, ShowsChains, Entails}
+use Rattle.facts.specs.Sums.Entailing.{EachWithin, EntailsRegisters, GivesIfAllowed, GivesAllowed}
+use Rattle.facts.proofs.EntailLemmas.{not_true, drop_item}
 
 -- Lists of which each member has a property, in code and as they're meant.
 pub each_step : {A : Type 0} {B : Type 0} (f : A → B) (P : List B → Type 0) (p : B → Type 0) → ((b : B) (bs : List B) → P (b ∷ bs) → p b × P bs) → ((b : B) (bs : List B) → p b × P bs → P (b ∷ bs)) →
@@ -320,35 +318,6 @@ unfolding said_of
 said_given image f [] lt v h = absurd (omega (arith, lt))
 said_given image f (s ∷ []) lt v h = absurd (omega (arith, lt))
 said_given image f (s ∷ t ∷ ts) lt v h = (and_parts _ _ h).0
-
--- the difference of two names
-names_same : (m n x y : Location) → difference_of m n ≡ difference_of x y → (m ≡ x) × (n ≡ y)
-names_same m n x y e = (same_name m x (and_parts _ _ h).0, same_name n y (and_parts _ _ (and_parts _ _ h).1).0)
-  where
-    names : Sum → Bool
-    names (s ∷ t ∷ ts) = same_term s.term (Holding x) && (same_term t.term (Holding y) && true)
-    names _ = false
-
-    h : (same m x && (same n y && true)) ≡ true
-    h = ap names e ∙ and_from _ _ (same_name_self x) (and_from _ _ (same_name_self y) refl)
-
-pub names_some : (pl : Place) (f : Fact) (m n : Location) (set : Words) (x y z : ℕ) (t : Bool) → Some x ≡ only (words_known pl f m) → Some y ≡ only (words_known pl f n) →
-    t ≡ set z → z ≡ minus x y → IsTrue t ↔ ShowsOfNames pl f m n set
-names_some pl f m n set x y z t l r et ez = (
-  λ q. (x, y, sym l, sym r, ap set (sym ez) ∙ (sym et ∙ q)),
-  λ s. (let ex : s.0 ≡ x = some_is (sym s.2 ∙ sym l) in let ey : s.1 ≡ y = some_is (sym s.3 ∙ sym r) in
-      et ∙ (ap set ez ∙ (rw (sym ex, sym ey) s.4))),
-)
-
-pub difference_shown : (pl : Place) (f : Fact) (r : Relation) (m n : Location) (b : Bool) → r.sum ≡ difference_of m n → (IsTrue b ↔ ShowsOfNames pl f m n r.set) → IsTrue b ↔ ShowsDifference pl f r
-difference_shown pl f r m n b e h = (
-  λ t. (let s = h.0 t in (m, n, s.0, s.1, e, s.2, s.3, s.4)),
-  λ d. (let q = names_same m n d.0 d.1 (sym e ∙ d.4) in
-      h.1 (d.2, d.3, subst (λ z. only (words_known pl f z) ≡ Some d.2) (sym q.0) d.5, subst (λ z. only (words_known pl f z) ≡ Some d.3) (sym q.1) d.6, d.7)),
-)
-
-pub no_difference : (pl : Place) (f : Fact) (r : Relation) → ((m n : Location) → r.sum ≡ difference_of m n → ⊥) → IsTrue false ↔ ShowsDifference pl f r
-no_difference pl f r none = not_true (λ d. none d.0 d.1 d.4)
 
 -- sets that are the same by two names
 pub links_as : (a b c d : Words) → a ≡ c → b ≡ d → IsLinkWithin c d → IsLinkWithin a b

@@ -1,11 +1,9 @@
-use Rattle.std.proofs.Common.{◌≡◌, ◌≤◌, ◌<◌, ◌+◌, ◌++◌, ◌∙◌, List, [], length, map, ap, sym, arith}
-use Rattle.std.proofs.Common.{length-append}
+use Rattle.std.proofs.Common.{◌≡◌, ◌++◌, ◌∙◌, List, map, ap}
 use Rattle.std.specs.Prelude.{if◌then◌else◌}
-use Rattle.std.proofs.lemmas.List.{length-map}
 use Rattle.wordset.specs.Words.{Words}
 use Rattle.wordset.specs.Lanes.{words}
 use Rattle.wordset.specs.Links.{links_of}
-use Rattle.domain.specs.Facts.{Location, Ac, Cell, is_outside}
+use Rattle.domain.specs.Facts.{Ac, is_outside}
 use Rattle.domain.specs.Statements.{TrackedCell}
 use Rattle.domain.specs.Sums.Facts.{Fact, Relation, OfSums}
 use Rattle.domain.specs.Sums.Adding.{adding_all}

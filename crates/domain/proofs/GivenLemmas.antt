@@ -1,12 +1,12 @@
--- What a chain gives of words of its cell, as it's gathered in code.
-use Rattle.std.proofs.Common.{◌≡◌, ℕ, zero, suc, ◌+◌, ◌*◌, ◌%◌, ◌-◌, ◌<◌, ◌≤◌, ◌==◌, Bool, true, false, ◌&&◌, ◌||◌, List, [], ◌∷◌, map, drop, get_or, length, refl, sym, ap, ◌∙◌, arith, inl, inr}
-use Rattle.std.specs.Prelude.{if◌then◌else◌, nat_lt}
+-- What a chain gives of words of its cell, as it is gathered in code.
+use Rattle.std.proofs.Common.{◌≡◌, ℕ, zero, suc, ◌+◌, ◌%◌, ◌-◌, ◌<◌, ◌≤◌, ◌==◌, Bool, true, false, ◌&&◌, ◌||◌, List, map, drop, get_or, length, refl, sym, ap, ◌∙◌, arith, inl, inr}
+use Rattle.std.specs.Prelude.{if◌then◌else◌}
 use Rattle.std.specs.List.{list_all}
 use Rattle.std.proofs.Math.Path.{fun_ext}
 use Rattle.std.proofs.Math.ListN.{drop_of_length-le}
 use Rattle.std.proofs.lemmas.Bool.{cases_Bool, cases_lt, eq-eqb, ne_eqb, eqb-true}
 use Rattle.std.proofs.lemmas.List.{at_drop_more}
-use Rattle.wordset.specs.Words.{plus, minus, Words, some_below, nothing, all_words, all_links, with_word}
+use Rattle.wordset.specs.Words.{plus, Words, some_below, nothing, all_words, all_links, with_word}
 use Rattle.wordset.specs.Lanes.{words}
 use Rattle.wordset.specs.Links.{links_of}
 use Rattle.wordset.specs.declared.links.Links.{Links}
@@ -14,7 +14,7 @@ use Rattle.wordset.proofs.SetLemmas.{lt_to, all_past}
 use Rattle.wordset.proofs.Tests.{some_from, some_to, IsSome, both_ways, and_both, and_first, and_second, some_none_of, some_of_two, true_false}
 use Rattle.domain.specs.Facts.{Cell, Ac}
 use Rattle.domain.specs.Sums.Facts.{Fact}
-use Rattle.domain.specs.Sums.Chains.{Chain, Step, after_steps, gives, is_pair_of}
+use Rattle.domain.specs.Sums.Chains.{Chain, after_steps, is_pair_of}
 use Rattle.domain.specs.Sums.ChainsInCode.{gives_from}
 use Rattle.domain.specs.Sums.Narrowing.{may_give, links_of_chain}
 use Rattle.domain.specs.Sums.Given.{IsEmpty, is_allowed_pair, gives_allowed_from, gives_allowed, cells_given, accumulators_given, differences_given, links_given, AddsGiven, AddsAllGiven}
@@ -76,7 +76,7 @@ adds_none g x c none =
       links = λ l. or_idle (links_of c.links l) (links_given g x l) (and_idle (all_links l) (some_below 4096 (λ w. g w l)) (some_none_of 4096 (λ w. g w l) (λ w h. none w l)));
     }
 
--- The pair isn't allowed.
+-- The pair is not allowed.
 pub no_accumulator : (ac links : Words) (m a w l : ℕ) → ac m ≡ false → is_allowed_pair ac links m a w l ≡ false
 no_accumulator ac links m a w l lacks = elim (cases_Bool (m == w)) [
   | inl e ↦ (let here : ac w ≡ false = ap ac (sym (eqb-true m w e)) ∙ lacks in rw here refl)
@@ -89,7 +89,7 @@ no_link ac links m a w l lacks = and_idle (ac w) (links l && ((m == w) && (a == 
   | inr n ↦ and_idle (links l) ((m == w) && (a == l)) (and_idle (m == w) (a == l) n)
 ])
 
--- A chain that doesn't begin with the link gives nothing.
+-- A chain that does not begin with the link gives nothing.
 pub none_begins : (ac links : Words) (c : Chain) (k v w l : ℕ) → c.link k ≡ false → gives_allowed_from ac links c k v w l ≡ false
 none_begins ac links c k v w l lacks = and_idle (ac w) (links l && gives_from c k v w l) (and_idle (links l) (gives_from c k v w l) (ap (λ b. b && is_pair_of (after_steps c.steps (plus v c.more, k)) w l) lacks))
 

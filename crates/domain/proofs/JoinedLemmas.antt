@@ -1,20 +1,20 @@
 -- What holds after a call: relations of which all names are outside the written set, and the sets of cells.
 use Rattle.std.proofs.Common.{◌≡◌, ℕ, ◌+◌, ◌<◌, ◌≤◌, ◌==◌, Bool, true, false, ◌&&◌, List, [], ◌∷◌, ◌++◌, map, drop, get_or, length, refl, sym, ap, ◌∙◌, arith, inl, inr}
-use Rattle.std.specs.Prelude.{if◌then◌else◌, not, filter}
+use Rattle.std.specs.Prelude.{if◌then◌else◌, not}
 use Rattle.std.proofs.Math.Path.{fun_ext}
 use Rattle.std.proofs.Math.ListN.{drop_of_length-le}
 use Rattle.std.proofs.lemmas.Bool.{cases_Bool, eqb-true}
 use Rattle.std.proofs.lemmas.List.{at_drop_more}
-use Rattle.wordset.specs.Words.{Words, all_words, meet}
+use Rattle.wordset.specs.Words.{Words, all_words}
 use Rattle.wordset.specs.Lanes.{words}
 use Rattle.domain.specs.Facts.{Location, Ac, Cell, has_cell, is_outside}
 use Rattle.domain.specs.Statements.{TrackedCell, tracked}
 use Rattle.domain.specs.Sums.Terms.{Term, Holding, Behind, Sum, speaks_of}
 use Rattle.domain.specs.Sums.Chains.{Chain}
 use Rattle.domain.specs.Sums.Laws.{SameButSets}
-use Rattle.domain.specs.Sums.Facts.{Fact, Relation, Rules, OfEquations, OfSums}
+use Rattle.domain.specs.Sums.Facts.{Fact, Relation, OfEquations, OfSums}
 use Rattle.domain.specs.Sums.Adding.{with_relation, with_term_in, with_shape_in, adding, adding_all}
-use Rattle.domain.specs.Sums.Moves.{outside, words_outside, joined, joined_relations}
+use Rattle.domain.specs.Sums.Moves.{outside, words_outside, joined}
 use Rattle.domain.specs.Sums.CellsInCode.{cells_outside, cells_within}
 use Rattle.domain.specs.Sums.FactInCode.{names_words}
 use Rattle.wordset.proofs.Tests.{true_false}

@@ -1,11 +1,10 @@
 -- Cells of which one changes, unknown which.
 use Rattle.std.proofs.Common.{◌≡◌, ℕ, suc, ◌<◌, ◌≤◌, ◌==◌, Bool, true, false, ◌&&◌, ◌||◌, List, [], ◌∷◌, length, map, refl, sym, ap, ◌∙◌, inl, inr, arith}
-use Rattle.std.specs.Prelude.{if◌then◌else◌, not, nat_lt, flat_map, Option, Some}
+use Rattle.std.specs.Prelude.{if◌then◌else◌, not, flat_map, Option, Some}
 use Rattle.std.proofs.Math.Path.{fun_ext}
 use Rattle.std.proofs.lemmas.Bool.{cases_Bool, cases_lt, eqb-true}
-use Rattle.wordset.specs.Words.{Words, all_words, union, one, only}
+use Rattle.wordset.specs.Words.{Words, all_words, union, one}
 use Rattle.wordset.proofs.SetLemmas.{all_past, words_past}
-use Rattle.wordset.proofs.Tests.{or_right}
 use Rattle.domain.specs.Facts.{Location, Ac, Cell, same, has_cell, is_outside}
 use Rattle.domain.specs.Statements.{TrackedCell, tracked}
 use Rattle.domain.specs.Sums.Moves.{weakly_updated_sets, moved_relation, moved_relations, cells_of, free_of}
@@ -29,7 +28,7 @@ changes_among among new cells c s e h = rw e (ap (λ (x : Words). record { addre
 address_same : (among : Words) (new : Words → Words) (all : List TrackedCell) (c : TrackedCell) → (changed_among among new all c).address ≡ c.address
 address_same among new all c = elim (cases_Bool (has_cell among c.address)) [ inl e ↦ rw e refl | inr e ↦ rw e refl ]
 
--- A cell that isn't of the set keeps its words.
+-- A cell that is not of the set keeps its words.
 kept : (a : ℕ) (among : Words) (new : Words → Words) (all cells : List TrackedCell) (v : ℕ) → has_cell among a ≡ false → tracked a (map (changed_among among new all) cells) v ≡ tracked a cells v
 kept a among new all [] v lacks = refl
 kept a among new all (c ∷ cs) v lacks = elim (cases_Bool (c.address == a)) [

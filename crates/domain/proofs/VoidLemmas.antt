@@ -1,9 +1,9 @@
 -- Facts of which some set has no word.
-use Rattle.std.proofs.Common.{◌≡◌, ℕ, zero, suc, ◌+◌, ◌<◌, ◌≤◌, ◌==◌, Bool, true, false, ◌&&◌, ◌⊎◌, List, [], ◌∷◌, length, map, get_or, refl, sym, ap, ◌∙◌, arith, inl, inr}
-use Rattle.std.specs.Prelude.{not, if◌then◌else◌}
+use Rattle.std.proofs.Common.{◌≡◌, ℕ, zero, suc, ◌+◌, ◌<◌, ◌≤◌, true, false, ◌⊎◌, List, [], ◌∷◌, length, map, get_or, refl, sym, ap, ◌∙◌, arith, inl, inr}
+use Rattle.std.specs.Prelude.{not}
 use Rattle.std.proofs.lemmas.Bool.{cases_eq, cases_lt, ne_eqb}
 use Rattle.std.proofs.lemmas.List.{get_or-map, length-map}
-use Rattle.wordset.specs.Words.{Words, all_words, some_below, has_some}
+use Rattle.wordset.specs.Words.{Words, all_words, some_below}
 use Rattle.wordset.proofs.Tests.{some_from, some_none_of}
 use Rattle.domain.specs.Statements.{TrackedCell, tracked, cell_at}
 use Rattle.domain.specs.Sums.Adding.{lacks_all}

@@ -337,7 +337,7 @@ impl<const CAP: usize> Relations<CAP> {
         }
     }
 
-    /// Adds what a spelled sum of two or more terms is, and nothing of one that says something of one name alone.
+    /// Adds that a spelled sum is in a set, if it has two or more terms. What one name alone may be is no relation.
     fn add_spelled(&mut self, found: &SpelledSum, set: &WordSet)
         requires { length (relations_of self.old) < CAP }
         ensures relations { (f : facts.Fact) → relations_of self.old ≡ f.relations → relations_of self.new ≡
@@ -351,7 +351,7 @@ impl<const CAP: usize> Relations<CAP> {
         self.add(&found.sum, &times(found.sign, set));
     }
 
-    /// Adds what a relation of two or more terms says, and nothing of one that says something of one name alone.
+    /// Adds that a sum is in a set, if it is spelled as a sum of two or more terms.
     pub fn add_longer(&mut self, sum: &Sum, set: &WordSet)
         requires { length (relations_of self.old) < CAP }
         ensures relations { (f : facts.Fact) → relations_of self.old ≡ f.relations → relations_of self.new ≡
@@ -364,7 +364,7 @@ impl<const CAP: usize> Relations<CAP> {
         }
     }
 
-    /// Adds what a relation of two or more terms says.
+    /// Adds what a relation says, if its sum is spelled as a sum of two or more terms.
     fn add_copy(&mut self, relation: &Relation)
         requires { length (relations_of self.old) < CAP }
         ensures relations { (f : facts.Fact) → relations_of self.old ≡ f.relations → relations_of self.new ≡
@@ -376,7 +376,7 @@ impl<const CAP: usize> Relations<CAP> {
         self.add_longer(&relation.sum, &set);
     }
 
-    /// Adds what a relation says that speaks of no name that a call may change.
+    /// Adds what a relation says, if it speaks of no name that a call may change.
     fn add_if_outside(&mut self, relation: &Relation, written: &WordSet)
         requires { length (relations_of self.old) < CAP }
         ensures relations { (f : facts.Fact) → relations_of self.old ≡ f.relations → relations_of self.new ≡
@@ -389,7 +389,7 @@ impl<const CAP: usize> Relations<CAP> {
         self.add_copy(relation);
     }
 
-    /// Adds what those of some relations say that speak of no name that a call may change.
+    /// Adds what some relations say, but for those that speak of a name that a call may change.
     pub fn add_outside(&mut self, others: &[Relation], written: &WordSet)
         requires { length (relations_of self.old) + length others.now ≤ CAP }
         ensures { (f : facts.Fact) → relations_of self.old ≡ f.relations → relations_of self.new ≡

@@ -12,7 +12,7 @@ ghost use Rattle.domain.specs.Sums.CellsInCode.{cell_sets_of};
 ghost use Rattle.domain.specs.Sums.RelationsInCode.{relations_of};
 ghost use Rattle.domain.specs.Sums.ChainsInCode.{step_of, chain_of, AreShort};
 ghost use Rattle.domain.specs.Sums.Naming.{names_of};
-ghost use Rattle.domain.specs.Sums.FactInCode.{fact_in_code, rules_of};
+ghost use Rattle.domain.specs.Sums.FactInCode.{fact_in_code, names_words, rules_of};
 
 use crate::chains::{Chain, Step};
 use crate::location::Location;
@@ -67,21 +67,34 @@ fn count_chains(chains: &[Chain], cell: Word, by: Word, list: &mut ArrayVec<Chai
 }
 
 impl<const C: usize, const R: usize> SumFact<C, R> {
+    /// Takes over what another fact says of the accumulator, MQ, the link, sites and offsets, and tells of no cell, relation or
+    /// chain.
+    fn take_over_rest<const D: usize, const S: usize>(&mut self, other: &SumFact<D, S>)
+        ensures fact { fact_in_code self.new ≡ record (fact_in_code other.now) {
+          set = names_words (words other.now.ac) [];
+          relations = [];
+          chains = [];
+        } }
+        ensures cells { cell_sets_of self.new.cells ≡ [] }
+    {
+        self.ac = other.ac;
+        self.mq = other.mq;
+        self.link = other.link;
+        self.cells.clear();
+        self.relations.clear();
+        self.chains.clear();
+        self.sites.copy_from(&other.sites);
+        self.offsets = other.offsets;
+    }
+
     /// Takes over all of another fact but its relations and chains, of which it has none then.
     pub fn take_over<const D: usize, const S: usize>(&mut self, other: &SumFact<D, S>)
         requires { length (cell_sets_of other.now.cells) ≤ C }
         ensures fact { fact_in_code self.new ≡ record (fact_in_code other.now) { relations = []; chains = [] } }
         ensures cells { cell_sets_of self.new.cells ≡ cell_sets_of other.now.cells }
     {
-        self.ac = other.ac;
-        self.mq = other.mq;
-        self.link = other.link;
-        self.cells.clear();
+        self.take_over_rest(other);
         self.cells.push_all(other.cells.as_slice());
-        self.relations.clear();
-        self.chains.clear();
-        self.sites.copy_from(&other.sites);
-        self.offsets = other.offsets;
     }
 
     /// Lets this fact be another without what it says of some names beside their sets.
@@ -152,8 +165,7 @@ impl<const C: usize, const R: usize> SumFact<C, R> {
         ensures { fact_in_code self.new ≡
             joined OfSums (fact_in_code call.now) (fact_in_code exit.now) (words written.now) }
     {
-        self.take_over(exit);
-        self.cells.clear();
+        self.take_over_rest(exit);
         self.cells.push_outside(call.cells.as_slice(), written);
         self.cells.push_all(exit.cells.as_slice());
         self.relations.push_all(exit.relations.as_slice());
@@ -176,8 +188,7 @@ impl<const C: usize, const R: usize> SumFact<C, R> {
         ensures { fact_in_code self.new ≡
             joined OfEquations (fact_in_code call.now) (fact_in_code exit.now) (words written.now) }
     {
-        self.take_over(exit);
-        self.cells.clear();
+        self.take_over_rest(exit);
         self.cells.push_outside(call.cells.as_slice(), written);
         self.cells.push_within(exit.cells.as_slice(), written);
         self.relations

@@ -15,7 +15,7 @@ cell_set_of c = record { address = c.cell; set = brief_words c.set }
 abbrev pub cell_sets_of : {CAP : ℕ} → CellSets CAP → List said.TrackedCell
 cell_sets_of cs = map cell_set_of (take cs.count cs.entries)
 
--- The words of each cell.
+-- For each cell the words that all its entries allow, or all words where it has none.
 abbrev pub words_in_cells : List said.TrackedCell → ℕ → Words
 words_in_cells cells a = tracked a cells
 
@@ -27,11 +27,11 @@ with_cell cell set sets a = if a == cell then set else sets a
 abbrev pub freed : ℕ → said.TrackedCell → said.TrackedCell
 freed cell c = if c.address == cell then record { address = c.address; set = all_words } else c
 
--- The entries of cells that a set doesn't have.
+-- The entries of cells that are not in a set.
 abbrev pub cells_outside : Words → List said.TrackedCell → List said.TrackedCell
 cells_outside written cells = filter (λ c. not (written c.address)) cells
 
--- The entries of cells that a set has.
+-- The entries of cells that are in a set.
 abbrev pub cells_within : Words → List said.TrackedCell → List said.TrackedCell
 cells_within written cells = filter (λ c. written c.address) cells
 

@@ -1,4 +1,4 @@
--- What a chain gives of words of its cell, as it's gathered in code.
+-- What a chain gives of words of its cell, as it is gathered in code. This serves private contracts.
 use Rattle.std.specs.Prelude.{◌≡◌, ℕ, ◌==◌, Bool, ◌&&◌, ◌||◌}
 use Rattle.wordset.specs.Words.{plus, Words, some_below, nothing, all_words, all_links}
 use Rattle.wordset.specs.Lanes.{words}
@@ -26,17 +26,19 @@ pub record IsEmpty (c : ChainWords) : Type 0 where
   pub differences : words c.differences ≡ nothing
   pub links : links_of c.links ≡ nothing
 
--- What is given of a word x by the test g of an accumulator and a link: the word itself, if anything is; the accumulators; the
--- accumulators less the word; the links.
+-- What is given of a word x by a test of an accumulator and a link: the word itself, if any pair passes the test.
 abbrev pub cells_given : (ℕ → ℕ → Bool) → ℕ → Words
 cells_given g x v = (v == x) && some_below 4096 (λ w. some_below 2 (λ l. g w l))
 
+-- The accumulators that are given: those that pass the test with some link.
 abbrev pub accumulators_given : (ℕ → ℕ → Bool) → ℕ → Words
 accumulators_given g x w = some_below 2 (λ l. g w l)
 
+-- The differences that are given: the accumulators that pass the test, less the word x.
 abbrev pub differences_given : (ℕ → ℕ → Bool) → ℕ → Words
 differences_given g x d = all_words d && some_below 2 (λ l. g (plus x d) l)
 
+-- The links that are given: those that pass the test with some accumulator.
 abbrev pub links_given : (ℕ → ℕ → Bool) → ℕ → Words
 links_given g x l = all_links l && some_below 4096 (λ w. g w l)
 

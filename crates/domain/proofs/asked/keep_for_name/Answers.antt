@@ -1,4 +1,4 @@
-use Rattle.std.proofs.Common.{◌≡◌, ◌∙◌, sym}
+use Rattle.std.proofs.Common.{◌∙◌, sym}
 use Rattle.wordset.specs.Lanes.{words}
 use Rattle.domain.specs.Meaning.{location_of}
 use Rattle.domain.proofs.NameAskedLemmas.{met_here, met_elsewhere}

@@ -1,6 +1,4 @@
 use Rattle.std.proofs.Common.{refl}
-use Rattle.wordset.specs.Lanes.{words}
-use Rattle.wordset.specs.Links.{links_of}
 use Rattle.wordset.proofs.IterLemmas.{none_gathered, image_gathered, all_gathered}
 use Rattle.domain.proofs.narrowing.add_all_given.Goals as goal
 

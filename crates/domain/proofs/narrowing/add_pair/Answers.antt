@@ -1,5 +1,5 @@
 use Rattle.std.proofs.Common.{◌≡◌, ◌∙◌, ◌<◌, ◌+◌, ◌%◌, true, sym, ap, arith}
-use Rattle.wordset.specs.Words.{Words, with_word}
+use Rattle.wordset.specs.Words.{with_word}
 use Rattle.wordset.specs.Lanes.{words}
 use Rattle.wordset.specs.Links.{links_of}
 use Rattle.domain.specs.Sums.Given.{is_allowed_pair}

@@ -1,6 +1,6 @@
-use Rattle.std.proofs.Common.{◌≡◌, ◌∙◌, ap}
+use Rattle.std.proofs.Common.{◌∙◌, ap}
 use Rattle.wordset.specs.Words.{Words}
-use Rattle.domain.specs.Sums.Facts.{Fact, OfSums}
+use Rattle.domain.specs.Sums.Facts.{OfSums}
 use Rattle.domain.specs.Sums.Adding.{adding}
 use Rattle.domain.specs.Sums.InCode.{sum_of}
 use Rattle.domain.proofs.relations.Relations.add_copy.Goals as goal

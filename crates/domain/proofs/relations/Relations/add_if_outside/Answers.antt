@@ -1,4 +1,4 @@
-use Rattle.std.proofs.Common.{◌≡◌, ◌∙◌, sym}
+use Rattle.std.proofs.Common.{◌∙◌, sym}
 use Rattle.wordset.specs.Lanes.{words}
 use Rattle.domain.specs.Sums.RelationsInCode.{relation_of}
 use Rattle.domain.proofs.JoinedLemmas.{passed_over, taken_too}

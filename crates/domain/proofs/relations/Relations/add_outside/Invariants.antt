@@ -1,4 +1,4 @@
-use Rattle.std.proofs.Common.{◌≡◌, ℕ, ◌+◌, ◌≤◌, drop, length, map}
+use Rattle.std.proofs.Common.{◌≡◌, ◌+◌, ◌≤◌, drop, length, map}
 use Rattle.wordset.specs.Lanes.{words}
 use Rattle.domain.specs.Sums.Facts.{Fact, OfSums}
 use Rattle.domain.specs.Sums.Adding.{adding_all}

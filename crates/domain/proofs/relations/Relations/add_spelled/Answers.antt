@@ -1,7 +1,7 @@
-use Rattle.std.proofs.Common.{◌≡◌, ◌<◌, ◌≤◌, List, length, ◌∙◌, ap, sym, arith}
+use Rattle.std.proofs.Common.{◌<◌, List, length, ◌∙◌, ap, arith}
 use Rattle.wordset.specs.Words.{Words}
 use Rattle.wordset.specs.Lanes.{words}
-use Rattle.domain.specs.Sums.Facts.{Fact, Relation, OfSums}
+use Rattle.domain.specs.Sums.Facts.{Relation}
 use Rattle.domain.specs.Sums.Adding.{times, with_relation}
 use Rattle.domain.specs.Sums.InCode.{sum_of}
 use Rattle.domain.specs.Sums.RelationsInCode.{relations_of}

@@ -1,11 +1,11 @@
-use Rattle.std.proofs.Common.{◌≡◌, ◌∙◌, ◌++◌, ◌≤◌, ◌<◌, ◌+◌, drop, length, sym, ap, arith}
+use Rattle.std.proofs.Common.{◌≡◌, ◌∙◌, ◌++◌, ◌≤◌, ◌<◌, ◌+◌, drop, length, ap, arith}
 use Rattle.wordset.specs.Words.{Words, meet, sums}
 use Rattle.wordset.specs.Lanes.{words}
 use Rattle.peripherals.specs.Loading.{image_of}
 use Rattle.domain.specs.Sums.Terms.{Sum, Summand}
 use Rattle.domain.specs.Sums.Facts.{Fact}
 use Rattle.domain.specs.Sums.Adding.{times, set_of_sum}
-use Rattle.domain.specs.Sums.Knowing.{words_of_term, said_of}
+use Rattle.domain.specs.Sums.Knowing.{words_of_term}
 use Rattle.domain.specs.Sums.InCode.{sum_of, summand_at}
 use Rattle.domain.specs.Sums.FactInCode.{fact_in_code}
 use Rattle.domain.proofs.SaidLemmas.{said_none, said_one, said_more}

@@ -1,4 +1,4 @@
-use Rattle.std.proofs.Common.{◌≡◌, ℕ, ◌≤◌, ◌+◌, List, length, ◌∙◌, ap, refl, arith}
+use Rattle.std.proofs.Common.{◌≡◌, List, length, ◌∙◌, ap, refl, arith}
 use Rattle.wordset.specs.Words.{Words, plus, some_below}
 use Rattle.wordset.specs.Lanes.{words}
 use Rattle.domain.specs.Facts.{Ac, Cell}

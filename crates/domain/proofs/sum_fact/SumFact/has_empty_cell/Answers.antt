@@ -1,6 +1,5 @@
-use Rattle.std.proofs.Common.{◌≡◌, ℕ, ◌<◌, ◌≤◌, length, sym, ap, ◌∙◌, arith}
+use Rattle.std.proofs.Common.{◌<◌, ◌≤◌, length, sym, ap, ◌∙◌, arith}
 use Rattle.wordset.specs.Words.{Words}
-use Rattle.domain.specs.Statements.{TrackedCell}
 use Rattle.domain.specs.Sums.Adding.{lacks_all}
 use Rattle.domain.specs.Sums.CellsInCode.{cell_sets_of, cell_set_of}
 use Rattle.domain.proofs.VoidLemmas.{one_lacks, one_further, none_further}

@@ -1,4 +1,4 @@
-use Rattle.std.proofs.Common.{◌≡◌, ℕ, ◌≤◌, ◌&&◌, length, map, refl, arith}
+use Rattle.std.proofs.Common.{◌≤◌, ◌&&◌, length, map, refl, arith}
 use Rattle.std.specs.List.{list_all}
 use Rattle.wordset.specs.Links.{links_of}
 use Rattle.domain.specs.Sums.Narrowing.{links_of_chain}

@@ -1,9 +1,8 @@
-use Rattle.std.proofs.Common.{◌≡◌, ℕ, ◌∙◌, ◌&&◌, List, map, ap}
+use Rattle.std.proofs.Common.{◌∙◌, ◌&&◌, List, map, ap}
 use Rattle.std.specs.List.{list_all}
 use Rattle.std.proofs.Math.Path.{fun_ext}
 use Rattle.wordset.specs.Words.{Words}
 use Rattle.wordset.specs.Links.{links_of}
-use Rattle.domain.specs.Sums.Chains.{Chain}
 use Rattle.domain.specs.Sums.Narrowing.{links_of_chain}
 use Rattle.domain.specs.Sums.ChainsInCode.{chain_of}
 use Rattle.domain.specs.Sums.FactInCode.{fact_in_code}

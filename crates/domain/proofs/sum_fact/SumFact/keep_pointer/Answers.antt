@@ -1,4 +1,4 @@
-use Rattle.std.proofs.Common.{◌≡◌, ℕ, ◌*◌, ◌%◌, ◌&&◌, ap, ◌∙◌}
+use Rattle.std.proofs.Common.{◌*◌, ◌%◌, ◌&&◌, ap, ◌∙◌}
 use Rattle.wordset.specs.Words.{Words, meet, plus, some_below}
 use Rattle.wordset.specs.Lanes.{words}
 use Rattle.peripherals.specs.Loading.{image_of}

@@ -1,12 +1,9 @@
-use Rattle.std.proofs.Common.{◌≡◌, ℕ, ◌+◌, ◌*◌, ◌≤◌, ◌∙◌, ◌&&◌, List, map, length, ap, sym, arith}
+use Rattle.std.proofs.Common.{◌≡◌, ◌∙◌, ◌&&◌, List, map, ap, sym}
 use Rattle.std.specs.List.{list_all}
-use Rattle.std.proofs.lemmas.List.{length-map}
 use Rattle.peripherals.specs.Loading.{image_of}
 use Rattle.domain.specs.Sums.Facts.{Fact, Relation, OfSums}
 use Rattle.domain.specs.Sums.Adding.{adding_all}
 use Rattle.domain.specs.Sums.Narrowing.{narrowed, links_of_chain}
-use Rattle.domain.specs.Sums.CellsInCode.{cell_sets_of}
-use Rattle.domain.specs.Sums.RelationsInCode.{relation_of, relations_of}
 use Rattle.domain.specs.Sums.ChainsInCode.{chain_of}
 use Rattle.domain.specs.Sums.FactInCode.{fact_in_code, all_parts, all_parts_of_chains}
 use Rattle.domain.proofs.PartLemmas.{added_both}

@@ -6,7 +6,6 @@ use Rattle.domain.specs.Meaning.{location_of}
 use Rattle.domain.specs.Sums.Facts.{Fact, Relation, OfSums}
 use Rattle.domain.specs.Sums.Adding.{adding_all}
 use Rattle.domain.specs.Sums.Narrowing.{narrowed, links_of_chain}
-use Rattle.domain.specs.Sums.RelationsInCode.{relation_of, relations_of}
 use Rattle.domain.specs.Sums.ChainsInCode.{chain_of}
 use Rattle.domain.specs.Sums.FactInCode.{fact_in_code, all_parts, all_parts_of_chains}
 use Rattle.domain.proofs.PartLemmas.{added_both}

@@ -1,8 +1,7 @@
-use Rattle.std.proofs.Common.{◌≡◌, ◌≤◌, ◌<◌, ◌++◌, ◌∙◌, List, [], length, map, ap, sym, arith}
-use Rattle.std.proofs.lemmas.List.{length-map}
+use Rattle.std.proofs.Common.{◌≡◌, ◌++◌, ◌∙◌, List, length, map, ap, arith}
 use Rattle.wordset.specs.Words.{Words, one}
 use Rattle.wordset.specs.Lanes.{words}
-use Rattle.domain.specs.Facts.{Location, Ac, Cell}
+use Rattle.domain.specs.Facts.{Location, Cell}
 use Rattle.domain.specs.Sums.Facts.{Fact, Relation}
 use Rattle.domain.specs.Sums.Adding.{with_set}
 use Rattle.domain.specs.Sums.Chains.{Chain, after_count}

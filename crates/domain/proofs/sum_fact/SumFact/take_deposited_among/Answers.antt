@@ -1,7 +1,7 @@
-use Rattle.std.proofs.Common.{◌≡◌, ◌∙◌, List, [], ap, sym}
+use Rattle.std.proofs.Common.{◌∙◌, List, [], ap}
 use Rattle.wordset.specs.Words.{Words, one}
 use Rattle.wordset.specs.Lanes.{words}
-use Rattle.domain.specs.Facts.{Location, Ac, Cell}
+use Rattle.domain.specs.Facts.{Location, Ac}
 use Rattle.domain.specs.Sums.Facts.{Fact, Relation}
 use Rattle.domain.specs.Sums.Adding.{with_name}
 use Rattle.domain.specs.Sums.CellsInCode.{cell_sets_of}

@@ -1,9 +1,7 @@
-use Rattle.std.proofs.Common.{◌≡◌, ◌∙◌, ap}
-use Rattle.wordset.specs.Words.{Words}
+use Rattle.std.proofs.Common.{◌∙◌, ap}
 use Rattle.wordset.specs.Lanes.{words}
 use Rattle.wordset.specs.Links.{links_of}
 use Rattle.domain.specs.Facts.{Cell}
-use Rattle.domain.specs.Sums.Facts.{Fact}
 use Rattle.domain.specs.Sums.ChainsInCode.{chain_of}
 use Rattle.domain.specs.Sums.FactInCode.{fact_in_code}
 use Rattle.domain.proofs.GivenLemmas.{in_cells, in_accumulators, in_differences, in_links}

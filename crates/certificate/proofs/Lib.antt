@@ -23,3 +23,8 @@ pub mod PutLemmas
 pub mod FactTextLemmas
 pub mod ServedLemmas
 pub mod AddingLemmas
+pub mod SumPackedLemmas
+pub mod SumFoundLemmas
+pub mod SumAddingLemmas
+pub mod OffsetReadLemmas
+pub mod SumFieldLemmas

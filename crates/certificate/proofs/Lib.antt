@@ -28,3 +28,9 @@ pub mod SumFoundLemmas
 pub mod SumAddingLemmas
 pub mod OffsetReadLemmas
 pub mod SumFieldLemmas
+pub mod SumLengthLemmas
+pub mod SumAnswerLemmas
+pub mod SumWholeLemmas
+pub mod SumParserLemmas
+pub mod SumServedLemmas
+pub mod SumDetailLemmas

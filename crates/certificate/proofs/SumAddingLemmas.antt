@@ -6,7 +6,7 @@ use Rattle.std.proofs.lemmas.Bool.Decides.{nat_tests}
 use Rattle.std.proofs.lemmas.List.{map_push, take_more, take_all, length-take-le, length-map}
 use Rattle.std.proofs.Math.Path.{fun_ext}
 use Rattle.wordset.specs.Words.{Words, nothing, between, one}
-use Rattle.domain.specs.Facts.{Ac}
+use Rattle.domain.specs.Facts.{Location, Ac, Cell}
 use Rattle.domain.specs.Statements.{TrackedCell}
 use Rattle.domain.specs.Sums.Chains.{Chain, Step as SaidStep, longer}
 use Rattle.domain.specs.Sums.Facts.{Fact, Relation}
@@ -16,12 +16,15 @@ use Rattle.domain.specs.Sums.FactInCode.{fact_in_code, names_words}
 use Rattle.domain.specs.declared.chains.Step.{Step}
 use Rattle.domain.specs.declared.sum_fact.SumFact.{SumFact}
 use Rattle.certificate.specs.declared.packed.Run.{Run}
-use Rattle.certificate.specs.Packed.{set_of_runs, set_at}
+use Rattle.certificate.specs.declared.packed.PackedRegisters.{PackedRegisters}
+use Rattle.wordset.specs.Links.{links_of}
+use Rattle.certificate.specs.Packed.{set_of_runs, set_at, registers_at}
 use Rattle.certificate.specs.Sums.Lines.{Line, FactIs, ExitIs, CellIs, SumIs, ChainIs, is_detail}
-use Rattle.certificate.specs.Sums.Reading.{cells_under, relations_under, chains_under, fact_said, all_offsets}
+use Rattle.certificate.specs.Sums.Reading.{sets_of, cells_under, relations_under, chains_under, fact_said, all_offsets}
 use Rattle.certificate.specs.Sums.Found.{FitUnder, IsSaid, behind_details}
 use Rattle.certificate.specs.Sums.Adding.{Adds, AddsAll, HasRoomFor, HasRoomUnder}
 use Rattle.certificate.proofs.PackedLemmas.{no_run}
+use Rattle.certificate.proofs.SumPackedLemmas.{set_behind}
 
 -- The set of no run.
 no_set : (runs : List Run) (n : ℕ) → n ≡ 0 → set_at runs 0 n ≡ nothing
@@ -56,3 +59,33 @@ steps_fit old now steps i h room e =
     let l : length now.steps ≡ length (old.steps ++ map step_of (take i steps)) = ap (λ (c : Chain). length c.steps) e in
     let k : length (take i steps) ≡ i = length-take-le i steps (omega arith) in
     omega (arith, length-append old.steps (map step_of (take i steps)), length-map (take i steps) step_of)
+
+-- The words of each name, as code and as lines have them.
+pub sets_are : (ac : Words) (cells : List TrackedCell) → names_words ac cells ≡ sets_of ac cells
+sets_are ac cells = fun_ext (λ n. one_of n)
+  where
+    one_of : (n : Location) → names_words ac cells n ≡ sets_of ac cells n
+    one_of Ac = refl
+    one_of (Cell a) = refl
+
+-- The fact that a line says without details.
+pub begun_fact : (old a b c d e new : Fact) (cells : List TrackedCell) (w sites ac mq link offsets : Words) →
+    a ≡ record old { set = names_words w []; relations = []; chains = []; sites = nothing; offsets = nothing } → b ≡ record a { sites = sites } →
+    c ≡ record b { set = names_words ac cells } → cells ≡ [] → d ≡ record c { mq = mq } → e ≡ record d { link = link } → new ≡ record e { offsets = offsets } →
+    new ≡ record { set = sets_of ac []; relations = []; chains = []; mq = mq; link = link; sites = sites; offsets = offsets }
+begun_fact old a b c d e new cells w sites ac mq link offsets fa fb fc none fd fe fn =
+    rw (fn, fe, fd, fc, fb, fa, none) (ap (λ (x : Location → Words). (let f : Fact =
+    record { set = x; relations = []; chains = []; mq = mq; link = link; sites = sites; offsets = offsets } in f)) (sets_are ac []))
+
+pub registers_begun : (runs : List Run) (sites before one other : ℕ) (r : PackedRegisters) (offsets : Words) → before ≡ sites → one ≡ r.sets.one → other ≡ r.sets.other →
+    (let f : Fact = record {
+      set = sets_of (set_at runs before one) [];
+      relations = [];
+      chains = [];
+      mq = set_at runs (before + one) other;
+      link = links_of r.link;
+      sites = set_at runs 0 before;
+      offsets = offsets;
+    } in f) ≡ fact_said (set_at runs 0 sites) (registers_at (drop sites runs) r) offsets []
+registers_begun runs sites before one other r offsets e f g =
+    rw (e, f, g, set_behind runs sites 0 sites r.sets.one (omega arith), set_behind runs sites r.sets.one (sites + r.sets.one) r.sets.other refl) refl

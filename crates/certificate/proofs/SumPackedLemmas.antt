@@ -5,7 +5,8 @@ use Rattle.std.specs.List.{AllByRecursion}
 use Rattle.std.proofs.lemmas.List.{take_all, take_at, drop_at, drop_all, drop-append-le, take-append-le, take-append-drop, length-take-le, length-drop, length-map, drop-map, drop_more, map_push}
 use Rattle.std.proofs.lemmas.List.Elements.{All-from_recursion}
 use Rattle.std.proofs.lemmas.Bool.{cases_lt}
-use Rattle.wordset.specs.Words.{Words}
+use Rattle.std.proofs.Math.Path.{fun_ext}
+use Rattle.wordset.specs.Words.{Words, nothing}
 use Rattle.domain.specs.declared.chains.Step.{Step}
 use Rattle.domain.specs.Sums.ChainsInCode.{step_of}
 use Rattle.certificate.specs.declared.packed.Run.{Run}
@@ -17,7 +18,7 @@ use Rattle.certificate.specs.Spelling.{Registers}
 use Rattle.certificate.specs.Packed.{Begins, set_of_runs, added, set_at, registers_at, AreWithin}
 use Rattle.certificate.specs.Sums.Lines.{Line, is_chain}
 use Rattle.certificate.specs.Sums.Packed.{said_at, kept_at, LieWithin, LiesWithin, IsKept, IsPacked, run_count, step_count}
-use Rattle.certificate.proofs.PackedLemmas.{set_kept, one_kept, other_kept, registers_kept, longer, front_of}
+use Rattle.certificate.proofs.PackedLemmas.{set_kept, one_kept, other_kept, registers_kept, longer, front_of, no_run}
 
 -- What is left of two lists behind a place.
 pub drop_both : {X : Type 0} (n : ℕ) (xs ys : List X) → drop n (xs ++ ys) ≡ drop n xs ++ drop (n - length xs) ys
@@ -156,11 +157,12 @@ are_sited old mid new n r sites said a b count is within also = record {
     behind = rw (both, ← some) (drop_at a.0 b.0 (length a.0) refl) ∙ sym (ap (drop (length mid)) b.1 ∙ drop_at mid b.0 (length mid) refl)
 
 -- Runs of registers that were copied.
-pub registers_copied : (old new own : List Run) (sites last : ℕ) (r : PackedRegisters) → last ≡ sites + (r.sets.one + r.sets.other) → new ≡ old ++ slice_range own sites last →
+pub registers_copied : (old new own : List Run) (sites first last : ℕ) (r : PackedRegisters) → first ≡ sites → last ≡ first + (r.sets.one + r.sets.other) → new ≡ old ++ slice_range own first last →
     LieWithin (length own) sites r.sets → AreWithin (length (drop (length old) new)) r.sets × (registers_at (drop (length old) new) r ≡ registers_at (drop sites own) r)
-registers_copied old new own sites last r l e h =
+registers_copied old new own sites first last r f l g h =
     let xs : List Run = drop sites own in
-    let z : last - sites ≡ r.sets.one + r.sets.other = omega (arith, l) in
+    let e : new ≡ old ++ slice_range own sites last = rw f at g in
+    let z : last - sites ≡ r.sets.one + r.sets.other = omega (arith, l, f) in
     let q : sites + (r.sets.one + r.sets.other) ≤ length own = h in
     let part : drop (length old) new ≡ take (r.sets.one + r.sets.other) xs =
     ap (drop (length old)) e ∙ (drop_at old (slice_range own sites last) (length old) refl ∙ ap (λ k. take k (drop sites own)) z) in
@@ -215,3 +217,38 @@ rest_from xs ys i m e f = elim (cases_lt i (length ys)) [
   | inr h ↦ (let g : m ≡ length ys = omega arith in
       rw (e, g) (ap (take (length ys - length ys)) (drop_all (length ys) ys (omega arith)) ∙ (take_all (length ys - length ys) [] (omega arith) ∙ sym (drop_all i ys h))))
 ]
+
+-- The runs and the steps of a line that were added behind others.
+pub laid_alone : (old new runs : List Run) (before later steps : List Step) (l : PackedLine) (n m : ℕ) → n ≡ run_count l → m ≡ step_count l →
+    new ≡ old ++ take n runs → later ≡ before ++ take m steps → LiesWithin (length runs) (length steps) l →
+    IsPacked (drop (length old) new) (drop (length before) later) l (said_at runs steps l)
+laid_alone old new runs before later steps l n m e f g h within =
+    let a : IsPacked (take (run_count l) runs) (take (step_count l) steps) l (said_at runs steps l) = line_alone runs steps l within in
+    let p : IsPacked (drop (length old) new) (drop (length before) later) l (said_at (take (run_count l) runs) (take (step_count l) steps) l) =
+    packed_after old new (take (run_count l) runs) before later (take (step_count l) steps) l (rw e at g) (rw f at h) a.within in
+    record { within = p.within; is = p.is ∙ a.is }
+
+pub counts_within : (n m : ℕ) (l : PackedLine) → LiesWithin n m l → (run_count l ≤ n) × (step_count l ≤ m)
+counts_within n m (packed.Routine r) h = (h.inside, omega arith)
+counts_within n m (packed.Fact f) h = (h, omega arith)
+counts_within n m (packed.Exit e) h = (h, omega arith)
+counts_within n m (packed.Cell a c) h = (h, omega arith)
+counts_within n m (packed.Sum s c) h = (h, omega arith)
+counts_within n m (packed.Chain c) h = (omega arith, h.0)
+counts_within n m packed.End h = (omega arith, omega arith)
+
+-- Runs behind a place.
+drop_twice : (k n : ℕ) (xs : List Run) → drop n (drop k xs) ≡ drop (k + n) xs
+drop_twice zero n xs = let e : 0 + n ≡ n = omega arith in rw e refl
+drop_twice (suc k) n [] = drop_all n [] (omega arith) ∙ sym (drop_all (suc k + n) [] (omega arith))
+drop_twice (suc k) n (x ∷ xs) = let e : suc k + n ≡ suc (k + n) = omega arith in rw e (drop_twice k n xs)
+
+pub set_behind : (runs : List Run) (k i j n : ℕ) → j ≡ k + i → set_at runs j n ≡ set_at (drop k runs) i n
+set_behind runs k i j n e =
+    let a : j + n - j ≡ n = omega arith in
+    let b : i + n - i ≡ n = omega arith in
+    ap set_of_runs (rw (a, b, e) (ap (take n) (sym (drop_twice k i runs))))
+
+-- No run was added.
+pub none_added : (old : List Run) → added old old ≡ nothing
+none_added old = ap set_of_runs (drop_all (length old) old (omega arith)) ∙ fun_ext no_run

@@ -232,7 +232,8 @@ fn is_third_before(third: &Option<Word>, other: &Option<Word>) -> bool
 
 /// How many runs two sets have.
 fn in_both(sets: &Counts) -> usize
-    ensures { result ≡ sets.now.one + sets.now.other }
+    ensures count { result ≡ sets.now.one + sets.now.other }
+    ensures small { result < 131072 }
 {
     usize::from(sets.one) + usize::from(sets.other)
 }
@@ -465,7 +466,10 @@ fn pack<A: Allocator>(
             let count = lay_brief(runs, &relation.set)?;
             Ok(PackedLine::Sum(**sum, count))
         }
-        Claim::Chain(chain) => Ok(PackedLine::Chain(lay_steps(steps, chain)?)),
+        Claim::Chain(chain) => {
+            let packed = lay_steps(steps, chain)?;
+            Ok(PackedLine::Chain(packed))
+        }
     }
 }
 
@@ -798,13 +802,38 @@ fn lay_sited<A: Allocator>(
             sited.sites = count;
             Ok(PackedLine::Exit(sited))
         }
-        line => {
-            let runs_of_line = &lent.runs[..line.run_count()];
-            let steps_of_line = &lent.steps[..line.step_count()];
-            lay_all(runs, steps, runs_of_line, steps_of_line)?;
-            Ok(*line)
-        }
+        PackedLine::Routine(_) => lay_same(runs, steps, lent),
+        PackedLine::Cell(_, _) => lay_same(runs, steps, lent),
+        PackedLine::Sum(_, _) => lay_same(runs, steps, lent),
+        PackedLine::Chain(_) => lay_same(runs, steps, lent),
+        PackedLine::End => lay_same(runs, steps, lent),
     }
+}
+
+/// Adds the runs and the steps of a line, and gives the line.
+fn lay_same<A: Allocator>(
+    runs: &mut Vec<Run, A>,
+    steps: &mut Vec<Step, A>,
+    lent: &LentLine<'_>,
+) -> Result<PackedLine, AllocError>
+    requires within { LiesWithin (length lent.now.runs.now) (length lent.now.steps.now) lent.now.line.now }
+    requires numbers { IsNumbered lent.now.line.now }
+    ensures runs { Begins runs.old.items runs.new.items }
+    ensures steps { Begins steps.old.items steps.new.items }
+    ensures numbers { IfOk result IsNumbered }
+    ensures packed { IfOk result (λ l.
+        IsPacked (drop (length runs.old.items) runs.new.items) (drop (length steps.old.items) steps.new.items)
+        l (said_of lent.now)) }
+{
+    let run_count = lent.line.run_count();
+    let step_count = lent.line.step_count();
+    lay_all(
+        runs,
+        steps,
+        &lent.runs[..run_count],
+        &lent.steps[..step_count],
+    )?;
+    Ok(*lent.line)
 }
 
 /// Adds the runs of registers that lie behind those of so many sites.
@@ -822,7 +851,8 @@ fn lay_registers_of<A: Allocator>(
 {
     let first = usize::from(sites);
     let last = first + in_both(&registers.sets);
-    runs.extend_from_slice(&own[first..last])
+    runs.extend_from_slice(&own[first..last])?;
+    Ok(())
 }
 
 /// The runs from one on, or none where that lies past all.
@@ -986,10 +1016,12 @@ impl<A: Allocator> PackedLines<A> {
         if at == 0 || at >= self.list.len() {
             return false;
         }
-        if self.list[at - 1].past as usize > place {
+        let before = &self.list[at - 1];
+        if before.past as usize > place {
             return false;
         }
-        place < self.list[at].past as usize
+        let kept = &self.list[at];
+        place < kept.past as usize
     }
 
     /// Where the first line stands that is at a place or after it, or past all: it's looked first at one line.
@@ -1006,11 +1038,17 @@ impl<A: Allocator> PackedLines<A> {
 
     /// Whether the line here is one of a place.
     pub fn is_at(&self, at: usize, place: usize) -> bool
+        requires { place ≤ 270336 }
         ensures { result ≡ begins_at place (drop at (said_lines self.now)) }
     {
-        at < self.list.len()
-            && !self.list[at].line.is_detail()
-            && self.list[at].past as usize == place + 1
+        if at >= self.list.len() {
+            return false;
+        }
+        let kept = &self.list[at];
+        if kept.line.is_detail() {
+            return false;
+        }
+        kept.past as usize == place + 1
     }
 
     /// The least place of a line from a number on, or that of the end, which isn't kept.
@@ -1020,10 +1058,10 @@ impl<A: Allocator> PackedLines<A> {
         ensures { result ≡ least_place (from_place from (said_lines self.now)) }
     {
         let at = self.seek(from);
-        if at < self.list.len() {
-            self.list[at].past as usize - 1
-        } else {
-            LAST_PLACE
+        if at >= self.list.len() {
+            return LAST_PLACE;
         }
+        let kept = &self.list[at];
+        kept.past as usize - 1
     }
 }

@@ -37,3 +37,12 @@ invariant_of-self-2 g c =
     (begun c.len-run_count.result c.len-step_count.result _ _ c.first_of-first.result c.in_ok-line.line (omega (arith, c.len-run_count.ensures, c.self.inside.runs.ok.0)) (omega (arith, c.len-step_count.ensures, c.self.inside.steps.ok.0)) (c.first_of-first.ensures [] []))
     c.in_ok-line.ensures.packed)
     (rw c.deref.ensures.value at (c.past-past.ensures [] [])) c.in_ok-push.ensures.items
+
+pub invariant_of-self : goal.invariant_of-self
+invariant_of-self g c =
+    kept_on c.self.inside.runs.items c.pack.new.runs.items c.self.inside.steps.items c.pack.new.steps.items c.self.inside.list.items c.self.invariant c.pack.ensures.runs c.pack.ensures.steps
+
+pub invariant_of-self-in_err-push : goal.invariant_of-self-in_err-push
+invariant_of-self-in_err-push g c =
+    rw c.in_err-push.ensures.items (kept_on c.self.inside.runs.items c.pack.new.runs.items c.self.inside.steps.items c.pack.new.steps.items c.self.inside.list.items
+    c.self.invariant c.pack.ensures.runs c.pack.ensures.steps)

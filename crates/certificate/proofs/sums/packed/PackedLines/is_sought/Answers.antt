@@ -17,14 +17,14 @@ returns g c = λ told.
     let up : IsNonDecreasingBy (λ (k : KeptLine). k.past) ks = rises runs steps ks 0 c.self.invariant.past order in
     let few : at < length ks = omega (arith, c.if-at-len.false, c.len.ensures) in
     let some : 0 < at = omega (arith, c.if-at-eq0.false) in
-    let over : c.args.place < c.index-2.result.now.past = ltb-true _ _ told in
+    let over : c.args.place < c.index-kept.result.now.past = ltb-true _ _ told in
     rw (← c.self.view_is)
     (search_told runs steps ks 0 c.args.place at c.self.invariant.past (omega arith) (omega arith)
     (λ j d b.
-    let e : c.index.result.now.past ≡ (get_or ks (at - 1) d).past =
-    ap (λ (k : KeptLine). k.past) (get_or_read_under ks (at - 1) (length ks) _ d c.index.ensures (omega arith) refl) in
+    let e : c.index-before.result.now.past ≡ (get_or ks (at - 1) d).past =
+    ap (λ (k : KeptLine). k.past) (get_or_read_under ks (at - 1) (length ks) _ d c.index-before.ensures (omega arith) refl) in
     let u : (get_or ks j d).past ≤ (get_or ks (at - 1) d).past = up j (at - 1) d (omega arith) (omega arith) in
-    omega (arith, c.if-past-place.false))
+    omega (arith, c.if-before-place.false))
     (λ d b.
-    let e : c.index-2.result.now.past ≡ (get_or ks at d).past =
-    ap (λ (k : KeptLine). k.past) (get_or_read_under ks at (length ks) _ d c.index-2.ensures b refl) in omega arith))
+    let e : c.index-kept.result.now.past ≡ (get_or ks at d).past =
+    ap (λ (k : KeptLine). k.past) (get_or_read_under ks at (length ks) _ d c.index-kept.ensures b refl) in omega arith))

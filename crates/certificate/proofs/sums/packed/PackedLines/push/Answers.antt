@@ -39,3 +39,12 @@ invariant_of-self-2 g c =
     (packed_after c.self.inside.runs.items c.lay_all.new.runs.items c.args.runs.now c.self.inside.steps.items c.lay_all.new.steps.items c.args.steps.now c.args.line.now
     c.in_ok-lay_all.ensures.whole.0 c.in_ok-lay_all.ensures.whole.1 c.requires.within))
     (rw c.deref.ensures.value at (c.past-past.ensures [] [])) c.in_ok-push.ensures.items
+
+pub invariant_of-self : goal.invariant_of-self
+invariant_of-self g c =
+    kept_on c.self.inside.runs.items c.lay_all.new.runs.items c.self.inside.steps.items c.lay_all.new.steps.items c.self.inside.list.items c.self.invariant c.lay_all.ensures.runs c.lay_all.ensures.steps
+
+pub invariant_of-self-in_err-push : goal.invariant_of-self-in_err-push
+invariant_of-self-in_err-push g c =
+    rw c.in_err-push.ensures.items (kept_on c.self.inside.runs.items c.lay_all.new.runs.items c.self.inside.steps.items c.lay_all.new.steps.items c.self.inside.list.items
+    c.self.invariant c.lay_all.ensures.runs c.lay_all.ensures.steps)

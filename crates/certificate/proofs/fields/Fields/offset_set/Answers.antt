@@ -2,7 +2,7 @@ use Rattle.std.proofs.Common.{refl}
 use Rattle.domain.specs.Sums.Offsets.{offsets_in}
 use Rattle.certificate.specs.Fields.{left}
 use Rattle.certificate.proofs.OffsetReadLemmas.{dash_read, set_read}
-use Rattle.certificate.proofs.sums.fields.Fields.offset_set.Goals as goal
+use Rattle.certificate.proofs.fields.Fields.offset_set.Goals as goal
 
 pub returns-then-takes : goal.returns-then-takes
 returns-then-takes c =

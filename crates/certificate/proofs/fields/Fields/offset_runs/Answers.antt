@@ -2,7 +2,7 @@ use Rattle.std.proofs.Common.{refl}
 use Rattle.domain.specs.Sums.Offsets.{offsets_in}
 use Rattle.certificate.specs.Fields.{left}
 use Rattle.certificate.proofs.OffsetReadLemmas.{none_read, going_on, ending, shorter, end_of}
-use Rattle.certificate.proofs.sums.fields.Fields.offset_runs.Goals as goal
+use Rattle.certificate.proofs.fields.Fields.offset_runs.Goals as goal
 
 pub loop-self-init : goal.loop-self-init
 loop-self-init c = none_read (left c.args.self.now) (offsets_in c.none-found.result) c.none-found.ensures

@@ -2,7 +2,7 @@ use Rattle.domain.specs.Sums.Offsets.{offsets_in}
 use Rattle.certificate.specs.Fields.{left}
 use Rattle.certificate.proofs.RunLemmas.{how_long}
 use Rattle.certificate.proofs.OffsetReadLemmas.{RunsRead}
-use Rattle.certificate.proofs.sums.fields.Fields.offset_runs.Given as goal
+use Rattle.certificate.proofs.fields.Fields.offset_runs.Given as goal
 
 abbrev pub invariant-loop-self : goal.invariant-loop-self
 invariant-loop-self l = RunsRead (left l.fn.self) (left l.self) (offsets_in l.found) l.next

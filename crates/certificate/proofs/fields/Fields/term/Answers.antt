@@ -2,7 +2,7 @@ use Rattle.std.proofs.Common.{refl}
 use Rattle.domain.specs.Meaning.{location_of}
 use Rattle.certificate.specs.Fields.{left}
 use Rattle.certificate.proofs.SumFieldLemmas.{told_name, told_behind}
-use Rattle.certificate.proofs.sums.fields.Fields.term.Goals as goal
+use Rattle.certificate.proofs.fields.Fields.term.Goals as goal
 
 pub returns-then-not-takes-clause-only : goal.returns-then-not-takes-clause-only
 returns-then-not-takes-clause-only c =

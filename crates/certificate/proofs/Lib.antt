@@ -34,3 +34,4 @@ pub mod SumWholeLemmas
 pub mod SumParserLemmas
 pub mod SumServedLemmas
 pub mod SumDetailLemmas
+pub mod SumReadLemmas

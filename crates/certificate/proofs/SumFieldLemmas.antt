@@ -1,23 +1,27 @@
 -- Fields that version 3 adds: offsets of two digits, sums and steps.
-use Rattle.std.proofs.Common.{◌≡◌, ◌≢◌, ℕ, suc, ◌+◌, ◌-◌, ◌*◌, ◌/◌, ◌<◌, ◌≤◌, ◌==◌, ◌&&◌, ◌||◌, Bool, true, false, List, [], ◌∷◌, ◌++◌, length, map, take, Option, Some, None, refl, ap, ◌∙◌, sym, subst, inl, inr, arith, append_assoc, append-nil}
+use Rattle.std.proofs.Common.{◌≡◌, ◌≢◌, ℕ, suc, ◌+◌, ◌-◌, ◌*◌, ◌/◌, ◌<◌, ◌≤◌, ◌==◌, ◌&&◌, ◌||◌, Bool, true, false, List, [], ◌∷◌, ◌++◌, length, map, take, Option, Some, None, refl, ap, ◌∙◌, sym, subst, inl, inr, arith, append_assoc, append-nil, length-append}
 use Rattle.std.specs.Prelude.{IfSome, if◌then◌else◌, codes, flat_map, nat_le, nat_lt}
 use Rattle.std.specs.List.{list_all}
 use Rattle.std.specs.Option.{IsSomeAnd}
 use Rattle.std.proofs.Math.Bool.{and-true, and-false, or-false}
 use Rattle.std.proofs.Math.Path.{fun_ext}
-use Rattle.std.proofs.lemmas.Bool.{true≢false, false≢true, and_parts, ne_eqb, eq-eqb, eqb-true, ltb-true, cases_lt, cases_Bool}
+use Rattle.std.proofs.lemmas.Bool.{true≢false, false≢true, and_parts, ne_eqb, eq-eqb, eqb-true, ltb-true, leb-true, lt-ltb, cases_lt, cases_Bool}
 use Rattle.std.proofs.lemmas.Bool.Decides.{eqb_tells, nat_tests}
+use Rattle.std.proofs.lemmas.List.Concat.{flat_map-append}
 use Rattle.word12.specs.Words.{octal_text}
 use Rattle.wordset.specs.Words.{Words, nothing, minus, some_below}
 use Rattle.domain.specs.Facts.{Location, Ac, Cell}
 use Rattle.domain.specs.Sums.Shapes.{has_shape, is_triple, is_cell}
 use Rattle.domain.specs.Sums.Terms.{Term, Holding, Behind, Summand, Sum, arranged, same_sum}
+use Rattle.domain.specs.Sums.Chains.{Step, Operates, Ands, Adds}
 use Rattle.certificate.specs.Spelling.{name_text}
 use Rattle.certificate.specs.Reading.{EndsBefore, place_of_name}
-use Rattle.certificate.specs.Sums.Spelling.{coefficient_text, further_text, term_text, sum_text}
-use Rattle.certificate.specs.Sums.LineOf.{is_term, is_summand, is_relation}
-use Rattle.certificate.specs.Sums.Fields.{third_text}
+use Rattle.certificate.specs.Sums.Spelling.{coefficient_text, further_text, term_text, sum_text, step_text}
+use Rattle.certificate.specs.Sums.LineOf.{is_term, is_summand, is_relation, is_step}
+use Rattle.certificate.specs.Sums.Fields.{third_text, step_rest}
 use Rattle.certificate.specs.Sums.Packed.{third_terms}
+use Rattle.certificate.proofs.DigitLemmas.{at_some}
+use Rattle.certificate.proofs.RunLemmas.{how_long}
 
 -- Offsets put in one by one.
 pub none_told : (s t : Words) (v : ℕ) → s ≡ nothing → s v ≡ (nat_lt v 0 && t v)
@@ -266,3 +270,182 @@ pub nothing_third : (c : ℕ) (old new : Option (List ℕ)) → ((r : List ℕ) 
 nothing_third c old new begins None rest e took = (refl, (begins rest e).1)
 nothing_third c old None begins (Some z) rest e took = absurd took
 nothing_third c old (Some y) begins (Some z) rest e took = absurd (no_third c z rest y (let q : third_text c (Some z) ++ codes " in " ++ rest ≡ codes " in " ++ y = cc in q))
+
+-- A third term was read.
+pub third_read : (k z : ℕ) (s : Summand) (old new : Option (List ℕ)) → s ∷ [] ≡ third_terms k (Some z) →
+    IfSome new (λ r. old ≡ Some (further_text s ++ codes " in " ++ r)) → IfSome new (λ r. old ≡ Some (third_text k (Some z) ++ codes " in " ++ r))
+third_read k z s old new is h = let e : further_text s ≡ third_text k (Some z) = sym (append-nil (further_text s)) ∙ ap (flat_map further_text) is in rw e at h
+
+pub no_cell : {X : Type 0} (k : ℕ) (s : Summand) (old a b : Option (List ℕ)) → a ≡ old →
+    ((r : List ℕ) → old ≡ Some (codes " in " ++ r) → (false ≡ true) × (a ≡ Some r)) →
+    ((t : Summand) (r : List ℕ) → is_term t.term ≡ true → t.coefficient < 4096 → a ≡ Some (further_text t ++ r) → (s ≡ t) × (b ≡ Some r)) →
+    ((z : ℕ) → s ∷ [] ≡ third_terms k (Some z) → None ≡ Some z) →
+    (cell : Option ℕ) (rest : List ℕ) → IfSome cell (λ z. z < 4096) → old ≡ Some (third_text k cell ++ codes " in " ++ rest) → X
+no_cell k s old a b same no told is None rest small e = absurd (false≢true (no rest e).0)
+no_cell k s old a b same no told is (Some z) rest small e =
+    let t : Summand = record { coefficient = minus 0 k; term = Holding (Cell z) } in
+    let f : a ≡ Some (further_text t ++ (codes " in " ++ rest)) =
+    same ∙ (e ∙ ap (λ (x : List ℕ). Some x) (ap (λ (x : List ℕ). x ++ codes " in " ++ rest) (append-nil (further_text t)) ∙ append_assoc (further_text t) (codes " in ") rest)) in
+    let p = told t (codes " in " ++ rest) (lt-ltb z 4096 small) (omega arith) f in
+    absurd (let q : None ≡ Some z = is z (ap (λ (x : Summand). x ∷ []) p.0) in cc)
+
+pub third_only : (k : ℕ) (found : Option ℕ) (s : Summand) (old a b new : Option (List ℕ)) → a ≡ old →
+    ((r : List ℕ) → old ≡ Some (codes " in " ++ r) → (false ≡ true) × (a ≡ Some r)) →
+    ((t : Summand) (r : List ℕ) → is_term t.term ≡ true → t.coefficient < 4096 → a ≡ Some (further_text t ++ r) → (s ≡ t) × (b ≡ Some r)) →
+    ((r : List ℕ) → b ≡ Some (codes " in " ++ r) → new ≡ Some r) → ((z : ℕ) → s ∷ [] ≡ third_terms k (Some z) → found ≡ Some z) →
+    (cell : Option ℕ) (rest : List ℕ) → IfSome cell (λ z. z < 4096) → old ≡ Some (third_text k cell ++ codes " in " ++ rest) → (found ≡ cell) × (new ≡ Some rest)
+third_only k found s old a b new same no told skip is None rest small e = absurd (false≢true (no rest e).0)
+third_only k found s old a b new same no told skip is (Some z) rest small e =
+    let t : Summand = record { coefficient = minus 0 k; term = Holding (Cell z) } in
+    let f : a ≡ Some (further_text t ++ (codes " in " ++ rest)) =
+    same ∙ (e ∙ ap (λ (x : List ℕ). Some x) (ap (λ (x : List ℕ). x ++ codes " in " ++ rest) (append-nil (further_text t)) ∙ append_assoc (further_text t) (codes " in ") rest)) in
+    let p = told t (codes " in " ++ rest) (lt-ltb z 4096 small) (omega arith) f in
+    (is z (ap (λ (x : Summand). x ∷ []) p.0), skip rest p.1)
+
+-- A sum by its fields.
+pub sum_is : (n m : Location) (s t : Summand) (c d : Option ℕ) → n ≡ m → s ≡ t → c ≡ d →
+    (let x : Sum = record { coefficient = 1; term = Holding n } ∷ s ∷ third_terms s.coefficient c in x) ≡ record { coefficient = 1; term = Holding m } ∷ t ∷ third_terms t.coefficient d
+sum_is n m s t c d e f g = rw (e, f, g) refl
+
+-- A step.
+step_small : (w : ℕ) → is_step (Operates w) ≡ true → w < 3840
+step_small w h = let p = and_parts (nat_le 3584 w) _ h in let q = and_parts (nat_le w 3839) _ p.1 in let z : w ≤ 3839 = leb-true w 3839 q.0 in omega (arith, z)
+
+pub and_only : (x : ℕ) (old a new : Option (List ℕ)) → IsSomeAnd a (λ r. old ≡ Some (codes "AND " ++ r)) → ((r : List ℕ) → old ≡ Some (codes "AND " ++ r) → (true ≡ true) × (a ≡ Some r)) →
+    ((w : ℕ) (r : List ℕ) → w < 4096 → a ≡ Some (octal_text w ++ r) → (x ≡ w) × (new ≡ Some r)) →
+    (p : Step) (rest : List ℕ) → is_step p ≡ true → old ≡ Some (step_rest p ++ rest) → (Ands x ≡ p) × (new ≡ Some rest)
+and_only x old None new took begins word p rest h e = absurd took
+and_only x old (Some y) new took begins word (Ands w) rest h e =
+    let q = word w rest (ltb-true w 4096 h) (begins (octal_text w ++ rest) e).1 in (ap Ands q.0, q.1)
+and_only x old (Some y) new took begins word (Adds w) rest h e = absurd (let z : 84 ≡ 65 = cc in omega arith)
+and_only x old (Some y) new took begins word (Operates w) rest h e =
+    absurd (let z : 48 + w / 512 ≡ 65 = cc in let s = step_small w h in omega (arith, s))
+
+pub add_only : (x : ℕ) (old mid a new : Option (List ℕ)) → mid ≡ old → ((r : List ℕ) → old ≡ Some (codes "AND " ++ r) → (false ≡ true) × (mid ≡ Some r)) →
+    IsSomeAnd a (λ r. mid ≡ Some (codes "TAD " ++ r)) → ((r : List ℕ) → mid ≡ Some (codes "TAD " ++ r) → (true ≡ true) × (a ≡ Some r)) →
+    ((w : ℕ) (r : List ℕ) → w < 4096 → a ≡ Some (octal_text w ++ r) → (x ≡ w) × (new ≡ Some r)) →
+    (p : Step) (rest : List ℕ) → is_step p ≡ true → old ≡ Some (step_rest p ++ rest) → (Adds x ≡ p) × (new ≡ Some rest)
+add_only x old mid None new same no took begins word p rest h e = absurd took
+add_only x old mid (Some y) new same no took begins word (Ands w) rest h e = absurd (false≢true (no (octal_text w ++ rest) e).0)
+add_only x old mid (Some y) new same no took begins word (Adds w) rest h e =
+    let q = word w rest (ltb-true w 4096 h) (begins (octal_text w ++ rest) (same ∙ e)).1 in (ap Adds q.0, q.1)
+add_only x old mid (Some y) new same no took begins word (Operates w) rest h e =
+    let f : mid ≡ Some (octal_text w ++ rest) = same ∙ e in absurd (let z : 48 + w / 512 ≡ 84 = cc in let s = step_small w h in omega (arith, s))
+
+pub operate_only : (x : ℕ) (old mid a new : Option (List ℕ)) → mid ≡ old → ((r : List ℕ) → old ≡ Some (codes "AND " ++ r) → (false ≡ true) × (mid ≡ Some r)) →
+    a ≡ mid → ((r : List ℕ) → mid ≡ Some (codes "TAD " ++ r) → (false ≡ true) × (a ≡ Some r)) →
+    ((w : ℕ) (r : List ℕ) → w < 4096 → a ≡ Some (octal_text w ++ r) → (x ≡ w) × (new ≡ Some r)) →
+    (p : Step) (rest : List ℕ) → is_step p ≡ true → old ≡ Some (step_rest p ++ rest) → (Operates x ≡ p) × (new ≡ Some rest)
+operate_only x old mid a new same no also none word (Ands w) rest h e = absurd (false≢true (no (octal_text w ++ rest) e).0)
+operate_only x old mid a new same no also none word (Adds w) rest h e = absurd (false≢true (none (octal_text w ++ rest) (same ∙ e)).0)
+operate_only x old mid a new same no also none word (Operates w) rest h e =
+    let s = step_small w h in let q = word w rest (omega (arith, s)) (also ∙ (same ∙ e)) in (ap Operates q.0, q.1)
+
+-- Steps read one after another.
+pub record StepsRead (old now : Option (List ℕ)) (told : List Step) : Type 0 where
+  pub read : IfSome now (λ r. old ≡ Some (flat_map step_text told ++ r))
+  pub form : IfSome now (λ r. list_all is_step told ≡ true)
+  pub only : (ps : List Step) → list_all is_step ps ≡ true → old ≡ Some (flat_map step_text ps) → (rest : List Step) × (ps ≡ told ++ rest) × (now ≡ Some (flat_map step_text rest))
+
+pub no_steps : (old : Option (List ℕ)) → StepsRead old old []
+no_steps old = record { read = reads old; form = formed old; only = λ ps h e. (ps, refl, e) }
+  where
+    reads : (o : Option (List ℕ)) → IfSome o (λ r. o ≡ Some r)
+    reads None = tt
+    reads (Some r) = refl
+
+    formed : (o : Option (List ℕ)) → IfSome o (λ r. true ≡ true)
+    formed None = tt
+    formed (Some r) = refl
+
+step_spaced : (p : Step) → step_text p ≡ 32 ∷ step_rest p
+step_spaced (Operates w) = refl
+step_spaced (Ands w) = refl
+step_spaced (Adds w) = refl
+
+steps_push : (told : List Step) (p : Step) → flat_map step_text (told ++ p ∷ []) ≡ flat_map step_text told ++ step_text p
+steps_push told p = flat_map-append step_text told (p ∷ []) ∙ ap (λ (x : List ℕ). flat_map step_text told ++ x) (append-nil (step_text p))
+
+form_push : (told : List Step) (p : Step) → list_all is_step told ≡ true → is_step p ≡ true → list_all is_step (told ++ p ∷ []) ≡ true
+form_push [] p h g = rw g refl
+form_push (x ∷ told) p h g = let q = and_parts (is_step x) _ h in rw q.0 (form_push told p q.1 g)
+
+form_of : (told rest : List Step) → list_all is_step (told ++ rest) ≡ true → list_all is_step rest ≡ true
+form_of [] rest h = h
+form_of (x ∷ told) rest h = form_of told rest (and_parts (is_step x) _ h).1
+
+pub step_more : (old now a new : Option (List ℕ)) (told : List Step) (p : Step) → StepsRead old now told → IsSomeAnd a (λ r. now ≡ Some (32 ∷ r)) →
+    ((r : List ℕ) → now ≡ Some (32 ∷ r) → (true ≡ true) × (a ≡ Some r)) → IfSome new (λ r. is_step p ≡ true) → IfSome new (λ r. a ≡ Some (step_rest p ++ r)) →
+    ((q : Step) (r : List ℕ) → is_step q ≡ true → a ≡ Some (step_rest q ++ r) → (p ≡ q) × (new ≡ Some r)) → StepsRead old new (told ++ p ∷ [])
+step_more old now None new told p h took begins form read only = absurd took
+step_more old now (Some y) new told p h took begins form read only = record { read = reads new read; form = formed new form read; only = went }
+  where
+    before : old ≡ Some (flat_map step_text told ++ 32 ∷ y)
+    before = at_some (λ r. old ≡ Some (flat_map step_text told ++ r)) now (32 ∷ y) h.read took
+
+    reads : (o : Option (List ℕ)) → IfSome o (λ r. Some y ≡ Some (step_rest p ++ r)) → IfSome o (λ r. old ≡ Some (flat_map step_text (told ++ p ∷ []) ++ r))
+    reads None e = tt
+    reads (Some r) e =
+        let f : y ≡ step_rest p ++ r = cc in
+        before ∙ ap (λ (x : List ℕ). Some x) (ap (λ (x : List ℕ). flat_map step_text told ++ 32 ∷ x) f ∙
+        (ap (λ (x : List ℕ). flat_map step_text told ++ (x ++ r)) (sym (step_spaced p)) ∙
+        (sym (append_assoc (flat_map step_text told) (step_text p) r) ∙ ap (λ (x : List ℕ). x ++ r) (sym (steps_push told p)))))
+
+    formed : (o : Option (List ℕ)) → IfSome o (λ r. is_step p ≡ true) → IfSome o (λ r. Some y ≡ Some (step_rest p ++ r)) → IfSome o (λ r. list_all is_step (told ++ p ∷ []) ≡ true)
+    formed None f e = tt
+    formed (Some r) f e = form_push told p (at_some (λ r. list_all is_step told ≡ true) now (32 ∷ y) h.form took) f
+
+    went : (ps : List Step) → list_all is_step ps ≡ true → old ≡ Some (flat_map step_text ps) →
+        (rest : List Step) × (ps ≡ (told ++ p ∷ []) ++ rest) × (new ≡ Some (flat_map step_text rest))
+    went ps f e = let w = h.only ps f e in go w.0 w.1 w.2
+      where
+        go : (rest : List Step) → ps ≡ told ++ rest → now ≡ Some (flat_map step_text rest) → (others : List Step) × (ps ≡ (told ++ p ∷ []) ++ others) × (new ≡ Some (flat_map step_text others))
+        go [] is left = absurd (let z : 32 ∷ y ≡ [] = cc in let q : length (32 ∷ y) ≡ 0 = ap length z in omega (arith, q))
+        go (q ∷ qs) is left =
+            let g : now ≡ Some (32 ∷ (step_rest q ++ flat_map step_text qs)) = left ∙ ap (λ (x : List ℕ). Some (x ++ flat_map step_text qs)) (step_spaced q) in
+            let all : list_all is_step (q ∷ qs) ≡ true = form_of told (q ∷ qs) (rw is at f) in
+            let s = only q (flat_map step_text qs) (and_parts (is_step q) _ all).0 (begins (step_rest q ++ flat_map step_text qs) g).1 in
+            (qs, is ∙ (ap (λ (x : Step). told ++ x ∷ qs) (sym s.0) ∙ sym (append_assoc told (p ∷ []) qs)), s.1)
+
+-- No further step is next.
+pub steps_end : (old now a : Option (List ℕ)) (told : List Step) → StepsRead old now told → a ≡ now → ((r : List ℕ) → now ≡ Some (32 ∷ r) → (false ≡ true) × (a ≡ Some r)) →
+    (ps : List Step) → list_all is_step ps ≡ true → old ≡ Some (flat_map step_text ps) → (ps ≡ told) × (a ≡ Some [])
+steps_end old now a told h same none ps f e = let w = h.only ps f e in go w.0 w.1 w.2
+  where
+    go : (rest : List Step) → ps ≡ told ++ rest → now ≡ Some (flat_map step_text rest) → (ps ≡ told) × (a ≡ Some [])
+    go [] is left = (is ∙ append-nil told, same ∙ left)
+    go (q ∷ qs) is left = absurd (false≢true (none (step_rest q ++ flat_map step_text qs) (left ∙ ap (λ (x : List ℕ). Some (x ++ flat_map step_text qs)) (step_spaced q))).0)
+
+-- There was no room for a step.
+pub too_many : (old now a : Option (List ℕ)) (told : List Step) → StepsRead old now told → IsSomeAnd a (λ r. now ≡ Some (32 ∷ r)) → length told ≡ 16 →
+    (ps : List Step) → list_all is_step ps ≡ true → length ps ≤ 16 → old ≡ Some (flat_map step_text ps) → ⊥
+too_many old now None told h took full ps f few e = took
+too_many old now (Some y) told h took full ps f few e = let w = h.only ps f e in go w.0 w.1 w.2
+  where
+    go : (rest : List Step) → ps ≡ told ++ rest → now ≡ Some (flat_map step_text rest) → ⊥
+    go [] is left = let z : 32 ∷ y ≡ [] = cc in let q : length (32 ∷ y) ≡ 0 = ap length z in omega (arith, q)
+    go (q ∷ qs) is left = let z : length ps ≡ length (told ++ q ∷ qs) = ap length is in omega (arith, z, few, full, length-append told (q ∷ qs))
+
+pub summand_made : (s : Summand) (c : ℕ) (t : Term) → c ≡ s.coefficient → t ≡ s.term → (let x : Summand = record { coefficient = c; term = t } in x) ≡ s
+summand_made s c t e f = rw (e, f) refl
+
+pub further_fields : (s : Summand) (rest : List ℕ) → further_text s ++ rest ≡ codes " " ++ (coefficient_text s.coefficient ++ (codes " " ++ (term_text s.term ++ rest)))
+further_fields s rest = four (codes " ") (coefficient_text s.coefficient) (codes " ") (term_text s.term) rest
+  where
+    four : (a b c d e : List ℕ) → (a ++ b ++ c ++ d) ++ e ≡ a ++ (b ++ (c ++ (d ++ e)))
+    four a b c d e = simp append_assoc
+
+pub same_coefficient : (s t : Summand) (c : Option ℕ) (rest : List ℕ) → s ≡ t →
+    Some (third_text t.coefficient c ++ codes " in " ++ rest) ≡ Some (third_text s.coefficient c ++ codes " in " ++ rest)
+same_coefficient s t c rest e = rw e refl
+
+pub steps_shorter : (now a new : Option (List ℕ)) (p : Step) → IsSomeAnd a (λ r. now ≡ Some (32 ∷ r)) → IfSome new (λ r. a ≡ Some (step_rest p ++ r)) → how_long new < how_long now
+steps_shorter now None new p took read = absurd took
+steps_shorter None (Some y) new p took read = absurd (cc)
+steps_shorter (Some x) (Some y) None p took read = omega arith
+steps_shorter (Some x) (Some y) (Some r) p took read =
+    let e : x ≡ 32 ∷ y = cc in
+    let f : y ≡ step_rest p ++ r = cc in
+    let g : length x ≡ suc (length y) = ap length e in
+    let k : length y ≡ length (step_rest p ++ r) = ap length f in
+    omega (arith, g, k, length-append (step_rest p) r)

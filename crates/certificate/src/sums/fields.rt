@@ -227,11 +227,13 @@ impl<'a> Fields<'a> {
         }
         let third = self.summand();
         self.skip(b" in ");
-        let cell = opposite_cell(&third, second.coefficient);
-        if cell.is_none() {
-            self.fail();
+        match opposite_cell(&third, second.coefficient) {
+            Some(cell) => Some(cell),
+            None => {
+                self.fail();
+                None
+            }
         }
-        cell
     }
 
     /// A sum of two or three terms, and ` in `.

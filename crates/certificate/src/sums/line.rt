@@ -1,6 +1,6 @@
 //! The lines of a certificate after the first one, in all versions.
 
-ghost use Rattle.std.specs.Prelude.{ℕ, ◌≡◌, ◌+◌, ◌<◌, ◌≤◌, List, [], ◌∷◌, ◌++◌, length, drop, true, codes, is_some, Some, IfSome};
+ghost use Rattle.std.specs.Prelude.{ℕ, ◌≡◌, ◌+◌, ◌<◌, ◌≤◌, List, [], ◌∷◌, ◌++◌, length, drop, true, false, codes, is_some, Some, IfSome};
 ghost use Rattle.wordset.specs.Words.{Words, has_some, some_below};
 ghost use Rattle.wordset.specs.Links.{links_of};
 ghost use Rattle.domain.specs.Statements.{TrackedCell as Tracked};

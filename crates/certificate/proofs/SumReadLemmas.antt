@@ -1,0 +1,98 @@
+-- Lines of all versions read field by field.
+use Rattle.std.proofs.Common.{◌≡◌, ℕ, ◌+◌, ◌<◌, ◌≤◌, ◌&&◌, Bool, true, false, List, [], ◌∷◌, ◌++◌, length, drop, refl, ap, ◌∙◌, sym, arith, append_assoc, append-nil}
+use Rattle.std.specs.Prelude.{codes, flat_map, nat_lt, nat_le, Option, Some, None, IfSome}
+use Rattle.std.proofs.lemmas.Bool.{and_parts, and_from, lt-ltb, ltb-true, leb-true}
+use Rattle.std.proofs.lemmas.List.{drop_all}
+use Rattle.std.proofs.Math.Path.{fun_ext}
+use Rattle.word12.specs.Words.{octal_text}
+use Rattle.wordset.specs.Words.{Words, nothing, has_some, some_below}
+use Rattle.domain.specs.Sums.Chains.{Chain, Step, Operates, Ands, Adds}
+use Rattle.domain.specs.Sums.Facts.{Relation}
+use Rattle.certificate.specs.declared.sums.Version.{Version}
+use Rattle.certificate.specs.declared.sums.Version.TheVariants.{One, Two, Three}
+use Rattle.certificate.specs.declared.packed.Run.{Run}
+use Rattle.certificate.specs.Spelling.{Registers, set_text, digits}
+use Rattle.certificate.specs.Reading.{EndsBefore, IsOfLinks}
+use Rattle.certificate.specs.Fields.{EndsField}
+use Rattle.certificate.specs.Packed.{added, set_of_runs}
+use Rattle.certificate.specs.Sums.Lines.{FactIs, ExitIs, ChainIs}
+use Rattle.certificate.specs.Sums.Spelling.{sites_text, mq_text, words_text, offset_text, offsets_line, sum_text, relation_line, step_text, chain_line, line_text}
+use Rattle.certificate.specs.Sums.LineOf.{has_registers, is_step}
+use Rattle.certificate.specs.Sums.Fields.{AreSteps}
+use Rattle.std.specs.List.{list_all}
+use Rattle.certificate.specs.Sums.Laws.{SitesFit, MqFits, RegistersFit}
+use Rattle.certificate.proofs.PackedLemmas.{runs_past}
+
+-- No set with a number past the last word.
+pub added_ends : (old new : List Run) → EndsBefore 4096 (added old new)
+added_ends old new v past = runs_past (drop (length old) new) v past
+
+-- Registers whose sets and links are of their form.
+pub registers_formed : (v : Version) (ac mq link : Words) (o : Option (List ℕ)) → IfSome o (λ x. has_some ac ≡ true) → IfSome o (λ x. has_some mq ≡ true) →
+    IfSome o (λ x. some_below 2 link ≡ true) → IfSome o (λ x. has_registers v (record { ac = ac; mq = mq; link = link }) ≡ true)
+registers_formed v ac mq link None a b c = tt
+registers_formed v ac mq link (Some x) a b c = and_from (has_some ac) _ a (and_from (has_some mq) _ b c)
+
+pub registers_fit : (v : Version) (ac mq link : Words) (o : Option (List ℕ)) → EndsBefore 4096 ac → IfSome o (λ x. MqFits v mq) → IsOfLinks link →
+    IfSome o (λ x. RegistersFit v (record { ac = ac; mq = mq; link = link }))
+registers_fit v ac mq link None a b c = tt
+registers_fit v ac mq link (Some x) a b c = record { ac = a; mq = b; link = c }
+
+pub registers_parts : (v : Version) (r : Registers) → has_registers v r ≡ true → (has_some r.ac ≡ true) × (has_some r.mq ≡ true) × (some_below 2 r.link ≡ true)
+registers_parts v r h = let p = and_parts (has_some r.ac) _ h in let q = and_parts (has_some r.mq) _ p.1 in (p.0, q.0, q.1)
+
+-- After what is said of MQ or of the sites comes a space.
+pub mq_space : (v : Version) (s : Words) (rest : List ℕ) → EndsField (mq_text v s ++ 32 ∷ rest)
+mq_space One s rest = refl
+mq_space Two s rest = refl
+mq_space Three s rest = refl
+
+pub sites_space : (v : Version) (s : Words) (rest : List ℕ) → EndsField (sites_text v s ++ 32 ∷ rest)
+sites_space One s rest = refl
+sites_space Two s rest = refl
+sites_space Three s rest = refl
+
+pub words_fields : (v : Version) (r : Registers) (rest : List ℕ) → words_text v r ++ rest ≡
+    codes " ac " ++ (set_text r.ac ++ (mq_text v r.mq ++ (codes " link " ++ (digits 2 r.link ++ rest))))
+words_fields v r rest = five (codes " ac ") (set_text r.ac) (mq_text v r.mq) (codes " link ") (digits 2 r.link) rest
+  where
+    five : (a b c d e f : List ℕ) → (a ++ b ++ c ++ d ++ e) ++ f ≡ a ++ (b ++ (c ++ (d ++ (e ++ f))))
+    five a b c d e f = simp append_assoc
+
+pub fact_fields : (v : Version) (a : ℕ) (s : Words) (r : Registers) (o : Words) → line_text v (FactIs a s r o) ≡
+    codes "fact " ++ (octal_text a ++ (sites_text v s ++ (words_text v r ++ (codes " offsets " ++ (offsets_line v o ++ [])))))
+fact_fields v a s r o = six (codes "fact ") (octal_text a) (sites_text v s) (words_text v r) (codes " offsets ") (offsets_line v o)
+  where
+    six : (a b c d e f : List ℕ) → a ++ b ++ c ++ d ++ e ++ f ≡ a ++ (b ++ (c ++ (d ++ (e ++ (f ++ [])))))
+    six a b c d e f = simp (append_assoc, append-nil)
+
+pub exit_fields : (v : Version) (e o : ℕ) (s : Words) (r : Registers) → line_text v (ExitIs e o s r) ≡
+    codes "exit " ++ (octal_text e ++ (codes " " ++ (offset_text v o ++ (sites_text v s ++ (words_text v r ++ [])))))
+exit_fields v e o s r = six (codes "exit ") (octal_text e) (codes " ") (offset_text v o) (sites_text v s) (words_text v r)
+  where
+    six : (a b c d e f : List ℕ) → a ++ b ++ c ++ d ++ e ++ f ≡ a ++ (b ++ (c ++ (d ++ (e ++ (f ++ [])))))
+    six a b c d e f = simp (append_assoc, append-nil)
+
+pub sum_line_fields : (r : Relation) → relation_line Three r ≡ codes "sum " ++ ((sum_text r.sum ++ codes " in ") ++ (set_text r.set ++ []))
+sum_line_fields r = four (codes "sum ") (sum_text r.sum) (codes " in ") (set_text r.set)
+  where
+    four : (a b c d : List ℕ) → a ++ b ++ c ++ d ≡ a ++ ((b ++ c) ++ (d ++ []))
+    four a b c d = simp (append_assoc, append-nil)
+
+pub chain_fields : (c : Chain) → chain_line c ≡
+    codes "func " ++ (octal_text c.cell ++ (codes " " ++ (octal_text c.more ++ (codes " link " ++ (digits 2 c.link ++ flat_map step_text c.steps)))))
+chain_fields c = seven (codes "func ") (octal_text c.cell) (codes " ") (octal_text c.more) (codes " link ") (digits 2 c.link) (flat_map step_text c.steps)
+  where
+    seven : (a b c d e f g : List ℕ) → a ++ b ++ c ++ d ++ e ++ f ++ g ≡ a ++ (b ++ (c ++ (d ++ (e ++ (f ++ g)))))
+    seven a b c d e f g = simp append_assoc
+
+-- The steps of a chain of its form, before which stands a space.
+pub steps_formed : (ps : List Step) → (nat_le 1 (length ps) && (nat_le (length ps) 16 && list_all is_step ps)) ≡ true → AreSteps ps
+steps_formed ps h = let p = and_parts (nat_le 1 (length ps)) _ h in let q = and_parts (nat_le (length ps) 16) _ p.1 in
+    record { some = leb-true 1 (length ps) p.0; few = leb-true (length ps) 16 q.0; form = q.1 }
+
+pub spaced_steps : (ps : List Step) → EndsField (flat_map step_text ps)
+spaced_steps [] = tt
+spaced_steps (Operates w ∷ ps) = refl
+spaced_steps (Ands w ∷ ps) = refl
+spaced_steps (Adds w ∷ ps) = refl

@@ -3,7 +3,7 @@ use Rattle.std.proofs.Common.{◌≡◌, ℕ, suc, ◌+◌, ◌<◌, ◌≤◌, 
 use Rattle.std.specs.Prelude.{if◌then◌else◌}
 use Rattle.std.proofs.lemmas.Bool.{true≢false}
 use Rattle.std.proofs.lemmas.Bool.Decides.{nat_tests}
-use Rattle.std.proofs.lemmas.List.{map_push, take_more, take_all, length-take-le, length-map}
+use Rattle.std.proofs.lemmas.List.{map_push, take_more, take_all, drop_at, length-take-le, length-map}
 use Rattle.std.proofs.Math.Path.{fun_ext}
 use Rattle.wordset.specs.Words.{Words, nothing, between, one}
 use Rattle.domain.specs.Facts.{Location, Ac, Cell}
@@ -18,12 +18,12 @@ use Rattle.domain.specs.declared.sum_fact.SumFact.{SumFact}
 use Rattle.certificate.specs.declared.packed.Run.{Run}
 use Rattle.certificate.specs.declared.packed.PackedRegisters.{PackedRegisters}
 use Rattle.wordset.specs.Links.{links_of}
-use Rattle.certificate.specs.Packed.{set_of_runs, set_at, registers_at}
+use Rattle.certificate.specs.Packed.{set_of_runs, added, set_at, registers_at}
 use Rattle.certificate.specs.Sums.Lines.{Line, FactIs, ExitIs, CellIs, SumIs, ChainIs, is_detail}
 use Rattle.certificate.specs.Sums.Reading.{sets_of, cells_under, relations_under, chains_under, fact_said, all_offsets}
 use Rattle.certificate.specs.Sums.Found.{FitUnder, IsSaid, behind_details}
 use Rattle.certificate.specs.Sums.Adding.{Adds, AddsAll, HasRoomFor, HasRoomUnder}
-use Rattle.certificate.proofs.PackedLemmas.{no_run}
+use Rattle.certificate.proofs.PackedLemmas.{no_run, one_run}
 use Rattle.certificate.proofs.SumPackedLemmas.{set_behind}
 
 -- The set of no run.
@@ -89,3 +89,9 @@ pub registers_begun : (runs : List Run) (sites before one other : ℕ) (r : Pack
     } in f) ≡ fact_said (set_at runs 0 sites) (registers_at (drop sites runs) r) offsets []
 registers_begun runs sites before one other r offsets e f g =
     rw (e, f, g, set_behind runs sites 0 sites r.sets.one (omega arith), set_behind runs sites r.sets.one (sites + r.sets.one) r.sets.other refl) refl
+
+-- The run of one word was added.
+pub one_added : (old new : List Run) (w : ℕ) → w < 4096 → new ≡ old ++ record { first = w; last = w } ∷ [] → added old new ≡ one w
+one_added old new w small e =
+    let r : Run = record { first = w; last = w } in
+    ap set_of_runs (ap (drop (length old)) e ∙ drop_at old (r ∷ []) (length old) refl) ∙ (one_run r small ∙ one_row w w refl)

@@ -164,12 +164,20 @@ pair_kept x y (Holding n) e h =
       cell = tt;
     }
 
+one_opposite : (c d : ℕ) → c ≡ 1 → (((c == 1) && (d == 4095)) || ((c == 4095) && (d == 1))) ≡ true → d ≡ 4095
+one_opposite c d e h =
+    let q : ((d == 4095) || false) ≡ true = rw e at h in
+    eqb-true d 4095 (sym (or-false (d == 4095)) ∙ q)
+
+other_opposite : (c d : ℕ) → (c == 1) ≡ false → (((c == 1) && (d == 4095)) || ((c == 4095) && (d == 1))) ≡ true → d ≡ minus 0 c
+other_opposite c d e h =
+    let q : ((c == 4095) && (d == 1)) ≡ true = rw e at h in
+    let p = and_parts (c == 4095) (d == 1) q in
+    rw (eqb-true c 4095 p.0) (eqb-true d 1 p.1)
+
 opposite : (c d : ℕ) → (((c == 1) && (d == 4095)) || ((c == 4095) && (d == 1))) ≡ true → d ≡ minus 0 c
-opposite c d h = elim (eqb_tells c 1) [
-  | inl t ↦ (let q : ((d == 4095) || false) ≡ true = rw (t.0, t.1) at h in let r : (d == 4095) ≡ true = sym (or-false (d == 4095)) ∙ q in rw t.1 (eqb-true d 4095 r))
-  | inr t ↦ (let q : ((c == 4095) && (d == 1)) ≡ true = rw t.0 at h in let p = and_parts (c == 4095) (d == 1) q in
-      rw (eqb-true c 4095 p.0) (eqb-true d 1 p.1))
-]
+opposite c d h = elim (eqb_tells c 1) [ inl t ↦ rw t.1 (one_opposite c d t.1 h) | inr t ↦ other_opposite c d t.0 h ]
+
 
 triple_kept : (x y u : Summand) (t w : Term) → x.term ≡ t → u.term ≡ w → is_relation (x ∷ y ∷ u ∷ []) ≡ true → IsKept (x ∷ y ∷ u ∷ [])
 triple_kept x y u (Behind a k) w e f h = let p = and_parts (x.coefficient == 1) _ (shape_of (x ∷ y ∷ u ∷ []) h).1 in absurd (false≢true (rw e at p.1))
@@ -449,3 +457,13 @@ steps_shorter (Some x) (Some y) (Some r) p took read =
     let g : length x ≡ suc (length y) = ap length e in
     let k : length y ≡ length (step_rest p ++ r) = ap length f in
     omega (arith, g, k, length-append (step_rest p) r)
+
+-- A packed sum has two terms or three.
+pub no_words : (x y : Summand) (c : ℕ) (t : Option ℕ) → list_all is_summand (x ∷ y ∷ third_terms c t) ≡ false → is_relation (x ∷ y ∷ third_terms c t) ≡ false
+no_words x y c None e = ap (λ b. b && (has_shape (x ∷ y ∷ []) && same_sum (arranged (x ∷ y ∷ [])) (x ∷ y ∷ []))) e
+no_words x y c (Some z) e = ap (λ b. b && (has_shape (x ∷ y ∷ third_terms c (Some z)) && same_sum (arranged (x ∷ y ∷ third_terms c (Some z))) (x ∷ y ∷ third_terms c (Some z)))) e
+
+pub of_words : (x y : Summand) (c : ℕ) (t : Option ℕ) → list_all is_summand (x ∷ y ∷ third_terms c t) ≡ true →
+    is_relation (x ∷ y ∷ third_terms c t) ≡ (has_shape (x ∷ y ∷ third_terms c t) && same_sum (arranged (x ∷ y ∷ third_terms c t)) (x ∷ y ∷ third_terms c t))
+of_words x y c None e = ap (λ b. b && (has_shape (x ∷ y ∷ []) && same_sum (arranged (x ∷ y ∷ [])) (x ∷ y ∷ []))) e
+of_words x y c (Some z) e = ap (λ b. b && (has_shape (x ∷ y ∷ third_terms c (Some z)) && same_sum (arranged (x ∷ y ∷ third_terms c (Some z))) (x ∷ y ∷ third_terms c (Some z)))) e

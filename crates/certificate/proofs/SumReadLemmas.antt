@@ -1,11 +1,11 @@
 -- Lines of all versions read field by field.
-use Rattle.std.proofs.Common.{◌≡◌, ℕ, ◌+◌, ◌<◌, ◌≤◌, ◌&&◌, Bool, true, false, List, [], ◌∷◌, ◌++◌, length, drop, refl, ap, ◌∙◌, sym, arith, append_assoc, append-nil}
-use Rattle.std.specs.Prelude.{codes, flat_map, nat_lt, nat_le, Option, Some, None, IfSome}
-use Rattle.std.proofs.lemmas.Bool.{and_parts, and_from, lt-ltb, ltb-true, leb-true}
-use Rattle.std.proofs.lemmas.List.{drop_all}
+use Rattle.std.proofs.Common.{◌≡◌, ℕ, ◌+◌, ◌-◌, ◌<◌, ◌≤◌, ◌&&◌, Bool, true, false, List, [], ◌∷◌, ◌++◌, length, take, drop, refl, ap, ◌∙◌, sym, arith, append_assoc, append-nil}
+use Rattle.std.specs.Prelude.{codes, if◌then◌else◌, flat_map, nat_lt, nat_le, Option, Some, None, IfSome}
+use Rattle.std.proofs.lemmas.Bool.{and_parts, and_from, lt-ltb, ltb-true, leb-true, le-leb}
+use Rattle.std.proofs.lemmas.List.{drop_all, take_all}
 use Rattle.std.proofs.Math.Path.{fun_ext}
 use Rattle.word12.specs.Words.{octal_text}
-use Rattle.wordset.specs.Words.{Words, nothing, has_some, some_below}
+use Rattle.wordset.specs.Words.{Words, nothing, all_words, has_some, some_below}
 use Rattle.domain.specs.Sums.Chains.{Chain, Step, Operates, Ands, Adds}
 use Rattle.domain.specs.Sums.Facts.{Relation}
 use Rattle.certificate.specs.declared.sums.Version.{Version}
@@ -14,12 +14,14 @@ use Rattle.certificate.specs.declared.packed.Run.{Run}
 use Rattle.certificate.specs.Spelling.{Registers, set_text, digits}
 use Rattle.certificate.specs.Reading.{EndsBefore, IsOfLinks}
 use Rattle.certificate.specs.Fields.{EndsField}
-use Rattle.certificate.specs.Packed.{added, set_of_runs}
-use Rattle.certificate.specs.Sums.Lines.{FactIs, ExitIs, ChainIs}
+use Rattle.certificate.specs.Packed.{added, set_of_runs, set_at}
+use Rattle.certificate.specs.Sums.Lines.{FactIs, ExitIs, CellIs, SumIs, ChainIs}
 use Rattle.certificate.specs.Sums.Spelling.{sites_text, mq_text, words_text, offset_text, offsets_line, sum_text, relation_line, step_text, chain_line, line_text}
-use Rattle.certificate.specs.Sums.LineOf.{has_registers, is_step}
+use Rattle.certificate.specs.Sums.LineOf.{has_registers, is_relation, is_step, most_offsets}
 use Rattle.certificate.specs.Sums.Fields.{AreSteps}
 use Rattle.std.specs.List.{list_all}
+use Rattle.wordset.proofs.Tests.{some_from}
+use Rattle.certificate.specs.Sums.Line.{Spells}
 use Rattle.certificate.specs.Sums.Laws.{SitesFit, MqFits, RegistersFit}
 use Rattle.certificate.proofs.PackedLemmas.{runs_past}
 
@@ -96,3 +98,46 @@ spaced_steps [] = tt
 spaced_steps (Operates w ∷ ps) = refl
 spaced_steps (Ands w ∷ ps) = refl
 spaced_steps (Adds w ∷ ps) = refl
+
+-- A text stands at the front of what is left.
+pub text_there : (reads : Bool) (s p rest : List ℕ) → reads ≡ true → s ≡ p ++ rest → (r : List ℕ) × ((if reads then Some s else None) ≡ Some (p ++ r))
+text_there reads s p rest e f = (rest, rw (e, f) refl)
+
+-- The set that is written nowhere has a word.
+pub all_some : (old now : Option (List ℕ)) (s : Words) → IfSome now (λ r. (old ≡ Some r) × (s ≡ all_words)) → IfSome now (λ r. has_some s ≡ true)
+all_some old None s h = tt
+all_some old (Some r) s h = rw h.1 (some_from 4096 all_words 0 (omega arith) refl)
+
+-- The runs of one set, and what is known of it once nothing is left.
+pub one_laid : (old new : List Run) (n : ℕ) → old ≡ [] → length old + n ≡ length new → set_at new 0 n ≡ added old new
+one_laid old new n none e =
+    let z : length old ≡ 0 = ap length none in
+    let k : 0 + n - 0 ≡ length new = omega (arith, z, e) in
+    ap set_of_runs (rw k (take_all (length new) new (omega arith)) ∙ sym (ap (λ i. drop i new) z))
+
+-- The line of a routine, a cell or a sum.
+pub cell_spelled : (v : Version) (a : ℕ) (s : Words) (line : List ℕ) → a < 4096 → has_some s ≡ true → EndsBefore 4096 s →
+    line ≡ codes "cell " ++ octal_text a ++ codes " " ++ set_text s → Spells v (CellIs (record { address = a; set = s })) line
+cell_spelled v a s line small some ends e = record { form = and_from (nat_lt a 4096) _ (lt-ltb a 4096 small) some; fits = ends; text = e }
+
+pub sum_spelled : (r : Relation) (line : List ℕ) → is_relation r.sum ≡ true → has_some r.set ≡ true → EndsBefore 4096 r.set →
+    line ≡ codes "sum " ++ sum_text r.sum ++ codes " in " ++ set_text r.set → Spells Three (SumIs r) line
+sum_spelled r line form some ends e = record { form = and_from (is_relation r.sum) _ form some; fits = ends; text = e }
+
+pub fact_spelled : (v : Version) (a : ℕ) (s : Words) (r : Registers) (o : Words) (line : List ℕ) → a < 4096 → SitesFit v s → has_registers v r ≡ true → RegistersFit v r →
+    EndsBefore (most_offsets v) o → line ≡ codes "fact " ++ octal_text a ++ sites_text v s ++ words_text v r ++ codes " offsets " ++ offsets_line v o → Spells v (FactIs a s r o) line
+fact_spelled v a s r o line small sites form fits ends e =
+    record { form = and_from (nat_lt a 4096) _ (lt-ltb a 4096 small) form; fits = (sites, fits, ends); text = e }
+
+pub exit_spelled : (v : Version) (e o : ℕ) (s : Words) (r : Registers) (line : List ℕ) → e < 4096 → o < most_offsets v → SitesFit v s → has_registers v r ≡ true → RegistersFit v r →
+    line ≡ codes "exit " ++ octal_text e ++ codes " " ++ offset_text v o ++ sites_text v s ++ words_text v r → Spells v (ExitIs e o s r) line
+exit_spelled v e o s r line small few sites form fits is =
+    record { form = and_from (nat_lt e 4096) _ (lt-ltb e 4096 small) (and_from (nat_lt o (most_offsets v)) _ (lt-ltb o (most_offsets v) few) form); fits = (sites, fits); text = is }
+
+pub chain_spelled : (c : Chain) (line : List ℕ) → c.cell < 4096 → c.more < 4096 → some_below 2 c.link ≡ true → IsOfLinks c.link → AreSteps c.steps → line ≡ chain_line c → Spells Three (ChainIs c) line
+chain_spelled c line cell more link links steps e = record {
+  form = and_from (nat_lt c.cell 4096) _ (lt-ltb c.cell 4096 cell) (and_from (nat_lt c.more 4096) _ (lt-ltb c.more 4096 more) (and_from (some_below 2 c.link) _ link
+      (and_from (nat_le 1 (length c.steps)) _ (le-leb 1 (length c.steps) steps.some) (and_from (nat_le (length c.steps) 16) _ (le-leb (length c.steps) 16 steps.few) steps.form))));
+  fits = (tt, links);
+  text = e;
+}

@@ -197,6 +197,7 @@ impl<'a> Fields<'a> {
         let coefficient = self.word();
         if is_sign(coefficient) {
             self.fail();
+            return coefficient;
         }
         coefficient
     }
@@ -264,6 +265,7 @@ impl<'a> Fields<'a> {
         let sum = self.told_sum();
         if !is_relation(&sum) {
             self.fail();
+            return sum;
         }
         sum
     }
@@ -285,6 +287,7 @@ impl<'a> Fields<'a> {
         let word = self.word();
         if !is_step(word) {
             self.fail();
+            return Step::Operates(word);
         }
         Step::Operates(word)
     }
@@ -308,6 +311,7 @@ impl<'a> Fields<'a> {
         }
         if steps.is_empty() {
             self.fail();
+            return 0;
         }
         steps.len() as u8
     }

@@ -7,7 +7,8 @@ ghost use Rattle.wordset.specs.Lanes.{words};
 ghost use Rattle.wordset.specs.Links.{links_of};
 ghost use Rattle.domain.specs.Facts.{Ac, Cell as SaidCell};
 ghost use Rattle.domain.specs.Meaning.{location_of};
-ghost use Rattle.domain.specs.Sums.Terms.{difference_of};
+ghost use Rattle.domain.specs.Sums.Terms.{difference_of, Holding};
+ghost use Rattle.std.specs.List.{list_all};
 ghost use Rattle.domain.specs.Sums.Chains.{Operates};
 ghost use Rattle.domain.specs.Sums.InCode.{summand_of, sum_of};
 ghost use Rattle.domain.specs.Sums.ChainsInCode.{step_of, chain_of};
@@ -20,7 +21,7 @@ ghost use Rattle.domain.specs.declared.chains.Step.{Step};
 ghost use Rattle.certificate.specs.Packed.{Begins, added, set_at, registers_at, AreWithin};
 ghost use Rattle.certificate.specs.declared.sums.packed.PackedLine.TheVariants as packed;
 ghost use Rattle.certificate.specs.Sums.Lines.{ChainIs, is_detail, is_end, is_chain, has_details, is_routine};
-ghost use Rattle.certificate.specs.Sums.LineOf.{is_relation, is_step};
+ghost use Rattle.certificate.specs.Sums.LineOf.{is_term, is_summand, is_relation, is_step};
 ghost use Rattle.certificate.specs.Sums.Order.{sum_is_before, detail_is_before};
 ghost use Rattle.certificate.specs.Sums.Reading.{fact_said, all_offsets};
 ghost use Rattle.certificate.specs.Sums.Packed.{third_terms, packed_sum_of, said_at, said_lines, said_of, LiesWithin, LieWithin, IsNumbered, HasForm, run_count, step_count, claimed_line, sited_line, sites_if, registers_in_fact, IsPacked};
@@ -138,12 +139,64 @@ pub fn equation(left: Location, right: Word) -> PackedSum
     }
 }
 
+/// Whether the number of a name is a word.
+fn is_small_name(name: &Location) -> bool
+    ensures { result ≡ is_term (Holding (location_of name.now)) }
+{
+    match name {
+        Location::Accumulator => true,
+        Location::Cell(cell) => cell.index() < 4096,
+    }
+}
+
+/// Whether the numbers of a term with its coefficient are words.
+fn is_small(summand: &Summand) -> bool
+    ensures { result ≡ is_summand (summand_of summand.now) }
+{
+    if summand.coefficient.index() >= 4096 {
+        return false;
+    }
+    match &summand.term {
+        Term::Holding(name) => is_small_name(name),
+        Term::Behind { cell, more } => cell.index() < 4096 && more.index() < 4096,
+    }
+}
+
+/// Whether the numbers of a sum are words.
+fn is_sum_of_words(packed: &PackedSum) -> bool
+    ensures { result ≡ list_all is_summand (packed_sum_of packed.now) }
+{
+    let first = Summand {
+        coefficient: Word::from_index(1),
+        term: Term::Holding(packed.first),
+    };
+    if !is_small(&first) {
+        return false;
+    }
+    if !is_small(&packed.second) {
+        return false;
+    }
+    match packed.third {
+        None => true,
+        Some(cell) => is_small(&Summand {
+            coefficient: negated(packed.second.coefficient),
+            term: Term::Holding(Location::Cell(cell)),
+        }),
+    }
+}
+
 /// Whether a sum is of one of the shapes and as it is kept.
 pub fn is_relation(packed: &PackedSum) -> bool
     ensures { result ≡ is_relation (packed_sum_of packed.now) }
 {
+    if !is_sum_of_words(packed) {
+        return false;
+    }
     let sum = packed.unpacked();
-    has_shape(&sum) && sum.arranged().is_same(&sum)
+    if !has_shape(&sum) {
+        return false;
+    }
+    sum.arranged().is_same(&sum)
 }
 
 /// Whether a word is one of group 1 that does not rotate both ways.
@@ -163,21 +216,23 @@ pub fn packed_sum(sum: &Sum) -> Option<PackedSum>
     if len < 2 {
         return None;
     }
-    let Term::Holding(first) = sum.get(0).term else {
-        return None;
-    };
-    let mut third = None;
-    if len > 2 {
-        let Term::Holding(Location::Cell(cell)) = sum.get(2).term else {
-            return None;
-        };
-        third = Some(cell);
+    let first = sum.get(0).term.name();
+    let second = sum.get(1);
+    if len == 2 {
+        return Some(PackedSum {
+            first,
+            second,
+            third: None,
+        });
     }
-    Some(PackedSum {
-        first,
-        second: sum.get(1),
-        third,
-    })
+    match sum.get(2).term.name() {
+        Location::Cell(cell) => Some(PackedSum {
+            first,
+            second,
+            third: Some(cell),
+        }),
+        Location::Accumulator => None,
+    }
 }
 
 impl PackedSum {

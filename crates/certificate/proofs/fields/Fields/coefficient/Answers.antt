@@ -14,13 +14,13 @@ returns-then-takes-2-clause-only c = λ k rest small e.
     rw c.from_index-2.ensures (minus_read (left c.args.self.now) (left c.takes.new.self) (left c.takes-2.new.self) k rest small (c.if-takes.ensures.kept refl) c.if-takes.ensures.only
     (c.if-takes-2.ensures.taken refl) c.if-takes-2.ensures.only e)
 
-pub returns-else-is_sign-clause-read : goal.returns-else-is_sign-clause-read
-returns-else-is_sign-clause-read c =
+pub returns-clause-read : goal.returns-clause-read
+returns-clause-read c =
     let k : left c.takes-2.new.self ≡ left c.args.self.now = c.if-takes-2.ensures.kept refl ∙ c.if-takes.ensures.kept refl in
     rw (digits_are c.word-coefficient.result (sym c.if-is_sign.ensures)) (rw k at c.word-coefficient.ensures.read)
 
-pub returns-else-is_sign-clause-only : goal.returns-else-is_sign-clause-only
-returns-else-is_sign-clause-only c = λ k rest small e.
+pub returns-clause-only : goal.returns-clause-only
+returns-clause-only c = λ k rest small e.
     c.word-coefficient.ensures.only k rest small (digits_next (left c.args.self.now) (left c.takes.new.self) (left c.takes-2.new.self) k rest (c.if-takes.ensures.kept refl) c.if-takes.ensures.only
     (c.if-takes-2.ensures.kept refl) c.if-takes-2.ensures.only e)
 

@@ -4,8 +4,8 @@ use Rattle.certificate.proofs.RunLemmas.{how_long}
 use Rattle.certificate.proofs.OffsetReadLemmas.{RunsRead}
 use Rattle.certificate.proofs.fields.Fields.offset_runs.Given as goal
 
-abbrev pub invariant-loop-self : goal.invariant-loop-self
-invariant-loop-self l = RunsRead (left l.fn.self) (left l.self) (offsets_in l.found) l.next
+abbrev pub invariant-loop-found : goal.invariant-loop-found
+invariant-loop-found l = RunsRead (left l.fn.self) (left l.self) (offsets_in l.found) l.next
 
-abbrev pub decreases-loop-self : goal.decreases-loop-self
-decreases-loop-self l = how_long (left l.self)
+abbrev pub decreases-loop-found : goal.decreases-loop-found
+decreases-loop-found l = how_long (left l.self)

@@ -14,8 +14,8 @@ returns-then-takes_text-2-clause-only c =
     add_only c.word-2.result (left c.args.self.now) (left c.takes_text.new.self) (left c.takes_text-2.new.self) (left c.word-2.new.self) (c.if-takes_text.ensures.kept refl) c.if-takes_text.ensures.only
     (c.if-takes_text-2.ensures.taken refl) c.if-takes_text-2.ensures.only c.word-2.ensures.only
 
-pub returns-else-not-is_step-clause-only : goal.returns-else-not-is_step-clause-only
-returns-else-not-is_step-clause-only c =
+pub returns-clause-only : goal.returns-clause-only
+returns-clause-only c =
     operate_only c.word-word.result (left c.args.self.now) (left c.takes_text.new.self) (left c.takes_text-2.new.self) (left c.word-word.new.self) (c.if-takes_text.ensures.kept refl) c.if-takes_text.ensures.only
     (c.if-takes_text-2.ensures.kept refl) c.if-takes_text-2.ensures.only c.word-word.ensures.only
 

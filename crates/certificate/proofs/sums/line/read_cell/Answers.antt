@@ -6,7 +6,7 @@ use Rattle.certificate.proofs.sums.line.read_cell.Goals as goal
 
 pub returns-else-is_done-clause-only : goal.returns-else-is_done-clause-only
 returns-else-is_done-clause-only c = λ version t form e.
-    let none : length c.args.runs.now.items ≡ 0 = ap length c.requires in
+    let none : length c.args.runs.now.items ≡ 0 = ap length c.requires.runs in
     let h = and_parts (nat_lt t.address 4096) _ form in
     let address = c.word-cell.ensures.only t.address _ (ltb-true t.address 4096 h.0)
     (c.skip.ensures.only _ (c.of-fields.ensures ∙ ap (λ (x : List ℕ). Some x) (e ∙ cell_fields t))) in

@@ -7,7 +7,7 @@ use Rattle.certificate.proofs.sums.line.read_exit.Goals as goal
 
 pub returns-else-is_done-clause-only : goal.returns-else-is_done-clause-only
 returns-else-is_done-clause-only c = λ x o s r form fits e.
-    let none : length c.args.runs.now.items ≡ 0 = ap length c.requires in
+    let none : length c.args.runs.now.items ≡ 0 = ap length c.requires.runs in
     let h = and_parts (nat_lt x 4096) _ form in
     let k = and_parts (nat_lt o (most_offsets c.args.version)) _ h.1 in
     let entry = c.word-entry.ensures.only x _ (ltb-true x 4096 h.0)

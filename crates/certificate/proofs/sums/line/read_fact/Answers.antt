@@ -6,7 +6,7 @@ use Rattle.certificate.proofs.sums.line.read_fact.Goals as goal
 
 pub returns-else-is_done-clause-only : goal.returns-else-is_done-clause-only
 returns-else-is_done-clause-only c = λ a s r o form fits e.
-    let none : length c.args.runs.now.items ≡ 0 = ap length c.requires in
+    let none : length c.args.runs.now.items ≡ 0 = ap length c.requires.runs in
     let h = and_parts (nat_lt a 4096) _ form in
     let address = c.word-address.ensures.only a _ (ltb-true a 4096 h.0)
     (c.skip.ensures.only _ (c.of-fields.ensures ∙ ap (λ (x : List ℕ). Some x) (e ∙ fact_fields c.args.version a s r o))) in

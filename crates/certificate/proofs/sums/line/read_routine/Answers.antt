@@ -12,7 +12,7 @@ use Rattle.certificate.proofs.sums.line.read_routine.Goals as goal
 
 pub returns-then-is_done-clause-read : goal.returns-then-is_done-clause-read
 returns-then-is_done-clause-read c = λ version steps.
-    let l = from_none c.args.runs.now.items c.set-one.new.runs.items c.set-other.new.runs.items c.set-one.result c.set-other.result c.requires c.set-one.ensures.front c.set-other.ensures.front
+    let l = from_none c.args.runs.now.items c.set-one.new.runs.items c.set-other.new.runs.items c.set-one.result c.set-other.result c.requires.runs c.set-one.ensures.front c.set-other.ensures.front
     c.set-one.ensures.count c.set-other.ensures.count in
     let f0 = left c.of-fields.result in let f1 = left c.skip.new.self in let f2 = left c.word-entry.new.self in let f3 = left c.skip-2.new.self in
     let f4 = left c.rank-rank.new.self in let f5 = left c.skip-3.new.self in let f6 = left c.set-one.new.self in let f7 = left c.skip-4.new.self in
@@ -35,7 +35,7 @@ returns-then-is_done-clause-read c = λ version steps.
 
 pub returns-else-is_done-clause-only : goal.returns-else-is_done-clause-only
 returns-else-is_done-clause-only c = λ version r form e.
-    let none : length c.args.runs.now.items ≡ 0 = ap length c.requires in
+    let none : length c.args.runs.now.items ≡ 0 = ap length c.requires.runs in
     let h = and_parts (nat_lt r.entry 4096) _ form in
     let entry = c.word-entry.ensures.only r.entry _ (ltb-true r.entry 4096 h.0)
     (c.skip.ensures.only _ (c.of-fields.ensures ∙ ap (λ (x : List ℕ). Some x) (e ∙ routine_fields r))) in

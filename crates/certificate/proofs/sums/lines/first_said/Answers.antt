@@ -6,7 +6,7 @@ use Rattle.certificate.proofs.sums.lines.first_said.Goals as goal
 pub add_details-requires-clause-room : goal.add_details-requires-clause-room
 add_details-requires-clause-room g c =
     room_under c.begin_said.new.fact (said_of c.line.result) (drop (c.args.start + 1) (said_lines c.args.lines.now)) (c.if-not-begin_said.ensures.says refl)
-    (c.if-not-begin_said.ensures.cells refl) c.requires
+    (c.if-not-begin_said.ensures.cells refl) c.requires.fit
 
 pub returns-clause-there : goal.returns-clause-there
 returns-clause-there g c = rw c.line.ensures.there c.if-not-begin_said.ensures.there

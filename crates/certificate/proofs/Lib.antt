@@ -35,3 +35,4 @@ pub mod SumParserLemmas
 pub mod SumServedLemmas
 pub mod SumDetailLemmas
 pub mod SumReadLemmas
+pub mod SumReaderLemmas

@@ -1,5 +1,5 @@
 -- A line with its details among those that are kept, in all versions.
-use Rattle.std.proofs.Common.{◌≡◌, ℕ, ◌+◌, ◌<◌, ◌≤◌, true, false, List, [], ◌∷◌, ◌++◌, refl, ap, ◌∙◌, sym, arith, append_assoc, append-nil, length-append, suc, ◌-◌, Bool, length, get_or, take, drop, map}
+use Rattle.std.proofs.Common.{◌≡◌, ℕ, ◌+◌, ◌<◌, ◌≤◌, true, false, List, [], ◌∷◌, ◌++◌, refl, ap, ◌∙◌, sym, arith, subst, append_assoc, append-nil, length-append, zero, suc, ◌-◌, Bool, length, get_or, take, drop, map}
 use Rattle.std.proofs.lemmas.Bool.{true≢false, false≢true}
 use Rattle.std.proofs.lemmas.List.{take_all, drop_all, drop_more}
 use Rattle.std.specs.Prelude.{slice_range, if◌then◌else◌}
@@ -11,6 +11,7 @@ use Rattle.domain.specs.Sums.CellsInCode.{cell_sets_of}
 use Rattle.domain.specs.Sums.FactInCode.{fact_in_code, names_words}
 use Rattle.domain.specs.declared.sum_fact.SumFact.{SumFact}
 use Rattle.wordset.specs.Words.{Words}
+use Rattle.certificate.specs.Reading.{Each}
 use Rattle.certificate.specs.Sums.Lines.{Line, RoutineIs, FactIs, ExitIs, CellIs, SumIs, ChainIs, End, is_detail}
 use Rattle.certificate.specs.Sums.Order.{details_of_last}
 use Rattle.certificate.specs.Sums.Reading.{sets_of, cells_under, relations_under, chains_under, fact_said, all_offsets}
@@ -238,3 +239,13 @@ room_under begun l under is none fit =
 
 pub past_both : (lines : List Line) (i : ℕ) → length lines ≤ i → drop (length lines) lines ≡ drop i lines
 past_both lines i h = drop_all (length lines) lines (omega arith) ∙ sym (drop_all i lines h)
+
+-- What holds of each holds of the one at a place.
+pub each_at : {A B : Type 0} (P : B → Type 0) (f : A → B) (xs : List A) (i : ℕ) (x : A) → i < length xs → x ≡ get_or xs i x → Each P (map f xs) → P (f x)
+each_at P f [] i x h at e = absurd (omega arith)
+each_at P f (y ∷ ys) zero x h at e = let z : x ≡ y = at in subst (λ k. P (f k)) (sym z) e.0
+each_at P f (y ∷ ys) (suc i) x h at e = each_at P f ys i x (omega arith) at e.1
+
+-- The lines of all details.
+pub all_pushed : (a b c d e : List Line) (h : Line) (x y z : List Line) → b ≡ a ++ h ∷ [] → c ≡ b ++ x → d ≡ c ++ y → e ≡ d ++ z → e ≡ a ++ (h ∷ (x ++ y ++ z))
+all_pushed a b c d e h x y z p q r s = s ∙ (ap (λ (l : List Line). l ++ z) (r ∙ (ap (λ (l : List Line). l ++ y) (q ∙ (ap (λ (l : List Line). l ++ x) p ∙ append_assoc a (h ∷ []) x)) ∙ append_assoc a (h ∷ x) y)) ∙ append_assoc a (h ∷ (x ++ y)) z)

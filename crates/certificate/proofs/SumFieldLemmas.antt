@@ -12,7 +12,8 @@ use Rattle.word12.specs.Words.{octal_text}
 use Rattle.wordset.specs.Words.{Words, nothing, minus, some_below}
 use Rattle.domain.specs.Facts.{Location, Ac, Cell}
 use Rattle.domain.specs.Sums.Shapes.{has_shape, is_triple, is_cell}
-use Rattle.domain.specs.Sums.Terms.{Term, Holding, Behind, Summand, Sum, arranged, same_sum}
+use Rattle.domain.specs.Sums.Terms.{Term, Holding, Behind, Summand, Sum, arranged, same_sum, name_of_term}
+use Rattle.domain.specs.Sums.InCode.{summand_at}
 use Rattle.domain.specs.Sums.Chains.{Step, Operates, Ands, Adds}
 use Rattle.certificate.specs.Spelling.{name_text}
 use Rattle.certificate.specs.Reading.{EndsBefore, place_of_name}
@@ -178,7 +179,6 @@ other_opposite c d e h =
 opposite : (c d : ℕ) → (((c == 1) && (d == 4095)) || ((c == 4095) && (d == 1))) ≡ true → d ≡ minus 0 c
 opposite c d h = elim (eqb_tells c 1) [ inl t ↦ rw t.1 (one_opposite c d t.1 h) | inr t ↦ other_opposite c d t.0 h ]
 
-
 triple_kept : (x y u : Summand) (t w : Term) → x.term ≡ t → u.term ≡ w → is_relation (x ∷ y ∷ u ∷ []) ≡ true → IsKept (x ∷ y ∷ u ∷ [])
 triple_kept x y u (Behind a k) w e f h = let p = and_parts (x.coefficient == 1) _ (shape_of (x ∷ y ∷ u ∷ []) h).1 in absurd (false≢true (rw e at p.1))
 triple_kept x y u (Holding (Cell a)) w e f h = let p = and_parts (x.coefficient == 1) _ (shape_of (x ∷ y ∷ u ∷ []) h).1 in absurd (false≢true (rw e at p.1))
@@ -190,8 +190,7 @@ triple_kept x y u (Holding Ac) w e f h = go w f
     p : ((x.coefficient == 1) ≡ true) × (is_triple x.term y u ≡ true)
     p = and_parts (x.coefficient == 1) (is_triple x.term y u) g.1
 
-    shape : (is_cell y.term && (is_cell u.term &&
-    (((y.coefficient == 1) && (u.coefficient == 4095)) || ((y.coefficient == 4095) && (u.coefficient == 1))))) ≡ true
+    shape : (is_cell y.term && (is_cell u.term && (((y.coefficient == 1) && (u.coefficient == 4095)) || ((y.coefficient == 4095) && (u.coefficient == 1))))) ≡ true
     shape = rw e at p.1
 
     q : (is_cell u.term ≡ true) × ((((y.coefficient == 1) && (u.coefficient == 4095)) || ((y.coefficient == 4095) && (u.coefficient == 1))) ≡ true)
@@ -467,3 +466,38 @@ pub of_words : (x y : Summand) (c : ℕ) (t : Option ℕ) → list_all is_summan
     is_relation (x ∷ y ∷ third_terms c t) ≡ (has_shape (x ∷ y ∷ third_terms c t) && same_sum (arranged (x ∷ y ∷ third_terms c t)) (x ∷ y ∷ third_terms c t))
 of_words x y c None e = ap (λ b. b && (has_shape (x ∷ y ∷ []) && same_sum (arranged (x ∷ y ∷ [])) (x ∷ y ∷ []))) e
 of_words x y c (Some z) e = ap (λ b. b && (has_shape (x ∷ y ∷ third_terms c (Some z)) && same_sum (arranged (x ∷ y ∷ third_terms c (Some z))) (x ∷ y ∷ third_terms c (Some z)))) e
+
+-- A sum that is packed.
+module _ (s : Sum) (k : IsKept s) (n : Location) (a t : Summand) (e : a ≡ summand_at s 0) (f : n ≡ name_of_term a.term) (g : t ≡ summand_at s 1) where
+  name_is : n ≡ k.first
+  name_is = f ∙ (ap (λ (x : Summand). name_of_term x.term) e ∙ ap (λ (x : Sum). name_of_term (summand_at x 0).term) k.is)
+
+  second_is : t ≡ k.second
+  second_is = g ∙ ap (λ (x : Sum). summand_at x 1) k.is
+
+  pub pair_packed : length s ≡ 2 → (let x : Sum = record { coefficient = 1; term = Holding n } ∷ t ∷ third_terms t.coefficient None in x) ≡ s
+  pair_packed two = go k.third k.is
+    where
+      go : (third : Option ℕ) → s ≡ record { coefficient = 1; term = Holding k.first } ∷ k.second ∷ third_terms k.second.coefficient third →
+          (let x : Sum = record { coefficient = 1; term = Holding n } ∷ t ∷ third_terms t.coefficient None in x) ≡ s
+      go None is = sum_is n k.first t k.second None None name_is second_is refl ∙ sym is
+      go (Some z) is = absurd (let q : length s ≡ 3 = ap length is in omega (arith, q, two))
+
+  module _ (b : Summand) (m : Location) (h : b ≡ summand_at s 2) (i : m ≡ name_of_term b.term) (more : length s ≡ 2 → ⊥) where
+    third_is : (third : Option ℕ) → s ≡ record { coefficient = 1; term = Holding k.first } ∷ k.second ∷ third_terms k.second.coefficient third →
+        (y : ℕ) × (third ≡ Some y) × (m ≡ Cell y)
+    third_is None is = absurd (more (ap length is))
+    third_is (Some y) is = (y, refl, i ∙ (ap (λ (x : Summand). name_of_term x.term) h ∙ ap (λ (x : Sum). name_of_term (summand_at x 2).term) is))
+
+    pub triple_packed : (z : ℕ) → m ≡ Cell z → (let x : Sum = record { coefficient = 1; term = Holding n } ∷ t ∷ third_terms t.coefficient (Some z) in x) ≡ s
+    triple_packed z q =
+        let y = third_is k.third k.is in
+        let same : Cell z ≡ Cell y.0 = sym q ∙ y.2 in
+        let w : z ≡ y.0 = cc in
+        sum_is n k.first t k.second (Some z) k.third name_is second_is (ap (λ (x : ℕ). Some x) w ∙ sym y.1) ∙ sym k.is
+
+    pub no_accumulator : {X : Type 0} → m ≡ Ac → X
+    no_accumulator q = let y = third_is k.third k.is in absurd (let same : Ac ≡ Cell y.0 = sym q ∙ y.2 in cc)
+
+pub two_or_more : (s : Sum) → is_relation s ≡ true → 2 ≤ length s
+two_or_more s h = let p = and_parts (nat_le 2 (length s)) _ h in leb-true 2 (length s) p.0

@@ -272,11 +272,13 @@ fn read_equation(line: &[u8], runs: &mut Runs) -> Option<PackedLine>
     fields.skip(b" ");
     let more = fields.word();
     let count = fields.one(more, runs);
-    if fields.is_done() && is_before(&left, right) {
-        Some(PackedLine::Sum(equation(left, right), count))
-    } else {
-        None
+    if !fields.is_done() {
+        return None;
     }
+    if !is_before(&left, right) {
+        return None;
+    }
+    Some(PackedLine::Sum(equation(left, right), count))
 }
 
 /// The line of a sum, which version 3 has.

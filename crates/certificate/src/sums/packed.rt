@@ -216,7 +216,8 @@ pub fn packed_sum(sum: &Sum) -> Option<PackedSum>
     if len < 2 {
         return None;
     }
-    let first = sum.get(0).term.name();
+    let head = sum.get(0);
+    let first = head.term.name();
     let second = sum.get(1);
     if len == 2 {
         return Some(PackedSum {
@@ -225,7 +226,8 @@ pub fn packed_sum(sum: &Sum) -> Option<PackedSum>
             third: None,
         });
     }
-    match sum.get(2).term.name() {
+    let last = sum.get(2);
+    match last.term.name() {
         Location::Cell(cell) => Some(PackedSum {
             first,
             second,

@@ -14,6 +14,9 @@ use Rattle.domain.specs.Facts.{Location, Ac, Cell}
 use Rattle.domain.specs.Sums.Shapes.{has_shape, is_triple, is_cell}
 use Rattle.domain.specs.Sums.Terms.{Term, Holding, Behind, Summand, Sum, arranged, same_sum, name_of_term}
 use Rattle.domain.specs.Sums.InCode.{summand_at}
+use Rattle.std.proofs.lemmas.List.{length-map}
+use Rattle.domain.specs.declared.chains.Step.{Step as KeptStep}
+use Rattle.domain.specs.Sums.ChainsInCode.{step_of}
 use Rattle.domain.specs.Sums.Chains.{Step, Operates, Ands, Adds}
 use Rattle.certificate.specs.Spelling.{name_text}
 use Rattle.certificate.specs.Reading.{EndsBefore, place_of_name}
@@ -24,9 +27,13 @@ use Rattle.certificate.specs.Sums.Packed.{third_terms}
 use Rattle.certificate.proofs.DigitLemmas.{at_some}
 use Rattle.certificate.proofs.RunLemmas.{how_long}
 
+-- Two codes that differ.
+differ : (a b : ℕ) → (a == b) ≡ false → a ≡ b → ⊥
+differ a b e f = true≢false (sym (eq-eqb a b f) ∙ e)
+
 -- Offsets put in one by one.
 pub none_told : (s t : Words) (v : ℕ) → s ≡ nothing → s v ≡ (nat_lt v 0 && t v)
-none_told s t v e = ap (λ (f : Words). f v) e
+none_told s t v e = let z : nat_lt v 0 ≡ false = grind (arith, nat_tests) in rw z (ap (λ (f : Words). f v) e)
 
 pub told_more : (s : Words) (n v : ℕ) (x b : Bool) → x ≡ (nat_lt v n && s v) → b ≡ s n → (x || b && v == n) ≡ (nat_lt v (n + 1) && s v)
 told_more s n v x b e f = elim (eqb_tells v n) [
@@ -72,7 +79,7 @@ plus_read old None c rest small took begins e = absurd took
 plus_read old (Some r) c rest small took begins e = elim (eqb_tells c 1) [
   | inl t ↦ (sym t.1, (begins rest (rw t.0 at e)).1)
   | inr t ↦ (let f : old ≡ Some ((if c == 4095 then codes "-" else octal_text c) ++ rest) = rw t.0 at e in elim (eqb_tells c 4095) [
-    | inl u ↦ (let g : old ≡ Some (45 ∷ rest) = rw u.0 at f in absurd (let z : 45 ≡ 43 = cc in omega arith))
+    | inl u ↦ (let g : old ≡ Some (45 ∷ rest) = rw u.0 at f in absurd (differ 45 43 refl (cc)))
     | inr u ↦ (let g : old ≡ Some (octal_text c ++ rest) = rw u.0 at f in absurd (let z : 48 + c / 512 ≡ 43 = cc in omega arith))
   ])
 ]
@@ -80,9 +87,9 @@ plus_read old (Some r) c rest small took begins e = elim (eqb_tells c 1) [
 pub minus_read : (old mid new : Option (List ℕ)) (c : ℕ) (rest : List ℕ) → c < 4096 → mid ≡ old → ((r : List ℕ) → old ≡ Some (43 ∷ r) → (false ≡ true) × (mid ≡ Some r)) →
     IsSomeAnd new (λ r. mid ≡ Some (45 ∷ r)) →
     ((r : List ℕ) → mid ≡ Some (45 ∷ r) → (true ≡ true) × (new ≡ Some r)) → old ≡ Some (coefficient_text c ++ rest) → (4095 ≡ c) × (new ≡ Some rest)
-minus_read old mid None c rest small same no took begins e = absurd took
-minus_read old mid (Some r) c rest small same no took begins e = elim (eqb_tells c 1) [
-  | inl t ↦ absurd (false≢true (no rest (rw t.0 at e)).0)
+minus_read old mid None c rest small same lacks took begins e = absurd took
+minus_read old mid (Some r) c rest small same lacks took begins e = elim (eqb_tells c 1) [
+  | inl t ↦ absurd (false≢true (lacks rest (rw t.0 at e)).0)
   | inr t ↦ (let f : mid ≡ Some ((if c == 4095 then codes "-" else octal_text c) ++ rest) = same ∙ (rw t.0 at e) in elim (eqb_tells c 4095) [
     | inl u ↦ (sym u.1, (begins rest (rw u.0 at f)).1)
     | inr u ↦ (let g : mid ≡ Some (octal_text c ++ rest) = rw u.0 at f in absurd (let z : 48 + c / 512 ≡ 45 = cc in omega arith))
@@ -93,8 +100,8 @@ minus_read old mid (Some r) c rest small same no took begins e = elim (eqb_tells
 pub digits_next : (old mid last : Option (List ℕ)) (c : ℕ) (rest : List ℕ) → mid ≡ old → ((r : List ℕ) → old ≡ Some (43 ∷ r) → (false ≡ true) × (mid ≡ Some r)) →
     last ≡ mid → ((r : List ℕ) → mid ≡ Some (45 ∷ r) → (false ≡ true) × (last ≡ Some r)) → old ≡ Some (coefficient_text c ++ rest) →
     last ≡ Some (octal_text c ++ rest)
-digits_next old mid last c rest same no also none e = elim (eqb_tells c 1) [
-  | inl t ↦ absurd (false≢true (no rest (rw t.0 at e)).0)
+digits_next old mid last c rest same lacks also none e = elim (eqb_tells c 1) [
+  | inl t ↦ absurd (false≢true (lacks rest (rw t.0 at e)).0)
   | inr t ↦ (let f : mid ≡ Some ((if c == 4095 then codes "-" else octal_text c) ++ rest) = same ∙ (rw t.0 at e) in elim (eqb_tells c 4095) [
     | inl u ↦ absurd (false≢true (none rest (rw u.0 at f)).0)
     | inr u ↦ also ∙ (rw u.0 at f)
@@ -105,8 +112,8 @@ digits_next old mid last c rest same no also none e = elim (eqb_tells c 1) [
 pub no_sign : (old mid last : Option (List ℕ)) (c : ℕ) (rest : List ℕ) → mid ≡ old → ((r : List ℕ) → old ≡ Some (43 ∷ r) → (false ≡ true) × (mid ≡ Some r)) →
     last ≡ mid → ((r : List ℕ) → mid ≡ Some (45 ∷ r) → (false ≡ true) × (last ≡ Some r)) → old ≡ Some (coefficient_text c ++ rest) →
     ((c == 1) || (c == 4095)) ≡ false
-no_sign old mid last c rest same no also none e = elim (eqb_tells c 1) [
-  | inl t ↦ absurd (false≢true (no rest (rw t.0 at e)).0)
+no_sign old mid last c rest same lacks also none e = elim (eqb_tells c 1) [
+  | inl t ↦ absurd (false≢true (lacks rest (rw t.0 at e)).0)
   | inr t ↦ (let f : mid ≡ Some ((if c == 4095 then codes "-" else octal_text c) ++ rest) = same ∙ (rw t.0 at e) in elim (eqb_tells c 4095) [
     | inl u ↦ absurd (false≢true (none rest (rw u.0 at f)).0)
     | inr u ↦ rw (t.0, u.0) refl
@@ -236,14 +243,14 @@ sum_fields s k rest =
 
 -- A term: a name has no bracket before it.
 no_bracket : (n : Location) (rest r : List ℕ) → place_of_name n < 4097 → name_text n ++ rest ≡ 91 ∷ r → ⊥
-no_bracket Ac rest r small e = let z : 65 ≡ 91 = cc in omega arith
+no_bracket Ac rest r small e = differ 65 91 refl (cc)
 no_bracket (Cell a) rest r small e = let z : 48 + a / 512 ≡ 91 = cc in let s : a + 1 < 4097 = small in omega arith
 
 pub told_name : (m : Location) (old mid new : Option (List ℕ)) → mid ≡ old → ((r : List ℕ) → old ≡ Some (91 ∷ r) → (false ≡ true) × (mid ≡ Some r)) →
     ((n : Location) (r : List ℕ) → place_of_name n < 4097 → mid ≡ Some (name_text n ++ r) → (m ≡ n) × (new ≡ Some r)) →
     (t : Term) (rest : List ℕ) → is_term t ≡ true → old ≡ Some (term_text t ++ rest) → (Holding m ≡ t) × (new ≡ Some rest)
-told_name m old mid new same no only (Holding n) rest h e = let p = only n rest (name_small n h) (same ∙ e) in (ap Holding p.0, p.1)
-told_name m old mid new same no only (Behind x k) rest h e = absurd (false≢true (no _ e).0)
+told_name m old mid new same lacks only (Holding n) rest h e = let p = only n rest (name_small n h) (same ∙ e) in (ap Holding p.0, p.1)
+told_name m old mid new same lacks only (Behind x k) rest h e = absurd (false≢true (lacks _ e).0)
 
 pub told_behind : (x k : ℕ) (old a b c d last : Option (List ℕ)) → IsSomeAnd a (λ r. old ≡ Some (91 ∷ r)) → ((r : List ℕ) → old ≡ Some (91 ∷ r) → (true ≡ true) × (a ≡ Some r)) →
     ((w : ℕ) (r : List ℕ) → w < 4096 → a ≡ Some (octal_text w ++ r) → (x ≡ w) × (b ≡ Some r)) → ((r : List ℕ) → b ≡ Some (43 ∷ r) → c ≡ Some r) →
@@ -261,9 +268,9 @@ told_behind x k old (Some y) b c d last took begins first plus second close (Beh
 -- What follows the second term: " in " is no text of a third one.
 no_third : (c z : ℕ) (rest r : List ℕ) → third_text c (Some z) ++ codes " in " ++ rest ≡ codes " in " ++ r → ⊥
 no_third c z rest r e = elim (eqb_tells (minus 0 c) 1) [
-  | inl t ↦ (let f : 32 ∷ 43 ∷ (codes " " ++ octal_text z ++ [] ++ codes " in " ++ rest) ≡ codes " in " ++ r = rw t.0 at e in let z : 43 ≡ 105 = cc in omega arith)
+  | inl t ↦ (let f : 32 ∷ 43 ∷ (codes " " ++ octal_text z ++ [] ++ codes " in " ++ rest) ≡ codes " in " ++ r = rw t.0 at e in differ 43 105 refl (cc))
   | inr t ↦ elim (eqb_tells (minus 0 c) 4095) [
-    | inl u ↦ (let f : 32 ∷ 45 ∷ (codes " " ++ octal_text z ++ [] ++ codes " in " ++ rest) ≡ codes " in " ++ r = rw (t.0, u.0) at e in let z : 45 ≡ 105 = cc in omega arith)
+    | inl u ↦ (let f : 32 ∷ 45 ∷ (codes " " ++ octal_text z ++ [] ++ codes " in " ++ rest) ≡ codes " in " ++ r = rw (t.0, u.0) at e in differ 45 105 refl (cc))
     | inr u ↦ (let f : 32 ∷ (octal_text (minus 0 c) ++ codes " " ++ octal_text z ++ [] ++ codes " in " ++ rest) ≡ codes " in " ++ r = rw (t.0, u.0) at e in
         let z : 48 + minus 0 c / 512 ≡ 105 = cc in let s : minus 0 c < 4096 = minus_small c in omega arith)
   ]
@@ -281,15 +288,16 @@ nothing_third c old (Some y) begins (Some z) rest e took = absurd (no_third c z 
 -- A third term was read.
 pub third_read : (k z : ℕ) (s : Summand) (old new : Option (List ℕ)) → s ∷ [] ≡ third_terms k (Some z) →
     IfSome new (λ r. old ≡ Some (further_text s ++ codes " in " ++ r)) → IfSome new (λ r. old ≡ Some (third_text k (Some z) ++ codes " in " ++ r))
-third_read k z s old new is h = let e : further_text s ≡ third_text k (Some z) = sym (append-nil (further_text s)) ∙ ap (flat_map further_text) is in rw e at h
+third_read k z s old new is h = let e : further_text s ≡ third_text k (Some z) = sym (append-nil (further_text s)) ∙ ap (flat_map further_text) is in
+    subst (λ (x : List ℕ). IfSome new (λ r. old ≡ Some (x ++ codes " in " ++ r))) e h
 
 pub no_cell : {X : Type 0} (k : ℕ) (s : Summand) (old a b : Option (List ℕ)) → a ≡ old →
     ((r : List ℕ) → old ≡ Some (codes " in " ++ r) → (false ≡ true) × (a ≡ Some r)) →
     ((t : Summand) (r : List ℕ) → is_term t.term ≡ true → t.coefficient < 4096 → a ≡ Some (further_text t ++ r) → (s ≡ t) × (b ≡ Some r)) →
     ((z : ℕ) → s ∷ [] ≡ third_terms k (Some z) → None ≡ Some z) →
     (cell : Option ℕ) (rest : List ℕ) → IfSome cell (λ z. z < 4096) → old ≡ Some (third_text k cell ++ codes " in " ++ rest) → X
-no_cell k s old a b same no told is None rest small e = absurd (false≢true (no rest e).0)
-no_cell k s old a b same no told is (Some z) rest small e =
+no_cell k s old a b same lacks told is None rest small e = absurd (false≢true (lacks rest e).0)
+no_cell k s old a b same lacks told is (Some z) rest small e =
     let t : Summand = record { coefficient = minus 0 k; term = Holding (Cell z) } in
     let f : a ≡ Some (further_text t ++ (codes " in " ++ rest)) =
     same ∙ (e ∙ ap (λ (x : List ℕ). Some x) (ap (λ (x : List ℕ). x ++ codes " in " ++ rest) (append-nil (further_text t)) ∙ append_assoc (further_text t) (codes " in ") rest)) in
@@ -301,8 +309,8 @@ pub third_only : (k : ℕ) (found : Option ℕ) (s : Summand) (old a b new : Opt
     ((t : Summand) (r : List ℕ) → is_term t.term ≡ true → t.coefficient < 4096 → a ≡ Some (further_text t ++ r) → (s ≡ t) × (b ≡ Some r)) →
     ((r : List ℕ) → b ≡ Some (codes " in " ++ r) → new ≡ Some r) → ((z : ℕ) → s ∷ [] ≡ third_terms k (Some z) → found ≡ Some z) →
     (cell : Option ℕ) (rest : List ℕ) → IfSome cell (λ z. z < 4096) → old ≡ Some (third_text k cell ++ codes " in " ++ rest) → (found ≡ cell) × (new ≡ Some rest)
-third_only k found s old a b new same no told skip is None rest small e = absurd (false≢true (no rest e).0)
-third_only k found s old a b new same no told skip is (Some z) rest small e =
+third_only k found s old a b new same lacks told skip is None rest small e = absurd (false≢true (lacks rest e).0)
+third_only k found s old a b new same lacks told skip is (Some z) rest small e =
     let t : Summand = record { coefficient = minus 0 k; term = Holding (Cell z) } in
     let f : a ≡ Some (further_text t ++ (codes " in " ++ rest)) =
     same ∙ (e ∙ ap (λ (x : List ℕ). Some x) (ap (λ (x : List ℕ). x ++ codes " in " ++ rest) (append-nil (further_text t)) ∙ append_assoc (further_text t) (codes " in ") rest)) in
@@ -324,7 +332,7 @@ pub and_only : (x : ℕ) (old a new : Option (List ℕ)) → IsSomeAnd a (λ r. 
 and_only x old None new took begins word p rest h e = absurd took
 and_only x old (Some y) new took begins word (Ands w) rest h e =
     let q = word w rest (ltb-true w 4096 h) (begins (octal_text w ++ rest) e).1 in (ap Ands q.0, q.1)
-and_only x old (Some y) new took begins word (Adds w) rest h e = absurd (let z : 84 ≡ 65 = cc in omega arith)
+and_only x old (Some y) new took begins word (Adds w) rest h e = absurd (differ 84 65 refl (cc))
 and_only x old (Some y) new took begins word (Operates w) rest h e =
     absurd (let z : 48 + w / 512 ≡ 65 = cc in let s = step_small w h in omega (arith, s))
 
@@ -332,20 +340,20 @@ pub add_only : (x : ℕ) (old mid a new : Option (List ℕ)) → mid ≡ old →
     IsSomeAnd a (λ r. mid ≡ Some (codes "TAD " ++ r)) → ((r : List ℕ) → mid ≡ Some (codes "TAD " ++ r) → (true ≡ true) × (a ≡ Some r)) →
     ((w : ℕ) (r : List ℕ) → w < 4096 → a ≡ Some (octal_text w ++ r) → (x ≡ w) × (new ≡ Some r)) →
     (p : Step) (rest : List ℕ) → is_step p ≡ true → old ≡ Some (step_rest p ++ rest) → (Adds x ≡ p) × (new ≡ Some rest)
-add_only x old mid None new same no took begins word p rest h e = absurd took
-add_only x old mid (Some y) new same no took begins word (Ands w) rest h e = absurd (false≢true (no (octal_text w ++ rest) e).0)
-add_only x old mid (Some y) new same no took begins word (Adds w) rest h e =
+add_only x old mid None new same lacks took begins word p rest h e = absurd took
+add_only x old mid (Some y) new same lacks took begins word (Ands w) rest h e = absurd (false≢true (lacks (octal_text w ++ rest) e).0)
+add_only x old mid (Some y) new same lacks took begins word (Adds w) rest h e =
     let q = word w rest (ltb-true w 4096 h) (begins (octal_text w ++ rest) (same ∙ e)).1 in (ap Adds q.0, q.1)
-add_only x old mid (Some y) new same no took begins word (Operates w) rest h e =
+add_only x old mid (Some y) new same lacks took begins word (Operates w) rest h e =
     let f : mid ≡ Some (octal_text w ++ rest) = same ∙ e in absurd (let z : 48 + w / 512 ≡ 84 = cc in let s = step_small w h in omega (arith, s))
 
 pub operate_only : (x : ℕ) (old mid a new : Option (List ℕ)) → mid ≡ old → ((r : List ℕ) → old ≡ Some (codes "AND " ++ r) → (false ≡ true) × (mid ≡ Some r)) →
     a ≡ mid → ((r : List ℕ) → mid ≡ Some (codes "TAD " ++ r) → (false ≡ true) × (a ≡ Some r)) →
     ((w : ℕ) (r : List ℕ) → w < 4096 → a ≡ Some (octal_text w ++ r) → (x ≡ w) × (new ≡ Some r)) →
     (p : Step) (rest : List ℕ) → is_step p ≡ true → old ≡ Some (step_rest p ++ rest) → (Operates x ≡ p) × (new ≡ Some rest)
-operate_only x old mid a new same no also none word (Ands w) rest h e = absurd (false≢true (no (octal_text w ++ rest) e).0)
-operate_only x old mid a new same no also none word (Adds w) rest h e = absurd (false≢true (none (octal_text w ++ rest) (same ∙ e)).0)
-operate_only x old mid a new same no also none word (Operates w) rest h e =
+operate_only x old mid a new same lacks also none word (Ands w) rest h e = absurd (false≢true (lacks (octal_text w ++ rest) e).0)
+operate_only x old mid a new same lacks also none word (Adds w) rest h e = absurd (false≢true (none (octal_text w ++ rest) (same ∙ e)).0)
+operate_only x old mid a new same lacks also none word (Operates w) rest h e =
     let s = step_small w h in let q = word w rest (omega (arith, s)) (also ∙ (same ∙ e)) in (ap Operates q.0, q.1)
 
 -- Steps read one after another.
@@ -501,3 +509,9 @@ module _ (s : Sum) (k : IsKept s) (n : Location) (a t : Summand) (e : a ≡ summ
 
 pub two_or_more : (s : Sum) → is_relation s ≡ true → 2 ≤ length s
 two_or_more s h = let p = and_parts (nat_le 2 (length s)) _ h in leb-true 2 (length s) p.0
+
+-- Without a step there is no chain.
+pub none_kept : {X : Type 0} (ps : List Step) (xs : List KeptStep) → 1 ≤ length ps → ps ≡ map step_of xs → true ≡ (length xs == 0) → X
+none_kept ps xs some e none =
+    let z : length ps ≡ length (map step_of xs) = ap length e in
+    let y : length xs ≡ 0 = eqb-true (length xs) 0 (sym none) in absurd (omega (arith, z, y, some, length-map xs step_of))

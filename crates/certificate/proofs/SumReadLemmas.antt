@@ -32,7 +32,7 @@ use Rattle.certificate.proofs.PackedLemmas.{runs_past}
 use Rattle.certificate.proofs.SumPackedLemmas.{AreSited}
 use Rattle.certificate.proofs.DigitLemmas.{at_some}
 use Rattle.certificate.proofs.SumFieldLemmas.{shape_of}
-use Rattle.certificate.proofs.SumLineLemmas.{one_only}
+use Rattle.certificate.proofs.SumLineLemmas.{one_word}
 
 -- No set with a number past the last word.
 pub added_ends : (old new : List Run) → EndsBefore 4096 (added old new)
@@ -201,7 +201,7 @@ equation_text : (x : Location) (b k : ℕ) → k < 4096 →
     codes "equal " ++ name_text x ++ codes " " ++ octal_text b ++ codes " " ++ octal_text k ≡ equation_line (record { sum = difference_of x (Cell b); set = one k })
 equation_text x b k few =
     five (codes "equal ") (name_text x) (codes " ") (octal_text b) (codes " ") (octal_text k) ∙
-    ap (λ (o : Option ℕ). codes "equal " ++ (name_text x ++ codes " " ++ octal_text b) ++ codes " " ++ word_text o) (sym (one_only k few))
+    ap (λ (o : Option ℕ). codes "equal " ++ (name_text x ++ codes " " ++ octal_text b) ++ codes " " ++ word_text o) (sym (one_word k few))
   where
     five : (a b c d e f : List ℕ) → a ++ b ++ c ++ d ++ e ++ f ≡ a ++ (b ++ c ++ d) ++ e ++ f
     five a b c d e f = simp append_assoc

@@ -13,7 +13,8 @@ use Rattle.certificate.specs.Spelling.{Registers}
 use Rattle.certificate.specs.Sums.Lines.{Line, RoutineIs, FactIs, ExitIs, CellIs, SumIs, ChainIs, End, is_detail, has_details, is_cell, is_sum, is_chain, is_end}
 use Rattle.certificate.specs.Sums.Order.{place_of_head, details_of_last, how_many, has_room}
 use Rattle.certificate.specs.Sums.Reading.{cells_under, relations_under, chains_under, fact_said, all_offsets, facts_at, exits_at}
-use Rattle.certificate.specs.Sums.LineOf.{has_form}
+use Rattle.certificate.specs.Sums.LineOf.{has_form, most_offsets}
+use Rattle.certificate.specs.declared.sums.Version.TheVariants.{One, Two, Three}
 use Rattle.certificate.specs.Sums.Packed.{Packed, said_lines}
 use Rattle.certificate.specs.Sums.Kept.{BeginAt}
 use Rattle.certificate.specs.Sums.Found.{IsLine, Follow, newest_first, IsWhole, AreRising, past, from_place, begins_at, begins, behind_details, FitUnder, IsSaid}
@@ -379,3 +380,105 @@ fit_under v k i l rest w e d =
 -- The line at a place is of its form.
 pub line_formed : (v : Version) (k : Packed) (i : ℕ) (l : Line) (rest : List Line) → IsWhole v k → drop i (said_lines k) ≡ l ∷ rest → IsLine v l
 line_formed v k i l rest w e = (follow_from v [] (said_lines k) i (follows v [] (said_lines k) w.order).1 l rest e).1.1
+
+-- The line at a place, where it is no detail.
+pub record NextLine (ls : List Line) (i : ℕ) : Type 0 where
+  pub line : Line
+  pub there : drop i ls ≡ line ∷ drop (i + 1) ls
+  pub head : is_detail line ≡ false
+
+next_of : (ls : List Line) (i : ℕ) (l : Line) (rest : List Line) → drop i ls ≡ l ∷ rest → rest ≡ drop (i + 1) ls
+next_of [] i l rest e = absurd (let z : [] ≡ l ∷ rest = sym (drop_all i [] (omega arith)) ∙ e in cc)
+next_of (k ∷ ks) zero l rest e = let z : ks ≡ rest = cc in sym z
+next_of (k ∷ ks) (suc i) l rest e = let q : suc i + 1 ≡ suc (i + 1) = omega arith in rw q (next_of ks i l rest e)
+
+pub next_line : (ls : List Line) (i p : ℕ) → begins_at p (drop i ls) ≡ true → NextLine ls i
+next_line ls i p h = go (drop i ls) refl h
+  where
+    go : (xs : List Line) → drop i ls ≡ xs → begins_at p xs ≡ true → NextLine ls i
+    go [] e h = absurd (false≢true h)
+    go (l ∷ rest) e h = record { line = l; there = e ∙ ap (λ (x : List Line). l ∷ x) (next_of ls i l rest e); head = not-true _ (and_parts (not (is_detail l)) _ h).0 }
+
+pub fit_next : (v : Version) (k : Packed) (i p : ℕ) → IsWhole v k → begins_at p (drop i (said_lines k)) ≡ true → FitUnder (drop (i + 1) (said_lines k))
+fit_next v k i p w h = let n = next_line (said_lines k) i p h in fit_under v k i n.line (drop (i + 1) (said_lines k)) w n.there n.head
+
+-- What follows the first fact at an address, or the first exit for an offset.
+pub record FactNext (ls : List Line) (i end a : ℕ) (f : Fact) : Type 0 where
+  pub next : facts_at (drop i (ls ++ End ∷ [])) a ≡ f ∷ facts_at (drop end (ls ++ End ∷ [])) a
+  pub stands : BeginAt (4096 + a) (drop end (ls ++ End ∷ []))
+
+pub fact_next : (v : Version) (k : Packed) (i end a : ℕ) (f : Fact) → IsWhole v k → a < 4096 → begins_at (4096 + a) (drop i (said_lines k)) ≡ true →
+    begins has_details (drop i (said_lines k)) ≡ true → IsSaid (drop i (said_lines k)) f → drop end (said_lines k) ≡ behind_details (drop (i + 1) (said_lines k)) →
+    FactNext (said_lines k) i end a f
+fact_next v k i end a f w small h d is e =
+    let ls : List Line = said_lines k in
+    let n = next_line ls i (4096 + a) h in
+    let m = rising_from ls 0 i w.rising in
+    let p = first_fact n.line (drop (i + 1) ls) m.0 a f small (rw n.there at m.1) (rw n.there at h) (rw n.there at d) (rw n.there at is) in
+    record {
+      next = facts_rest ls i a ∙ (ap (λ (x : List Line). facts_at x a) n.there ∙ (p.0 ∙ ap (λ (x : List Fact). f ∷ x)
+          (ap (λ (x : List Line). facts_at x a) (sym e) ∙ sym (facts_rest ls end a))));
+      stands = begin_rest (4096 + a) ls end (omega (arith, small)) (rw e p.1);
+    }
+
+pub record ExitNext (ls : List Line) (i end x o : ℕ) (f : Fact) : Type 0 where
+  pub next : exits_at (drop i (ls ++ End ∷ [])) x o ≡ f ∷ exits_at (drop end (ls ++ End ∷ [])) x o
+  pub stands : BeginAt (8192 + (64 * x + o)) (drop end (ls ++ End ∷ []))
+
+most_few : (v : Version) (o : ℕ) → nat_lt o (most_offsets v) ≡ true → o < 64
+most_few One o h = let z : o < 8 = ltb-true o 8 h in omega (arith, z)
+most_few Two o h = let z : o < 8 = ltb-true o 8 h in omega (arith, z)
+most_few Three o h = ltb-true o 64 h
+
+has_place : (v : Version) (l : Line) → has_form v l ≡ true → HasPlace l
+has_place v (ExitIs e o s r) h = most_few v o (and_parts (nat_lt o (most_offsets v)) _ (and_parts (nat_lt e 4096) _ h).1).0
+has_place v (FactIs a s r o) h = ltb-true a 4096 (and_parts (nat_lt a 4096) _ h).0
+has_place v (RoutineIs r) h = tt
+has_place v (CellIs c) h = tt
+has_place v (SumIs s) h = tt
+has_place v (ChainIs c) h = tt
+has_place v End h = tt
+
+pub exit_next : (v : Version) (k : Packed) (i end x o : ℕ) (f : Fact) → IsWhole v k → x < 4096 → o < 64 → begins_at (8192 + (64 * x + o)) (drop i (said_lines k)) ≡ true →
+    begins has_details (drop i (said_lines k)) ≡ true → IsSaid (drop i (said_lines k)) f → drop end (said_lines k) ≡ behind_details (drop (i + 1) (said_lines k)) →
+    ExitNext (said_lines k) i end x o f
+exit_next v k i end x o f w low small h d is e =
+    let ls : List Line = said_lines k in
+    let n = next_line ls i (8192 + (64 * x + o)) h in
+    let m = rising_from ls 0 i w.rising in
+    let form = line_formed v k i n.line (drop (i + 1) ls) w n.there in
+    let p = first_exit n.line (drop (i + 1) ls) m.0 x o f small (rw n.there at m.1) (rw n.there at h) (rw n.there at d) (has_place v n.line form.0) (rw n.there at is) in
+    record {
+      next = exits_rest ls i x o ∙ (ap (λ (y : List Line). exits_at y x o) n.there ∙ (p.0 ∙ ap (λ (y : List Fact). f ∷ y)
+          (ap (λ (y : List Line). exits_at y x o) (sym e) ∙ sym (exits_rest ls end x o))));
+      stands = begin_rest (8192 + (64 * x + o)) ls end (omega (arith, low, small)) (rw e p.1);
+    }
+
+-- A line at such a place is a fact's or an exit's.
+not_plain : {X : Type 0} (v : Version) (l : Line) (rest : List Line) (p : ℕ) → 4096 ≤ p → p < 270336 → has_form v l ≡ true → begins_at p (l ∷ rest) ≡ true → has_details l ≡ false → X
+not_plain v (RoutineIs r) rest p low high form h d =
+    absurd (let e : r.entry ≡ p = eqb-true r.entry p h in let s : r.entry < 4096 = ltb-true r.entry 4096 (and_parts (nat_lt r.entry 4096) _ form).0 in omega (arith, e, s, low))
+not_plain v (FactIs a s r o) rest p low high form h d = absurd (true≢false d)
+not_plain v (ExitIs e o s r) rest p low high form h d = absurd (true≢false d)
+not_plain v (CellIs c) rest p low high form h d = absurd (false≢true h)
+not_plain v (SumIs s) rest p low high form h d = absurd (false≢true h)
+not_plain v (ChainIs c) rest p low high form h d = absurd (false≢true h)
+not_plain v End rest p low high form h d = absurd (let e : 270336 ≡ p = eqb-true 270336 p h in omega (arith, e, high))
+
+pub has_said : {X : Type 0} (v : Version) (k : Packed) (i p : ℕ) → IsWhole v k → 4096 ≤ p → p < 270336 → begins_at p (drop i (said_lines k)) ≡ true →
+    begins has_details (drop i (said_lines k)) ≡ false → X
+has_said v k i p w low high h d =
+    let n = next_line (said_lines k) i p h in
+    not_plain v n.line (drop (i + 1) (said_lines k)) p low high (line_formed v k i n.line (drop (i + 1) (said_lines k)) w n.there).0 (rw n.there at h) (rw n.there at d)
+
+pub none_left : (v : Version) (k : Packed) (i a : ℕ) → IsWhole v k → BeginAt (4096 + a) (drop i (said_lines k ++ End ∷ [])) → begins_at (4096 + a) (drop i (said_lines k)) ≡ false →
+    facts_at (drop i (said_lines k ++ End ∷ [])) a ≡ []
+none_left v k i a w b f =
+    let m = rising_from (said_lines k) 0 i w.rising in
+    facts_rest (said_lines k) i a ∙ no_facts (drop i (said_lines k)) m.0 a m.1 (begin_without (4096 + a) (said_lines k) i b) f
+
+pub no_exit_left : (v : Version) (k : Packed) (i x o : ℕ) → IsWhole v k → BeginAt (8192 + (64 * x + o)) (drop i (said_lines k ++ End ∷ [])) →
+    begins_at (8192 + (64 * x + o)) (drop i (said_lines k)) ≡ false → exits_at (drop i (said_lines k ++ End ∷ [])) x o ≡ []
+no_exit_left v k i x o w b f =
+    let m = rising_from (said_lines k) 0 i w.rising in
+    exits_rest (said_lines k) i x o ∙ no_exits (drop i (said_lines k)) m.0 x o m.1 (begin_without (8192 + (64 * x + o)) (said_lines k) i b) f

@@ -11,7 +11,7 @@ returns-then-takes-clause-only c = λ k rest small e.
 
 pub returns-then-takes-2-clause-only : goal.returns-then-takes-2-clause-only
 returns-then-takes-2-clause-only c = λ k rest small e.
-    rw c.from_index-2.ensures (minus_read (left c.args.self.now) (left c.takes.new.self) (left c.takes-2.new.self) k rest small (c.if-takes.ensures.kept refl) c.if-takes.ensures.only
+    rw c.from_index-then-takes-2.ensures (minus_read (left c.args.self.now) (left c.takes.new.self) (left c.takes-2.new.self) k rest small (c.if-takes.ensures.kept refl) c.if-takes.ensures.only
     (c.if-takes-2.ensures.taken refl) c.if-takes-2.ensures.only e)
 
 pub returns-clause-read : goal.returns-clause-read

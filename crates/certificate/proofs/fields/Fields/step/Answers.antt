@@ -11,8 +11,8 @@ returns-then-takes_text-clause-only c =
 
 pub returns-then-takes_text-2-clause-only : goal.returns-then-takes_text-2-clause-only
 returns-then-takes_text-2-clause-only c =
-    add_only c.word-2.result (left c.args.self.now) (left c.takes_text.new.self) (left c.takes_text-2.new.self) (left c.word-2.new.self) (c.if-takes_text.ensures.kept refl) c.if-takes_text.ensures.only
-    (c.if-takes_text-2.ensures.taken refl) c.if-takes_text-2.ensures.only c.word-2.ensures.only
+    add_only c.word-then-takes_text-2.result (left c.args.self.now) (left c.takes_text.new.self) (left c.takes_text-2.new.self) (left c.word-then-takes_text-2.new.self) (c.if-takes_text.ensures.kept refl) c.if-takes_text.ensures.only
+    (c.if-takes_text-2.ensures.taken refl) c.if-takes_text-2.ensures.only c.word-then-takes_text-2.ensures.only
 
 pub returns-clause-only : goal.returns-clause-only
 returns-clause-only c =

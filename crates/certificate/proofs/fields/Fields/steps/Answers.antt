@@ -4,7 +4,7 @@ use Rattle.domain.specs.Sums.Chains.{Step as SaidStep}
 use Rattle.domain.specs.Sums.ChainsInCode.{step_of}
 use Rattle.domain.specs.declared.chains.Step.{Step}
 use Rattle.certificate.specs.Fields.{left}
-use Rattle.certificate.proofs.SumFieldLemmas.{StepsRead, no_steps, step_more, steps_shorter}
+use Rattle.certificate.proofs.SumFieldLemmas.{StepsRead, no_steps, step_more, steps_shorter, steps_end, none_kept}
 use Rattle.certificate.proofs.fields.Fields.steps.Goals as goal
 
 pub loop-self-init : goal.loop-self-init
@@ -19,3 +19,14 @@ loop-self-preserved c =
 pub loop-self-smaller : goal.loop-self-smaller
 loop-self-smaller c =
     steps_shorter (left c.loop-self.self) (left c.takes.new.self) (left c.step-step.new.self) (step_of c.step-step.result) (c.loop-self-test.ensures.taken refl) c.step-step.ensures.read
+
+pub returns-clause-only : goal.returns-clause-only
+returns-clause-only c = λ ps f e.
+    (steps_end (left c.args.self.now) (left c.loop-self.self) (left c.takes.new.self) (map step_of c.loop-self.steps.items) c.loop-self.invariant (c.loop-self-test.ensures.kept refl)
+    c.loop-self-test.ensures.only ps f.form e).1
+
+pub returns-then-is_empty-clause-only : goal.returns-then-is_empty-clause-only
+returns-then-is_empty-clause-only c = λ ps f e.
+    let p = steps_end (left c.args.self.now) (left c.loop-self.self) (left c.takes.new.self) (map step_of c.loop-self.steps.items) c.loop-self.invariant (c.loop-self-test.ensures.kept refl)
+    c.loop-self-test.ensures.only ps f.form e in
+    none_kept ps c.loop-self.steps.items f.some p.0 c.if-is_empty.ensures

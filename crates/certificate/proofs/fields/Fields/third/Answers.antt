@@ -24,6 +24,6 @@ returns-in-Some-clause-only c =
     (c.if-takes_text.ensures.kept refl) c.if-takes_text.ensures.only c.summand-third.ensures.only c.skip.ensures.only c.in-Some.ensures.only
 
 pub returns-in-None-clause-only : goal.returns-in-None-clause-only
-returns-in-None-clause-only c =
+returns-in-None-clause-only c = λ cell rest small e.
     no_cell c.args.second.now.coefficient (summand_of c.summand-third.result) (left c.args.self.now) (left c.takes_text.new.self) (left c.summand-third.new.self)
-    (c.if-takes_text.ensures.kept refl) c.if-takes_text.ensures.only c.summand-third.ensures.only c.in-None.ensures.only
+    (c.if-takes_text.ensures.kept refl) c.if-takes_text.ensures.only c.summand-third.ensures.only c.in-None.ensures.only cell rest small e

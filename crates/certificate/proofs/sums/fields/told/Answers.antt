@@ -1,4 +1,4 @@
-use Rattle.std.proofs.Common.{◌∙◌}
+use Rattle.std.proofs.Common.{◌∙◌, refl}
 use Rattle.domain.specs.Meaning.{offsets_of}
 use Rattle.domain.specs.Sums.Offsets.{offsets_in}
 use Rattle.certificate.proofs.SumFieldLemmas.{none_told, told_more, all_told, none_of_eight}
@@ -13,3 +13,6 @@ loop-offset-preserved c = λ v.
 
 pub returns : goal.returns
 returns c = all_told (offsets_in c.loop-offset.found) (offsets_of c.args.offsets) c.loop-offset.offset c.loop-offset-test.false c.loop-offset.auto.offset-end c.requires c.loop-offset.invariant
+
+pub returns-then-is_empty : goal.returns-then-is_empty
+returns-then-is_empty c = none_of_eight (offsets_in c.none-found.result) (offsets_of c.args.offsets) c.none-found.ensures c.requires (c.if-is_empty.ensures.0 refl)

@@ -1,6 +1,6 @@
-use Rattle.std.proofs.Common.{◌≡◌, ◌++◌, true, refl, ap, ◌∙◌, List, ℕ, [], Some, length, append_assoc, arith}
+use Rattle.std.proofs.Common.{◌≡◌, ◌++◌, true, refl, ap, ◌∙◌, List, ℕ, [], Some, length, append_assoc, subst, sym, arith}
 use Rattle.std.proofs.lemmas.Bool.{and_parts}
-use Rattle.std.specs.Prelude.{codes}
+use Rattle.std.specs.Prelude.{codes, IfSome}
 use Rattle.wordset.specs.Words.{has_some}
 use Rattle.domain.specs.Sums.Terms.{Sum}
 use Rattle.certificate.specs.Spelling.{set_text}
@@ -34,5 +34,5 @@ returns-then-is_done-clause-read c = λ steps.
     rw (one_laid old new c.some_set-count.result c.requires.runs c.some_set-count.ensures.count)
     (sum_spelled (record { sum = sum; set = set }) c.args.line.now form (at_some (λ r. has_some set ≡ true) f3 [] c.some_set-count.ensures.some done) (added_ends old new)
     (whole c.args.line.now (codes "sum " ++ sum_text sum ++ codes " in " ++ set_text set) f0 f3 c.of-fields.ensures done
-    (rw (append_assoc (codes "sum ") (sum_text sum) (codes " in ")) (both f0 f2 f3 (codes "sum " ++ (sum_text sum ++ codes " in ")) (set_text set)
+    (subst (λ (x : List ℕ). IfSome f3 (λ r. f0 ≡ Some (x ++ set_text set ++ r))) (sym (append_assoc (codes "sum ") (sum_text sum) (codes " in "))) (both f0 f2 f3 (codes "sum " ++ (sum_text sum ++ codes " in ")) (set_text set)
     (both f0 f1 f2 (codes "sum ") (sum_text sum ++ codes " in ") c.skip.ensures.read c.sum-sum.ensures.read) c.some_set-count.ensures.read))))

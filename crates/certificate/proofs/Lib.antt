@@ -36,3 +36,4 @@ pub mod SumServedLemmas
 pub mod SumDetailLemmas
 pub mod SumReadLemmas
 pub mod SumReaderLemmas
+pub mod SumSpelledLemmas

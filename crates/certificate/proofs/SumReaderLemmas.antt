@@ -118,11 +118,11 @@ other_fact (ChainIs c) ls a f = refl
 other_fact End ls a f = refl
 
 unlike : (d p e o : ℕ) → (8192 + (64 * d + p) ≡ 8192 + (64 * e + o) → ⊥) → ((d == e) && (p == o)) ≡ false
-unlike d p e o no = elim (cases_Bool (d == e)) [
+unlike d p e o lacks = elim (cases_Bool (d == e)) [
   | inr f ↦ rw f refl
   | inl t ↦ elim (cases_Bool (p == o)) [
     | inr g ↦ rw (t, g) refl
-    | inl u ↦ absurd (no (let x : d ≡ e = eqb-true d e t in let y : p ≡ o = eqb-true p o u in omega (arith, x, y)))
+    | inl u ↦ absurd (lacks (let x : d ≡ e = eqb-true d e t in let y : p ≡ o = eqb-true p o u in omega (arith, x, y)))
   ]
 ]
 
@@ -231,13 +231,13 @@ no_facts (l ∷ ls) n a h b f =
     passed_fact l ls a (λ e. omega (arith, e, low)) ∙ facts_past ls (place_of_head l + 1) a q.2 (omega (arith, low))
   where
     passed_fact : (l : Line) (ls : List Line) (a : ℕ) → (place_of_head l ≡ 4096 + a → ⊥) → facts_at (l ∷ ls) a ≡ facts_at ls a
-    passed_fact (FactIs b s r o) ls a no = rw (ne_eqb b a (λ e. no (ap (λ k. 4096 + k) e))) refl
-    passed_fact (RoutineIs r) ls a no = refl
-    passed_fact (ExitIs e o s r) ls a no = refl
-    passed_fact (CellIs c) ls a no = refl
-    passed_fact (SumIs s) ls a no = refl
-    passed_fact (ChainIs c) ls a no = refl
-    passed_fact End ls a no = refl
+    passed_fact (FactIs b s r o) ls a lacks = rw (ne_eqb b a (λ e. lacks (ap (λ k. 4096 + k) e))) refl
+    passed_fact (RoutineIs r) ls a lacks = refl
+    passed_fact (ExitIs e o s r) ls a lacks = refl
+    passed_fact (CellIs c) ls a lacks = refl
+    passed_fact (SumIs s) ls a lacks = refl
+    passed_fact (ChainIs c) ls a lacks = refl
+    passed_fact End ls a lacks = refl
 
 pub no_exits : (ls : List Line) (n e o : ℕ) → AreRising n ls → BeginAt (8192 + (64 * e + o)) ls → begins_at (8192 + (64 * e + o)) ls ≡ false → exits_at ls e o ≡ []
 no_exits [] n e o h b f = refl
@@ -247,13 +247,13 @@ no_exits (l ∷ ls) n e o h b f =
     passed_exit l ls e o (λ z. omega (arith, z, low)) ∙ exits_past ls (place_of_head l + 1) e o q.2 (omega (arith, low))
   where
     passed_exit : (l : Line) (ls : List Line) (e o : ℕ) → (place_of_head l ≡ 8192 + (64 * e + o) → ⊥) → exits_at (l ∷ ls) e o ≡ exits_at ls e o
-    passed_exit (ExitIs d p s r) ls e o no = rw (unlike d p e o no) refl
-    passed_exit (RoutineIs r) ls e o no = refl
-    passed_exit (FactIs a s r q) ls e o no = refl
-    passed_exit (CellIs c) ls e o no = refl
-    passed_exit (SumIs s) ls e o no = refl
-    passed_exit (ChainIs c) ls e o no = refl
-    passed_exit End ls e o no = refl
+    passed_exit (ExitIs d p s r) ls e o lacks = rw (unlike d p e o lacks) refl
+    passed_exit (RoutineIs r) ls e o lacks = refl
+    passed_exit (FactIs a s r q) ls e o lacks = refl
+    passed_exit (CellIs c) ls e o lacks = refl
+    passed_exit (SumIs s) ls e o lacks = refl
+    passed_exit (ChainIs c) ls e o lacks = refl
+    passed_exit End ls e o lacks = refl
 
 -- Details are passed over.
 facts_behind : (ls : List Line) (a : ℕ) → facts_at (behind_details ls) a ≡ facts_at ls a

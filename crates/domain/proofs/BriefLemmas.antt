@@ -1,12 +1,11 @@
 -- Words in a row.
-use Rattle.std.proofs.Common.{◌≡◌, ℕ, suc, ◌+◌, ◌<◌, ◌≤◌, ◌==◌, Bool, true, false, ◌&&◌, List, refl, sym, ap, ◌∙◌, arith, inl, inr}
-use Rattle.std.specs.Prelude.{nat_le, nat_lt, not, Some, None}
+use Rattle.std.proofs.Common.{◌≡◌, ℕ, ◌+◌, ◌<◌, ◌≤◌, ◌==◌, Bool, true, false, ◌&&◌, refl, sym, ap, ◌∙◌, arith, inl, inr}
+use Rattle.std.specs.Prelude.{nat_lt, not, Some, None}
 use Rattle.std.proofs.Math.Path.{fun_ext}
 use Rattle.std.proofs.lemmas.Bool.Decides.{nat_tests}
 use Rattle.std.proofs.lemmas.Bool.{cases_lt}
-use Rattle.wordset.specs.Words.{Words, between, one, nothing, meet, has_some, some_below, only, IsWithin, IsFirstFrom, HasNoneFrom}
-use Rattle.wordset.specs.Lanes.{words}
-use Rattle.wordset.proofs.Tests.{some_from, some_none_of, both_ways}
+use Rattle.wordset.specs.Words.{Words, between, one, nothing, meet, has_some, only, IsWithin, IsFirstFrom}
+use Rattle.wordset.proofs.Tests.{some_from, some_none_of}
 use Rattle.wordset.proofs.Firsts.{only_next, only_two, only_nothing}
 
 pub in_row : (a b v : ℕ) → a ≤ v → v ≤ b → between a b v ≡ true

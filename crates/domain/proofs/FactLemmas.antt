@@ -1,13 +1,13 @@
 -- Facts of sums, part by part.
-use Rattle.std.proofs.Common.{◌≡◌, ℕ, ◌<◌, ◌==◌, Bool, true, false, List, [], ◌∷◌, length, refl, sym, ap, ◌∙◌, arith}
-use Rattle.std.specs.Prelude.{if◌then◌else◌, Option, Some, None}
+use Rattle.std.proofs.Common.{◌≡◌, ℕ, ◌<◌, true, false, List, [], ◌∷◌, length, refl, ap, arith}
+use Rattle.std.specs.Prelude.{Option, Some, None}
 use Rattle.std.proofs.Math.Path.{fun_ext}
 use Rattle.wordset.specs.Words.{Words, all_words}
 use Rattle.domain.specs.Facts.{Location, Ac, Cell}
 use Rattle.domain.specs.Statements.{TrackedCell}
 use Rattle.domain.specs.Sums.Terms.{Sum}
 use Rattle.domain.specs.Sums.Shapes.{Spelled, spelled}
-use Rattle.domain.specs.Sums.Facts.{Fact, Rules, Relation}
+use Rattle.domain.specs.Sums.Facts.{Fact, Rules}
 use Rattle.domain.specs.Sums.Adding.{with_set, adding, with_spelled_in, with_shape_in, with_term_in, with_relation, is_kept, times, set_of_sum, set_if_spelled, set_of_shape, set_of_term, set_among}
 use Rattle.domain.specs.Sums.InCode.{summand_at}
 use Rattle.domain.specs.Sums.CellsInCode.{words_in_cells, with_cell}

@@ -16,4 +16,6 @@ pub mod BriefLemmas
 pub mod TermLemmas
 pub mod NameAskedLemmas
 pub mod TakenLemmas
+pub mod JoinedLemmas
+pub mod GivenLemmas
 pub mod Sums

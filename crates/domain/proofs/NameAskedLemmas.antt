@@ -1,6 +1,6 @@
 -- What is left to one name when a fact is told something.
-use Rattle.std.proofs.Common.{◌≡◌, ℕ, ◌*◌, ◌%◌, ◌<◌, ◌≤◌, ◌==◌, Bool, true, false, ◌&&◌, List, [], ◌∷◌, ◌++◌, length, map, drop, get_or, Option, Some, None, refl, sym, ap, ◌∙◌, subst, arith, inl, inr}
-use Rattle.std.specs.Prelude.{if◌then◌else◌, flat_map}
+use Rattle.std.proofs.Common.{◌≡◌, ℕ, ◌*◌, ◌%◌, ◌<◌, ◌≤◌, ◌==◌, true, false, ◌&&◌, List, [], ◌∷◌, length, map, drop, refl, sym, ap, ◌∙◌, arith, inl, inr}
+use Rattle.std.specs.Prelude.{flat_map}
 use Rattle.std.proofs.Math.Path.{fun_ext}
 use Rattle.std.proofs.Math.ListN.{drop_of_length-le}
 use Rattle.std.proofs.lemmas.Bool.{eq-eqb, cases_Bool, cases_lt}
@@ -11,8 +11,7 @@ use Rattle.processor.specs.Runs.{Image}
 use Rattle.domain.specs.Facts.{Location, Ac, Cell, same, tape_word}
 use Rattle.domain.specs.Sums.Terms.{Term, Holding, Behind, Sum, sum_of_name, name_of_term}
 use Rattle.domain.specs.Sums.Facts.{Fact, Relation, OfSums}
-use Rattle.domain.specs.Sums.Shapes.{Spelled, spelled}
-use Rattle.domain.specs.Sums.Adding.{times, with_name, with_term_in, with_shape_in, adding, adding_all}
+use Rattle.domain.specs.Sums.Adding.{with_name, with_term_in, with_shape_in, adding, adding_all}
 use Rattle.domain.specs.Sums.Narrowing.{of_term, of_part, may_give, parts_of_chain}
 use Rattle.domain.specs.Sums.Chains.{Chain}
 use Rattle.domain.specs.Sums.ChainsInCode.{met_with_found}

@@ -1,24 +1,25 @@
 -- What is added to a fact of a name, and of the parts of a relation's sum.
 use Rattle.std.proofs.Common.{◌≡◌, ℕ, ◌+◌, ◌*◌, ◌%◌, ◌<◌, ◌≤◌, ◌==◌, Bool, true, false, ◌&&◌, List, [], ◌∷◌, ◌++◌, drop, length, refl, sym, ap, ◌∙◌, arith, inl, inr}
-use Rattle.std.specs.Prelude.{if◌then◌else◌, nat_lt}
+use Rattle.std.specs.Prelude.{if◌then◌else◌, Option, Some, None}
 use Rattle.std.proofs.Math.Path.{fun_ext}
 use Rattle.std.specs.Prelude.{flat_map}
 use Rattle.std.proofs.Common.{map, get_or}
 use Rattle.std.proofs.lemmas.List.{at_drop_more}
 use Rattle.std.proofs.lemmas.Bool.{cases_lt, eq-eqb, eqb-true}
-use Rattle.wordset.specs.Words.{Words, some_below, all_words, meet}
+use Rattle.wordset.specs.Words.{Words, some_below, meet}
 use Rattle.wordset.proofs.Tests.{some_from, some_to, IsSome, both_ways, and_both, and_first, and_second}
 use Rattle.wordset.specs.Lanes.{words}
 use Rattle.wordset.proofs.SetLemmas.{words_past, all_past}
 use Rattle.domain.specs.Facts.{Location, Ac, Cell}
 use Rattle.domain.specs.Statements.{TrackedCell, tracked}
 use Rattle.processor.specs.Runs.{Image}
-use Rattle.domain.specs.Sums.Terms.{Sum, sum_of_name}
+use Rattle.domain.specs.Sums.Terms.{Sum, Holding, sum_of_name, difference_of}
+use Rattle.domain.specs.Sums.Shapes.{Spelled, spelled}
 use Rattle.domain.specs.Sums.Knowing.{said_of}
 use Rattle.domain.specs.Sums.Narrowing.{of_term, of_part, parts_of}
 use Rattle.domain.specs.Sums.InCode.{summand_at}
 use Rattle.domain.specs.Sums.Facts.{Fact, OfSums}
-use Rattle.domain.specs.Sums.Adding.{times, differences, with_name, adding, adding_all}
+use Rattle.domain.specs.Sums.Adding.{times, differences, with_name, with_term_in, with_shape_in, with_spelled_in, adding, adding_all}
 use Rattle.domain.specs.Sums.Facts.{Relation}
 use Rattle.domain.specs.Sums.FactInCode.{names_words}
 
@@ -100,3 +101,37 @@ parts_on g p xs i x now more all lt is e before =
     at_drop_more (λ os. flat_map p (map g os)) xs i x lt ∙ ap (λ y. p (g y) ++ flat_map p (map g (drop (i + 1) xs))) (sym is) in
     ap (λ (f : Fact). adding_all OfSums (flat_map p (map g (drop (i + 1) xs))) f) e ∙ sym (added_both (p (g x)) (flat_map p (map g (drop (i + 1) xs))) now)
     ∙ ap (λ (rs : List Relation). adding_all OfSums rs now) (sym here) ∙ before
+
+-- ---- what a chain says, told by sets that are known of words alone
+
+meet_upto : (a s t : Words) → ((v : ℕ) → 4096 ≤ v → a v ≡ false) → ((v : ℕ) → v < 4096 → s v ≡ t v) → meet a s ≡ meet a t
+meet_upto a s t past same = fun_ext (λ v. elim (cases_lt v 4096) [
+  | inl l ↦ ap (λ b. a v && b) (same v l)
+  | inr g ↦ ap (λ b. b && s v) (past v g) ∙ sym (ap (λ b. b && t v) (past v g))
+])
+
+-- A name's set is met with words that are known.
+pub known_name : (f : Fact) (n : Location) (s t : Words) → ((v : ℕ) → 4096 ≤ v → f.set n v ≡ false) → ((v : ℕ) → v < 4096 → s v ≡ t v) →
+    with_term_in (Holding n) s f ≡ adding OfSums (record { sum = sum_of_name n; set = t }) f
+known_name f n s t past same = name_added f n t (meet (f.set n) s) past (meet_upto (f.set n) s t past same)
+
+some_agree : (n : ℕ) (a b : ℕ → Bool) → ((x : ℕ) → x < n → a x ≡ b x) → some_below n a ≡ some_below n b
+some_agree n a b same = both_ways (some_below n a) (some_below n b)
+    (λ e. let s : IsSome n a = some_to n a e in some_from n b s.at s.small (sym (same s.at s.small) ∙ s.holds))
+    (λ e. let s : IsSome n b = some_to n b e in some_from n a s.at s.small (same s.at s.small ∙ s.holds))
+
+times_known : (c : ℕ) (s t : Words) → ((v : ℕ) → v < 4096 → s v ≡ t v) → times c s ≡ times c t
+times_known c s t same = fun_ext (λ v. some_agree 4096 (λ x. s x && (v == (c * x) % 4096)) (λ x. t x && (v == (c * x) % 4096)) (λ x small. ap (λ b. b && (v == (c * x) % 4096)) (same x small)))
+
+-- A sum is in a set of which words are known.
+pub known_sum : (sum : Sum) (s t : Words) (f : Fact) → ((v : ℕ) → v < 4096 → s v ≡ t v) → adding OfSums (record { sum = sum; set = s }) f ≡ adding OfSums (record { sum = sum; set = t }) f
+known_sum sum s t f same = go (spelled sum)
+  where
+    go : (o : Option Spelled) → with_spelled_in OfSums o s f ≡ with_spelled_in OfSums o t f
+    go None = refl
+    go (Some p) = ap (λ (x : Words). with_shape_in OfSums p.sum x f) (times_known p.sign s t same)
+
+-- What is told of the accumulator less a cell is a relation.
+pub difference_told : (a : ℕ) (set : Words) (f : Fact) →
+    record f { relations = (adding OfSums (record { sum = difference_of Ac (Cell a); set = set }) f).relations } ≡ adding OfSums (record { sum = difference_of Ac (Cell a); set = set }) f
+difference_told a set f = refl

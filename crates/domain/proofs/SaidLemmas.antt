@@ -1,8 +1,8 @@
 -- What a fact says of the terms of a sum from a place on.
-use Rattle.std.proofs.Common.{◌≡◌, ℕ, suc, ◌+◌, ◌<◌, ◌≤◌, List, [], ◌∷◌, drop, get_or, length, refl, sym, ap, ◌∙◌, arith}
+use Rattle.std.proofs.Common.{◌≡◌, ℕ, ◌+◌, ◌<◌, ◌≤◌, [], ◌∷◌, drop, length, refl, ap, ◌∙◌, arith}
 use Rattle.std.proofs.Math.ListN.{drop_of_length-le}
 use Rattle.std.proofs.lemmas.List.{drop_more}
-use Rattle.wordset.specs.Words.{Words, one, meet, sums}
+use Rattle.wordset.specs.Words.{one, meet, sums}
 use Rattle.processor.specs.Runs.{Image}
 use Rattle.domain.specs.Sums.Terms.{Sum, Summand}
 use Rattle.domain.specs.Sums.Facts.{Fact}

@@ -19,3 +19,4 @@ pub mod CellsInCode
 pub mod RelationsInCode
 pub mod FactInCode
 pub mod Taken
+pub mod Given

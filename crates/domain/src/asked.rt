@@ -194,7 +194,12 @@ impl<const C: usize, const R: usize> SumFact<C, R> {
     {
         let found = self.words_of_chain(chain);
         keep_found(&found, chain.cell(), name, place);
-        let ChainWords { cells: _, accumulators: _, differences: _, links: _ } = found;
+        let ChainWords {
+            cells: _,
+            accumulators: _,
+            differences: _,
+            links: _,
+        } = found;
     }
 
     /// Leaves in a set of a name what is left to it when a fact is told what some relations of this fact say of their first

@@ -48,7 +48,7 @@ impl CellSet {
 
 impl<const CAP: usize> CellSets<CAP> {
     ghost use Rattle.domain.specs.Sums.Brief.{brief_words};
-    ghost use Rattle.domain.specs.Sums.CellsInCode.{cell_set_of, cell_sets_of, words_in_cells, with_cell, freed, IsCellAt};
+    ghost use Rattle.domain.specs.Sums.CellsInCode.{cell_set_of, cell_sets_of, words_in_cells, with_cell, freed, cells_outside, cells_within, IsCellAt};
 
     /// No cell.
     pub fn new() -> CellSets<CAP>
@@ -135,6 +135,34 @@ impl<const CAP: usize> CellSets<CAP> {
     {
         for entry in others {
             self.push_copy(entry);
+        }
+    }
+
+    /// Adds those of some cells that a set has not.
+    pub fn push_outside(&mut self, others: &[CellSet], written: &WordSet)
+        requires { length (cell_sets_of self.old) + length others.now ≤ CAP }
+        ensures cells { cell_sets_of self.new ≡
+            cell_sets_of self.old ++ cells_outside (words written.now) (map cell_set_of others.now) }
+        ensures few { length (cell_sets_of self.new) ≤ length (cell_sets_of self.old) + length others.now }
+    {
+        for entry in others {
+            if !written.contains(entry.cell) {
+                self.push_copy(entry);
+            }
+        }
+    }
+
+    /// Adds those of some cells that a set has.
+    pub fn push_within(&mut self, others: &[CellSet], written: &WordSet)
+        requires { length (cell_sets_of self.old) + length others.now ≤ CAP }
+        ensures cells { cell_sets_of self.new ≡
+            cell_sets_of self.old ++ cells_within (words written.now) (map cell_set_of others.now) }
+        ensures few { length (cell_sets_of self.new) ≤ length (cell_sets_of self.old) + length others.now }
+    {
+        for entry in others {
+            if written.contains(entry.cell) {
+                self.push_copy(entry);
+            }
         }
     }
 

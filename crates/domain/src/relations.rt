@@ -8,13 +8,16 @@ ghost use Rattle.domain.specs.Facts.{Cell};
 ghost use Rattle.domain.specs.Sums.Terms.{coefficient_in};
 ghost use Rattle.domain.specs.Sums.Terms as said;
 ghost use Rattle.domain.specs.Sums.Brief.{brief_words};
-ghost use Rattle.domain.specs.Sums.Adding.{times, with_relation, set_among, lacks_all};
-ghost use Rattle.domain.specs.Sums.Moves.{free_of, counted_term, counted_sum, is_behind, has_behind, moved_relation, moved_relations};
+ghost use Rattle.domain.specs.Sums.Adding.{times, with_relation, with_shape_in, adding, adding_all, set_among, lacks_all};
+ghost use Rattle.domain.specs.Sums.Facts as facts;
+ghost use Rattle.domain.specs.Sums.Facts.{OfSums};
+ghost use Rattle.domain.specs.Sums.Moves.{free_of, outside, counted_term, counted_sum, is_behind, has_behind, moved_relation, moved_relations};
 
 use crate::brief::BriefSet;
 use crate::location::{Location, negated};
 use crate::names::Names;
 use crate::sets::times;
+use crate::shapes::{SpelledSum, spelled};
 use crate::terms::{Sum, Summand, Term, product};
 use word12::Word;
 use wordset::WordSet;
@@ -323,13 +326,77 @@ impl<const CAP: usize> Relations<CAP> {
     /// Adds those of some relations that speak of none of some names.
     pub fn push_free_of(&mut self, others: &[Relation], names: &Names<'_>)
         requires { length (relations_of self.old) + length others.now ≤ CAP }
-        ensures { relations_of self.new ≡
+        ensures relations { relations_of self.new ≡
             relations_of self.old ++ free_of (names_of names.now) (map relation_of others.now) }
+        ensures few { length (relations_of self.new) ≤ length (relations_of self.old) + length others.now }
     {
         for relation in others {
             if !relation.sum.speaks_of(names) {
                 self.push_copy(relation);
             }
+        }
+    }
+
+    /// Adds what a spelled sum of two or more terms is, and nothing of one that says something of one name alone.
+    fn add_spelled(&mut self, found: &SpelledSum, set: &WordSet)
+        requires { length (relations_of self.old) < CAP }
+        ensures relations { (f : facts.Fact) → relations_of self.old ≡ f.relations → relations_of self.new ≡
+            (with_shape_in OfSums (sum_of found.now.sum) (times found.now.sign (words set.now)) f).relations }
+        ensures few { length (relations_of self.new) ≤ length (relations_of self.old) + 1 }
+    {
+        let len = found.sum.len();
+        if len < 2 {
+            return;
+        }
+        self.add(&found.sum, &times(found.sign, set));
+    }
+
+    /// Adds what a relation of two or more terms says, and nothing of one that says something of one name alone.
+    pub fn add_longer(&mut self, sum: &Sum, set: &WordSet)
+        requires { length (relations_of self.old) < CAP }
+        ensures relations { (f : facts.Fact) → relations_of self.old ≡ f.relations → relations_of self.new ≡
+            (adding OfSums (record { sum = sum_of sum.now; set = words set.now }) f).relations }
+        ensures few { length (relations_of self.new) ≤ length (relations_of self.old) + 1 }
+    {
+        match spelled(sum) {
+            None => {}
+            Some(found) => self.add_spelled(&found, set),
+        }
+    }
+
+    /// Adds what a relation of two or more terms says.
+    fn add_copy(&mut self, relation: &Relation)
+        requires { length (relations_of self.old) < CAP }
+        ensures relations { (f : facts.Fact) → relations_of self.old ≡ f.relations → relations_of self.new ≡
+            (adding OfSums (relation_of relation.now) f).relations }
+        ensures few { length (relations_of self.new) ≤ length (relations_of self.old) + 1 }
+    {
+        let mut set = WordSet::empty();
+        relation.set.put(&mut set);
+        self.add_longer(&relation.sum, &set);
+    }
+
+    /// Adds what a relation says that speaks of no name that a call may change.
+    fn add_if_outside(&mut self, relation: &Relation, written: &WordSet)
+        requires { length (relations_of self.old) < CAP }
+        ensures relations { (f : facts.Fact) → relations_of self.old ≡ f.relations → relations_of self.new ≡
+            (adding_all OfSums (outside (words written.now) (relation_of relation.now ∷ [])) f).relations }
+        ensures few { length (relations_of self.new) ≤ length (relations_of self.old) + 1 }
+    {
+        if relation.sum.speaks_of(&Names::Changing(written)) {
+            return;
+        }
+        self.add_copy(relation);
+    }
+
+    /// Adds what those of some relations say that speak of no name that a call may change.
+    pub fn add_outside(&mut self, others: &[Relation], written: &WordSet)
+        requires { length (relations_of self.old) + length others.now ≤ CAP }
+        ensures { (f : facts.Fact) → relations_of self.old ≡ f.relations → relations_of self.new ≡
+            (adding_all OfSums (outside (words written.now) (map relation_of others.now)) f).relations }
+    {
+        for relation in others {
+            self.add_if_outside(relation, written);
         }
     }
 

@@ -283,9 +283,18 @@ impl<const C: usize, const R: usize> SumFact<C, R> {
         ensures relations { self.new.relations ≡ self.old.relations }
     {
         match name {
-            Location::Accumulator => self.ac = self.ac.meet(set),
+            Location::Accumulator => self.meet_accumulator(set),
             Location::Cell(cell) => self.cells.meet(*cell, set),
         }
+    }
+
+    /// Keeps those words of the accumulator that a set has.
+    pub fn meet_accumulator(&mut self, set: &WordSet)
+        ensures fact { fact_in_code self.new ≡ with_term_in (Holding Ac) (words set.now) (fact_in_code self.old) }
+        ensures cells { self.new.cells ≡ self.old.cells }
+        ensures relations { self.new.relations ≡ self.old.relations }
+    {
+        self.ac = self.ac.meet(set);
     }
 
     /// Keeps those words of a name that a set has, if a term is one.

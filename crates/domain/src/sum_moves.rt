@@ -5,6 +5,7 @@ ghost use Rattle.wordset.specs.Words.{one};
 ghost use Rattle.wordset.specs.Lanes.{words};
 ghost use Rattle.domain.specs.Facts.{Cell};
 ghost use Rattle.domain.specs.Sums.Adding.{with_set};
+ghost use Rattle.domain.specs.Sums.Facts.{OfEquations, OfSums};
 ghost use Rattle.domain.specs.Sums.Chains.{all_longer, after_count};
 ghost use Rattle.domain.specs.Sums.Moves.{moved_relations, chains_free_of, without_relations, joined};
 ghost use Rattle.domain.specs.Sums.CellsInCode.{cell_sets_of};
@@ -17,10 +18,7 @@ use crate::chains::{Chain, Step};
 use crate::location::Location;
 use crate::names::Names;
 use crate::narrowing::copy_chains;
-use crate::sets::times;
-use crate::shapes::spelled;
 use crate::sum_fact::{Rules, SumFact};
-use crate::terms::Sum;
 use arrayvec::ArrayVec;
 use word12::Word;
 use wordset::WordSet;
@@ -142,48 +140,52 @@ impl<const C: usize, const R: usize> SumFact<C, R> {
         lengthen(other.chains.as_slice(), step, &mut self.chains);
     }
 
-    /// Adds those entries of another fact's cells that are outside a written set, or those that are in it.
-    fn push_cells<const D: usize, const S: usize>(
+    /// Lets this fact be what holds after a call by the rules of sums.
+    fn take_joined_sums<const D: usize, const S: usize, const E: usize, const T: usize>(
         &mut self,
-        other: &SumFact<D, S>,
-        written: &WordSet,
-        outside: bool,
-    )
-        requires { length (cell_sets_of self.old.cells) + length (cell_sets_of other.now.cells) ≤ C }
-    {
-        for entry in other.cells.as_slice() {
-            if written.contains(entry.cell) != outside {
-                self.cells.push_copy(entry);
-            }
-        }
-    }
-
-    /// Adds what a relation of two or more terms says, and nothing of one that says something of one name alone.
-    fn add_longer(&mut self, sum: &Sum, set: &WordSet)
-        requires { length (relations_of self.old.relations) < R }
-    {
-        if let Some(found) = spelled(sum) {
-            if found.sum.len() > 1 {
-                self.relations.add(&found.sum, &times(found.sign, set));
-            }
-        }
-    }
-
-    /// Adds those relations of another fact that speak of no name that a call may change.
-    fn add_outside<const D: usize, const S: usize>(
-        &mut self,
-        other: &SumFact<D, S>,
+        call: &SumFact<D, S>,
+        exit: &SumFact<E, T>,
         written: &WordSet,
     )
-        requires { length (relations_of self.old.relations) + length (relations_of other.now.relations) ≤ R }
+        requires cells { length (cell_sets_of call.now.cells) + length (cell_sets_of exit.now.cells) ≤ C }
+        requires relations { length (relations_of call.now.relations) + length (relations_of exit.now.relations) ≤ R }
+        ensures { fact_in_code self.new ≡
+            joined OfSums (fact_in_code call.now) (fact_in_code exit.now) (words written.now) }
     {
-        let mut set = WordSet::all();
-        for relation in other.relations.as_slice() {
-            if !relation.sum.speaks_of(&Names::Changing(written)) {
-                relation.set.put(&mut set);
-                self.add_longer(&relation.sum, &set);
-            }
-        }
+        self.take_over(exit);
+        self.cells.clear();
+        self.cells.push_outside(call.cells.as_slice(), written);
+        self.cells.push_all(exit.cells.as_slice());
+        self.relations.push_all(exit.relations.as_slice());
+        self.relations
+            .add_outside(call.relations.as_slice(), written);
+        copy_chains(exit.chains.as_slice(), &mut self.chains);
+        self.sites.copy_from(&call.sites);
+        self.offsets = call.offsets;
+    }
+
+    /// Lets this fact be what holds after a call by the rules of equations.
+    fn take_joined_equations<const D: usize, const S: usize, const E: usize, const T: usize>(
+        &mut self,
+        call: &SumFact<D, S>,
+        exit: &SumFact<E, T>,
+        written: &WordSet,
+    )
+        requires cells { length (cell_sets_of call.now.cells) + length (cell_sets_of exit.now.cells) ≤ C }
+        requires relations { length (relations_of call.now.relations) + length (relations_of exit.now.relations) ≤ R }
+        ensures { fact_in_code self.new ≡
+            joined OfEquations (fact_in_code call.now) (fact_in_code exit.now) (words written.now) }
+    {
+        self.take_over(exit);
+        self.cells.clear();
+        self.cells.push_outside(call.cells.as_slice(), written);
+        self.cells.push_within(exit.cells.as_slice(), written);
+        self.relations
+            .push_free_of(call.relations.as_slice(), &Names::Changing(written));
+        self.relations.push_all(exit.relations.as_slice());
+        copy_chains(exit.chains.as_slice(), &mut self.chains);
+        self.sites.copy_from(&call.sites);
+        self.offsets = call.offsets;
     }
 
     /// Lets this fact be what holds after a call: the exit's, with the sites and offsets of the fact at the JMS, its sets of the
@@ -200,24 +202,9 @@ impl<const C: usize, const R: usize> SumFact<C, R> {
         ensures { fact_in_code self.new ≡
             joined (rules_of rules.now) (fact_in_code call.now) (fact_in_code exit.now) (words written.now) }
     {
-        self.take_over(exit);
-        self.cells.clear();
-        self.push_cells(call, written, true);
-        copy_chains(exit.chains.as_slice(), &mut self.chains);
-        self.sites.copy_from(&call.sites);
-        self.offsets = call.offsets;
         match rules {
-            Rules::OfSums => {
-                self.cells.push_all(exit.cells.as_slice());
-                self.relations.push_all(exit.relations.as_slice());
-                self.add_outside(call, written);
-            }
-            Rules::OfEquations => {
-                self.push_cells(exit, written, false);
-                self.relations
-                    .push_free_of(call.relations.as_slice(), &Names::Changing(written));
-                self.relations.push_all(exit.relations.as_slice());
-            }
+            Rules::OfSums => self.take_joined_sums(call, exit, written),
+            Rules::OfEquations => self.take_joined_equations(call, exit, written),
         }
     }
 }

@@ -23,7 +23,7 @@ abbrev pub rules_of : Rules → said.Rules
 rules_of OfEquations = said.OfEquations
 rules_of OfSums = said.OfSums
 
--- The words of each name.
+-- For each name its words: those of the accumulator, or those that all entries of the cell allow.
 abbrev pub names_words : Words → List TrackedCell → Location → Words
 names_words ac cells Ac = ac
 names_words ac cells (Cell a) = tracked a cells

@@ -1,5 +1,5 @@
 -- Terms and sums as they're kept in code, and what they mean.
-use Rattle.std.specs.Prelude.{ℕ, ◌==◌, Bool, ◌&&◌, Option, Some, None, List, map, take, get_or}
+use Rattle.std.specs.Prelude.{ℕ, ◌==◌, Bool, ◌&&◌, map, take, get_or}
 use Rattle.domain.specs.Meaning.{location_of}
 use Rattle.domain.specs.Facts.{Ac}
 use Rattle.domain.specs.Sums.Terms as said

@@ -1,5 +1,5 @@
 -- What becomes of cells of which one changes, unknown which, as it's kept in code.
-use Rattle.std.specs.Prelude.{ℕ, if◌then◌else◌, List}
+use Rattle.std.specs.Prelude.{if◌then◌else◌, List}
 use Rattle.wordset.specs.Words.{Words, shifted, union}
 use Rattle.wordset.specs.Lanes.{words}
 use Rattle.domain.specs.Facts.{has_cell}

@@ -1,7 +1,6 @@
-use Rattle.std.proofs.Common.{◌≡◌, ◌<◌, ◌∙◌, ap, sym, length, arith}
+use Rattle.std.proofs.Common.{◌<◌, ◌∙◌, ap, sym, length, arith}
 use Rattle.wordset.specs.Lanes.{words}
 use Rattle.peripherals.specs.Loading.{image_of}
-use Rattle.domain.specs.Facts.{Location}
 use Rattle.domain.specs.Meaning.{location_of}
 use Rattle.domain.specs.Sums.Terms.{Summand}
 use Rattle.domain.specs.Sums.Facts.{Fact, OfSums}

@@ -1,7 +1,6 @@
-use Rattle.std.proofs.Common.{◌≡◌, ◌∙◌, sym, ap, arith}
+use Rattle.std.proofs.Common.{◌∙◌, ap, arith}
 use Rattle.wordset.specs.Words.{Words}
 use Rattle.wordset.specs.Lanes.{words}
-use Rattle.domain.specs.Facts.{Location}
 use Rattle.domain.specs.Meaning.{location_of}
 use Rattle.domain.specs.Sums.Terms.{Summand}
 use Rattle.domain.specs.Sums.Adding.{times, with_term_in}

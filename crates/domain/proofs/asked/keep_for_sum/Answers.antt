@@ -1,6 +1,5 @@
-use Rattle.std.proofs.Common.{◌∙◌, ap, sym}
+use Rattle.std.proofs.Common.{◌∙◌, ap}
 use Rattle.wordset.specs.Lanes.{words}
-use Rattle.domain.specs.Facts.{Location}
 use Rattle.domain.specs.Meaning.{location_of}
 use Rattle.domain.specs.Sums.Facts.{Fact, OfSums}
 use Rattle.domain.specs.Sums.InCode.{sum_of}

@@ -1,4 +1,3 @@
-use Rattle.std.proofs.Common.{◌≡◌, ◌∙◌, sym}
 use Rattle.domain.proofs.asked.keep_found.Goals as goal
 
 pub returns-in-Accumulator : goal.returns-in-Accumulator

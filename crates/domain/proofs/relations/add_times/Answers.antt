@@ -1,4 +1,4 @@
-use Rattle.std.proofs.Common.{ℕ, ◌<◌, sym, ap, ◌∙◌, arith}
+use Rattle.std.proofs.Common.{◌<◌, sym, ap, ◌∙◌, arith}
 use Rattle.wordset.specs.Words.{Words, shifted}
 use Rattle.domain.specs.Sums.Brief.{brief_words}
 use Rattle.domain.proofs.SumSetLemmas.{moved_one, moved_all}

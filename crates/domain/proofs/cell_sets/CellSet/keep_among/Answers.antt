@@ -1,4 +1,4 @@
-use Rattle.std.proofs.Common.{map, drop, refl}
+use Rattle.std.proofs.Common.{refl}
 use Rattle.domain.specs.Statements.{tracked}
 use Rattle.domain.specs.Sums.CellsInCode.{cell_set_of}
 use Rattle.domain.proofs.RelationLemmas.{all_kept}

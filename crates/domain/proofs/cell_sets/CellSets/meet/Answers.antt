@@ -1,9 +1,8 @@
-use Rattle.std.proofs.Common.{◌≡◌, ℕ, ◌<◌, ◌≤◌, List, length, sym, ap, ◌∙◌, arith}
-use Rattle.wordset.specs.Words.{Words}
+use Rattle.std.proofs.Common.{List, ap, ◌∙◌}
 use Rattle.wordset.specs.Lanes.{words}
 use Rattle.domain.specs.Statements.{TrackedCell}
-use Rattle.domain.specs.Sums.CellsInCode.{cell_sets_of, words_in_cells, with_cell}
-use Rattle.domain.proofs.CellLemmas.{full_row, entry_met, entry_pushed, replaced, freed_on, freed_length, freed_end, all_freed}
+use Rattle.domain.specs.Sums.CellsInCode.{cell_sets_of, words_in_cells}
+use Rattle.domain.proofs.CellLemmas.{entry_met, entry_pushed}
 use Rattle.domain.proofs.cell_sets.CellSets.meet.Goals as goal
 
 pub returns-in-Some-clause-words : goal.returns-in-Some-clause-words

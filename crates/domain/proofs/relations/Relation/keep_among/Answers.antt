@@ -1,4 +1,4 @@
-use Rattle.std.proofs.Common.{map, drop, refl}
+use Rattle.std.proofs.Common.{refl}
 use Rattle.domain.specs.Sums.Adding.{set_among}
 use Rattle.domain.specs.Sums.InCode.{sum_of}
 use Rattle.domain.specs.Sums.RelationsInCode.{relation_of}

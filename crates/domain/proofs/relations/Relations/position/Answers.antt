@@ -1,9 +1,7 @@
-use Rattle.std.proofs.Common.{◌≡◌, ℕ, ◌<◌, ◌≤◌, length, false, true, sym, ap, ◌∙◌, arith}
-use Rattle.wordset.specs.Words.{Words}
-use Rattle.wordset.specs.Lanes.{words}
+use Rattle.std.proofs.Common.{◌<◌, ◌≤◌, length, sym, ap, ◌∙◌, arith}
 use Rattle.domain.specs.Sums.Terms.{Sum, same_sum}
 use Rattle.domain.specs.Sums.InCode.{sum_of}
-use Rattle.domain.specs.Sums.RelationsInCode.{relations_of, relation_at}
+use Rattle.domain.specs.Sums.RelationsInCode.{relations_of}
 use Rattle.domain.proofs.RelationLemmas.{found_at, passed_on, not_found}
 use Rattle.domain.proofs.relations.Relations.position.Goals as goal
 

@@ -1,4 +1,4 @@
-use Rattle.std.proofs.Common.{◌≡◌, ℕ, ◌+◌, ◌<◌, length, ap, ◌∙◌, arith, length-append}
+use Rattle.std.proofs.Common.{◌≡◌, ◌+◌, ◌<◌, length, ap, ◌∙◌, arith, length-append}
 use Rattle.std.specs.Prelude.{Some}
 use Rattle.wordset.specs.Words.{one}
 use Rattle.domain.specs.Sums.Moves.{moved_relation}

@@ -1,11 +1,6 @@
-use Rattle.std.proofs.Common.{◌≡◌, ℕ, ◌+◌, ◌≤◌, ◌++◌, drop, length, map}
-use Rattle.std.specs.Prelude.{◌&&◌}
+use Rattle.std.proofs.Common.{◌≡◌, ◌+◌, ◌++◌, drop, length, map}
 use Rattle.wordset.specs.Words.{one}
-use Rattle.wordset.specs.Lanes.{words}
-use Rattle.domain.specs.Sums.Adding.{with_relation, set_among}
-use Rattle.domain.specs.Sums.Moves.{free_of, moved_relations}
-use Rattle.domain.specs.Sums.InCode.{sum_of}
-use Rattle.domain.specs.Sums.Naming.{names_of}
+use Rattle.domain.specs.Sums.Moves.{moved_relations}
 use Rattle.domain.specs.Sums.RelationsInCode.{relation_of, relations_of}
 use Rattle.domain.proofs.relations.Relations.push_all_moved_by.Given as goal
 

@@ -4,7 +4,7 @@ use Rattle.wordset.specs.Lanes.{words}
 use Rattle.domain.specs.Sums.Facts.{Relation}
 use Rattle.domain.specs.Sums.Adding.{set_among}
 use Rattle.domain.specs.Sums.InCode.{sum_of}
-use Rattle.domain.specs.Sums.RelationsInCode.{relation_of, relations_of}
+use Rattle.domain.specs.Sums.RelationsInCode.{relations_of}
 use Rattle.domain.proofs.RelationLemmas.{all_among}
 use Rattle.domain.proofs.relations.Relations.put_set_among.Goals as goal
 

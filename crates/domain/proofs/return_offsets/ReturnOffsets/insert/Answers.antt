@@ -1,4 +1,4 @@
-use Rattle.std.proofs.Common.{ℕ, ◌*◌, ◌%◌, ◌^◌, ◌<◌, arith}
+use Rattle.std.proofs.Common.{◌*◌, ◌%◌, ◌^◌, ◌<◌, arith}
 use Rattle.std.proofs.lemmas.Nat.{or_lt}
 use Rattle.domain.proofs.OffsetLemmas.{put_in}
 use Rattle.domain.proofs.return_offsets.ReturnOffsets.insert.Goals as goal

@@ -1,13 +1,10 @@
-use Rattle.std.proofs.Common.{◌≡◌, ℕ, ◌<◌, ◌≤◌, length, sym, ap, ◌∙◌, arith}
-use Rattle.wordset.specs.Words.{Words, meet}
+use Rattle.std.proofs.Common.{ap, ◌∙◌}
+use Rattle.wordset.specs.Words.{Words}
 use Rattle.wordset.specs.Lanes.{words}
-use Rattle.domain.specs.Facts.{Location, Ac, Cell}
-use Rattle.domain.specs.Sums.Terms.{Summand}
-use Rattle.domain.specs.Sums.Adding.{times, set_of_term, with_term_in, with_shape_in}
-use Rattle.domain.specs.Sums.InCode.{sum_of, summand_of, term_of}
-use Rattle.domain.specs.Sums.CellsInCode.{cell_sets_of}
-use Rattle.domain.specs.Sums.FactInCode.{fact_in_code, names_words, rules_of}
-use Rattle.domain.proofs.FactLemmas.{cell_replaced, ac_replaced, nothing_added, shape_added, nothing_given, shape_given, given_of_none, given_of_one, given_of_more, added_of_none, added_of_one, kept_of_more, left_of_more}
+use Rattle.domain.specs.Sums.Adding.{with_shape_in}
+use Rattle.domain.specs.Sums.InCode.{sum_of}
+use Rattle.domain.specs.Sums.FactInCode.{fact_in_code, rules_of}
+use Rattle.domain.proofs.FactLemmas.{nothing_added, shape_added}
 use Rattle.domain.proofs.sum_fact.SumFact.add.Goals as goal
 
 pub returns-in-None-clause-fact : goal.returns-in-None-clause-fact

@@ -1,19 +1,13 @@
-use Rattle.std.proofs.Common.{◌≡◌, ℕ, ◌+◌, ◌*◌, ◌%◌, ◌<◌, ◌&&◌, length, drop, [], ◌∷◌, sym, ap, ◌∙◌, arith}
-use Rattle.wordset.specs.Words.{Words, meet, plus, some_below}
+use Rattle.std.proofs.Common.{◌<◌, length, sym, ap, ◌∙◌, arith}
 use Rattle.wordset.specs.Lanes.{words}
 use Rattle.peripherals.specs.Loading.{image_of}
-use Rattle.domain.specs.Facts.{Location, Cell, tape_word}
-use Rattle.domain.specs.Meaning.{location_of}
-use Rattle.domain.specs.Sums.Terms.{Sum, Summand}
-use Rattle.domain.specs.Sums.Facts.{Fact, OfSums}
-use Rattle.domain.specs.Sums.Adding.{adding, differences}
-use Rattle.domain.specs.Sums.Narrowing.{of_term, of_part}
-use Rattle.domain.specs.Sums.Knowing.{said_of}
-use Rattle.domain.specs.Sums.InCode.{sum_of, summand_of, summand_at}
-use Rattle.domain.specs.Sums.Brief.{brief_words}
-use Rattle.domain.specs.Sums.CellsInCode.{cell_sets_of}
+use Rattle.domain.specs.Sums.Terms.{Summand}
+use Rattle.domain.specs.Sums.Facts.{OfSums}
+use Rattle.domain.specs.Sums.Adding.{adding}
+use Rattle.domain.specs.Sums.Narrowing.{of_term}
+use Rattle.domain.specs.Sums.InCode.{sum_of}
 use Rattle.domain.specs.Sums.FactInCode.{fact_in_code}
-use Rattle.domain.proofs.PartLemmas.{names_past, name_added, part_none, part_one, part_more, parts_none, parts_more}
+use Rattle.domain.proofs.PartLemmas.{part_none, part_one, part_more}
 use Rattle.domain.proofs.sum_fact.SumFact.add_part.Goals as goal
 
 pub returns-then-len-eq0-clause-fact : goal.returns-then-len-eq0-clause-fact

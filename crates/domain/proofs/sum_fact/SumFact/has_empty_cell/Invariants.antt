@@ -1,4 +1,4 @@
-use Rattle.std.proofs.Common.{◌≡◌, ℕ, ◌<◌, false, get_or}
+use Rattle.std.proofs.Common.{◌≡◌, ℕ, ◌<◌, false}
 use Rattle.domain.specs.Statements.{tracked, cell_at}
 use Rattle.domain.specs.Sums.Adding.{lacks_all}
 use Rattle.domain.specs.Sums.CellsInCode.{cell_sets_of}

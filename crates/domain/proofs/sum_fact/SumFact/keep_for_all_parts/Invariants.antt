@@ -5,7 +5,7 @@ use Rattle.domain.specs.Meaning.{location_of}
 use Rattle.domain.specs.Sums.Facts.{Fact, OfSums}
 use Rattle.domain.specs.Sums.Adding.{adding_all}
 use Rattle.domain.specs.Sums.RelationsInCode.{relation_of}
-use Rattle.domain.specs.Sums.FactInCode.{fact_in_code, all_parts, all_parts_of_chains}
+use Rattle.domain.specs.Sums.FactInCode.{fact_in_code, all_parts}
 use Rattle.domain.proofs.sum_fact.SumFact.keep_for_all_parts.Given as goal
 
 abbrev pub invariant-loop-relation : goal.invariant-loop-relation

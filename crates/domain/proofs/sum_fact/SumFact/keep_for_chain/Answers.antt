@@ -1,4 +1,4 @@
-use Rattle.std.proofs.Common.{◌≡◌, ◌∙◌, sym, ap}
+use Rattle.std.proofs.Common.{◌∙◌, ap}
 use Rattle.wordset.specs.Lanes.{words}
 use Rattle.domain.specs.Meaning.{location_of}
 use Rattle.domain.specs.Sums.ChainsInCode.{chain_of, met_with_found}

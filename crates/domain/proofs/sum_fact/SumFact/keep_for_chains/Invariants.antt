@@ -1,11 +1,10 @@
 use Rattle.std.proofs.Common.{◌≡◌, drop, map}
 use Rattle.wordset.specs.Lanes.{words}
-use Rattle.peripherals.specs.Loading.{image_of}
 use Rattle.domain.specs.Meaning.{location_of}
 use Rattle.domain.specs.Sums.Facts.{Fact, OfSums}
 use Rattle.domain.specs.Sums.Adding.{adding_all}
 use Rattle.domain.specs.Sums.ChainsInCode.{chain_of}
-use Rattle.domain.specs.Sums.FactInCode.{fact_in_code, all_parts, all_parts_of_chains}
+use Rattle.domain.specs.Sums.FactInCode.{fact_in_code, all_parts_of_chains}
 use Rattle.domain.proofs.sum_fact.SumFact.keep_for_chains.Given as goal
 
 abbrev pub invariant-loop-chain : goal.invariant-loop-chain

@@ -25,11 +25,11 @@ returns g c = λ f h.
     let xs : Sum = sum_of c.args.relation.now.sum in
     let some : 0 < length xs = omega (arith, c.len.ensures.count, c.if-len-eq0.false) in
     let one : sum_of c.push.new.self ≡ summand_at xs 0 ∷ [] =
-        c.push.ensures ∙ ap (λ (s : Sum). s ++ summand_of c.get.result ∷ []) c.zero-first.ensures ∙ ap (λ (s : Summand). s ∷ []) c.get.ensures in
+    c.push.ensures ∙ ap (λ (s : Sum). s ++ summand_of c.get.result ∷ []) c.zero-first.ensures ∙ ap (λ (s : Summand). s ∷ []) c.get.ensures in
     let rest : sum_of c.push_from.new.self ≡ drop 1 xs = c.push_from.ensures ∙ ap (λ (s : Sum). s ++ drop 1 xs) c.zero-rest.ensures in
     c.keep_for_rest-2.ensures (adding_all OfSums (of_part image (sum_of c.push.new.self) (differences set (said_of image own (sum_of c.push_from.new.self)))) f) (c.keep_for_rest.ensures f h)
     ∙ ap (λ (a : Sum). (adding_all OfSums (of_part image (sum_of c.push_from.new.self) (differences set (said_of image own a)))
-        (adding_all OfSums (of_part image a (differences set (said_of image own (sum_of c.push_from.new.self)))) f)).set (location_of c.args.name.now)) one
+    (adding_all OfSums (of_part image a (differences set (said_of image own (sum_of c.push_from.new.self)))) f)).set (location_of c.args.name.now)) one
     ∙ ap (λ (b : Sum). (adding_all OfSums (of_part image b (differences set (said_of image own (summand_at xs 0 ∷ []))))
-        (adding_all OfSums (of_part image (summand_at xs 0 ∷ []) (differences set (said_of image own b))) f)).set (location_of c.args.name.now)) rest
+    (adding_all OfSums (of_part image (summand_at xs 0 ∷ []) (differences set (said_of image own b))) f)).set (location_of c.args.name.now)) rest
     ∙ ap (λ (x : Fact). x.set (location_of c.args.name.now)) (parts_more image own f set xs some)

@@ -6,7 +6,6 @@ use Rattle.domain.specs.Meaning.{location_of}
 use Rattle.domain.specs.Sums.Facts.{Fact, Relation, OfSums}
 use Rattle.domain.specs.Sums.Adding.{adding_all}
 use Rattle.domain.specs.Sums.Narrowing.{narrowed, links_of_chain}
-use Rattle.domain.specs.Sums.RelationsInCode.{relation_of, relations_of}
 use Rattle.domain.specs.Sums.ChainsInCode.{chain_of}
 use Rattle.domain.specs.Sums.FactInCode.{fact_in_code, all_parts, all_parts_of_chains}
 use Rattle.domain.proofs.PartLemmas.{added_both}
@@ -22,4 +21,5 @@ returns g c =
     c.keep_for_all_parts.ensures linked c.put_set_of.ensures
     ∙ ap (λ (rs : List Relation). (adding_all OfSums (all_parts image f rs) linked).set (location_of c.args.name.now)) c.as_slice.ensures.relations in
     c.keep_for_chains.ensures (adding_all OfSums (all_parts image f f.relations) linked) parts
+    ∙ ap (λ cs. (adding_all OfSums (all_parts_of_chains f (map chain_of cs)) (adding_all OfSums (all_parts image f f.relations) linked)).set (location_of c.args.name.now)) c.as_slice-2.ensures.value
     ∙ ap (λ (x : Fact). x.set (location_of c.args.name.now)) (sym (added_both (all_parts image f f.relations) (all_parts_of_chains f f.chains) linked))

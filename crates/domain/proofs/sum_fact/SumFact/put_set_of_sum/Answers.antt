@@ -1,13 +1,9 @@
-use Rattle.std.proofs.Common.{◌≡◌, ℕ, ◌<◌, ◌≤◌, length, sym, ap, ◌∙◌, arith}
-use Rattle.wordset.specs.Words.{Words, meet}
-use Rattle.wordset.specs.Lanes.{words}
-use Rattle.domain.specs.Facts.{Location, Ac, Cell}
-use Rattle.domain.specs.Sums.Terms.{Summand}
-use Rattle.domain.specs.Sums.Adding.{times, set_of_term, with_term_in, with_shape_in}
-use Rattle.domain.specs.Sums.InCode.{sum_of, summand_of, term_of}
-use Rattle.domain.specs.Sums.CellsInCode.{cell_sets_of}
-use Rattle.domain.specs.Sums.FactInCode.{fact_in_code, names_words, rules_of}
-use Rattle.domain.proofs.FactLemmas.{cell_replaced, ac_replaced, nothing_added, shape_added, nothing_given, shape_given, given_of_none, given_of_one, given_of_more, added_of_none, added_of_one, kept_of_more, left_of_more}
+use Rattle.std.proofs.Common.{ap, ◌∙◌}
+use Rattle.wordset.specs.Words.{Words}
+use Rattle.domain.specs.Sums.Adding.{times}
+use Rattle.domain.specs.Sums.InCode.{sum_of}
+use Rattle.domain.specs.Sums.FactInCode.{fact_in_code}
+use Rattle.domain.proofs.FactLemmas.{nothing_given, shape_given}
 use Rattle.domain.proofs.sum_fact.SumFact.put_set_of_sum.Goals as goal
 
 pub returns-in-None : goal.returns-in-None

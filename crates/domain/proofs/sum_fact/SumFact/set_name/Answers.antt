@@ -1,20 +1,17 @@
-use Rattle.std.proofs.Common.{◌≡◌, ℕ, ◌<◌, ◌≤◌, length, sym, ap, ◌∙◌, arith}
-use Rattle.wordset.specs.Words.{Words, meet}
+use Rattle.std.proofs.Common.{ap}
+use Rattle.wordset.specs.Words.{Words}
 use Rattle.wordset.specs.Lanes.{words}
-use Rattle.domain.specs.Facts.{Location, Ac, Cell}
-use Rattle.domain.specs.Sums.Terms.{Summand}
-use Rattle.domain.specs.Sums.Adding.{times, set_of_term, with_term_in, with_shape_in}
-use Rattle.domain.specs.Sums.InCode.{sum_of, summand_of, term_of}
+use Rattle.domain.specs.Facts.{Location}
 use Rattle.domain.specs.Sums.CellsInCode.{cell_sets_of}
-use Rattle.domain.specs.Sums.FactInCode.{fact_in_code, names_words, rules_of}
-use Rattle.domain.proofs.FactLemmas.{cell_replaced, ac_replaced, nothing_added, shape_added, nothing_given, shape_given, given_of_none, given_of_one, given_of_more, added_of_none, added_of_one, kept_of_more, left_of_more}
+use Rattle.domain.specs.Sums.FactInCode.{fact_in_code}
+use Rattle.domain.proofs.FactLemmas.{cell_replaced, ac_replaced}
 use Rattle.domain.proofs.sum_fact.SumFact.set_name.Goals as goal
 
 pub returns-in-Accumulator-clause-fact : goal.returns-in-Accumulator-clause-fact
-returns-in-Accumulator-clause-fact g c =
-    ap (λ (w : Location → Words). record (fact_in_code c.args.self.now) { set = w }) (ac_replaced (words c.args.self.now.ac) (words c.args.set.now) (cell_sets_of c.args.self.now.cells))
+returns-in-Accumulator-clause-fact g c = rw c.in-Accumulator.is (
+    ap (λ (w : Location → Words). record (fact_in_code c.args.self.now) { set = w }) (ac_replaced (words c.args.self.now.ac) (words c.args.set.now) (cell_sets_of c.args.self.now.cells)))
 
 pub returns-in-Cell-clause-fact : goal.returns-in-Cell-clause-fact
-returns-in-Cell-clause-fact g c =
+returns-in-Cell-clause-fact g c = rw c.in-Cell.is (
     ap (λ (w : Location → Words). record (fact_in_code c.args.self.now) { set = w })
-    (cell_replaced (words c.args.self.now.ac) (cell_sets_of c.replace.new.self) (cell_sets_of c.args.self.now.cells) c.in-Cell.cell (words c.args.set.now) c.replace.ensures.words)
+    (cell_replaced (words c.args.self.now.ac) (cell_sets_of c.replace.new.self) (cell_sets_of c.args.self.now.cells) c.in-Cell.cell (words c.args.set.now) c.replace.ensures.words))

@@ -1,12 +1,11 @@
-use Rattle.std.proofs.Common.{◌≡◌, ◌∙◌, ◌++◌, List, [], map, ap, sym}
+use Rattle.std.proofs.Common.{◌≡◌, ◌∙◌, ◌++◌, List, map, ap}
 use Rattle.wordset.specs.Words.{Words}
 use Rattle.wordset.specs.Lanes.{words}
 use Rattle.domain.specs.Facts.{Location, Ac, Cell}
 use Rattle.domain.specs.Statements.{TrackedCell}
 use Rattle.domain.specs.Sums.Facts.{Fact}
 use Rattle.domain.specs.Sums.CellsInCode.{cell_sets_of, cell_set_of}
-use Rattle.domain.specs.Sums.Moves.{weakly_updated_sets, without_relations}
-use Rattle.domain.specs.Sums.Naming.{names_of}
+use Rattle.domain.specs.Sums.Moves.{weakly_updated_sets}
 use Rattle.domain.specs.Sums.Taken.{changed, changed_among}
 use Rattle.domain.specs.Sums.FactInCode.{fact_in_code, names_words}
 use Rattle.domain.proofs.TakenLemmas.{weak_sets, change_past}

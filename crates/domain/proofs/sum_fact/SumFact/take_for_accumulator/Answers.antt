@@ -1,8 +1,7 @@
-use Rattle.std.proofs.Common.{◌≡◌, ◌∙◌, ap, sym}
+use Rattle.std.proofs.Common.{◌∙◌, ap}
 use Rattle.wordset.specs.Words.{Words}
 use Rattle.wordset.specs.Lanes.{words}
 use Rattle.domain.specs.Facts.{Location, Ac}
-use Rattle.domain.specs.Sums.Facts.{Fact}
 use Rattle.domain.specs.Sums.Adding.{with_name}
 use Rattle.domain.specs.Sums.CellsInCode.{cell_sets_of}
 use Rattle.domain.specs.Sums.FactInCode.{fact_in_code}

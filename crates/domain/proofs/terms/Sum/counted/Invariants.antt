@@ -1,5 +1,5 @@
 use Rattle.std.proofs.Common.{◌≡◌, ◌++◌, drop, length}
-use Rattle.domain.specs.Sums.Moves.{counted_sum, has_behind}
+use Rattle.domain.specs.Sums.Moves.{counted_sum}
 use Rattle.domain.specs.Sums.InCode.{sum_of}
 use Rattle.domain.proofs.terms.Sum.counted.Given as goal
 

@@ -1,5 +1,5 @@
-use Rattle.std.proofs.Common.{◌≡◌, ◌++◌, drop, length}
-use Rattle.domain.specs.Sums.Moves.{counted_sum, has_behind}
+use Rattle.std.proofs.Common.{◌≡◌, drop}
+use Rattle.domain.specs.Sums.Moves.{has_behind}
 use Rattle.domain.specs.Sums.InCode.{sum_of}
 use Rattle.domain.proofs.terms.Sum.has_behind.Given as goal
 

@@ -1,9 +1,6 @@
-use Rattle.std.proofs.Common.{◌≡◌, ℕ, ◌+◌, ◌-◌, ◌<◌, ◌≤◌, ◌++◌, drop, length}
-use Rattle.std.specs.Prelude.{filter, not}
-use Rattle.std.specs.List.{list_any}
-use Rattle.domain.specs.Sums.Terms.{with_summand, collected, multiplied, without_term, coefficient_in, same_sum, speaks_of, is_sign, same_term}
-use Rattle.domain.specs.Sums.InCode.{term_of, summand_of, sum_of}
-use Rattle.domain.specs.Sums.Naming.{names_of}
+use Rattle.std.proofs.Common.{◌≡◌, drop, length}
+use Rattle.domain.specs.Sums.Terms.{same_sum}
+use Rattle.domain.specs.Sums.InCode.{sum_of}
 use Rattle.domain.proofs.terms.Sum.is_same.Given as goal
 
 abbrev pub invariant-loop-at : goal.invariant-loop-at

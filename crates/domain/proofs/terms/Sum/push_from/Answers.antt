@@ -1,8 +1,5 @@
-use Rattle.std.proofs.Common.{◌≡◌, ℕ, ◌+◌, ◌≤◌, ◌<◌, length, drop, [], ◌++◌, sym, ap, ◌∙◌, arith}
-use Rattle.std.specs.Prelude.{filter, not}
-use Rattle.domain.specs.Facts.{Ac}
-use Rattle.domain.specs.Sums.Terms.{Summand, Holding, is_sign, with_summand}
-use Rattle.domain.specs.Sums.InCode.{sum_of, summand_of, term_of}
+use Rattle.std.proofs.Common.{◌<◌, length, drop, arith}
+use Rattle.domain.specs.Sums.InCode.{sum_of}
 use Rattle.domain.proofs.TermLemmas.{room_left, one_left}
 use Rattle.domain.proofs.terms.Sum.push_from.Goals as goal
 

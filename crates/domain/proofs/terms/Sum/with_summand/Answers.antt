@@ -1,7 +1,6 @@
-use Rattle.std.proofs.Common.{◌≡◌, ℕ, ◌+◌, ◌≤◌, ◌<◌, length, drop, [], ◌++◌, sym, ap, ◌∙◌, arith}
-use Rattle.std.specs.Prelude.{filter, not}
+use Rattle.std.proofs.Common.{◌≤◌, ◌<◌, length, sym, ◌∙◌, arith}
 use Rattle.domain.specs.Facts.{Ac}
-use Rattle.domain.specs.Sums.Terms.{Summand, Holding, is_sign, with_summand}
+use Rattle.domain.specs.Sums.Terms.{Holding, with_summand}
 use Rattle.domain.specs.Sums.InCode.{sum_of, summand_of, term_of}
 use Rattle.domain.proofs.TermLemmas.{put_before, put_last}
 use Rattle.domain.proofs.terms.Sum.with_summand.Goals as goal

@@ -37,3 +37,4 @@ pub mod SumDetailLemmas
 pub mod SumReadLemmas
 pub mod SumReaderLemmas
 pub mod SumSpelledLemmas
+pub mod SumNamedLemmas

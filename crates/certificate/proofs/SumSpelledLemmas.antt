@@ -1,8 +1,8 @@
 -- The text of a line of any version while it is written.
-use Rattle.std.proofs.Common.{◌≡◌, ℕ, ◌+◌, ◌-◌, ◌<◌, ◌≤◌, ◌==◌, ◌||◌, Bool, true, false, List, [], ◌∷◌, ◌++◌, length, map, take, get_or, Option, Some, None, refl, ap, ◌∙◌, sym, inl, inr, arith, append_assoc, append-nil}
-use Rattle.std.specs.Prelude.{if◌then◌else◌, codes, flat_map, IsTrue}
+use Rattle.std.proofs.Common.{◌≡◌, ℕ, ◌+◌, ◌-◌, ◌<◌, ◌≤◌, ◌==◌, ◌||◌, Bool, true, false, List, [], ◌∷◌, ◌++◌, length, map, take, drop, zero, suc, subst, get_or, Option, Some, None, refl, ap, ◌∙◌, sym, inl, inr, arith, append_assoc, append-nil}
+use Rattle.std.specs.Prelude.{if◌then◌else◌, codes, flat_map, slice_range, IsTrue}
 use Rattle.std.proofs.lemmas.Bool.{true≢false, false≢true, cases_lt, cases_Bool, eq-eqb, ne_eqb, eqb-true}
-use Rattle.std.proofs.lemmas.List.{take_all, take_more, map_push}
+use Rattle.std.proofs.lemmas.List.{take_all, take_more, drop_all, map_push}
 use Rattle.std.proofs.lemmas.List.Concat.{flat_map-append}
 use Rattle.word12.specs.Words.{octal_text}
 use Rattle.wordset.specs.Words.{Words, some_below, minus}
@@ -11,11 +11,18 @@ use Rattle.domain.specs.Facts.{Cell}
 use Rattle.domain.specs.Sums.Terms.{Holding}
 use Rattle.domain.specs.Sums.ChainsInCode.{step_of}
 use Rattle.domain.specs.declared.chains.Step.{Step}
-use Rattle.certificate.specs.Spelling.{begins, ends, digits, offsets_text, rank_text}
+use Rattle.std.specs.Io.KnownBytes.{Appends}
+use Rattle.streams.specs.Bytes.{AppendsFront}
+use Rattle.streams.proofs.BytesLemmas.{front_after}
+use Rattle.certificate.specs.declared.sums.Version.{Version}
+use Rattle.certificate.specs.Reading.{Each}
+use Rattle.certificate.specs.Spelling.{begins, ends, digits, offsets_text, rank_text, ended}
+use Rattle.certificate.specs.Sums.Lines.{Line}
+use Rattle.certificate.specs.Sums.Spelled.{all_ended}
 use Rattle.certificate.specs.Spelled.{Adds}
-use Rattle.certificate.specs.Sums.Spelling.{offset_mark, offset_marks, coefficient_text, step_text}
+use Rattle.certificate.specs.Sums.Spelling.{offset_mark, offset_marks, coefficient_text, step_text, line_text}
 use Rattle.certificate.specs.Sums.Fields.{offset_set_text, third_text}
-use Rattle.certificate.proofs.SpelledLemmas.{joined, none}
+use Rattle.certificate.proofs.SpelledLemmas.{joined, none, front_more}
 use Rattle.certificate.proofs.OffsetTextLemmas.{marks_more}
 
 -- Offsets looked through one by one.
@@ -89,3 +96,32 @@ fact_written o a b c d e x y z {s} {w} p q r u {t} v =
 pub exit_written : (o a b c d e : List ℕ) (x y z k : List ℕ) {s w : List ℕ} → Adds o a x → Adds a b y → Adds b c z → Adds c d k → Adds d e (s ++ w) → Adds o e (x ++ y ++ z ++ k ++ s ++ w)
 exit_written o a b c d e x y z k {s} {w} p q r u v =
     rw (← append_assoc (x ++ y ++ z ++ k) s w) at (joined o d e (x ++ y ++ z ++ k) (s ++ w) (joined o c d (x ++ y ++ z) k (joined o b c (x ++ y) z (joined o a b x y p q) r) u) v)
+
+-- Lines that are written one after another, up to the one at a place n.
+first_in_range : (ls : List Line) (i n : ℕ) (l : Line) → drop i ls ≡ l ∷ drop (i + 1) ls → i < n → slice_range ls i n ≡ l ∷ slice_range ls (i + 1) n
+first_in_range ls i n l at more = let k : n - i ≡ suc (n - (i + 1)) = omega arith in ap (take (n - i)) at ∙ rw k refl
+
+pub line_next : (v : Version) (ls : List Line) (i n : ℕ) (l : Line) (wrote all : List ℕ) → drop i ls ≡ l ∷ drop (i + 1) ls → i < n →
+    wrote ++ all_ended v (slice_range ls i n) ≡ all → (wrote ++ ended (line_text v l)) ++ all_ended v (slice_range ls (i + 1) n) ≡ all
+line_next v ls i n l wrote all at more so =
+    append_assoc wrote (ended (line_text v l)) (all_ended v (slice_range ls (i + 1) n)) ∙
+    (ap (λ (x : List Line). wrote ++ all_ended v x) (sym (first_in_range ls i n l at more)) ∙ so)
+
+pub line_cut : (a b c : Option (List ℕ)) (v : Version) (ls : List Line) (i n : ℕ) (l : Line) (wrote all piece : List ℕ) → drop i ls ≡ l ∷ drop (i + 1) ls → i < n →
+    wrote ++ all_ended v (slice_range ls i n) ≡ all → Appends a b wrote → piece ≡ ended (line_text v l) → AppendsFront b c piece → AppendsFront a c all
+line_cut a b c v ls i n l wrote all piece at more so whole same front =
+    subst (λ (x : List ℕ). AppendsFront a c x) (line_next v ls i n l wrote all at more so)
+    (front_more a c (wrote ++ ended (line_text v l)) (all_ended v (slice_range ls (i + 1) n)) (front_after a b c wrote (ended (line_text v l)) whole (rw same at front)))
+
+pub lines_done : (v : Version) (ls : List Line) (i n : ℕ) (wrote all : List ℕ) → n ≤ i → wrote ++ all_ended v (slice_range ls i n) ≡ all → wrote ≡ all
+lines_done v ls i n wrote all h so = let k : n - i ≡ 0 = omega arith in sym (append-nil wrote) ∙ (rw k at so)
+
+pub all_lines : (ls : List Line) (n : ℕ) → n ≡ length ls → slice_range ls 0 n ≡ ls
+all_lines ls n e = let k : n - 0 ≡ n = omega arith in rw k (take_all n ls (omega (arith, e)))
+
+-- What holds of each line holds of the one at a place.
+pub each_line : (P : Line → Type 0) (ls : List Line) (i : ℕ) (l : Line) (rest : List Line) → Each P ls → drop i ls ≡ l ∷ rest → P l
+each_line P [] zero l rest h e = absurd (cc)
+each_line P [] (suc i) l rest h e = absurd (let z : [] ≡ l ∷ rest = sym (drop_all (suc i) [] (omega arith)) ∙ e in cc)
+each_line P (x ∷ ls) zero l rest h e = let z : x ≡ l = cc in subst P z h.0
+each_line P (x ∷ ls) (suc i) l rest h e = each_line P ls i l rest h.1 e

@@ -18,7 +18,7 @@ ghost use Rattle.certificate.specs.Sums.Spelled.{all_ended};
 use crate::sums::lines::{end_of, first_routine, first_said};
 use crate::sums::packed::{CertifiedFact, PackedLines};
 use crate::sums::parser::Parser;
-use crate::sums::progress::{FIRST_EXIT, FIRST_FACT, LAST_PLACE};
+use crate::sums::progress::{FIRST_EXIT, FIRST_FACT};
 use crate::sums::spelled::{put_lines, put_text};
 use crate::{CertificateFault, RoutineClaim, WriteFault};
 use std::alloc::Allocator;
@@ -285,16 +285,15 @@ impl<A: Allocator> Certificate<A> {
             (HasNoneFrom from (λ o. has_any ((claims self.now).exits entry o)))
             (λ o. (o < 64) × IsFirstFrom from (λ o. has_any ((claims self.now).exits entry o)) o) }
     {
-        let first = FIRST_EXIT + 64 * entry.index();
         if from >= 64 {
             return None;
         }
+        let first = FIRST_EXIT + 64 * entry.index();
         let place = self.kept.next_place(first + from);
-        if place < first + 64 && place < LAST_PLACE {
-            Some(place - first)
-        } else {
-            None
+        if place >= first + 64 {
+            return None;
         }
+        Some(place - first)
     }
 }
 

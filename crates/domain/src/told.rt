@@ -6,12 +6,13 @@ ghost use Rattle.wordset.specs.Lanes.{words};
 ghost use Rattle.wordset.specs.Links.{links_of};
 ghost use Rattle.domain.specs.Facts.{Ac};
 ghost use Rattle.domain.specs.Sums.InCode.{sum_of};
-ghost use Rattle.domain.specs.Sums.CellsInCode.{cell_sets_of};
+ghost use Rattle.domain.specs.Sums.CellsInCode.{cell_set_of, cell_sets_of};
 ghost use Rattle.domain.specs.Sums.RelationsInCode.{relations_of};
 ghost use Rattle.domain.specs.Sums.ChainsInCode.{chain_of};
 ghost use Rattle.domain.specs.Sums.Offsets.{offsets_in};
 ghost use Rattle.domain.specs.Sums.FactInCode.{fact_in_code, names_words};
 
+use crate::cell_sets::CellSet;
 use crate::chains::Chain;
 use crate::return_offsets::ReturnOffsets;
 use crate::sum_fact::SumFact;
@@ -37,6 +38,13 @@ impl<const C: usize, const R: usize> SumFact<C, R> {
         self.chains.clear();
         self.sites.set_row(Word::from_index(1), Word::ZERO);
         self.offsets = ReturnOffsets::none();
+    }
+
+    /// The cells that are told of, in order.
+    pub fn told_cells(&self) -> &[CellSet]
+        ensures { map cell_set_of result.now ≡ cell_sets_of self.now.cells }
+    {
+        self.cells.as_slice()
     }
 
     /// Lets the accumulator hold these words.

@@ -76,7 +76,7 @@ fn push_all<A: Allocator>(
     ensures front { Begins (said_lines lines.old) (said_lines lines.new) }
 {
     lines.claim(head)?;
-    push_cells(lines, fact.cells().as_slice())?;
+    push_cells(lines, fact.told_cells())?;
     push_relations(lines, fact.relations().as_slice())?;
     push_chains(lines, fact.chains())
 }

@@ -913,7 +913,7 @@ fn lay_registers_of<A: Allocator>(
 }
 
 /// The runs from one on, or none where that lies past all.
-fn runs_from(runs: &[Run], first: usize) -> &[Run]
+pub fn runs_from(runs: &[Run], first: usize) -> &[Run]
     ensures { result.now ≡ drop first runs.now }
 {
     &runs[first.min(runs.len())..]

@@ -1,6 +1,6 @@
 //! The text of a line in all versions.
 
-ghost use Rattle.std.specs.Prelude.{◌≡◌, ◌<◌, ◌≤◌, ◌+◌, ◌==◌, ◌&&◌, nat_lt, [], ◌∷◌, ◌++◌, length, map, take, drop, flat_map, codes, if◌then◌else◌, OnOk, OnErr, is_err, true, false, slice_range};
+ghost use Rattle.std.specs.Prelude.{◌≡◌, ◌<◌, ◌≤◌, ◌+◌, ◌==◌, ◌&&◌, nat_lt, List, [], ◌∷◌, ◌++◌, length, map, take, drop, flat_map, codes, if◌then◌else◌, OnOk, OnErr, is_err, true, false, slice_range};
 ghost use Rattle.std.specs.Io.KnownBytes.{Appends};
 ghost use Rattle.streams.specs.Bytes.{AppendsFront};
 ghost use Rattle.wordset.specs.Words.{some_below, only};
@@ -26,7 +26,7 @@ use crate::packed::{PackedRegisters, Run, set_of};
 use crate::spelled::LineText;
 use crate::sums::Version;
 use crate::sums::packed::{
-    LentLine, PackedChain, PackedExit, PackedFact, PackedLine, PackedLines, PackedSum,
+    LentLine, PackedChain, PackedExit, PackedFact, PackedLine, PackedLines, PackedSum, runs_from,
 };
 use domain::{ReturnOffsets, Step, Summand, Term, is_sign, negated};
 use std::alloc::Allocator;
@@ -369,7 +369,7 @@ impl LineText {
             words_text version (registers_at (drop sites runs.now) registers.now)) }
     {
         self.sites(version, runs, sites);
-        let runs = &runs[usize::from(sites)..];
+        let runs = runs_from(runs, usize::from(sites));
         self.text(b" ac ");
         self.set_in(runs, 0, registers.sets.one);
         self.told_mq(version, runs, registers);

@@ -7,7 +7,7 @@ use Rattle.certificate.proofs.sums.lines.push_chains.Goals as goal
 
 pub claim-requires : goal.claim-requires
 claim-requires g c =
-    each_at (λ (x : Chain). length x.steps ≤ 16) chain_of c.args.chains.now c.loop-chain.chain-index c.chain-item.result.now c.loop-chain-test.true c.chain-item.is c.requires
+    each_at (λ (x : Chain). length x.steps ≤ 16) chain_of c.args.chains.now c.loop-chain.chain-index c.chain-item.result c.loop-chain-test.true c.chain-item.is c.requires
 
 pub returns-in_err-claim-clause-front : goal.returns-in_err-claim-clause-front
 returns-in_err-claim-clause-front g c =

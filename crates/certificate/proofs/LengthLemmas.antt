@@ -16,7 +16,7 @@ use Rattle.certificate.proofs.ApartLemmas.{more_text}
 use Rattle.certificate.proofs.SetLemmas.{by_words, empty_text}
 
 -- Bytes with no line feed.
-pub feedless : List ℕ → Bool
+unfoldable pub feedless : List ℕ → Bool
 feedless [] = true
 feedless (c ∷ cs) = not (c == 10) && feedless cs
 

@@ -38,3 +38,4 @@ pub mod SumReadLemmas
 pub mod SumReaderLemmas
 pub mod SumSpelledLemmas
 pub mod SumNamedLemmas
+pub mod SumMadeLemmas

@@ -16,13 +16,13 @@ pub returns-in-Ok-keep-clause-taken : goal.returns-in-Ok-keep-clause-taken
 returns-in-Ok-keep-clause-taken g c = λ text bytes h small.
     next_kept c.args.kept.now c.keep.new.self text c.args.line.now bytes c.args.progress.now c.accept.new.self
     (said_at c.accept.new.runs.items c.accept.new.steps.items c.in-Ok.read) h c.in-Ok.ensures.version (λ before k. c.in-Ok.ensures.lines before k)
-    (λ before k. subst (λ (ss : List Step). Keeps c.keep.new.self (unended (said_at c.accept.new.runs.items ss c.in-Ok.read ∷ before))) c.deref-2.ensures.0
-    (subst (λ (rs : List Run). Keeps c.keep.new.self (unended (said_at rs c.deref-2.result.now c.in-Ok.read ∷ before))) c.deref.ensures.0
+    (λ before k. subst (λ (ss : List Step). Keeps c.keep.new.self (unended (said_at c.accept.new.runs.items ss c.in-Ok.read ∷ before))) c.deref-in-Ok.ensures.0
+    (subst (λ (rs : List Run). Keeps c.keep.new.self (unended (said_at rs c.deref-in-Ok.result.now c.in-Ok.read ∷ before))) c.deref.ensures.0
     (c.in-Ok-keep.ensures.kept before k)))
 
 pub returns-in_default-clause-taken : goal.returns-in_default-clause-taken
 returns-in_default-clause-taken g c = λ text bytes h small.
     wanting c.args.kept.now text c.args.line.now bytes c.args.progress.now c.accept.new.self (said_at c.accept.new.runs.items c.accept.new.steps.items c.in-Ok.read) h small
     (λ before k. c.in-Ok.ensures.lines before k)
-    (subst (λ (ss : List Step). is_end (said_at c.accept.new.runs.items ss c.in-Ok.read) ≡ false) c.deref-2.ensures.0
-    (subst (λ (rs : List Run). is_end (said_at rs c.deref-2.result.now c.in-Ok.read) ≡ false) c.deref.ensures.0 c.in_default.ensures.refused))
+    (subst (λ (ss : List Step). is_end (said_at c.accept.new.runs.items ss c.in-Ok.read) ≡ false) c.deref-in-Ok.ensures.0
+    (subst (λ (rs : List Run). is_end (said_at rs c.deref-in-Ok.result.now c.in-Ok.read) ≡ false) c.deref.ensures.0 c.in_default.ensures.refused))

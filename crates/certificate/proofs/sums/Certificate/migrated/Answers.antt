@@ -1,0 +1,2 @@
+use Rattle.certificate.proofs.SumMadeLemmas.{whole_two}
+use Rattle.certificate.proofs.sums.Certificate.migrated.Goals as goal

@@ -39,3 +39,4 @@ pub mod SumReaderLemmas
 pub mod SumSpelledLemmas
 pub mod SumNamedLemmas
 pub mod SumMadeLemmas
+pub mod SumSitedLemmas

@@ -22,7 +22,8 @@ use Rattle.certificate.specs.Sums.Laws.{MqFits, RegistersFit, LineFits, bytes_of
 use Rattle.certificate.specs.Sums.Found.{IsNext, IsLine, AreInOrder, Follow, newest_first, unended, IsWhole}
 use Rattle.certificate.specs.Sums.Packed.{Packed, said_lines}
 use Rattle.certificate.specs.Sums.Spelled.{all_ended}
-use Rattle.certificate.specs.Sums.Made.{details_of, before_end, with_lines, with_mq, MayAdd, AreDetails}
+use Rattle.certificate.specs.Sums.Kept.{Kept, meaning}
+use Rattle.certificate.specs.Sums.Made.{details_of, lines_of_fact, lines_of_exit, before_end, with_lines, MayAdd, AreDetails}
 use Rattle.certificate.proofs.SumTextLemmas.{both_ended}
 use Rattle.certificate.proofs.SumWholeLemmas.{newest_both, followed, whole}
 use Rattle.certificate.proofs.SumReaderLemmas.{has_place}
@@ -76,7 +77,7 @@ pub added : (v : Version) (k new : Packed) (more : List Line) → IsWhole v k �
     said_lines new ≡ said_lines k ++ more → Added v k new more
 added v k new more w none m e =
     let back : newest_first [] (said_lines new) ≡ newest_first (newest_first [] (said_lines k)) more =
-        ap (λ (x : List Line). newest_first [] x) e ∙ newest_both [] (said_lines k) more in
+    ap (λ (x : List Line). newest_first [] x) e ∙ newest_both [] (said_lines k) more in
     record {
       whole = whole v new (rw back (followed v (newest_first [] (said_lines k)) more w.order (may_follow v (said_lines k) more m)))
           (rw back (no_end_both (newest_first [] (said_lines k)) more w.no_end none));
@@ -103,6 +104,15 @@ no_end_details [] [] [] = refl
 no_end_details [] [] (h ∷ hs) = no_end_details [] [] hs
 no_end_details [] (r ∷ rs) hs = no_end_details [] rs hs
 no_end_details (c ∷ cs) rs hs = no_end_details cs rs hs
+
+-- What may be added to a certificate as it's seen.
+pub may_add_fact : (a b : Kept) → a ≡ b → (at : ℕ) (f : SumFact 64 32) → MayAdd (meaning b) (lines_of_fact (meaning b).version at f) →
+    MayAdd (meaning a) (lines_of_fact (meaning a).version at f)
+may_add_fact a b e at f m = subst (λ (k : Kept). MayAdd (meaning k) (lines_of_fact (meaning k).version at f)) (sym e) m
+
+pub may_add_exit : (a b : Kept) → a ≡ b → (x o : ℕ) (f : SumFact 64 32) → MayAdd (meaning b) (lines_of_exit (meaning b).version x o f) →
+    MayAdd (meaning a) (lines_of_exit (meaning a).version x o f)
+may_add_exit a b e x o f m = subst (λ (k : Kept). MayAdd (meaning k) (lines_of_exit (meaning k).version x o f)) (sym e) m
 
 -- What may follow is of its form.
 lines_formed : (v : Version) (before ls : List Line) → Follow v before ls → Each (IsLine v) ls
@@ -143,7 +153,7 @@ pub rank_small : (v : Version) (ls : List Line) (r : RoutineLine) (more : List L
 rank_small v ls r more m = ltb-true r.rank 64 (and_parts (nat_lt r.entry 4096) _ (may_follow v ls (RoutineIs r ∷ more) m).0.0).1
 
 -- Lines in order are so in version 2 too.
-mq_one : (mq : Words) → mq ≡ all_words → EndsBefore 4096 mq
+pub mq_one : (mq : Words) → mq ≡ all_words → EndsBefore 4096 mq
 mq_one mq e x past = ap (λ (w : Words). w x) e ∙ le-ltb x 4096 past
 
 line_two : (l : Line) → IsLine One l → IsLine Two l

@@ -1,5 +1,5 @@
 -- Routines, facts and exits by the places of their lines, in all versions.
-use Rattle.std.proofs.Common.{◌≡◌, ◌⊎◌, ℕ, ◌+◌, ◌*◌, ◌-◌, ◌<◌, ◌≤◌, ◌==◌, ◌&&◌, ◌||◌, not, Bool, true, false, List, [], ◌∷◌, ◌++◌, drop, Option, Some, None, refl, ap, ◌∙◌, sym, inl, inr, arith}
+use Rattle.std.proofs.Common.{◌≡◌, ◌⊎◌, ℕ, ◌+◌, ◌*◌, ◌-◌, ◌<◌, ◌≤◌, ◌==◌, ◌&&◌, ◌||◌, not, Bool, true, false, List, [], ◌∷◌, ◌++◌, drop, Option, Some, None, refl, ap, ◌∙◌, sym, subst, inl, inr, arith}
 use Rattle.std.specs.Prelude.{nat_le, nat_lt, if◌then◌else◌, min, MatchOption}
 use Rattle.std.proofs.lemmas.Bool.{true≢false, false≢true, cases_Bool, cases_lt, and_parts, or_left, or_right, not-true, ltb-true, leb-true, le-leb, lt-leb, lt-ltb, le-ltb, ne_eqb, eq-eqb, eqb-true}
 use Rattle.std.proofs.lemmas.Bool.Decides.{eqb_tells}
@@ -43,29 +43,60 @@ none_past (l ∷ ls) n q h low = elim (cases_Bool (is_detail l)) [
       rw (d, ne_eqb (place_of_head l) q (λ e. omega (arith, e, z, low))) (none_past ls (place_of_head l + 1) q (rw d at h.1) (omega (arith, z, low))))
 ]
 
+-- A line at the front.
+at_detail : (l : Line) (ls : List Line) (q : ℕ) → is_detail l ≡ true → place_in (l ∷ ls) q ≡ place_in ls q
+unfolding place_in
+at_detail l ls q d = rw d refl
+
+at_other : (l : Line) (ls : List Line) (q : ℕ) → (place_of_head l ≡ q → ⊥) → place_in (l ∷ ls) q ≡ place_in ls q
+unfolding place_in
+at_other l ls q e = rw (ne_eqb (place_of_head l) q e) (none (not (is_detail l)) (place_in ls q))
+  where
+    none : (a b : Bool) → ((a && false) || b) ≡ b
+    none true b = refl
+    none false b = refl
+
+at_head : (l : Line) (ls : List Line) → is_detail l ≡ false → place_in (l ∷ ls) (place_of_head l) ≡ true
+unfolding place_in
+at_head l ls d = rw (d, eq-eqb (place_of_head l) (place_of_head l) refl) refl
+
+from_detail : (l : Line) (ls : List Line) (from : ℕ) → is_detail l ≡ true → from_place from (l ∷ ls) ≡ from_place from ls
+from_detail l ls from d = rw d refl
+
+from_less : (l : Line) (ls : List Line) (from : ℕ) → is_detail l ≡ false → place_of_head l < from → from_place from (l ∷ ls) ≡ from_place from ls
+from_less l ls from d less = rw (d, lt-leb from (place_of_head l) less) refl
+
+from_here : (l : Line) (ls : List Line) (from : ℕ) → is_detail l ≡ false → from ≤ place_of_head l → from_place from (l ∷ ls) ≡ l ∷ ls
+from_here l ls from d more = rw (d, le-leb from (place_of_head l) more) refl
+
+behind : (l : Line) (ls : List Line) (from p : ℕ) → ((q : ℕ) → from ≤ q → place_in (l ∷ ls) q ≡ place_in ls q) → PlaceNext ls from p → PlaceNext (l ∷ ls) from p
+behind l ls from p same i = record {
+  reached = i.reached;
+  before = λ q a b. same q a ∙ i.before q a b;
+  there = λ b. same p i.reached ∙ i.there b;
+}
+
 pub next_known : (ls : List Line) (n from : ℕ) → from ≤ 270336 → AreRising n ls → PlaceNext ls from (least_place (from_place from ls))
 unfolding place_in
 next_known [] n from small h = record { reached = small; before = λ q a b. refl; there = λ b. absurd (omega (arith, b)) }
 next_known (l ∷ ls) n from small h = elim (cases_Bool (is_detail l)) [
-  | inl d ↦ (let i = next_known ls n from small (rw d at h.1) in rw d (record { reached = i.reached; before = i.before; there = i.there }))
+  | inl d ↦
+      subst (λ (x : List Line). PlaceNext (l ∷ ls) from (least_place x)) (sym (from_detail l ls from d))
+      (behind l ls from (least_place (from_place from ls)) (λ q a. at_detail l ls q d) (next_known ls n from small (rw d at h.1)))
   | inr d ↦ elim (cases_lt (place_of_head l) from) [
-    | inl less ↦ (
-        let i = next_known ls (place_of_head l + 1) from small (rw d at h.1) in
-        rw (d, lt-leb from (place_of_head l) less) (record {
-          reached = i.reached;
-          before = λ q a b. rw (ne_eqb (place_of_head l) q (λ e. omega (arith, e, less, a))) (i.before q a b);
-          there = λ b. rw (ne_eqb (place_of_head l) (least_place (from_place from ls)) (λ e. let r = i.reached in omega (arith, e, less, r))) (i.there b);
-        }))
-    | inr more ↦ rw (d, le-leb from (place_of_head l) more) (record {
+    | inl less ↦
+        subst (λ (x : List Line). PlaceNext (l ∷ ls) from (least_place x)) (sym (from_less l ls from d less))
+        (behind l ls from (least_place (from_place from ls)) (λ q a. at_other l ls q (λ e. omega (arith, e, less, a))) (next_known ls (place_of_head l + 1) from small (rw d at h.1)))
+    | inr more ↦ subst (λ (x : List Line). PlaceNext (l ∷ ls) from (least_place x)) (sym (from_here l ls from d more)) (record {
       reached = more;
-      before = λ q a b. rw (ne_eqb (place_of_head l) q (λ e. omega (arith, e, b))) (none_past ls (place_of_head l + 1) q (rw d at h.1) (omega (arith, b)));
-      there = λ b. rw (eq-eqb (place_of_head l) (place_of_head l) refl) refl;
+      before = λ q a b. at_other l ls q (λ e. omega (arith, e, b)) ∙ none_past ls (place_of_head l + 1) q (rw d at h.1) (omega (arith, b));
+      there = λ b. at_head l ls d;
     })
   ]
 ]
 
 -- What is claimed is told by the places.
-routine_end : (ls : List Line) (e : ℕ) → routine_at (ls ++ End ∷ []) e ≡ routine_at ls e
+pub routine_end : (ls : List Line) (e : ℕ) → routine_at (ls ++ End ∷ []) e ≡ routine_at ls e
 routine_end [] e = refl
 routine_end (RoutineIs r ∷ ls) e = rw (routine_end ls e) refl
 routine_end (FactIs a s r o ∷ ls) e = routine_end ls e

@@ -430,7 +430,7 @@ most_few One o h = let z : o < 8 = ltb-true o 8 h in omega (arith, z)
 most_few Two o h = let z : o < 8 = ltb-true o 8 h in omega (arith, z)
 most_few Three o h = ltb-true o 64 h
 
-has_place : (v : Version) (l : Line) → has_form v l ≡ true → HasPlace l
+pub has_place : (v : Version) (l : Line) → has_form v l ≡ true → HasPlace l
 has_place v (ExitIs e o s r) h = most_few v o (and_parts (nat_lt o (most_offsets v)) _ (and_parts (nat_lt e 4096) _ h).1).0
 has_place v (FactIs a s r o) h = ltb-true a 4096 (and_parts (nat_lt a 4096) _ h).0
 has_place v (RoutineIs r) h = tt

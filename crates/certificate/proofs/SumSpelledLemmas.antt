@@ -89,12 +89,12 @@ pub steps_written : (old now : List ℕ) (steps : List Step) (i : ℕ) → lengt
 steps_written old now steps i h a = rw (take_all i steps h) at a
 
 -- The text of a fact and of an exit, of which the sites and the registers are one part.
-pub fact_written : (o a b c d e : List ℕ) (x y z : List ℕ) {s w : List ℕ} → Adds o a x → Adds a b y → Adds b c (s ++ w) → Adds c d z → {t : List ℕ} → Adds d e t → Adds o e (x ++ y ++ s ++ w ++ z ++ t)
-fact_written o a b c d e x y z {s} {w} p q r u {t} v =
+pub fact_written : (s w t : List ℕ) (o a b c d e : List ℕ) (x y z : List ℕ) → Adds o a x → Adds a b y → Adds b c (s ++ w) → Adds c d z → Adds d e t → Adds o e (x ++ y ++ s ++ w ++ z ++ t)
+fact_written s w t o a b c d e x y z p q r u v =
     rw (← append_assoc (x ++ y) s w) at (joined o d e (x ++ y ++ (s ++ w) ++ z) t (joined o c d (x ++ y ++ (s ++ w)) z (joined o b c (x ++ y) (s ++ w) (joined o a b x y p q) r) u) v)
 
-pub exit_written : (o a b c d e : List ℕ) (x y z k : List ℕ) {s w : List ℕ} → Adds o a x → Adds a b y → Adds b c z → Adds c d k → Adds d e (s ++ w) → Adds o e (x ++ y ++ z ++ k ++ s ++ w)
-exit_written o a b c d e x y z k {s} {w} p q r u v =
+pub exit_written : (s w : List ℕ) (o a b c d e : List ℕ) (x y z k : List ℕ) → Adds o a x → Adds a b y → Adds b c z → Adds c d k → Adds d e (s ++ w) → Adds o e (x ++ y ++ z ++ k ++ s ++ w)
+exit_written s w o a b c d e x y z k p q r u v =
     rw (← append_assoc (x ++ y ++ z ++ k) s w) at (joined o d e (x ++ y ++ z ++ k) (s ++ w) (joined o c d (x ++ y ++ z) k (joined o b c (x ++ y) z (joined o a b x y p q) r) u) v)
 
 -- Lines that are written one after another, up to the one at a place n.

@@ -286,11 +286,9 @@ impl<A: Allocator> Certificate<A> {
             (HasNoneFrom from (λ o. has_any ((claims self.now).exits entry o)))
             (λ o. (o < 64) × IsFirstFrom from (λ o. has_any ((claims self.now).exits entry o)) o) }
     {
-        if from >= 64 {
-            return None;
-        }
         let first = FIRST_EXIT + 64 * entry.index();
-        let place = self.kept.next_place(first + from);
+        let least = from.min(64);
+        let place = self.kept.next_place(first + least);
         if place >= first + 64 {
             return None;
         }

@@ -8,4 +8,4 @@ returns-in-None c = rw c.in-None.is (none c.args.self.now.bytes.items)
 pub returns-in-Some : goal.returns-in-Some
 returns-in-Some c =
     rw c.in-Some.is (third_written _ _ c.args.coefficient c.in-Some.cell (rw c.negated.ensures at
-    (joined _ _ _ _ _ (joined _ _ _ _ _ (joined _ _ _ _ _ c.push.ensures.adds c.coefficient.ensures) c.push-2.ensures.adds) c.word.ensures)))
+    (joined _ _ _ _ _ (joined _ _ _ _ _ (joined _ _ _ _ _ c.push.ensures.adds c.coefficient.ensures) c.push-in-Some.ensures.adds) c.word.ensures)))

@@ -52,3 +52,9 @@ overflow_sub-fact g c =
     let small : c.args.from < 4096 = (let z = c.if-from-ge4096.false in omega arith) in
     let fact = next_is c.self.inside.version c.self.inside.kept c.self.invariant (4096 + c.args.from) c.next_place-fact.result (omega (arith, small)) c.next_place-fact.ensures in
     let reached : 4096 + c.args.from ≤ c.next_place-fact.result = fact.reached in omega arith
+
+pub overflow_sub-exit : goal.overflow_sub-exit
+overflow_sub-exit g c =
+    let small : c.args.from < 4096 = (let z = c.if-from-ge4096.false in omega arith) in
+    let exit = next_is c.self.inside.version c.self.inside.kept c.self.invariant (8192 + 64 * c.args.from) c.next_place.result (omega (arith, small)) c.next_place.ensures in
+    let reached : 8192 + 64 * c.args.from ≤ c.next_place.result = exit.reached in omega arith

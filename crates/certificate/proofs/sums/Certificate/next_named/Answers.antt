@@ -24,3 +24,9 @@ returns-else-least-lt4096 g c =
     let reached : 8192 + 64 * c.args.from ≤ x = exit.reached in
     rw (← c.self.view_is)
     (none_is_named v k c.self.invariant c.args.from c.next_place-routine.result x ((x - 8192) / 64) c.min-least.result routine exit (omega arith) c.min-least.ensures c.if-least-lt4096.false)
+
+pub overflow_sub-exit : goal.overflow_sub-exit
+overflow_sub-exit g c =
+    let small : c.args.from < 4096 = (let z = c.if-from-ge4096.false in omega arith) in
+    let exit = next_is c.self.inside.version c.self.inside.kept c.self.invariant (8192 + 64 * c.args.from) c.next_place.result (omega (arith, small)) c.next_place.ensures in
+    let reached : 8192 + 64 * c.args.from ≤ c.next_place.result = exit.reached in omega arith

@@ -42,7 +42,7 @@ no_sites None h = refl
 no_sites (Some r) h = absurd (true≢false h)
 
 sites_end : (v : Version) (ls : List Line) (e : ℕ) → Each (IsLine v) ls → EndsBefore 4096 (sites_in (routine_at ls e))
-sites_end v [] e h x past = refl
+sites_end v [] e h = λ x past. refl
 sites_end v (RoutineIs r ∷ ls) e h = elim (cases_Bool (r.entry == e)) [
   | inl t ↦ rw t (λ x past. h.0.1.0 x past)
   | inr f ↦ rw f (sites_end v ls e h.1)
@@ -117,8 +117,8 @@ one_end k h v past =
     ne_eqb v k (λ e. omega (arith, q, b, e))
 
 relation_three : (v : Version) (r : Relation) → is_of_sums v ≡ false → has_form v (SumIs r) ≡ true → LineFits v (SumIs r) → EndsBefore 4096 r.set
-relation_three One r e h f = let q : r.set ≡ one f.2.2.0 = f.2.2.2.1 in subst (EndsBefore 4096) (sym q) (one_end f.2.2.0 (rw q at ((and_parts (is_relation r.sum) _ h).1)))
-relation_three Two r e h f = let q : r.set ≡ one f.2.2.0 = f.2.2.2.1 in subst (EndsBefore 4096) (sym q) (one_end f.2.2.0 (rw q at ((and_parts (is_relation r.sum) _ h).1)))
+relation_three One r e h f = let q : r.set ≡ one f.2 = f.4 in subst (EndsBefore 4096) (sym q) (one_end f.2 (rw q at ((and_parts (is_relation r.sum) _ h).1)))
+relation_three Two r e h f = let q : r.set ≡ one f.2 = f.4 in subst (EndsBefore 4096) (sym q) (one_end f.2 (rw q at ((and_parts (is_relation r.sum) _ h).1)))
 relation_three Three r e h f = absurd (true≢false e)
 
 more_offsets : (v : Version) (o : Words) → is_of_sums v ≡ false → EndsBefore (if is_of_sums v then 64 else 8) o → EndsBefore 64 o
@@ -223,12 +223,12 @@ module _ (sites : Line → Words) where
   follow_same : (v : Version) (l last : Line) → is_of_sums v ≡ false → may_follow v l last ≡ true → may_follow Three (sited l) (sited last) ≡ true
   follow_same v l last e h = elim (cases_Bool (is_detail l)) [
     | inl t ↦ rw (same_detail l, t) (before_same last l t (rw t at h))
-    | inr f ↦ rw (same_detail l, f, same_place l, same_place last) (rw (first (nat_lt (place_of_head last) (place_of_head l)) _ (rw (f, e) at h)) refl)
+    | inr f ↦ rw (same_detail l, f, same_place l, same_place last, first (nat_lt (place_of_head last) (place_of_head l)) (rw (f, e) at h)) refl
   ]
     where
-      first : (a b : Bool) → (a || (false && b)) ≡ true → a ≡ true
-      first true b h = refl
-      first false b h = h
+      first : (a : Bool) → (a || false) ≡ true → a ≡ true
+      first true h = refl
+      first false h = h
 
   newest_same : (v : Version) (l : Line) (ls : List Line) → is_of_sums v ≡ false → follows_newest v l ls ≡ true → follows_newest Three (sited l) (map sited ls) ≡ true
   newest_same v l [] e h = refl

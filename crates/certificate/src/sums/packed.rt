@@ -811,7 +811,7 @@ pub fn routine_of(lent: &LentLine<'_>) -> Option<RoutineClaim>
     }
 }
 
-/// Adds runs and steps behind others; where that's refused, some of them.
+/// Adds runs and steps behind others; where that is refused, some of them.
 fn lay_all<A: Allocator>(
     runs: &mut Vec<Run, A>,
     steps: &mut Vec<Step, A>,

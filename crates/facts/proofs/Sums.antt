@@ -21,6 +21,8 @@ pub mod EachRelation
 pub mod CarryingLemmas
 pub mod RowsLemmas
 pub mod OperandLemmas
+pub mod CountedLemmas
 pub mod AskingLemmas
 pub mod ComesLemmas
 pub mod DeviceLemmas
+pub mod KeepingLemmas

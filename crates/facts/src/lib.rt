@@ -20,8 +20,8 @@ mod scratch;
 mod skipping;
 mod state;
 mod successor;
-pub mod sum_laws;
 pub mod sum_facts;
+pub mod sum_laws;
 
 pub use asked::post;
 pub use conditions::{reads, writes};

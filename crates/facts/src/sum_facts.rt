@@ -16,6 +16,7 @@ mod references;
 mod registers;
 mod rooms;
 mod source;
+mod start_fact;
 mod starts;
 mod stores;
 
@@ -28,4 +29,5 @@ pub use rooms::{
     ChosenFact, Fact, MetFact, NarrowedFact, NextFact, PartFact, SteppedFact, TestedFact,
 };
 pub use source::FactSource;
-pub use starts::{StartFact, StartPart};
+pub use start_fact::StartFact;
+pub use starts::StartPart;

@@ -2,6 +2,7 @@
 
 ghost use Rattle.facts.specs.Sums.Access.{CallsAreForeseen, ReadsAreForeseen, WordsAreForeseen, WritesAreForeseen};
 ghost use Rattle.facts.specs.Sums.Laws.{EntailedFactsHold, IdleNeverHolds, JoinedHolds, OneLandedHolds, StepLaw};
+ghost use Rattle.facts.specs.Sums.Shaped.{NarrowingKeepsShape};
 ghost use Rattle.facts.specs.Sums.Starts.{StartFactHolds, StartsLand};
 
 /// From a state of a fact, a step by the word at the program counter lands in one of the word's
@@ -32,6 +33,12 @@ pub fn joined_holds()
 pub fn starts_hold()
     ensures fact { StartFactHolds }
     ensures landed { StartsLand }
+{}
+
+/// A narrowed fact keeps what rows ask of a fact: relations of few terms, and chains with room for
+/// one step more.
+pub fn narrowing_keeps_shape()
+    ensures { NarrowingKeepsShape }
 {}
 
 /// Whatever the step at a state of a fact reads, writes or calls is among what the fact says that its

@@ -1,5 +1,5 @@
 -- What is asked of a word: the cells that it reads, writes and calls.
-use Rattle.std.proofs.Common.{◌≡◌, ℕ, ◌<◌, ◌≤◌, ◌==◌, Bool, true, false, ◌&&◌, ◌||◌, ◌⊎◌, Option, Some, None, refl, sym, ap, ◌∙◌, subst, inl, inr}
+use Rattle.std.proofs.Common.{◌≡◌, ℕ, ◌==◌, Bool, true, false, ◌&&◌, ◌||◌, Option, Some, None, refl, sym, ap, ◌∙◌, subst, inl}
 use Rattle.std.proofs.lemmas.Bool.{eqb-true, eq-eqb, false≢true}
 use Rattle.std.proofs.Math.Path.{fun_ext}
 use Rattle.std.specs.Prelude.{IsTrue, ◌↔◌, is_some}
@@ -14,7 +14,7 @@ use Rattle.wordset.proofs.LaneBits.{or_false}
 use Rattle.processor.specs.Machine.{steps_pointer}
 use Rattle.declaration.specs.Declaration.{IsListed}
 use Rattle.domain.specs.Facts.{is_routine}
-use Rattle.domain.specs.Sums.Facts.{Fact, Place, Rules}
+use Rattle.domain.specs.Sums.Facts.{Fact, Place}
 use Rattle.facts.specs.Conditions.{reads_operand, stores, counts, calls}
 use Rattle.facts.specs.Sums.References.{targets}
 use Rattle.facts.specs.Sums.Conditions.{may_read, may_write, called, MayCount, CountsItsReturn, ReadsAreListed}
@@ -37,14 +37,14 @@ reads_none pl f m h a = unless_memory (λ m. may_read pl f m a ≡ false) (λ w.
 
 pub reads_pointer : (s : Words) (pl : Place) (f : Fact) (o : Operation) (n : ℕ) (i r : Bool) → r ≡ reads_operand o → r ≡ false →
     ((a : ℕ) → s a ≡ (i && (a == n))) → s ≡ may_read pl f (reference o i n)
-reads_pointer s pl f o n i r er no hs =
-    let es : reads_operand o ≡ false = sym er ∙ no in
+reads_pointer s pl f o n i r er lacks hs =
+    let es : reads_operand o ≡ false = sym er ∙ lacks in
     fun_ext (λ v. hs v ∙ sym (or_false (i && (v == n))) ∙ ap (λ b. (i && (v == n)) || (b && targets pl i n f v)) (sym es) ∙ read_by pl f o i n v)
 
 pub reads_both : (s p t : Words) (pl : Place) (f : Fact) (o : Operation) (n : ℕ) (i r : Bool) → r ≡ reads_operand o → r ≡ true →
     s ≡ union p t → ((a : ℕ) → p a ≡ (i && (a == n))) → t ≡ targets pl i n f → s ≡ may_read pl f (reference o i n)
-reads_both s p t pl f o n i r er yes hs hp ht =
-    let es : reads_operand o ≡ true = sym er ∙ yes in
+reads_both s p t pl f o n i r er has hs hp ht =
+    let es : reads_operand o ≡ true = sym er ∙ has in
     fun_ext (λ v. ap (λ (x : Words). x v) hs ∙ ap (λ b. b || t v) (hp v) ∙ ap (λ (x : Words). (i && (v == n)) || x v) ht
     ∙ ap (λ b. (i && (v == n)) || (b && targets pl i n f v)) (sym es) ∙ read_by pl f o i n v)
 
@@ -64,15 +64,15 @@ no_store pl f o n i r j er ej hr hj a =
 
 pub writes_pointer : (s : Words) (pl : Place) (f : Fact) (o : Operation) (n : ℕ) (i j r : Bool) → r ≡ stores o → r ≡ false → j ≡ steps_pointer i n →
     ((a : ℕ) → s a ≡ (j && (a == n))) → s ≡ may_write pl f (reference o i n)
-writes_pointer s pl f o n i j r er no ej hs =
-    let es : stores o ≡ false = sym er ∙ no in
+writes_pointer s pl f o n i j r er lacks ej hs =
+    let es : stores o ≡ false = sym er ∙ lacks in
     fun_ext (λ v. hs v ∙ ap (λ b. b && (v == n)) ej ∙ sym (or_false (steps_pointer i n && (v == n)))
     ∙ ap (λ b. (steps_pointer i n && (v == n)) || (b && targets pl i n f v)) (sym es) ∙ written_by pl f o i n v)
 
 pub writes_both : (s p t : Words) (pl : Place) (f : Fact) (o : Operation) (n : ℕ) (i j r : Bool) → r ≡ stores o → r ≡ true → j ≡ steps_pointer i n →
     s ≡ union p t → ((a : ℕ) → p a ≡ (j && (a == n))) → t ≡ targets pl i n f → s ≡ may_write pl f (reference o i n)
-writes_both s p t pl f o n i j r er yes ej hs hp ht =
-    let es : stores o ≡ true = sym er ∙ yes in
+writes_both s p t pl f o n i j r er has ej hs hp ht =
+    let es : stores o ≡ true = sym er ∙ has in
     fun_ext (λ v. ap (λ (x : Words). x v) hs ∙ ap (λ b. b || t v) (hp v ∙ ap (λ b. b && (v == n)) ej) ∙ ap (λ (x : Words). (steps_pointer i n && (v == n)) || x v) ht
     ∙ ap (λ b. (steps_pointer i n && (v == n)) || (b && targets pl i n f v)) (sym es) ∙ written_by pl f o i n v)
 
@@ -81,14 +81,14 @@ pub calls_nothing : (pl : Place) (f : Fact) (m : Meaning) → (kind_of m ≡ Mem
 calls_nothing pl f m h a = unless_memory (λ m. called pl f m a ≡ false) (λ w. refl) (λ w. refl) (λ o. refl) (λ d. refl) refl m h
 
 pub not_called : (pl : Place) (f : Fact) (o : Operation) (n : ℕ) (i r : Bool) → r ≡ calls o → r ≡ false → (a : ℕ) → called pl f (reference o i n) a ≡ false
-not_called pl f o n i r er no a = go o (sym er ∙ no)
+not_called pl f o n i r er lacks a = go o (sym er ∙ lacks)
   where
     go : (p : Operation) → calls p ≡ false → called pl f (reference p i n) a ≡ false
     go operation.Jms q = absurd (false≢true (sym q))
     go _ q = refl
 
 pub calls_targets : (t : Words) (pl : Place) (f : Fact) (o : Operation) (n : ℕ) (i r : Bool) → r ≡ calls o → r ≡ true → t ≡ targets pl i n f → t ≡ called pl f (reference o i n)
-calls_targets t pl f o n i r er yes ht = fun_ext (λ a. ap (λ (x : Words). x a) ht ∙ go o a (sym er ∙ yes))
+calls_targets t pl f o n i r er has ht = fun_ext (λ a. ap (λ (x : Words). x a) ht ∙ go o a (sym er ∙ has))
   where
     go : (p : Operation) (a : ℕ) → calls p ≡ true → targets pl i n f a ≡ called pl f (reference p i n) a
     go operation.Jms a q = refl

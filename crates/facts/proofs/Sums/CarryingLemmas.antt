@@ -1,24 +1,31 @@
 -- Sums of words by the carry with which they come.
-use Rattle.std.proofs.Common.{◌≡◌, ℕ, ◌+◌, ◌-◌, ◌*◌, ◌%◌, ◌<◌, ◌≤◌, ◌==◌, Bool, true, false, not, ◌&&◌, ◌||◌, List, refl, sym, ap, ◌∙◌, inl, inr, arith}
+use Rattle.std.proofs.Common.{◌≡◌, ℕ, ◌+◌, ◌-◌, ◌*◌, ◌<◌, ◌≤◌, ◌==◌, Bool, true, false, not, ◌&&◌, refl, sym, ap, ◌∙◌, inl, inr, arith}
 use Rattle.std.specs.Prelude.{nat_le, nat_lt}
 use Rattle.std.proofs.Math.Path.{fun_ext}
-use Rattle.std.proofs.lemmas.Bool.{lt-ltb, cases_lt, eq-eqb, eqb-true, true≢false}
-use Rattle.wordset.specs.Words.{Words, minus, all_words, nothing, between, meet, difference, shifted, some_below, IsFirstFrom, HasNoneFrom, IsGreatest}
+use Rattle.std.proofs.lemmas.Bool.Decides.{nat_tests}
+use Rattle.std.proofs.lemmas.Bool.{cases_lt, eq-eqb, eqb-true, true≢false}
+use Rattle.wordset.specs.Words.{Words, minus, all_words, nothing, between, meet, difference, shifted, some_below, IsFirstFrom, IsGreatest}
 use Rattle.wordset.proofs.Tests.{some_from, some_to, IsSome, both_ways, and_both, and_first, and_second}
 use Rattle.facts.specs.Sums.Additions.{sums_carrying}
 use Rattle.facts.specs.Sums.Shaped.{sums_with}
 
+le_to : (a b : ℕ) → a ≤ b → nat_le a b ≡ true
+le_to a b h = grind (arith, nat_tests)
+
+to_le : (a b : ℕ) → nat_le a b ≡ true → a ≤ b
+to_le a b e = grind (arith, nat_tests)
+
 in_row : (a b v : ℕ) → a ≤ v → v ≤ b → between a b v ≡ true
-in_row a b v h k = and_both (nat_le a v) (nat_le v b) (omega arith) (omega arith)
+in_row a b v h k = and_both (nat_le a v) (nat_le v b) (le_to a v h) (le_to v b k)
 
 row_low : (a b v : ℕ) → between a b v ≡ true → a ≤ v
-row_low a b v e = (let t : nat_le a v ≡ true = and_first (nat_le a v) (nat_le v b) e in omega arith)
+row_low a b v e = to_le a v (and_first (nat_le a v) (nat_le v b) e)
 
 below : (v : ℕ) → v < 4096 → nat_lt v 4096 ≡ true
-below v h = omega arith
+below v h = grind (arith, nat_tests)
 
 is_below : (v : ℕ) → nat_lt v 4096 ≡ true → v < 4096
-is_below v e = omega arith
+is_below v e = grind (arith, nat_tests)
 
 -- One word of a set and the sums with it that come without a carry.
 pub without_carry_of : (w : ℕ) (s : Words) → w < 4096 → meet (shifted s w) (between w 4095) ≡ sums_with 0 w s
@@ -170,7 +177,7 @@ from_least a w first = fun_ext (λ v. both_ways (between w 4095 v) (sums_carryin
     in_row w 4095 v (omega (arith, s, least)) (omega (arith, m.small)))))
   where
     row_high : (a b v : ℕ) → between a b v ≡ true → v ≤ b
-    row_high a b v e = (let t : nat_le v b ≡ true = and_second (nat_le a v) (nat_le v b) e in omega arith)
+    row_high a b v e = to_le v b (and_second (nat_le a v) (nat_le v b) e)
 
 -- And the greatest, which come with one.
 pub below_greatest : (a : Words) (w : ℕ) → IsGreatest a w → difference all_words (between w 4095) ≡ sums_carrying 1 a all_words

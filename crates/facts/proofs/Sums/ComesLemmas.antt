@@ -1,5 +1,5 @@
 -- Outcomes by whether they may come about.
-use Rattle.std.proofs.Common.{◌≡◌, ℕ, Bool, true, false, ◌&&◌, List, [], ◌∷◌, ◌++◌, refl, sym, ap, ◌∙◌}
+use Rattle.std.proofs.Common.{◌≡◌, ℕ, Bool, true, false, ◌&&◌, List, [], ◌∷◌, ◌++◌, refl, sym, ap, ◌∙◌, append_assoc, lit<}
 use Rattle.std.specs.Prelude.{if◌then◌else◌, map}
 use Rattle.std.proofs.Math.Path.{fun_ext}
 use Rattle.wordset.specs.Words.{Words, all_words, one, shifted, has_some, has_link}
@@ -10,6 +10,7 @@ use Rattle.domain.specs.Sums.Chains.{after_count}
 use Rattle.domain.specs.Sums.Narrowing.{words_known}
 use Rattle.domain.specs.Sums.Moves.{counted, moved_relations}
 use Rattle.facts.specs.Sums.Outcomes.{Successor, Goes, is_alive, alive, ac_of, given, goes}
+use Rattle.wordset.proofs.Tests.{some_from}
 use Rattle.facts.proofs.OutcomeLemmas.{has_all}
 
 -- by the rules of equations all of these are asked
@@ -73,6 +74,10 @@ counted_is pl y f e q =
 pub both_are : {a b c d : List Successor} → a ≡ b → c ≡ d → a ++ c ≡ b ++ d
 both_are {a} {b} {c} {d} h k = ap (λ x. x ++ c) h ∙ ap (λ x. b ++ x) k
 
+pub two_pairs : (a b c d x y z w : List Successor) → a ++ b ≡ x ++ y → c ++ d ≡ z ++ w → a ++ (b ++ (c ++ d)) ≡ x ++ (y ++ (z ++ w))
+two_pairs a b c d x y z w h k =
+    sym (append_assoc a b (c ++ d)) ∙ ap (λ t. t ++ (c ++ d)) h ∙ ap (λ t. (x ++ y) ++ t) k ∙ append_assoc x y (z ++ w)
+
 pub none_after : {xs ys zs : List Successor} → xs ≡ zs → ys ≡ [] → xs ++ ys ≡ zs
 none_after {xs} {ys} {zs} h e = ap (λ y. xs ++ y) e ∙ go xs ∙ h
   where
@@ -80,11 +85,11 @@ none_after {xs} {ys} {zs} h e = ap (λ y. xs ++ y) e ∙ go xs ∙ h
     go [] = refl
     go (o ∷ os) = ap (λ r. o ∷ r) (go os)
 
-pub none_behind : {xs ys us vs zs : List Successor} → xs ++ ys ≡ zs → us ≡ [] → vs ≡ [] → xs ++ (ys ++ (us ++ vs)) ≡ zs
-none_behind {xs} {ys} {us} {vs} h u v = ap (λ t. xs ++ (ys ++ t)) (ap (λ t. t ++ vs) u ∙ v) ∙ ap (λ t. xs ++ t) (none_after {ys} refl refl) ∙ h
+pub none_behind : (xs ys : List Successor) {us vs zs : List Successor} → xs ++ ys ≡ zs → us ≡ [] → vs ≡ [] → xs ++ (ys ++ (us ++ vs)) ≡ zs
+none_behind xs ys {us} {vs} h u v = ap (λ t. xs ++ (ys ++ t)) (ap (λ t. t ++ vs) u ∙ v) ∙ ap (λ t. xs ++ t) (none_after {xs = ys} {ys = []} {zs = ys} refl refl) ∙ h
 
 pub none_alone : {xs ys us vs zs : List Successor} → xs ≡ zs → ys ≡ [] → us ≡ [] → vs ≡ [] → xs ++ (ys ++ (us ++ vs)) ≡ zs
-none_alone {xs} {ys} h y u v = none_behind {xs} {ys} (none_after h y) u v
+none_alone {xs} {ys} h y u v = none_behind xs ys (none_after {xs = xs} {ys = ys} h y) u v
 
 -- targets are there where all words are
 pub all_reached : {b : Bool} → b ≡ true → b ≡ has_some all_words
@@ -102,3 +107,7 @@ test_passes true true true d o e y z = z
 test_passes true true false d o e y z = absurd (let q : false ≡ true = sym e ∙ y in cc)
 test_passes true false c d o e y z = absurd (let q : false ≡ true = sym e ∙ y in cc)
 test_passes false b c d o e y z = absurd (let q : false ≡ true = sym e ∙ y in cc)
+
+-- there is a word that is 0
+pub zero_there : true ≡ has_some (one 0)
+zero_there = sym (some_from 4096 (one 0) 0 (lit< tt) refl)

@@ -1,7 +1,6 @@
 -- What words of group 3 and device words make of a fact, and the outcomes of a word by its kind.
-use Rattle.std.proofs.Common.{◌≡◌, ℕ, Option, Some, None, List, refl, sym, ap, ◌∙◌}
+use Rattle.std.proofs.Common.{◌≡◌, ℕ, Some, None, List, sym, ap, ◌∙◌}
 use Rattle.std.specs.Option.{option_map}
-use Rattle.instruct.specs.declared.Profile.{Profile}
 use Rattle.instruct.specs.declared.Instruction.TheVariants.{Operate3, Iot}
 use Rattle.instruct.specs.declared.devices.DeviceOperation.{DeviceOperation}
 use Rattle.instruct.specs.Devices.{device_operation}

@@ -1,5 +1,5 @@
 -- Relations that are gone through one by one: what each of them adds to a fact, or puts behind others.
-use Rattle.std.proofs.Common.{◌≡◌, ℕ, zero, suc, ◌+◌, ◌*◌, ◌<◌, ◌≤◌, Bool, true, false, List, [], ◌∷◌, ◌++◌, map, drop, get_or, length, refl, sym, ap, ◌∙◌, subst, append_assoc, arith}
+use Rattle.std.proofs.Common.{◌≡◌, ℕ, zero, suc, ◌+◌, ◌<◌, ◌≤◌, Bool, true, false, List, [], ◌∷◌, ◌++◌, map, drop, get_or, length, refl, sym, ap, ◌∙◌, subst, append_assoc, arith}
 use Rattle.std.specs.Prelude.{if◌then◌else◌, flat_map, filter}
 use Rattle.std.proofs.Math.ListN.{drop_of_length-le}
 use Rattle.std.proofs.lemmas.List.{at_drop_more}
@@ -42,12 +42,6 @@ pub append_nothing : {A : Type 0} (xs : List A) → xs ++ [] ≡ xs
 append_nothing [] = refl
 append_nothing (x ∷ xs) = ap (λ (r : List _). x ∷ r) (append_nothing xs)
 
--- Each of them stands there.
-pub all_put_on : {A B C : Type 0} (h : A → B) (g : B → List C) (xs : List A) (i : ℕ) (made begun : List C) → length xs ≤ i →
-    made ++ flat_map g (map h (drop i xs)) ≡ begun → made ≡ begun
-all_put_on h g xs i made begun past e =
-    sym (ap (λ (os : List _). made ++ flat_map g (map h os)) (drop_of_length-le xs {i = i} past) ∙ append_nothing made) ∙ e
-
 -- Each of the relations has at most three terms.
 pub few_terms : {A : Type 0} (h : A → Relation) (xs : List A) (i : ℕ) (x : A) → i < length xs → x ≡ get_or xs i x → HaveFewTerms (map h xs) → length (h x).sum ≤ 3
 few_terms h [] i x lt is t = absurd (omega arith)
@@ -57,11 +51,11 @@ few_terms h (y ∷ ys) (suc i) x lt is t = few_terms h ys i x (omega arith) is t
 -- A filter of what a list makes, piece by piece.
 pub filter_append : {A : Type 0} (p : A → Bool) (xs ys : List A) → filter p (xs ++ ys) ≡ filter p xs ++ filter p ys
 filter_append p [] ys = refl
-filter_append p (x ∷ xs) ys = go (p x)
+filter_append {A} p (x ∷ xs) ys = go (p x) (filter_append p xs ys)
   where
-    go : (b : Bool) → (if b then x ∷ filter p (xs ++ ys) else filter p (xs ++ ys)) ≡ ((if b then x ∷ filter p xs else filter p xs) ++ filter p ys)
-    go true = ap (λ (r : List _). x ∷ r) (filter_append p xs ys)
-    go false = filter_append p xs ys
+    go : (b : Bool) → filter p (xs ++ ys) ≡ filter p xs ++ filter p ys → (if b then x ∷ filter p (xs ++ ys) else filter p (xs ++ ys)) ≡ ((if b then x ∷ filter p xs else filter p xs) ++ filter p ys)
+    go true h = ap (λ (r : List A). x ∷ r) h
+    go false h = h
 
 pub flat_append : {A B : Type 0} (g : A → List B) (xs ys : List A) → flat_map g (xs ++ ys) ≡ flat_map g xs ++ flat_map g ys
 flat_append g [] ys = refl

@@ -1,8 +1,8 @@
 -- What cells may hold, and the targets of a reference, as code finds them.
-use Rattle.std.proofs.Common.{◌≡◌, ℕ, ◌+◌, ◌<◌, ◌==◌, Bool, true, false, not, ◌&&◌, ◌||◌, Option, Some, None, refl, sym, ap, ◌∙◌, subst}
+use Rattle.std.proofs.Common.{◌≡◌, ℕ, ◌+◌, ◌<◌, true, false, not, ◌&&◌, Some, refl, ap, ◌∙◌, subst}
 use Rattle.std.proofs.Math.Path.{fun_ext}
 use Rattle.std.proofs.lemmas.Bool.{eq-eqb}
-use Rattle.wordset.specs.Words.{Words, one, only, some_below, shifted}
+use Rattle.wordset.specs.Words.{Words, only, some_below, shifted}
 use Rattle.wordset.proofs.Tests.{both_ways, some_from, IsSome, some_to, and_both, and_first, and_second}
 use Rattle.wordset.proofs.Firsts.{IsOnly, only_word}
 use Rattle.declaration.specs.Declaration.{Declaration}

@@ -1,33 +1,48 @@
 -- What the rows TAD, DCA and those of groups 1 and 2 make of relations and chains, told piece by piece.
-use Rattle.std.proofs.Common.{◌≡◌, ℕ, ◌+◌, ◌<◌, ◌≤◌, ◌==◌, Bool, true, false, not, ◌&&◌, ◌||◌, List, inl, inr, [], ◌∷◌, ◌++◌, map, drop, get_or, length, refl, sym, ap, ◌∙◌, append_assoc, arith}
-use Rattle.std.specs.Prelude.{if◌then◌else◌, flat_map, filter, nat_lt, Option, IsTrue, ◌↔◌}
-use Rattle.std.proofs.lemmas.Bool.{eqb-true, cases_lt}
+use Rattle.std.proofs.Common.{◌≡◌, ℕ, ◌+◌, ◌<◌, ◌≤◌, ◌==◌, Bool, true, false, not, ◌&&◌, ◌||◌, List, inl, inr, [], ◌∷◌, ◌++◌, map, drop, get_or, length, refl, sym, ap, ◌∙◌, arith}
+use Rattle.std.specs.Prelude.{if◌then◌else◌, flat_map, filter, nat_lt, Option, None, Some, IsTrue, ◌↔◌}
+use Rattle.std.proofs.lemmas.Bool.{eqb-true, eq-eqb, cases_lt}
 use Rattle.std.specs.List.{list_any}
 use Rattle.std.proofs.Math.ListN.{drop_of_length-le}
-use Rattle.std.proofs.lemmas.List.{at_drop_more}
 use Rattle.instruct.specs.Bits.{has_bit}
-use Rattle.wordset.specs.Words.{Words, one, only, sums, toggled, carries, all_words, shifted, some_below, has_some, images}
+use Rattle.instruct.specs.Operates.{operate1_of}
+use Rattle.wordset.specs.Words.{Words, one, only, sums, toggled, carries, all_words, shifted, some_below, has_some, images, with_word}
 use Rattle.wordset.specs.Operate.{accumulator_after}
 use Rattle.wordset.specs.Operate as said
-use Rattle.wordset.proofs.Tests.{some_from, some_to, IsSome, both_ways, and_both, and_second}
+use Rattle.wordset.proofs.Tests.{some_from, some_to, IsSome, both_ways, and_both, and_first, and_second}
 use Rattle.wordset.specs.Lanes.{words}
-use Rattle.wordset.proofs.SetLemmas.{words_past, all_past}
+use Rattle.wordset.proofs.SetLemmas.{words_past, all_past, lt_to}
 use Rattle.wordset.proofs.LaneBits.{or_false}
 use Rattle.wordset.proofs.Cleared.{cleared_same}
 use Rattle.std.proofs.Math.Path.{fun_ext}
 use Rattle.domain.specs.Facts.{Location, Ac, Cell, same, is_outside}
-use Rattle.domain.specs.Sums.Terms.{Term, Sum, Summand, sum_of_name, difference_of, speaks_of, name_of_term}
+use Rattle.domain.specs.Sums.Terms.{Term, Holding, Sum, Summand, sum_of_name, difference_of, speaks_of, name_of_term, coefficient_in}
 use Rattle.domain.specs.Sums.Chains.{Step, Chain, longer, all_longer}
 use Rattle.domain.specs.Sums.Facts.{Relation, Fact, Place, Rules, OfSums, OfEquations}
-use Rattle.domain.specs.Sums.Adding.{with_set, with_name, set_of_sum, adding_all}
+use Rattle.domain.specs.Sums.Adding.{times, with_set, with_name, set_of_sum, adding, adding_all}
 use Rattle.domain.specs.Sums.Narrowing.{asked_by}
-use Rattle.domain.specs.Sums.Moves.{free_of, chains_free_of, without_relations, taking}
-use Rattle.facts.specs.Sums.Additions.{has_ac, if_without_ac, equations_after_tad, after_tad, without_sums, summed, complemented, incremented, turned}
-use Rattle.facts.specs.Sums.Stores.{has_all_words, after_store, stored, begun_by, all_begun}
-use Rattle.facts.specs.Sums.Shaped.{told, begun_beside, if_stays, images_from}
+use Rattle.domain.specs.Sums.Moves.{counted_sum, has_behind, moved_relation, free_of, chains_free_of, without_relations, taking}
+use Rattle.facts.specs.Sums.Additions.{names, has_ac, if_without_ac, equations_after_tad, after_tad, without_sums, summed, complemented, incremented, turned}
+use Rattle.facts.specs.Sums.Stores.{has_all_words, after_store, stored, begun_by, all_begun, has_chain_on}
+use Rattle.facts.specs.Sums.Shaped.{told, begun_at, begun_beside, if_stays, images_from}
 use Rattle.facts.specs.Sums.Outcomes.{with_link, added}
 use Rattle.facts.specs.Sums.Operations.{ac_after, link_after, images_under, tested, cleared2}
+use Rattle.facts.proofs.EntailLemmas.{drop_item}
 use Rattle.facts.proofs.Sums.EachRelation.{adding_append, put_on, append_nothing, filter_append, flat_append, map_append}
+
+-- ---- names of which sums speak
+
+naming_drop : {A : Type 0} (f : A → Summand) (n : Location) (xs : List A) (i : ℕ) (x : A) → i < length xs → x ≡ get_or xs i x →
+    names n (map f (drop i xs)) ≡ (same (name_of_term (f x).term) n || names n (map f (drop (i + 1) xs)))
+naming_drop f n xs i x lt is = ap (λ ys. names n (map f ys)) (drop_item xs i x lt is)
+
+pub naming_found : {A : Type 0} (f : A → Summand) (n : Location) (xs : List A) (i : ℕ) (x : A) → i < length xs → x ≡ get_or xs i x → same (name_of_term (f x).term) n ≡ true →
+    names n (map f (drop i xs)) ≡ names n (map f xs) → true ≡ names n (map f xs)
+naming_found f n xs i x lt is has h = sym (ap (λ b. b || names n (map f (drop (i + 1) xs))) has) ∙ sym (naming_drop f n xs i x lt is) ∙ h
+
+pub naming_step : {A : Type 0} (f : A → Summand) (n : Location) (xs : List A) (i : ℕ) (x : A) → i < length xs → x ≡ get_or xs i x → same (name_of_term (f x).term) n ≡ false →
+    names n (map f (drop i xs)) ≡ names n (map f xs) → names n (map f (drop (i + 1) xs)) ≡ names n (map f xs)
+naming_step f n xs i x lt is other h = sym (ap (λ b. b || names n (map f (drop (i + 1) xs))) other) ∙ sym (naming_drop f n xs i x lt is) ∙ h
 
 -- ---- relations that are put behind others, and chains
 
@@ -107,6 +122,31 @@ begun_each p chains links (r ∷ rs) =
     ∙ map_append (longer p) (begun_beside chains (begun_by links r.sum r.set)) (begun_beside chains (all_begun links rs))
     ∙ ap (λ (x : List Chain). all_longer p (begun_beside chains (begun_by links r.sum r.set)) ++ x) (begun_each p chains links rs)
 
+-- The one that begins on a cell, where none is on it yet.
+pub begun_one : (p : Step) (chains : List Chain) (f new : Fact) (c : Chain) (xs : List Chain) (made : Chain) (x k : ℕ) (links : Words) → xs ≡ begun_at (Some x) links (Some k) →
+    c ≡ record { cell = x; more = k; link = links; steps = [] } → has_chain_on x chains ≡ false → made ≡ longer p c → new ≡ record f { chains = f.chains ++ made ∷ [] } →
+    new ≡ record f { chains = f.chains ++ all_longer p (begun_beside chains xs) }
+begun_one p chains f new c xs made x k links is ec out em en =
+    let first : Chain = record { cell = x; more = k; link = links; steps = [] } in
+    en ∙ ap (λ (d : Chain). record f { chains = f.chains ++ d ∷ [] }) (em ∙ ap (longer p) ec)
+    ∙ ap (λ (b : Bool). record f { chains = f.chains ++ all_longer p (if not b then first ∷ [] else []) }) (sym out)
+    ∙ ap (λ (cs : List Chain). record f { chains = f.chains ++ all_longer p (begun_beside chains cs) }) (sym is)
+
+-- ---- relations that move by the words that were added to a cell
+
+pub moved_unknown : (a : ℕ) (by : Words) (sum : Sum) (set found : Words) (f new : Fact) (o : Option ℕ) → o ≡ None → o ≡ only by → has_behind a sum ≡ false →
+    found ≡ sums set (times (coefficient_in (Holding (Cell a)) sum) by) → new ≡ adding OfSums (told sum found) f → new ≡ adding_all OfSums (moved_relation a by (only by) (told sum set)) f
+moved_unknown a by sum set found f new o none is out ef en =
+    en ∙ ap (λ (w : Words). adding OfSums (told sum w) f) ef
+    ∙ ap (λ (b : Bool). adding_all OfSums (if b then [] else told sum (sums set (times (coefficient_in (Holding (Cell a)) sum) by)) ∷ []) f) (sym out)
+    ∙ ap (λ (q : Option ℕ). adding_all OfSums (moved_relation a by q (told sum set)) f) (sym none ∙ is)
+
+pub moved_known : (a : ℕ) (by : Words) (sum counted : Sum) (set found : Words) (f new : Fact) (o : Option ℕ) (d : ℕ) → o ≡ Some d → o ≡ only by → counted ≡ counted_sum a d sum →
+    found ≡ sums set (times (coefficient_in (Holding (Cell a)) sum) by) → new ≡ adding OfSums (told counted found) f → new ≡ adding_all OfSums (moved_relation a by (only by) (told sum set)) f
+moved_known a by sum counted set found f new o d some is ec ef en =
+    en ∙ ap (λ (s : Sum). adding OfSums (told s found) f) ec ∙ ap (λ (w : Words). adding OfSums (told (counted_sum a d sum) w) f) ef
+    ∙ ap (λ (q : Option ℕ). adding_all OfSums (moved_relation a by q (told sum set)) f) (sym some ∙ is)
+
 -- ---- relations of neither the accumulator nor a cell
 
 or_not : (a b : Bool) → not (a || b) ≡ (not a && not b)
@@ -127,12 +167,12 @@ filter_twice : (p q r : Relation → Bool) → ((x : Relation) → r x ≡ (q x 
 filter_twice p q r h [] = refl
 filter_twice p q r h (x ∷ xs) =
     ap (λ b. if b then x ∷ filter r xs else filter r xs) (h x)
-    ∙ go (q x) (p x) refl
+    ∙ go (q x) (p x) refl (filter_twice p q r h xs)
   where
-    go : (a b : Bool) → p x ≡ b → (if a && b then x ∷ filter r xs else filter r xs) ≡ filter p (if a then x ∷ filter q xs else filter q xs)
-    go true true e = rw e (ap (λ (ys : List Relation). x ∷ ys) (filter_twice p q r h xs))
-    go true false e = rw e (filter_twice p q r h xs)
-    go false b e = filter_twice p q r h xs
+    go : (a b : Bool) → p x ≡ b → filter r xs ≡ filter p (filter q xs) → (if a && b then x ∷ filter r xs else filter r xs) ≡ filter p (if a then x ∷ filter q xs else filter q xs)
+    go true true e same = rw e (ap (λ (ys : List Relation). x ∷ ys) same)
+    go true false e same = rw e same
+    go false b e same = same
 
 -- Those that a store in the one cell leaves.
 pub free_of_both : (names : Location → Bool) (y : ℕ) → ((n : Location) → names n ≡ (same n (Cell y) || same n Ac)) → (rs : List Relation) →
@@ -155,7 +195,7 @@ changing_one y small (Cell a) = go (a == y) refl
     no false = refl
 
     go : (b : Bool) → (a == y) ≡ b → not (not (nat_lt a 4096 && (a == y))) ≡ ((a == y) || false)
-    go true e = (let is : a ≡ y = eqb-true a y e in let lt : nat_lt a 4096 ≡ true = omega (arith, is, small) in rw (e, lt) refl)
+    go true e = (let is : a ≡ y = eqb-true a y e in let lt : nat_lt a 4096 ≡ true = lt_to a (omega (arith, is, small)) in rw (e, lt) refl)
     go false e = rw e (no (nat_lt a 4096))
 
 -- ---- TAD and DCA as wholes
@@ -261,6 +301,34 @@ one_is_enough w l k a e some = fun_ext (λ v. both_ways (images_from w l (one 0)
         some_from 4096 (λ x. one 0 x && test v x) 0 (omega arith)
         (and_both (one 0 0) (test v 0) refl (sym (same_test v s.at) ∙ and_second (a s.at) (test v s.at) s.holds))
 
+ac_of_pair : (w x k : ℕ) (r : ℕ × ℕ) → r ≡ operate1_of w (x, k) → ac_after w x k ≡ r.0
+unfolding ac_after
+ac_of_pair w x k r e = sym (ap (λ (s : ℕ × ℕ). s.0) e)
+
+link_of_pair : (w x k : ℕ) (r : ℕ × ℕ) → r ≡ operate1_of w (x, k) → link_after w x k ≡ r.1
+unfolding link_after
+link_of_pair w x k r e = sym (ap (λ (s : ℕ × ℕ). s.1) e)
+
+-- What it makes of one accumulator is put in where the link comes out so, and else nothing.
+pub image_put : (w x k l : ℕ) (r : ℕ × ℕ) (old new : Words) → r ≡ operate1_of w (x, k) → (r.1 == l) ≡ true → new ≡ with_word r.0 old →
+    (v : ℕ) → new v ≡ (old v || ((ac_after w x k == v) && (link_after w x k == l)))
+image_put w x k l r old new is same put v =
+    let ac : ac_after w x k ≡ r.0 = ac_of_pair w x k r is in
+    let link : link_after w x k ≡ l = link_of_pair w x k r is ∙ eqb-true r.1 l same in
+    ap (λ (s : Words). s v) put ∙ ap (λ b. old v || b) (both_ways (v == r.0) ((ac_after w x k == v) && (link_after w x k == l))
+    (λ e. and_both (ac_after w x k == v) (link_after w x k == l) (eq-eqb (ac_after w x k) v (ac ∙ sym (eqb-true v r.0 e))) (eq-eqb (link_after w x k) l link))
+    (λ e. eq-eqb v r.0 (sym (eqb-true (ac_after w x k) v (and_first (ac_after w x k == v) (link_after w x k == l) e)) ∙ ac)))
+
+pub image_left : (w x k l : ℕ) (r : ℕ × ℕ) (old : Words) → r ≡ operate1_of w (x, k) → (r.1 == l) ≡ false →
+    (v : ℕ) → old v ≡ (old v || ((ac_after w x k == v) && (link_after w x k == l)))
+image_left w x k l r old is other v =
+    sym (ap (λ n. old v || ((ac_after w x k == v) && (n == l))) (link_of_pair w x k r is) ∙ ap (λ b. old v || ((ac_after w x k == v) && b)) other ∙ go (old v) (ac_after w x k == v))
+  where
+    go : (a b : Bool) → (a || (b && false)) ≡ a
+    go true b = refl
+    go false true = refl
+    go false false = refl
+
 -- Both links together.
 pub under_both : (w l : ℕ) (a links : Words) (v : ℕ) → ((links 1 && images_from w l a 1 v) || (links 0 && images_from w l a 0 v)) ≡ images_under w l a links v
 unfolding some_below
@@ -268,7 +336,7 @@ under_both w l a links v = ap (λ b. (links 1 && images_from w l a 1 v) || b) (s
 
 -- A set that isn't empty has a word.
 pub some_there : (a : Words) (empty : Bool) → empty ≡ not (has_some a) → empty ≡ false → has_some a ≡ true
-some_there a empty is no = go (has_some a) (sym is ∙ no)
+some_there a empty is not_so = go (has_some a) (sym is ∙ not_so)
   where
     go : (b : Bool) → not b ≡ false → b ≡ true
     go true e = refl
@@ -286,8 +354,8 @@ turned_one w r = go (has_bit 5 w)
 
 -- One that CMA takes away is gone.
 pub turned_gone : (w : ℕ) (r m : Relation) (s : Bool) → s ≡ false → if_stays s m ≡ (if has_bit 5 w then complemented r else r ∷ []) → [] ≡ turned w (r ∷ [])
-turned_gone w r m s no e =
-    let none : [] ≡ (if has_bit 5 w then complemented r else r ∷ []) = sym (ap (λ b. if_stays b m) no) ∙ e in
+turned_gone w r m s gone e =
+    let none : [] ≡ (if has_bit 5 w then complemented r else r ∷ []) = sym (ap (λ b. if_stays b m) gone) ∙ e in
     go (has_bit 0 w) ∙ ap (λ (x : List Relation). if has_bit 0 w then flat_map incremented x else x) none ∙ sym (turned_one w r)
   where
     go : (b : Bool) → [] ≡ (if b then flat_map incremented [] else [])
@@ -297,8 +365,8 @@ turned_gone w r m s no e =
 -- One that it leaves is counted up by IAC.
 pub turned_on : (w : ℕ) (r m last : Relation) (s t : Bool) → s ≡ true → if_stays s m ≡ (if has_bit 5 w then complemented r else r ∷ []) → if_stays t last ≡ (if has_bit 0 w then incremented m else m ∷ []) →
     if_stays t last ≡ turned w (r ∷ [])
-turned_on w r m last s t yes e d =
-    let some : m ∷ [] ≡ (if has_bit 5 w then complemented r else r ∷ []) = sym (ap (λ b. if_stays b m) yes) ∙ e in
+turned_on w r m last s t stays e d =
+    let some : m ∷ [] ≡ (if has_bit 5 w then complemented r else r ∷ []) = sym (ap (λ b. if_stays b m) stays) ∙ e in
     d ∙ go (has_bit 0 w) ∙ ap (λ (x : List Relation). if has_bit 0 w then flat_map incremented x else x) some ∙ sym (turned_one w r)
   where
     go : (b : Bool) → (if b then incremented m else m ∷ []) ≡ (if b then flat_map incremented (m ∷ []) else m ∷ [])
@@ -312,11 +380,11 @@ stays_unless false r = refl
 
 -- Those that stay and are kept by the rules.
 pub kept_none : (k : Relation → Bool) (s : Bool) (r : Relation) (xs : List Relation) → s ≡ false → if_stays s r ≡ xs → [] ≡ filter k xs
-kept_none k s r xs no e = ap (filter k) (sym (ap (λ b. if_stays b r) no) ∙ e)
+kept_none k s r xs gone e = ap (filter k) (sym (ap (λ b. if_stays b r) gone) ∙ e)
 
 pub kept_if : (k : Relation → Bool) (s b : Bool) (r : Relation) (xs : List Relation) → s ≡ true → if_stays s r ≡ xs → b ≡ k r → if_stays b r ≡ filter k xs
-kept_if k s b r xs yes e h =
-    go b h ∙ ap (filter k) (sym (ap (λ b. if_stays b r) yes) ∙ e)
+kept_if k s b r xs stays e h =
+    go b h ∙ ap (filter k) (sym (ap (λ b. if_stays b r) stays) ∙ e)
   where
     go : (b : Bool) → b ≡ k r → if_stays b r ≡ filter k (r ∷ [])
     go true h = rw (sym h) refl
@@ -361,7 +429,7 @@ both_hold false b c e d = absurd (cc)
 
 -- A set that is empty has no word.
 pub none_there : (a : Words) (empty : Bool) → empty ≡ not (has_some a) → empty ≡ true → has_some a ≡ false
-none_there a empty is yes = go (has_some a) (sym is ∙ yes)
+none_there a empty is so = go (has_some a) (sym is ∙ so)
   where
     go : (b : Bool) → not b ≡ true → b ≡ false
     go false e = refl
@@ -379,20 +447,21 @@ all_there a e = ap has_all_words e ∙ whole
         go true q =
             let t : IsSome 4096 (λ v. not (all_words v)) = some_to 4096 (λ v. not (all_words v)) q in
             let small : t.at < 4096 = t.small in
-            let has : all_words t.at ≡ true = omega arith in
+            let has : all_words t.at ≡ true = lt_to t.at small in
             sym (sym t.holds ∙ ap not has)
 
 pub not_all_there : (lanes : List ℕ) (r : Bool) → r ≡ false → (IsTrue r ↔ (words lanes ≡ all_words)) → has_all_words (words lanes) ≡ false
-not_all_there lanes r no told = go (some_below 4096 (λ v. not (words lanes v))) refl
+not_all_there lanes r not_so when = go (some_below 4096 (λ v. not (words lanes v))) refl
   where
     each : some_below 4096 (λ v. not (words lanes v)) ≡ false → (v : ℕ) → v < 4096 → (b : Bool) → words lanes v ≡ b → b ≡ true
     each q v h true e = refl
     each q v h false e = sym q ∙ some_from 4096 (λ v. not (words lanes v)) v h (ap not e)
+
     go : (b : Bool) → some_below 4096 (λ v. not (words lanes v)) ≡ b → not b ≡ false
     go true q = refl
     go false q =
         let whole : words lanes ≡ all_words = fun_ext (λ v. elim (cases_lt v 4096) [
-          | inl l ↦ (let has : all_words v ≡ true = omega arith in each q v l (words lanes v) refl ∙ sym has)
+          | inl l ↦ (let has : all_words v ≡ true = lt_to v l in each q v l (words lanes v) refl ∙ sym has)
           | inr g ↦ words_past lanes v g ∙ sym (all_past v g)
         ]) in
-        sym (told.1 whole) ∙ no
+        sym (when.1 whole) ∙ not_so

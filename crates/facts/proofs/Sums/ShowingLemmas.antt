@@ -1,9 +1,9 @@
 -- Entailment part by part: one entry, relation or chain after another.
-use Rattle.std.proofs.Common.{◌≡◌, ℕ, ◌+◌, ◌<◌, ◌≤◌, Bool, true, false, ◌&&◌, ◌||◌, ◌==◌, List, [], ◌∷◌, map, drop, get_or, length, refl, sym, ap, ◌∙◌, subst, arith, inl, inr, Option, Some, None}
-use Rattle.std.specs.Prelude.{IsTrue, ◌↔◌, ◌⊎◌, if◌then◌else◌}
+use Rattle.std.proofs.Common.{◌≡◌, ℕ, ◌+◌, ◌<◌, ◌≤◌, Bool, true, false, ◌&&◌, ◌||◌, ◌==◌, List, [], ◌∷◌, ◌++◌, map, drop, get_or, length, refl, sym, ap, ◌∙◌, subst, arith, inl, inr, Option, Some, None}
+use Rattle.std.specs.Prelude.{IsTrue, ◌↔◌, ◌⊎◌, if◌then◌else◌, flat_map}
+use Rattle.std.specs.List.{list_all}
 use Rattle.std.proofs.lemmas.Bool.{and_from, and_parts, cond_both, eqb-true, eq-eqb, true≢false, false≢true, cases_eq, cases_lt, ne_eqb}
-use Rattle.std.proofs.lemmas.List.{drop_more}
-use Rattle.wordset.specs.Words.{Words, IsWithin, SameWords, IsLinkWithin, meet, minus, plus, only, some_below}
+use Rattle.wordset.specs.Words.{Words, IsWithin, SameWords, IsLinkWithin, meet, plus, some_below}
 use Rattle.wordset.proofs.SetLemmas.{lt_to, words_past}
 use Rattle.wordset.specs.Lanes.{words}
 use Rattle.wordset.specs.Links.{links_of}
@@ -11,23 +11,22 @@ use Rattle.wordset.specs.declared.links.Links.{Links}
 use Rattle.processor.specs.Runs.{Image}
 use Rattle.domain.specs.Facts.{Location, Ac, Cell, same}
 use Rattle.domain.specs.Statements.{TrackedCell, tracked}
-use Rattle.domain.specs.Sums.Terms.{Summand, Sum, same_term, same_sum, difference_of}
+use Rattle.domain.specs.Sums.Terms.{Summand, Sum, same_term, same_sum}
 use Rattle.domain.specs.Sums.Shapes.{Spelled, spelled}
 use Rattle.domain.specs.Sums.Facts.{Relation, Fact, Place, Rules, OfEquations, OfSums}
 use Rattle.domain.specs.Sums.Adding.{adding, adding_all, with_shape_in, with_spelled_in, with_term_in, is_kept, times}
 use Rattle.domain.specs.Sums.Terms.{Term, Holding, Behind}
-use Rattle.domain.specs.Sums.Narrowing.{narrowed, words_by, words_known}
+use Rattle.domain.specs.Sums.Narrowing.{narrowed, parts_of, parts_of_chain, links_of_chain, words_by, words_known}
 use Rattle.domain.specs.Sums.FactInCode.{names_words}
 use Rattle.domain.proofs.ChainLemmas.{two_links}
 use Rattle.domain.proofs.Sums.SumLemmas.{same_name, same_is}
-use Rattle.domain.specs.Sums.Chains.{Chain, gives, after_steps, is_pair_of}
+use Rattle.domain.specs.Sums.Chains.{Chain, gives, after_steps}
 use Rattle.domain.specs.Sums.ChainsInCode.{gives_from}
-use Rattle.domain.specs.Sums.InCode.{summand_at}
 use Rattle.domain.specs.Sums.Knowing.{said_of}
 use Rattle.domain.specs.Sums.Adding.{set_of_sum}
-use Rattle.facts.specs.Sums.Entailment.{Among, EachGives, KnowsAll, KnowsBy, ShowsChain, ShowsChains, ShowsDifference, Entails}
-use Rattle.facts.specs.Sums.Entailing.{EachWithin, EntailsRegisters, GivesIfAllowed, GivesAllowed, ShowsOfNames}
-use Rattle.facts.proofs.EntailLemmas.{not_true, not_both, drop_item, none_is, some_is}
+use Rattle.facts.specs.Sums.Entailment.{Among, EachGives, KnowsAll, KnowsBy, ShowsChain, ShowsChains, Entails}
+use Rattle.facts.specs.Sums.Entailing.{EachWithin, EntailsRegisters, GivesIfAllowed, GivesAllowed}
+use Rattle.facts.proofs.EntailLemmas.{not_true, drop_item}
 
 -- Lists of which each member has a property, in code and as they're meant.
 pub each_step : {A : Type 0} {B : Type 0} (f : A → B) (P : List B → Type 0) (p : B → Type 0) → ((b : B) (bs : List B) → P (b ∷ bs) → p b × P bs) → ((b : B) (bs : List B) → p b × P bs → P (b ∷ bs)) →
@@ -96,7 +95,9 @@ added_less rules (r ∷ rs) f n v h = spelled_less rules (spelled r.sum) r.set f
 
 narrowed_less : (image : Image) (f : Fact) (n : Location) (v : ℕ) → (narrowed image f).set n v ≡ true → f.set n v ≡ true
 unfolding narrowed
-narrowed_less image f n v h = added_less OfSums _ _ n v h
+narrowed_less image f n v h =
+    added_less OfSums (flat_map (λ (r : Relation). parts_of image f r.sum r.set) f.relations ++ flat_map (λ (c : Chain). parts_of_chain f c) f.chains)
+    (record f { link = λ l. f.link l && list_all (λ (c : Chain). links_of_chain f c l) f.chains }) n v h
 
 -- a set as it stands shows what it is when narrowed
 pub known_less : (pl : Place) (f : Fact) (n : Location) (v : ℕ) → words_known pl f n v ≡ true → f.set n v ≡ true
@@ -318,34 +319,58 @@ said_given image f [] lt v h = absurd (omega (arith, lt))
 said_given image f (s ∷ []) lt v h = absurd (omega (arith, lt))
 said_given image f (s ∷ t ∷ ts) lt v h = (and_parts _ _ h).0
 
--- the difference of two names
-names_same : (m n x y : Location) → difference_of m n ≡ difference_of x y → (m ≡ x) × (n ≡ y)
-names_same m n x y e = (same_name m x (and_parts _ _ h).0, same_name n y (and_parts _ _ (and_parts _ _ h).1).0)
-  where
-    names : Sum → Bool
-    names (s ∷ t ∷ ts) = same_term s.term (Holding x) && (same_term t.term (Holding y) && true)
-    names _ = false
+-- sets that are the same by two names
+pub links_as : (a b c d : Words) → a ≡ c → b ≡ d → IsLinkWithin c d → IsLinkWithin a b
+links_as a b c d e f h = subst (λ (s : Words). IsLinkWithin a s) (sym f) (subst (λ (s : Words). IsLinkWithin s d) (sym e) h)
 
-    h : (same m x && (same n y && true)) ≡ true
-    h = ap names e ∙ and_from _ _ (same_name_self x) (and_from _ _ (same_name_self y) refl)
+pub within_as : (a b c d : Words) → a ≡ c → b ≡ d → IsWithin c d → IsWithin a b
+within_as a b c d e f h = subst (λ (s : Words). IsWithin a s) (sym f) (subst (λ (s : Words). IsWithin s d) (sym e) h)
 
-pub names_some : (pl : Place) (f : Fact) (m n : Location) (set : Words) (x y z : ℕ) (t : Bool) → Some x ≡ only (words_known pl f m) → Some y ≡ only (words_known pl f n) →
-    t ≡ set z → z ≡ minus x y → IsTrue t ↔ ShowsOfNames pl f m n set
-names_some pl f m n set x y z t l r et ez = (
-  λ q. (x, y, sym l, sym r, ap set (sym ez) ∙ (sym et ∙ q)),
-  λ s. (let ex : s.0 ≡ x = some_is (sym s.2 ∙ sym l) in let ey : s.1 ≡ y = some_is (sym s.3 ∙ sym r) in
-      et ∙ (ap set ez ∙ (rw (sym ex, sym ey) s.4))),
-)
+abbrev pub HasOffsetsOf : Words → Words → Type 0
+HasOffsetsOf a b = (o : ℕ) → o < 64 → a o ≡ true → b o ≡ true
 
-pub difference_shown : (pl : Place) (f : Fact) (r : Relation) (m n : Location) (b : Bool) → r.sum ≡ difference_of m n → (IsTrue b ↔ ShowsOfNames pl f m n r.set) → IsTrue b ↔ ShowsDifference pl f r
-difference_shown pl f r m n b e h = (
-  λ t. (let s = h.0 t in (m, n, s.0, s.1, e, s.2, s.3, s.4)),
-  λ d. (let q = names_same m n d.0 d.1 (sym e ∙ d.4) in
-      h.1 (d.2, d.3, subst (λ z. only (words_known pl f z) ≡ Some d.2) (sym q.0) d.5, subst (λ z. only (words_known pl f z) ≡ Some d.3) (sym q.1) d.6, d.7)),
-)
+pub offsets_as : (a b c d : Words) → a ≡ c → b ≡ d → HasOffsetsOf c d → HasOffsetsOf a b
+offsets_as a b c d e f h = subst (λ (s : Words). HasOffsetsOf a s) (sym f) (subst (λ (s : Words). HasOffsetsOf s d) (sym e) h)
 
-pub no_difference : (pl : Place) (f : Fact) (r : Relation) → ((m n : Location) → r.sum ≡ difference_of m n → ⊥) → IsTrue false ↔ ShowsDifference pl f r
-no_difference pl f r none = not_true (λ d. none d.0 d.1 d.4)
+-- the registers, each by the sets that were compared
+module _ (pl : Place) (a b : Fact) where
+  pub registers_not_link : (s t : Words) → s ≡ a.link → t ≡ b.link → (IsLinkWithin s t → ⊥) → IsTrue false ↔ EntailsRegisters pl a b
+  registers_not_link s t e f not = not_true (λ r. not (links_as s t a.link b.link e f r.link))
+
+  pub registers_not_offsets : (s t : Words) → s ≡ a.offsets → t ≡ b.offsets → (HasOffsetsOf s t → ⊥) → IsTrue false ↔ EntailsRegisters pl a b
+  registers_not_offsets s t e f not = not_true (λ r. not (offsets_as s t a.offsets b.offsets e f r.offsets))
+
+  pub registers_not_mq : (s t : Words) → s ≡ a.mq → t ≡ b.mq → (IsWithin s t → ⊥) → IsTrue false ↔ EntailsRegisters pl a b
+  registers_not_mq s t e f not = not_true (λ r. not (within_as s t a.mq b.mq e f r.mq))
+
+  pub registers_not_sites : (s t : Words) → s ≡ a.sites → t ≡ b.sites → (IsWithin s t → ⊥) → IsTrue false ↔ EntailsRegisters pl a b
+  registers_not_sites s t e f not = not_true (λ r. not (within_as s t a.sites b.sites e f r.sites))
+
+  pub registers_iff : (x : Bool) (ls lt os ot ms mt ss st ac : Words) → ls ≡ a.link → lt ≡ b.link → os ≡ a.offsets → ot ≡ b.offsets → ms ≡ a.mq → mt ≡ b.mq → ss ≡ a.sites → st ≡ b.sites → ac ≡ b.set Ac →
+      IsLinkWithin ls lt → HasOffsetsOf os ot → IsWithin ms mt → IsWithin ss st → (IsTrue x ↔ IsWithin (words_known pl a Ac) ac) → IsTrue x ↔ EntailsRegisters pl a b
+  registers_iff x ls lt os ot ms mt ss st ac els elt eos eot ems emt ess est eac l o m s h = (
+    λ t. record {
+      ac = subst (λ (w : Words). IsWithin (words_known pl a Ac) w) eac (h.0 t);
+      mq = within_as a.mq b.mq ms mt (sym ems) (sym emt) m;
+      link = links_as a.link b.link ls lt (sym els) (sym elt) l;
+      sites = within_as a.sites b.sites ss st (sym ess) (sym est) s;
+      offsets = offsets_as a.offsets b.offsets os ot (sym eos) (sym eot) o;
+    },
+    λ r. h.1 (subst (λ (w : Words). IsWithin (words_known pl a Ac) w) (sym eac) r.ac),
+  )
+
+-- an entry among others
+pub entry_here : {A : Type 0} (f : A → TrackedCell) (a : ℕ) (xs : List A) (i : ℕ) (x : A) → i < length xs → x ≡ get_or xs i x → (f x).address ≡ a →
+    (v : ℕ) → tracked a (map f (drop i xs)) v ≡ true → (f x).set v ≡ true
+entry_here f a xs i x lt e same v h =
+    let p = and_parts (if (f x).address == a then (f x).set v else true) (tracked a (map f (drop (i + 1) xs)) v) (subst (λ ys. tracked a (map f ys) v ≡ true) (drop_item xs i x lt e) h) in
+    let q : ((f x).address == a) ≡ true = eq-eqb (f x).address a same in
+    subst (λ b. (if b then (f x).set v else true) ≡ true) q p.0
+
+pub entry_passed : {A : Type 0} (f : A → TrackedCell) (a : ℕ) (xs : List A) (i : ℕ) (x : A) → i < length xs → x ≡ get_or xs i x →
+    (v : ℕ) → tracked a (map f (drop i xs)) v ≡ true → tracked a (map f (drop (i + 1) xs)) v ≡ true
+entry_passed f a xs i x lt e v h =
+    (and_parts (if (f x).address == a then (f x).set v else true) (tracked a (map f (drop (i + 1) xs)) v) (subst (λ ys. tracked a (map f ys) v ≡ true) (drop_item xs i x lt e) h)).1
 
 -- all parts together
 pub entails_iff : (pl : Place) (a b : Fact) (ac : Words) (cells : List TrackedCell) (t : Bool) → names_words ac cells ≡ b.set → EntailsRegisters pl a b → EachWithin pl a cells → KnowsAll pl a b.relations →

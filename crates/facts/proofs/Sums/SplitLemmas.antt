@@ -1,20 +1,26 @@
 -- Landing part by part: one fact after another, and one name after another.
 use Rattle.std.proofs.Common.{◌≡◌, ℕ, ◌+◌, ◌<◌, ◌≤◌, Bool, true, false, ◌&&◌, ◌||◌, ◌==◌, List, [], ◌∷◌, map, drop, get_or, length, refl, sym, ap, ◌∙◌, subst, arith, inl, inr, lit<}
 use Rattle.std.specs.Prelude.{IsTrue, ◌↔◌, ◌⊎◌, if◌then◌else◌, not}
-use Rattle.std.proofs.lemmas.Bool.{and_from, and_parts, cond_both, eqb-true, eq-eqb, true≢false, false≢true, cases_lt, cases_eq, lt-ltb}
+use Rattle.std.proofs.lemmas.Bool.{and_from, and_parts, cond_both, eqb-true, eq-eqb, true≢false, false≢true, cases_lt, cases_eq, lt-ltb, ne_eqb}
+use Rattle.std.specs.List.{list_any}
 use Rattle.std.proofs.lemmas.List.{drop_more}
 use Rattle.std.proofs.Math.Path.{fun_ext}
 use Rattle.std.proofs.Math.ListN.{drop_of_length-le}
-use Rattle.wordset.specs.Words.{Words, all_words, meet, IsWithin, some_below, has_some}
-use Rattle.wordset.proofs.Tests.{IsSome, some_to, none_of_some}
+use Rattle.wordset.specs.Words.{Words, all_words, meet, IsWithin, some_below, has_some, has_link, with_word}
+use Rattle.wordset.proofs.Tests.{IsSome, some_to, none_of_some, or_left, or_right}
+use Rattle.wordset.proofs.SetLemmas.{all_past}
+use Rattle.wordset.specs.Lanes.{words}
+use Rattle.domain.specs.Statements.{TrackedCell, tracked}
+use Rattle.domain.specs.Sums.FactInCode.{names_words}
 use Rattle.domain.specs.Facts.{Location, Ac, Cell, same}
-use Rattle.domain.specs.Sums.Facts.{Fact, Place, Rules, OfEquations, OfSums}
+use Rattle.domain.specs.Sums.Facts.{Relation, Fact, Place, Rules, OfEquations, OfSums}
 use Rattle.domain.specs.Sums.Adding.{with_set, with_name, lacks_all, is_void}
 use Rattle.domain.specs.Sums.Narrowing.{narrowed}
 use Rattle.domain.proofs.Sums.SumLemmas.{same_name}
 use Rattle.facts.specs.Sums.Entailment.{Entails, EntailsOne, IsVoid, met_at, TakesWord, IsSplit, PartLands, with_one_link, LandsBy, Lands, IsIdle}
 use Rattle.facts.specs.Sums.Landing.{fact_at, Takes, TakesAt, IsSplitBy, AllowAll, IsTakenWhole, LandsUnder, IsIdleUnder}
-use Rattle.facts.proofs.EntailLemmas.{not_true}
+use Rattle.facts.proofs.EntailLemmas.{not_true, drop_item}
+use Rattle.facts.proofs.Sums.ShowingLemmas.{words_small}
 
 -- the fact at a place, and those behind it
 pub fact_dropped : (fs : List Fact) (i : ℕ) → i < length fs → drop i fs ≡ fact_at fs i ∷ drop (i + 1) fs
@@ -99,6 +105,33 @@ not_taken pl n a b taken not v lt has = (λ t. inl t, λ s. elim s [ inl t ↦ t
 pub told_step : (n : Location) (fs : List Fact) (i : ℕ) (g : Fact) → i < length fs → g ≡ fact_at fs i → g.set n ≡ all_words → (AllowAll n (drop i fs) → AllowAll n fs) → AllowAll n (drop (i + 1) fs) → AllowAll n fs
 told_step n fs i g lt is all h rest = h (subst (AllowAll n) (sym (fact_dropped fs i lt)) (subst (λ (f : Fact). f.set n ≡ all_words) is all, rest))
 
+-- what a set has when a word is put in
+pub with_more : (new old : Words) (w v : ℕ) → new ≡ with_word w old → old v ≡ true → new v ≡ true
+with_more new old w v e h = ap (λ (s : Words). s v) e ∙ or_left (old v) (v == w) h
+
+not_first : (a b : Bool) → (a || b) ≡ false → a ≡ false
+not_first true b e = absurd (true≢false e)
+not_first false b e = refl
+
+pub more_not : (new old : Words) (w v : ℕ) → new ≡ with_word w old → new v ≡ false → old v ≡ false
+more_not new old w v e h = not_first (old v) (v == w) (sym (ap (λ (s : Words). s v) e) ∙ h)
+
+pub more_other : (new old : Words) (w v : ℕ) → new ≡ with_word w old → new v ≡ false → w ≡ v → ⊥
+more_other new old w v e h is = true≢false (sym (ap (λ (s : Words). s v) e ∙ or_right (old v) (v == w) (eq-eqb v w (sym is))) ∙ h)
+
+pub still_out : (p q : Bool) → (p ≡ true → q ≡ true) → q ≡ false → p ≡ false
+still_out true q f e = absurd (true≢false (sym (f refl) ∙ e))
+still_out false q f e = refl
+
+-- a cell is one of those that are told, or each fact allows it all words
+pub told_or_all : (lanes : List ℕ) (fs : List Fact) (P : ℕ → Type 0) → ((x : ℕ) → words lanes x ≡ false → AllowAll (Cell x) fs) →
+    ((x : ℕ) → x < 4096 → words lanes x ≡ true → P x → ⊥) → (x : ℕ) → P x → AllowAll (Cell x) fs
+told_or_all lanes fs P out in_told x split = go (words lanes x) refl
+  where
+    go : (b : Bool) → words lanes x ≡ b → AllowAll (Cell x) fs
+    go true e = absurd (in_told x (words_small lanes x e) e split)
+    go false e = out x e
+
 -- a name whose set isn't changed leaves the fact as it is
 same_self : (n : Location) → same n n ≡ true
 same_self Ac = refl
@@ -141,7 +174,12 @@ no_lack set h = some_to 4096 set (go (has_some set) h)
     go false e = absurd (true≢false e)
 
 none_lacks : (a : Fact) → is_void a ≡ false → (x : ℕ) → x < 4096 → lacks_all (a.set (Cell x)) ≡ false
-none_lacks a h x lt = none_of_some 4096 (λ y. lacks_all (a.set (Cell y))) (left _ _ (right _ _ (right _ _ (right _ _ h)))) x lt
+none_lacks a h x lt =
+    let beside : Bool = list_any (λ (r : Relation). lacks_all r.set) a.relations in
+    let cells : Bool = some_below 4096 (λ y. lacks_all (a.set (Cell y))) in
+    none_of_some 4096 (λ y. lacks_all (a.set (Cell y)))
+    (left cells beside (right (lacks_all (a.set Ac)) (cells || beside) (right (not (has_link a.link)) (lacks_all (a.set Ac) || (cells || beside))
+    (right (lacks_all a.mq) (not (has_link a.link) || (lacks_all (a.set Ac) || (cells || beside))) h)))) x lt
   where
     left : (p q : Bool) → (p || q) ≡ false → p ≡ false
     left true q e = absurd (true≢false e)
@@ -150,6 +188,64 @@ none_lacks a h x lt = none_of_some 4096 (λ y. lacks_all (a.set (Cell y))) (left
     right : (p q : Bool) → (p || q) ≡ false → q ≡ false
     right true q e = absurd (true≢false e)
     right false q e = e
+
+-- what a fact takes, by what is left
+pub takes_void : (pl : Place) (n : Location) (a b met : Fact) → met ≡ met_at pl n a b → is_void met ≡ true → IsTrue true ↔ Takes pl n a b
+takes_void pl n a b met is v = (λ t. inl (subst IsVoid is v), λ k. refl)
+
+pub takes_entails : (pl : Place) (n : Location) (a b met : Fact) (t : Bool) → met ≡ met_at pl n a b → is_void met ≡ false → (IsTrue t ↔ Entails pl met b) → IsTrue t ↔ Takes pl n a b
+takes_entails pl n a b met t is some h = (
+  λ q. inr (subst (λ (f : Fact). Entails pl f b) is (h.0 q)),
+  λ k. elim k [
+    | inl v ↦ absurd (true≢false (sym (subst IsVoid (sym is) v) ∙ some))
+    | inr e ↦ h.1 (subst (λ (f : Fact). Entails pl f b) (sym is) e)
+  ],
+)
+
+whole_void : (pl : Place) (a : Fact) (fs : List Fact) → IsVoid (narrowed pl.image a) → 0 < length fs → IsTakenWhole pl a fs
+whole_void pl a [] v some = absurd (omega (arith, some))
+whole_void pl a (f ∷ fs) v some = inl (inl v)
+
+not_none : (pl : Place) (a : Fact) (fs : List Fact) → IsTakenWhole pl a fs → 0 < length fs
+not_none pl a [] h = absurd h
+not_none pl a (f ∷ fs) h = omega arith
+
+pub void_whole : (pl : Place) (a met : Fact) (fs : List Fact) (t : Bool) → met ≡ narrowed pl.image a → is_void met ≡ true → (IsTrue t ↔ (0 < length fs)) → IsTrue t ↔ IsTakenWhole pl a fs
+void_whole pl a met fs t is v h = (λ q. whole_void pl a fs (subst IsVoid is v) (h.0 q), λ k. h.1 (not_none pl a fs k))
+
+one_whole : (pl : Place) (a : Fact) (fs : List Fact) → EntailsOne pl (narrowed pl.image a) fs → IsTakenWhole pl a fs
+one_whole pl a [] h = h
+one_whole pl a (f ∷ fs) h = elim h [ inl e ↦ inl (inr e) | inr r ↦ inr (one_whole pl a fs r) ]
+
+whole_one : (pl : Place) (a : Fact) (fs : List Fact) → (IsVoid (narrowed pl.image a) → ⊥) → IsTakenWhole pl a fs → EntailsOne pl (narrowed pl.image a) fs
+whole_one pl a [] some h = h
+whole_one pl a (f ∷ fs) some h = elim h [
+  | inl k ↦ elim k [ inl v ↦ absurd (some v) | inr e ↦ inl e ]
+  | inr r ↦ inr (whole_one pl a fs some r)
+]
+
+pub some_whole : (pl : Place) (a met : Fact) (fs : List Fact) (t : Bool) → met ≡ narrowed pl.image a → is_void met ≡ false → (IsTrue t ↔ EntailsOne pl met fs) → IsTrue t ↔ IsTakenWhole pl a fs
+some_whole pl a met fs t is some h = (
+  λ q. one_whole pl a fs (subst (λ (f : Fact). EntailsOne pl f fs) is (h.0 q)),
+  λ k. h.1 (subst (λ (f : Fact). EntailsOne pl f fs) (sym is) (whole_one pl a fs (λ v. true≢false (sym (subst IsVoid (sym is) v) ∙ some)) k)),
+)
+
+-- entries of other cells
+skipped : (a : ℕ) (t : TrackedCell) (ts : List TrackedCell) → (t.address ≡ a → ⊥) → tracked a (t ∷ ts) ≡ tracked a ts
+skipped a t ts other = fun_ext (λ v. ap (λ b. (if b then t.set v else true) && tracked a ts v) (ne_eqb t.address a other))
+
+pub entry_skipped : {A : Type 0} (f : A → TrackedCell) (a : ℕ) (xs : List A) (i : ℕ) (x : A) → i < length xs → x ≡ get_or xs i x → ((f x).address ≡ a → ⊥) →
+    tracked a (map f (drop (i + 1) xs)) ≡ all_words → tracked a (map f (drop i xs)) ≡ all_words
+entry_skipped f a xs i x lt e other h = ap (λ ys. tracked a (map f ys)) (drop_item xs i x lt e) ∙ skipped a (f x) (map f (drop (i + 1) xs)) other ∙ h
+
+-- words of sets are small
+tracked_small : (a v : ℕ) (cells : List TrackedCell) → tracked a cells v ≡ true → v < 4096
+tracked_small a v [] h = elim (cases_lt v 4096) [ inl lt ↦ lt | inr past ↦ absurd (true≢false (sym h ∙ all_past v past)) ]
+tracked_small a v (t ∷ ts) h = tracked_small a v ts (and_parts (if t.address == a then t.set v else true) _ h).1
+
+pub told_small : (lanes : List ℕ) (cells : List TrackedCell) (n : Location) (v : ℕ) → names_words (words lanes) cells n v ≡ true → v < 4096
+told_small lanes cells Ac v h = words_small lanes v h
+told_small lanes cells (Cell a) v h = tracked_small a v cells h
 
 -- a split by whatever name
 module _ (pl : Place) (a : Fact) (fs : List Fact) (void : is_void a ≡ false) (beyond : (x : ℕ) → 4096 ≤ x → a.set (Cell x) ≡ all_words)
@@ -221,3 +317,17 @@ no_link pl l f fs h = (λ t k. absurd (true≢false (sym k ∙ h)), λ k. refl)
 
 pub under_link : (pl : Place) (l : ℕ) (f part : Fact) (fs : List Fact) (b : Bool) → f.link l ≡ true → part ≡ with_one_link pl l f → (IsTrue b ↔ PartLands pl part fs) → IsTrue b ↔ LandsUnder pl l f fs
 under_link pl l f part fs b has is h = (λ t k. subst (λ x. PartLands pl x fs) is (h.0 t), λ k. h.1 (subst (λ x. PartLands pl x fs) (sym is) (k has)))
+
+pub no_link_idle : (pl : Place) (l : ℕ) (f : Fact) → f.link l ≡ false → IsTrue true ↔ IsIdleUnder pl l f
+no_link_idle pl l f h = (λ t k. absurd (true≢false (sym k ∙ h)), λ k. refl)
+
+pub under_link_idle : (pl : Place) (l : ℕ) (f part : Fact) (b : Bool) → f.link l ≡ true → part ≡ with_one_link pl l f → b ≡ is_void part → IsTrue b ↔ IsIdleUnder pl l f
+under_link_idle pl l f part b has is h = (λ t k. subst IsVoid is (sym h ∙ t), λ k. h ∙ subst IsVoid (sym is) (k has))
+
+-- a fact of both links
+pub both_parts_land : (pl : Place) (f : Fact) (fs : List Fact) (b : Bool) → f.link 0 ≡ true → f.link 1 ≡ true → pl.rules ≡ OfSums → PartLands pl (with_one_link pl 0 f) fs →
+    (IsTrue b ↔ PartLands pl (with_one_link pl 1 f) fs) → IsTrue b ↔ Lands pl f fs
+both_parts_land pl f fs b low high rules zero one = both_land pl f fs b rules (λ h. zero) (λ t h. one.0 t, λ k. one.1 (k high))
+
+pub first_part_fails : (pl : Place) (f : Fact) (fs : List Fact) → f.link 0 ≡ true → pl.rules ≡ OfSums → (PartLands pl (with_one_link pl 0 f) fs → ⊥) → IsTrue false ↔ Lands pl f fs
+first_part_fails pl f fs low rules not = first_fails pl f fs rules (λ k. not (k low))

@@ -5,8 +5,11 @@ use Rattle.domain.specs.Facts.{Cell}
 use Rattle.domain.specs.Sums.Terms as said
 use Rattle.domain.specs.Sums.Terms.{Sum, Holding}
 use Rattle.domain.specs.Sums.Chains.{Chain}
-use Rattle.domain.specs.Sums.Facts.{Relation}
+use Rattle.domain.specs.Sums.Facts.{Relation, Fact}
+use Rattle.domain.specs.Sums.Narrowing.{narrowed}
 use Rattle.domain.specs.Sums.Moves.{moved_relation}
+use Rattle.domain.specs.Sums.ChainsInCode.{AreShort}
+use Rattle.processor.specs.Runs.{Image}
 use Rattle.domain.specs.Sums.InCode.{term_of}
 use Rattle.domain.specs.declared.terms.Term.{Term}
 use Rattle.facts.specs.Sums.Additions.{has_ac, names, if_without_ac}
@@ -17,6 +20,12 @@ use Rattle.facts.specs.Sums.Stores.{has_all_words, begun_on, has_chain_on}
 abbrev pub HaveFewTerms : List Relation → Type 0
 HaveFewTerms [] = Unit {0}
 HaveFewTerms (r ∷ rs) = (length r.sum ≤ 3) × HaveFewTerms rs
+
+-- A narrowed fact keeps what rows ask of a fact: relations of few terms, and chains with room for one step more.
+abbrev pub NarrowingKeepsShape : Type 0
+NarrowingKeepsShape =
+    (image : Image) (f : Fact) → HaveFewTerms f.relations → AreShort f.chains →
+    HaveFewTerms (narrowed image f).relations × AreShort (narrowed image f).chains
 
 -- The term that is meant, if there is one.
 abbrev pub term_if : Option Term → Option said.Term

@@ -6,10 +6,11 @@
 ghost use Rattle.std.specs.Prelude.{◌≡◌, ◌<◌, ◌≤◌, ◌+◌, ◌*◌, ◌++◌, ◌∷◌, [], Some, None, Option, length, map, flat_map, ℕ};
 ghost use Rattle.wordset.specs.Words.{only};
 ghost use Rattle.wordset.specs.Lanes.{words};
+ghost use Rattle.domain.specs.Facts.{Ac};
 ghost use Rattle.domain.specs.Meaning.{location_of};
 ghost use Rattle.domain.specs.Sums.Facts.{OfSums};
-ghost use Rattle.domain.specs.Sums.Adding.{adding_all};
-ghost use Rattle.domain.specs.Sums.InCode.{term_of, sum_of};
+ghost use Rattle.domain.specs.Sums.Adding.{with_name, adding_all};
+ghost use Rattle.domain.specs.Sums.InCode.{term_of, summand_of, sum_of};
 ghost use Rattle.domain.specs.Sums.CellsInCode.{cell_sets_of};
 ghost use Rattle.domain.specs.Sums.RelationsInCode.{relation_of, relations_of};
 ghost use Rattle.domain.specs.Sums.ChainsInCode.{AreShort};
@@ -19,15 +20,30 @@ ghost use Rattle.facts.specs.Sums.Outcomes.{added_under, added};
 ghost use Rattle.facts.specs.Sums.Shaped.{HaveFewTerms, term_if, told, moved_after_tad};
 
 use super::carrying::sums_under;
-use domain::{Location, Names, Relation, Rules, Step, Sum, SumFact, Summand, Term, is_sign, times};
+use domain::{
+    Location, Names, Relation, Rules, Step, Sum, SumFact, Summand, Term, is_same_location, is_sign,
+    times,
+};
 use word12::{Link, Word};
 use wordset::{Links, WordSet};
+
+/// Whether one of some summands speaks of a name.
+fn are_naming(name: &Location, summands: &[Summand]) -> bool
+    ensures { result ≡ names (location_of name.now) (map summand_of summands.now) }
+{
+    for summand in summands {
+        if is_same_location(&summand.term.name(), name) {
+            return true;
+        }
+    }
+    false
+}
 
 /// Whether a sum speaks of a name.
 pub(super) fn names(name: &Location, sum: &Sum) -> bool
     ensures { result ≡ names (location_of name.now) (sum_of sum.now) }
 {
-    sum.speaks_of(&Names::One(*name))
+    are_naming(name, sum.summands())
 }
 
 /// Whether a sum is the accumulator plus a rest.
@@ -36,6 +52,17 @@ pub(super) fn has_accumulator(sum: &Sum) -> bool
 {
     let accumulator = Term::Holding(Location::Accumulator);
     sum.coefficient_of(&accumulator).index() == 1
+}
+
+/// Lets the accumulator hold the words of a set; what else a fact says stays.
+pub(super) fn put_accumulator<const C: usize, const R: usize>(
+    set: &WordSet,
+    fact: &mut SumFact<C, R>,
+)
+    ensures fact { fact_in_code fact.new ≡ with_name Ac (words set.now) (fact_in_code fact.old) }
+    ensures cells { cell_sets_of fact.new.cells ≡ cell_sets_of fact.old.cells }
+{
+    fact.set_accumulator(set);
 }
 
 /// A sum less a term.
@@ -219,7 +246,7 @@ fn put_summed<const C: usize, const R: usize, const D: usize, const S: usize>(
         length (cell_sets_of fact.now.cells) + 2 * length (relations_of fact.now.relations) + 3 }
 {
     after.take_over(fact);
-    after.set_name(&Location::Accumulator, &WordSet::all());
+    put_accumulator(&WordSet::all(), after);
     let ac = fact.accumulator();
     add_after_tad(
         operand,

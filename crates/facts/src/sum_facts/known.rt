@@ -25,12 +25,23 @@ use domain::{BriefSet, CellSet, Chain, Location, Relation, ReturnOffsets, Sum, S
 use word12::Word;
 use wordset::{Links, WordSet};
 
+/// Whether an entry is of a cell and has no word outside a set.
+fn is_within_of(entry: &CellSet, cell: Word, set: &BriefSet) -> bool
+    ensures { IsTrue result →
+        (entry.now.cell ≡ cell) × IsWithin (brief_words entry.now.set) (brief_words set.now) }
+{
+    if entry.cell != cell {
+        return false;
+    }
+    entry.set.is_subset(set)
+}
+
 /// Whether an entry of a cell shows that the cell has no word outside a set.
 fn shows_within(cells: &[CellSet], cell: Word, set: &BriefSet) -> bool
     ensures { IsTrue result → IsWithin (tracked cell (map cell_set_of cells.now)) (brief_words set.now) }
 {
     for entry in cells {
-        if entry.cell == cell && entry.set.is_subset(set) {
+        if is_within_of(entry, cell, set) {
             return true;
         }
     }

@@ -123,6 +123,27 @@ impl<A: Allocator> Place<'_, A> {
         set.is_subset(&taken)
     }
 
+    /// Whether a part is split among some facts by the words of one of some cells.
+    fn is_split_by_some<P: Part, F: FactSource>(
+        &self,
+        part: &mut P,
+        cells: &WordSet,
+        among: &F,
+        given: &mut Fact,
+    ) -> bool
+        ensures split { IsTrue result → IsSplit (place_in_code self.now) (P.part part.old) (F.facts among.now) }
+        ensures left { result ≡ false → (x : ℕ) → x < 4096 → words cells.now x ≡ true →
+            IsSplitBy (place_in_code self.now) (Cell x) (P.part part.old) (F.facts among.now) → ⊥ }
+        ensures kept { P.part part.new ≡ P.part part.old }
+    {
+        for cell in cells.iter() {
+            if self.is_split_by(part, &Location::Cell(cell), among, given) {
+                return true;
+            }
+        }
+        false
+    }
+
     /// Whether a part is split among some facts by the words of a cell of which one of them tells.
     fn is_split_by_told<P: Part, F: FactSource>(
         &self,
@@ -137,12 +158,7 @@ impl<A: Allocator> Place<'_, A> {
         ensures kept { P.part part.new ≡ P.part part.old }
     {
         let told = cells_told(among, given);
-        for cell in told.iter() {
-            if self.is_split_by(part, &Location::Cell(cell), among, given) {
-                return true;
-            }
-        }
-        false
+        self.is_split_by_some(part, &told, among, given)
     }
 
     /// Whether a part is split among some facts by a name: the accumulator, a cell of which one of them tells, or one of which

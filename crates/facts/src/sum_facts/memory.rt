@@ -205,8 +205,9 @@ impl<A: Allocator> Place<'_, A> {
             .fact
             .take_counted(fact, cell, &WordSet::one(Word::ZERO));
         let comes = is_alive(&self.rules, reached, &held, true, &first.fact);
-        first.go_to(
-            old.contains(Word::ZERO.complement()) && comes,
+        first.go_to_if(
+            old.contains(Word::ZERO.complement()),
+            comes,
             at.increment().increment(),
         );
         let mut more = old.shift(Word::ZERO.increment());
@@ -297,14 +298,16 @@ impl<A: Allocator> Place<'_, A> {
         let reached = has_some(targets);
         first.fact.take_counted_among(fact, targets);
         let comes = is_alive(&self.rules, reached, &held, true, &first.fact);
-        first.go_to(
-            self.may_some_hold(fact, targets, true) && comes,
+        first.go_to_if(
+            self.may_some_hold(fact, targets, true),
+            comes,
             at.increment().increment(),
         );
         second.fact.take_counted_among(fact, targets);
         let comes = is_alive(&self.rules, reached, &held, true, &second.fact);
-        second.go_to(
-            self.may_some_hold(fact, targets, false) && comes,
+        second.go_to_if(
+            self.may_some_hold(fact, targets, false),
+            comes,
             at.increment(),
         );
     }

@@ -22,7 +22,8 @@ ghost use Rattle.facts.specs.Sums.Outcomes.{ac_of, with_link};
 ghost use Rattle.facts.specs.Sums.Operations.{ac_after, link_after, moves_bits, relations_operated, chains_operated, operated, images_under, operated_under, part2, tested, cleared2, may_be};
 ghost use Rattle.facts.specs.Sums.Shaped.{HaveFewTerms, if_stays, images_from};
 
-use super::additions::{accumulator_with_rest, has_accumulator, names};
+use super::additions::{accumulator_with_rest, has_accumulator, names, put_accumulator};
+use super::rooms::{NextFact, TestedFact};
 use super::stores::put_begun_longer;
 use crate::skipping::put_part;
 use bin_tape::Image;
@@ -245,8 +246,7 @@ fn put_operated<const C: usize, const R: usize, const D: usize, const S: usize>(
     requires chains { length fact.now.chains.items + length (relations_of fact.now.relations) ≤ 72 }
     requires cells { length (cell_sets_of fact.now.cells) ≤ C }
     requires room { length (relations_of fact.now.relations) ≤ R }
-    ensures fact { fact_in_code after.new ≡ operated (rules_of rules.now) word (fact_in_code fact.now) }
-    ensures cells { cell_sets_of after.new.cells ≡ cell_sets_of fact.now.cells }
+    ensures { fact_in_code after.new ≡ operated (rules_of rules.now) word (fact_in_code fact.now) }
 {
     after.take_over(fact);
     push_operated(rules, word, fact.relations().as_slice(), after);
@@ -320,9 +320,9 @@ pub fn put_operated_under<const C: usize, const R: usize, const D: usize, const 
     ensures { fact_in_code after.new ≡ operated_under word (fact_in_code fact.now) link }
 {
     put_operated(&Rules::OfSums, word, fact, after);
-    after.set_name(
-        &Location::Accumulator,
+    put_accumulator(
         &images_under(word, fact.accumulator(), fact.link(), link),
+        after,
     );
     after.set_link(Links::one(link));
 }
@@ -347,7 +347,7 @@ pub fn put_all_operated<const C: usize, const R: usize, const D: usize, const S:
 {
     put_operated(&Rules::OfEquations, word, fact, after);
     let (images, links) = known.map_operate(word, fact.link());
-    after.set_name(&Location::Accumulator, &images);
+    put_accumulator(&images, after);
     after.set_link(links);
 }
 
@@ -368,31 +368,33 @@ fn put_with_part<const C: usize, const R: usize, const D: usize, const S: usize>
     after.set_link(Links::one(link));
 }
 
+/// The words of the accumulator after CLA, where a word of group 2 has it.
+fn cleared_words(word: Word, ac: &WordSet) -> WordSet
+    ensures { words result ≡ (if has_bit 7 word then one 0 else words ac.now) }
+{
+    if clears(word) {
+        return WordSet::one(Word::ZERO);
+    }
+    *ac
+}
+
 /// Lets a fact be another one after CLA and OSR of a word of group 2: the accumulator is 0, then any bits come in.
 fn put_cleared<const C: usize, const R: usize, const D: usize, const S: usize>(
     word: Word,
     fact: &SumFact<D, S>,
     after: &mut SumFact<C, R>,
 )
-    requires cells { length (cell_sets_of fact.now.cells) < C }
+    requires cells { length (cell_sets_of fact.now.cells) ≤ C }
     requires room { length (relations_of fact.now.relations) ≤ R }
     ensures { fact_in_code after.new ≡ cleared2 word (fact_in_code fact.now) }
 {
     if reads_switches(word) {
-        let mut set = *fact.accumulator();
-        if clears(word) {
-            set = WordSet::one(Word::ZERO);
-        }
-        after.take_without(fact, &Names::One(Location::Accumulator));
-        after.set_name(
-            &Location::Accumulator,
-            &set.or_any(Word::from_index(0o7777)),
-        );
+        let set = cleared_words(word, fact.accumulator());
+        after.take_for_accumulator(fact, &set.or_any(Word::from_index(0o7777)));
         return;
     }
     if clears(word) {
-        after.take_without(fact, &Names::One(Location::Accumulator));
-        after.set_name(&Location::Accumulator, &WordSet::one(Word::ZERO));
+        after.take_for_accumulator(fact, &WordSet::one(Word::ZERO));
         return;
     }
     after.copy_from(fact);
@@ -444,30 +446,20 @@ fn may_be<const C: usize, const R: usize>(rules: &Rules, fact: &SumFact<C, R>) -
 }
 
 /// Lets a fact be what another one is of the states that come to a test, after CLA and OSR, and whether there may be such states.
-fn put_after_test<
-    const C: usize,
-    const R: usize,
-    const P: usize,
-    const Q: usize,
-    const D: usize,
-    const S: usize,
->(
+/// `spare` is room for the fact that is narrowed.
+fn put_after_test<const D: usize, const S: usize>(
     rules: &Rules,
     image: &Image,
     word: Word,
     fact: &SumFact<D, S>,
     part: &WordSet,
     link: Link,
-    spare: &mut SumFact<P, Q>,
-    after: &mut SumFact<C, R>,
+    spare: &mut TestedFact,
+    after: &mut NextFact,
 ) -> bool
-    requires cells { length (cell_sets_of fact.now.cells) + 1 < C }
-    requires room { length (relations_of fact.now.relations) ≤ R }
-    requires spare { length (cell_sets_of fact.now.cells) + 2 * length (relations_of fact.now.relations)
-        + length fact.now.chains.items + 1 ≤ P }
-    requires more { 2 * length (relations_of fact.now.relations) + length fact.now.chains.items ≤ Q }
-    requires narrow { P < C }
-    requires fits { Q ≤ R }
+    requires cells { length (cell_sets_of fact.now.cells) + 2 * length (relations_of fact.now.relations)
+        + length fact.now.chains.items + 1 ≤ 273 }
+    requires relations { 2 * length (relations_of fact.now.relations) + length fact.now.chains.items ≤ 140 }
     ensures may { (pl : Place) → pl.image ≡ image_of image.now →
         result ≡ may_be (rules_of rules.now) (tested (rules_of rules.now) pl word (fact_in_code fact.now) (words part.now) link) }
     ensures fact { (pl : Place) → pl.image ≡ image_of image.now → fact_in_code after.new ≡
@@ -475,6 +467,7 @@ fn put_after_test<
 {
     if changes_accumulator(word) {
         put_tested(rules, image, fact, part, link, after, spare);
+        spare.is_within_room();
         put_cleared(word, spare, after);
         return may_be(rules, spare);
     }
@@ -484,14 +477,7 @@ fn put_after_test<
 
 /// Lets a fact be what another one is of the states that skip by a word of group 2, or that do not, where the link is this one;
 /// and whether there may be such states. `known` are the accumulator's words, and `spare` is room for the fact that is narrowed.
-pub fn put_branch<
-    const C: usize,
-    const R: usize,
-    const P: usize,
-    const Q: usize,
-    const D: usize,
-    const S: usize,
->(
+pub fn put_branch<const D: usize, const S: usize>(
     rules: &Rules,
     image: &Image,
     word: Word,
@@ -499,16 +485,12 @@ pub fn put_branch<
     fact: &SumFact<D, S>,
     link: Link,
     skip: bool,
-    spare: &mut SumFact<P, Q>,
-    after: &mut SumFact<C, R>,
+    spare: &mut TestedFact,
+    after: &mut NextFact,
 ) -> bool
-    requires cells { length (cell_sets_of fact.now.cells) + 1 < C }
-    requires room { length (relations_of fact.now.relations) ≤ R }
-    requires spare { length (cell_sets_of fact.now.cells) + 2 * length (relations_of fact.now.relations)
-        + length fact.now.chains.items + 1 ≤ P }
-    requires more { 2 * length (relations_of fact.now.relations) + length fact.now.chains.items ≤ Q }
-    requires narrow { P < C }
-    requires fits { Q ≤ R }
+    requires cells { length (cell_sets_of fact.now.cells) + 2 * length (relations_of fact.now.relations)
+        + length fact.now.chains.items + 1 ≤ 273 }
+    requires relations { 2 * length (relations_of fact.now.relations) + length fact.now.chains.items ≤ 140 }
     ensures may { (pl : Place) → pl.image ≡ image_of image.now → pl.rules ≡ rules_of rules.now →
         words known.now ≡ ac_of pl (fact_in_code fact.now) →
         result ≡ ((fact_in_code fact.now).link link && (has_some (part2 pl word (fact_in_code fact.now) link skip) &&

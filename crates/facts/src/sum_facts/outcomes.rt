@@ -1,8 +1,9 @@
 //! The outcomes of a word, and which of them may come about.
 
-ghost use Rattle.std.specs.Prelude.{◌≡◌, []};
-ghost use Rattle.wordset.specs.Words.{Words, has_some, one};
+ghost use Rattle.std.specs.Prelude.{◌≡◌, ◌&&◌, []};
+ghost use Rattle.wordset.specs.Words.{Words, has_some, has_link, one};
 ghost use Rattle.wordset.specs.Lanes.{words};
+ghost use Rattle.wordset.specs.Links.{links_of};
 ghost use Rattle.domain.specs.Sums.FactInCode.{fact_in_code, rules_of};
 ghost use Rattle.facts.specs.Sums.Outcomes.{given, is_alive};
 ghost use Rattle.facts.specs.Sums.Outcomes as said;
@@ -12,7 +13,7 @@ use crate::lent::has_some;
 use crate::sum_facts::rooms::{NextFact, SteppedFact, TestedFact};
 use domain::{BriefSet, Rules, SumFact};
 use word12::Word;
-use wordset::WordSet;
+use wordset::{Links, WordSet};
 
 /// What comes of a word.
 #[derive(Clone, Copy, PartialEq, Eq, Debug)]
@@ -59,6 +60,21 @@ pub struct Outcomes {
     pub(crate) tested: TestedFact,
 }
 
+/// Whether there are targets, words of the accumulator before and after, words of MQ, links, and words of the cell that changed.
+fn are_some(
+    reached: bool,
+    held: &WordSet,
+    ac: &WordSet,
+    mq: &WordSet,
+    links: Links,
+    changed: bool,
+) -> bool
+    ensures { result ≡ (reached && (has_some (words held.now) && (has_some (words ac.now) &&
+        (has_some (words mq.now) && (has_link (links_of links) && changed))))) }
+{
+    reached && has_some(held) && has_some(ac) && has_some(mq) && !links.is_empty() && changed
+}
+
 /// Whether an outcome may come about: there are targets, and by the rules of equations the old and the new words of the
 /// accumulator, those of MQ, the links and the words of the cell that changed are not none.
 pub(crate) fn is_alive<const C: usize, const R: usize>(
@@ -73,14 +89,14 @@ pub(crate) fn is_alive<const C: usize, const R: usize>(
 {
     match rules {
         Rules::OfSums => reached,
-        Rules::OfEquations => {
-            reached
-                && has_some(held)
-                && has_some(after.accumulator())
-                && has_some(after.mq())
-                && !after.link().is_empty()
-                && changed
-        }
+        Rules::OfEquations => are_some(
+            reached,
+            held,
+            after.accumulator(),
+            after.mq(),
+            after.link(),
+            changed,
+        ),
     }
 }
 
@@ -113,6 +129,18 @@ impl Outcome {
         }
         self.kind = Kind::Goes;
         self.targets.set_one(next);
+    }
+
+    /// The same, where it is chosen and comes about.
+    pub(crate) fn go_to_if(&mut self, chosen: bool, comes: bool, next: Word)
+        ensures { outcome_in self.new ≡
+            given (chosen && comes) (said.Goes (one next) (fact_in_code self.old.fact)) }
+    {
+        if !chosen {
+            self.clear();
+            return;
+        }
+        self.go_to(comes, next);
     }
 
     /// Lets the run go on at one of some addresses with the fact that stands here, where that comes about.

@@ -1,6 +1,6 @@
 //! Parts of facts: the fact of one link alone, narrowed, which may be split further by the words of a name.
 
-ghost use Rattle.std.specs.Prelude.{ℕ, ◌≡◌, ◌<◌, ◌≤◌, ◌↔◌, IsTrue, true, map};
+ghost use Rattle.std.specs.Prelude.{ℕ, ◌≡◌, ◌<◌, ◌≤◌, ◌↔◌, IsTrue, true, length, map};
 ghost use Rattle.wordset.specs.Words.{all_words};
 ghost use Rattle.wordset.specs.Lanes.{words};
 ghost use Rattle.domain.specs.Facts as names;
@@ -92,6 +92,13 @@ fn look_at_cells(cells: &[CellSet])
     for entry in cells {
         let _index = entry.cell.index();
     }
+}
+
+/// Whether there is some fact.
+pub(super) fn has_facts<F: FactSource>(among: &F) -> bool
+    ensures { IsTrue result ↔ (0 < length (F.facts among.now)) }
+{
+    among.len() > 0
 }
 
 /// Narrows a fact with one link alone; the fact itself is left as it was.
@@ -201,7 +208,7 @@ impl Part for LinkPart {
         part.is_within_room();
         met.narrow(place.image, part);
         if met.is_void() {
-            return among.len() > 0;
+            return has_facts(among);
         }
         place.entails_one(met, among, given)
     }

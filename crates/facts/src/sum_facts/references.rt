@@ -236,6 +236,8 @@ impl<A: Allocator> Place<'_, A> {
         requires relations { length (relations_of fact.now.relations) ≤ S }
         ensures fact { fact_in_code room.new ≡ counted (place_in_code self.now) cell (fact_in_code fact.now) }
         ensures cells { length (cell_sets_of room.new.cells) ≤ length (cell_sets_of fact.now.cells) + 1 }
+        ensures relations { length (relations_of room.new.relations) ≡ length (relations_of fact.now.relations) }
+        ensures chains { length room.new.chains.items ≡ length fact.now.chains.items }
     {
         let mut set = WordSet::all();
         self.put_words_known(fact, &Location::Cell(cell), &mut set);

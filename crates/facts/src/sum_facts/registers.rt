@@ -1,6 +1,6 @@
 //! The rows of operate and device words, which go on at the next address whatever memory holds.
 
-ghost use Rattle.std.specs.Prelude.{◌≡◌, ◌≤◌, ◌+◌, ◌++◌, Some, length};
+ghost use Rattle.std.specs.Prelude.{◌≡◌, ◌≤◌, ◌+◌, ◌++◌, Some, true, false, length};
 ghost use Rattle.instruct.specs.declared.Profile.TheVariants.{Pdp8E};
 ghost use Rattle.instruct.specs.declared.Instruction.TheVariants.{Operate1};
 ghost use Rattle.instruct.specs.Operates.{MqOperate, mq_operate_of};
@@ -280,6 +280,30 @@ impl<A: Allocator> Place<'_, A> {
         self.go_on(held, next_address(at, skip), outcome);
     }
 
+    /// The outcomes of a word of group 2 under one link: the one that skips, then the one that does not.
+    fn branch_under<const C: usize, const R: usize>(
+        &self,
+        at: Word,
+        word: Word,
+        held: &WordSet,
+        fact: &SumFact<C, R>,
+        link: Link,
+        tested: &mut TestedFact,
+        skipping: &mut Outcome,
+        staying: &mut Outcome,
+    )
+        requires held { words held.now ≡ ac_of (place_in_code self.now) (fact_in_code fact.now) }
+        requires cells { length (cell_sets_of fact.now.cells) ≤ 132 }
+        requires relations { length (relations_of fact.now.relations) ≤ 68 }
+        requires chains { length fact.now.chains.items + length (relations_of fact.now.relations) ≤ 72 }
+        ensures { outcome_in skipping.new ++ outcome_in staying.new ≡
+            operated2 (place_in_code self.now) at word (fact_in_code fact.now) link true ++
+            operated2 (place_in_code self.now) at word (fact_in_code fact.now) link false }
+    {
+        self.branch_one_way(at, word, held, fact, link, true, tested, skipping);
+        self.branch_one_way(at, word, held, fact, link, false, tested, staying);
+    }
+
     /// A word of group 2: each link by itself, with and without a skip.
     #[inline(never)]
     pub(crate) fn branch<const C: usize, const R: usize>(
@@ -297,44 +321,24 @@ impl<A: Allocator> Place<'_, A> {
         let mut held = WordSet::all();
         self.put_words_known(fact, &Location::Accumulator, &mut held);
         let tested = &mut outcomes.tested;
-        self.branch_one_way(
+        self.branch_under(
             at,
             word,
             &held,
             fact,
             Link::CLEAR,
-            true,
             tested,
             &mut outcomes.first,
-        );
-        self.branch_one_way(
-            at,
-            word,
-            &held,
-            fact,
-            Link::CLEAR,
-            false,
-            tested,
             &mut outcomes.second,
         );
-        self.branch_one_way(
+        self.branch_under(
             at,
             word,
             &held,
             fact,
             Link::SET,
-            true,
             tested,
             &mut outcomes.third,
-        );
-        self.branch_one_way(
-            at,
-            word,
-            &held,
-            fact,
-            Link::SET,
-            false,
-            tested,
             &mut outcomes.fourth,
         );
     }

@@ -3,29 +3,28 @@
 //! It tells of every cell on the tape, so there is no room for it; but it has neither relations nor chains, and its sets are
 //! the tape's words.
 
-ghost use Rattle.std.specs.Prelude.{ℕ, ◌≡◌, ◌↔◌, IsTrue, drop, map};
-ghost use Rattle.wordset.specs.Words.{all_words, nothing, one};
+ghost use Rattle.std.specs.Prelude.{ℕ, ◌≡◌, ◌<◌, ◌↔◌, IsTrue, drop, map};
+ghost use Rattle.wordset.specs.Words.{one};
 ghost use Rattle.wordset.specs.Lanes.{words};
 ghost use Rattle.wordset.specs.Links.{links_of};
 ghost use Rattle.bin_tape.specs.Image.{HoldsWords};
 ghost use Rattle.peripherals.specs.Loading.{image_of};
-ghost use Rattle.domain.specs.Facts.{tape_word};
+ghost use Rattle.domain.specs.Facts.{Cell, tape_word};
 ghost use Rattle.domain.specs.Meaning.{location_of};
-ghost use Rattle.domain.specs.Sums.Adding.{set_of_shape, set_of_sum, with_name};
-ghost use Rattle.domain.specs.Sums.Brief.{brief_words};
+ghost use Rattle.domain.specs.Sums.Adding.{set_of_shape, set_of_sum, set_of_term, with_name};
 ghost use Rattle.domain.specs.Sums.InCode.{sum_of, term_of};
 ghost use Rattle.domain.specs.Sums.Knowing.{said_of, words_of_term};
-ghost use Rattle.domain.specs.Sums.Offsets.{offsets_in};
 ghost use Rattle.facts.specs.Sums.Entailment.{Lands, PartLands, with_one_link};
 ghost use Rattle.facts.specs.Sums.PlaceInCode.{place_in_code};
 ghost use Rattle.facts.specs.Sums.StartInCode.{start_in_code, start_part_in_code};
 ghost use Rattle.facts.specs.Sums.Starts.{start_fact, words_at_start};
 
 use super::known::KnownFact;
-use super::parts::Part;
+use super::parts::{Part, has_facts};
 use super::place::Place;
 use super::rooms::Fact;
 use super::source::FactSource;
+use super::start_fact::StartFact;
 use bin_tape::Image;
 use domain::{
     BriefSet, Chain, Location, Relation, ReturnOffsets, Rules, Sum, Term, at_start,
@@ -35,28 +34,18 @@ use std::alloc::Allocator;
 use word12::{Link, Word};
 use wordset::{Links, WordSet};
 
-/// The fact of all starts with some links, of which one name may have fewer words.
-///
-/// Contracts see it as the fact that `start_in_code` gives.
-#[derive(Drop)]
-pub struct StartFact<'a> {
-    image: &'a Image,
-    links: Links,
-    name: Location,
-    set: WordSet,
-    every: WordSet,
-    none: BriefSet,
-    offsets: ReturnOffsets,
-    ghost every_word: { words every ≡ all_words },
-    ghost no_site: { brief_words none ≡ nothing },
-    ghost no_offset: { offsets_in offsets ≡ nothing },
+/// The word of the tape at an address, if there is one.
+fn tape_at(image: &Image, cell: Word) -> Option<Word>
+    ensures { result ≡ image_of image.now cell }
+{
+    image.get(cell)
 }
 
 /// Puts the words that a cell may hold at a start into a place for them: the tape's word, or all words where the tape has none.
 fn put_tape_word(image: &Image, cell: Word, place: &mut WordSet)
     ensures { words place.new ≡ tape_word (image_of image.now cell) }
 {
-    match image.get(cell) {
+    match tape_at(image, cell) {
         None => *place = WordSet::all(),
         Some(word) => *place = WordSet::one(word),
     }
@@ -116,19 +105,26 @@ impl StartFact<'_> {
         }
     }
 
+    /// Puts the words that a name may hold into a place for them, and all words for a term that is no name.
+    fn put_set_of_term(&self, term: &Term, place: &mut WordSet)
+        ensures { words place.new ≡ set_of_term (start_in_code self.now) (term_of term.now) }
+    {
+        match term {
+            Term::Holding(name) => self.put_set_of(name, place),
+            Term::Behind { .. } => *place = WordSet::all(),
+        }
+    }
+
     /// Puts the set that the fact gives for a sum of one of the shapes into a place for it: that of a name alone, and all words
     /// for any other, since there are no relations.
     fn put_set_of_shape(&self, sum: &Sum, place: &mut WordSet)
         ensures { words place.new ≡ set_of_shape (start_in_code self.now) (sum_of sum.now) }
     {
-        *place = WordSet::all();
         if sum.len() != 1 {
+            *place = WordSet::all();
             return;
         }
-        match sum.get(0).term {
-            Term::Holding(name) => self.put_set_of(&name, place),
-            Term::Behind { .. } => {}
-        }
+        self.put_set_of_term(&sum.get(0).term, place);
     }
 
     /// Puts what the fact says of the terms of a sum from a place on into a place for it.
@@ -232,11 +228,30 @@ pub struct StartPart<'a> {
     links: Links,
 }
 
-/// The proof needs the image to be looked at, since it holds words.
+/// The proof needs the image as a value, since it then holds words.
+fn look_at_words(image: Image)
+    ensures { HoldsWords image }
+{
+    let _word = image.get(Word::ZERO);
+}
+
+/// The same of an image that is lent.
 fn look_into(image: &Image)
     ensures { HoldsWords image.now }
 {
-    let _word = image.get(Word::ZERO);
+    look_at_words(*image);
+}
+
+/// The proof needs the cell of a name to be looked at, since it is a word.
+fn look_at(name: &Location)
+    ensures { (a : ℕ) → location_of name.now ≡ Cell a → a < 4096 }
+{
+    match name {
+        Location::Accumulator => {}
+        Location::Cell(cell) => {
+            let _index = cell.index();
+        }
+    }
 }
 
 impl Part for StartPart<'_> {
@@ -247,6 +262,7 @@ impl Part for StartPart<'_> {
     }
 
     fn is_none(&self) -> bool {
+        look_into(self.image);
         self.links.is_empty()
     }
 
@@ -269,12 +285,17 @@ impl Part for StartPart<'_> {
         name: &Location,
         other: &Fact,
     ) -> bool {
+        look_into(self.image);
+        look_at(name);
         let mut set = WordSet::all();
         other.put_set_of(name, &mut set);
         let mut starts = WordSet::all();
-        self.put_set_of(name, &mut starts);
+        put_words_at_start(self.image, name, &mut starts);
         let both = starts.meet(&set);
-        if self.links.is_empty() || both.is_empty() {
+        if self.links.is_empty() {
+            return true;
+        }
+        if both.is_empty() {
             return true;
         }
         place.entails(
@@ -289,10 +310,11 @@ impl Part for StartPart<'_> {
         among: &F,
         given: &mut Fact,
     ) -> bool {
+        look_into(self.image);
         if self.links.is_empty() {
-            return among.len() > 0;
+            return has_facts(among);
         }
-        self.entails_one(place, among, given)
+        place.entails_one(&StartFact::new(self.image, self.links), among, given)
     }
 }
 
@@ -329,8 +351,10 @@ impl<A: Allocator> Place<'_, A> {
                 given,
             ),
             Rules::OfSums => {
-                self.starts_land_under(Link::CLEAR, among, given)
-                    && self.starts_land_under(Link::SET, among, given)
+                if !self.starts_land_under(Link::CLEAR, among, given) {
+                    return false;
+                }
+                self.starts_land_under(Link::SET, among, given)
             }
         }
     }

@@ -14,4 +14,4 @@ returns-clause-fact g c =
     c.add_brought.ensures.fact
     ∙ ap (λ (h : Fact). adding_all OfSums (brought (words c.args.ac.now) (term_if c.args.term.now) (told (sum_of c.args.sum.now) (words c.args.set.now))) h) c.add_moved.ensures.fact
     ∙ sym (adding_append OfSums (moved_after_tad (words c.args.operand.now) (told (sum_of c.args.sum.now) (words c.args.set.now)))
-        (brought (words c.args.ac.now) (term_if c.args.term.now) (told (sum_of c.args.sum.now) (words c.args.set.now))) (fact_in_code c.args.after.now))
+    (brought (words c.args.ac.now) (term_if c.args.term.now) (told (sum_of c.args.sum.now) (words c.args.set.now))) (fact_in_code c.args.after.now))

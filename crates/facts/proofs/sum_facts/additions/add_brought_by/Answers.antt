@@ -16,6 +16,6 @@ returns-then-not-is_sign-clause-fact g c = rw (sym c.is_sign.ensures ∙ c.if-no
 pub returns-clause-fact : goal.returns-clause-fact
 returns-clause-fact g c =
     rw (sym c.is_sign.ensures ∙ c.if-not-is_sign.false)
-    (c.add.ensures.fact ∙ ap (λ (s : Sum). adding OfSums (told s (words c.sums.result.0)) (fact_in_code c.args.after.now)) c.accumulator_with_rest.ensures
+    (c.add.ensures.fact ∙ ap (λ (s : Sum). adding OfSums (told s (words c.sums-found.result.0)) (fact_in_code c.args.after.now)) c.accumulator_with_rest.ensures
     ∙ ap (λ (w : Words). adding OfSums (told (ac_with_rest c.args.c (term_of c.args.term.now) (sum_of c.args.sum.now)) w) (fact_in_code c.args.after.now))
-    (c.sums.ensures.words ∙ ap (λ (s : Words). sums s (words c.args.ac.now)) c.times.ensures))
+    (c.sums-found.ensures.words ∙ ap (λ (s : Words). sums s (words c.args.ac.now)) c.times.ensures))

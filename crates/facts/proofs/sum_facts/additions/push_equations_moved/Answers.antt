@@ -1,8 +1,7 @@
-use Rattle.std.proofs.Common.{◌≡◌, ◌+◌, ◌<◌, ◌≤◌, ◌++◌, List, length, ap, ◌∙◌, arith}
+use Rattle.std.proofs.Common.{◌<◌, ◌++◌, List, length, ap, ◌∙◌, arith}
 use Rattle.domain.specs.Sums.Facts.{Relation}
 use Rattle.domain.specs.Sums.RelationsInCode.{relation_of}
 use Rattle.domain.specs.Sums.FactInCode.{fact_in_code}
-use Rattle.facts.specs.Sums.Additions.{equations_moved}
 use Rattle.facts.proofs.Sums.EachRelation.{append_nothing}
 use Rattle.facts.proofs.Sums.RowsLemmas.{moved_piece, told_on, all_told}
 use Rattle.facts.proofs.sum_facts.additions.push_equations_moved.Goals as goal

@@ -1,7 +1,6 @@
 use Rattle.std.proofs.Common.{ap, ◌∙◌}
 use Rattle.wordset.specs.Words.{Words, one, only, meet}
 use Rattle.wordset.specs.Lanes.{words}
-use Rattle.wordset.specs.Links.{links_of}
 use Rattle.domain.specs.Facts.{Ac}
 use Rattle.domain.specs.Sums.Facts.{Fact}
 use Rattle.domain.specs.Sums.Adding.{with_name}

@@ -1,4 +1,4 @@
-use Rattle.std.proofs.Common.{sym, ◌∙◌}
+use Rattle.std.proofs.Common.{sym}
 use Rattle.facts.proofs.sum_facts.additions.put_chains_after_tad.Goals as goal
 
 pub returns-in-None : goal.returns-in-None

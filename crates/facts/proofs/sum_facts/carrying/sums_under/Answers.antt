@@ -1,5 +1,5 @@
 use Rattle.std.proofs.Common.{ap, ◌∙◌}
-use Rattle.std.specs.Prelude.{◌-◌, ◌&&◌, ◌||◌}
+use Rattle.std.specs.Prelude.{◌&&◌, ◌||◌}
 use Rattle.std.proofs.Math.Path.{fun_ext}
 use Rattle.wordset.specs.Words.{Words}
 use Rattle.wordset.specs.Links.{links_of}

@@ -1,4 +1,4 @@
-use Rattle.std.proofs.Common.{ap, sym, ◌∙◌, true}
+use Rattle.std.proofs.Common.{ap, sym, ◌∙◌}
 use Rattle.wordset.specs.Words.{Words}
 use Rattle.wordset.specs.Lanes.{words}
 use Rattle.facts.specs.Sums.Shaped.{images_from}

@@ -1,4 +1,4 @@
-use Rattle.std.proofs.Common.{not, refl, ap, ◌∙◌}
+use Rattle.std.proofs.Common.{not, refl, ap}
 use Rattle.facts.proofs.sum_facts.operations.may_be.Goals as goal
 
 pub returns-in-OfEquations : goal.returns-in-OfEquations

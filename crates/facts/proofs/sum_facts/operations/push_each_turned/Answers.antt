@@ -1,4 +1,4 @@
-use Rattle.std.proofs.Common.{◌≡◌, ◌+◌, ◌<◌, ◌≤◌, ◌++◌, [], ◌∷◌, List, length, map, ap, sym, ◌∙◌, arith}
+use Rattle.std.proofs.Common.{◌<◌, ◌≤◌, ◌++◌, [], ◌∷◌, List, length, map, ap, sym, ◌∙◌, arith}
 use Rattle.std.specs.Prelude.{filter}
 use Rattle.domain.specs.Sums.Facts.{Relation}
 use Rattle.domain.specs.Sums.Adding.{is_kept}
@@ -9,10 +9,10 @@ use Rattle.facts.proofs.Sums.EachRelation.{few_terms}
 use Rattle.facts.proofs.Sums.RowsLemmas.{told_on, all_told, kept_turned}
 use Rattle.facts.proofs.sum_facts.operations.push_each_turned.Goals as goal
 
-pub push_turned-requires-terms : goal.push_turned-requires-terms
-push_turned-requires-terms g c =
+pub push_turned-requires : goal.push_turned-requires
+push_turned-requires g c =
     let few : length (relation_of c.relation-item.result).sum ≤ 3 = few_terms relation_of c.args.relations.now c.loop-relation.relation-index c.relation-item.result c.loop-relation-test.true c.relation-item.is c.requires.terms in
-    omega (arith, few)
+    omega (arith, few, c.loop-relation.invariant.2, c.loop-relation-test.true, c.requires.room)
 
 pub loop-relation-preserved : goal.loop-relation-preserved
 loop-relation-preserved g c =

@@ -4,7 +4,7 @@ use Rattle.wordset.specs.Words.{one}
 use Rattle.wordset.specs.Lanes.{words}
 use Rattle.instruct.specs.Bits.{has_bit}
 use Rattle.domain.specs.Facts.{Ac}
-use Rattle.domain.specs.Sums.Facts.{Fact, Place}
+use Rattle.domain.specs.Sums.Facts.{Fact}
 use Rattle.domain.specs.Sums.Adding.{with_name}
 use Rattle.domain.specs.Sums.Narrowing.{asked_by}
 use Rattle.domain.specs.Sums.FactInCode.{fact_in_code, rules_of}

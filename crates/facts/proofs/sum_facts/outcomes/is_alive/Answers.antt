@@ -1,4 +1,4 @@
-use Rattle.std.proofs.Common.{◌≡◌, ◌∙◌, sym, ap, refl}
+use Rattle.std.proofs.Common.{ap, refl}
 use Rattle.wordset.specs.Words.{has_some, has_link}
 use Rattle.wordset.specs.Lanes.{words}
 use Rattle.domain.specs.Sums.FactInCode.{fact_in_code}
@@ -9,5 +9,5 @@ pub returns-in-OfSums : goal.returns-in-OfSums
 returns-in-OfSums g c = λ p d ep ed. rw c.in-OfSums.is ep
 
 pub returns-in-OfEquations : goal.returns-in-OfEquations
-returns-in-OfEquations g c = λ p d ep ed. rw c.in-OfEquations.is (alive_by_equations p (words c.args.held.now) d (fact_in_code c.args.after.now) ep ed c.has_some.ensures
-    (c.has_some-2.ensures ∙ ap has_some c.accumulator.ensures) (c.has_some-3.ensures ∙ ap has_some c.mq.ensures) refl refl)
+returns-in-OfEquations g c = λ p d ep ed. rw c.in-OfEquations.is (alive_by_equations p (words c.args.held.now) d (fact_in_code c.args.after.now) ep ed refl
+    (ap has_some c.accumulator.ensures) (ap has_some c.mq.ensures) (ap has_link c.link.ensures) c.are_some.ensures)

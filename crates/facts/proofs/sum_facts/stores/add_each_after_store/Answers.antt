@@ -1,4 +1,4 @@
-use Rattle.std.proofs.Common.{◌≡◌, ◌+◌, ◌<◌, ◌≤◌, length, ap, ◌∙◌, arith}
+use Rattle.std.proofs.Common.{◌<◌, ◌≤◌, length, ap, ◌∙◌, arith}
 use Rattle.wordset.specs.Words.{Words}
 use Rattle.wordset.specs.Lanes.{words}
 use Rattle.domain.specs.Sums.Facts.{OfSums}
@@ -11,10 +11,10 @@ use Rattle.facts.specs.Sums.Shaped.{told}
 use Rattle.facts.proofs.Sums.EachRelation.{added_on, all_added_on, few_terms}
 use Rattle.facts.proofs.sum_facts.stores.add_each_after_store.Goals as goal
 
-pub add_after_store-requires-terms : goal.add_after_store-requires-terms
-add_after_store-requires-terms g c =
+pub add_after_store-requires : goal.add_after_store-requires
+add_after_store-requires g c =
     let few : length (relation_of c.relation-item.result).sum ≤ 3 = few_terms relation_of c.args.relations.now c.loop-relation.relation-index c.relation-item.result c.loop-relation-test.true c.relation-item.is c.requires.terms in
-    omega (arith, few)
+    omega (arith, few, c.loop-relation.invariant.1, c.loop-relation.invariant.2, c.loop-relation-test.true, c.requires.cells, c.requires.room)
 
 pub loop-relation-preserved : goal.loop-relation-preserved
 loop-relation-preserved g c =

@@ -1,4 +1,4 @@
-use Rattle.std.proofs.Common.{◌≡◌, ◌+◌, ◌<◌, ◌≤◌, length, ◌∙◌, arith}
+use Rattle.std.proofs.Common.{◌<◌, ◌≤◌, length, ◌∙◌, arith}
 use Rattle.domain.specs.Sums.Facts.{OfEquations}
 use Rattle.domain.specs.Sums.RelationsInCode.{relation_of}
 use Rattle.domain.specs.Sums.FactInCode.{fact_in_code}
@@ -6,10 +6,10 @@ use Rattle.facts.specs.Sums.Stores.{copied_for}
 use Rattle.facts.proofs.Sums.EachRelation.{added_on, all_added_on, few_terms}
 use Rattle.facts.proofs.sum_facts.stores.add_each_copied.Goals as goal
 
-pub add_copied_for-requires-terms : goal.add_copied_for-requires-terms
-add_copied_for-requires-terms g c =
+pub add_copied_for-requires : goal.add_copied_for-requires
+add_copied_for-requires g c =
     let few : length (relation_of c.relation-item.result).sum ≤ 3 = few_terms relation_of c.args.relations.now c.loop-relation.relation-index c.relation-item.result c.loop-relation-test.true c.relation-item.is c.requires.terms in
-    omega (arith, few)
+    omega (arith, few, c.loop-relation.invariant.1, c.loop-relation.invariant.2, c.loop-relation-test.true, c.requires.cells, c.requires.room)
 
 pub loop-relation-preserved : goal.loop-relation-preserved
 loop-relation-preserved g c =

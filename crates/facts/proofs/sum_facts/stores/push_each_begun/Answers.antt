@@ -1,4 +1,4 @@
-use Rattle.std.proofs.Common.{◌≡◌, ◌+◌, ◌<◌, ◌≤◌, ◌++◌, List, length, map, ap, sym, ◌∙◌, arith}
+use Rattle.std.proofs.Common.{◌<◌, ◌++◌, List, length, map, ap, sym, ◌∙◌, arith}
 use Rattle.wordset.specs.Links.{links_of}
 use Rattle.domain.specs.Sums.Chains.{Chain, all_longer}
 use Rattle.domain.specs.Sums.RelationsInCode.{relation_of}

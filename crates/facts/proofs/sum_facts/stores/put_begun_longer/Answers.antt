@@ -1,4 +1,4 @@
-use Rattle.std.proofs.Common.{◌≡◌, ◌+◌, ◌++◌, List, length, map, refl, sym, ap, ◌∙◌, arith}
+use Rattle.std.proofs.Common.{◌≡◌, ◌++◌, List, length, map, sym, ap, ◌∙◌, arith}
 use Rattle.std.proofs.lemmas.List.{length-map}
 use Rattle.wordset.specs.Words.{Words}
 use Rattle.wordset.specs.Links.{links_of}
@@ -26,9 +26,14 @@ returns-in-OfSums g c =
     let f : Fact = fact_in_code c.args.fact.now in
     let whole : List Chain → List Chain → Words → List Relation → Fact = λ first beside links rs.
     record (fact_in_code c.args.after.now) { chains = first ++ all_longer (step_of c.args.step.now) (begun_beside beside (all_begun links rs)) } in
-    rw c.in-OfSums.is (c.push_each_begun.ensures
-    ∙ ap (λ (h : Fact). record h { chains = h.chains ++ all_longer (step_of c.args.step.now) (begun_beside (map chain_of c.chains.result.now) (all_begun (links_of c.link.result) (map relation_of c.as_slice.result.now))) }) c.lengthen_chains.ensures
-    ∙ ap (λ (cs : List Chain). whole (all_longer (step_of c.args.step.now) f.chains) cs (links_of c.link.result) (map relation_of c.as_slice.result.now)) c.chains.ensures.chains
-    ∙ ap (λ (k : Words). whole (all_longer (step_of c.args.step.now) f.chains) f.chains k (map relation_of c.as_slice.result.now)) c.link.ensures
-    ∙ ap (λ (rs : List Relation). whole (all_longer (step_of c.args.step.now) f.chains) f.chains f.link rs) (c.as_slice.ensures.relations ∙ c.relations.ensures)
-    ∙ ap (λ (cs : List Chain). record (fact_in_code c.args.after.now) { chains = cs }) (sym (map_append (longer (step_of c.args.step.now)) f.chains (begun_beside f.chains (all_begun f.link f.relations)))))
+    record {
+      fact = rw c.in-OfSums.is (c.push_each_begun.ensures
+          ∙ ap (λ (h : Fact). record h { chains = h.chains ++ all_longer (step_of c.args.step.now) (begun_beside (map chain_of c.chains.result.now) (all_begun (links_of c.link.result) (map relation_of c.as_slice.result.now))) }) c.lengthen_chains.ensures
+          ∙ ap (λ (cs : List Chain). whole (all_longer (step_of c.args.step.now) f.chains) cs (links_of c.link.result) (map relation_of c.as_slice.result.now)) c.chains.ensures.chains
+          ∙ ap (λ (k : Words). whole (all_longer (step_of c.args.step.now) f.chains) f.chains k (map relation_of c.as_slice.result.now)) c.link.ensures
+          ∙ ap (λ (rs : List Relation). whole (all_longer (step_of c.args.step.now) f.chains) f.chains f.link rs) (c.as_slice.ensures.relations ∙ c.relations.ensures)
+          ∙ ap (λ (cs : List Chain). record (fact_in_code c.args.after.now) { chains = cs }) (sym (map_append (longer (step_of c.args.step.now)) f.chains (begun_beside f.chains (all_begun f.link f.relations)))));
+    }
+
+pub returns-in-OfEquations : goal.returns-in-OfEquations
+returns-in-OfEquations g c = record { fact = rw c.in-OfEquations.is c.clear_chains.ensures.fact }

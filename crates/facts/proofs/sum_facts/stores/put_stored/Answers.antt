@@ -19,5 +19,5 @@ returns g c =
     c.of_name.ensures c.of_name-2.ensures (c.as_slice.ensures.relations ∙ c.relations.ensures)
     (c.set_name-2.ensures.fact ∙ ap (λ (s : Words). with_name Ac s (fact_in_code c.set_name.new.self)) c.one.ensures
     ∙ ap (λ (h : Fact). with_name Ac (one 0) h)
-    (c.set_name.ensures.fact ∙ ap (λ (s : Words). with_name (Cell c.args.cell) s (fact_in_code c.take_over.new.self)) c.all-3.ensures ∙ ap (λ (h : Fact). with_name (Cell c.args.cell) all_words h) c.take_over.ensures.fact))
+    (c.set_name.ensures.fact ∙ ap (λ (s : Words). with_name (Cell c.args.cell) s (fact_in_code c.take_over.new.self)) c.all.ensures ∙ ap (λ (h : Fact). with_name (Cell c.args.cell) all_words h) c.take_over.ensures.fact))
     c.add_after_store.ensures.fact c.add_after_store-2.ensures.fact c.add_each_after_store.ensures

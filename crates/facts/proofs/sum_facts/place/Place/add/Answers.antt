@@ -26,8 +26,8 @@ returns-in-OfSums g c =
     (c.is_alive-comes.ensures p all_words c.has_some-reached.ensures (all_reached refl)) c.go_to.ensures c.put_words_known.ensures (ap one c.increment.ensures)
     (c.put_added_under.ensures ∙ ap (λ (s : Words). added_under s (term_if c.operand_term-term.result) f 0) read ∙ ap (λ (o : Option Term). added_under (words_at pl f p) o f 0) term))
     (goes_on pl p f all_words (one (plus c.args.at 1)) _
-    (c.is_alive-comes-2.ensures p all_words c.has_some-reached.ensures (all_reached refl)) c.go_to-2.ensures c.put_words_known.ensures (ap one c.increment-2.ensures)
-    (c.put_added_under-2.ensures ∙ ap (λ (s : Words). added_under s (term_if c.operand_term-term.result) f 1) read ∙ ap (λ (o : Option Term). added_under (words_at pl f p) o f 1) term))
+    (c.is_alive-comes-in-OfSums.ensures p all_words c.has_some-reached.ensures (all_reached refl)) c.go_to-in-OfSums.ensures c.put_words_known.ensures (ap one c.increment-in-OfSums.ensures)
+    (c.put_added_under-in-OfSums.ensures ∙ ap (λ (s : Words). added_under s (term_if c.operand_term-term.result) f 1) read ∙ ap (λ (o : Option Term). added_under (words_at pl f p) o f 1) term))
     ∙ ap (λ r. tad_by (rules_of r) pl c.args.at f p t) (sym c.in-OfSums.is)
 
 pub returns-in-OfEquations : goal.returns-in-OfEquations
@@ -39,7 +39,7 @@ returns-in-OfEquations g c =
     let read : words c.put_words_at.new.place ≡ words_at pl f p = c.put_words_at.ensures in
     let held : words c.put_words_known.new.place ≡ ac_of pl f = c.put_words_known.ensures in
     none_after (goes_on pl p f all_words (one (plus c.args.at 1)) _
-    (c.is_alive-comes-3.ensures p all_words c.has_some-reached.ensures (all_reached refl)) c.go_to-in-OfEquations.ensures held (ap one c.increment-in-OfEquations.ensures)
+    (c.is_alive-comes-in-OfEquations.ensures p all_words c.has_some-reached.ensures (all_reached refl)) c.go_to-in-OfEquations.ensures held (ap one c.increment-in-OfEquations.ensures)
     (c.put_added.ensures ∙ ap (λ (s : Words). added s (words c.put_words_at.new.place) (term_if c.one_target.result) f) held
     ∙ ap (λ (s : Words). added (ac_of pl f) s (term_if c.one_target.result) f) read
     ∙ ap (λ (o : Option Term). added (ac_of pl f) (words_at pl f p) o f) (c.one_target.ensures ∙ ap (one_target pl.declaration) c.requires.single))) c.clear.ensures

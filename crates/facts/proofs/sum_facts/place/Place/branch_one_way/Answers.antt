@@ -1,10 +1,8 @@
-use Rattle.std.proofs.Common.{◌≡◌, ◌∙◌, sym, ap, refl, ℕ, Bool}
-use Rattle.wordset.specs.Words.{Words, one, all_words, has_some}
-use Rattle.wordset.specs.Lanes.{words}
-use Rattle.processor.specs.Machine.{next_pc}
+use Rattle.std.proofs.Common.{◌∙◌, ap, refl, ℕ}
+use Rattle.wordset.specs.Words.{one, all_words, has_some}
 use Rattle.domain.specs.Sums.Facts.{Fact}
 use Rattle.domain.specs.Sums.FactInCode.{fact_in_code}
-use Rattle.facts.specs.Sums.Outcomes.{Goes, alive, goes}
+use Rattle.facts.specs.Sums.Outcomes.{alive, goes}
 use Rattle.facts.specs.Sums.Operations.{part2, tested, may_be, cleared2}
 use Rattle.facts.specs.Sums.PlaceInCode.{place_in_code}
 use Rattle.facts.proofs.Sums.ComesLemmas.{test_fails, test_passes}

@@ -1,5 +1,5 @@
-use Rattle.std.proofs.Common.{◌≡◌, ◌∙◌, sym, ap, refl}
-use Rattle.wordset.specs.Words.{Words, one, plus, all_words}
+use Rattle.std.proofs.Common.{◌∙◌, ap, refl}
+use Rattle.wordset.specs.Words.{Words, all_words}
 use Rattle.wordset.specs.Lanes.{words}
 use Rattle.domain.specs.Sums.Facts.{Fact}
 use Rattle.domain.specs.Sums.FactInCode.{fact_in_code}

@@ -1,4 +1,4 @@
-use Rattle.std.proofs.Common.{◌≡◌, ◌∙◌, sym, ap, refl}
+use Rattle.std.proofs.Common.{◌≡◌, ◌∙◌, ap, refl}
 use Rattle.wordset.specs.Words.{Words, one, plus, all_words}
 use Rattle.wordset.specs.Lanes.{words}
 use Rattle.domain.specs.Sums.Facts.{Fact}
@@ -21,7 +21,7 @@ returns g c =
     let held : words c.put_words_known.new.place ≡ ac_of pl f = c.put_words_known.ensures in
     let read : words c.put_words_at.new.place ≡ words_at pl f p = c.put_words_at.ensures in
     goes_on pl p f all_words (one (plus c.args.at 1)) _
-    (c.is_alive.ensures p all_words c.has_some.ensures (all_reached refl)) c.go_to.ensures held (ap one c.increment.ensures)
+    (c.is_alive-comes.ensures p all_words c.has_some.ensures (all_reached refl)) c.go_to.ensures held (ap one c.increment.ensures)
     (c.put_chains_after_and.ensures
     ∙ ap (λ (x : Fact). record x { chains = chains_after_and pl.rules c.only.result f }) (c.take_for_accumulator.ensures
     ∙ ap (λ (s : Words). taking Ac s f) (c.ands.ensures ∙ ap (λ (s : Words). ands s (words c.put_words_at.new.place)) held ∙ ap (λ (s : Words). ands (ac_of pl f) s) read))

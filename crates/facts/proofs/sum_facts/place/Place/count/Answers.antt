@@ -8,5 +8,5 @@ returns-in-None g c = rw (sym c.requires.single ∙ c.in-None.is) c.count_severa
 pub returns-then-is_variable : goal.returns-then-is_variable
 returns-then-is_variable g c = rw (sym c.requires.single ∙ c.in-Some.is) c.count_one.ensures
 
-pub returns-in-Some : goal.returns-in-Some
-returns-in-Some g c = rw (sym c.requires.single ∙ c.in-Some.is) (none_after c.count_own.ensures c.clear.ensures)
+pub returns-else-is_variable : goal.returns-else-is_variable
+returns-else-is_variable g c = rw (sym c.requires.single ∙ c.in-Some.is) (none_after c.count_own.ensures c.clear.ensures)

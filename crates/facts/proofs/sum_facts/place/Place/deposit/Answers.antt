@@ -1,4 +1,4 @@
-use Rattle.std.proofs.Common.{◌≡◌, ◌∙◌, sym, ap, refl}
+use Rattle.std.proofs.Common.{◌∙◌, sym, ap, refl}
 use Rattle.wordset.specs.Words.{Words, one, plus, all_words}
 use Rattle.wordset.specs.Lanes.{words}
 use Rattle.domain.specs.Sums.Facts.{Fact}
@@ -27,5 +27,5 @@ returns-in-None g c =
     let f : Fact = (fact_in_code c.args.fact.now) in
     let p : Words = (words c.args.targets.now) in
     rw (sym c.requires.single ∙ c.in-None.is) (goes_on pl p f all_words (one (plus c.args.at 1)) _
-    (c.is_alive-comes-2.ensures p all_words c.has_some-reached.ensures (all_reached refl)) c.go_to-in-None.ensures c.put_words_known.ensures (ap one c.increment-in-None.ensures)
+    (c.is_alive-comes-in-None.ensures p all_words c.has_some-reached.ensures (all_reached refl)) c.go_to-in-None.ensures c.put_words_known.ensures (ap one c.increment-in-None.ensures)
     (c.take_deposited_among.ensures ∙ ap (λ (s : Words). taking Ac (one 0) (weakly_updated p (λ a. s) f)) c.put_words_known.ensures))

@@ -1,11 +1,8 @@
-use Rattle.std.proofs.Common.{◌∙◌, ap, sym, subst, map}
+use Rattle.std.proofs.Common.{◌∙◌, sym, subst}
 use Rattle.std.specs.Prelude.{IsTrue, ◌↔◌}
 use Rattle.facts.specs.Sums.PlaceInCode.{place_in_code}
 use Rattle.domain.specs.Sums.FactInCode.{fact_in_code}
-use Rattle.domain.specs.Sums.CellsInCode.{cell_set_of}
-use Rattle.domain.specs.Sums.RelationsInCode.{relation_of}
-use Rattle.domain.specs.Sums.ChainsInCode.{chain_of}
-use Rattle.facts.specs.Sums.Entailment.{KnowsAll, ShowsChains, Entails}
+use Rattle.facts.specs.Sums.Entailment.{KnowsAll, ShowsChains}
 use Rattle.facts.specs.Sums.Entailing.{EachWithin}
 use Rattle.domain.specs.Facts.{Ac}
 use Rattle.domain.specs.Sums.CellsInCode.{cell_sets_of}

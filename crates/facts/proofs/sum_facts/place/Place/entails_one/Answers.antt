@@ -1,4 +1,4 @@
-use Rattle.std.proofs.Common.{◌<◌, ◌≤◌, length, arith}
+use Rattle.std.proofs.Common.{arith}
 use Rattle.facts.specs.Sums.PlaceInCode.{place_in_code}
 use Rattle.domain.specs.Sums.FactInCode.{fact_in_code}
 use Rattle.facts.proofs.Sums.SplitLemmas.{one_found, one_step, one_none}

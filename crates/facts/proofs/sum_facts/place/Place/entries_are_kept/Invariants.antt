@@ -8,4 +8,4 @@ use Rattle.facts.proofs.sum_facts.place.Place.entries_are_kept.Given as goal
 
 abbrev pub invariant-loop-cell : goal.invariant-loop-cell
 invariant-loop-cell g l =
-    Passed (λ a. (place_in_code l.self).declaration.entry a ≡ true → CountsItsReturn (place_in_code l.self) (fact_in_code l.fact) (meaning_in (place_in_code l.self) l.at l.word) a) (words l.written) l.cell-iterator
+    Passed (λ a. (place_in_code l.self).declaration.entry a ≡ true → CountsItsReturn (place_in_code l.self) (fact_in_code l.fact) (meaning_in (place_in_code l.self) l.at l.word) a) (words l.initial.cell-iterator.set.now) l.cell-iterator

@@ -1,7 +1,6 @@
-use Rattle.std.proofs.Common.{◌≡◌, ◌∙◌, sym, ap, refl}
+use Rattle.std.proofs.Common.{◌∙◌, sym, ap, refl}
 use Rattle.wordset.specs.Words.{Words, one, plus, all_words, ors}
 use Rattle.wordset.specs.Lanes.{words}
-use Rattle.domain.specs.Sums.Facts.{Fact}
 use Rattle.domain.specs.Sums.FactInCode.{fact_in_code}
 use Rattle.facts.specs.Sums.PlaceInCode.{place_in_code}
 use Rattle.instruct.specs.Operates.{Mql, Mqa, Swp, Cam, ClaMqa, ClaSwp}

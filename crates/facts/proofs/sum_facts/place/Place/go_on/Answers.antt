@@ -1,8 +1,5 @@
-use Rattle.std.proofs.Common.{◌≡◌, ◌∙◌, sym, ap, refl}
-use Rattle.wordset.specs.Words.{Words, one, plus, all_words}
-use Rattle.wordset.specs.Lanes.{words}
-use Rattle.domain.specs.Sums.Facts.{Fact}
-use Rattle.domain.specs.Sums.FactInCode.{fact_in_code}
+use Rattle.std.proofs.Common.{refl}
+use Rattle.wordset.specs.Words.{one, all_words}
 use Rattle.facts.specs.Sums.PlaceInCode.{place_in_code}
 use Rattle.facts.proofs.Sums.ComesLemmas.{goes_on, all_reached}
 use Rattle.facts.proofs.sum_facts.place.Place.go_on.Goals as goal

@@ -1,5 +1,5 @@
 use Rattle.std.proofs.Common.{◌∙◌, ap}
-use Rattle.wordset.specs.Words.{Words, without, has_some}
+use Rattle.wordset.specs.Words.{without, has_some}
 use Rattle.wordset.specs.Lanes.{words}
 use Rattle.facts.proofs.sum_facts.place.Place.may_hold.Goals as goal
 

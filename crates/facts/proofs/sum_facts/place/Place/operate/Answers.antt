@@ -1,6 +1,5 @@
-use Rattle.std.proofs.Common.{◌≡◌, ◌∙◌, sym, ap, refl}
-use Rattle.wordset.specs.Words.{Words, one, plus, all_words}
-use Rattle.wordset.specs.Lanes.{words}
+use Rattle.std.proofs.Common.{◌∙◌, sym, ap}
+use Rattle.wordset.specs.Words.{Words, one, all_words}
 use Rattle.domain.specs.Sums.Facts.{Fact}
 use Rattle.domain.specs.Sums.FactInCode.{fact_in_code, rules_of}
 use Rattle.facts.specs.Sums.PlaceInCode.{place_in_code}
@@ -21,8 +20,8 @@ returns-in-OfSums g c =
     both_are
     (c.go_on.ensures f c.put_words_known.ensures ∙ ap (λ (x : Fact). goes pl all_words f all_words (one c.increment.result) x) c.put_operated_under.ensures
     ∙ ap (λ n. goes pl all_words f all_words (one n) (operated_under w f 0)) c.increment.ensures)
-    (c.go_on-2.ensures f c.put_words_known.ensures ∙ ap (λ (x : Fact). goes pl all_words f all_words (one c.increment-2.result) x) c.put_operated_under-2.ensures
-    ∙ ap (λ n. goes pl all_words f all_words (one n) (operated_under w f 1)) c.increment-2.ensures)
+    (c.go_on-in-OfSums.ensures f c.put_words_known.ensures ∙ ap (λ (x : Fact). goes pl all_words f all_words (one c.increment-in-OfSums.result) x) c.put_operated_under-in-OfSums.ensures
+    ∙ ap (λ n. goes pl all_words f all_words (one n) (operated_under w f 1)) c.increment-in-OfSums.ensures)
     ∙ ap (λ r. all_operated1 (rules_of r) pl c.args.at w f) (sym c.in-OfSums.is)
 
 pub returns-in-OfEquations : goal.returns-in-OfEquations

@@ -1,4 +1,4 @@
-use Rattle.std.proofs.Common.{◌≡◌, ◌∙◌, sym, subst, refl}
+use Rattle.std.proofs.Common.{◌≡◌, subst, refl}
 use Rattle.wordset.specs.Lanes.{words}
 use Rattle.instruct.specs.Instructions.{operation_of}
 use Rattle.domain.specs.Sums.FactInCode.{fact_in_code}
@@ -13,9 +13,9 @@ returns-then-not-is_reference g c = no_words _ _ c.empty.ensures (calls_nothing 
 
 pub returns-then-not-is_jms : goal.returns-then-not-is_jms
 returns-then-not-is_jms g c =
-    subst (λ m. words c.empty-2.result ≡ called (place_in_code c.args.self.now) (fact_in_code c.args.fact.now) m)
+    subst (λ m. words c.empty-then-not-is_jms.result ≡ called (place_in_code c.args.self.now) (fact_in_code c.args.fact.now) m)
     (refers_in (place_in_code c.args.self.now) c.args.at c.args.word _ _ ((c.is_reference.ensures c.args.at).0 c.if-not-is_reference.false) refl refl)
-    (no_words _ _ c.empty-2.ensures (not_called (place_in_code c.args.self.now) (fact_in_code c.args.fact.now) (operation_of c.args.word) _ _ _ c.is_jms.ensures c.if-not-is_jms.true))
+    (no_words _ _ c.empty-then-not-is_jms.ensures (not_called (place_in_code c.args.self.now) (fact_in_code c.args.fact.now) (operation_of c.args.word) _ _ _ c.is_jms.ensures c.if-not-is_jms.true))
 
 pub returns : goal.returns
 returns g c =

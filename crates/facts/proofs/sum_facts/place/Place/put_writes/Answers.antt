@@ -1,4 +1,4 @@
-use Rattle.std.proofs.Common.{◌≡◌, ◌∙◌, sym, subst}
+use Rattle.std.proofs.Common.{◌≡◌, subst}
 use Rattle.wordset.specs.Lanes.{words}
 use Rattle.instruct.specs.Instructions.{operation_of}
 use Rattle.domain.specs.Sums.FactInCode.{fact_in_code}

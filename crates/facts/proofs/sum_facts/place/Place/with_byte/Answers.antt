@@ -1,9 +1,5 @@
-use Rattle.std.proofs.Common.{◌≡◌, ◌∙◌, sym, ap, refl}
-use Rattle.wordset.specs.Words.{Words, one, plus, all_words}
+use Rattle.std.proofs.Common.{◌∙◌, ap}
 use Rattle.wordset.specs.Lanes.{words}
-use Rattle.domain.specs.Sums.Facts.{Fact}
-use Rattle.domain.specs.Sums.FactInCode.{fact_in_code}
-use Rattle.facts.specs.Sums.PlaceInCode.{place_in_code}
 use Rattle.wordset.specs.Words.{or_any}
 use Rattle.facts.proofs.sum_facts.place.Place.with_byte.Goals as goal
 

@@ -27,16 +27,16 @@ nothing_more : (b : Bool) (x : List ℕ) → (if b && false then x else []) ≡ 
 nothing_more true x = refl
 nothing_more false x = refl
 
-mark_first : (s : Words) (a : ℕ) → begins s a ≡ true → offset_mark s a ≡ (if some_below a s then codes "," else []) ++ rank_text a
+pub mark_first : (s : Words) (a : ℕ) → begins s a ≡ true → offset_mark s a ≡ (if some_below a s then codes "," else []) ++ rank_text a
 mark_first s a e = rw e (rw (nothing_more (ends s a) (codes "-" ++ rank_text a)) (append-nil ((if some_below a s then codes "," else []) ++ rank_text a)))
 
-mark_last : (s : Words) (a : ℕ) → begins s a ≡ false → ends s a ≡ true → offset_mark s a ≡ codes "-" ++ rank_text a
+pub mark_last : (s : Words) (a : ℕ) → begins s a ≡ false → ends s a ≡ true → offset_mark s a ≡ codes "-" ++ rank_text a
 mark_last s a e f = rw (e, f) refl
 
 absent : (s : Words) (a : ℕ) → s a ≡ false → offset_mark s a ≡ []
 absent s a e = rw e refl
 
-marks_more : (n : ℕ) (s : Words) → offset_marks (n + 1) s ≡ offset_marks n s ++ offset_mark s n
+pub marks_more : (n : ℕ) (s : Words) → offset_marks (n + 1) s ≡ offset_marks n s ++ offset_mark s n
 unfolding offset_marks
 marks_more n s = let e : n + 1 ≡ suc n = omega arith in ap (λ k. offset_marks k s) e
 

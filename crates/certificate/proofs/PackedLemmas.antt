@@ -101,22 +101,22 @@ pub all_joined : (lanes : List ℕ) (rs : List Run) (i : ℕ) → length rs ≤ 
 all_joined lanes rs i h e = set_is lanes rs (λ v k. ap (λ (f : Words). f v) (rw (take_all i rs h) at e))
 
 -- What is kept stays so where more runs are added.
-range_kept : {X : Type 0} (xs more : List X) (first count : ℕ) → first + count ≤ length xs →
+pub range_kept : {X : Type 0} (xs more : List X) (first count : ℕ) → first + count ≤ length xs →
     slice_range (xs ++ more) first (first + count) ≡ slice_range xs first (first + count)
 range_kept xs more first count k =
     let room : first + count - first ≤ length (drop first xs) = omega (arith, length-drop first xs) in
     ap (take (first + count - first)) (drop-append-le first xs more (omega arith)) ∙ take-append-le (first + count - first) (drop first xs) more room
 
-set_kept : (runs more : List Run) (first count : ℕ) → first + count ≤ length runs → set_at (runs ++ more) first count ≡ set_at runs first count
+pub set_kept : (runs more : List Run) (first count : ℕ) → first + count ≤ length runs → set_at (runs ++ more) first count ≡ set_at runs first count
 set_kept runs more first count h = ap set_of_runs (range_kept runs more first count h)
 
-one_kept : (runs more : List Run) (s : Counts) → AreWithin (length runs) s → one_at (runs ++ more) s ≡ one_at runs s
+pub one_kept : (runs more : List Run) (s : Counts) → AreWithin (length runs) s → one_at (runs ++ more) s ≡ one_at runs s
 one_kept runs more s h = set_kept runs more 0 s.one (let q = h.inside in omega (arith, q))
 
-other_kept : (runs more : List Run) (s : Counts) → AreWithin (length runs) s → other_at (runs ++ more) s ≡ other_at runs s
+pub other_kept : (runs more : List Run) (s : Counts) → AreWithin (length runs) s → other_at (runs ++ more) s ≡ other_at runs s
 other_kept runs more s h = set_kept runs more s.one s.other h.inside
 
-registers_kept : (runs more : List Run) (r : PackedRegisters) → AreWithin (length runs) r.sets → registers_at (runs ++ more) r ≡ registers_at runs r
+pub registers_kept : (runs more : List Run) (r : PackedRegisters) → AreWithin (length runs) r.sets → registers_at (runs ++ more) r ≡ registers_at runs r
 registers_kept runs more r h = rw (one_kept runs more r.sets h, other_kept runs more r.sets h) refl
 
 line_kept : (runs more : List Run) (l : PackedLine) → LiesWithin (length runs) l → said_at (runs ++ more) l ≡ said_at runs l
@@ -156,7 +156,7 @@ one_on n [] k w one = (one, tt)
 one_on n (x ∷ ls) k w one = (w.0, one_on n ls k w.1 one)
 
 -- More runs.
-longer : (runs new : List Run) → Begins runs new → length runs ≤ length new
+pub longer : (runs new : List Run) → Begins runs new → length runs ≤ length new
 longer runs new b = let q : length new ≡ length (runs ++ b.0) = ap length b.1 in omega (arith, length-append runs b.0)
 
 pub runs_added : (runs new : List Run) (ls : List KeptLine) → AllByRecursion (IsKept (length runs)) ls → Begins runs new → lines_in new ls ≡ lines_in runs ls
@@ -179,7 +179,7 @@ all_within runs new ls after k line h b f p e =
     rw e (one_on (length new) ls k (still_within runs new ls h b) (record { first = (let q = longer runs new b in omega (arith, f, q)); within = rw f w }))
 
 -- The runs at the front, and those from one on.
-front_of : (xs : List Run) (n : ℕ) → slice_range xs 0 (0 + n) ≡ take n xs
+pub front_of : (xs : List Run) (n : ℕ) → slice_range xs 0 (0 + n) ≡ take n xs
 front_of xs n = let k : 0 + n - 0 ≡ n = omega arith in rw k refl
 
 pub rest_of : (xs ys : List Run) (i : ℕ) → xs ≡ ys → take (length xs - i) (drop i xs) ≡ drop i ys

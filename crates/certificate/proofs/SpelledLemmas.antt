@@ -27,27 +27,27 @@ take_twice xs ys n = elim (cases_lt n (length xs)) [
 
 -- Nothing was added.
 pub none : (xs : List ℕ) → Adds xs xs []
-none xs = record { is = sym (ap (λ (x : List ℕ). take 32769 x) (append-nil xs)) }
+none xs = record { is = sym (ap (λ (x : List ℕ). take 49153 x) (append-nil xs)) }
 
 -- One text after another.
 pub joined : (a b c s t : List ℕ) → Adds a b s → Adds b c t → Adds a c (s ++ t)
 joined a b c s t p q = record {
-  is = q.is ∙ (sym (take_twice b t 32769) ∙ (ap (λ (x : List ℕ). take 32769 (x ++ t)) p.is ∙
-      (take_twice (a ++ s) t 32769 ∙ ap (λ (x : List ℕ). take 32769 x) (append_assoc a s t))));
+  is = q.is ∙ (sym (take_twice b t 49153) ∙ (ap (λ (x : List ℕ). take 49153 (x ++ t)) p.is ∙
+      (take_twice (a ++ s) t 49153 ∙ ap (λ (x : List ℕ). take 49153 x) (append_assoc a s t))));
 }
 
 -- A text that was added, and a byte for which there was no room.
 pub added : (xs ys text : List ℕ) → ys ≡ xs ++ text → Adds xs ys text
-added xs ys text e = record { is = ap (λ (x : List ℕ). take 32769 x) e }
+added xs ys text e = record { is = ap (λ (x : List ℕ). take 49153 x) e }
 
-pub dropped : (xs : List ℕ) (b : ℕ) → 32769 ≤ length xs → Adds xs xs (b ∷ [])
-dropped xs b h = record { is = sym (take-append-le 32769 xs (b ∷ []) h) }
+pub dropped : (xs : List ℕ) (b : ℕ) → 49153 ≤ length xs → Adds xs xs (b ∷ [])
+dropped xs b h = record { is = sym (take-append-le 49153 xs (b ∷ []) h) }
 
 -- What is written is the line.
-pub whole : (xs ys text : List ℕ) → xs ≡ [] → Adds xs ys text → length ys ≤ 32769 → length text ≤ 32769 → ys ≡ text
+pub whole : (xs ys text : List ℕ) → xs ≡ [] → Adds xs ys text → length ys ≤ 49153 → length text ≤ 49153 → ys ≡ text
 whole xs ys text none h a b =
-    let e : take 32769 ys ≡ take 32769 text = rw none at h.is in
-    sym (take_all 32769 ys a) ∙ (e ∙ take_all 32769 text b)
+    let e : take 49153 ys ≡ take 49153 text = rw none at h.is in
+    sym (take_all 49153 ys a) ∙ (e ∙ take_all 49153 text b)
 
 -- Runs as far as they're written, and whether a comma comes next.
 pub record RunsWritten (old now : List ℕ) (rs : List Run) (n : ℕ) : Type 0 where
@@ -101,12 +101,12 @@ full_written old now [] some h a = absurd (true≢false (sym some))
 full_written old now (r ∷ rs) some h a = rw (some_runs 0 r rs h) a
 
 -- As much of a text as there is room for.
-pub fronted : (old new text : List ℕ) (room n : ℕ) → room + length old ≡ 32769 → n ≤ room → (n < room → length text ≤ n) → new ≡ old ++ take n text →
+pub fronted : (old new text : List ℕ) (room n : ℕ) → room + length old ≡ 49153 → n ≤ room → (n < room → length text ≤ n) → new ≡ old ++ take n text →
     Adds old new text
 fronted old new text room n all few whole e = record {
-  is = ap (λ (x : List ℕ). take 32769 x) e ∙ elim (cases_lt n room) [
-    | inl h ↦ ap (λ (x : List ℕ). take 32769 (old ++ x)) (take_all n text (whole h))
-    | inr h ↦ (let z : 32769 ≡ length old + n = omega arith in
+  is = ap (λ (x : List ℕ). take 49153 x) e ∙ elim (cases_lt n room) [
+    | inl h ↦ ap (λ (x : List ℕ). take 49153 (old ++ x)) (take_all n text (whole h))
+    | inr h ↦ (let z : 49153 ≡ length old + n = omega arith in
         rw (z, take-append-add old (take n text) n, take-append-add old text n, take_all n (take n text) (omega (arith, length-take n text))) refl)
   ];
 }

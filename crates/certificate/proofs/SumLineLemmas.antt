@@ -434,7 +434,7 @@ name_read (Cell a) h =
     let s : a < 4096 = ltb-true a 4096 h in omega arith) in
     rw no (ap Cell (octal_back a (ltb-true a 4096 h)))
 
-one_word : (k : ℕ) → k < 4096 → only (one k) ≡ Some k
+pub one_word : (k : ℕ) → k < 4096 → only (one k) ≡ Some k
 one_word k small = sym (only_next (one k) k
     (record { small = small; reached = omega arith; within = eq-eqb k k refl; before = λ v a b. ne_eqb v k (λ z. omega arith) })
     (λ v a b. ne_eqb v k (λ z. omega arith)))

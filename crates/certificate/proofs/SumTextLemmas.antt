@@ -156,7 +156,7 @@ pub line_taken : (v : Version) (before : List Line) (bytes : List ℕ) (l : Line
     after_line (After v before) bytes ≡ After v (l ∷ before)
 line_taken v before bytes l s n = ap (with_line v before) (line_of_text v bytes l s) ∙ next_taken v before l n
 
-version_taken : (v : Version) → begun (version_text v) ≡ After v []
+pub version_taken : (v : Version) → begun (version_text v) ≡ After v []
 version_taken One = refl
 version_taken Two = refl
 version_taken Three = refl

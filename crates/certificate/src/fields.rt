@@ -78,7 +78,7 @@ impl<'a> Fields<'a> {
             return false;
         }
         match self.rest.strip_prefix(text) {
-            Some(_) => true,
+            Some(_rest) => true,
             None => false,
         }
     }
@@ -247,6 +247,8 @@ impl<'a> Fields<'a> {
             (added runs.old.items runs.new.items ≡ one word)) }
         ensures only { length runs.old.items ≤ 4096 → left self.new ≡ left self.old }
     {
+        let index = word.index();
+        prove!(index < 4096);
         match runs.try_push(Run {
             first: word,
             last: word,

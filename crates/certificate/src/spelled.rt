@@ -75,7 +75,7 @@ impl LineText {
     /// Adds a byte.
     pub fn push(&mut self, byte: u8)
         ensures adds { Adds self.old.bytes.items self.new.bytes.items (byte ∷ []) }
-        ensures fits { length self.new.bytes.items ≤ 32769 }
+        ensures fits { length self.new.bytes.items ≤ 49153 }
     {
         if !self.bytes.is_full() {
             self.bytes.push(byte);

@@ -1,6 +1,6 @@
 //! Certificates of all versions: facts with sums of which several may stand at an address, and their spelling as text.
 
-ghost use Rattle.std.specs.Prelude.{ℕ, ◌≡◌, ◌+◌, ◌*◌, ◌<◌, ◌⊎◌, [], ◌∷◌, true, false, is_some, is_err, None, Ok, Err, Some, IfSome, IfOk, IfErr, OnOk, OnErr, MatchOption};
+ghost use Rattle.std.specs.Prelude.{ℕ, ◌≡◌, ◌+◌, ◌*◌, ◌<◌, ◌⊎◌, [], ◌∷◌, true, false, drop, is_some, is_err, None, Ok, Err, Some, IfSome, IfOk, IfErr, OnOk, OnErr, MatchOption};
 ghost use Rattle.std.specs.Io.KnownBytes.{Appends};
 ghost use Rattle.streams.specs.Bytes.{AppendsFront};
 ghost use Rattle.certificate.specs.declared.CertificateFault.TheVariants as faults;
@@ -11,14 +11,15 @@ ghost use Rattle.certificate.specs.Sums.Certificate.{names_routine, claimed, has
 ghost use Rattle.certificate.specs.Sums.Reading.{reading};
 ghost use Rattle.certificate.specs.Sums.Laws.{SpelledIsRead, ReadAreBytes, bytes_of};
 ghost use Rattle.certificate.specs.Sums.Serving.{AsksForMemory};
-ghost use Rattle.certificate.specs.Sums.Kept.{meaning, claims, facts_from, exits_from, lines_from, IsBeforeFacts, IsBeforeExits};
+ghost use Rattle.certificate.specs.Sums.Kept.{meaning, claims, facts_from, exits_from, IsBeforeFacts, IsBeforeExits};
 ghost use Rattle.certificate.specs.Sums.Found.{first_with_details};
+ghost use Rattle.certificate.specs.Sums.Packed.{said_lines};
 ghost use Rattle.certificate.specs.Sums.Spelled.{all_ended};
 
 use crate::sums::lines::{end_of, first_routine, first_said};
 use crate::sums::packed::{CertifiedFact, PackedLines};
 use crate::sums::parser::Parser;
-use crate::sums::progress::{FIRST_EXIT, FIRST_FACT, LAST_PLACE};
+use crate::sums::progress::{FIRST_EXIT, FIRST_FACT};
 use crate::sums::spelled::{put_lines, put_text};
 use crate::{CertificateFault, RoutineClaim, WriteFault};
 use std::alloc::Allocator;
@@ -119,7 +120,7 @@ impl<A: Allocator> Certificate<A> {
         }
     }
 
-    /// Writes the lines of the fact at a place as its text has them. The sink has met no failure yet.
+    /// Writes the lines of the fact at a place as its text has them, or nothing past the last line. The sink has met no failure yet.
     ///
     /// # Errors
     ///
@@ -127,9 +128,9 @@ impl<A: Allocator> Certificate<A> {
     pub fn write_fact<W: ByteSink>(&self, line: usize, sink: &mut W) -> Result<(), WriteFault>
         requires unmarked { W.mark sink.old ≡ false }
         ensures whole { OnOk result (Appends (W.taken sink.old) (W.taken sink.new)
-            (all_ended (meaning self.now).version (first_with_details (lines_from self.now line)))) }
+            (all_ended (meaning self.now).version (first_with_details (drop line (said_lines self.now.lines))))) }
         ensures front { OnErr result (AppendsFront (W.taken sink.old) (W.taken sink.new)
-            (all_ended (meaning self.now).version (first_with_details (lines_from self.now line)))) }
+            (all_ended (meaning self.now).version (first_with_details (drop line (said_lines self.now.lines))))) }
         ensures marks { W.mark sink.new ≡ is_err result }
     {
         let end = end_of(&self.kept, line);
@@ -286,15 +287,12 @@ impl<A: Allocator> Certificate<A> {
             (λ o. (o < 64) × IsFirstFrom from (λ o. has_any ((claims self.now).exits entry o)) o) }
     {
         let first = FIRST_EXIT + 64 * entry.index();
-        if from >= 64 {
+        let least = from.min(64);
+        let place = self.kept.next_place(first + least);
+        if place >= first + 64 {
             return None;
         }
-        let place = self.kept.next_place(first + from);
-        if place < first + 64 && place < LAST_PLACE {
-            Some(place - first)
-        } else {
-            None
-        }
+        Some(place - first)
     }
 }
 

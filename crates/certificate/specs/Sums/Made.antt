@@ -69,13 +69,21 @@ pub record AreDetails (f : SumFact 64 32) : Type 0 where
   pub sums : Each (λ r. is_relation r.sum ≡ true) (fact_in_code f).relations
   pub steps : Each (λ c. length c.steps ≤ 16) (fact_in_code f).chains
 
--- The sites that a line has by a declaration: those of the routine whose body has a fact's address, or of an exit's routine. No
--- address is in two bodies, and there are none in main.
+-- The sites of an address by a declaration: those of the routine whose body has it. No address is in two bodies, and there are
+-- none in main.
+abbrev pub sites_at : Declaration → Certificate → ℕ → Words
+sites_at d c a w = some_below 4096 (λ e. d.body (Some e) a && c.sites e w)
+
+-- The sites that a line has by a declaration: those of a fact's address, or of an exit's routine.
 abbrev pub sites_by : Declaration → Certificate → Line → Words
-sites_by d c (FactIs a s r o) w = some_below 4096 (λ e. d.body (Some e) a && c.sites e w)
+sites_by d c (FactIs a s r o) w = sites_at d c a w
 sites_by d c (ExitIs e o s r) w = c.sites e w
 sites_by d c _ w = false
 
+-- The line with these sites.
+abbrev pub sited_by : Declaration → Certificate → Line → Line
+sited_by d c l = sited_line (sites_by d c l) l
+
 -- The text of version 3 with these sites, and else the same lines.
 abbrev pub with_sites : Declaration → Text → Text
-with_sites d t = record { version = Three; lines = map (λ l. sited_line (sites_by d (certificate_of t) l) l) t.lines }
+with_sites d t = record { version = Three; lines = map (sited_by d (certificate_of t)) t.lines }

@@ -85,6 +85,20 @@ LiesWithin n m packed.End = Unit {0}
 abbrev pub IsKept : ℕ → ℕ → KeptLine → Type 0
 IsKept n m k = LiesWithin (n - k.first) (m - k.first) k.line
 
+-- How many runs the sets of a packed line have, and how many steps it has.
+abbrev pub run_count : PackedLine → ℕ
+run_count (packed.Routine r) = r.sets.one + r.sets.other
+run_count (packed.Fact f) = f.sites + (f.registers.sets.one + f.registers.sets.other)
+run_count (packed.Exit e) = e.sites + (e.registers.sets.one + e.registers.sets.other)
+run_count (packed.Cell a count) = count
+run_count (packed.Sum s count) = count
+run_count (packed.Chain c) = 0
+run_count packed.End = 0
+
+abbrev pub step_count : PackedLine → ℕ
+step_count (packed.Chain c) = c.count
+step_count _ = 0
+
 -- The numbers of a packed line are of its form: an offset has a place of its own.
 abbrev pub IsNumbered : PackedLine → Type 0
 IsNumbered (packed.Exit e) = e.offset < 64

@@ -1,6 +1,6 @@
 //! The fields that version 3 adds, each with one spelling.
 
-ghost use Rattle.std.specs.Prelude.{ℕ, ◌≡◌, ◌<◌, ◌≤◌, List, [], ◌∷◌, ◌++◌, length, map, take, flat_map, Option, codes, true, false, Some, None, IfSome};
+ghost use Rattle.std.specs.Prelude.{ℕ, ◌≡◌, ◌<◌, ◌≤◌, ◌==◌, ◌&&◌, ◌||◌, List, [], ◌∷◌, ◌++◌, length, map, take, flat_map, Option, codes, true, false, Some, None, IfSome};
 ghost use Rattle.std.specs.List.{list_all};
 ghost use Rattle.std.specs.Option.{IsSomeAnd};
 ghost use Rattle.wordset.specs.Words.{Words, some_below};
@@ -16,12 +16,23 @@ ghost use Rattle.certificate.specs.Fields.{left, WasFirst, NoDash, EndsField};
 ghost use Rattle.certificate.specs.Sums.Fields.{offset_run_text, offset_set_text, with_run, third_text, step_rest, AreSteps};
 ghost use Rattle.certificate.specs.Sums.Spelling.{offset_marks, term_text, coefficient_text, further_text, sum_text, step_text};
 ghost use Rattle.certificate.specs.Sums.LineOf.{is_term, is_relation, is_step};
-ghost use Rattle.certificate.specs.Sums.Packed.{packed_sum_of};
+ghost use Rattle.certificate.specs.Sums.Packed.{third_terms, packed_sum_of};
 
 use crate::fields::Fields;
 use crate::sums::packed::{PackedSum, Steps, is_relation, is_step};
 use domain::{CountedOffsets, Location, ReturnOffsets, Step, Summand, Term, is_sign, negated};
 use word12::Word;
+
+/// Puts an offset in, where it's wanted.
+fn insert_if(found: &mut ReturnOffsets, offset: usize, is_wanted: bool)
+    requires { offset < 64 }
+    ensures { (v : ℕ) → offsets_in found.new v ≡ (offsets_in found.old v || is_wanted && v == offset) }
+{
+    if !is_wanted {
+        return;
+    }
+    found.insert(offset);
+}
 
 /// The same offsets among those that may be told of.
 fn told(offsets: CountedOffsets) -> ReturnOffsets
@@ -33,20 +44,39 @@ fn told(offsets: CountedOffsets) -> ReturnOffsets
         return found;
     }
     for offset in 0..8usize {
-        if offsets.contains(offset) {
-            found.insert(offset);
-        }
+        insert_if(&mut found, offset, offsets.contains(offset));
     }
     found
 }
 
 /// Puts the offsets from one to another in, both of them.
 fn insert_run(found: &mut ReturnOffsets, first: usize, last: usize)
-    requires { last < 64 }
+    requires order { first ≤ last }
+    requires small { last < 64 }
     ensures { (v : ℕ) → offsets_in found.new v ≡ with_run first last (offsets_in found.old) v }
 {
     for offset in first..last + 1 {
         found.insert(offset);
+    }
+}
+
+/// The cell of a term that has minus this coefficient, if it's what a cell holds.
+fn opposite_cell(third: &Summand, coefficient: Word) -> Option<Word>
+    ensures is { IfSome result (λ z. summand_of third.now ∷ [] ≡ third_terms coefficient (Some z)) }
+    ensures only { (z : ℕ) → summand_of third.now ∷ [] ≡ third_terms coefficient (Some z) → result ≡ Some z }
+{
+    match third.term {
+        Term::Holding(name) => match name {
+            Location::Cell(cell) => {
+                if third.coefficient == negated(coefficient) {
+                    Some(cell)
+                } else {
+                    None
+                }
+            }
+            Location::Accumulator => None,
+        },
+        Term::Behind { .. } => None,
     }
 }
 
@@ -63,7 +93,8 @@ impl<'a> Fields<'a> {
 
     /// A run of offsets from `from` on: its first one and its last one, of two digits each.
     fn offset_run(&mut self, from: usize) -> (usize, usize)
-        ensures small { (result.0 < 64) × (result.1 < 64) }
+        ensures small { result.1 < 64 }
+        ensures rising { result.0 ≤ result.1 }
         ensures read { WasFirst self.old self.new (offset_run_text result.0 result.1) }
         ensures order { IfSome (left self.new) (λ rest. (from ≤ result.0) × (result.0 ≤ result.1)) }
         ensures only { (low high : ℕ) (rest : List ℕ) → from ≤ low → low ≤ high → high < 64 →
@@ -81,6 +112,7 @@ impl<'a> Fields<'a> {
         let high = self.rank();
         if high <= low {
             self.fail();
+            return (low, low);
         }
         (low, high)
     }
@@ -120,7 +152,7 @@ impl<'a> Fields<'a> {
 
     /// Takes some text, if it is next.
     fn takes_text(&mut self, text: &[u8]) -> bool
-        ensures taken { result ≡ true → WasFirst self.old self.new text.now }
+        ensures taken { result ≡ true → IsSomeAnd (left self.new) (λ rest. left self.old ≡ Some (text.now ++ rest)) }
         ensures kept { result ≡ false → left self.new ≡ left self.old }
         ensures only { (rest : List ℕ) → left self.old ≡ Some (text.now ++ rest) →
             (result ≡ true) × (left self.new ≡ Some rest) }
@@ -165,6 +197,7 @@ impl<'a> Fields<'a> {
         let coefficient = self.word();
         if is_sign(coefficient) {
             self.fail();
+            return coefficient;
         }
         coefficient
     }
@@ -195,13 +228,29 @@ impl<'a> Fields<'a> {
         }
         let third = self.summand();
         self.skip(b" in ");
-        match third.term {
-            Term::Holding(Location::Cell(cell))
-                if third.coefficient == negated(second.coefficient) => { Some(cell) }
-            _ => {
+        match opposite_cell(&third, second.coefficient) {
+            Some(cell) => Some(cell),
+            None => {
                 self.fail();
                 None
             }
+        }
+    }
+
+    /// A sum of two or three terms, and ` in `.
+    fn told_sum(&mut self) -> PackedSum
+        ensures read { WasFirst self.old self.new (sum_text (packed_sum_of result) ++ codes " in ") }
+        ensures only { (s : said.Sum) (rest : List ℕ) → is_relation s ≡ true →
+            left self.old ≡ Some (sum_text s ++ codes " in " ++ rest) →
+            (packed_sum_of result ≡ s) × (left self.new ≡ Some rest) }
+    {
+        let first = self.name();
+        let second = self.summand();
+        let third = self.third(&second);
+        PackedSum {
+            first,
+            second,
+            third,
         }
     }
 
@@ -213,16 +262,10 @@ impl<'a> Fields<'a> {
             left self.old ≡ Some (sum_text s ++ codes " in " ++ rest) →
             (packed_sum_of result ≡ s) × (left self.new ≡ Some rest) }
     {
-        let first = self.name();
-        let second = self.summand();
-        let third = self.third(&second);
-        let sum = PackedSum {
-            first,
-            second,
-            third,
-        };
+        let sum = self.told_sum();
         if !is_relation(&sum) {
             self.fail();
+            return sum;
         }
         sum
     }
@@ -244,6 +287,7 @@ impl<'a> Fields<'a> {
         let word = self.word();
         if !is_step(word) {
             self.fail();
+            return Step::Operates(word);
         }
         Step::Operates(word)
     }
@@ -267,6 +311,7 @@ impl<'a> Fields<'a> {
         }
         if steps.is_empty() {
             self.fail();
+            return 0;
         }
         steps.len() as u8
     }

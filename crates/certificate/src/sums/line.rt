@@ -1,13 +1,13 @@
 //! The lines of a certificate after the first one, in all versions.
 
-ghost use Rattle.std.specs.Prelude.{ℕ, ◌≡◌, ◌+◌, ◌<◌, ◌≤◌, List, [], ◌∷◌, ◌++◌, length, drop, true, codes, is_some, Some, IfSome};
+ghost use Rattle.std.specs.Prelude.{ℕ, ◌≡◌, ◌+◌, ◌<◌, ◌≤◌, List, [], ◌∷◌, ◌++◌, length, drop, true, false, codes, is_some, Some, IfSome};
 ghost use Rattle.wordset.specs.Words.{Words, has_some, some_below};
 ghost use Rattle.wordset.specs.Links.{links_of};
 ghost use Rattle.domain.specs.Statements.{TrackedCell as Tracked};
 ghost use Rattle.domain.specs.Sums.Chains.{Chain as SaidChain};
 ghost use Rattle.domain.specs.Sums.Facts.{Relation};
 ghost use Rattle.domain.specs.Sums.Offsets.{offsets_in};
-ghost use Rattle.certificate.specs.Spelling.{RoutineLine as SaidRoutine, Registers as SaidRegisters, routine_line, cell_line};
+ghost use Rattle.certificate.specs.Spelling.{RoutineLine as SaidRoutine, Registers as SaidRegisters, set_text, routine_line, cell_line};
 ghost use Rattle.certificate.specs.Reading.{EndsBefore};
 ghost use Rattle.certificate.specs.Fields.{left, WasFirst, EndsField};
 ghost use Rattle.certificate.specs.Packed.{Begins, added, registers_at, AreWithin};
@@ -42,12 +42,29 @@ fn read_sites(fields: &mut Fields<'_>, version: Version, runs: &mut Runs) -> u16
         (left fields.new ≡ Some rest) × (length runs.new.items ≤ length runs.old.items + 2048) }
 {
     match version {
-        Version::One | Version::Two => 0,
+        Version::One => 0,
+        Version::Two => 0,
         Version::Three => {
             fields.skip(b" sites ");
             fields.set(runs)
         }
     }
+}
+
+/// Adds the runs of what MQ may hold, where it's written.
+fn read_told_mq(fields: &mut Fields<'_>, runs: &mut Runs) -> u16
+    ensures front { Begins runs.old.items runs.new.items }
+    ensures count { length runs.old.items + result ≡ length runs.new.items }
+    ensures some { IfSome (left fields.new) (λ rest.
+        has_some (added runs.old.items runs.new.items) ≡ true) }
+    ensures read { WasFirst fields.old fields.new
+        (codes " mq " ++ set_text (added runs.old.items runs.new.items)) }
+    ensures only { (s : Words) (rest : List ℕ) → length runs.old.items ≤ 4096 →
+        has_some s ≡ true → EndsField rest →
+        left fields.old ≡ Some (codes " mq " ++ set_text s ++ rest) → left fields.new ≡ Some rest }
+{
+    fields.skip(b" mq ");
+    fields.some_set(runs)
 }
 
 /// Adds the run or runs of what MQ may hold: in version 1 any word, and nothing stands for that.
@@ -66,10 +83,8 @@ fn read_mq(fields: &mut Fields<'_>, version: Version, runs: &mut Runs) -> u16
 {
     match version {
         Version::One => fields.all(runs),
-        Version::Two | Version::Three => {
-            fields.skip(b" mq ");
-            fields.some_set(runs)
-        }
+        Version::Two => read_told_mq(fields, runs),
+        Version::Three => read_told_mq(fields, runs),
     }
 }
 
@@ -107,7 +122,8 @@ fn read_offsets(fields: &mut Fields<'_>, version: Version) -> ReturnOffsets
         left fields.old ≡ Some (offsets_line version s ++ rest) → left fields.new ≡ Some rest }
 {
     match version {
-        Version::One | Version::Two => fields.digit_offsets(),
+        Version::One => fields.digit_offsets(),
+        Version::Two => fields.digit_offsets(),
         Version::Three => fields.offset_set(),
     }
 }
@@ -121,7 +137,8 @@ fn read_offset(fields: &mut Fields<'_>, version: Version) -> usize
         (result ≡ o) × (left fields.new ≡ Some rest) }
 {
     match version {
-        Version::One | Version::Two => fields.digit(),
+        Version::One => fields.digit(),
+        Version::Two => fields.digit(),
         Version::Three => fields.rank(),
     }
 }
@@ -255,11 +272,13 @@ fn read_equation(line: &[u8], runs: &mut Runs) -> Option<PackedLine>
     fields.skip(b" ");
     let more = fields.word();
     let count = fields.one(more, runs);
-    if fields.is_done() && is_before(&left, right) {
-        Some(PackedLine::Sum(equation(left, right), count))
-    } else {
-        None
+    if !fields.is_done() {
+        return None;
     }
+    if !is_before(&left, right) {
+        return None;
+    }
+    Some(PackedLine::Sum(equation(left, right), count))
 }
 
 /// The line of a sum, which version 3 has.
@@ -346,7 +365,8 @@ fn read_detail(
         line.now ≡ line_text version (ChainIs c) → is_some result ≡ true }
 {
     match version {
-        Version::One | Version::Two => read_equation(line, runs),
+        Version::One => read_equation(line, runs),
+        Version::Two => read_equation(line, runs),
         Version::Three => match line {
             [b's', ..] => read_sum(line, runs),
             _ => read_chain(line, steps),

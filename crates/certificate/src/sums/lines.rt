@@ -76,7 +76,7 @@ fn push_all<A: Allocator>(
     ensures front { Begins (said_lines lines.old) (said_lines lines.new) }
 {
     lines.claim(head)?;
-    push_cells(lines, fact.cells().as_slice())?;
+    push_cells(lines, fact.told_cells())?;
     push_relations(lines, fact.relations().as_slice())?;
     push_chains(lines, fact.chains())
 }
@@ -102,11 +102,24 @@ fn push_relations<A: Allocator>(
     ensures front { Begins (said_lines lines.old) (said_lines lines.new) }
 {
     for relation in relations {
-        if let Some(sum) = packed_sum(&relation.sum) {
-            lines.claim(&Claim::Sum(relation, &sum))?;
-        }
+        push_relation(lines, relation)?;
     }
     Ok(())
+}
+
+/// Adds the line of a relation, or leaves what is said as it is.
+fn push_relation<A: Allocator>(
+    lines: &mut PackedLines<A>,
+    relation: &Relation,
+) -> Result<(), AllocError>
+    requires { is_relation (sum_of relation.now.sum) ≡ true }
+    ensures added { OnOk result (said_lines lines.new ≡ said_lines lines.old ++ SumIs (relation_of relation.now) ∷ []) }
+    ensures same { OnErr result (said_lines lines.new ≡ said_lines lines.old) }
+{
+    match packed_sum(&relation.sum) {
+        Some(sum) => lines.claim(&Claim::Sum(relation, &sum)),
+        None => Ok(()),
+    }
 }
 
 /// Adds the lines of chains; where that's refused, some of them.

@@ -1,21 +1,23 @@
 //! Certificates that are made line by line, in all versions.
 
-ghost use Rattle.std.specs.Prelude.{◌≡◌, ◌<◌, List, [], ◌∷◌, false, IfOk, OnOk, OnErr};
+ghost use Rattle.std.specs.Prelude.{◌≡◌, ◌<◌, List, [], ◌∷◌, ◌++◌, map, false, IfOk, OnOk, OnErr};
 ghost use Rattle.wordset.specs.Lanes.{words};
 ghost use Rattle.declaration.specs.Kept.{meaning as declared};
 ghost use Rattle.certificate.specs.declared.packed.Run.{Run};
 ghost use Rattle.domain.specs.declared.chains.Step.{Step};
-ghost use Rattle.certificate.specs.Sums.Packed.{said_at};
+ghost use Rattle.certificate.specs.Reading.{Each};
+ghost use Rattle.certificate.specs.Sums.Packed.{said_at, said_lines};
+ghost use Rattle.certificate.specs.Sums.Found.{IsLine};
 ghost use Rattle.certificate.specs.Sums.Lines.{is_of_sums};
 ghost use Rattle.certificate.specs.Sums.Kept.{meaning, claims};
-ghost use Rattle.certificate.specs.Sums.Made.{no_lines, routine_line_of, lines_of_fact, lines_of_exit, MayAdd, with_lines, migrated, sites_by, with_sites};
+ghost use Rattle.certificate.specs.Sums.Made.{no_lines, routine_line_of, lines_of_fact, lines_of_exit, MayAdd, with_lines, migrated, sites_at, sites_by, sited_by, with_sites};
 
 use crate::RoutineClaim;
 use crate::makers::NoMemory;
 use crate::sums::packed::{CertifiedFact, Claim, PackedLine, PackedLines};
 use crate::sums::{Certificate, Version};
 use declaration::{Declaration, Owner};
-use std::alloc::Allocator;
+use std::alloc::{AllocError, Allocator};
 use word12::Word;
 use wordset::WordSet;
 
@@ -111,13 +113,12 @@ impl<A: Allocator> Certificate<A> {
         ensures same { claims result ≡ claims self }
     {
         let Certificate { version, kept } = self;
-        match version {
-            Version::One | Version::Two => Certificate {
-                version: Version::Two,
-                kept,
-            },
-            Version::Three => Certificate { version, kept },
-        }
+        let version = match version {
+            Version::One => Version::Two,
+            Version::Two => Version::Two,
+            Version::Three => Version::Three,
+        };
+        Certificate { version, kept }
     }
 
     /// The sites of the routine of an entry by its line; none where it has no line.
@@ -130,21 +131,51 @@ impl<A: Allocator> Certificate<A> {
         }
     }
 
-    /// The sites that a line has by a declaration: those of the routine whose body has a fact's address, or of an exit's
-    /// routine; none in main and in no body.
+    /// The sites of an address by a declaration: those of the routine whose body has it; none in main and in no body.
+    fn sites_at<B: Allocator>(&self, declaration: &Declaration<B>, at: Word) -> WordSet
+        ensures { words result ≡ sites_at (declared declaration.now) (claims self.now) at }
+    {
+        let Some(owner) = declaration.owner_of(at) else {
+            return WordSet::empty();
+        };
+        match owner {
+            Owner::Main => WordSet::empty(),
+            Owner::Routine(entry) => self.sites_of(entry),
+        }
+    }
+
+    /// The sites that a line has by a declaration: those of a fact's address, or of an exit's routine.
     fn sites_by<B: Allocator>(&self, declaration: &Declaration<B>, line: &PackedLine) -> WordSet
         ensures { (runs : List Run) (steps : List Step) → words result ≡
             sites_by (declared declaration.now) (claims self.now) (said_at runs steps line.now) }
     {
         match line {
-            PackedLine::Fact(fact) => match declaration.owner_of(fact.address) {
-                Some(Owner::Routine(entry)) => self.sites_of(entry),
-                Some(Owner::Main) | None => WordSet::empty(),
-            },
+            PackedLine::Fact(fact) => self.sites_at(declaration, fact.address),
             PackedLine::Exit(exit) => self.sites_of(exit.entry),
             _ => WordSet::empty(),
         }
     }
+}
+
+/// Adds lines of a certificate with their sites by a declaration; where that's refused, some of them.
+fn put_sited<A: Allocator, B: Allocator>(
+    kept: &mut PackedLines<A>,
+    certificate: &Certificate<A>,
+    lines: &PackedLines<A>,
+    declaration: &Declaration<B>,
+) -> Result<(), AllocError>
+    requires { Each (IsLine (meaning certificate.now).version) (said_lines lines.now) }
+    ensures { OnOk result (said_lines kept.new ≡ said_lines kept.old ++
+        map (sited_by (declared declaration.now) (claims certificate.now)) (said_lines lines.now)) }
+{
+    for at in 0..lines.len() {
+        let lent = lines.line(at);
+        let sites = certificate.sites_by(declaration, lent.line);
+        if let Err(refused) = kept.push_sited(&lent, &sites) {
+            return Err(refused);
+        }
+    }
+    Ok(())
 }
 
 impl<A: Allocator + Copy> Certificate<A> {
@@ -164,16 +195,12 @@ impl<A: Allocator + Copy> Certificate<A> {
         ensures { IfOk result (λ c. meaning c ≡ with_sites (declared declaration.now) (meaning self.now)) }
     {
         let mut kept = PackedLines::new(alloc);
-        for at in 0..self.kept.len() {
-            let lent = self.kept.line(at);
-            let sites = self.sites_by(declaration, lent.line);
-            let Ok(()) = kept.push_sited(&lent, &sites) else {
-                return Err(NoMemory);
-            };
+        match put_sited(&mut kept, self, &self.kept, declaration) {
+            Ok(()) => Ok(Certificate {
+                version: Version::Three,
+                kept,
+            }),
+            Err(_) => Err(NoMemory),
         }
-        Ok(Certificate {
-            version: Version::Three,
-            kept,
-        })
     }
 }

@@ -1,13 +1,14 @@
 //! Lines packed: each set by its runs of words, and the runs of all sets in one list; the steps of all chains in another.
 
-ghost use Rattle.std.specs.Prelude.{ℕ, ◌≡◌, ◌+◌, ◌<◌, ◌≤◌, ◌==◌, ◌&&◌, not, List, [], ◌∷◌, ◌++◌, length, map, take, drop, slice_range, true, false, is_some, Some, None, MatchOption, IfOk, IfSome, OnOk, OnErr, if◌then◌else◌};
+ghost use Rattle.std.specs.Prelude.{ℕ, ◌≡◌, ◌+◌, ◌<◌, ◌≤◌, ◌==◌, ◌&&◌, not, List, [], ◌∷◌, ◌++◌, length, map, take, drop, true, false, is_some, Some, None, MatchOption, IfOk, IfSome, OnOk, OnErr, if◌then◌else◌};
 ghost use Rattle.wordset.specs.Words.{nothing};
 ghost use Rattle.wordset.specs.Bits.{has_bit};
 ghost use Rattle.wordset.specs.Lanes.{words};
 ghost use Rattle.wordset.specs.Links.{links_of};
 ghost use Rattle.domain.specs.Facts.{Ac, Cell as SaidCell};
 ghost use Rattle.domain.specs.Meaning.{location_of};
-ghost use Rattle.domain.specs.Sums.Terms.{difference_of};
+ghost use Rattle.domain.specs.Sums.Terms.{difference_of, Holding};
+ghost use Rattle.std.specs.List.{list_all};
 ghost use Rattle.domain.specs.Sums.Chains.{Operates};
 ghost use Rattle.domain.specs.Sums.InCode.{summand_of, sum_of};
 ghost use Rattle.domain.specs.Sums.ChainsInCode.{step_of, chain_of};
@@ -20,10 +21,10 @@ ghost use Rattle.domain.specs.declared.chains.Step.{Step};
 ghost use Rattle.certificate.specs.Packed.{Begins, added, set_at, registers_at, AreWithin};
 ghost use Rattle.certificate.specs.declared.sums.packed.PackedLine.TheVariants as packed;
 ghost use Rattle.certificate.specs.Sums.Lines.{ChainIs, is_detail, is_end, is_chain, has_details, is_routine};
-ghost use Rattle.certificate.specs.Sums.LineOf.{is_relation, is_step};
+ghost use Rattle.certificate.specs.Sums.LineOf.{is_term, is_summand, is_relation, is_step};
 ghost use Rattle.certificate.specs.Sums.Order.{sum_is_before, detail_is_before};
 ghost use Rattle.certificate.specs.Sums.Reading.{fact_said, all_offsets};
-ghost use Rattle.certificate.specs.Sums.Packed.{third_terms, packed_sum_of, said_at, said_lines, said_of, LiesWithin, LieWithin, IsNumbered, HasForm, claimed_line, sited_line, sites_if, registers_in_fact, IsPacked};
+ghost use Rattle.certificate.specs.Sums.Packed.{third_terms, packed_sum_of, said_at, said_lines, said_of, LiesWithin, LieWithin, IsNumbered, HasForm, run_count, step_count, claimed_line, sited_line, sites_if, registers_in_fact, IsPacked};
 ghost use Rattle.certificate.specs.Sums.Adding.{Adds, HasRoomFor};
 ghost use Rattle.certificate.specs.Sums.Found.{past, last_past, AreRising, from_place, begins_at, least_place, IsSaid, IsRoutineLine};
 
@@ -138,12 +139,64 @@ pub fn equation(left: Location, right: Word) -> PackedSum
     }
 }
 
+/// Whether the number of a name is a word.
+fn is_small_name(name: &Location) -> bool
+    ensures { result ≡ is_term (Holding (location_of name.now)) }
+{
+    match name {
+        Location::Accumulator => true,
+        Location::Cell(cell) => cell.index() < 4096,
+    }
+}
+
+/// Whether the numbers of a term with its coefficient are words.
+fn is_small(summand: &Summand) -> bool
+    ensures { result ≡ is_summand (summand_of summand.now) }
+{
+    if summand.coefficient.index() >= 4096 {
+        return false;
+    }
+    match &summand.term {
+        Term::Holding(name) => is_small_name(name),
+        Term::Behind { cell, more } => cell.index() < 4096 && more.index() < 4096,
+    }
+}
+
+/// Whether the numbers of a sum are words.
+fn is_sum_of_words(packed: &PackedSum) -> bool
+    ensures { result ≡ list_all is_summand (packed_sum_of packed.now) }
+{
+    let first = Summand {
+        coefficient: Word::from_index(1),
+        term: Term::Holding(packed.first),
+    };
+    if !is_small(&first) {
+        return false;
+    }
+    if !is_small(&packed.second) {
+        return false;
+    }
+    match packed.third {
+        None => true,
+        Some(cell) => is_small(&Summand {
+            coefficient: negated(packed.second.coefficient),
+            term: Term::Holding(Location::Cell(cell)),
+        }),
+    }
+}
+
 /// Whether a sum is of one of the shapes and as it is kept.
 pub fn is_relation(packed: &PackedSum) -> bool
     ensures { result ≡ is_relation (packed_sum_of packed.now) }
 {
+    if !is_sum_of_words(packed) {
+        return false;
+    }
     let sum = packed.unpacked();
-    has_shape(&sum) && sum.arranged().is_same(&sum)
+    if !has_shape(&sum) {
+        return false;
+    }
+    sum.arranged().is_same(&sum)
 }
 
 /// Whether a word is one of group 1 that does not rotate both ways.
@@ -163,21 +216,25 @@ pub fn packed_sum(sum: &Sum) -> Option<PackedSum>
     if len < 2 {
         return None;
     }
-    let Term::Holding(first) = sum.get(0).term else {
-        return None;
-    };
-    let mut third = None;
-    if len > 2 {
-        let Term::Holding(Location::Cell(cell)) = sum.get(2).term else {
-            return None;
-        };
-        third = Some(cell);
+    let head = sum.get(0);
+    let first = head.term.name();
+    let second = sum.get(1);
+    if len == 2 {
+        return Some(PackedSum {
+            first,
+            second,
+            third: None,
+        });
     }
-    Some(PackedSum {
-        first,
-        second: sum.get(1),
-        third,
-    })
+    let last = sum.get(2);
+    match last.term.name() {
+        Location::Cell(cell) => Some(PackedSum {
+            first,
+            second,
+            third: Some(cell),
+        }),
+        Location::Accumulator => None,
+    }
 }
 
 impl PackedSum {
@@ -230,6 +287,14 @@ fn is_third_before(third: &Option<Word>, other: &Option<Word>) -> bool
     }
 }
 
+/// How many runs two sets have.
+fn in_both(sets: &Counts) -> usize
+    ensures count { result ≡ sets.now.one + sets.now.other }
+    ensures small { result < 131072 }
+{
+    usize::from(sets.one) + usize::from(sets.other)
+}
+
 impl PackedLine {
     /// Whether it says more of the line before.
     pub fn is_detail(&self) -> bool
@@ -262,14 +327,14 @@ impl PackedLine {
         matches!(self, PackedLine::Chain(_))
     }
 
-    /// How many runs its sets have, of a line that is no fact and no exit.
+    /// How many runs its sets have.
     fn run_count(&self) -> usize
-        ensures { (n m : ℕ) → LiesWithin n m self.now → result ≤ n }
+        ensures { result ≡ run_count self.now }
     {
         match self {
-            PackedLine::Routine(routine) => {
-                usize::from(routine.sets.one) + usize::from(routine.sets.other)
-            }
+            PackedLine::Routine(routine) => in_both(&routine.sets),
+            PackedLine::Fact(fact) => usize::from(fact.sites) + in_both(&fact.registers.sets),
+            PackedLine::Exit(exit) => usize::from(exit.sites) + in_both(&exit.registers.sets),
             PackedLine::Cell(_, count) => usize::from(*count),
             PackedLine::Sum(_, count) => usize::from(*count),
             _ => 0,
@@ -278,7 +343,7 @@ impl PackedLine {
 
     /// How many steps it has.
     fn step_count(&self) -> usize
-        ensures { (n m : ℕ) → LiesWithin n m self.now → result ≤ m }
+        ensures { result ≡ step_count self.now }
     {
         match self {
             PackedLine::Chain(chain) => usize::from(chain.count),
@@ -416,6 +481,7 @@ fn pack<A: Allocator>(
     requires { HasForm claim.now }
     ensures runs { Begins runs.old.items runs.new.items }
     ensures steps { Begins steps.old.items steps.new.items }
+    ensures numbers { IfOk result IsNumbered }
     ensures packed { IfOk result (λ l.
         IsPacked (drop (length runs.old.items) runs.new.items) (drop (length steps.old.items) steps.new.items)
         l (claimed_line claim.now)) }
@@ -457,7 +523,10 @@ fn pack<A: Allocator>(
             let count = lay_brief(runs, &relation.set)?;
             Ok(PackedLine::Sum(**sum, count))
         }
-        Claim::Chain(chain) => Ok(PackedLine::Chain(lay_steps(steps, chain)?)),
+        Claim::Chain(chain) => {
+            let packed = lay_steps(steps, chain)?;
+            Ok(PackedLine::Chain(packed))
+        }
     }
 }
 
@@ -469,6 +538,8 @@ fn put_accumulator(runs: &[Run], first: usize, count: usize, fact: &mut Certifie
 {
     if count == 1 {
         let run = runs[first];
+        let last = run.last.index();
+        prove!(last < 4096);
         fact.set_accumulator_row(run.first, run.last);
     } else {
         put_several_in_accumulator(runs, first, count, fact);
@@ -493,6 +564,8 @@ fn put_mq(runs: &[Run], first: usize, count: usize, fact: &mut CertifiedFact)
 {
     if count == 1 {
         let run = runs[first];
+        let last = run.last.index();
+        prove!(last < 4096);
         fact.set_mq_row(run.first, run.last);
     } else {
         put_several_in_mq(runs, first, count, fact);
@@ -521,6 +594,8 @@ fn put_sites(runs: &[Run], count: usize, fact: &mut CertifiedFact)
     }
     if count == 1 {
         let run = runs[0];
+        let last = run.last.index();
+        prove!(last < 4096);
         fact.set_sites_row(run.first, run.last);
     } else {
         put_several_sites(runs, count, fact);
@@ -573,6 +648,8 @@ fn track(runs: &[Run], cell: Word, count: usize, fact: &mut CertifiedFact)
 {
     if count == 1 {
         let run = runs[0];
+        let last = run.last.index();
+        prove!(last < 4096);
         fact.track_row(cell, run.first, run.last);
     } else {
         track_several(runs, cell, count, fact);
@@ -603,11 +680,16 @@ fn relate(runs: &[Run], sum: &PackedSum, count: usize, fact: &mut CertifiedFact)
     ensures cells { cell_sets_of fact.new.cells ≡ cell_sets_of fact.old.cells }
 {
     let sum = sum.unpacked();
-    if count == 1 && runs[0].first == runs[0].last {
-        fact.relate_one(&sum, runs[0].first);
-    } else {
-        relate_several(runs, &sum, count, fact);
+    if count == 1 {
+        let run = runs[0];
+        let last = run.last.index();
+        prove!(last < 4096);
+        if run.first.index() == last {
+            fact.relate_one(&sum, run.first);
+            return;
+        }
     }
+    relate_several(runs, &sum, count, fact);
 }
 
 /// The same of any set; the room for it is made here alone.
@@ -621,6 +703,18 @@ fn relate_several(runs: &[Run], sum: &Sum, count: usize, fact: &mut CertifiedFac
     ensures cells { cell_sets_of fact.new.cells ≡ cell_sets_of fact.old.cells }
 {
     fact.relate(sum, &set_in(runs, 0, count));
+}
+
+/// Adds these steps to a chain.
+fn push_steps(steps: &[Step], chain: &mut Chain)
+    requires { length (chain_of chain.old).steps + length steps.now ≤ 17 }
+    ensures { chain_of chain.new ≡ record (chain_of chain.old) {
+      steps = (chain_of chain.old).steps ++ map step_of steps.now;
+    } }
+{
+    for step in steps {
+        chain.push(*step);
+    }
 }
 
 /// The lent fact tells of a chain more, whose steps are the first of these.
@@ -638,9 +732,7 @@ fn chain(steps: &[Step], packed: &PackedChain, fact: &mut CertifiedFact)
     ensures cells { cell_sets_of fact.new.cells ≡ cell_sets_of fact.old.cells }
 {
     let mut chain = Chain::begun(packed.cell, packed.more, packed.link);
-    for step in &steps[..usize::from(packed.count)] {
-        chain.push(*step);
-    }
+    push_steps(&steps[..usize::from(packed.count)], &mut chain);
     fact.add_chain(&chain);
 }
 
@@ -719,16 +811,38 @@ pub fn routine_of(lent: &LentLine<'_>) -> Option<RoutineClaim>
     }
 }
 
-/// Adds the runs of a line, those of these sites in place of a fact's or an exit's own, and gives the line with them.
+/// Adds runs and steps behind others; where that's refused, some of them.
+fn lay_all<A: Allocator>(
+    runs: &mut Vec<Run, A>,
+    steps: &mut Vec<Step, A>,
+    more: &[Run],
+    further: &[Step],
+) -> Result<(), AllocError>
+    ensures runs { Begins runs.old.items runs.new.items }
+    ensures steps { Begins steps.old.items steps.new.items }
+    ensures whole { OnOk result ((runs.new.items ≡ runs.old.items ++ more.now) ×
+        (steps.new.items ≡ steps.old.items ++ further.now)) }
+{
+    runs.extend_from_slice(more)?;
+    steps.extend_from_slice(further)
+}
+
+/// Adds the runs and the steps of a line, the runs of these sites in place of a fact's or an exit's own, and gives the line
+/// with them.
 fn lay_sited<A: Allocator>(
     runs: &mut Vec<Run, A>,
+    steps: &mut Vec<Step, A>,
     lent: &LentLine<'_>,
     sites: &WordSet,
 ) -> Result<PackedLine, AllocError>
-    requires { LiesWithin (length lent.now.runs.now) (length lent.now.steps.now) lent.now.line.now }
-    ensures front { Begins runs.old.items runs.new.items }
-    ensures packed { IfOk result (λ l. (steps : List Step) → take (length steps) lent.now.steps.now ≡ steps →
-        IsPacked (drop (length runs.old.items) runs.new.items) lent.now.steps.now l (sited_line (words sites.now) (said_of lent.now))) }
+    requires within { LiesWithin (length lent.now.runs.now) (length lent.now.steps.now) lent.now.line.now }
+    requires numbers { IsNumbered lent.now.line.now }
+    ensures runs { Begins runs.old.items runs.new.items }
+    ensures steps { Begins steps.old.items steps.new.items }
+    ensures numbers { IfOk result IsNumbered }
+    ensures packed { IfOk result (λ l.
+        IsPacked (drop (length runs.old.items) runs.new.items) (drop (length steps.old.items) steps.new.items)
+        l (sited_line (words sites.now) (said_of lent.now))) }
 {
     match lent.line {
         PackedLine::Fact(fact) => {
@@ -745,11 +859,38 @@ fn lay_sited<A: Allocator>(
             sited.sites = count;
             Ok(PackedLine::Exit(sited))
         }
-        _ => {
-            runs.extend_from_slice(&lent.runs[..lent.line.run_count()])?;
-            Ok(*lent.line)
-        }
+        PackedLine::Routine(_) => lay_same(runs, steps, lent),
+        PackedLine::Cell(_, _) => lay_same(runs, steps, lent),
+        PackedLine::Sum(_, _) => lay_same(runs, steps, lent),
+        PackedLine::Chain(_) => lay_same(runs, steps, lent),
+        PackedLine::End => lay_same(runs, steps, lent),
     }
+}
+
+/// Adds the runs and the steps of a line, and gives the line.
+fn lay_same<A: Allocator>(
+    runs: &mut Vec<Run, A>,
+    steps: &mut Vec<Step, A>,
+    lent: &LentLine<'_>,
+) -> Result<PackedLine, AllocError>
+    requires within { LiesWithin (length lent.now.runs.now) (length lent.now.steps.now) lent.now.line.now }
+    requires numbers { IsNumbered lent.now.line.now }
+    ensures runs { Begins runs.old.items runs.new.items }
+    ensures steps { Begins steps.old.items steps.new.items }
+    ensures numbers { IfOk result IsNumbered }
+    ensures packed { IfOk result (λ l.
+        IsPacked (drop (length runs.old.items) runs.new.items) (drop (length steps.old.items) steps.new.items)
+        l (said_of lent.now)) }
+{
+    let run_count = lent.line.run_count();
+    let step_count = lent.line.step_count();
+    lay_all(
+        runs,
+        steps,
+        &lent.runs[..run_count],
+        &lent.steps[..step_count],
+    )?;
+    Ok(*lent.line)
 }
 
 /// Adds the runs of registers that lie behind those of so many sites.
@@ -761,13 +902,40 @@ fn lay_registers_of<A: Allocator>(
 ) -> Result<(), AllocError>
     requires { LieWithin (length own.now) sites registers.now.sets }
     ensures front { Begins runs.old.items runs.new.items }
-    ensures laid { OnOk result (runs.new.items ≡ runs.old.items ++
-        slice_range own.now sites (sites + (registers.now.sets.one + registers.now.sets.other))) }
+    ensures within { OnOk result (AreWithin (length (drop (length runs.old.items) runs.new.items)) registers.now.sets) }
+    ensures laid { OnOk result (registers_at (drop (length runs.old.items) runs.new.items) registers.now ≡
+        registers_at (drop sites own.now) registers.now) }
 {
     let first = usize::from(sites);
-    let count = usize::from(registers.sets.one) + usize::from(registers.sets.other);
-    runs.extend_from_slice(&own[first..first + count])?;
+    let last = first + in_both(&registers.sets);
+    runs.extend_from_slice(&own[first..last])?;
     Ok(())
+}
+
+/// The runs from one on, or none where that lies past all.
+pub fn runs_from(runs: &[Run], first: usize) -> &[Run]
+    ensures { result.now ≡ drop first runs.now }
+{
+    &runs[first.min(runs.len())..]
+}
+
+/// The steps from one on, or none where that lies past all.
+fn steps_from(steps: &[Step], first: usize) -> &[Step]
+    ensures { result.now ≡ drop first steps.now }
+{
+    &steps[first.min(steps.len())..]
+}
+
+/// Which of all runs is the first of a line that is added, or of a chain which of all steps, where there are so many.
+fn first_of(line: &PackedLine, run_count: usize, step_count: usize) -> usize
+    ensures { (runs : List Run) (steps : List Step) → result ≡
+        (if is_chain (said_at runs steps line.now) then step_count else run_count) }
+{
+    if line.is_chain() {
+        step_count
+    } else {
+        run_count
+    }
 }
 
 /// The least place after a line that is added to these.
@@ -813,20 +981,9 @@ impl<A: Allocator> PackedLines<A> {
     {
         let kept = &self.list[at];
         LentLine {
-            runs: &self.runs[kept.first.min(self.runs.len())..],
-            steps: &self.steps[kept.first.min(self.steps.len())..],
+            runs: runs_from(&self.runs, kept.first),
+            steps: steps_from(&self.steps, kept.first),
             line: &kept.line,
-        }
-    }
-
-    /// Where the runs of a line would begin that is added, or of a chain its steps.
-    fn first(&self, line: &PackedLine) -> usize
-        ensures { (runs : List Run) (steps : List Step) → result ≡ (if is_chain (said_at runs steps line.now) then length self.now.steps else length self.now.runs) }
-    {
-        if line.is_chain() {
-            self.steps.len()
-        } else {
-            self.runs.len()
         }
     }
 
@@ -843,10 +1000,11 @@ impl<A: Allocator> PackedLines<A> {
             (said_lines self.new ≡ said_lines self.old ++ said_at runs.now steps.now line.now ∷ []) }
         ensures same { OnErr result (said_lines self.new ≡ said_lines self.old) }
     {
-        let first = self.first(line);
+        let run_count = self.runs.len();
+        let step_count = self.steps.len();
+        let first = first_of(line, run_count, step_count);
         let past = past(&self.list, line);
-        self.runs.extend_from_slice(runs)?;
-        self.steps.extend_from_slice(steps)?;
+        lay_all(&mut self.runs, &mut self.steps, runs, steps)?;
         self.list.push(KeptLine {
             first,
             past,
@@ -862,10 +1020,10 @@ impl<A: Allocator> PackedLines<A> {
             (said_lines self.new ≡ said_lines self.old ++ claimed_line claim.now ∷ []) }
         ensures same { OnErr result (said_lines self.new ≡ said_lines self.old) }
     {
-        let runs = self.runs.len();
-        let steps = self.steps.len();
+        let run_count = self.runs.len();
+        let step_count = self.steps.len();
         let line = pack(&mut self.runs, &mut self.steps, claim)?;
-        let first = if line.is_chain() { steps } else { runs };
+        let first = first_of(&line, run_count, step_count);
         let past = past(&self.list, &line);
         self.list.push(KeptLine { first, past, line })?;
         Ok(())
@@ -880,11 +1038,11 @@ impl<A: Allocator> PackedLines<A> {
             said_lines self.old ++ sited_line (words sites.now) (said_of lent.now) ∷ []) }
         ensures same { OnErr result (said_lines self.new ≡ said_lines self.old) }
     {
-        let first = self.first(lent.line);
-        let past = past(&self.list, lent.line);
-        let line = lay_sited(&mut self.runs, lent, sites)?;
-        self.steps
-            .extend_from_slice(&lent.steps[..lent.line.step_count()])?;
+        let run_count = self.runs.len();
+        let step_count = self.steps.len();
+        let line = lay_sited(&mut self.runs, &mut self.steps, lent, sites)?;
+        let first = first_of(&line, run_count, step_count);
+        let past = past(&self.list, &line);
         self.list.push(KeptLine { first, past, line })?;
         Ok(())
     }
@@ -915,10 +1073,12 @@ impl<A: Allocator> PackedLines<A> {
         if at == 0 || at >= self.list.len() {
             return false;
         }
-        if self.list[at - 1].past as usize > place {
+        let before = &self.list[at - 1];
+        if before.past as usize > place {
             return false;
         }
-        place < self.list[at].past as usize
+        let kept = &self.list[at];
+        place < kept.past as usize
     }
 
     /// Where the first line stands that is at a place or after it, or past all: it's looked first at one line.
@@ -935,11 +1095,17 @@ impl<A: Allocator> PackedLines<A> {
 
     /// Whether the line here is one of a place.
     pub fn is_at(&self, at: usize, place: usize) -> bool
+        requires { place ≤ 270336 }
         ensures { result ≡ begins_at place (drop at (said_lines self.now)) }
     {
-        at < self.list.len()
-            && !self.list[at].line.is_detail()
-            && self.list[at].past as usize == place + 1
+        if at >= self.list.len() {
+            return false;
+        }
+        let kept = &self.list[at];
+        if kept.line.is_detail() {
+            return false;
+        }
+        kept.past as usize == place + 1
     }
 
     /// The least place of a line from a number on, or that of the end, which isn't kept.
@@ -949,10 +1115,10 @@ impl<A: Allocator> PackedLines<A> {
         ensures { result ≡ least_place (from_place from (said_lines self.now)) }
     {
         let at = self.seek(from);
-        if at < self.list.len() {
-            self.list[at].past as usize - 1
-        } else {
-            LAST_PLACE
+        if at >= self.list.len() {
+            return LAST_PLACE;
         }
+        let kept = &self.list[at];
+        kept.past as usize - 1
     }
 }

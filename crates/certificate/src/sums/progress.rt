@@ -116,7 +116,8 @@ impl Progress {
             result ≡ follows_newest self.now.version (said_at runs steps line.now) (heads before) }
     {
         let place = place_of(line);
-        self.next_head <= place || self.next_head == place + 1 && self.may_be_level(line)
+        let is_level = self.may_be_level(line);
+        self.next_head <= place || self.next_head == place + 1 && is_level
     }
 
     /// Whether a line comes in order.

@@ -1,6 +1,6 @@
 //! The text of a line in all versions.
 
-ghost use Rattle.std.specs.Prelude.{◌≡◌, ◌<◌, ◌≤◌, ◌+◌, ◌==◌, ◌&&◌, nat_lt, [], ◌∷◌, ◌++◌, length, map, take, drop, flat_map, codes, if◌then◌else◌, OnOk, OnErr, is_err, true, false, slice_range};
+ghost use Rattle.std.specs.Prelude.{◌≡◌, ◌<◌, ◌≤◌, ◌+◌, ◌==◌, ◌&&◌, nat_lt, List, [], ◌∷◌, ◌++◌, length, map, take, drop, flat_map, codes, if◌then◌else◌, OnOk, OnErr, is_err, true, false, slice_range};
 ghost use Rattle.std.specs.Io.KnownBytes.{Appends};
 ghost use Rattle.streams.specs.Bytes.{AppendsFront};
 ghost use Rattle.wordset.specs.Words.{some_below, only};
@@ -8,7 +8,7 @@ ghost use Rattle.wordset.specs.Links.{links_of};
 ghost use Rattle.domain.specs.Sums.InCode.{term_of, summand_of};
 ghost use Rattle.domain.specs.Sums.ChainsInCode.{step_of};
 ghost use Rattle.domain.specs.Sums.Offsets.{offsets_in};
-ghost use Rattle.certificate.specs.Spelling.{offsets_text, ended};
+ghost use Rattle.certificate.specs.Spelling.{begins, ends, offsets_text, set_text, rank_text, ended};
 ghost use Rattle.certificate.specs.Reading.{Each};
 ghost use Rattle.certificate.specs.Spelled.{Adds};
 ghost use Rattle.certificate.specs.Packed.{set_of_runs, set_at, registers_at, AreWithin};
@@ -17,7 +17,7 @@ ghost use Rattle.certificate.specs.declared.sums.packed.PackedLine.TheVariants a
 ghost use Rattle.certificate.specs.Sums.Lines.{FactIs, ExitIs, SumIs, ChainIs};
 ghost use Rattle.certificate.specs.Sums.Spelling.{offset_mark, offsets_line, offset_text, sites_text, mq_text, words_text, term_text, coefficient_text, further_text, sum_text, equation_line, relation_line, step_text, chain_line, line_text, version_text, word_text};
 ghost use Rattle.certificate.specs.Sums.LineOf.{most_offsets, has_form};
-ghost use Rattle.certificate.specs.Sums.Fields.{offset_set_text};
+ghost use Rattle.certificate.specs.Sums.Fields.{offset_set_text, third_text};
 ghost use Rattle.certificate.specs.Sums.Packed.{packed_sum_of, said_at, said_of, said_lines, LiesWithin, LieWithin};
 ghost use Rattle.certificate.specs.Sums.Found.{IsLine};
 ghost use Rattle.certificate.specs.Sums.Spelled.{all_ended};
@@ -26,7 +26,7 @@ use crate::packed::{PackedRegisters, Run, set_of};
 use crate::spelled::LineText;
 use crate::sums::Version;
 use crate::sums::packed::{
-    LentLine, PackedChain, PackedExit, PackedFact, PackedLine, PackedLines, PackedSum,
+    LentLine, PackedChain, PackedExit, PackedFact, PackedLine, PackedLines, PackedSum, runs_from,
 };
 use domain::{ReturnOffsets, Step, Summand, Term, is_sign, negated};
 use std::alloc::Allocator;
@@ -53,26 +53,66 @@ fn has_below(offsets: ReturnOffsets, limit: usize) -> bool
     false
 }
 
+/// Whether a run of offsets begins at one.
+fn is_first(offsets: ReturnOffsets, offset: usize) -> bool
+    requires { offset < 64 }
+    ensures { result ≡ begins (offsets_in offsets) offset }
+{
+    if !offsets.contains(offset) {
+        return false;
+    }
+    if offset == 0 {
+        return true;
+    }
+    !offsets.contains(offset - 1)
+}
+
+/// Whether a run of offsets ends at one.
+fn is_last(offsets: ReturnOffsets, offset: usize) -> bool
+    requires { offset < 64 }
+    ensures { result ≡ ends (offsets_in offsets) offset }
+{
+    if !offsets.contains(offset) {
+        return false;
+    }
+    !is_inside(offsets, offset + 1)
+}
+
 impl LineText {
+    /// Adds a comma, where it's wanted.
+    fn comma_if(&mut self, is_wanted: bool)
+        ensures { Adds self.old.bytes.items self.new.bytes.items (if is_wanted then codes "," else []) }
+    {
+        if is_wanted {
+            self.push(b',');
+        }
+    }
+
+    /// Adds the first offset of a run, after a comma if another run came before.
+    fn first_offset(&mut self, offsets: ReturnOffsets, offset: usize)
+        requires { offset < 64 }
+        ensures { Adds self.old.bytes.items self.new.bytes.items
+            ((if some_below offset (offsets_in offsets) then codes "," else []) ++ rank_text offset) }
+    {
+        self.comma_if(has_below(offsets, offset));
+        self.rank(offset);
+    }
+
     /// Adds what is written at an offset in a set of offsets: where a run begins its first one, after a comma if another came
     /// before; where one ends that has more its last one, after a dash.
     fn offset_mark(&mut self, offsets: ReturnOffsets, offset: usize)
         requires { offset < 64 }
         ensures { Adds self.old.bytes.items self.new.bytes.items (offset_mark (offsets_in offsets) offset) }
     {
-        if !offsets.contains(offset) {
+        if is_first(offsets, offset) {
+            self.first_offset(offsets, offset);
             return;
         }
-        let begins = offset == 0 || !offsets.contains(offset - 1);
-        if begins {
-            if has_below(offsets, offset) {
-                self.push(b',');
-            }
-            self.rank(offset);
-        } else if !is_inside(offsets, offset + 1) {
-            self.push(b'-');
-            self.rank(offset);
+        if !is_last(offsets, offset) {
+            return;
         }
+        self.push(b'-');
+        self.rank(offset);
     }
 
     /// Adds a set of offsets by its runs, `-` where there are none.
@@ -106,7 +146,8 @@ impl LineText {
         ensures { Adds self.old.bytes.items self.new.bytes.items (offsets_line version (offsets_in offsets)) }
     {
         match version {
-            Version::One | Version::Two => self.offset_digits(offsets),
+            Version::One => self.offset_digits(offsets),
+            Version::Two => self.offset_digits(offsets),
             Version::Three => self.offset_set(offsets),
         }
     }
@@ -117,7 +158,8 @@ impl LineText {
         ensures { Adds self.old.bytes.items self.new.bytes.items (offset_text version offset) }
     {
         match version {
-            Version::One | Version::Two => self.digit(offset),
+            Version::One => self.digit(offset),
+            Version::Two => self.digit(offset),
             Version::Three => self.rank(offset),
         }
     }
@@ -148,9 +190,9 @@ impl LineText {
         }
         if coefficient.index() == 1 {
             self.push(b'+');
-        } else {
-            self.push(b'-');
+            return;
         }
+        self.push(b'-');
     }
 
     /// Adds a term behind the first one with its coefficient, each after a space.
@@ -163,26 +205,37 @@ impl LineText {
         self.term(&summand.term);
     }
 
+    /// Adds the third term of a sum, if it has one: a cell with minus the coefficient of the second.
+    fn third(&mut self, coefficient: Word, third: &Option<Word>)
+        ensures { Adds self.old.bytes.items self.new.bytes.items (third_text coefficient third.now) }
+    {
+        match third {
+            None => {}
+            Some(cell) => {
+                self.push(b' ');
+                self.coefficient(negated(coefficient));
+                self.push(b' ');
+                self.word(*cell);
+            }
+        }
+    }
+
     /// Adds a sum.
     fn sum(&mut self, sum: &PackedSum)
         ensures { Adds self.old.bytes.items self.new.bytes.items (sum_text (packed_sum_of sum.now)) }
     {
         self.name(&sum.first);
         self.summand(&sum.second);
-        if let Some(cell) = sum.third {
-            self.push(b' ');
-            self.coefficient(negated(sum.second.coefficient));
-            self.push(b' ');
-            self.word(cell);
-        }
+        self.third(sum.second.coefficient, &sum.third);
     }
 
     /// Adds the one word of a set by its runs, and nothing where it has none or several.
     fn only_word(&mut self, runs: &[Run])
         ensures { Adds self.old.bytes.items self.new.bytes.items (word_text (only (set_of_runs runs.now))) }
     {
-        if let Some(word) = set_of(runs).only() {
-            self.word(word);
+        match set_of(runs).only() {
+            None => {}
+            Some(word) => self.word(word),
         }
     }
 
@@ -199,19 +252,27 @@ impl LineText {
         self.only_word(&runs[..usize::from(count)]);
     }
 
+    /// Adds the line of a sum as version 3 has it.
+    fn told_sum(&mut self, runs: &[Run], sum: &PackedSum, count: u16)
+        requires { count ≤ length runs.now }
+        ensures { Adds self.old.bytes.items self.new.bytes.items
+            (codes "sum " ++ sum_text (packed_sum_of sum.now) ++ codes " in " ++ set_text (set_at runs.now 0 count)) }
+    {
+        self.text(b"sum ");
+        self.sum(sum);
+        self.text(b" in ");
+        self.set_in(runs, 0, count);
+    }
+
     /// Adds the line of a relation.
     fn relation(&mut self, version: Version, runs: &[Run], sum: &PackedSum, count: u16)
         requires { count ≤ length runs.now }
         ensures { Adds self.old.bytes.items self.new.bytes.items (relation_line version (record { sum = packed_sum_of sum.now; set = set_at runs.now 0 count })) }
     {
         match version {
-            Version::One | Version::Two => self.told_equation(runs, sum, count),
-            Version::Three => {
-                self.text(b"sum ");
-                self.sum(sum);
-                self.text(b" in ");
-                self.set_in(runs, 0, count);
-            }
+            Version::One => self.told_equation(runs, sum, count),
+            Version::Two => self.told_equation(runs, sum, count),
+            Version::Three => self.told_sum(runs, sum, count),
         }
     }
 
@@ -235,6 +296,15 @@ impl LineText {
         }
     }
 
+    /// Adds steps, each after a space.
+    fn steps(&mut self, steps: &[Step])
+        ensures { Adds self.old.bytes.items self.new.bytes.items (flat_map step_text (map step_of steps.now)) }
+    {
+        for step in steps {
+            self.step(step);
+        }
+    }
+
     /// Adds the line of a chain.
     fn chain(&mut self, steps: &[Step], chain: &PackedChain)
         requires { chain.now.count ≤ length steps.now }
@@ -251,9 +321,7 @@ impl LineText {
         self.word(chain.more);
         self.text(b" link ");
         self.links(chain.link);
-        for step in &steps[..usize::from(chain.count)] {
-            self.step(step);
-        }
+        self.steps(&steps[..usize::from(chain.count)]);
     }
 
     /// Adds the sites of a fact or an exit, of which versions 1 and 2 say nothing.
@@ -262,12 +330,23 @@ impl LineText {
         ensures { Adds self.old.bytes.items self.new.bytes.items (sites_text version (set_at runs.now 0 sites)) }
     {
         match version {
-            Version::One | Version::Two => {}
+            Version::One => {}
+            Version::Two => {}
             Version::Three => {
                 self.text(b" sites ");
                 self.set_in(runs, 0, sites);
             }
         }
+    }
+
+    /// Adds what MQ may hold.
+    fn written_mq(&mut self, runs: &[Run], registers: &PackedRegisters)
+        requires { AreWithin (length runs.now) registers.now.sets }
+        ensures { Adds self.old.bytes.items self.new.bytes.items
+            (codes " mq " ++ set_text (registers_at runs.now registers.now).mq) }
+    {
+        self.text(b" mq ");
+        self.set_in(runs, registers.sets.one, registers.sets.other);
     }
 
     /// Adds what MQ may hold, of which version 1 says nothing.
@@ -277,10 +356,8 @@ impl LineText {
     {
         match version {
             Version::One => {}
-            Version::Two | Version::Three => {
-                self.text(b" mq ");
-                self.set_in(runs, registers.sets.one, registers.sets.other);
-            }
+            Version::Two => self.written_mq(runs, registers),
+            Version::Three => self.written_mq(runs, registers),
         }
     }
 
@@ -292,7 +369,7 @@ impl LineText {
             words_text version (registers_at (drop sites runs.now) registers.now)) }
     {
         self.sites(version, runs, sites);
-        let runs = &runs[usize::from(sites)..];
+        let runs = runs_from(runs, usize::from(sites));
         self.text(b" ac ");
         self.set_in(runs, 0, registers.sets.one);
         self.told_mq(version, runs, registers);

@@ -142,7 +142,7 @@ impl<A: Allocator, C: Claims> Point<'_, A, C> {
     }
 
     /// What is claimed of the routine of an entry, and nothing where it isn't listed.
-    fn claimed(&self, entry: Word) -> RoutineClaim
+    pub fn claimed(&self, entry: Word) -> RoutineClaim
         ensures rank { result.rank ≡ (case_of C.claims self.now).certificate.rank entry }
         ensures sites { words result.sites ≡ (case_of C.claims self.now).certificate.sites entry }
         ensures writes { words result.writes ≡
@@ -220,7 +220,7 @@ impl<A: Allocator, C: Claims> Point<'_, A, C> {
     }
 
     /// Puts the fact that holds behind the entry of a routine that is called from here into room for it.
-    fn put_called_from(&self, next: &mut NextFact)
+    pub fn put_called_from(&self, next: &mut NextFact)
         ensures { fact_in_code next.new ≡ called_from self.now.at (fact_asked self.now) }
     {
         self.fact.is_within_room();
@@ -345,7 +345,7 @@ impl<A: Allocator, C: Claims> Point<'_, A, C> {
     }
 
     /// Whether an entry is the routine's.
-    fn is_own(&self, entry: Word) -> bool
+    pub fn is_own(&self, entry: Word) -> bool
         ensures { IsTrue result ↔ (self.now.place.routine ≡ Some entry) }
     {
         match &self.place.routine {

@@ -31,7 +31,7 @@ impl<A: Allocator, C: Claims> Point<'_, A, C> {
 
     /// Whether what is known lands at an address of a routine's body, with the sites of that routine. It
     /// stays as it is.
-    pub(crate) fn lands(
+    pub fn lands(
         &self,
         owner: &Option<Word>,
         sites: &WordSet,
@@ -64,7 +64,7 @@ impl<A: Allocator, C: Claims> Point<'_, A, C> {
     }
 
     /// Whether what is known lands at an address of the same body.
-    pub(crate) fn lands_here(
+    pub fn lands_here(
         &self,
         at: Word,
         known: &mut NextFact,

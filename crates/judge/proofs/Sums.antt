@@ -11,3 +11,5 @@ pub mod PointLemmas
 pub mod AskedLemmas
 pub mod OrderLemmas
 pub mod LineLemmas
+pub mod CallLemmas
+pub mod CaseLemmas

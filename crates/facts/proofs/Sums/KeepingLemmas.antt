@@ -72,7 +72,7 @@ pub narrowed_few : (image : Image) (f : Fact) → HaveFewTerms f.relations → H
 unfolding narrowed
 narrowed_few image f all = adding_few OfSums (all_told image f) (linked image f) all
 
-narrowed_chains : (image : Image) (f : Fact) → (narrowed image f).chains ≡ f.chains
+pub narrowed_chains : (image : Image) (f : Fact) → (narrowed image f).chains ≡ f.chains
 unfolding narrowed
 narrowed_chains image f = (adding_keeps OfSums (all_told image f) (linked image f)).chains
 

@@ -74,6 +74,12 @@ stops holds limit place u t low lt high before same fails told = record {
   fails = λ under v q h. true≢false (sym (told (subst holds (place_same v u (q ∙ sym same)) h)) ∙ fails);
 }
 
+pub one_passed : (holds : Condition → Type 0) (place : ℕ) (u : Condition) → place_among u ≡ place → holds u → PassedBefore holds place → PassedBefore holds (place + 1)
+one_passed holds place u same h before v two lt = elim (cases_lt (place_among v) place) [
+  | inl less ↦ before v two less
+  | inr past ↦ (let e : place_among v ≡ place_among u = omega (arith, past, lt, same) in subst holds (sym (place_same v u e)) h)
+]
+
 pub passes_all : (holds : Condition → Type 0) (limit place : ℕ) → 2 ≤ limit → limit ≤ place → PassedBefore holds place → IsLeastPlace holds limit limit
 passes_all holds limit place low past before = record {
   low = low;

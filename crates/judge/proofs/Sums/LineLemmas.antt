@@ -16,6 +16,13 @@ use Rattle.judge.specs.Sums.Landing.{Case, place_in, facts_in}
 use Rattle.judge.specs.Sums.Conditions.{HoldsAt, EachFact, IsPlaced, IsOfMain, IsOfRoutine, HasSites, LinesArePlaced}
 use Rattle.judge.specs.Sums.Bodies.{IsOfBody, Tells}
 use Rattle.judge.specs.Sums.Asked.{RoutinesArePlaced, HoldsBetween, FailsFirst, FailsAtLine, HoldsOfFacts, IsLeastPlace, IsLeastOfSome, IsLeastOfAll}
+use Rattle.judge.specs.declared.several.body.Body.{Body}
+use Rattle.judge.specs.declared.several.case.Case.{Case as KeptCase}
+use Rattle.judge.specs.Sums.Judged.{case_kept}
+use Rattle.domain.specs.declared.sum_fact.Rules.{Rules as KeptRules}
+use Rattle.domain.specs.Sums.FactInCode.{rules_of}
+use Rattle.facts.specs.declared.sum_facts.place.Place.{Place as KeptPlace}
+use Rattle.facts.specs.Sums.PlaceInCode.{place_in_code}
 use Rattle.judge.proofs.Sums.AskedLemmas.{holds_at, none_hold}
 use Rattle.judge.proofs.Sums.OrderLemmas.{after_lines}
 use Rattle.judge.proofs.Sums.PointLemmas.{lands_inside}
@@ -198,3 +205,12 @@ some_site f s x sites empty = (
     not_not : (b : Bool) → not (not b) ≡ true → b ≡ true
     not_not true q = refl
     not_not false q = absurd (false≢true q)
+
+-- ---- bodies and places
+
+pub inside_body : (j : Case) (a : ℕ) (b : Body) (r : Routine) → b.routine ≡ r → j.declaration.body r a ≡ true → j.declaration.body b.routine a ≡ true
+inside_body j a b r is here = ap (λ (k : Routine). j.declaration.body k a) is ∙ here
+
+pub start_place : {A C : Type 0} (claims : C → Certificate) (k : KeptCase A C) (p : KeptPlace A) (rules : KeptRules) →
+    p.image.now ≡ k.image.now → p.declaration.now ≡ k.declaration.now → p.routine ≡ None → p.rules ≡ rules → rules_of rules ≡ (claims k.claims.now).rules → place_in_code p ≡ place_in (case_kept claims k) None
+start_place claims k p rules image declaration routine own same = rw (image, declaration, routine, own, same) refl

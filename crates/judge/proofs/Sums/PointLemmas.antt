@@ -3,7 +3,7 @@ use Rattle.std.proofs.Common.{◌≡◌, ℕ, ◌<◌, Bool, true, false, List, 
 use Rattle.std.specs.Prelude.{IsTrue, ◌↔◌}
 use Rattle.std.proofs.lemmas.Bool.{false≢true, true≢false}
 use Rattle.peripherals.specs.Loading.{image_of}
-use Rattle.declaration.specs.Declaration.{Routine}
+use Rattle.declaration.specs.Declaration.{Routine, Declaration}
 use Rattle.declaration.specs.Kept.{meaning}
 use Rattle.domain.specs.Sums.Facts.{Fact, Place, Rules}
 use Rattle.domain.specs.Sums.FactInCode.{rules_of}
@@ -11,6 +11,7 @@ use Rattle.facts.specs.Sums.Entailment.{Lands, IsIdle, LandsBy}
 use Rattle.domain.specs.Sums.Facts.{OfEquations, OfSums}
 use Rattle.facts.specs.Sums.Outcomes.{Successor}
 use Rattle.facts.specs.Sums.PlaceInCode.{place_in_code}
+use Rattle.facts.specs.declared.sum_facts.place.Place.{Place as KeptPlace}
 use Rattle.certificate.specs.Sums.Certificate.{Certificate}
 use Rattle.judge.specs.declared.several.point.Point.{Point}
 use Rattle.judge.specs.Sums.Landing.{Case, place_in, facts_in, LandsAt, EachSuccessor}
@@ -24,6 +25,15 @@ same_place claims s point =
 
 pub meant : {A C : Type 0} (claims : C → Certificate) (s : Point A C) (p : Place → Type 0) → IsPoint claims s → p (place_in_code s.place) → p (place_in (case_of claims s) s.place.routine)
 meant claims s p point h = subst p (same_place claims s point) h
+
+-- a place that was made of the parts at hand
+pub made_place : {A C : Type 0} (claims : C → Certificate) (s : Point A C) (p : KeptPlace A) (r : Routine) → IsPoint claims s →
+    p.image.now ≡ s.place.image.now → p.declaration.now ≡ s.place.declaration.now → p.routine ≡ r → p.rules ≡ s.place.rules → place_in_code p ≡ place_in (case_of claims s) r
+made_place claims s p r point image declaration routine rules = rw (image, declaration, routine, rules, point.rules) refl
+
+-- what is asked of the machine alone
+pub by_machine : {A C : Type 0} (claims : C → Certificate) (s : Point A C) (p : Declaration → Type 0) → IsPoint claims s → p (meaning s.machine.declaration.now) → p (case_of claims s).declaration
+by_machine claims s p point h = subst (λ k. p (meaning k)) point.machine h
 
 -- where nothing need be asked of a fact, it lands
 idle_lands : (rules : Rules) (pl : Place) (f : Fact) (among : List Fact) → IsIdle rules pl f → LandsBy rules pl f among
@@ -50,11 +60,28 @@ each_both p (o ∷ os) ps = let rest = each_both p os ps in (
   λ e. (e.0.0, rest.1 (e.0.1, e.1)),
 )
 
-pub first_lands_not : (p : Successor → Type 0) (os ps : List Successor) → (EachSuccessor p os → ⊥) → EachSuccessor p (os ++ ps) → ⊥
-first_lands_not p os ps no e = no ((each_both p os ps).0 e).0
-
-pub later_lands_not : (p : Successor → Type 0) (os ps : List Successor) → (EachSuccessor p ps → ⊥) → EachSuccessor p (os ++ ps) → ⊥
-later_lands_not p os ps no e = no ((each_both p os ps).0 e).1
-
 pub false_if : {P : Type 0} → (P → ⊥) → IsTrue false ↔ P
 false_if no = (λ q. absurd (false≢true q), λ p. absurd (no p))
+
+module _ (p : Successor → Type 0) (os ps qs rs : List Successor) where
+  parts : EachSuccessor p (os ++ (ps ++ (qs ++ rs))) → EachSuccessor p os × EachSuccessor p ps × EachSuccessor p qs × EachSuccessor p rs
+  parts e =
+      let first = (each_both p os (ps ++ (qs ++ rs))).0 e in
+      let second = (each_both p ps (qs ++ rs)).0 first.1 in
+      let third = (each_both p qs rs).0 second.1 in
+      (first.0, second.0, third.0, third.1)
+
+  pub first_fails : (EachSuccessor p os → ⊥) → IsTrue false ↔ EachSuccessor p (os ++ (ps ++ (qs ++ rs)))
+  first_fails no = false_if (λ e. no (parts e).0)
+
+  pub second_fails : (EachSuccessor p ps → ⊥) → IsTrue false ↔ EachSuccessor p (os ++ (ps ++ (qs ++ rs)))
+  second_fails no = false_if (λ e. no (parts e).1)
+
+  pub third_fails : (EachSuccessor p qs → ⊥) → IsTrue false ↔ EachSuccessor p (os ++ (ps ++ (qs ++ rs)))
+  third_fails no = false_if (λ e. no (parts e).2)
+
+  pub four_land : (t : Bool) → EachSuccessor p os → EachSuccessor p ps → EachSuccessor p qs → IsTrue t ↔ EachSuccessor p rs → IsTrue t ↔ EachSuccessor p (os ++ (ps ++ (qs ++ rs)))
+  four_land t x y z told = (
+    λ q. (each_both p os (ps ++ (qs ++ rs))).1 (x, (each_both p ps (qs ++ rs)).1 (y, (each_both p qs rs).1 (z, told.0 q))),
+    λ e. told.1 (parts e).3,
+  )

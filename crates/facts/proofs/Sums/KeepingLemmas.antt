@@ -16,7 +16,7 @@ use Rattle.domain.specs.Sums.Narrowing.{narrowed, parts_of, parts_of_chain, link
 use Rattle.domain.proofs.Sums.AddingLemmas.{adding_keeps}
 use Rattle.facts.specs.Sums.Shaped.{HaveFewTerms}
 
-shape_few : (sum : Sum) → has_shape sum ≡ true → length sum ≤ 3
+pub shape_few : (sum : Sum) → has_shape sum ≡ true → length sum ≤ 3
 shape_few [] h = omega arith
 shape_few (s ∷ []) h = omega arith
 shape_few (s ∷ t ∷ []) h = omega arith

@@ -1,4 +1,4 @@
-use Rattle.std.proofs.Common.{◌≡◌, ◌∙◌, List, [], length, map, ap, arith}
+use Rattle.std.proofs.Common.{◌∙◌, List, [], length, map, ap, arith}
 use Rattle.certificate.specs.declared.sums.packed.KeptLine.{KeptLine}
 use Rattle.certificate.specs.Sums.Packed.{kept_at, claimed_line}
 use Rattle.certificate.proofs.PutLemmas.{any_err}

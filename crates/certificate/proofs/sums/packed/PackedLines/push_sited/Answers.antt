@@ -1,4 +1,4 @@
-use Rattle.std.proofs.Common.{◌≡◌, ◌∙◌, List, [], length, map, ap, arith}
+use Rattle.std.proofs.Common.{◌∙◌, List, [], length, map, ap, arith}
 use Rattle.wordset.specs.Lanes.{words}
 use Rattle.certificate.specs.declared.sums.packed.KeptLine.{KeptLine}
 use Rattle.certificate.specs.Sums.Packed.{kept_at, said_of, sited_line}

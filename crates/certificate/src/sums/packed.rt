@@ -518,14 +518,8 @@ fn pack<A: Allocator>(
                 registers,
             }))
         }
-        Claim::Cell(tracked) => {
-            let count = lay_brief(runs, &tracked.set)?;
-            Ok(PackedLine::Cell(tracked.cell, count))
-        }
-        Claim::Sum(relation, sum) => {
-            let count = lay_brief(runs, &relation.set)?;
-            Ok(PackedLine::Sum(**sum, count))
-        }
+        Claim::Cell(tracked) => Ok(PackedLine::Cell(tracked.cell, lay_brief(runs, &tracked.set)?)),
+        Claim::Sum(relation, sum) => Ok(PackedLine::Sum(**sum, lay_brief(runs, &relation.set)?)),
         Claim::Chain(chain) => {
             let packed = lay_steps(steps, chain)?;
             Ok(PackedLine::Chain(packed))

@@ -13,3 +13,5 @@ pub mod OrderLemmas
 pub mod LineLemmas
 pub mod CallLemmas
 pub mod CaseLemmas
+pub mod ReadingLemmas
+pub mod VerdictLemmas

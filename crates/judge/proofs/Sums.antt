@@ -13,3 +13,4 @@ pub mod OrderLemmas
 pub mod LineLemmas
 pub mod CallLemmas
 pub mod CaseLemmas
+pub mod ClaimsLemmas

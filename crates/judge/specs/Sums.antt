@@ -11,3 +11,4 @@ pub mod Bodies
 pub mod Asked
 pub mod Points
 pub mod Callees
+pub mod Certifying

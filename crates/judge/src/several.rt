@@ -3,6 +3,7 @@
 mod body;
 mod calls;
 mod case;
+mod certifying;
 mod claims;
 mod judging;
 mod landing;
@@ -13,6 +14,7 @@ mod words;
 
 pub use body::Body;
 pub use case::{Case, Rooms, put_asked};
+pub use certifying::{Certified, certify};
 pub use claims::Claims;
 pub use judging::judge;
 pub use point::{Others, Point, place_of};

@@ -15,6 +15,7 @@ use Rattle.domain.specs.Sums.Shapes.{has_shape}
 use Rattle.facts.specs.Sums.Shaped.{HaveFewTerms}
 use Rattle.facts.specs.Sums.Landing.{fact_at}
 use Rattle.facts.proofs.Sums.KeepingLemmas.{shape_few}
+use Rattle.facts.proofs.Sums.SplitLemmas.{fact_dropped}
 use Rattle.judge.specs.Sums.Shapes.{HasShape}
 
 -- nothing is said of a routine
@@ -51,3 +52,15 @@ steps_short (c ∷ cs) h = (omega (arith, h.0), steps_short cs h.1)
 
 pub has_shape_too : (f : Fact) → IsShaped f → HasShape f
 has_shape_too f h = record { terms = terms_few f.relations h.relations; short = steps_short f.chains h.chains; few = h.few }
+
+pub counted_none : (fs all : List Fact) → fs ≡ all → 0 + length fs ≡ length all
+counted_none fs all is = ap length is
+
+-- the fact at a place of the list, where those before it were passed
+pub is_next : (fs rest xs : List Fact) (i : ℕ) (b : Bool) (f : Fact) → i < length fs → xs ≡ drop i fs → (b ≡ false → xs ≡ []) → (b ≡ true → xs ≡ f ∷ rest) → (b ≡ true) × (f ≡ fact_at fs i)
+is_next fs rest xs i true f lt at none next = (refl, let e : f ∷ rest ≡ fact_at fs i ∷ drop (i + 1) fs = sym (next refl) ∙ (at ∙ fact_dropped fs i lt) in cc)
+is_next fs rest xs i false f lt at none next = absurd (let e : [] ≡ fact_at fs i ∷ drop (i + 1) fs = sym (none refl) ∙ (at ∙ fact_dropped fs i lt) in cc)
+
+pub passed : (fs rest xs : List Fact) (k : ℕ) (b : Bool) → k < length fs → xs ≡ drop k fs → (b ≡ false → xs ≡ []) → (b ≡ true → Follows xs rest) → rest ≡ drop (k + 1) fs
+passed fs rest xs k true lt at none next = let n = next refl in let e : n.0 ∷ rest ≡ fact_at fs k ∷ drop (k + 1) fs = sym n.1 ∙ (at ∙ fact_dropped fs k lt) in cc
+passed fs rest xs k false lt at none next = absurd (let e : [] ≡ fact_at fs k ∷ drop (k + 1) fs = sym (none refl) ∙ (at ∙ fact_dropped fs k lt) in cc)

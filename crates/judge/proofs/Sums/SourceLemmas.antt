@@ -46,3 +46,6 @@ sited_shape OfEquations sites f h = record { terms = h.terms; short = h.short; f
 pub sited_alone : (rules : Rules) (sites : Words) (f : Fact) → sited rules sites (f ∷ []) ≡ sited_one rules sites f ∷ []
 sited_alone OfSums sites f = refl
 sited_alone OfEquations sites f = refl
+
+pub sited_by_equations : (rules : Rules) (sites : Words) (f g : Fact) → rules ≡ OfEquations → g ≡ with_sites sites f → g ≡ sited_one rules sites f
+sited_by_equations rules sites f g is put = put ∙ ap (λ (k : Rules). sited_one k sites f) (sym is)

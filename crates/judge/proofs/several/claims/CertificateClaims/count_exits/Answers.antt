@@ -1,14 +1,12 @@
 use Rattle.std.proofs.Common.{arith, ap, sym, ◌∙◌}
-use Rattle.std.specs.Prelude.{length, List}
-use Rattle.domain.specs.Sums.Facts.{Fact}
-use Rattle.judge.proofs.Sums.ClaimsLemmas.{counted_all, counted_more}
+use Rattle.judge.proofs.Sums.ClaimsLemmas.{counted_all, counted_more, counted_none}
 use Rattle.judge.proofs.several.claims.CertificateClaims.count_exits.Goals as goal
 
-pub loop-init : goal.loop-init
-loop-init g c = ?
+pub loop-entry-init : goal.loop-entry-init
+loop-entry-init g c = record { stands = c.exits_from-line.ensures.stands; few = omega arith; counted = counted_none _ _ c.exits_from-line.ensures.all }
 
-pub loop-preserved : goal.loop-preserved
-loop-preserved g c = ?
+pub loop-entry-preserved : goal.loop-entry-preserved
+loop-entry-preserved g c = record { stands = c.skip_exit.ensures.stands; few = omega (arith, c.loop-entry.invariant.few, c.skip_exit.ensures.after c.loop-entry-test.true); counted = counted_more _ _ c.loop-entry.count _ (c.skip_exit.ensures.next c.loop-entry-test.true) c.loop-entry.invariant.counted }
 
 pub returns : goal.returns
-returns g c = ?
+returns g c = counted_all _ c.loop-entry.count _ (c.skip_exit.ensures.none c.loop-entry-test.false) c.loop-entry.invariant.counted

@@ -1,14 +1,12 @@
 use Rattle.std.proofs.Common.{arith, ap, sym, ◌∙◌}
-use Rattle.std.specs.Prelude.{length, List}
-use Rattle.domain.specs.Sums.Facts.{Fact}
-use Rattle.judge.proofs.Sums.ClaimsLemmas.{counted_all, counted_more}
+use Rattle.judge.proofs.Sums.ClaimsLemmas.{counted_all, counted_more, counted_none}
 use Rattle.judge.proofs.several.claims.CertificateClaims.count_facts.Goals as goal
 
-pub loop-init : goal.loop-init
-loop-init g c = ?
+pub loop-at-init : goal.loop-at-init
+loop-at-init g c = record { stands = c.facts_from-line.ensures.stands; few = omega arith; counted = counted_none _ _ c.facts_from-line.ensures.all }
 
-pub loop-preserved : goal.loop-preserved
-loop-preserved g c = ?
+pub loop-at-preserved : goal.loop-at-preserved
+loop-at-preserved g c = record { stands = c.skip_fact.ensures.stands; few = omega (arith, c.loop-at.invariant.few, c.skip_fact.ensures.after c.loop-at-test.true); counted = counted_more _ _ c.loop-at.count _ (c.skip_fact.ensures.next c.loop-at-test.true) c.loop-at.invariant.counted }
 
 pub returns : goal.returns
-returns g c = ?
+returns g c = counted_all _ c.loop-at.count _ (c.skip_fact.ensures.none c.loop-at-test.false) c.loop-at.invariant.counted

@@ -14,3 +14,4 @@ pub mod LineLemmas
 pub mod CallLemmas
 pub mod CaseLemmas
 pub mod ClaimsLemmas
+pub mod ReadingLemmas

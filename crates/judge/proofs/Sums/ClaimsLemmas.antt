@@ -1,10 +1,12 @@
 -- What a certificate says of a routine that it doesn't list, and how its facts are counted.
-use Rattle.std.proofs.Common.{◌≡◌, ℕ, ◌+◌, ◌<◌, ◌≤◌, ◌==◌, Bool, true, false, Option, Some, None, List, [], ◌∷◌, length, drop, refl, sym, ap, ◌∙◌, arith}
-use Rattle.std.proofs.lemmas.Bool.{true≢false}
+use Rattle.std.proofs.Common.{◌≡◌, ℕ, ◌+◌, ◌<◌, ◌≤◌, ◌==◌, Bool, true, false, Option, Some, None, List, [], ◌∷◌, length, drop, suc, refl, sym, ap, ◌∙◌, arith}
+use Rattle.std.specs.Prelude.{nat_le}
+use Rattle.std.specs.List.{list_all}
+use Rattle.std.proofs.lemmas.Bool.{true≢false, and_parts}
 use Rattle.wordset.specs.Words.{nothing}
 use Rattle.certificate.specs.Spelling.{RoutineLine}
 use Rattle.certificate.specs.Reading.{Each}
-use Rattle.certificate.specs.Sums.LineOf.{is_relation}
+use Rattle.certificate.specs.Sums.LineOf.{is_relation, is_summand}
 use Rattle.certificate.specs.Sums.Lines.{Line}
 use Rattle.certificate.specs.Sums.Reading.{routine_at, is_listed, rank_in, sites_in, writes_in}
 use Rattle.certificate.specs.Sums.Kept.{Follows, HasShape as IsShaped}
@@ -33,7 +35,7 @@ unlisted ls e h = let r = go (routine_at ls e) h in record { rank = ap rank_in r
 
 -- one fact more is counted
 pub counted_more : (fs rest : List Fact) (n m : ℕ) → Follows fs rest → n + length fs ≡ m → n + 1 + length rest ≡ m
-counted_more fs rest n m next so = let one : length fs ≡ length rest + 1 = ap length next.1 in omega (arith, one, so)
+counted_more fs rest n m next so = let one : length fs ≡ suc (length rest) = ap length next.1 in omega (arith, one, so)
 
 pub counted_all : (fs : List Fact) (n m : ℕ) → fs ≡ [] → n + length fs ≡ m → n ≡ m
 counted_all fs n m none so = let zero : length fs ≡ 0 = ap length none in omega (arith, zero, so)
@@ -44,7 +46,7 @@ terms_few [] h = tt
 terms_few (r ∷ rs) h = (shape_few r.sum (shaped r h.0), terms_few rs h.1)
   where
     shaped : (q : Relation) → is_relation q.sum ≡ true → has_shape q.sum ≡ true
-    shaped q s = search
+    shaped q s = let p = and_parts (nat_le 2 (length q.sum)) _ s in let t = and_parts (list_all is_summand q.sum) _ p.1 in (and_parts (has_shape q.sum) _ t.1).0
 
 steps_short : (cs : List Chain) → Each (λ (c : Chain). length c.steps ≤ 16) cs → AreShort cs
 steps_short [] h = tt

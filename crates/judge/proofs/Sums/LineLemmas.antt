@@ -86,9 +86,9 @@ named_line false false exits h = h
 -- ---- the verdict at an address
 
 lines_fail : (j : Case) (a : ℕ) → claimed j.certificate a ≡ true → (HoldsAt j V2 a → ⊥) → FailsAtLine j a V2
-lines_fail j a line no = record {
+lines_fail j a line fails = record {
   line = line;
-  first = record { past = omega arith; fails = no; before = λ v one lt. absurd (omega (arith, lt)) };
+  first = record { past = omega arith; fails = fails; before = λ v one lt. absurd (omega (arith, lt)) };
 }
 
 pub not_entry : (j : Case) (a : ℕ) (named entry : Bool) → named ≡ names_routine j.certificate a → named ≡ true → entry ≡ j.declaration.entry a → entry ≡ false → FailsAtLine j a V2
@@ -101,11 +101,11 @@ not_entry j a named entry is there same lacks =
     both false y h p q = q h
 
 pub no_body : (j : Case) (a : ℕ) → 0 < length (j.certificate.facts a) → ((f : Fact) → IsPlaced j a f → ⊥) → FailsAtLine j a V2
-no_body j a some no = lines_fail j a (fact_line j a some) (λ l. go (j.certificate.facts a) some l.facts)
+no_body j a some none = lines_fail j a (fact_line j a some) (λ l. go (j.certificate.facts a) some l.facts)
   where
     go : (fs : List Fact) → 0 < length fs → EachFact (IsPlaced j a) fs → ⊥
     go [] lt e = omega (arith, lt)
-    go (f ∷ fs) lt e = no f e.0
+    go (f ∷ fs) lt e = none f e.0
 
 -- no facts
 length_none : (fs : List Fact) → length fs ≡ 0 → fs ≡ []

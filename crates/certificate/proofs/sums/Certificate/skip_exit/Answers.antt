@@ -12,8 +12,8 @@ returns-then-not-is_at-clause-none g c = λ done.
     subst (λ (p : ℕ). begins_at p (drop c.args.line.now (said_lines c.self.inside.kept)) ≡ false) same (sym c.if-not-is_at.ensures) in
     rw (← c.self.view_is) (no_exit_left c.self.inside.version c.self.inside.kept c.args.line.now c.args.entry c.args.offset c.self.invariant (rw (← c.self.view_is) at c.requires.stands) at)
 
-pub behind-requires : goal.behind-requires
-behind-requires g c = begun_within (said_lines c.self.inside.kept) c.args.line.now _ (sym c.if-not-is_at.ensures)
+pub returns-clause-after : goal.returns-clause-after
+returns-clause-after g c = λ done. c.behind.ensures.after (begun_within (said_lines c.self.inside.kept) c.args.line.now _ (sym c.if-not-is_at.ensures))
 
 pub returns-clause-next : goal.returns-clause-next
 returns-clause-next g c = λ done.

@@ -56,7 +56,7 @@ pub has_shape_too : (f : Fact) → IsShaped f → HasShape f
 has_shape_too f h = record { terms = terms_few f.relations h.relations; short = steps_short f.chains h.chains; few = h.few }
 
 pub counted_none : (fs all : List Fact) → fs ≡ all → 0 + length fs ≡ length all
-counted_none fs all is = ap length is
+counted_none fs all is = let same : length fs ≡ length all = ap length is in omega (arith, same)
 
 -- the fact at a place of the list, where those before it were passed
 pub is_next : (fs rest xs : List Fact) (i : ℕ) (b : Bool) (f : Fact) → i < length fs → xs ≡ drop i fs → (b ≡ false → xs ≡ []) → (b ≡ true → xs ≡ f ∷ rest) → (b ≡ true) × (f ≡ fact_at fs i)

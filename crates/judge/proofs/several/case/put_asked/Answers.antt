@@ -11,4 +11,4 @@ pub returns-in-OfSums-clause-asked : goal.returns-in-OfSums-clause-asked
 returns-in-OfSums-clause-asked c = asked_sums (rules_of c.args.rules.now) (image_of c.args.image.now) (fact_in_code c.args.claimed.now) (fact_in_code c.narrow.new.self) c.is_void.result (ap rules_of c.in-OfSums.is) c.narrow.ensures.fact c.is_void.ensures
 
 pub returns-in-OfSums-clause-roomy : goal.returns-in-OfSums-clause-roomy
-returns-in-OfSums-clause-roomy c = narrowed_roomy {132} {68} {64} {32} (image_of c.args.image.now) c.narrow.new.self c.args.claimed.now c.requires c.is_within_room.ensures.cells c.is_within_room.ensures.relations c.narrow.ensures.fact c.narrow.ensures.cells c.narrow.ensures.relations
+returns-in-OfSums-clause-roomy c = narrowed_roomy {C = 132} {R = 68} {D = 64} {S = 32} (image_of c.args.image.now) c.narrow.new.self c.args.claimed.now c.requires c.is_within_room.ensures.cells c.is_within_room.ensures.relations c.narrow.ensures.fact c.narrow.ensures.cells c.narrow.ensures.relations

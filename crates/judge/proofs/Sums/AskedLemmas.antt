@@ -36,8 +36,11 @@ pub holds_only : (j : Case) (v : Condition) (r : Routine) (a : ℕ) (f : Fact) (
     IsTrue t ↔ HoldsFor j v r a f (meaning_of j.declaration.profile a w) → IsTrue t ↔ HoldsOfFact j v r a f
 holds_only j v r a f w t only small told =
     let few : how_many 4096 (possible (place_in j r) f a) ≡ 1 = ap (how_many 4096) only ∙ count_one 4096 w small in (
-      λ q. (λ asks. omega (arith, few), λ x lt has.
-          subst (λ y. HoldsFor j v r a f (meaning_of j.declaration.profile a y)) (sym (eqb-true x w (ap (λ (s : Words). s x) (sym only) ∙ has))) (told.0 q)),
+      λ q. (
+        λ asks. omega (arith, few),
+        λ x lt has.
+            subst (λ y. HoldsFor j v r a f (meaning_of j.declaration.profile a y)) (sym (eqb-true x w (ap (λ (s : Words). s x) (sym only) ∙ has))) (told.0 q),
+      ),
       λ h. told.1 (h.1 w small (ap (λ (s : Words). s w) only ∙ eq-eqb w w refl)),
     )
 

@@ -108,6 +108,7 @@ no_exit j r a e o f none = subst (EachLandsAfter j r a e o f) (sym (ap (λ (xs :
     is_none : (xs : List Fact) → has_any xs ≡ false → xs ≡ []
     is_none [] h = refl
     is_none (x ∷ xs) h = absurd (true≢false h)
+
     nothing_sited : sited j.certificate.rules (j.certificate.sites e) [] ≡ []
     nothing_sited = go j.certificate.rules
       where

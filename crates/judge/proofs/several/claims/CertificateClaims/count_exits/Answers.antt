@@ -10,3 +10,6 @@ loop-entry-preserved g c = record { stands = c.skip_exit.ensures.stands; few = o
 
 pub returns : goal.returns
 returns g c = counted_all _ c.loop-entry.count _ (c.skip_exit.ensures.none c.loop-entry-test.false) c.loop-entry.invariant.counted
+
+pub overflow_add-count : goal.overflow_add-count
+overflow_add-count g c = omega (arith, c.loop-entry.invariant.few, c.skip_exit.ensures.after c.loop-entry-test.true, c.skip_exit.ensures.fits c.loop-entry-test.true)

@@ -10,3 +10,6 @@ loop-at-preserved g c = record { stands = c.skip_fact.ensures.stands; few = omeg
 
 pub returns : goal.returns
 returns g c = counted_all _ c.loop-at.count _ (c.skip_fact.ensures.none c.loop-at-test.false) c.loop-at.invariant.counted
+
+pub overflow_add-count : goal.overflow_add-count
+overflow_add-count g c = omega (arith, c.loop-at.invariant.few, c.skip_fact.ensures.after c.loop-at-test.true, c.skip_fact.ensures.fits c.loop-at-test.true)

@@ -1,36 +1,32 @@
 -- A certificate with sites by a declaration.
-use Rattle.std.proofs.Common.{◌≡◌, ℕ, ◌+◌, ◌*◌, ◌<◌, ◌≤◌, ◌==◌, Bool, true, false, not, ◌&&◌, ◌||◌, List, [], ◌∷◌, ◌++◌, length, drop, Option, Some, None, refl, ap, ◌∙◌, sym, subst, inl, inr, arith, append_assoc, append-nil}
+use Rattle.std.proofs.Common.{◌≡◌, ℕ, ◌+◌, ◌<◌, ◌≤◌, ◌==◌, Bool, true, false, ◌&&◌, ◌||◌, List, [], ◌∷◌, ◌++◌, length, drop, Option, Some, None, refl, ap, ◌∙◌, sym, subst, inl, inr, arith, append_assoc, append-nil}
 use Rattle.std.specs.Prelude.{if◌then◌else◌, map, nat_lt}
 use Rattle.std.specs.List.{list_any}
-use Rattle.std.specs.Option.{option_map}
 use Rattle.std.proofs.Math.Path.{fun_ext}
 use Rattle.std.proofs.lemmas.List.{drop_all, map_push}
-use Rattle.std.proofs.lemmas.Bool.{true≢false, false≢true, cases_Bool, cases_lt, and_parts, ltb-true, lt-ltb, le-ltb, ne_eqb, eqb-true}
+use Rattle.std.proofs.lemmas.Bool.{true≢false, cases_Bool, and_parts, ltb-true, lt-ltb, ne_eqb, eqb-true}
 use Rattle.wordset.specs.Words.{Words, nothing, one, has_some, some_below}
 use Rattle.wordset.proofs.Tests.{IsSome, some_from, some_to, some_none_of, and_both, and_first, and_second, both_ways}
 use Rattle.declaration.specs.Declaration.{Declaration, Routine}
-use Rattle.declaration.specs.declared.Owner.{Owner}
-use Rattle.declaration.specs.declared.Owner.TheVariants as owner
-use Rattle.declaration.specs.Kept.{routine_of}
 use Rattle.domain.specs.Sums.Facts.{Relation}
 use Rattle.certificate.specs.declared.sums.Version.{Version}
 use Rattle.certificate.specs.declared.sums.Version.TheVariants.{One, Two, Three}
 use Rattle.certificate.specs.Spelling.{RoutineLine, Registers}
 use Rattle.certificate.specs.Reading.{Each, EndsBefore}
 use Rattle.certificate.specs.Sums.Lines.{Line, RoutineIs, FactIs, ExitIs, CellIs, SumIs, ChainIs, End, is_end, is_detail, has_details, is_routine, is_cell, is_sum, is_chain, is_of_sums}
-use Rattle.certificate.specs.Sums.Order.{may_stand, heads, details_of_last, fellows, place_of_head, detail_is_before, may_be_level, may_follow, follows_newest, comes_in_order, how_many, has_room}
+use Rattle.certificate.specs.Sums.Order.{may_stand, heads, details_of_last, place_of_head, detail_is_before, may_follow, follows_newest, comes_in_order, how_many, has_room}
 use Rattle.certificate.specs.Sums.LineOf.{has_form, has_registers, is_relation}
-use Rattle.certificate.specs.Sums.Laws.{MqFits, RegistersFit, IsEquation, LineFits}
+use Rattle.certificate.specs.Sums.Laws.{MqFits, RegistersFit, LineFits}
 use Rattle.certificate.specs.Sums.Certificate.{Certificate}
 use Rattle.certificate.specs.Sums.Reading.{routine_at, is_listed, sites_in}
-use Rattle.certificate.specs.Sums.Found.{IsNext, IsLine, AreInOrder, newest_first, IsWhole}
+use Rattle.certificate.specs.Sums.Found.{IsLine, AreInOrder, newest_first, IsWhole}
 use Rattle.certificate.specs.Sums.Packed.{Packed, said_lines, said_at, sited_line, IsNumbered}
-use Rattle.certificate.specs.Sums.Made.{sites_at, sites_by, sited_by}
+use Rattle.certificate.specs.Sums.Made.{sites_by, sited_by}
 use Rattle.certificate.specs.declared.packed.Run.{Run}
 use Rattle.domain.specs.declared.chains.Step.{Step}
 use Rattle.certificate.specs.declared.sums.packed.PackedLine.{PackedLine}
 use Rattle.certificate.specs.declared.sums.packed.PackedLine.TheVariants as packed
-use Rattle.certificate.specs.Sums.Kept.{Kept, meaning, claims}
+use Rattle.certificate.specs.Sums.Kept.{Kept, claims}
 use Rattle.certificate.proofs.SumMadeLemmas.{mq_one}
 use Rattle.certificate.proofs.SumWholeLemmas.{whole}
 use Rattle.certificate.proofs.SumReaderLemmas.{has_place, formed}
@@ -42,7 +38,7 @@ no_sites None h = refl
 no_sites (Some r) h = absurd (true≢false h)
 
 sites_end : (v : Version) (ls : List Line) (e : ℕ) → Each (IsLine v) ls → EndsBefore 4096 (sites_in (routine_at ls e))
-sites_end v [] e h x past = refl
+sites_end v [] e h = λ x past. refl
 sites_end v (RoutineIs r ∷ ls) e h = elim (cases_Bool (r.entry == e)) [
   | inl t ↦ rw t (λ x past. h.0.1.0 x past)
   | inr f ↦ rw f (sites_end v ls e h.1)
@@ -117,8 +113,8 @@ one_end k h v past =
     ne_eqb v k (λ e. omega (arith, q, b, e))
 
 relation_three : (v : Version) (r : Relation) → is_of_sums v ≡ false → has_form v (SumIs r) ≡ true → LineFits v (SumIs r) → EndsBefore 4096 r.set
-relation_three One r e h f = let q : r.set ≡ one f.2.2.0 = f.2.2.2.1 in subst (EndsBefore 4096) (sym q) (one_end f.2.2.0 (rw q at ((and_parts (is_relation r.sum) _ h).1)))
-relation_three Two r e h f = let q : r.set ≡ one f.2.2.0 = f.2.2.2.1 in subst (EndsBefore 4096) (sym q) (one_end f.2.2.0 (rw q at ((and_parts (is_relation r.sum) _ h).1)))
+relation_three One r e h f = let q : r.set ≡ one f.2 = f.4 in subst (EndsBefore 4096) (sym q) (one_end f.2 (rw q at ((and_parts (is_relation r.sum) _ h).1)))
+relation_three Two r e h f = let q : r.set ≡ one f.2 = f.4 in subst (EndsBefore 4096) (sym q) (one_end f.2 (rw q at ((and_parts (is_relation r.sum) _ h).1)))
 relation_three Three r e h f = absurd (true≢false e)
 
 more_offsets : (v : Version) (o : Words) → is_of_sums v ≡ false → EndsBefore (if is_of_sums v then 64 else 8) o → EndsBefore 64 o
@@ -223,12 +219,12 @@ module _ (sites : Line → Words) where
   follow_same : (v : Version) (l last : Line) → is_of_sums v ≡ false → may_follow v l last ≡ true → may_follow Three (sited l) (sited last) ≡ true
   follow_same v l last e h = elim (cases_Bool (is_detail l)) [
     | inl t ↦ rw (same_detail l, t) (before_same last l t (rw t at h))
-    | inr f ↦ rw (same_detail l, f, same_place l, same_place last) (rw (first (nat_lt (place_of_head last) (place_of_head l)) _ (rw (f, e) at h)) refl)
+    | inr f ↦ rw (same_detail l, f, same_place l, same_place last, first (nat_lt (place_of_head last) (place_of_head l)) (rw (f, e) at h)) refl
   ]
     where
-      first : (a b : Bool) → (a || (false && b)) ≡ true → a ≡ true
-      first true b h = refl
-      first false b h = h
+      first : (a : Bool) → (a || false) ≡ true → a ≡ true
+      first true h = refl
+      first false h = h
 
   newest_same : (v : Version) (l : Line) (ls : List Line) → is_of_sums v ≡ false → follows_newest v l ls ≡ true → follows_newest Three (sited l) (map sited ls) ≡ true
   newest_same v l [] e h = refl

@@ -23,7 +23,7 @@ use crate::sums::packed::{PackedSum, Steps, is_relation, is_step};
 use domain::{CountedOffsets, Location, ReturnOffsets, Step, Summand, Term, is_sign, negated};
 use word12::Word;
 
-/// Puts an offset in, where it's wanted.
+/// Puts an offset in, where it is wanted.
 fn insert_if(found: &mut ReturnOffsets, offset: usize, is_wanted: bool)
     requires { offset < 64 }
     ensures { (v : ℕ) → offsets_in found.new v ≡ (offsets_in found.old v || is_wanted && v == offset) }
@@ -60,7 +60,7 @@ fn insert_run(found: &mut ReturnOffsets, first: usize, last: usize)
     }
 }
 
-/// The cell of a term that has minus this coefficient, if it's what a cell holds.
+/// The cell of a term that has minus this coefficient, if it is what a cell holds.
 fn opposite_cell(third: &Summand, coefficient: Word) -> Option<Word>
     ensures is { IfSome result (λ z. summand_of third.now ∷ [] ≡ third_terms coefficient (Some z)) }
     ensures only { (z : ℕ) → summand_of third.now ∷ [] ≡ third_terms coefficient (Some z) → result ≡ Some z }

@@ -157,7 +157,7 @@ impl<A: Allocator> Certificate<A> {
     }
 }
 
-/// Adds lines of a certificate with their sites by a declaration; where that's refused, some of them.
+/// Adds lines of a certificate with their sites by a declaration; where that is refused, some of them.
 fn put_sited<A: Allocator, B: Allocator>(
     kept: &mut PackedLines<A>,
     certificate: &Certificate<A>,

@@ -79,7 +79,7 @@ fn is_last(offsets: ReturnOffsets, offset: usize) -> bool
 }
 
 impl LineText {
-    /// Adds a comma, where it's wanted.
+    /// Adds a comma, where it is wanted.
     fn comma_if(&mut self, is_wanted: bool)
         ensures { Adds self.old.bytes.items self.new.bytes.items (if is_wanted then codes "," else []) }
     {

@@ -1,6 +1,4 @@
-use Rattle.std.proofs.Common.{◌≡◌, ◌+◌, ◌<◌, true, false, sym, drop, arith}
-use Rattle.certificate.specs.Sums.Packed.{said_lines}
-use Rattle.certificate.specs.Sums.Found.{begins_at}
+use Rattle.std.proofs.Common.{◌+◌, sym, arith}
 use Rattle.certificate.proofs.SumReaderLemmas.{fit_next, fact_next, has_said, none_left}
 use Rattle.certificate.proofs.SumSkipLemmas.{has_shape_there}
 use Rattle.certificate.proofs.sums.Certificate.next_fact.Goals as goal

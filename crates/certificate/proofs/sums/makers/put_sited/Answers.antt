@@ -21,11 +21,11 @@ loop-at-init g c = refl
 pub loop-at-preserved : goal.loop-at-preserved
 loop-at-preserved g c =
     let l = said_of c.line-lent.result in
-    sited_next (sited_by (declared c.args.declaration.now) (claims c.args.certificate.now)) (said_lines c.loop-at.kept) (said_lines c.push_sited.new.kept) _ (said_lines c.args.lines.now)
+    sited_next (sited_by (declared c.args.declaration.now) (claims c.args.certificate.now)) (said_lines c.loop-at.kept) (said_lines c.push_sited.new.self) _ (said_lines c.args.lines.now)
     c.loop-at.at l _ c.line-lent.ensures.there (ap (λ (w : Words). sited_line w l) (c.sites_by-sites.ensures c.line-lent.result.runs.now c.line-lent.result.steps.now))
     c.in_default.ensures.added c.loop-at.invariant
 
 pub returns : goal.returns
 returns g c =
     sited_all (sited_by (declared c.args.declaration.now) (claims c.args.certificate.now)) (said_lines c.loop-at.kept) _ (said_lines c.args.lines.now) c.loop-at.at
-    (let z = c.loop-at-test.false in omega (arith, c.len.ensures)) c.loop-at.invariant
+    (let z = c.loop-at-test.false in omega (arith, c.len-at-end.ensures)) c.loop-at.invariant

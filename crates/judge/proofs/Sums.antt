@@ -15,3 +15,4 @@ pub mod CallLemmas
 pub mod CaseLemmas
 pub mod ClaimsLemmas
 pub mod ReadingLemmas
+pub mod VerdictLemmas

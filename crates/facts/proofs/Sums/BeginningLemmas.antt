@@ -1,11 +1,11 @@
 -- The fact of all starts as a part: it has neither relations nor chains, so narrowing leaves it as it is.
-use Rattle.std.proofs.Common.{◌≡◌, ℕ, ◌+◌, ◌<◌, ◌≤◌, ◌==◌, Bool, true, false, ◌&&◌, ◌||◌, Option, Some, None, List, [], ◌∷◌, ◌++◌, drop, length, refl, sym, ap, ◌∙◌, subst, arith, inl, inr, lit<}
+use Rattle.std.proofs.Common.{◌≡◌, ℕ, ◌+◌, ◌<◌, ◌≤◌, Bool, true, false, ◌&&◌, ◌||◌, Option, Some, None, List, [], ◌∷◌, drop, length, refl, sym, ap, ◌∙◌, subst, inl, inr, lit<}
 use Rattle.std.specs.Prelude.{IsTrue, ◌↔◌, ◌⊎◌, not, if◌then◌else◌, nat_lt}
 use Rattle.std.proofs.lemmas.Bool.{cond_both, lt-ltb, eq-eqb, eqb-true, true≢false, false≢true, cases_lt}
 use Rattle.std.proofs.Math.Path.{fun_ext}
 use Rattle.wordset.specs.Words.{Words, all_words, nothing, meet, one, sums, some_below, has_some, has_link}
 use Rattle.wordset.proofs.Tests.{some_from, some_none_of}
-use Rattle.wordset.proofs.SetLemmas.{all_past, lt_to}
+use Rattle.wordset.proofs.SetLemmas.{all_past}
 use Rattle.bin_tape.specs.Image.{word_at, HoldsWords}
 use Rattle.peripherals.specs.Loading.{image_of}
 use Rattle.processor.specs.Runs.{Image}
@@ -18,7 +18,7 @@ use Rattle.domain.specs.Sums.Knowing.{words_of_term, said_of}
 use Rattle.domain.proofs.SaidLemmas.{said_one, said_more}
 use Rattle.domain.specs.Sums.Narrowing.{narrowed}
 use Rattle.facts.specs.Sums.Entailment.{Entails, IsVoid, met_at, with_one_link}
-use Rattle.facts.specs.Sums.Landing.{Takes, IsTakenWhole}
+use Rattle.facts.specs.Sums.Landing.{Takes}
 use Rattle.facts.specs.Sums.Starts.{start_fact, words_at_start}
 use Rattle.facts.proofs.StartLemmas.{tape_words}
 

@@ -1,23 +1,20 @@
 -- A fact holds of each state of a fact that entails it.
-use Rattle.std.proofs.Common.{◌≡◌, ℕ, ◌+◌, ◌*◌, ◌-◌, ◌<◌, ◌≤◌, true, List, [], ◌∷◌, refl, sym, ◌∙◌, subst, inl, inr, arith, lit≤, lit<}
-use Rattle.wordset.specs.Words.{plus, minus, Words, IsWithin}
+use Rattle.std.proofs.Common.{◌≡◌, ℕ, ◌+◌, ◌*◌, ◌-◌, ◌<◌, ◌≤◌, true, List, [], ◌∷◌, refl, sym, ◌∙◌, subst, inl, inr, arith, lit≤}
+use Rattle.wordset.specs.Words.{plus, minus, IsWithin}
 use Rattle.wordset.proofs.Firsts.{only_word}
-use Rattle.processor.specs.Cells.{Cells, AreWords}
-use Rattle.processor.specs.Machine.{State}
-use Rattle.declaration.specs.Declaration.{Declaration}
+use Rattle.processor.specs.Cells.{Cells}
 use Rattle.policy.specs.Calls.{Calls}
 use Rattle.domain.specs.Facts.{Location, Ac, Cell, Values, values}
 use Rattle.domain.specs.Sums.Terms.{Sum, sum_value, difference_of}
 use Rattle.domain.specs.Sums.Chains.{Chain, gives}
-use Rattle.domain.specs.Sums.Facts.{Relation, Fact, Rules, OfEquations, OfSums, Place, IsTrueOf, AllTrue, IsGiven, AllGiven, Holds, last_site, StandsIn, OwnWord, Means}
+use Rattle.domain.specs.Sums.Facts.{Relation, Fact, Rules, OfEquations, OfSums, Place, IsTrueOf, AllTrue, AllGiven, Holds, last_site, StandsIn, OwnWord}
 use Rattle.domain.specs.Sums.Knowing.{said_of}
 use Rattle.domain.specs.Sums.Narrowing.{words_known}
-use Rattle.domain.specs.Sums.Laws.{IsBegun, AreValues}
+use Rattle.domain.specs.Sums.Laws.{AreValues}
 use Rattle.domain.proofs.Sums.SumLemmas.{val_lt}
 use Rattle.domain.proofs.Sums.KnowingLemmas.{said_is_so}
 use Rattle.domain.proofs.Sums.NarrowingLemmas.{values_are, known_is_so}
-use Rattle.facts.specs.Law.{IsState}
-use Rattle.facts.specs.Sums.Entailment.{Among, ShowsDifference, KnowsBy, KnowsAll, EachGives, ShowsChain, ShowsChains, Entails}
+use Rattle.facts.specs.Sums.Entailment.{Among, ShowsDifference, KnowsBy, KnowsAll, EachGives, ShowsChains}
 use Rattle.facts.specs.Sums.Laws.{EntailedFactsHold}
 
 difference_number : (a b : ℕ) → a < 4096 → b < 4096 → plus (1 * a) (plus (4095 * b) 0) ≡ minus a b

@@ -1,13 +1,12 @@
 -- A narrowed fact keeps what rows ask of a fact: relations of few terms, and chains with room for one step more.
-use Rattle.std.proofs.Common.{◌≡◌, ℕ, ◌≤◌, Bool, true, false, ◌&&◌, List, [], ◌∷◌, ◌++◌, length, refl, sym, subst, arith}
-use Rattle.std.specs.Prelude.{if◌then◌else◌, Option, Some, None, flat_map}
+use Rattle.std.proofs.Common.{◌≡◌, ℕ, ◌≤◌, true, ◌&&◌, List, [], ◌∷◌, ◌++◌, length, sym, subst, arith}
+use Rattle.std.specs.Prelude.{Option, Some, None, flat_map}
 use Rattle.std.specs.List.{list_all}
 use Rattle.std.proofs.lemmas.Bool.{cond_both, false≢true}
 use Rattle.wordset.specs.Words.{Words, meet}
 use Rattle.processor.specs.Runs.{Image}
-use Rattle.domain.specs.Facts.{Location}
 use Rattle.domain.specs.Sums.Terms.{Term, Holding, Behind, Sum, same_sum, arranged, multiplied}
-use Rattle.domain.specs.Sums.Shapes.{Spelled, spelled, has_shape, if_shaped, spelled_either}
+use Rattle.domain.specs.Sums.Shapes.{Spelled, spelled, has_shape, if_shaped}
 use Rattle.domain.specs.Sums.Facts.{Relation, Fact, Rules, OfSums}
 use Rattle.domain.specs.Sums.Chains.{Chain}
 use Rattle.domain.specs.Sums.ChainsInCode.{AreShort}

@@ -1,5 +1,5 @@
 -- One of the facts among which a fact lands holds of each state of the fact.
-use Rattle.std.proofs.Common.{◌≡◌, ℕ, ◌<◌, Bool, true, false, List, [], ◌∷◌, refl, inl, inr}
+use Rattle.std.proofs.Common.{◌≡◌, true, List, [], ◌∷◌, refl, inl, inr}
 use Rattle.std.proofs.lemmas.Bool.{and_from, cond_both, eq-eqb}
 use Rattle.wordset.specs.Words.{Words, one, meet}
 use Rattle.processor.specs.Cells.{Cells}
@@ -7,13 +7,12 @@ use Rattle.processor.specs.Machine.{State}
 use Rattle.policy.specs.Calls.{Calls}
 use Rattle.domain.specs.Facts.{Location, Values, values, same}
 use Rattle.domain.specs.Sums.Facts.{Fact, Rules, OfEquations, OfSums, Place, Means, SomeMeans}
-use Rattle.domain.specs.Sums.Adding.{with_set, with_name}
-use Rattle.domain.specs.Sums.Narrowing.{narrowed}
+use Rattle.domain.specs.Sums.Adding.{with_name}
 use Rattle.domain.specs.Sums.Laws.{IsBegun}
 use Rattle.domain.proofs.Sums.SumLemmas.{same_name}
 use Rattle.domain.proofs.Sums.NarrowingLemmas.{narrowed_holds, values_are, void_never_holds}
 use Rattle.facts.specs.Law.{IsState}
-use Rattle.facts.specs.Sums.Entailment.{Entails, EntailsOne, met_at, TakesWord, IsSplit, PartLands, with_one_link, LandsBy, Lands, IsIdle}
+use Rattle.facts.specs.Sums.Entailment.{EntailsOne, met_at, TakesWord, PartLands, with_one_link, LandsBy, IsIdle}
 use Rattle.facts.specs.Sums.Laws.{OneLandedHolds, IdleNeverHolds}
 use Rattle.facts.proofs.Sums.EntailedLemmas.{entailed_facts_hold}
 

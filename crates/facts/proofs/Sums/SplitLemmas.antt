@@ -1,7 +1,7 @@
 -- Landing part by part: one fact after another, and one name after another.
 use Rattle.std.proofs.Common.{◌≡◌, ℕ, ◌+◌, ◌<◌, ◌≤◌, Bool, true, false, ◌&&◌, ◌||◌, ◌==◌, List, [], ◌∷◌, map, drop, get_or, length, refl, sym, ap, ◌∙◌, subst, arith, inl, inr, lit<}
 use Rattle.std.specs.Prelude.{IsTrue, ◌↔◌, ◌⊎◌, if◌then◌else◌, not}
-use Rattle.std.proofs.lemmas.Bool.{and_from, and_parts, cond_both, eqb-true, eq-eqb, true≢false, false≢true, cases_lt, cases_eq, lt-ltb, ne_eqb}
+use Rattle.std.proofs.lemmas.Bool.{and_from, and_parts, cond_both, eq-eqb, true≢false, false≢true, cases_lt, cases_eq, lt-ltb, ne_eqb}
 use Rattle.std.specs.List.{list_any}
 use Rattle.std.proofs.lemmas.List.{drop_more}
 use Rattle.std.proofs.Math.Path.{fun_ext}
@@ -13,8 +13,8 @@ use Rattle.wordset.specs.Lanes.{words}
 use Rattle.domain.specs.Statements.{TrackedCell, tracked}
 use Rattle.domain.specs.Sums.FactInCode.{names_words}
 use Rattle.domain.specs.Facts.{Location, Ac, Cell, same}
-use Rattle.domain.specs.Sums.Facts.{Relation, Fact, Place, Rules, OfEquations, OfSums}
-use Rattle.domain.specs.Sums.Adding.{with_set, with_name, lacks_all, is_void}
+use Rattle.domain.specs.Sums.Facts.{Relation, Fact, Place, OfEquations, OfSums}
+use Rattle.domain.specs.Sums.Adding.{with_name, lacks_all, is_void}
 use Rattle.domain.specs.Sums.Narrowing.{narrowed}
 use Rattle.domain.proofs.Sums.SumLemmas.{same_name}
 use Rattle.facts.specs.Sums.Entailment.{Entails, EntailsOne, IsVoid, met_at, TakesWord, IsSplit, PartLands, with_one_link, LandsBy, Lands, IsIdle}

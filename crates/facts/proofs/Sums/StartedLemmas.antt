@@ -1,5 +1,5 @@
 -- The fact of all starts holds of each start.
-use Rattle.std.proofs.Common.{◌≡◌, ℕ, ◌<◌, Bool, true, false, Option, Some, None, List, [], ◌∷◌, refl, sym, ap, ◌∙◌, inl, inr, lit<}
+use Rattle.std.proofs.Common.{◌≡◌, ℕ, ◌<◌, Bool, true, false, Option, Some, None, List, [], ◌∷◌, refl, inl, inr, lit<}
 use Rattle.std.specs.Prelude.{if◌then◌else◌}
 use Rattle.std.proofs.lemmas.Bool.{eq-eqb, lt-ltb}
 use Rattle.processor.specs.Machine.{State}
@@ -9,7 +9,6 @@ use Rattle.policy.specs.Calls.{Calls}
 use Rattle.domain.specs.Facts.{Location, Ac, Cell, values, tape_word}
 use Rattle.domain.specs.Sums.Facts.{Fact, Place, Means, SomeMeans}
 use Rattle.domain.specs.Sums.Laws.{IsBegun}
-use Rattle.facts.specs.Law.{IsState}
 use Rattle.facts.specs.Sums.Starts.{words_at_start, start_fact, StartFactHolds, StartsLand}
 use Rattle.facts.proofs.Sums.LandedLemmas.{one_landed_holds}
 

@@ -1,7 +1,7 @@
 -- Landing part by part, as it is tested.
 use Rattle.std.specs.Prelude.{◌≡◌, ℕ, ◌<◌, true, ◌⊎◌, List, [], ◌∷◌, get_or}
 use Rattle.wordset.specs.Words.{all_words}
-use Rattle.domain.specs.Facts.{Location, Cell}
+use Rattle.domain.specs.Facts.{Location}
 use Rattle.domain.specs.Sums.Facts.{Fact, Place}
 use Rattle.domain.specs.Sums.FactInCode.{nothing_known}
 use Rattle.domain.specs.Sums.Narrowing.{narrowed}

@@ -1,8 +1,6 @@
--- Tape, declaration and certificate are read in one way: whatever parts the bytes have, they make one case, of which one
--- condition fails first.
-use Rattle.std.proofs.Common.{◌≡◌, ℕ, ◌+◌, ◌*◌, ◌<◌, ◌≤◌, ◌==◌, List, Ok, Err, take, sym, refl, ap, ◌∙◌, subst, inl, inr, arith}
-use Rattle.std.proofs.lemmas.Bool.{cases_order}
-use Rattle.std.specs.Prelude.{if◌then◌else◌}
+-- Tape, declaration and certificate of any version are read in one way: whatever parts the bytes have, they make one case, of
+-- which one condition fails first.
+use Rattle.std.proofs.Common.{◌≡◌, ℕ, List, Ok, Err, take, sym, refl, ap, ◌∙◌, subst}
 use Rattle.bin_tape.proofs.OneAnswer.{one_tape}
 use Rattle.processor.specs.Runs.{Image}
 use Rattle.peripherals.specs.Loading.{image_of}
@@ -17,13 +15,9 @@ use Rattle.certificate.specs.declared.CertificateFault.{CertificateFault}
 use Rattle.judge.specs.Sums.Landing.{Case}
 use Rattle.judge.specs.Sums.Conditions.{IsFirst, IsValid}
 use Rattle.judge.specs.Sums.Certifying.{Parts, AreRead, IsTapeOf, case_of, declaration_of}
+use Rattle.judge.specs.Sums.Laws.{TextsMakeOneCase}
 use Rattle.judge.specs.declared.judging.Refusal.{Refusal}
-use Rattle.declaration.specs.Declaration.{IsDeclared}
-use Rattle.policy.specs.Runs.{IsSafe}
-use Rattle.judge.specs.Sums.Certifying.{words_of}
 use Rattle.judge.proofs.Sums.FirstLemmas.{one_first}
-use Rattle.judge.proofs.Sums.Legal.{runs_are_safe}
-use Rattle.judge.proofs.Sums.Worlds.{events_are_safe}
 
 -- ---- one case
 
@@ -39,7 +33,7 @@ same_claims c one other read also =
     let lines : one ≡ other = cc in
     ap certificate_of lines
 
-pub one_case : (t d c : List ℕ) (p q : Parts) → AreRead t d c p → AreRead t d c q → case_of p ≡ case_of q
+pub one_case : TextsMakeOneCase
 one_case t d c p q one other =
     same_case (ap image_of (one_tape (take 65536 t) p.image q.image one.is_tape other.is_tape)) (one_declaration d (declaration_of p) (declaration_of q) one.declares other.declares)
     (same_claims c (certified.meaning p.certificate) (certified.meaning q.certificate) one.is_certificate other.is_certificate)
@@ -78,11 +72,8 @@ pub are_read : {t d c : List ℕ} (p : Parts) → IsTapeOf t p.image → Declare
 are_read p tape declares lists read = record { is_tape = tape; declares = declares; lists = lists; is_certificate = read }
 
 -- a text that is read as a certificate has no fault
-pub not_both : {A : Type 0} (c : List ℕ) (ls : Text) (f : CertificateFault) → reading c ≡ Ok ls → reading c ≡ Err f → A
-not_both c ls f read fails = let both : Ok ls ≡ Err f = sym read ∙ fails in absurd (cc)
+pub not_both : {A : Type 0} (c : List ℕ) (text : Text) (f : CertificateFault) → reading c ≡ Ok text → reading c ≡ Err f → A
+not_both c text f read fails = let both : Ok text ≡ Err f = sym read ∙ fails in absurd (cc)
 
 pub one_fault : (c : List ℕ) (f g : CertificateFault) → reading c ≡ Err f → reading c ≡ Err g → f ≡ g
 one_fault c f g one other = let both : Err f ≡ Err g = sym one ∙ other in cc
-
-pub safe_of : (p : Parts) → IsDeclared (declaration_of p) → IsValid (case_of p) → IsSafe (words_of p) (declaration_of p)
-safe_of p declared valid = record { runs = runs_are_safe (case_of p) declared valid; events = events_are_safe (case_of p) declared valid }

@@ -1,4 +1,4 @@
--- What is certified, and why something isn't.
+-- What is certified by a certificate whose facts have sums, and why something isn't.
 use Rattle.std.specs.Prelude.{◌≡◌, ◌≢◌, ℕ, ◌⊎◌, ⊤, Option, List, take, Ok, Err}
 use Rattle.bin_tape.specs.Tape.{IsTape}
 use Rattle.bin_tape.specs.Refuses.{Refuses}

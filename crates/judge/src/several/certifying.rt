@@ -153,8 +153,8 @@ pub fn certify<A: Allocator + Copy>(
         DeclaresSomething declaration.now → reading certificate.now ≡ Err f →
         IsErrAnd result (λ g. (g ≡ fault.NoMemory) ⊎ (g ≡ fault.Certificate f)) }
     // Where all three are good only a condition refuses, unless memory is.
-    ensures judged { (ls : Text) → IsSomeTape tape.now → DeclaresSomething declaration.now →
-        reading certificate.now ≡ Ok ls → IfErr result (λ g. (g ≡ fault.NoMemory) ⊎ IsRefusal g) }
+    ensures judged { (text : Text) → IsSomeTape tape.now → DeclaresSomething declaration.now →
+        reading certificate.now ≡ Ok text → IfErr result (λ g. (g ≡ fault.NoMemory) ⊎ IsRefusal g) }
     // Whichever condition fails first of three that are good is told, unless memory is refused.
     ensures refusal_told { (r : Refusals) →
         FailFirst tape.now declaration.now certificate.now r →

@@ -248,6 +248,7 @@ impl<A: Allocator> Certificate<A> {
         ensures next { result ≡ true →
             Follows (facts_from self.now line.old at) (facts_from self.now line.new at) }
         ensures after { result ≡ true → line.old < line.new }
+        ensures fits { result ≡ true → line.new < 18446744073709551616 }
         ensures stands { IsBeforeFacts self.now line.new at }
     {
         if !self.kept.is_at(*line, FIRST_FACT + at.index()) {
@@ -306,6 +307,7 @@ impl<A: Allocator> Certificate<A> {
         ensures next { result ≡ true → Follows (exits_from self.now line.old entry offset)
             (exits_from self.now line.new entry offset) }
         ensures after { result ≡ true → line.old < line.new }
+        ensures fits { result ≡ true → line.new < 18446744073709551616 }
         ensures stands { IsBeforeExits self.now line.new entry offset }
     {
         if !self

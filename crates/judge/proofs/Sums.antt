@@ -13,5 +13,6 @@ pub mod OrderLemmas
 pub mod LineLemmas
 pub mod CallLemmas
 pub mod CaseLemmas
+pub mod ClaimsLemmas
 pub mod ReadingLemmas
 pub mod VerdictLemmas

@@ -177,18 +177,21 @@ pub fn end_of<A: Allocator>(lines: &PackedLines<A>, start: usize) -> usize
 
 /// Where the lines begin that come behind the one at a place and its details.
 pub fn behind<A: Allocator>(lines: &PackedLines<A>, start: usize) -> usize
-    requires { start < length (said_lines lines.now) }
-    ensures after { start < result }
+    ensures after { start < length (said_lines lines.now) → start < result }
     ensures is { drop result (said_lines lines.now) ≡
         behind_details (drop (start + 1) (said_lines lines.now)) }
 {
-    for at in start + 1..lines.len() {
+    let count = lines.len();
+    if start >= count {
+        return count;
+    }
+    for at in start + 1..count {
         let lent = lines.line(at);
         if !lent.line.is_detail() {
             return at;
         }
     }
-    lines.len()
+    count
 }
 
 /// What the line at a place says of a routine, if there is one and it does.

@@ -36,8 +36,11 @@ pub holds_only : (j : Case) (v : Condition) (r : Routine) (a : ℕ) (f : Fact) (
     IsTrue t ↔ HoldsFor j v r a f (meaning_of j.declaration.profile a w) → IsTrue t ↔ HoldsOfFact j v r a f
 holds_only j v r a f w t only small told =
     let few : how_many 4096 (possible (place_in j r) f a) ≡ 1 = ap (how_many 4096) only ∙ count_one 4096 w small in (
-      λ q. (λ asks. omega (arith, few), λ x lt has.
-          subst (λ y. HoldsFor j v r a f (meaning_of j.declaration.profile a y)) (sym (eqb-true x w (ap (λ (s : Words). s x) (sym only) ∙ has))) (told.0 q)),
+      λ q. (
+        λ asks. omega (arith, few),
+        λ x lt has.
+            subst (λ y. HoldsFor j v r a f (meaning_of j.declaration.profile a y)) (sym (eqb-true x w (ap (λ (s : Words). s x) (sym only) ∙ has))) (told.0 q),
+      ),
       λ h. told.1 (h.1 w small (ap (λ (s : Words). s w) only ∙ eq-eqb w w refl)),
     )
 
@@ -119,6 +122,14 @@ facts_first j r a f fs v =
     (sym (asked_of_first j.certificate.rules j.image (sites_of j.certificate r) f fs))
     (each_both p (asked_of j r (f ∷ [])) (asked_of j r fs))
 
+-- of no facts
+nothing_asked : (rules : Rules) (image : Image) (sites : Words) → asked rules image (sited rules sites []) ≡ []
+nothing_asked OfSums image sites = refl
+nothing_asked OfEquations image sites = refl
+
+none_left : (j : Case) (r : Routine) (a : ℕ) (v : Condition) → HoldsOfFacts j r a [] v
+none_left j r a v = subst (EachFact (HoldsOfFact j v r a)) (sym (nothing_asked j.certificate.rules j.image (sites_of j.certificate r))) tt
+
 -- what was found of the facts before a place of the list, where the limit is what it is now
 pub record SoFar (j : Case) (r : Routine) (a : ℕ) (fs : List Fact) (i limit : ℕ) : Type 0 where
   pub low : 2 ≤ limit
@@ -182,7 +193,7 @@ all_asked j r a fs i limit past so =
       record {
         low = so.low;
         high = so.high;
-        before = λ v two lt. so.before v two lt (subst (λ (xs : List Fact). HoldsOfFacts j r a xs v) (sym none) tt);
+        before = λ v two lt. so.before v two lt (subst (λ (xs : List Fact). HoldsOfFacts j r a xs v) (sym none) (none_left j r a v));
         fails = so.fails;
       },
     )
@@ -266,7 +277,3 @@ none_hold j v a le none =
     from_each j v a le
     (λ asks r here. subst (EachFact (HasFew j r a)) (sym (empty r)) tt)
     (λ r here. subst (EachFact (HoldsForWords j v r a)) (sym (empty r)) tt)
-  where
-    nothing_asked : (rules : Rules) (image : Image) (sites : Words) → asked rules image (sited rules sites []) ≡ []
-    nothing_asked OfSums image sites = refl
-    nothing_asked OfEquations image sites = refl

@@ -1,5 +1,5 @@
 -- What is asked of calls and returns, from what the code found.
-use Rattle.std.proofs.Common.{◌≡◌, ℕ, ◌+◌, ◌%◌, ◌<◌, ◌≤◌, Bool, true, false, ◌&&◌, ◌==◌, Option, Some, None, List, [], ◌∷◌, length, drop, refl, sym, ap, ◌∙◌, subst, arith}
+use Rattle.std.proofs.Common.{◌≡◌, ℕ, ◌+◌, ◌%◌, ◌<◌, ◌≤◌, Bool, true, false, ◌&&◌, ◌==◌, Option, Some, None, List, [], ◌∷◌, length, drop, refl, sym, ap, ◌∙◌, subst, inl, inr, arith}
 use Rattle.std.specs.Prelude.{IsTrue, ◌↔◌, if◌then◌else◌}
 use Rattle.std.proofs.Math.Path.{fun_ext}
 use Rattle.std.proofs.Math.ListN.{drop_of_length-le}
@@ -7,14 +7,15 @@ use Rattle.std.proofs.lemmas.Bool.{false≢true, true≢false, cases_lt, cases_B
 use Rattle.instruct.specs.Instructions.{Meaning, Jms, Jmp}
 use Rattle.wordset.specs.Words.{Words, IsWithin, plus, nothing, one, with_word, HasNoneFrom, IsFirstFrom}
 use Rattle.declaration.specs.Declaration.{Routine}
-use Rattle.domain.specs.Sums.Facts.{Fact, Rules, OfEquations, OfSums}
+use Rattle.domain.specs.Sums.Facts.{Fact, Place, Rules, OfEquations, OfSums}
 use Rattle.domain.specs.Sums.Moves.{joined}
 use Rattle.facts.specs.Conditions.{is_call, calls_through_index, returned_through}
 use Rattle.facts.specs.Sums.Conditions.{called}
+use Rattle.facts.specs.Sums.Entailment.{Lands}
 use Rattle.facts.specs.Sums.Landing.{fact_at}
 use Rattle.facts.proofs.Sums.SplitLemmas.{fact_dropped}
 use Rattle.certificate.specs.Sums.Certificate.{Certificate, has_any, writes_of}
-use Rattle.judge.specs.Sums.Landing.{Case, place_in, sited, LandsAt, LandsAtExit, LandsAfter, EachLandsAfter, exits_of, called_from}
+use Rattle.judge.specs.Sums.Landing.{Case, place_in, sites_of, sited, LandsAt, LandsAtExit, LandsAfter, EachLandsAfter, exits_of, called_from}
 use Rattle.judge.specs.Sums.Conditions.{EachTarget, KeepsPointer, CoversCallee, MayReturn, ReturnsWell}
 use Rattle.judge.specs.Sums.Callees.{LandsBy, LandsWith, ReturnsBy, ReturnsThrough}
 
@@ -107,6 +108,7 @@ no_exit j r a e o f none = subst (EachLandsAfter j r a e o f) (sym (ap (λ (xs :
     is_none : (xs : List Fact) → has_any xs ≡ false → xs ≡ []
     is_none [] h = refl
     is_none (x ∷ xs) h = absurd (true≢false h)
+
     nothing_sited : sited j.certificate.rules (j.certificate.sites e) [] ≡ []
     nothing_sited = go j.certificate.rules
       where
@@ -192,3 +194,13 @@ returns_some j r f e (Jmp i c) t h told =
     some_there true false p = absurd cc
     some_there false y p = absurd cc
 returns_some j r f e _ t h told = absurd (some_none h)
+
+-- Where the fact lands among the exits of its own routine.
+pub lands_among : (j : Case) (r : Routine) (e o : ℕ) (f g : Fact) (p : Place) (s : Words) (t : Bool) → p ≡ place_in j r → r ≡ Some e → g ≡ f → s ≡ sites_of j.certificate r →
+    IsTrue t ↔ Lands p g (sited j.certificate.rules s (j.certificate.exits e o)) → IsTrue t ↔ LandsAtExit j e o f
+lands_among j r e o f g p s t place own same sites told =
+    let there : p ≡ place_in j (Some e) = place ∙ ap (λ (x : Routine). place_in j x) own in
+    let at : s ≡ j.certificate.sites e = sites ∙ ap (λ (x : Routine). sites_of j.certificate x) own in
+    subst (λ (ys : List Fact). IsTrue t ↔ Lands (place_in j (Some e)) f ys) (ap (λ (w : Words). sited j.certificate.rules w (j.certificate.exits e o)) at)
+    (subst (λ (x : Fact). IsTrue t ↔ Lands (place_in j (Some e)) x (sited j.certificate.rules s (j.certificate.exits e o))) same
+    (subst (λ (x : Place). IsTrue t ↔ Lands x g (sited j.certificate.rules s (j.certificate.exits e o))) there told))

@@ -28,9 +28,15 @@ use Rattle.judge.proofs.Sums.AskedLemmas.{of_one, of_none}
 
 -- ---- the fact that is asked
 
-pub asked_sums : (image : Image) (f g : Fact) (b : Bool) → g ≡ narrowed image f → b ≡ is_void g → asked OfSums image (f ∷ []) ≡ (if not b then g ∷ [] else [])
-asked_sums image f g true is void = let v : is_void (narrowed image f) ≡ true = ap is_void (sym is) ∙ sym void in rw v refl
-asked_sums image f g false is void = let v : is_void (narrowed image f) ≡ false = ap is_void (sym is) ∙ sym void in rw (v, is) refl
+pub asked_sums : (rules : Rules) (image : Image) (f g : Fact) (b : Bool) → rules ≡ OfSums → g ≡ narrowed image f → b ≡ is_void g → asked rules image (f ∷ []) ≡ (if not b then g ∷ [] else [])
+asked_sums rules image f g b sums is void = ap (λ (k : Rules). asked k image (f ∷ [])) sums ∙ go b (void ∙ ap is_void is)
+  where
+    go : (x : Bool) → x ≡ is_void (narrowed image f) → asked OfSums image (f ∷ []) ≡ (if not x then g ∷ [] else [])
+    go true v = rw (← v) refl
+    go false v = rw (← v, is) refl
+
+pub asked_equations : (rules : Rules) (image : Image) (f g : Fact) → rules ≡ OfEquations → g ≡ f → asked rules image (f ∷ []) ≡ g ∷ []
+asked_equations rules image f g equations is = ap (λ (k : Rules). asked k image (f ∷ [])) equations ∙ ap (λ (x : Fact). x ∷ []) (sym is)
 
 asked_alone : (j : Case) (r : Routine) (own : Rules) (sites : Words) (f g h : Fact) (xs : List Fact) → own ≡ j.certificate.rules → sites ≡ sites_of j.certificate r → g ≡ f → h ≡ sited_one own sites g →
     asked own j.image (h ∷ []) ≡ xs → asked_of j r (f ∷ []) ≡ xs

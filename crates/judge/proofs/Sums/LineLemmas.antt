@@ -86,9 +86,9 @@ named_line false false exits h = h
 -- ---- the verdict at an address
 
 lines_fail : (j : Case) (a : ℕ) → claimed j.certificate a ≡ true → (HoldsAt j V2 a → ⊥) → FailsAtLine j a V2
-lines_fail j a line no = record {
+lines_fail j a line fails = record {
   line = line;
-  first = record { past = omega arith; fails = no; before = λ v one lt. absurd (omega (arith, lt)) };
+  first = record { past = omega arith; fails = fails; before = λ v one lt. absurd (omega (arith, lt)) };
 }
 
 pub not_entry : (j : Case) (a : ℕ) (named entry : Bool) → named ≡ names_routine j.certificate a → named ≡ true → entry ≡ j.declaration.entry a → entry ≡ false → FailsAtLine j a V2
@@ -101,11 +101,11 @@ not_entry j a named entry is there same lacks =
     both false y h p q = q h
 
 pub no_body : (j : Case) (a : ℕ) → 0 < length (j.certificate.facts a) → ((f : Fact) → IsPlaced j a f → ⊥) → FailsAtLine j a V2
-no_body j a some no = lines_fail j a (fact_line j a some) (λ l. go (j.certificate.facts a) some l.facts)
+no_body j a some none = lines_fail j a (fact_line j a some) (λ l. go (j.certificate.facts a) some l.facts)
   where
     go : (fs : List Fact) → 0 < length fs → EachFact (IsPlaced j a) fs → ⊥
     go [] lt e = omega (arith, lt)
-    go (f ∷ fs) lt e = no f e.0
+    go (f ∷ fs) lt e = none f e.0
 
 -- no facts
 length_none : (fs : List Fact) → length fs ≡ 0 → fs ≡ []
@@ -156,26 +156,24 @@ start_iff j t a d is told =
 
 -- ---- what a fact has in a body
 
-pub of_main : (f : Fact) (s o : Words) (x y : Bool) → s ≡ f.sites → o ≡ f.offsets → x ≡ not (has_some s) → (IsTrue y ↔ ((i : ℕ) → i < 64 → o i ≡ false)) → IsTrue (x && y) ↔ IsOfMain f
-of_main f s o x y sites offsets empty none = (
+pub of_main : (f : Fact) (s o : Words) (x y : Bool) → s ≡ f.sites → o ≡ f.offsets → x ≡ not (has_some s) → x ≡ true → (IsTrue y ↔ ((i : ℕ) → i < 64 → o i ≡ false)) → IsTrue y ↔ IsOfMain f
+of_main f s o x y sites offsets empty is none = (
   λ t. record {
-    sites = ap has_some (sym sites) ∙ not_true (has_some s) (sym empty ∙ and_left x y t);
-    offsets = some_none_of 64 f.offsets (λ i lt. ap (λ (w : Words). w i) (sym offsets) ∙ none.0 (and_right x y t) i lt);
+    sites = ap has_some (sym sites) ∙ not_true (has_some s) (sym empty ∙ is);
+    offsets = some_none_of 64 f.offsets (λ i lt. ap (λ (w : Words). w i) (sym offsets) ∙ none.0 t i lt);
   },
-  λ m. and_both x y (empty ∙ ap not (ap has_some sites ∙ m.sites)) (none.1 (λ i lt. ap (λ (w : Words). w i) offsets ∙ none_of_some 64 f.offsets m.offsets i lt)),
+  λ m. none.1 (λ i lt. ap (λ (w : Words). w i) offsets ∙ none_of_some 64 f.offsets m.offsets i lt),
 )
   where
     not_true : (b : Bool) → not b ≡ true → b ≡ false
     not_true false q = refl
     not_true true q = absurd (true≢false (sym q))
-    and_left : (a b : Bool) → (a && b) ≡ true → a ≡ true
-    and_left true b h = refl
-    and_left false b h = absurd (false≢true h)
-    and_right : (a b : Bool) → (a && b) ≡ true → b ≡ true
-    and_right true b h = h
-    and_right false b h = absurd (false≢true h)
-    and_both : (a b : Bool) → a ≡ true → b ≡ true → (a && b) ≡ true
-    and_both a b p q = rw (p, q) refl
+
+pub site_in_main : (f : Fact) (s : Words) (x : Bool) → s ≡ f.sites → x ≡ not (has_some s) → x ≡ false → IsTrue false ↔ IsOfMain f
+site_in_main f s x sites empty is = (
+  λ q. absurd (false≢true q),
+  λ m. absurd (true≢false (ap not (sym (ap has_some sites ∙ m.sites)) ∙ (sym empty ∙ is))),
+)
 
 some_offset : (f : Fact) (o : Words) (y : Bool) → o ≡ f.offsets → (IsTrue y ↔ ((i : ℕ) → i < 64 → o i ≡ false)) → y ≡ false → some_below 64 f.offsets ≡ true
 some_offset f o y offsets none is = go (some_below 64 f.offsets) refl
@@ -214,3 +212,13 @@ inside_body j a b r is here = ap (λ (k : Routine). j.declaration.body k a) is �
 pub start_place : {A C : Type 0} (claims : C → Certificate) (k : KeptCase A C) (p : KeptPlace A) (rules : KeptRules) →
     p.image.now ≡ k.image.now → p.declaration.now ≡ k.declaration.now → p.routine ≡ None → p.rules ≡ rules → rules_of rules ≡ (claims k.claims.now).rules → place_in_code p ≡ place_in (case_kept claims k) None
 start_place claims k p rules image declaration routine own same = rw (image, declaration, routine, own, same) refl
+
+-- by the rules of equations no site is asked for
+pub sites_free : (rules : Rules) (f : Fact) → rules ≡ OfEquations → IsTrue true ↔ HasSites rules f
+sites_free rules f is = subst (λ (k : Rules). IsTrue true ↔ HasSites k f) (sym is) (λ t. tt, λ h. refl)
+
+pub allows_none : (rules : Rules) (r : Routine) (f : Fact) (t : Bool) → r ≡ None → IsTrue t ↔ IsOfMain f → IsTrue t ↔ IsOfBody rules r f
+allows_none rules r f t is told = subst (λ (x : Routine). IsTrue t ↔ IsOfBody rules x f) (sym is) told
+
+pub allows_some : (rules : Rules) (r : Routine) (e : ℕ) (f : Fact) (t : Bool) → r ≡ Some e → IsTrue t ↔ IsOfRoutine rules f → IsTrue t ↔ IsOfBody rules r f
+allows_some rules r e f t is told = subst (λ (x : Routine). IsTrue t ↔ IsOfBody rules x f) (sym is) told

@@ -1,5 +1,5 @@
 -- What is asked of a fact at an address, by its own place.
-use Rattle.std.proofs.Common.{◌≡◌, ℕ, ◌<◌, Bool, true, false, List, [], ◌∷◌, ◌++◌, refl, sym, ap, ◌∙◌, subst}
+use Rattle.std.proofs.Common.{◌≡◌, ℕ, ◌<◌, Bool, true, false, List, [], ◌∷◌, ◌++◌, refl, sym, ap, ◌∙◌, subst, inl, inr}
 use Rattle.std.specs.Prelude.{IsTrue, ◌↔◌}
 use Rattle.std.proofs.lemmas.Bool.{false≢true, true≢false}
 use Rattle.peripherals.specs.Loading.{image_of}
@@ -61,7 +61,7 @@ each_both p (o ∷ os) ps = let rest = each_both p os ps in (
 )
 
 pub false_if : {P : Type 0} → (P → ⊥) → IsTrue false ↔ P
-false_if no = (λ q. absurd (false≢true q), λ p. absurd (no p))
+false_if not = (λ q. absurd (false≢true q), λ p. absurd (not p))
 
 module _ (p : Successor → Type 0) (os ps qs rs : List Successor) where
   parts : EachSuccessor p (os ++ (ps ++ (qs ++ rs))) → EachSuccessor p os × EachSuccessor p ps × EachSuccessor p qs × EachSuccessor p rs
@@ -72,13 +72,13 @@ module _ (p : Successor → Type 0) (os ps qs rs : List Successor) where
       (first.0, second.0, third.0, third.1)
 
   pub first_fails : (EachSuccessor p os → ⊥) → IsTrue false ↔ EachSuccessor p (os ++ (ps ++ (qs ++ rs)))
-  first_fails no = false_if (λ e. no (parts e).0)
+  first_fails not = false_if (λ e. not (parts e).0)
 
   pub second_fails : (EachSuccessor p ps → ⊥) → IsTrue false ↔ EachSuccessor p (os ++ (ps ++ (qs ++ rs)))
-  second_fails no = false_if (λ e. no (parts e).1)
+  second_fails not = false_if (λ e. not (parts e).1)
 
   pub third_fails : (EachSuccessor p qs → ⊥) → IsTrue false ↔ EachSuccessor p (os ++ (ps ++ (qs ++ rs)))
-  third_fails no = false_if (λ e. no (parts e).2)
+  third_fails not = false_if (λ e. not (parts e).2)
 
   pub four_land : (t : Bool) → EachSuccessor p os → EachSuccessor p ps → EachSuccessor p qs → IsTrue t ↔ EachSuccessor p rs → IsTrue t ↔ EachSuccessor p (os ++ (ps ++ (qs ++ rs)))
   four_land t x y z told = (

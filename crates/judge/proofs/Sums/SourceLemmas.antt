@@ -1,5 +1,5 @@
 -- Facts with the sites that they have by the rules.
-use Rattle.std.proofs.Common.{◌≡◌, ℕ, ◌+◌, ◌<◌, ◌≤◌, List, [], ◌∷◌, length, map, zero, suc, refl, sym, ap, ◌∙◌, arith}
+use Rattle.std.proofs.Common.{◌≡◌, ℕ, ◌+◌, ◌<◌, ◌≤◌, List, [], ◌∷◌, length, map, zero, suc, refl, sym, ap, ◌∙◌, subst, arith}
 use Rattle.wordset.specs.Words.{Words}
 use Rattle.domain.specs.Sums.Facts.{Fact, Rules, OfEquations, OfSums}
 use Rattle.facts.specs.Sums.Landing.{fact_at}
@@ -46,3 +46,9 @@ sited_shape OfEquations sites f h = record { terms = h.terms; short = h.short; f
 pub sited_alone : (rules : Rules) (sites : Words) (f : Fact) → sited rules sites (f ∷ []) ≡ sited_one rules sites f ∷ []
 sited_alone OfSums sites f = refl
 sited_alone OfEquations sites f = refl
+
+pub sited_by_equations : (rules : Rules) (sites : Words) (f g : Fact) → rules ≡ OfEquations → g ≡ with_sites sites f → g ≡ sited_one rules sites f
+sited_by_equations rules sites f g is put = put ∙ ap (λ (k : Rules). sited_one k sites f) (sym is)
+
+pub sited_from : (rules : Rules) (sites : Words) (f g : Fact) → g ≡ sited_one rules sites f → HasShape f → HasShape g
+sited_from rules sites f g put shape = subst HasShape (sym put) (sited_shape rules sites f shape)

@@ -3,6 +3,7 @@
 ghost use Rattle.std.specs.Prelude.{◌≡◌, ◌↔◌, None, Some, true, IsTrue};
 ghost use Rattle.domain.specs.Sums.FactInCode.{fact_in_code, rules_of};
 ghost use Rattle.certificate.specs.Sums.Certificate as said;
+ghost use Rattle.judge.specs.Sums.Conditions.{IsOfMain, IsOfRoutine};
 ghost use Rattle.judge.specs.Sums.Bodies.{Tells, IsOfBody};
 
 use crate::several::claims::Claims;
@@ -89,20 +90,38 @@ impl Body {
         }
     }
 
-    /// Whether a fact has sites and offsets as it must have in this body: none in main's, some offset in a routine's,
-    /// and there by the rules of sums some site.
+    /// Whether a fact has sites and offsets as it must have in this body: none in main's, and in a
+    /// routine's some offset, and by the rules of sums some site.
     pub fn allows(&self, rules: &Rules, fact: &Fact) -> bool
-        ensures { IsTrue result ↔ IsOfBody (rules_of rules.now) self.now.routine (fact_in_code fact.now) }
+        ensures { IsTrue result ↔
+            IsOfBody (rules_of rules.now) self.now.routine (fact_in_code fact.now) }
     {
-        if self.routine.is_none() {
-            return fact.sites().is_empty() && fact.offsets().is_empty();
+        match &self.routine {
+            None => is_of_main(fact),
+            Some(_) => is_of_routine(rules, fact),
         }
-        if fact.offsets().is_empty() {
-            return false;
-        }
-        match rules {
-            Rules::OfEquations => true,
-            Rules::OfSums => !fact.sites().is_empty(),
-        }
+    }
+}
+
+/// Whether a fact has no site and no offset.
+fn is_of_main(fact: &Fact) -> bool
+    ensures { IsTrue result ↔ IsOfMain (fact_in_code fact.now) }
+{
+    if !fact.sites().is_empty() {
+        return false;
+    }
+    fact.offsets().is_empty()
+}
+
+/// Whether a fact has some offset, and by the rules of sums some site.
+fn is_of_routine(rules: &Rules, fact: &Fact) -> bool
+    ensures { IsTrue result ↔ IsOfRoutine (rules_of rules.now) (fact_in_code fact.now) }
+{
+    if fact.offsets().is_empty() {
+        return false;
+    }
+    match rules {
+        Rules::OfEquations => true,
+        Rules::OfSums => !fact.sites().is_empty(),
     }
 }

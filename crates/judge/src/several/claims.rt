@@ -115,7 +115,7 @@ impl<A: Allocator> Claims for Certificate<A> {
         let mut line = self.facts_from(at, near);
         let mut count = 0usize;
         while self.skip_fact(at, &mut line) {
-            count = count.saturating_add(1);
+            count += 1;
         }
         count
     }
@@ -133,7 +133,7 @@ impl<A: Allocator> Claims for Certificate<A> {
         let mut line = self.exits_from(entry, offset);
         let mut count = 0usize;
         while self.skip_exit(entry, offset, &mut line) {
-            count = count.saturating_add(1);
+            count += 1;
         }
         count
     }

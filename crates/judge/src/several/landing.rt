@@ -64,12 +64,7 @@ impl<A: Allocator, C: Claims> Point<'_, A, C> {
     }
 
     /// Whether what is known lands at an address of the same body.
-    pub fn lands_here(
-        &self,
-        at: Word,
-        known: &mut NextFact,
-        rooms: &mut LandingRooms,
-    ) -> bool
+    pub fn lands_here(&self, at: Word, known: &mut NextFact, rooms: &mut LandingRooms) -> bool
         requires { IsPoint C.claims self.now }
         ensures lands { IsTrue result ↔
             LandsAt (case_of C.claims self.now) self.now.place.routine at (fact_in_code known.old) }

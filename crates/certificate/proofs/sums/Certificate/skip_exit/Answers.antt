@@ -12,11 +12,11 @@ returns-then-not-is_at-clause-none g c = λ done.
     subst (λ (p : ℕ). begins_at p (drop c.args.line.now (said_lines c.self.inside.kept)) ≡ false) same (sym c.if-not-is_at.ensures) in
     rw (← c.self.view_is) (no_exit_left c.self.inside.version c.self.inside.kept c.args.line.now c.args.entry c.args.offset c.self.invariant (rw (← c.self.view_is) at c.requires.stands) at)
 
-pub behind-requires : goal.behind-requires
-behind-requires g c = begun_within (said_lines c.self.inside.kept) c.args.line.now _ (sym c.if-not-is_at.ensures)
+pub returns-clause-after : goal.returns-clause-after
+returns-clause-after g c = λ done. c.behind.ensures.after (begun_within (said_lines c.self.inside.kept) c.args.line.now _ (sym c.if-not-is_at.ensures))
 
-pub returns-else-not-is_at-clause-next : goal.returns-else-not-is_at-clause-next
-returns-else-not-is_at-clause-next g c = λ done.
+pub returns-clause-next : goal.returns-clause-next
+returns-clause-next g c = λ done.
     let same : 8192 + 64 * c.index.result + c.args.offset ≡ 8192 + (64 * c.args.entry + c.args.offset) = omega (arith, c.index.ensures.same) in
     let at : begins_at (8192 + (64 * c.args.entry + c.args.offset)) (drop c.args.line.now (said_lines c.self.inside.kept)) ≡ true =
     subst (λ (p : ℕ). begins_at p (drop c.args.line.now (said_lines c.self.inside.kept)) ≡ true) same (sym c.if-not-is_at.ensures) in
@@ -24,8 +24,8 @@ returns-else-not-is_at-clause-next g c = λ done.
     (omega (arith, c.index.ensures.same, c.index.ensures.small)) c.requires.offset at c.behind.ensures.is in
     rw (← c.self.view_is) (n.0, n.1.next)
 
-pub returns-else-not-is_at-clause-stands : goal.returns-else-not-is_at-clause-stands
-returns-else-not-is_at-clause-stands g c =
+pub returns-clause-stands : goal.returns-clause-stands
+returns-clause-stands g c =
     let same : 8192 + 64 * c.index.result + c.args.offset ≡ 8192 + (64 * c.args.entry + c.args.offset) = omega (arith, c.index.ensures.same) in
     let at : begins_at (8192 + (64 * c.args.entry + c.args.offset)) (drop c.args.line.now (said_lines c.self.inside.kept)) ≡ true =
     subst (λ (p : ℕ). begins_at p (drop c.args.line.now (said_lines c.self.inside.kept)) ≡ true) same (sym c.if-not-is_at.ensures) in

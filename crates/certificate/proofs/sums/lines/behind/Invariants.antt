@@ -5,6 +5,7 @@ use Rattle.certificate.proofs.sums.lines.behind.Given as goal
 
 abbrev pub invariant-loop-at : goal.invariant-loop-at
 invariant-loop-at g l = record {
+  few : l.at ≤ length (said_lines l.lines);
   past : l.start + 1 ≤ l.at;
   same : behind_details (drop l.at (said_lines l.lines)) ≡ behind_details (drop (l.start + 1) (said_lines l.lines));
 }

@@ -10,10 +10,10 @@ loop-at-init g c = (none_yet c.iter-at-items.ensures c.into_iter-at-iterator.ens
 
 pub loop-at-preserved : goal.loop-at-preserved
 loop-at-preserved g c = (
-      one_more c.loop-at.invariant.0 c.in-Some.ensures.steps
-          (subst (λ (f : Fact). LandsAt (case_of g.C.Claims.claims c.args.self.now) c.args.self.now.place.routine c.in-Some.at f) c.loop-at.invariant.1 (c.lands_here.ensures.lands.0 c.if-not-lands_here.false)),
-      c.lands_here.ensures.kept ∙ c.loop-at.invariant.1,
-    )
+  one_more c.loop-at.invariant.0 c.in-Some.ensures.steps
+      (subst (λ (f : Fact). LandsAt (case_of g.C.Claims.claims c.args.self.now) c.args.self.now.place.routine c.in-Some.at f) c.loop-at.invariant.1 (c.lands_here.ensures.lands.0 c.if-not-lands_here.false)),
+  c.lands_here.ensures.kept ∙ c.loop-at.invariant.1,
+)
 
 pub returns-then-not-lands_here : goal.returns-then-not-lands_here
 returns-then-not-lands_here g c = one_fails _ c.loop-at.invariant.0 c.in-Some.ensures.steps c.if-not-lands_here.true

@@ -1,9 +1,8 @@
 -- A set of offsets read run by run.
 use Rattle.std.proofs.Common.{◌≡◌, ℕ, suc, ◌+◌, ◌/◌, ◌<◌, ◌≤◌, ◌&&◌, ◌||◌, true, false, List, [], ◌∷◌, ◌++◌, length, Option, Some, None, refl, ap, ◌∙◌, sym, subst, inl, inr, arith, append_assoc, append-nil, length-append}
-use Rattle.std.specs.Prelude.{IfSome, nat_le, nat_lt}
+use Rattle.std.specs.Prelude.{IfSome, nat_le}
 use Rattle.std.specs.Option.{IsSomeAnd}
 use Rattle.std.proofs.lemmas.Bool.{true≢false, false≢true, cases_lt, cases_Bool, le-ltb}
-use Rattle.std.proofs.lemmas.Bool.Decides.{nat_tests}
 use Rattle.wordset.specs.Words.{Words, nothing, some_below}
 use Rattle.wordset.proofs.Tests.{some_from, some_none_of}
 use Rattle.domain.specs.Sums.Offsets.{offsets_in}

@@ -1,10 +1,10 @@
 -- What is written of a set of offsets is the text of its runs.
 use Rattle.std.proofs.Common.{◌≡◌, ◌⊎◌, ℕ, zero, suc, ◌+◌, ◌-◌, ◌<◌, ◌≤◌, ◌==◌, Bool, true, false, not, ◌&&◌, ◌||◌, List, [], ◌∷◌, ◌++◌, refl, ap, ◌∙◌, sym, inl, inr, arith, append_assoc, append-nil}
 use Rattle.std.specs.Prelude.{if◌then◌else◌, codes}
-use Rattle.std.proofs.lemmas.Bool.{true≢false, eq-eqb, ne_eqb, cases_lt, cases_Bool}
+use Rattle.std.proofs.lemmas.Bool.{true≢false, eq-eqb, ne_eqb, cases_lt}
 use Rattle.std.proofs.Math.Bool.{and-false, or-true}
 use Rattle.wordset.specs.Words.{Words, nothing, some_below}
-use Rattle.wordset.proofs.Tests.{some_from, some_none_of, none_of_some}
+use Rattle.wordset.proofs.Tests.{some_from, some_none_of}
 use Rattle.certificate.specs.declared.packed.Run.{Run}
 use Rattle.certificate.specs.Reading.{EndsBefore}
 use Rattle.certificate.specs.Spelling.{begins, ends, rank_text}
@@ -12,7 +12,7 @@ use Rattle.certificate.specs.Packed.{joined, StandApart}
 use Rattle.certificate.specs.Sums.Spelling.{offset_mark, offset_marks}
 use Rattle.certificate.specs.Sums.Fields.{offset_run_text, offset_set_text}
 use Rattle.certificate.proofs.ApartLemmas.{in_first, past_first, before_all, later}
-use Rattle.certificate.proofs.SetLemmas.{RunsFrom, set_runs}
+use Rattle.certificate.proofs.SetLemmas.{set_runs}
 
 -- The text of runs of offsets: each one after the first has a comma before it.
 abbrev pub offset_more_text : List Run → List ℕ

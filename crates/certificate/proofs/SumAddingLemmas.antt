@@ -1,7 +1,5 @@
 -- Lines that add to what is said of a fact, in all versions, and the line of the fact itself.
-use Rattle.std.proofs.Common.{◌≡◌, ℕ, suc, ◌+◌, ◌<◌, ◌≤◌, ◌==◌, ◌&&◌, Bool, true, false, List, [], ◌∷◌, ◌++◌, length, map, take, drop, get_or, refl, ap, ◌∙◌, sym, subst, arith, append_assoc, append-nil, length-append}
-use Rattle.std.specs.Prelude.{if◌then◌else◌}
-use Rattle.std.proofs.lemmas.Bool.{true≢false}
+use Rattle.std.proofs.Common.{◌≡◌, ℕ, ◌+◌, ◌<◌, ◌≤◌, List, [], ◌∷◌, ◌++◌, length, map, take, drop, get_or, refl, ap, ◌∙◌, sym, arith, append_assoc, append-nil, length-append}
 use Rattle.std.proofs.lemmas.Bool.Decides.{nat_tests}
 use Rattle.std.proofs.lemmas.List.{map_push, take_more, take_all, drop_at, length-take-le, length-map}
 use Rattle.std.proofs.Math.Path.{fun_ext}
@@ -9,20 +7,15 @@ use Rattle.wordset.specs.Words.{Words, nothing, between, one}
 use Rattle.domain.specs.Facts.{Location, Ac, Cell}
 use Rattle.domain.specs.Statements.{TrackedCell}
 use Rattle.domain.specs.Sums.Chains.{Chain, Step as SaidStep, longer}
-use Rattle.domain.specs.Sums.Facts.{Fact, Relation}
+use Rattle.domain.specs.Sums.Facts.{Fact}
 use Rattle.domain.specs.Sums.ChainsInCode.{step_of}
-use Rattle.domain.specs.Sums.CellsInCode.{cell_sets_of}
-use Rattle.domain.specs.Sums.FactInCode.{fact_in_code, names_words}
+use Rattle.domain.specs.Sums.FactInCode.{names_words}
 use Rattle.domain.specs.declared.chains.Step.{Step}
-use Rattle.domain.specs.declared.sum_fact.SumFact.{SumFact}
 use Rattle.certificate.specs.declared.packed.Run.{Run}
 use Rattle.certificate.specs.declared.packed.PackedRegisters.{PackedRegisters}
 use Rattle.wordset.specs.Links.{links_of}
 use Rattle.certificate.specs.Packed.{set_of_runs, added, set_at, registers_at}
-use Rattle.certificate.specs.Sums.Lines.{Line, FactIs, ExitIs, CellIs, SumIs, ChainIs, is_detail}
-use Rattle.certificate.specs.Sums.Reading.{sets_of, cells_under, relations_under, chains_under, fact_said, all_offsets}
-use Rattle.certificate.specs.Sums.Found.{FitUnder, IsSaid, behind_details}
-use Rattle.certificate.specs.Sums.Adding.{Adds, AddsAll, HasRoomFor, HasRoomUnder}
+use Rattle.certificate.specs.Sums.Reading.{sets_of, fact_said}
 use Rattle.certificate.proofs.PackedLemmas.{no_run, one_run}
 use Rattle.certificate.proofs.SumPackedLemmas.{set_behind}
 

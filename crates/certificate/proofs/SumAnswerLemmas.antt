@@ -1,6 +1,6 @@
 -- What a text of any version is answered with, by its front.
-use Rattle.std.proofs.Common.{◌≡◌, ◌≢◌, ◌⊎◌, ℕ, ◌+◌, ◌-◌, ◌<◌, ◌≤◌, ◌==◌, Bool, true, false, ◌&&◌, List, [], ◌∷◌, ◌++◌, length, take, Option, Some, None, Result, Ok, Err, refl, ap, ◌∙◌, sym, subst, inl, inr, arith, append_assoc, append-nil, length-append}
-use Rattle.std.specs.Prelude.{if◌then◌else◌, flat_map, nat_lt}
+use Rattle.std.proofs.Common.{◌≡◌, ℕ, ◌+◌, ◌-◌, ◌<◌, ◌≤◌, ◌==◌, Bool, true, false, ◌&&◌, List, [], ◌∷◌, ◌++◌, length, take, Option, Some, None, Result, Ok, Err, refl, ap, ◌∙◌, sym, subst, inl, inr, arith, append_assoc, append-nil, length-append}
+use Rattle.std.specs.Prelude.{flat_map, nat_lt}
 use Rattle.std.specs.List.{list_any}
 use Rattle.std.specs.Str.{bytes_eq}
 use Rattle.std.proofs.lemmas.Bool.{cases_Bool}
@@ -23,7 +23,7 @@ use Rattle.certificate.specs.Sums.Found.{AreInOrder, newest_first}
 use Rattle.certificate.specs.Sums.Serving.{Settles, AsksForMemory, after_lines, front}
 use Rattle.certificate.proofs.TextLemmas.{seam}
 use Rattle.certificate.proofs.SumLengthLemmas.{line_feed, version_feed}
-use Rattle.certificate.proofs.SumTextLemmas.{line_on, end_on, failed, line_taken, version_taken}
+use Rattle.certificate.proofs.SumTextLemmas.{line_on, failed, line_taken, version_taken}
 
 -- Lines in order are read one after another.
 pub front_on : (long : Bool) (v : Version) (before : List Line) (rest : List ℕ) → AreInOrder v before →

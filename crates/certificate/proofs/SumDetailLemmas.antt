@@ -14,7 +14,7 @@ use Rattle.wordset.specs.Words.{Words}
 use Rattle.certificate.specs.Reading.{Each}
 use Rattle.certificate.specs.Sums.Lines.{Line, RoutineIs, FactIs, ExitIs, CellIs, SumIs, ChainIs, End, is_detail}
 use Rattle.certificate.specs.Sums.Order.{details_of_last}
-use Rattle.certificate.specs.Sums.Reading.{sets_of, cells_under, relations_under, chains_under, fact_said, all_offsets}
+use Rattle.certificate.specs.Sums.Reading.{sets_of, cells_under, relations_under, chains_under, all_offsets}
 use Rattle.certificate.specs.Sums.Found.{first_with_details, behind_details, FitUnder, IsSaid}
 use Rattle.certificate.specs.Sums.Adding.{Adds, AddsAll, HasRoomFor, HasRoomUnder}
 use Rattle.certificate.proofs.SumAddingLemmas.{sets_are}

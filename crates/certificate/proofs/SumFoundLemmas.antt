@@ -1,10 +1,10 @@
 -- Lines of all versions that are kept, and are found by their places.
-use Rattle.std.proofs.Common.{◌≡◌, ℕ, ◌+◌, ◌-◌, ◌<◌, ◌≤◌, ◌==◌, ◌&&◌, Bool, true, false, List, [], ◌∷◌, ◌++◌, length, map, get_or, take, drop, zero, suc, refl, ap, ◌∙◌, sym, inl, inr, arith}
-use Rattle.std.specs.Prelude.{not, nat_le, if◌then◌else◌}
+use Rattle.std.proofs.Common.{◌≡◌, ℕ, ◌+◌, ◌<◌, ◌≤◌, ◌==◌, true, false, List, [], ◌∷◌, ◌++◌, length, map, get_or, take, drop, zero, suc, refl, ap, ◌∙◌, sym, inl, inr, arith}
+use Rattle.std.specs.Prelude.{nat_le}
 use Rattle.std.specs.List.Sorted.{IsNonDecreasingBy}
-use Rattle.std.proofs.lemmas.Bool.{true≢false, eq-eqb, ne_eqb, cases_Bool}
+use Rattle.std.proofs.lemmas.Bool.{cases_Bool}
 use Rattle.std.proofs.lemmas.Bool.Decides.{nat_tests}
-use Rattle.std.proofs.lemmas.List.{drop_all, length-map}
+use Rattle.std.proofs.lemmas.List.{drop_all}
 use Rattle.domain.specs.declared.chains.Step.{Step}
 use Rattle.certificate.specs.declared.packed.Run.{Run}
 use Rattle.certificate.specs.declared.sums.packed.PackedLine.{PackedLine}
@@ -15,7 +15,7 @@ use Rattle.certificate.specs.Sums.Lines.{Line, is_detail}
 use Rattle.certificate.specs.Sums.Order.{place_of_head}
 use Rattle.certificate.specs.Sums.Packed.{said_at, kept_at, IsPacked}
 use Rattle.certificate.specs.Sums.Found.{from_place, past, AreRising, last_past, ArePast, AreKept, begins_at, least_place}
-use Rattle.certificate.proofs.SumPackedLemmas.{LineThere, line_there, all_within, still_within}
+use Rattle.certificate.proofs.SumPackedLemmas.{all_within, still_within}
 
 -- The place after a line is no matter of its runs and steps.
 past_same : (n : ℕ) (runs more : List Run) (steps further : List Step) (l : PackedLine) → past n (said_at runs steps l) ≡ past n (said_at more further l)

@@ -1,15 +1,14 @@
 -- A line of any version is read from its text.
-use Rattle.std.proofs.Common.{◌≡◌, ◌≢◌, ◌⊎◌, ℕ, zero, suc, ◌+◌, ◌-◌, ◌/◌, ◌<◌, ◌≤◌, ◌==◌, Bool, true, false, ◌&&◌, ◌||◌, List, [], ◌∷◌, ◌++◌, length, map, take, drop, refl, ap, ◌∙◌, sym, subst, inl, inr, arith, append-nil, append_assoc, length-append}
-use Rattle.std.specs.Prelude.{if◌then◌else◌, codes, flat_map, get_or, nat_lt, nat_le, not, Option, Some, None}
+use Rattle.std.proofs.Common.{◌≡◌, ℕ, suc, ◌+◌, ◌-◌, ◌/◌, ◌<◌, ◌≤◌, ◌==◌, true, false, ◌&&◌, List, [], ◌∷◌, ◌++◌, length, map, take, refl, ap, ◌∙◌, sym, inl, inr, arith, append-nil, append_assoc, length-append}
+use Rattle.std.specs.Prelude.{codes, flat_map, nat_lt, nat_le, not, Option, Some}
 use Rattle.std.specs.List.{slice_split, list_any, list_all, join_with_byte}
 use Rattle.std.specs.Str.{bytes_eq}
 use Rattle.std.proofs.Math.Path.{fun_ext}
-use Rattle.std.proofs.lemmas.Bool.{true≢false, and_parts, and_from, ne_eqb, eq-eqb, eqb-true, cases_lt, cases_Bool, lt-ltb, le-ltb, ltb-true, leb-true}
+use Rattle.std.proofs.lemmas.Bool.{true≢false, and_parts, ne_eqb, eq-eqb, eqb-true, cases_lt, cases_Bool, lt-ltb, le-ltb, ltb-true, leb-true}
 use Rattle.std.proofs.lemmas.Bool.Decides.{eqb_tells}
 use Rattle.std.proofs.lemmas.Slice.Eq.{bytes_eq-Decides}
 use Rattle.word12.specs.Words.{octal_text}
-use Rattle.word12.specs.Octal.{octal_value}
-use Rattle.wordset.specs.Words.{Words, nothing, all_words, between, one, only, some_below, has_some}
+use Rattle.wordset.specs.Words.{Words, nothing, between, one, only, some_below, has_some}
 use Rattle.wordset.proofs.Firsts.{only_next}
 use Rattle.wordset.proofs.Tests.{some_none_of, none_of_some}
 use Rattle.domain.specs.Sums.Shapes.{has_shape}
@@ -22,20 +21,20 @@ use Rattle.certificate.specs.declared.sums.Version.{Version}
 use Rattle.certificate.specs.declared.sums.Version.TheVariants.{One, Two, Three}
 use Rattle.certificate.specs.declared.packed.Run.{Run}
 use Rattle.certificate.specs.Spelling.{RoutineLine, Registers, digits, set_text, offsets_text, name_text, rank_text, routine_line, cell_line}
-use Rattle.certificate.specs.Reading.{Each, EndsBefore, IsOfLinks}
-use Rattle.certificate.specs.LineOf.{words_in, word_at, set_of, links_in, name_of}
+use Rattle.certificate.specs.Reading.{Each, EndsBefore}
+use Rattle.certificate.specs.LineOf.{words_in, word_at, set_of, name_of}
 use Rattle.certificate.specs.Packed.{joined, StandApart}
 use Rattle.certificate.specs.Sums.Lines.{Line, RoutineIs, FactIs, ExitIs, CellIs, SumIs, ChainIs, End, is_of_sums}
-use Rattle.certificate.specs.Sums.Spelling.{offsets_line, offset_text, sites_text, mq_text, words_text, term_text, coefficient_text, further_text, sum_text, names_text, word_text, equation_line, relation_line, step_text, chain_line, line_text}
-use Rattle.certificate.specs.Sums.LineOf.{reads, offset_run_of, offset_set_of, offsets_of, registers_in, sites_in, term_of, coefficient_of, further_in, sum_in, steps_in, detail_by, said_by, has_registers, is_term, is_summand, is_relation, is_step, most_offsets, has_form, line_if, line_of}
+use Rattle.certificate.specs.Sums.Spelling.{offsets_line, offset_text, term_text, coefficient_text, further_text, word_text, equation_line, relation_line, step_text, chain_line, line_text}
+use Rattle.certificate.specs.Sums.LineOf.{reads, offset_run_of, offset_set_of, offsets_of, registers_in, term_of, coefficient_of, further_in, steps_in, said_by, is_term, is_summand, is_relation, is_step, most_offsets, has_form, line_if, line_of}
 use Rattle.certificate.specs.Sums.Fields.{offset_run_text, offset_set_text}
-use Rattle.certificate.specs.Sums.Laws.{SitesFit, MqFits, RegistersFit, IsEquation, RelationFits, LineFits, SpelledIsRead}
+use Rattle.certificate.specs.Sums.Laws.{SitesFit, RegistersFit, IsEquation, LineFits, SpelledIsRead}
 use Rattle.certificate.proofs.ApartLemmas.{first_or}
 use Rattle.certificate.proofs.PackedLemmas.{or_with}
 use Rattle.certificate.proofs.TextLemmas.{each_append}
 use Rattle.certificate.proofs.LineLemmas.{routine_fields, cell_fields}
 use Rattle.certificate.proofs.OffsetTextLemmas.{offset_more_text, offset_runs_text, OffsetRuns, offset_runs_of, no_offset_text, AllSmall, runs_small}
-use Rattle.certificate.proofs.LineOfLemmas.{split_at, split_none, Above, apart, lower, either, octal_above, set_above, digits_above, offsets_above, name_above, octal_back, rank_back, digit_back, set_back, offsets_back, links_back, other_text, literal, registers_are, set_ends}
+use Rattle.certificate.proofs.LineOfLemmas.{split_at, split_none, Above, apart, lower, either, set_above, digits_above, offsets_above, name_above, octal_back, rank_back, digit_back, set_back, offsets_back, links_back, other_text, literal, registers_are}
 
 -- Words of a line, in which the least byte is a plus sign.
 weaker : (k l : ℕ) (xs : List ℕ) → l ≤ k → Above k xs → Above l xs

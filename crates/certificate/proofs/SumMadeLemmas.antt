@@ -1,9 +1,9 @@
 -- Lines added to those of a certificate, and its text, in all versions.
-use Rattle.std.proofs.Common.{◌≡◌, ℕ, ◌+◌, ◌<◌, ◌≤◌, Bool, true, false, List, [], ◌∷◌, ◌++◌, length, Result, Ok, Err, refl, ap, ◌∙◌, sym, subst, inl, inr, arith, append_assoc}
+use Rattle.std.proofs.Common.{◌≡◌, ℕ, ◌<◌, ◌≤◌, Bool, true, false, List, [], ◌∷◌, ◌++◌, length, Result, Ok, Err, refl, ap, ◌∙◌, sym, subst, inl, inr, append_assoc}
 use Rattle.std.specs.Prelude.{if◌then◌else◌, codes, map, nat_lt, nat_le, OnOk, OnErr}
 use Rattle.std.specs.List.{list_any}
 use Rattle.std.proofs.lemmas.Bool.{true≢false, cases_Bool, and_parts, ltb-true, leb-true, le-ltb}
-use Rattle.wordset.specs.Words.{Words, all_words, has_some, some_below}
+use Rattle.wordset.specs.Words.{Words, all_words, some_below}
 use Rattle.domain.specs.Statements.{TrackedCell}
 use Rattle.domain.specs.Sums.Chains.{Chain}
 use Rattle.domain.specs.Sums.Facts.{Relation}
@@ -15,11 +15,11 @@ use Rattle.certificate.specs.declared.sums.Version.TheVariants.{One, Two, Three}
 use Rattle.certificate.specs.Spelling.{RoutineLine, Registers, ended}
 use Rattle.certificate.specs.Reading.{Each, EndsBefore}
 use Rattle.certificate.specs.Sums.Lines.{Line, RoutineIs, FactIs, ExitIs, CellIs, SumIs, ChainIs, End, is_end, is_of_sums}
-use Rattle.certificate.specs.Sums.Spelling.{line_text, version_text}
-use Rattle.certificate.specs.Sums.LineOf.{is_relation, is_step, has_form, most_offsets}
+use Rattle.certificate.specs.Sums.Spelling.{version_text}
+use Rattle.certificate.specs.Sums.LineOf.{is_relation, has_form}
 use Rattle.certificate.specs.Sums.Reading.{Text}
-use Rattle.certificate.specs.Sums.Laws.{MqFits, RegistersFit, LineFits, bytes_of}
-use Rattle.certificate.specs.Sums.Found.{IsNext, IsLine, AreInOrder, Follow, newest_first, unended, IsWhole}
+use Rattle.certificate.specs.Sums.Laws.{bytes_of}
+use Rattle.certificate.specs.Sums.Found.{IsLine, AreInOrder, Follow, newest_first, unended, IsWhole}
 use Rattle.certificate.specs.Sums.Packed.{Packed, said_lines}
 use Rattle.certificate.specs.Sums.Spelled.{all_ended}
 use Rattle.certificate.specs.Sums.Kept.{Kept, meaning}

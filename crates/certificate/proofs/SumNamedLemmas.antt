@@ -1,13 +1,11 @@
 -- Routines, facts and exits by the places of their lines, in all versions.
-use Rattle.std.proofs.Common.{◌≡◌, ◌⊎◌, ℕ, ◌+◌, ◌*◌, ◌-◌, ◌<◌, ◌≤◌, ◌==◌, ◌&&◌, ◌||◌, not, Bool, true, false, List, [], ◌∷◌, ◌++◌, drop, Option, Some, None, refl, ap, ◌∙◌, sym, subst, inl, inr, arith}
-use Rattle.std.specs.Prelude.{nat_le, nat_lt, if◌then◌else◌, min, MatchOption}
-use Rattle.std.proofs.lemmas.Bool.{true≢false, false≢true, cases_Bool, cases_lt, and_parts, or_left, or_right, not-true, ltb-true, leb-true, le-leb, lt-leb, lt-ltb, le-ltb, ne_eqb, eq-eqb, eqb-true}
+use Rattle.std.proofs.Common.{◌≡◌, ◌⊎◌, ℕ, ◌+◌, ◌*◌, ◌-◌, ◌<◌, ◌≤◌, ◌==◌, ◌&&◌, ◌||◌, not, Bool, true, false, List, [], ◌∷◌, ◌++◌, drop, Some, refl, ap, ◌∙◌, sym, subst, inl, inr, arith}
+use Rattle.std.specs.Prelude.{nat_le, nat_lt, min}
+use Rattle.std.proofs.lemmas.Bool.{true≢false, false≢true, cases_Bool, cases_lt, and_parts, or_left, or_right, ltb-true, le-leb, lt-leb, lt-ltb, le-ltb, ne_eqb, eq-eqb, eqb-true}
 use Rattle.std.proofs.lemmas.Bool.Decides.{eqb_tells}
-use Rattle.std.proofs.Math.Bool.{or-false}
-use Rattle.wordset.specs.Words.{Words, some_below, HasNoneFrom, IsFirstFrom}
+use Rattle.wordset.specs.Words.{some_below, HasNoneFrom, IsFirstFrom}
 use Rattle.wordset.proofs.Tests.{some_from, some_none_of}
 use Rattle.certificate.specs.declared.sums.Version.{Version}
-use Rattle.certificate.specs.declared.RoutineClaim.{RoutineClaim}
 use Rattle.certificate.specs.Reading.{Each}
 use Rattle.certificate.specs.Spelling.{RoutineLine}
 use Rattle.certificate.specs.Sums.Certificate.{has_any}
@@ -17,8 +15,8 @@ use Rattle.certificate.specs.Sums.Order.{place_of_head}
 use Rattle.certificate.specs.Sums.Reading.{facts_at, exits_at, routine_at, is_listed}
 use Rattle.certificate.specs.Sums.Packed.{Packed, said_lines}
 use Rattle.certificate.specs.Sums.Kept.{BeginAt}
-use Rattle.certificate.specs.Sums.Found.{IsLine, IsWhole, AreRising, past, from_place, begins_at, least_place, IsRoutineLine, BeginsRoutine}
-use Rattle.certificate.proofs.SumReaderLemmas.{HasPlace, has_place, formed, line_formed, begin_found, NextLine, next_line, facts_end, exits_end}
+use Rattle.certificate.specs.Sums.Found.{IsLine, IsWhole, AreRising, from_place, begins_at, least_place}
+use Rattle.certificate.proofs.SumReaderLemmas.{has_place, formed, line_formed, begin_found, NextLine, next_line, facts_end, exits_end}
 
 -- A line of another kind than a detail has this place.
 is_at : ℕ → Line → Bool

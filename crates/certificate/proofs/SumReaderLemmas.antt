@@ -1,7 +1,6 @@
 -- What is found in a certificate that is kept, in all versions.
-use Rattle.std.proofs.Common.{◌≡◌, ◌⊎◌, ℕ, ◌+◌, ◌*◌, ◌-◌, ◌<◌, ◌≤◌, ◌==◌, ◌&&◌, not, Bool, true, false, List, [], ◌∷◌, ◌++◌, length, take, drop, zero, suc, refl, ap, ◌∙◌, sym, subst, inl, inr, arith, append-nil}
-use Rattle.std.specs.Prelude.{nat_le, nat_lt, if◌then◌else◌}
-use Rattle.std.specs.List.{list_any}
+use Rattle.std.proofs.Common.{◌≡◌, ◌⊎◌, ℕ, ◌+◌, ◌*◌, ◌-◌, ◌<◌, ◌≤◌, ◌==◌, ◌&&◌, not, true, false, List, [], ◌∷◌, ◌++◌, length, drop, zero, suc, refl, ap, ◌∙◌, sym, subst, inl, inr, arith, append-nil}
+use Rattle.std.specs.Prelude.{nat_le, nat_lt}
 use Rattle.std.proofs.lemmas.Bool.{true≢false, false≢true, cases_Bool, and_parts, not-true, ltb-true, leb-true, le-leb, ne_eqb, eq-eqb, eqb-true}
 use Rattle.std.proofs.lemmas.Bool.Decides.{nat_tests}
 use Rattle.std.proofs.lemmas.List.{drop_all}
@@ -10,14 +9,14 @@ use Rattle.domain.specs.Sums.Facts.{Fact}
 use Rattle.certificate.specs.declared.sums.Version.{Version}
 use Rattle.certificate.specs.Reading.{Each}
 use Rattle.certificate.specs.Spelling.{Registers}
-use Rattle.certificate.specs.Sums.Lines.{Line, RoutineIs, FactIs, ExitIs, CellIs, SumIs, ChainIs, End, is_detail, has_details, is_cell, is_sum, is_chain, is_end}
-use Rattle.certificate.specs.Sums.Order.{place_of_head, details_of_last, how_many, has_room}
+use Rattle.certificate.specs.Sums.Lines.{Line, RoutineIs, FactIs, ExitIs, CellIs, SumIs, ChainIs, End, is_detail, has_details, is_cell, is_sum, is_chain}
+use Rattle.certificate.specs.Sums.Order.{place_of_head, details_of_last, how_many}
 use Rattle.certificate.specs.Sums.Reading.{cells_under, relations_under, chains_under, fact_said, all_offsets, facts_at, exits_at}
 use Rattle.certificate.specs.Sums.LineOf.{has_form, most_offsets}
 use Rattle.certificate.specs.declared.sums.Version.TheVariants.{One, Two, Three}
 use Rattle.certificate.specs.Sums.Packed.{Packed, said_lines}
 use Rattle.certificate.specs.Sums.Kept.{BeginAt}
-use Rattle.certificate.specs.Sums.Found.{IsLine, Follow, newest_first, IsWhole, AreRising, past, from_place, begins_at, begins, behind_details, FitUnder, IsSaid}
+use Rattle.certificate.specs.Sums.Found.{IsLine, Follow, IsWhole, AreRising, past, from_place, begins_at, begins, behind_details, FitUnder, IsSaid}
 use Rattle.certificate.proofs.SumPackedLemmas.{drop_both}
 use Rattle.certificate.proofs.SumWholeLemmas.{follows}
 
@@ -363,7 +362,7 @@ details_fit v before (FactIs a s r o ∷ ls) f h = few_fit before h
 details_fit v before (ExitIs e o s r ∷ ls) f h = few_fit before h
 details_fit v before (End ∷ ls) f h = few_fit before h
 
-follow_from : (v : Version) (before ls : List Line) (i : ℕ) → Follow v before ls → (l : Line) (rest : List Line) → drop i ls ≡ l ∷ rest → (others : List Line) × (Follow v (l ∷ others) rest × IsLine v l)
+pub follow_from : (v : Version) (before ls : List Line) (i : ℕ) → Follow v before ls → (l : Line) (rest : List Line) → drop i ls ≡ l ∷ rest → (others : List Line) × (Follow v (l ∷ others) rest × IsLine v l)
 follow_from v before [] zero f l rest e = absurd (cc)
 follow_from v before [] (suc i) f l rest e = absurd (let z : [] ≡ l ∷ rest = sym (drop_all (suc i) [] (omega arith)) ∙ e in cc)
 follow_from v before (k ∷ ks) zero f l rest e = let a : k ≡ l = cc in let b : ks ≡ rest = cc in rw (← a, ← b) (before, (f.2, f.0))

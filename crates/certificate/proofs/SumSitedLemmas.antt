@@ -1,36 +1,32 @@
 -- A certificate with sites by a declaration.
-use Rattle.std.proofs.Common.{◌≡◌, ℕ, ◌+◌, ◌*◌, ◌<◌, ◌≤◌, ◌==◌, Bool, true, false, not, ◌&&◌, ◌||◌, List, [], ◌∷◌, ◌++◌, length, drop, Option, Some, None, refl, ap, ◌∙◌, sym, subst, inl, inr, arith, append_assoc, append-nil}
+use Rattle.std.proofs.Common.{◌≡◌, ℕ, ◌+◌, ◌<◌, ◌≤◌, ◌==◌, Bool, true, false, ◌&&◌, ◌||◌, List, [], ◌∷◌, ◌++◌, length, drop, Option, Some, None, refl, ap, ◌∙◌, sym, subst, inl, inr, arith, append_assoc, append-nil}
 use Rattle.std.specs.Prelude.{if◌then◌else◌, map, nat_lt}
 use Rattle.std.specs.List.{list_any}
-use Rattle.std.specs.Option.{option_map}
 use Rattle.std.proofs.Math.Path.{fun_ext}
 use Rattle.std.proofs.lemmas.List.{drop_all, map_push}
-use Rattle.std.proofs.lemmas.Bool.{true≢false, false≢true, cases_Bool, cases_lt, and_parts, ltb-true, lt-ltb, le-ltb, ne_eqb, eqb-true}
+use Rattle.std.proofs.lemmas.Bool.{true≢false, cases_Bool, and_parts, ltb-true, lt-ltb, ne_eqb, eqb-true}
 use Rattle.wordset.specs.Words.{Words, nothing, one, has_some, some_below}
 use Rattle.wordset.proofs.Tests.{IsSome, some_from, some_to, some_none_of, and_both, and_first, and_second, both_ways}
 use Rattle.declaration.specs.Declaration.{Declaration, Routine}
-use Rattle.declaration.specs.declared.Owner.{Owner}
-use Rattle.declaration.specs.declared.Owner.TheVariants as owner
-use Rattle.declaration.specs.Kept.{routine_of}
 use Rattle.domain.specs.Sums.Facts.{Relation}
 use Rattle.certificate.specs.declared.sums.Version.{Version}
 use Rattle.certificate.specs.declared.sums.Version.TheVariants.{One, Two, Three}
 use Rattle.certificate.specs.Spelling.{RoutineLine, Registers}
 use Rattle.certificate.specs.Reading.{Each, EndsBefore}
 use Rattle.certificate.specs.Sums.Lines.{Line, RoutineIs, FactIs, ExitIs, CellIs, SumIs, ChainIs, End, is_end, is_detail, has_details, is_routine, is_cell, is_sum, is_chain, is_of_sums}
-use Rattle.certificate.specs.Sums.Order.{may_stand, heads, details_of_last, fellows, place_of_head, detail_is_before, may_be_level, may_follow, follows_newest, comes_in_order, how_many, has_room}
+use Rattle.certificate.specs.Sums.Order.{may_stand, heads, details_of_last, place_of_head, detail_is_before, may_follow, follows_newest, comes_in_order, how_many, has_room}
 use Rattle.certificate.specs.Sums.LineOf.{has_form, has_registers, is_relation}
-use Rattle.certificate.specs.Sums.Laws.{MqFits, RegistersFit, IsEquation, LineFits}
+use Rattle.certificate.specs.Sums.Laws.{MqFits, RegistersFit, LineFits}
 use Rattle.certificate.specs.Sums.Certificate.{Certificate}
 use Rattle.certificate.specs.Sums.Reading.{routine_at, is_listed, sites_in}
-use Rattle.certificate.specs.Sums.Found.{IsNext, IsLine, AreInOrder, newest_first, IsWhole}
+use Rattle.certificate.specs.Sums.Found.{IsLine, AreInOrder, newest_first, IsWhole}
 use Rattle.certificate.specs.Sums.Packed.{Packed, said_lines, said_at, sited_line, IsNumbered}
-use Rattle.certificate.specs.Sums.Made.{sites_at, sites_by, sited_by}
+use Rattle.certificate.specs.Sums.Made.{sites_by, sited_by}
 use Rattle.certificate.specs.declared.packed.Run.{Run}
 use Rattle.domain.specs.declared.chains.Step.{Step}
 use Rattle.certificate.specs.declared.sums.packed.PackedLine.{PackedLine}
 use Rattle.certificate.specs.declared.sums.packed.PackedLine.TheVariants as packed
-use Rattle.certificate.specs.Sums.Kept.{Kept, meaning, claims}
+use Rattle.certificate.specs.Sums.Kept.{Kept, claims}
 use Rattle.certificate.proofs.SumMadeLemmas.{mq_one}
 use Rattle.certificate.proofs.SumWholeLemmas.{whole}
 use Rattle.certificate.proofs.SumReaderLemmas.{has_place, formed}

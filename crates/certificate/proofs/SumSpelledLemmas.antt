@@ -1,14 +1,12 @@
 -- The text of a line of any version while it is written.
-use Rattle.std.proofs.Common.{◌≡◌, ℕ, ◌+◌, ◌-◌, ◌<◌, ◌≤◌, ◌==◌, ◌||◌, Bool, true, false, List, [], ◌∷◌, ◌++◌, length, map, take, drop, zero, suc, subst, get_or, Option, Some, None, refl, ap, ◌∙◌, sym, inl, inr, arith, append_assoc, append-nil}
-use Rattle.std.specs.Prelude.{if◌then◌else◌, codes, flat_map, slice_range, IsTrue}
-use Rattle.std.proofs.lemmas.Bool.{true≢false, false≢true, cases_lt, cases_Bool, eq-eqb, ne_eqb, eqb-true}
+use Rattle.std.proofs.Common.{◌≡◌, ℕ, ◌+◌, ◌-◌, ◌<◌, ◌≤◌, ◌==◌, ◌||◌, true, false, List, [], ◌∷◌, ◌++◌, length, map, take, drop, zero, suc, subst, get_or, Option, Some, refl, ap, ◌∙◌, sym, inl, inr, arith, append_assoc, append-nil}
+use Rattle.std.specs.Prelude.{codes, flat_map, slice_range, IsTrue}
+use Rattle.std.proofs.lemmas.Bool.{false≢true, cases_lt, cases_Bool, eq-eqb, ne_eqb}
 use Rattle.std.proofs.lemmas.List.{take_all, take_more, drop_all, map_push}
 use Rattle.std.proofs.lemmas.List.Concat.{flat_map-append}
 use Rattle.word12.specs.Words.{octal_text}
 use Rattle.wordset.specs.Words.{Words, some_below, minus}
 use Rattle.wordset.proofs.Tests.{some_none_of, none_of_some}
-use Rattle.domain.specs.Facts.{Cell}
-use Rattle.domain.specs.Sums.Terms.{Holding}
 use Rattle.domain.specs.Sums.ChainsInCode.{step_of}
 use Rattle.domain.specs.declared.chains.Step.{Step}
 use Rattle.std.specs.Io.KnownBytes.{Appends}
@@ -16,7 +14,7 @@ use Rattle.streams.specs.Bytes.{AppendsFront}
 use Rattle.streams.proofs.BytesLemmas.{front_after}
 use Rattle.certificate.specs.declared.sums.Version.{Version}
 use Rattle.certificate.specs.Reading.{Each}
-use Rattle.certificate.specs.Spelling.{begins, ends, digits, offsets_text, rank_text, ended}
+use Rattle.certificate.specs.Spelling.{begins, ends, digits, offsets_text, ended}
 use Rattle.certificate.specs.Sums.Lines.{Line}
 use Rattle.certificate.specs.Sums.Spelled.{all_ended}
 use Rattle.certificate.specs.Spelled.{Adds}

@@ -87,6 +87,17 @@ impl BriefSet {
         }
     }
 
+    /// The set of the word 0 alone. All its bits are 0, so that room for many sets is made at once, where it stays.
+    #[tactic(auto, using(crate::proofs::BriefLemmas::one_row))]
+    pub fn zero() -> BriefSet
+        ensures { brief_words result ≡ one 0 }
+    {
+        BriefSet {
+            kept: Kept::Row(Word::ZERO, Word::ZERO),
+            whole: WordSet::empty(),
+        }
+    }
+
     /// The set of all words.
     #[tactic(auto, using(crate::proofs::CellLemmas::full_row))]
     pub fn all() -> BriefSet

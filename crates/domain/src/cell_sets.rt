@@ -57,7 +57,7 @@ impl<const CAP: usize> CellSets<CAP> {
         CellSets {
             entries: [CellSet {
                 cell: Word::ZERO,
-                set: BriefSet::none(),
+                set: BriefSet::zero(),
             }; CAP],
             count: 0,
         }

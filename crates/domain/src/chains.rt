@@ -26,7 +26,7 @@ pub enum Step {
 
 impl Default for Step {
     fn default() -> Self {
-        Step::Ands(Word::ZERO)
+        Step::Operates(Word::ZERO)
     }
 }
 
@@ -99,7 +99,7 @@ impl Chain {
             cell,
             more,
             links,
-            steps: [Step::Ands(Word::ZERO); 17],
+            steps: [Step::Operates(Word::ZERO); 17],
             count: 0,
         }
     }

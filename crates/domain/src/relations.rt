@@ -185,7 +185,7 @@ impl<const CAP: usize> Relations<CAP> {
         Relations {
             relations: [Relation {
                 sum: Sum::zero(),
-                set: BriefSet::none(),
+                set: BriefSet::zero(),
             }; CAP],
             count: 0,
         }

@@ -74,7 +74,7 @@ count_none (suc n) w le =
     let other : (n == w) ≡ false = ne_eqb n w (λ q. omega arith) in
     let rest : how_many n (one w) ≡ 0 = count_none n w (omega arith) in rw (other, rest) refl
 
-count_one : (n w : ℕ) → w < n → how_many n (one w) ≡ 1
+pub count_one : (n w : ℕ) → w < n → how_many n (one w) ≡ 1
 unfolding how_many
 count_one zero w lt = absurd (omega arith)
 count_one (suc n) w lt = elim (cases_eq n w) [

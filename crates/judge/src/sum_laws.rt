@@ -1,7 +1,7 @@
 //! Laws of certificates whose facts have sums, over the definitions alone. Each is the contract of a function that does nothing.
 
 ghost use Rattle.judge.specs.Sums.Headline.{ProgramsAreSafe, UnlistedReadsAreFree};
-ghost use Rattle.judge.specs.Sums.Laws.{FactsHoldInEvents, FactsHoldInRuns, FirstIsOne};
+ghost use Rattle.judge.specs.Sums.Laws.{FactsHoldInEvents, FactsHoldInRuns, FirstIsOne, TextsMakeOneCase};
 
 /// The headline: where every condition holds, the program keeps its declaration
 /// in every declared run.
@@ -21,4 +21,11 @@ pub fn facts_hold()
 /// No two conditions fail first, and none does at two addresses.
 pub fn first_is_one()
     ensures { FirstIsOne }
+{}
+
+/// The bytes of a tape, a declaration and a certificate are judged in one way, whatever parts they
+/// are read as. So where the text of a certificate of which every condition holds is read, it is
+/// accepted.
+pub fn texts_are_judged_alike()
+    ensures { TextsMakeOneCase }
 {}

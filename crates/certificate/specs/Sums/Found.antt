@@ -1,7 +1,6 @@
 -- How lines are found by their places, and which lines are kept; for private contracts.
-use Rattle.std.specs.Prelude.{◌≡◌, ℕ, ◌+◌, ◌<◌, ◌≤◌, ◌==◌, nat_le, Bool, true, false, not, ◌&&◌, if◌then◌else◌, List, [], ◌∷◌, ◌++◌, length, map, drop}
+use Rattle.std.specs.Prelude.{◌≡◌, ℕ, ◌+◌, ◌≤◌, ◌==◌, nat_le, Bool, true, false, not, ◌&&◌, if◌then◌else◌, List, [], ◌∷◌, length}
 use Rattle.std.specs.List.{AllByRecursion, list_any}
-use Rattle.wordset.specs.Words.{Words}
 use Rattle.wordset.specs.Lanes.{words}
 use Rattle.domain.specs.Sums.Facts.{Fact}
 use Rattle.certificate.specs.declared.RoutineClaim.{RoutineClaim}
@@ -9,12 +8,12 @@ use Rattle.certificate.specs.declared.packed.Run.{Run}
 use Rattle.domain.specs.declared.chains.Step.{Step}
 use Rattle.certificate.specs.declared.sums.Version.{Version}
 use Rattle.certificate.specs.declared.sums.packed.KeptLine.{KeptLine}
-use Rattle.certificate.specs.Sums.Lines.{Line, RoutineIs, FactIs, ExitIs, CellIs, SumIs, ChainIs, End, is_detail, is_end}
+use Rattle.certificate.specs.Sums.Lines.{Line, RoutineIs, FactIs, ExitIs, End, is_detail, is_end}
 use Rattle.certificate.specs.Sums.Order.{may_stand, comes_in_order, has_room, place_of_head, details_of_last}
 use Rattle.certificate.specs.Sums.LineOf.{has_form}
 use Rattle.certificate.specs.Sums.Laws.{LineFits}
 use Rattle.certificate.specs.Sums.Reading.{cells_under, relations_under, chains_under, fact_said, all_offsets}
-use Rattle.certificate.specs.Sums.Packed.{Packed, kept_at, said_lines, IsKept, IsNumbered}
+use Rattle.certificate.specs.Sums.Packed.{Packed, kept_at, said_lines, IsKept}
 
 -- A line may come next.
 pub record IsNext (v : Version) (before : List Line) (l : Line) : Type 0 where

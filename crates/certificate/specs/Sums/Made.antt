@@ -1,5 +1,5 @@
 -- What may be added to a certificate, and what it says then.
-use Rattle.std.specs.Prelude.{◌≡◌, ℕ, ◌≤◌, Bool, true, false, ◌&&◌, Some, length, List, [], ◌∷◌, ◌++◌, map}
+use Rattle.std.specs.Prelude.{◌≡◌, ℕ, ◌≤◌, true, false, ◌&&◌, Some, length, List, [], ◌∷◌, ◌++◌, map}
 use Rattle.wordset.specs.Words.{Words, some_below}
 use Rattle.wordset.specs.Lanes.{words}
 use Rattle.declaration.specs.Declaration.{Declaration}

@@ -1,16 +1,15 @@
 -- Packed lines of all versions, and what they say; for private contracts.
-use Rattle.std.specs.Prelude.{◌≡◌, ℕ, ◌+◌, ◌-◌, ◌<◌, ◌≤◌, Bool, true, false, Option, Some, None, List, [], ◌∷◌, ◌++◌, length, map, take, drop, slice_range}
+use Rattle.std.specs.Prelude.{◌≡◌, ℕ, ◌+◌, ◌-◌, ◌<◌, ◌≤◌, Bool, true, false, Option, Some, None, List, [], ◌∷◌, length, map, take, drop}
 use Rattle.wordset.specs.Words.{Words, minus, nothing}
 use Rattle.wordset.specs.Links.{links_of}
 use Rattle.domain.specs.Facts.{Cell}
 use Rattle.domain.specs.Meaning.{location_of}
-use Rattle.domain.specs.Sums.Terms.{Holding, Summand, Sum}
-use Rattle.domain.specs.Sums.InCode.{summand_of, sum_of}
+use Rattle.domain.specs.Sums.Terms.{Holding, Sum}
+use Rattle.domain.specs.Sums.InCode.{summand_of}
 use Rattle.domain.specs.Sums.ChainsInCode.{step_of, chain_of}
 use Rattle.domain.specs.Sums.Offsets.{offsets_in}
 use Rattle.domain.specs.Sums.Brief.{brief_words}
 use Rattle.domain.specs.Sums.CellsInCode.{cell_set_of}
-use Rattle.domain.specs.Sums.RelationsInCode.{relation_of}
 use Rattle.domain.specs.Sums.Facts as facts
 use Rattle.domain.specs.Sums.FactInCode.{fact_in_code}
 use Rattle.domain.specs.declared.chains.Step.{Step}
@@ -19,9 +18,6 @@ use Rattle.wordset.specs.Lanes.{words}
 use Rattle.certificate.specs.declared.packed.Run.{Run}
 use Rattle.certificate.specs.declared.packed.Counts.{Counts}
 use Rattle.certificate.specs.declared.sums.packed.PackedSum.{PackedSum}
-use Rattle.certificate.specs.declared.sums.packed.PackedFact.{PackedFact}
-use Rattle.certificate.specs.declared.sums.packed.PackedExit.{PackedExit}
-use Rattle.certificate.specs.declared.sums.packed.PackedChain.{PackedChain}
 use Rattle.certificate.specs.declared.sums.packed.PackedLine.{PackedLine}
 use Rattle.certificate.specs.declared.sums.packed.PackedLine.TheVariants as packed
 use Rattle.certificate.specs.declared.sums.packed.KeptLine.{KeptLine}

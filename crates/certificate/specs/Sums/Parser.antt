@@ -6,7 +6,7 @@ use Rattle.certificate.specs.declared.CertificateFault.TheVariants.{NoMemory, Re
 use Rattle.certificate.specs.declared.sums.progress.Progress.{Progress}
 use Rattle.certificate.specs.declared.sums.parser.Parser.{Parser}
 use Rattle.certificate.specs.Sums.Lines.{Line}
-use Rattle.certificate.specs.Sums.Found.{AreInOrder, Keeps, unended, newest_first}
+use Rattle.certificate.specs.Sums.Found.{AreInOrder, Keeps, unended}
 use Rattle.certificate.specs.Sums.Progress.{Tracks}
 use Rattle.certificate.specs.Faults.{most_bytes}
 use Rattle.certificate.specs.Sums.Packed.{Packed}

@@ -47,6 +47,9 @@ pub type CertifiedFact = SumFact<64, 32>;
 /// No line has more steps.
 const MOST_STEPS: usize = 16;
 
+/// The largest number that a line keeps of its first run or step.
+const MOST_FIRST: usize = 4_294_967_295;
+
 /// The steps of a line's chain.
 pub type Steps = ArrayVec<Step, MOST_STEPS>;
 
@@ -120,7 +123,7 @@ pub enum Claim<'a> {
 /// detail has that of the line that it says more of. So lines are found by their places.
 #[derive(Clone, Copy)]
 pub struct KeptLine {
-    first: usize,
+    first: u32,
     past: u32,
     line: PackedLine,
 }
@@ -515,14 +518,8 @@ fn pack<A: Allocator>(
                 registers,
             }))
         }
-        Claim::Cell(tracked) => {
-            let count = lay_brief(runs, &tracked.set)?;
-            Ok(PackedLine::Cell(tracked.cell, count))
-        }
-        Claim::Sum(relation, sum) => {
-            let count = lay_brief(runs, &relation.set)?;
-            Ok(PackedLine::Sum(**sum, count))
-        }
+        Claim::Cell(tracked) => Ok(PackedLine::Cell(tracked.cell, lay_brief(runs, &tracked.set)?)),
+        Claim::Sum(relation, sum) => Ok(PackedLine::Sum(**sum, lay_brief(runs, &relation.set)?)),
         Claim::Chain(chain) => {
             let packed = lay_steps(steps, chain)?;
             Ok(PackedLine::Chain(packed))
@@ -938,6 +935,16 @@ fn first_of(line: &PackedLine, run_count: usize, step_count: usize) -> usize
     }
 }
 
+/// The number in 32 bits; refused where it does not fit.
+fn brief(number: usize) -> Result<u32, AllocError>
+    ensures { IfOk result (λ n. n ≡ number) }
+{
+    if number > MOST_FIRST {
+        return Err(AllocError);
+    }
+    Ok(number as u32)
+}
+
 /// The least place after a line that is added to these.
 fn past(list: &[KeptLine], line: &PackedLine) -> u32
     requires { IsNumbered line.now }
@@ -981,8 +988,8 @@ impl<A: Allocator> PackedLines<A> {
     {
         let kept = &self.list[at];
         LentLine {
-            runs: runs_from(&self.runs, kept.first),
-            steps: steps_from(&self.steps, kept.first),
+            runs: runs_from(&self.runs, kept.first as usize),
+            steps: steps_from(&self.steps, kept.first as usize),
             line: &kept.line,
         }
     }
@@ -1002,7 +1009,7 @@ impl<A: Allocator> PackedLines<A> {
     {
         let run_count = self.runs.len();
         let step_count = self.steps.len();
-        let first = first_of(line, run_count, step_count);
+        let first = brief(first_of(line, run_count, step_count))?;
         let past = past(&self.list, line);
         lay_all(&mut self.runs, &mut self.steps, runs, steps)?;
         self.list.push(KeptLine {
@@ -1023,7 +1030,7 @@ impl<A: Allocator> PackedLines<A> {
         let run_count = self.runs.len();
         let step_count = self.steps.len();
         let line = pack(&mut self.runs, &mut self.steps, claim)?;
-        let first = first_of(&line, run_count, step_count);
+        let first = brief(first_of(&line, run_count, step_count))?;
         let past = past(&self.list, &line);
         self.list.push(KeptLine { first, past, line })?;
         Ok(())
@@ -1041,7 +1048,7 @@ impl<A: Allocator> PackedLines<A> {
         let run_count = self.runs.len();
         let step_count = self.steps.len();
         let line = lay_sited(&mut self.runs, &mut self.steps, lent, sites)?;
-        let first = first_of(&line, run_count, step_count);
+        let first = brief(first_of(&line, run_count, step_count))?;
         let past = past(&self.list, &line);
         self.list.push(KeptLine { first, past, line })?;
         Ok(())

@@ -1,4 +1,4 @@
--- What a valid certificate says of every run, and that one condition fails first.
+-- What a valid certificate says of every run, that one condition fails first, and that bytes are judged in one way.
 use Rattle.std.specs.Prelude.{◌≡◌, ℕ, None, List, []}
 use Rattle.processor.specs.Machine.{State, Answer}
 use Rattle.processor.specs.Runs.{IsStart}
@@ -11,6 +11,7 @@ use Rattle.policy.specs.Runs.{DeclaredRun, DeclaredEvents}
 use Rattle.processor.specs.Cells.{Cells}
 use Rattle.domain.specs.Sums.Facts.{SomeMeans}
 use Rattle.facts.specs.declared.Condition.{Condition}
+use Rattle.judge.specs.Sums.Certifying.{Parts, AreRead, case_of}
 use Rattle.judge.specs.Sums.Landing.{Case, place_in, facts_in}
 use Rattle.judge.specs.Sums.Conditions.{IsFirst, IsValid}
 
@@ -38,3 +39,10 @@ FactsHoldInEvents =
 -- No two conditions fail first.
 abbrev pub FirstIsOne : Type 0
 FirstIsOne = (j : Case) (v u : Condition) (a b : ℕ) → IsFirst j v a → IsFirst j u b → (v ≡ u) × (a ≡ b)
+
+-- A tape and two texts make one case: of whatever parts they are read as, the same is judged. So where every condition
+-- holds of one reading, every one holds of the other, and where one fails first, it fails first of the other.
+abbrev pub TextsMakeOneCase : Type 0
+TextsMakeOneCase =
+    (tape declaration certificate : List ℕ) (p q : Parts) →
+    AreRead tape declaration certificate p → AreRead tape declaration certificate q → case_of p ≡ case_of q

@@ -1,4 +1,4 @@
-use Rattle.std.proofs.Common.{◌≡◌, ◌∙◌, refl, ap, sym}
+use Rattle.std.proofs.Common.{◌∙◌, refl, ap, sym}
 use Rattle.std.proofs.lemmas.Bool.{true≢false}
 use Rattle.certificate.specs.Fields.{left}
 use Rattle.certificate.specs.Sums.LineOf.{is_step}

@@ -1,10 +1,8 @@
-use Rattle.std.proofs.Common.{map, List, ap, refl, subst, sym}
+use Rattle.std.proofs.Common.{map, refl}
 use Rattle.std.proofs.lemmas.List.{map_push}
-use Rattle.domain.specs.Sums.Chains.{Step as SaidStep}
 use Rattle.domain.specs.Sums.ChainsInCode.{step_of}
-use Rattle.domain.specs.declared.chains.Step.{Step}
 use Rattle.certificate.specs.Fields.{left}
-use Rattle.certificate.proofs.SumFieldLemmas.{StepsRead, no_steps, step_more, steps_shorter, steps_end, none_kept}
+use Rattle.certificate.proofs.SumFieldLemmas.{no_steps, step_more, steps_shorter, steps_end, none_kept}
 use Rattle.certificate.proofs.fields.Fields.steps.Goals as goal
 
 pub loop-self-init : goal.loop-self-init

@@ -1,4 +1,4 @@
-use Rattle.std.proofs.Common.{◌≡◌, ◌∙◌, ap, sym}
+use Rattle.std.proofs.Common.{◌∙◌, ap, sym}
 use Rattle.std.proofs.lemmas.Bool.{true≢false}
 use Rattle.certificate.specs.Sums.LineOf.{is_relation}
 use Rattle.certificate.proofs.fields.Fields.sum.Goals as goal

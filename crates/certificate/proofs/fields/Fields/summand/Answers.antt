@@ -1,6 +1,4 @@
-use Rattle.std.proofs.Common.{◌≡◌, ◌∙◌, ◌++◌, List, ℕ, Some, ap, append_assoc}
-use Rattle.std.specs.Prelude.{codes}
-use Rattle.certificate.specs.Sums.Spelling.{coefficient_text, term_text}
+use Rattle.std.proofs.Common.{◌∙◌, List, ℕ, Some, ap}
 use Rattle.certificate.proofs.SumFieldLemmas.{summand_made, further_fields}
 use Rattle.certificate.proofs.fields.Fields.summand.Goals as goal
 

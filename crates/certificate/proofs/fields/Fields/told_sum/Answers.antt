@@ -1,6 +1,4 @@
-use Rattle.std.proofs.Common.{◌≡◌, ◌∙◌, ◌++◌, List, ℕ, Some, ap, sym}
-use Rattle.std.specs.Prelude.{codes}
-use Rattle.certificate.specs.Sums.Fields.{third_text}
+use Rattle.std.proofs.Common.{◌∙◌, List, ℕ, Some, ap, sym}
 use Rattle.certificate.proofs.SumFieldLemmas.{IsKept, is_kept, sum_fields, sum_is, same_coefficient}
 use Rattle.certificate.proofs.fields.Fields.told_sum.Goals as goal
 

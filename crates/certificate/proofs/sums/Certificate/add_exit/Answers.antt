@@ -1,4 +1,3 @@
-use Rattle.std.proofs.Common.{refl}
 use Rattle.std.specs.Prelude.{is_ok}
 use Rattle.domain.specs.Sums.CellsInCode.{cell_sets_of}
 use Rattle.domain.specs.Sums.FactInCode.{fact_in_code}

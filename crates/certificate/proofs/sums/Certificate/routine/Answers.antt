@@ -1,6 +1,6 @@
-use Rattle.std.proofs.Common.{◌≡◌, ◌∙◌, ◌++◌, ◌∷◌, [], Some, true, ap, refl, sym}
+use Rattle.std.proofs.Common.{◌∙◌, ap, sym}
 use Rattle.std.proofs.lemmas.Option.{IfSome_then}
-use Rattle.certificate.specs.Sums.Lines.{is_routine, End}
+use Rattle.certificate.specs.Sums.Lines.{is_routine}
 use Rattle.certificate.specs.Sums.Packed.{said_lines}
 use Rattle.certificate.specs.Sums.Found.{begins}
 use Rattle.certificate.specs.Sums.Reading.{is_listed, rank_in, sites_in, writes_in}

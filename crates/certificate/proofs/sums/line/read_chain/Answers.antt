@@ -1,4 +1,4 @@
-use Rattle.std.proofs.Common.{◌≡◌, ap, ◌∙◌, List, ℕ, [], Some, arith}
+use Rattle.std.proofs.Common.{ap, ◌∙◌, List, ℕ, Some}
 use Rattle.std.specs.Prelude.{nat_lt}
 use Rattle.std.proofs.lemmas.Bool.{and_parts, ltb-true}
 use Rattle.wordset.specs.Words.{some_below}

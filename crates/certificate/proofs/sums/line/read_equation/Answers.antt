@@ -1,4 +1,4 @@
-use Rattle.std.proofs.Common.{◌≡◌, ◌++◌, ◌∙◌, refl, ap, sym, List, ℕ, [], Some, length, true, arith}
+use Rattle.std.proofs.Common.{◌≡◌, ◌++◌, ◌∙◌, refl, ap, sym, List, ℕ, [], Some, length, arith}
 use Rattle.std.specs.Prelude.{codes}
 use Rattle.std.proofs.lemmas.Bool.{and_parts}
 use Rattle.word12.specs.Words.{octal_text}
@@ -7,7 +7,6 @@ use Rattle.domain.specs.Sums.Terms.{difference_of}
 use Rattle.certificate.specs.Spelling.{name_text}
 use Rattle.certificate.specs.Fields.{left}
 use Rattle.certificate.specs.Sums.LineOf.{is_relation}
-use Rattle.certificate.proofs.DigitLemmas.{at_some}
 use Rattle.certificate.proofs.LineLemmas.{both, whole}
 use Rattle.certificate.proofs.SumReadLemmas.{one_laid, IsDifference, difference_parts, equation_spelled, equation_of_fits, equation_fields, one_small, set_added}
 use Rattle.certificate.proofs.sums.line.read_equation.Goals as goal

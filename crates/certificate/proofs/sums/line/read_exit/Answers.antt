@@ -1,4 +1,4 @@
-use Rattle.std.proofs.Common.{◌≡◌, ◌+◌, ◌<◌, ◌≤◌, ◌++◌, true, drop, refl, ap, ◌∙◌, List, ℕ, [], Some, length, arith}
+use Rattle.std.proofs.Common.{◌≡◌, ◌+◌, ◌≤◌, ◌++◌, true, drop, refl, ap, ◌∙◌, List, ℕ, [], Some, length, arith}
 use Rattle.std.specs.Prelude.{codes, IfSome, nat_lt}
 use Rattle.std.proofs.lemmas.List.{length-drop}
 use Rattle.word12.specs.Words.{octal_text}

@@ -1,4 +1,4 @@
-use Rattle.std.proofs.Common.{◌≤◌, drop, length}
+use Rattle.std.proofs.Common.{drop}
 use Rattle.certificate.specs.Sums.Packed.{said_lines}
 use Rattle.certificate.proofs.SumDetailLemmas.{AddedSofar}
 use Rattle.certificate.proofs.sums.lines.add_details.Given as goal

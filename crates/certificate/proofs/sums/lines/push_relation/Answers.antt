@@ -1,4 +1,4 @@
-use Rattle.std.proofs.Common.{◌≡◌, ◌∙◌, ◌++◌, ◌∷◌, [], ap, sym}
+use Rattle.std.proofs.Common.{◌∙◌, ◌++◌, ◌∷◌, [], ap}
 use Rattle.std.proofs.lemmas.Bool.{false≢true}
 use Rattle.domain.specs.Sums.Terms.{Sum}
 use Rattle.domain.specs.Sums.Brief.{brief_words}

@@ -1,11 +1,8 @@
-use Rattle.std.proofs.Common.{◌∙◌, ap, arith}
+use Rattle.std.proofs.Common.{◌∙◌}
 use Rattle.wordset.specs.Lanes.{words}
-use Rattle.wordset.specs.Links.{links_of}
 use Rattle.domain.specs.Sums.CellsInCode.{cell_sets_of}
 use Rattle.domain.specs.Sums.Offsets.{offsets_in}
 use Rattle.domain.specs.Sums.FactInCode.{fact_in_code}
-use Rattle.certificate.specs.Packed.{set_at}
-use Rattle.certificate.proofs.SumPackedLemmas.{set_behind}
 use Rattle.certificate.proofs.SumAddingLemmas.{begun_fact, registers_begun}
 use Rattle.certificate.proofs.sums.packed.begin.Goals as goal
 

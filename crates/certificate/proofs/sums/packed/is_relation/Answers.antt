@@ -1,5 +1,4 @@
-use Rattle.std.proofs.Common.{◌≡◌, ◌∙◌, ◌&&◌, ap, sym}
-use Rattle.std.proofs.lemmas.Bool.{not-true, not-false}
+use Rattle.std.proofs.Common.{◌∙◌, ◌&&◌, ap, sym}
 use Rattle.domain.specs.Meaning.{location_of}
 use Rattle.domain.specs.Sums.InCode.{summand_of}
 use Rattle.domain.specs.Sums.Terms.{Holding, Sum, arranged, same_sum}

@@ -1,5 +1,4 @@
-use Rattle.std.proofs.Common.{◌≡◌, refl, arith}
-use Rattle.std.proofs.lemmas.Bool.{false≢true}
+use Rattle.std.proofs.Common.{refl, arith}
 use Rattle.domain.specs.Meaning.{location_of}
 use Rattle.domain.specs.Sums.InCode.{summand_of, sum_of}
 use Rattle.certificate.proofs.SumFieldLemmas.{is_kept, pair_packed, triple_packed, no_accumulator, two_or_more}

@@ -1,4 +1,4 @@
-use Rattle.std.proofs.Common.{◌≡◌, ◌-◌, length, suc, true, [], sym, arith}
+use Rattle.std.proofs.Common.{◌≡◌, ◌-◌, length, suc, true, sym, arith}
 use Rattle.std.proofs.lemmas.Bool.{eqb-false}
 use Rattle.certificate.specs.Sums.Lines.{is_detail}
 use Rattle.certificate.specs.Sums.Packed.{said_at}

@@ -1,5 +1,5 @@
 use Rattle.domain.specs.Sums.ChainsInCode.{chain_of}
-use Rattle.certificate.proofs.SumAddingLemmas.{step_more, steps_begun, steps_done, steps_fit}
+use Rattle.certificate.proofs.SumAddingLemmas.{step_more, steps_begun, steps_done}
 use Rattle.certificate.proofs.sums.packed.push_steps.Goals as goal
 
 pub loop-step-init : goal.loop-step-init

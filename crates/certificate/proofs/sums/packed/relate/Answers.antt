@@ -4,7 +4,6 @@ use Rattle.domain.specs.Sums.Terms.{Sum}
 use Rattle.domain.specs.Sums.InCode.{sum_of}
 use Rattle.domain.specs.Sums.FactInCode.{fact_in_code}
 use Rattle.certificate.specs.Packed.{set_at}
-use Rattle.certificate.specs.Sums.Packed.{packed_sum_of}
 use Rattle.certificate.proofs.AddingLemmas.{row_there}
 use Rattle.certificate.proofs.SumAddingLemmas.{one_row}
 use Rattle.certificate.proofs.sums.packed.relate.Goals as goal

@@ -1,4 +1,4 @@
-use Rattle.std.proofs.Common.{◌≡◌, ◌<◌, ◌≤◌, List, length, map, drop, sym, arith}
+use Rattle.std.proofs.Common.{◌<◌, ◌≤◌, List, length, map, drop, sym, arith}
 use Rattle.std.proofs.lemmas.List.{length-map}
 use Rattle.certificate.specs.Sums.Lines.{Line}
 use Rattle.certificate.specs.Sums.Packed.{kept_at}

@@ -1,4 +1,4 @@
-use Rattle.std.proofs.Common.{◌≡◌, ◌∙◌, List, Some, sym, refl, ap}
+use Rattle.std.proofs.Common.{◌≡◌, ◌∙◌, List, Some, sym, ap}
 use Rattle.std.proofs.lemmas.Bool.{false≢true}
 use Rattle.domain.specs.declared.chains.Step.{Step}
 use Rattle.certificate.specs.declared.CertificateFault.TheVariants as faults

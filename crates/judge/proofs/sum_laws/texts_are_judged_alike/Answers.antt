@@ -1,0 +1,5 @@
+use Rattle.judge.proofs.Sums.ReadingLemmas.{one_case}
+use Rattle.judge.proofs.sum_laws.texts_are_judged_alike.Goals as goal
+
+pub returns : goal.returns
+returns c = one_case

@@ -1,5 +1,5 @@
 -- The conditions that a certificate must meet, each asked at an address.
-use Rattle.std.specs.Prelude.{◌≡◌, ℕ, ◌+◌, ◌*◌, ◌<◌, ◌≤◌, Bool, true, false, ◌||◌, ◌⊎◌, if◌then◌else◌, Some, None, List, [], ◌∷◌}
+use Rattle.std.specs.Prelude.{◌≡◌, ℕ, ◌+◌, ◌*◌, ◌<◌, ◌≤◌, Bool, true, false, ◌⊎◌, if◌then◌else◌, Some, None, List, [], ◌∷◌}
 use Rattle.instruct.specs.Instructions.{Meaning, Jms, Jmp, meaning_of}
 use Rattle.wordset.specs.Words.{plus, one, some_below, how_many, IsWithin}
 use Rattle.processor.specs.Machine.{steps_pointer}

@@ -1,9 +1,9 @@
 -- What the code has asked so far: word by word, condition by condition and fact by fact.
-use Rattle.std.proofs.Common.{◌≡◌, ℕ, ◌+◌, ◌<◌, ◌≤◌, ◌==◌, Bool, true, false, ◌⊎◌, Option, Some, None, List, [], ◌∷◌, ◌++◌, length, drop, map, refl, sym, ap, ◌∙◌, subst, inl, inr, arith}
-use Rattle.std.specs.Prelude.{IsTrue, ◌↔◌, IfSome, if◌then◌else◌, Ok, Err, Result, MatchResult}
+use Rattle.std.proofs.Common.{◌≡◌, ℕ, ◌+◌, ◌<◌, ◌≤◌, Bool, true, false, Option, Some, None, List, [], ◌∷◌, ◌++◌, length, drop, map, refl, sym, ap, ◌∙◌, subst, inl, inr, arith}
+use Rattle.std.specs.Prelude.{IsTrue, ◌↔◌, IfSome}
 use Rattle.std.proofs.Math.Dec.{leb}
 use Rattle.std.proofs.Math.ListN.{drop_of_length-le}
-use Rattle.std.proofs.lemmas.Bool.{leb-true, le-leb, cases_lt, cases_order, eq-eqb, eqb-true, false≢true, true≢false, cases_Bool}
+use Rattle.std.proofs.lemmas.Bool.{leb-true, le-leb, cases_lt, eq-eqb, eqb-true, false≢true, true≢false, cases_Bool}
 use Rattle.wordset.specs.Words.{Words, how_many, one}
 use Rattle.instruct.specs.Instructions.{meaning_of}
 use Rattle.processor.specs.Runs.{Image}

@@ -1,9 +1,9 @@
 -- What is asked of calls and returns, from what the code found.
-use Rattle.std.proofs.Common.{◌≡◌, ℕ, ◌+◌, ◌%◌, ◌<◌, ◌≤◌, Bool, true, false, ◌&&◌, ◌==◌, Option, Some, None, List, [], ◌∷◌, length, drop, refl, sym, ap, ◌∙◌, subst, inl, inr, arith}
+use Rattle.std.proofs.Common.{◌≡◌, ℕ, ◌+◌, ◌%◌, ◌<◌, ◌≤◌, Bool, true, false, ◌&&◌, Some, None, List, [], ◌∷◌, length, drop, refl, sym, ap, ◌∙◌, subst, inl, inr, arith}
 use Rattle.std.specs.Prelude.{IsTrue, ◌↔◌, if◌then◌else◌}
 use Rattle.std.proofs.Math.Path.{fun_ext}
 use Rattle.std.proofs.Math.ListN.{drop_of_length-le}
-use Rattle.std.proofs.lemmas.Bool.{false≢true, true≢false, cases_lt, cases_Bool, eqb-true, eq-eqb}
+use Rattle.std.proofs.lemmas.Bool.{false≢true, true≢false, cases_lt}
 use Rattle.instruct.specs.Instructions.{Meaning, Jms, Jmp}
 use Rattle.wordset.specs.Words.{Words, IsWithin, plus, nothing, one, with_word, HasNoneFrom, IsFirstFrom}
 use Rattle.declaration.specs.Declaration.{Routine}
@@ -15,7 +15,7 @@ use Rattle.facts.specs.Sums.Entailment.{Lands}
 use Rattle.facts.specs.Sums.Landing.{fact_at}
 use Rattle.facts.proofs.Sums.SplitLemmas.{fact_dropped}
 use Rattle.certificate.specs.Sums.Certificate.{Certificate, has_any, writes_of}
-use Rattle.judge.specs.Sums.Landing.{Case, place_in, sites_of, sited, LandsAt, LandsAtExit, LandsAfter, EachLandsAfter, exits_of, called_from}
+use Rattle.judge.specs.Sums.Landing.{Case, place_in, sites_of, sited, LandsAt, LandsAtExit, LandsAfter, EachLandsAfter, called_from}
 use Rattle.judge.specs.Sums.Conditions.{EachTarget, KeepsPointer, CoversCallee, MayReturn, ReturnsWell}
 use Rattle.judge.specs.Sums.Callees.{LandsBy, LandsWith, ReturnsBy, ReturnsThrough}
 

@@ -1,9 +1,8 @@
 -- What was found of one claimed fact, from what the code read, put and asked.
-use Rattle.std.proofs.Common.{◌≡◌, ℕ, ◌+◌, ◌*◌, ◌<◌, ◌≤◌, Bool, true, false, not, Option, Some, None, List, [], ◌∷◌, length, map, suc, refl, sym, ap, ◌∙◌, subst, inl, inr, arith}
+use Rattle.std.proofs.Common.{◌≡◌, ℕ, ◌+◌, ◌*◌, ◌≤◌, Bool, true, false, not, List, [], ◌∷◌, length, map, suc, refl, sym, ap, ◌∙◌, subst, inl, inr, arith}
 use Rattle.std.specs.Prelude.{IsTrue, ◌↔◌, if◌then◌else◌}
-use Rattle.std.proofs.lemmas.Bool.{true≢false, false≢true}
+use Rattle.std.proofs.lemmas.Bool.{true≢false}
 use Rattle.wordset.specs.Words.{Words}
-use Rattle.wordset.specs.Lanes.{words}
 use Rattle.processor.specs.Runs.{Image}
 use Rattle.declaration.specs.Declaration.{Routine}
 use Rattle.domain.specs.Sums.Facts.{Fact, Rules, OfEquations, OfSums}
@@ -17,12 +16,11 @@ use Rattle.facts.specs.Sums.Shaped.{HaveFewTerms}
 use Rattle.domain.specs.Sums.Narrowing.{narrowed}
 use Rattle.domain.specs.declared.sum_fact.SumFact.{SumFact}
 use Rattle.facts.proofs.Sums.KeepingLemmas.{narrowed_few, narrowed_short, narrowed_chains}
-use Rattle.facts.specs.declared.Condition.{Condition}
-use Rattle.judge.specs.Sums.Landing.{Case, sited, sites_of, asked}
+use Rattle.judge.specs.Sums.Landing.{Case, sites_of, asked}
 use Rattle.judge.specs.Sums.Shapes.{HasShape, IsRoomy}
 use Rattle.judge.specs.Sums.Sources.{sited_one}
 use Rattle.judge.specs.Sums.Bodies.{IsOfBody}
-use Rattle.judge.specs.Sums.Asked.{HoldsOfFact, HoldsOfFacts, asked_of, IsLeastPlace, IsLeastOf}
+use Rattle.judge.specs.Sums.Asked.{HoldsOfFact, asked_of, IsLeastPlace, IsLeastOf}
 use Rattle.judge.proofs.Sums.SourceLemmas.{sited_alone}
 use Rattle.judge.proofs.Sums.AskedLemmas.{of_one, of_none}
 

@@ -1,12 +1,10 @@
 -- Of the facts at an address one holds, and of this one a valid certificate says all that is asked, of each word that is possible by it.
-use Rattle.std.proofs.Common.{◌≡◌, ℕ, ◌<◌, Bool, true, false, ◌⊎◌, List, [], ◌∷◌, map, refl, sym, ap, ◌∙◌, subst, inl, inr}
+use Rattle.std.proofs.Common.{◌≡◌, ℕ, ◌<◌, Bool, true, false, ◌⊎◌, List, [], ◌∷◌, refl, subst, inl, inr}
 use Rattle.std.specs.Prelude.{if◌then◌else◌}
-use Rattle.std.proofs.lemmas.Bool.{cond_both}
 use Rattle.instruct.specs.Instructions.{Meaning, meaning_of}
 use Rattle.wordset.specs.Words.{Words}
 use Rattle.processor.specs.Cells.{Cells}
 use Rattle.processor.specs.Machine.{State}
-use Rattle.processor.specs.Runs.{Image}
 use Rattle.declaration.specs.Declaration.{Routine}
 use Rattle.policy.specs.Calls.{Calls}
 use Rattle.domain.specs.Sums.Facts.{Fact, Place, Rules, OfEquations, OfSums, Means, SomeMeans}
@@ -20,7 +18,7 @@ use Rattle.facts.specs.Sums.References.{possible}
 use Rattle.facts.proofs.Sums.WordLemmas.{or_left, or_right}
 use Rattle.domain.proofs.Sums.NarrowingLemmas.{narrowed_holds, void_never_holds}
 use Rattle.certificate.specs.Sums.Certificate.{has_any, claimed}
-use Rattle.judge.specs.Sums.Landing.{Case, place_in, with_sites, sited, sites_of, facts_in, asked, asked_at}
+use Rattle.judge.specs.Sums.Landing.{Case, place_in, sited, sites_of, facts_in, asked, asked_at}
 use Rattle.judge.specs.Sums.Conditions.{EachFact, HoldsFor, HoldsForWords, HoldsForEach, IsValid}
 
 -- The fact is one of the list.

@@ -1,11 +1,11 @@
 -- No two conditions fail first.
-use Rattle.std.proofs.Common.{◌≡◌, ℕ, ◌<◌, refl, sym, ◌∙◌, subst, inl, inr}
+use Rattle.std.proofs.Common.{◌≡◌, ℕ, sym, ◌∙◌, subst, inl, inr}
 use Rattle.std.proofs.lemmas.Bool.{cases_order}
 use Rattle.facts.specs.declared.Condition.{Condition}
 use Rattle.facts.specs.declared.Condition.TheVariants.{V1}
 use Rattle.judge.specs.Conditions.{order}
 use Rattle.judge.specs.Sums.Landing.{Case}
-use Rattle.judge.specs.Sums.Conditions.{IsAsked, IsFirst}
+use Rattle.judge.specs.Sums.Conditions.{IsAsked}
 use Rattle.judge.specs.Sums.Laws.{FirstIsOne}
 use Rattle.judge.proofs.OrderLemmas.{start_or_later}
 use Rattle.judge.proofs.ReadingLemmas.{start_before, later_order}

@@ -4,14 +4,14 @@ use Rattle.std.proofs.Math.Path.{fun_ext}
 use Rattle.std.specs.Prelude.{if◌then◌else◌}
 use Rattle.std.proofs.lemmas.Bool.{and_parts, true≢false, false≢true, eq-eqb}
 use Rattle.instruct.specs.Instructions.{Meaning, And, Tad, Isz, Dca, Jms, Jmp, Group1, Group2, Group3, Device, Undefined}
-use Rattle.wordset.specs.Words.{plus, one}
+use Rattle.wordset.specs.Words.{plus}
 use Rattle.processor.specs.Cells.{Cells, updated}
 use Rattle.processor.specs.Machine.{State, Answer, seen, place, steps_pointer, Does, Step, instruction}
 use Rattle.declaration.specs.Declaration.{Routine, IsDeclared}
 use Rattle.policy.specs.Calls.{Call, Calls, current, returned, calls_of, calls_after}
 use Rattle.policy.specs.Runs.{GoesOn}
-use Rattle.domain.specs.Facts.{Values, values}
-use Rattle.domain.specs.Sums.Facts.{Fact, Place, Rules, OfEquations, OfSums, Holds, last_site, StandsIn, Means, SomeMeans}
+use Rattle.domain.specs.Facts.{values}
+use Rattle.domain.specs.Sums.Facts.{Fact, Rules, OfEquations, OfSums, Holds, last_site, Means, SomeMeans}
 use Rattle.domain.specs.Sums.Moves.{joined}
 use Rattle.domain.specs.Sums.Laws.{IsBegun}
 use Rattle.domain.proofs.Sums.Numbers.{plus_lt}
@@ -19,7 +19,7 @@ use Rattle.facts.specs.Law.{IsState, IsOrdinary}
 use Rattle.facts.specs.Sums.Outcomes.{Successor, Goes, CallsTo, Returns}
 use Rattle.facts.specs.Sums.Operations.{outcomes_of}
 use Rattle.facts.specs.Sums.Conditions.{may_write}
-use Rattle.facts.specs.Sums.Entailment.{IsIdle, Lands}
+use Rattle.facts.specs.Sums.Entailment.{Lands}
 use Rattle.facts.specs.Sums.Laws.{LandsIn, SomeOutcome, KeepsReturns}
 use Rattle.facts.proofs.Sums.WordLemmas.{or_left, or_right}
 use Rattle.facts.proofs.Sums.StateLemmas.{updated_same, updated_other, words_updated, hidden_values, rest_updated, possible_true}

@@ -1,5 +1,5 @@
 -- The invariant makes the next step legal, and so all declared runs safe.
-use Rattle.std.proofs.Common.{◌≡◌, ℕ, ◌+◌, ◌<◌, true, false, ◌⊎◌, Some, None, List, [], ◌∷◌, refl, sym, ◌∙◌, subst, inl, inr, arith}
+use Rattle.std.proofs.Common.{◌≡◌, ℕ, ◌+◌, ◌<◌, true, false, Some, None, List, [], ◌∷◌, refl, sym, ◌∙◌, subst, inl, inr, arith}
 use Rattle.std.proofs.lemmas.Bool.{true≢false, false≢true}
 use Rattle.instruct.specs.Instructions.{Meaning, Isz, Jms, Jmp}
 use Rattle.wordset.specs.Words.{plus}

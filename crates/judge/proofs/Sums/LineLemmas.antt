@@ -1,6 +1,6 @@
 -- Whether the lines at an address are where they may be, and what was found there, from what is asked of them.
-use Rattle.std.proofs.Common.{◌≡◌, ℕ, ◌+◌, ◌<◌, ◌≤◌, Bool, true, false, not, ◌⊎◌, Some, None, Ok, Err, List, [], ◌∷◌, length, refl, sym, ap, ◌∙◌, subst, inl, inr, arith}
-use Rattle.std.specs.Prelude.{IsTrue, ◌↔◌, MatchResult, Result, ◌&&◌, ◌||◌}
+use Rattle.std.proofs.Common.{◌≡◌, ℕ, ◌<◌, ◌≤◌, Bool, true, false, not, Some, None, List, [], ◌∷◌, length, refl, sym, ap, ◌∙◌, subst, inl, inr, arith}
+use Rattle.std.specs.Prelude.{IsTrue, ◌↔◌, ◌||◌}
 use Rattle.std.proofs.lemmas.Bool.{true≢false, false≢true}
 use Rattle.wordset.specs.Words.{Words, some_below, has_some}
 use Rattle.wordset.proofs.Tests.{or_left, or_right, none_of_some, some_none_of}
@@ -14,8 +14,8 @@ use Rattle.certificate.specs.Sums.Certificate.{Certificate, has_any, has_exits, 
 use Rattle.judge.specs.Conditions.{place_among}
 use Rattle.judge.specs.Sums.Landing.{Case, place_in, facts_in}
 use Rattle.judge.specs.Sums.Conditions.{HoldsAt, EachFact, IsPlaced, IsOfMain, IsOfRoutine, HasSites, LinesArePlaced}
-use Rattle.judge.specs.Sums.Bodies.{IsOfBody, Tells}
-use Rattle.judge.specs.Sums.Asked.{RoutinesArePlaced, HoldsBetween, FailsFirst, FailsAtLine, HoldsOfFacts, IsLeastPlace, IsLeastOfSome, IsLeastOfAll}
+use Rattle.judge.specs.Sums.Bodies.{IsOfBody}
+use Rattle.judge.specs.Sums.Asked.{RoutinesArePlaced, HoldsBetween, FailsAtLine, IsLeastOfAll}
 use Rattle.judge.specs.declared.several.body.Body.{Body}
 use Rattle.judge.specs.declared.several.case.Case.{Case as KeptCase}
 use Rattle.judge.specs.Sums.Judged.{case_kept}

@@ -1,12 +1,11 @@
 -- What is asked of a fact at an address, by its own place.
-use Rattle.std.proofs.Common.{◌≡◌, ℕ, ◌<◌, Bool, true, false, List, [], ◌∷◌, ◌++◌, refl, sym, ap, ◌∙◌, subst, inl, inr}
+use Rattle.std.proofs.Common.{◌≡◌, ℕ, Bool, true, false, List, [], ◌∷◌, ◌++◌, refl, sym, ap, ◌∙◌, subst, inl, inr}
 use Rattle.std.specs.Prelude.{IsTrue, ◌↔◌}
 use Rattle.std.proofs.lemmas.Bool.{false≢true, true≢false}
 use Rattle.peripherals.specs.Loading.{image_of}
 use Rattle.declaration.specs.Declaration.{Routine, Declaration}
 use Rattle.declaration.specs.Kept.{meaning}
 use Rattle.domain.specs.Sums.Facts.{Fact, Place, Rules}
-use Rattle.domain.specs.Sums.FactInCode.{rules_of}
 use Rattle.facts.specs.Sums.Entailment.{Lands, IsIdle, LandsBy}
 use Rattle.domain.specs.Sums.Facts.{OfEquations, OfSums}
 use Rattle.facts.specs.Sums.Outcomes.{Successor}

@@ -1,5 +1,5 @@
 -- Facts with the sites that they have by the rules.
-use Rattle.std.proofs.Common.{◌≡◌, ℕ, ◌+◌, ◌<◌, ◌≤◌, List, [], ◌∷◌, length, map, zero, suc, refl, sym, ap, ◌∙◌, subst, arith}
+use Rattle.std.proofs.Common.{◌≡◌, ℕ, ◌<◌, List, [], ◌∷◌, length, map, zero, suc, refl, sym, ap, ◌∙◌, subst, arith}
 use Rattle.wordset.specs.Words.{Words}
 use Rattle.domain.specs.Sums.Facts.{Fact, Rules, OfEquations, OfSums}
 use Rattle.facts.specs.Sums.Landing.{fact_at}

@@ -1,6 +1,5 @@
 -- One of the facts of a valid certificate holds wherever a declared run may go on, and the program is safe.
-use Rattle.std.proofs.Common.{◌≡◌, ℕ, None, List, [], ◌∷◌, sym, subst, inl}
-use Rattle.wordset.specs.Words.{Words}
+use Rattle.std.proofs.Common.{ℕ, None, List, [], ◌∷◌, sym, subst, inl}
 use Rattle.processor.specs.Cells.{Cells}
 use Rattle.processor.specs.Machine.{State, Answer}
 use Rattle.processor.specs.Runs.{IsStart}

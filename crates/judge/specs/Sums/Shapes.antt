@@ -1,5 +1,5 @@
 -- What rows ask of facts beside what they say; it serves private contracts.
-use Rattle.std.specs.Prelude.{◌≡◌, ℕ, ◌+◌, ◌≤◌, length}
+use Rattle.std.specs.Prelude.{ℕ, ◌+◌, ◌≤◌, length}
 use Rattle.domain.specs.Sums.Facts.{Fact}
 use Rattle.domain.specs.Sums.CellsInCode.{cell_sets_of}
 use Rattle.domain.specs.Sums.RelationsInCode.{relations_of}

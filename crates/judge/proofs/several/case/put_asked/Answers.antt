@@ -1,4 +1,4 @@
-use Rattle.std.proofs.Common.{refl, ap, sym, ◌∙◌, arith}
+use Rattle.std.proofs.Common.{ap}
 use Rattle.peripherals.specs.Loading.{image_of}
 use Rattle.domain.specs.Sums.FactInCode.{fact_in_code, rules_of}
 use Rattle.judge.proofs.Sums.CaseLemmas.{asked_equations, asked_sums, narrowed_roomy}

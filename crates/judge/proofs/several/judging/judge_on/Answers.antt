@@ -1,8 +1,8 @@
-use Rattle.std.proofs.Common.{◌≡◌, ◌∙◌, sym, subst, arith, below_more}
+use Rattle.std.proofs.Common.{◌≡◌, ◌∙◌, sym, subst}
 use Rattle.std.proofs.lemmas.Bool.{true≢false}
 use Rattle.judge.specs.Sums.Landing.{Case}
 use Rattle.judge.specs.Sums.Conditions.{IsFirst, IsValid}
-use Rattle.judge.specs.Sums.Asked.{HoldsBetween, FailsAtLine}
+use Rattle.judge.specs.Sums.Asked.{HoldsBetween}
 use Rattle.judge.specs.Sums.Judged.{judged}
 use Rattle.facts.specs.declared.Condition.TheVariants.{V1}
 use Rattle.certificate.specs.Sums.Certificate.{claimed, names_routine}

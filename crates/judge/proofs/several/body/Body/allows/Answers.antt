@@ -1,6 +1,3 @@
-use Rattle.std.proofs.Common.{subst, sym}
-use Rattle.std.specs.Prelude.{IsTrue, ◌↔◌, Option}
-use Rattle.judge.specs.Sums.Bodies.{IsOfBody}
 use Rattle.domain.specs.Sums.FactInCode.{fact_in_code, rules_of}
 use Rattle.judge.proofs.Sums.LineLemmas.{allows_none, allows_some}
 use Rattle.judge.proofs.several.body.Body.allows.Goals as goal

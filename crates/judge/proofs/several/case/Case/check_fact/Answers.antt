@@ -1,4 +1,4 @@
-use Rattle.std.proofs.Common.{arith, refl, sym, ap, ◌∙◌}
+use Rattle.std.proofs.Common.{ap}
 use Rattle.wordset.specs.Lanes.{words}
 use Rattle.domain.specs.Sums.FactInCode.{fact_in_code, rules_of}
 use Rattle.facts.specs.Sums.Landing.{fact_at}

@@ -1,4 +1,4 @@
-use Rattle.std.proofs.Common.{arith, ◌≡◌, ap, ◌∙◌, sym, subst}
+use Rattle.std.proofs.Common.{arith}
 use Rattle.judge.specs.Sums.Judged.{case_kept}
 use Rattle.judge.proofs.Sums.LineLemmas.{some_not_placed, all_hold_here, one_fails_here}
 use Rattle.judge.proofs.several.case.Case.check_facts.Goals as goal

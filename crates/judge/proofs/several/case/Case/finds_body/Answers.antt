@@ -1,4 +1,4 @@
-use Rattle.std.proofs.Common.{◌≡◌, ◌∙◌, true, None, Some, ap, sym, refl}
+use Rattle.std.proofs.Common.{◌∙◌, sym}
 use Rattle.judge.specs.Sums.Judged.{case_kept}
 use Rattle.judge.proofs.Sums.LineLemmas.{nowhere, is_unlisted}
 use Rattle.judge.proofs.several.case.Case.finds_body.Goals as goal

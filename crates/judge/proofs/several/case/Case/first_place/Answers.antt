@@ -1,5 +1,4 @@
-use Rattle.std.proofs.Common.{arith, ◌≡◌}
-use Rattle.std.proofs.lemmas.Bool.{true≢false}
+use Rattle.std.proofs.Common.{arith}
 use Rattle.judge.specs.Sums.Judged.{case_kept}
 use Rattle.judge.proofs.Sums.AskedLemmas.{none_yet, is_not_placed, one_more, all_asked}
 use Rattle.judge.proofs.several.case.Case.first_place.Goals as goal

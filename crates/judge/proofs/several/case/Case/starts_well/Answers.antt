@@ -1,5 +1,5 @@
 use Rattle.std.specs.Prelude.{IsTrue, ◌↔◌, List}
-use Rattle.std.proofs.Common.{None, refl, sym, ◌∙◌, ap, subst}
+use Rattle.std.proofs.Common.{None, ap, subst}
 use Rattle.domain.specs.Sums.Facts.{Place, Fact}
 use Rattle.facts.specs.Sums.Entailment.{Lands}
 use Rattle.facts.specs.Sums.Starts.{start_fact}

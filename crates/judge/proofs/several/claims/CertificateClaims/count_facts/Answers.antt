@@ -1,4 +1,4 @@
-use Rattle.std.proofs.Common.{arith, ap, sym, ◌∙◌}
+use Rattle.std.proofs.Common.{arith}
 use Rattle.judge.proofs.Sums.ClaimsLemmas.{counted_all, counted_more, counted_none}
 use Rattle.judge.proofs.several.claims.CertificateClaims.count_facts.Goals as goal
 

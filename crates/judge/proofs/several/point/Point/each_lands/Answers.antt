@@ -1,4 +1,3 @@
-use Rattle.std.proofs.Common.{sym, ◌∙◌}
 use Rattle.judge.specs.Sums.Landing.{SuccessorLands}
 use Rattle.facts.specs.Sums.OutcomesInCode.{outcome_in}
 use Rattle.facts.proofs.EntailLemmas.{not_both}

@@ -1,5 +1,4 @@
-use Rattle.std.proofs.Common.{refl, ap, ◌∙◌}
-use Rattle.domain.specs.Sums.FactInCode.{fact_in_code}
+use Rattle.std.proofs.Common.{refl}
 use Rattle.judge.specs.Sums.Points.{case_of}
 use Rattle.judge.proofs.Sums.CallLemmas.{lands_equally}
 use Rattle.judge.proofs.several.point.Point.enters.Goals as goal

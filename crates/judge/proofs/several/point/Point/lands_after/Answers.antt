@@ -1,4 +1,3 @@
-use Rattle.std.proofs.Common.{arith}
 use Rattle.judge.specs.Sums.Points.{case_of, fact_asked}
 use Rattle.facts.proofs.EntailLemmas.{not_both}
 use Rattle.judge.proofs.Sums.CallLemmas.{lands_further, lands_everywhere, lacks_one}

@@ -1,5 +1,5 @@
-use Rattle.std.proofs.Common.{arith, refl, ◌∙◌, sym}
-use Rattle.judge.specs.Sums.Points.{case_of, fact_asked}
+use Rattle.std.proofs.Common.{refl, ◌∙◌}
+use Rattle.judge.specs.Sums.Points.{case_of}
 use Rattle.domain.specs.Sums.FactInCode.{fact_in_code}
 use Rattle.judge.proofs.Sums.CallLemmas.{lands_if, lands_without, lands_equally, return_place, joined_by}
 use Rattle.judge.proofs.several.point.Point.lands_with.Goals as goal

@@ -1,5 +1,4 @@
-use Rattle.std.proofs.Common.{◌≡◌, ap, ◌∙◌}
-use Rattle.judge.proofs.Sums.CallLemmas.{first_offset, is_called_from}
+use Rattle.judge.proofs.Sums.CallLemmas.{is_called_from}
 use Rattle.judge.specs.Sums.Points.{fact_asked}
 use Rattle.judge.proofs.several.point.Point.put_called_from.Goals as goal
 

@@ -47,7 +47,7 @@ pub(crate) struct Invariant<A: Allocator> {
 /// The words that are left to a name by one step along the relations, or all of its words where the relations contradict;
 /// filled where they are ragged.
 pub(crate) fn left_to<const C: usize, const R: usize>(
-    known: &Known<'_, C, R>,
+    known: &Known<'_, '_, C, R>,
     name: &Location,
     limits: &Limits,
 ) -> WordSet {
@@ -64,7 +64,7 @@ impl<A: Allocator + Copy> Invariant<A> {
     pub(crate) fn bare<const C: usize, const R: usize>(
         alloc: A,
         at: Word,
-        known: &Known<'_, C, R>,
+        known: &Known<'_, '_, C, R>,
         limits: &Limits,
     ) -> Invariant<A> {
         Invariant {
@@ -84,7 +84,7 @@ impl<A: Allocator + Copy> Invariant<A> {
         alloc: A,
         at: Word,
         tracked: &WordSet,
-        known: &Known<'_, C, R>,
+        known: &Known<'_, '_, C, R>,
         limits: &Limits,
     ) -> Result<Invariant<A>, Halt> {
         let mut kept = Invariant::bare(alloc, at, known, limits);
@@ -116,7 +116,7 @@ impl<A: Allocator> Invariant<A> {
     fn take_cells<const C: usize, const R: usize>(
         &mut self,
         tracked: &WordSet,
-        known: &Known<'_, C, R>,
+        known: &Known<'_, '_, C, R>,
         limits: &Limits,
     ) -> Result<(), Halt> {
         for cell in tracked.iter() {
@@ -165,7 +165,7 @@ impl<A: Allocator> Invariant<A> {
     fn take_relations<const C: usize, const R: usize>(
         &mut self,
         tracked: &WordSet,
-        known: &Known<'_, C, R>,
+        known: &Known<'_, '_, C, R>,
     ) -> Result<(), Halt> {
         for relation in known.relations() {
             if speaks_only_of(tracked, &relation.sum) && self.wants(relation) {

@@ -72,7 +72,7 @@ fn add_moved<A: Allocator, const C: usize, const R: usize>(
     moved: &mut Vec<Moved, A>,
     name: Location,
     old: Option<Word>,
-    known: &Known<'_, C, R>,
+    known: &Known<'_, '_, C, R>,
 ) -> Result<(), Halt> {
     let Some(before) = old else {
         return Ok(());
@@ -93,7 +93,7 @@ fn add_moved<A: Allocator, const C: usize, const R: usize>(
 /// Joins the words that a cell may hold now to those of its line, and tells whether it may hold any word then.
 fn grow<const C: usize, const R: usize>(
     line: &mut CellInvariant,
-    known: &Known<'_, C, R>,
+    known: &Known<'_, '_, C, R>,
     limits: &Limits,
     pace: Pace,
 ) -> bool {
@@ -112,7 +112,7 @@ fn grow<const C: usize, const R: usize>(
 /// Joins to each line the words that its cell may hold now, and gathers the cells that moved.
 fn grow_all<A: Allocator, const C: usize, const R: usize>(
     cells: &mut [CellInvariant],
-    known: &Known<'_, C, R>,
+    known: &Known<'_, '_, C, R>,
     limits: &Limits,
     pace: Pace,
     moved: &mut Vec<Moved, A>,
@@ -141,7 +141,7 @@ impl<A: Allocator + Copy> Invariant<A> {
     pub(crate) fn join<const C: usize, const R: usize>(
         &mut self,
         alloc: A,
-        known: &Known<'_, C, R>,
+        known: &Known<'_, '_, C, R>,
         limits: &Limits,
         pace: Pace,
     ) -> Result<bool, Halt> {
@@ -158,7 +158,7 @@ impl<A: Allocator + Copy> Invariant<A> {
     }
 
     /// Drops the relations that aren't known, and tells whether there was one.
-    fn drop_relations<const C: usize, const R: usize>(&mut self, alloc: A, known: &Known<'_, C, R>) -> Result<bool, Halt> {
+    fn drop_relations<const C: usize, const R: usize>(&mut self, alloc: A, known: &Known<'_, '_, C, R>) -> Result<bool, Halt> {
         if self.knows_all(known) {
             return Ok(false);
         }
@@ -192,7 +192,7 @@ impl<A: Allocator + Copy> Invariant<A> {
 
 impl<A: Allocator> Invariant<A> {
     /// Whether all relations are known.
-    fn knows_all<const C: usize, const R: usize>(&self, known: &Known<'_, C, R>) -> bool {
+    fn knows_all<const C: usize, const R: usize>(&self, known: &Known<'_, '_, C, R>) -> bool {
         for relation in &self.relations {
             if !known.knows(relation) {
                 return false;
@@ -204,7 +204,7 @@ impl<A: Allocator> Invariant<A> {
     /// Joins the registers and the offsets, and tells whether one grew.
     fn join_registers<const C: usize, const R: usize>(
         &mut self,
-        known: &Known<'_, C, R>,
+        known: &Known<'_, '_, C, R>,
         limits: &Limits,
         pace: Pace,
         moved: &mut Vec<Moved, A>,
@@ -226,7 +226,7 @@ impl<A: Allocator> Invariant<A> {
     }
 
     /// Whether MQ, the link and the offsets have no others.
-    fn covers_registers<const C: usize, const R: usize>(&self, known: &Known<'_, C, R>) -> bool {
+    fn covers_registers<const C: usize, const R: usize>(&self, known: &Known<'_, '_, C, R>) -> bool {
         known.mq().is_subset(&self.mq)
             && known.link().is_subset(self.link)
             && known.offsets.is_subset(self.offsets)
@@ -236,7 +236,7 @@ impl<A: Allocator> Invariant<A> {
     fn stays<const C: usize, const R: usize>(
         &self,
         name: &Location,
-        known: &Known<'_, C, R>,
+        known: &Known<'_, '_, C, R>,
     ) -> bool {
         match name {
             Location::Accumulator => known.has_accumulator_within(&self.ac),
@@ -251,7 +251,7 @@ impl<A: Allocator> Invariant<A> {
     /// word.
     fn add_shown<const C: usize, const R: usize>(
         &mut self,
-        known: &Known<'_, C, R>,
+        known: &Known<'_, '_, C, R>,
     ) -> Result<(), Halt> {
         for relation in known.relations() {
             if self.shows(relation) && !self.keeps_all(relation, known) {
@@ -265,7 +265,7 @@ impl<A: Allocator> Invariant<A> {
     fn keeps_all<const C: usize, const R: usize>(
         &self,
         relation: &Relation,
-        known: &Known<'_, C, R>,
+        known: &Known<'_, '_, C, R>,
     ) -> bool {
         for summand in relation.sum.summands() {
             if !self.stays(&summand.term.name(), known) {

@@ -15,10 +15,10 @@ use wordset::{Links, WordSet};
 /// A fact that holds where a run comes to an address, by the rules by which it was taken there, and how far the return word of
 /// the routine that runs there may have been counted up. By the rules of sums the fact is narrowed already.
 #[derive(Drop)]
-pub(crate) struct Known<'a, const C: usize, const R: usize> {
+pub(crate) struct Known<'a, 'b, const C: usize, const R: usize> {
     pub(crate) rules: Rules,
     pub(crate) image: &'a Image,
-    pub(crate) fact: &'a SumFact<C, R>,
+    pub(crate) fact: &'b SumFact<C, R>,
     pub(crate) offsets: ReturnOffsets,
 }
 
@@ -56,7 +56,7 @@ fn is_listed(relations: &[Relation], relation: &Relation) -> bool {
     false
 }
 
-impl<const C: usize, const R: usize> Known<'_, C, R> {
+impl<const C: usize, const R: usize> Known<'_, '_, C, R> {
     /// The words that the accumulator may hold.
     pub(crate) fn accumulator(&self) -> &WordSet {
         self.fact.accumulator()

@@ -89,7 +89,7 @@ impl<A: Allocator + Copy> Candidate<A> {
         &mut self,
         alloc: A,
         at: Word,
-        known: &Known<'_, C, R>,
+        known: &Known<'_, '_, C, R>,
         limits: &Limits,
         pace: Pace,
     ) -> Result<bool, Halt> {
@@ -106,7 +106,7 @@ impl<A: Allocator + Copy> Candidate<A> {
         alloc: A,
         entry: Word,
         offset: usize,
-        known: &Known<'_, C, R>,
+        known: &Known<'_, '_, C, R>,
         limits: &Limits,
         pace: Pace,
     ) -> Result<bool, Halt> {

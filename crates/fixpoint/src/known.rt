@@ -7,7 +7,10 @@ ghost use Rattle.domain.specs.Sums.Brief.{brief_words};
 ghost use Rattle.domain.specs.Sums.FactInCode.{fact_in_code};
 
 use bin_tape::Image;
-use domain::{BriefSet, Location, Relation, ReturnOffsets, Rules, Sum, SumFact, Term, product};
+use domain::{
+    BriefSet, Location, Relation, ReturnOffsets, Rules, Sum, SumFact, Term, is_same_location, negated,
+    product,
+};
 use facts::sum_facts::KnownFact;
 use word12::Word;
 use wordset::{Links, WordSet};
@@ -88,10 +91,37 @@ impl<const C: usize, const R: usize> Known<'_, '_, C, R> {
 
     /// The words that are left to a name by one step along the relations.
     pub(crate) fn narrowed(&self, name: &Location) -> WordSet {
-        let mut set = WordSet::all();
-        self.fact
-            .put_words_by(&self.rules, self.image, name, &mut set);
+        let mut set = self.set(name);
+        if let Rules::OfEquations = self.rules {
+            for relation in self.relations() {
+                self.keep_met(name, relation, &mut set);
+            }
+        }
         set
+    }
+
+    /// Leaves in a set of a name the words that an equation leaves to it.
+    fn keep_met(&self, name: &Location, relation: &Relation, set: &mut WordSet) {
+        let [left, right] = relation.sum.summands() else {
+            return;
+        };
+        let (x, y) = (left.term.name(), right.term.name());
+        if is_same_location(&x, name) {
+            let more = relation.set.only();
+            self.keep_more(&y, &more, set);
+        }
+        if is_same_location(&y, name) {
+            let less = relation.set.only().map(negated);
+            self.keep_more(&x, &less, set);
+        }
+    }
+
+    /// Keeps those words of a set that are some number more than a word of another name; none where there is no number.
+    fn keep_more(&self, name: &Location, more: &Option<Word>, set: &mut WordSet) {
+        match more {
+            None => *set = WordSet::empty(),
+            Some(more) => set.keep_shifted(&self.set(name), *more),
+        }
     }
 
     /// Whether no word outside a set is left to a cell; a set that isn't narrowed is tried first.

@@ -72,12 +72,6 @@ pub(crate) fn is_reference(word: Word) -> bool {
     word.index() < 0o6000
 }
 
-/// Whether a memory reference is ISZ or DCA.
-fn stores(word: Word) -> bool {
-    let operation = word.index() / 0o1000;
-    operation == 2 || operation == 3
-}
-
 /// Whether a memory reference, which names a cell, counts a pointer in it up first.
 fn steps_pointer(word: Word, named: Word) -> bool {
     refers_indirectly(word) && named.index() / 8 == 1
@@ -86,11 +80,6 @@ fn steps_pointer(word: Word, named: Word) -> bool {
 /// Whether a word is a JMS.
 fn is_call(word: Word) -> bool {
     word.index() / 0o1000 == 4
-}
-
-/// The JMS that refers to the same cells as a word.
-fn as_call(word: Word) -> Word {
-    Word::from_index(0o4000 + word.index() % 0o1000)
 }
 
 /// Adds a cell to the tracked ones, if there is room.
@@ -355,10 +344,14 @@ impl<D: Allocator> AnalysedProgram<'_, D> {
             .reads_are_listed(&visit.fact, visit.at, word)
     }
 
-    /// Whether a word has a meaning, writes only what it may, and is no HLT where the program may not halt.
-    pub(crate) fn may_run(&self, visit: &Visit, word: Word) -> bool {
+    /// Whether a word, which may write some cells, has a meaning, writes only what it may, and is no HLT where the program may
+    /// not halt. Mostly it writes variables alone.
+    pub(crate) fn may_run(&self, visit: &Visit, word: Word, written: &WordSet) -> bool {
         if !self.may_be_met(visit.at, word) {
             return false;
+        }
+        if written.is_subset(self.declaration.variables()) {
+            return true;
         }
         let place = self.place(&visit.body);
         place.writes_are_declared(&visit.fact, visit.at, word)
@@ -378,26 +371,9 @@ impl<D: Allocator> AnalysedProgram<'_, D> {
 
     /// The cells that a word may write, save the one that a JMS itself writes.
     pub(crate) fn written(&self, visit: &Visit, word: Word) -> WordSet {
-        if !is_reference(word) {
-            return WordSet::empty();
-        }
-        let mut cells = if stores(word) {
-            self.targets(visit, word)
-        } else {
-            WordSet::empty()
-        };
-        let named = target(word, visit.at);
-        if steps_pointer(word, named) {
-            cells.insert(named);
-        }
-        cells
-    }
-
-    /// The cells that a memory reference refers to.
-    fn targets(&self, visit: &Visit, word: Word) -> WordSet {
         let mut cells = WordSet::empty();
         self.place(&visit.body)
-            .put_called(&visit.fact, visit.at, as_call(word), &mut cells);
+            .put_writes(&visit.fact, visit.at, word, &mut cells);
         cells
     }
 

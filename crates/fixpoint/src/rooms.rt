@@ -14,27 +14,22 @@ pub(crate) struct Returns {
     pub(crate) joined: JoinedFact,
 }
 
-/// Room for the outcomes of a word, and for what holds after a call.
+/// Room for the outcomes of a word, and for what holds after a call. Each is large, so they are lent one by one.
 #[derive(Drop)]
-pub(crate) struct Rooms {
-    pub(crate) outcomes: Outcomes,
-    pub(crate) returns: Returns,
-}
-
-impl Rooms {
-    /// Room before the first step.
-    pub(crate) fn new() -> Rooms {
-        Rooms {
-            outcomes: Outcomes::new(),
-            returns: Returns {
-                exit: Fact::any(),
-                joined: JoinedFact::any(),
-            },
-        }
-    }
+pub(crate) struct Rooms<'a> {
+    pub(crate) outcomes: &'a mut Outcomes,
+    pub(crate) returns: &'a mut Returns,
 }
 
 impl Returns {
+    /// Room before the first call.
+    pub(crate) fn new() -> Returns {
+        Returns {
+            exit: Fact::any(),
+            joined: JoinedFact::any(),
+        }
+    }
+
     /// Joins what holds at a call with the exit, where the routine writes some cells.
     pub(crate) fn join(&mut self, rules: &Rules, call: &Fact, written: &WordSet) {
         call.is_within_room();

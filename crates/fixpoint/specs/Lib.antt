@@ -1,3 +1,4 @@
+pub mod Asked
 pub mod Claimed
 pub mod Form
 pub mod Halts

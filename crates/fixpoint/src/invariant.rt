@@ -5,6 +5,7 @@ ghost use Rattle.domain.specs.Sums.CellsInCode.{cell_sets_of};
 ghost use Rattle.domain.specs.Sums.RelationsInCode.{relation_of, relations_of};
 ghost use Rattle.domain.specs.Sums.FactInCode.{fact_in_code};
 ghost use Rattle.facts.specs.Sums.Shaped.{HaveFewTerms};
+ghost use Rattle.fixpoint.specs.Asked.{MayBeAsked};
 ghost use Rattle.fixpoint.specs.Claimed.{cell_of, cells_of, said_of, said_in};
 
 use crate::halt::Halt;
@@ -267,8 +268,7 @@ impl<A: Allocator> Invariant<A> {
     pub(crate) fn fact_into(&self, fact: &mut Fact) -> bool
         ensures said { result ≡ true → fact_in_code fact.new ≡ said_of self.now }
         ensures cells { result ≡ true → cell_sets_of fact.new.cells ≡ cells_of self.now }
-        ensures terms { result ≡ true → HaveFewTerms (fact_in_code fact.new).relations }
-        ensures chains { result ≡ true → length fact.new.chains.items ≡ 0 }
+        ensures asked { result ≡ true → MayBeAsked fact.new }
     {
         if self.cells.len() > MOST_CELLS || self.relations.len() > MOST_RELATIONS {
             return false;

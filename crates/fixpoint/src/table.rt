@@ -1,8 +1,7 @@
 //! A guess: facts at addresses, and what is claimed of routines.
 
-ghost use Rattle.std.specs.Prelude.{◌≡◌, true, length, option_map};
-ghost use Rattle.domain.specs.Sums.FactInCode.{fact_in_code};
-ghost use Rattle.facts.specs.Sums.Shaped.{HaveFewTerms};
+ghost use Rattle.std.specs.Prelude.{◌≡◌, true, option_map};
+ghost use Rattle.fixpoint.specs.Asked.{MayBeAsked};
 ghost use Rattle.fixpoint.specs.Claimed.{kept_at, row_at, exit_in};
 
 use crate::halt::Halt;
@@ -146,8 +145,7 @@ impl<A: Allocator> Candidate<A> {
 
     /// Whether there is a fact at an address, which the lent one then says.
     pub(crate) fn fact_into(&self, at: Word, fact: &mut Fact) -> bool
-        ensures terms { result ≡ true → HaveFewTerms (fact_in_code fact.new).relations }
-        ensures chains { result ≡ true → length fact.new.chains.items ≡ 0 }
+        ensures { result ≡ true → MayBeAsked fact.new }
     {
         match self.kept(at) {
             None => false,

@@ -49,6 +49,14 @@ pub(crate) fn has_word(set: &BriefSet, word: Word) -> bool {
     }
 }
 
+/// The negative of the word of a set, if it has one and no other.
+fn less_than(set: &BriefSet) -> Option<Word> {
+    match set.only() {
+        None => None,
+        Some(more) => Some(negated(more)),
+    }
+}
+
 /// Whether a relation is one of some others, or follows from one of them.
 fn is_listed(relations: &[Relation], relation: &Relation) -> bool {
     for other in relations {
@@ -111,7 +119,7 @@ impl<const C: usize, const R: usize> Known<'_, '_, C, R> {
             self.keep_more(&y, &more, set);
         }
         if is_same_location(&y, name) {
-            let less = relation.set.only().map(negated);
+            let less = less_than(&relation.set);
             self.keep_more(&x, &less, set);
         }
     }

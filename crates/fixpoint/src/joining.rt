@@ -158,7 +158,11 @@ impl<A: Allocator + Copy> Invariant<A> {
     }
 
     /// Drops the relations that aren't known, and tells whether there was one.
-    fn drop_relations<const C: usize, const R: usize>(&mut self, alloc: A, known: &Known<'_, '_, C, R>) -> Result<bool, Halt> {
+    fn drop_relations<const C: usize, const R: usize>(
+        &mut self,
+        alloc: A,
+        known: &Known<'_, '_, C, R>,
+    ) -> Result<bool, Halt> {
         if self.knows_all(known) {
             return Ok(false);
         }
@@ -226,7 +230,10 @@ impl<A: Allocator> Invariant<A> {
     }
 
     /// Whether MQ, the link and the offsets have no others.
-    fn covers_registers<const C: usize, const R: usize>(&self, known: &Known<'_, '_, C, R>) -> bool {
+    fn covers_registers<const C: usize, const R: usize>(
+        &self,
+        known: &Known<'_, '_, C, R>,
+    ) -> bool {
         known.mq().is_subset(&self.mq)
             && known.link().is_subset(self.link)
             && known.offsets.is_subset(self.offsets)

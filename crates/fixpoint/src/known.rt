@@ -8,8 +8,8 @@ ghost use Rattle.domain.specs.Sums.FactInCode.{fact_in_code};
 
 use bin_tape::Image;
 use domain::{
-    BriefSet, Location, Relation, ReturnOffsets, Rules, Sum, SumFact, Term, is_same_location, negated,
-    product,
+    BriefSet, Location, Relation, ReturnOffsets, Rules, Sum, SumFact, Term, is_same_location,
+    negated, product,
 };
 use facts::sum_facts::KnownFact;
 use word12::Word;
@@ -143,8 +143,7 @@ impl<const C: usize, const R: usize> Known<'_, '_, C, R> {
 
     /// Whether no word outside a set is left to the accumulator.
     pub(crate) fn has_accumulator_within(&self, set: &WordSet) -> bool {
-        self.accumulator().is_subset(set)
-            || self.narrowed(&Location::Accumulator).is_subset(set)
+        self.accumulator().is_subset(set) || self.narrowed(&Location::Accumulator).is_subset(set)
     }
 
     /// The word of a sum, where one word is left to each of the names whose words it adds.

@@ -5,5 +5,5 @@ use Rattle.fixpoint.specs.Form.{IsInForm}
 use Rattle.fixpoint.proofs.form.are_in_form.Given as goal
 
 abbrev pub invariant-loop-relation : goal.invariant-loop-relation
-invariant-loop-relation g l =
+invariant-loop-relation l =
     Each (IsInForm l.version) (map relation_of (drop l.relation-index l.relations)) → Each (IsInForm l.version) (map relation_of l.relations)

@@ -1,5 +1,5 @@
 -- What is said of facts as they are kept, and where they are; it serves private contracts.
-use Rattle.std.specs.Prelude.{ℕ, Bool, ◌&&◌, ◌||◌, nat_lt, List, [], map, Option, Some, None}
+use Rattle.std.specs.Prelude.{ℕ, Bool, ◌&&◌, ◌||◌, ◌==◌, nat_lt, List, [], map, Option, Some, None}
 use Rattle.std.specs.Ordering.{nat_cmp}
 use Rattle.std.specs.BTreeMap.{get}
 use Rattle.wordset.specs.Words.{Words, nothing}
@@ -42,9 +42,17 @@ said_of k = record {
 abbrev pub said_in : said.Fact → List TrackedCell → said.Fact
 said_in f cells = record f { set = names_words (f.set Ac) cells }
 
--- A summand stands before another: its term does, or it's the same and the coefficient is less.
-abbrev pub summand_is_before : Summand → Summand → Bool
-summand_is_before s t = term_is_before s.term t.term || (same_term s.term t.term && nat_lt s.coefficient t.coefficient)
+-- A sum that goes on with the first summand stands before one that goes on with the other: these two tell it, or else what comes
+-- behind them does.
+abbrev pub told_by_first : Summand → Summand → Bool → Bool
+told_by_first s t rest =
+    term_is_before s.term t.term ||
+    (same_term s.term t.term && (nat_lt s.coefficient t.coefficient || ((s.coefficient == t.coefficient) && rest)))
+
+-- What is told, or else what the rest tells.
+abbrev pub told_or : Bool → Option Bool → Bool
+told_or rest None = rest
+told_or rest (Some found) = found
 
 -- What is kept at an address.
 abbrev pub kept_at : {A : Type 0} → Candidate A → ℕ → Option (Invariant A)

@@ -2,12 +2,13 @@
 
 ghost use Rattle.std.specs.Prelude.{◌≡◌, true, map};
 ghost use Rattle.certificate.specs.Reading.{Each, IsTracked, RiseFrom};
+ghost use Rattle.domain.specs.Sums.InCode.{sum_of};
 ghost use Rattle.domain.specs.Sums.Offsets.{offsets_in};
 ghost use Rattle.domain.specs.Sums.RelationsInCode.{relation_of};
 ghost use Rattle.fixpoint.specs.Claimed.{cell_of};
 ghost use Rattle.certificate.specs.Sums.LineOf.{most_offsets};
 ghost use Rattle.certificate.specs.Sums.Laws.{IsEquation};
-ghost use Rattle.fixpoint.specs.Form.{IsInForm, AreBelow, SumsRise, IsFactInForm};
+ghost use Rattle.fixpoint.specs.Form.{IsDifference, IsInForm, AreBelow, SumsRise, IsFactInForm};
 
 use crate::invariant::{CellInvariant, Invariant, MOST_CELLS, MOST_RELATIONS};
 use crate::sums::{is_before, is_relation};
@@ -44,7 +45,9 @@ fn cells_rise(cells: &[CellInvariant]) -> bool
 }
 
 /// Whether a sum is a name less a cell.
-fn is_difference(sum: &Sum) -> bool {
+fn is_difference(sum: &Sum) -> bool
+    ensures { result ≡ true → IsDifference (sum_of sum.now) }
+{
     if sum.len() != 2 {
         return false;
     }
@@ -71,7 +74,7 @@ fn is_equation(relation: &Relation) -> bool
     is_difference(&relation.sum) && relation.set.only().is_some()
 }
 
-/// Whether a relation is of the form that a version wants.
+/// Whether a relation is of the form that a version wants. A search by the rules of equations makes no certificate of version 3.
 fn is_in_form(version: Version, relation: &Relation) -> bool
     ensures { result ≡ true → IsInForm version (relation_of relation.now) }
 {
@@ -80,7 +83,7 @@ fn is_in_form(version: Version, relation: &Relation) -> bool
     }
     match version {
         Version::One | Version::Two => is_equation(relation),
-        Version::Three => true,
+        Version::Three => false,
     }
 }
 

@@ -2,13 +2,13 @@
 
 ghost use Rattle.std.specs.Prelude.{◌≡◌, true, map};
 ghost use Rattle.certificate.specs.Reading.{Each, IsTracked, RiseFrom};
-ghost use Rattle.domain.specs.Sums.InCode.{sum_of};
+ghost use Rattle.domain.specs.Sums.InCode.{sum_of, term_of};
 ghost use Rattle.domain.specs.Sums.Offsets.{offsets_in};
 ghost use Rattle.domain.specs.Sums.RelationsInCode.{relation_of};
 ghost use Rattle.fixpoint.specs.Claimed.{cell_of};
 ghost use Rattle.certificate.specs.Sums.LineOf.{most_offsets};
 ghost use Rattle.certificate.specs.Sums.Laws.{IsEquation};
-ghost use Rattle.fixpoint.specs.Form.{IsDifference, IsInForm, AreBelow, SumsRise, IsFactInForm};
+ghost use Rattle.fixpoint.specs.Form.{IsAfter, sum_if, IsName, IsDifference, IsInForm, AreBelow, SumsRise, IsFactInForm};
 
 use crate::invariant::{CellInvariant, Invariant, MOST_CELLS, MOST_RELATIONS};
 use crate::sums::{is_before, is_relation};
@@ -60,7 +60,9 @@ fn is_difference(sum: &Sum) -> bool
 }
 
 /// Whether a term is the word of a name.
-fn holds_name(term: &Term) -> bool {
+fn holds_name(term: &Term) -> bool
+    ensures { result ≡ true → IsName (term_of term.now) }
+{
     match term {
         Term::Holding(_) => true,
         Term::Behind { .. } => false,
@@ -100,7 +102,9 @@ fn are_in_form(version: Version, relations: &[Relation]) -> bool
 }
 
 /// Whether a sum comes after another, if one is given.
-fn is_after(sum: &Sum, last: &Option<Sum>) -> bool {
+fn is_after(sum: &Sum, last: &Option<Sum>) -> bool
+    ensures { result ≡ true → IsAfter (sum_if last.now) (sum_of sum.now) }
+{
     match last {
         None => true,
         Some(last) => is_before(last, sum),

@@ -12,7 +12,7 @@ ghost use Rattle.certificate.specs.Sums.Reading.{reading};
 ghost use Rattle.certificate.specs.Sums.Laws.{SpelledIsRead, ReadAreBytes, bytes_of};
 ghost use Rattle.certificate.specs.Sums.Serving.{AsksForMemory};
 ghost use Rattle.certificate.specs.Sums.Kept.{meaning, claims, facts_from, exits_from, IsBeforeFacts, IsBeforeExits, HasShape, Follows};
-ghost use Rattle.certificate.specs.Sums.Found.{first_with_details};
+ghost use Rattle.certificate.specs.Sums.Found.{Follow, first_with_details};
 ghost use Rattle.certificate.specs.Sums.Packed.{said_lines};
 ghost use Rattle.certificate.specs.Sums.Spelled.{all_ended};
 
@@ -94,6 +94,13 @@ impl<A: Allocator + Copy> Certificate<A> {
 }
 
 impl<A: Allocator> Certificate<A> {
+    /// Shows that what a certificate says is of its form, which proofs about a borrowed one need.
+    pub fn is_certificate(&self)
+        ensures { Follow (meaning self.now).version [] (meaning self.now).lines }
+    {
+        let _version = &self.version;
+    }
+
     /// The version of its text.
     pub fn version(&self) -> Version
         ensures { result ≡ (meaning self.now).version }

@@ -1,19 +1,20 @@
 //! Telling a lent fact line by line, as a certificate does.
 
-ghost use Rattle.std.specs.Prelude.{◌≡◌, ◌<◌, ◌++◌, ◌∷◌, [], length, map};
+ghost use Rattle.std.specs.Prelude.{◌≡◌, ◌<◌, ◌≤◌, ◌+◌, ◌++◌, ◌∷◌, [], length, map};
 ghost use Rattle.wordset.specs.Words.{nothing, between, one};
 ghost use Rattle.wordset.specs.Lanes.{words};
 ghost use Rattle.wordset.specs.Links.{links_of};
 ghost use Rattle.domain.specs.Facts.{Ac};
 ghost use Rattle.domain.specs.Sums.InCode.{sum_of};
 ghost use Rattle.domain.specs.Sums.CellsInCode.{cell_set_of, cell_sets_of};
-ghost use Rattle.domain.specs.Sums.RelationsInCode.{relations_of};
+ghost use Rattle.domain.specs.Sums.RelationsInCode.{relation_of, relations_of};
 ghost use Rattle.domain.specs.Sums.ChainsInCode.{chain_of};
 ghost use Rattle.domain.specs.Sums.Offsets.{offsets_in};
 ghost use Rattle.domain.specs.Sums.FactInCode.{fact_in_code, names_words};
 
 use crate::cell_sets::CellSet;
 use crate::chains::Chain;
+use crate::relations::Relation;
 use crate::return_offsets::ReturnOffsets;
 use crate::sum_fact::SumFact;
 use crate::terms::Sum;
@@ -136,6 +137,31 @@ impl<const C: usize, const R: usize> SumFact<C, R> {
         ensures cells { cell_sets_of self.new.cells ≡ cell_sets_of self.old.cells ++ record { address = cell; set = between first last } ∷ [] }
     {
         self.cells.push_row(cell, first, last);
+    }
+
+    /// Tells of one more cell, of which only what is needed is written.
+    pub fn track_copy(&mut self, entry: &CellSet)
+        requires { length (cell_sets_of self.old.cells) < C }
+        ensures fact { fact_in_code self.new ≡ record (fact_in_code self.old) {
+          set = names_words (words self.old.ac) (cell_sets_of self.new.cells);
+        } }
+        ensures cells { cell_sets_of self.new.cells ≡ cell_sets_of self.old.cells ++ cell_set_of entry.now ∷ [] }
+        ensures relations { self.new.relations ≡ self.old.relations }
+        ensures chains { self.new.chains ≡ self.old.chains }
+    {
+        self.cells.push_copy(entry);
+    }
+
+    /// Tells what some relations say, whatever else is told of their sums.
+    pub fn push_relations(&mut self, relations: &[Relation])
+        requires { length (relations_of self.old.relations) + length relations.now ≤ R }
+        ensures fact { fact_in_code self.new ≡ record (fact_in_code self.old) {
+          relations = relations_of self.old.relations ++ map relation_of relations.now;
+        } }
+        ensures cells { self.new.cells ≡ self.old.cells }
+        ensures chains { self.new.chains ≡ self.old.chains }
+    {
+        self.relations.push_all(relations);
     }
 
     /// Tells that a sum is in a set, whatever else is told of it.

@@ -11,7 +11,7 @@ ghost use Rattle.certificate.specs.Sums.Certificate.{names_routine, claimed, has
 ghost use Rattle.certificate.specs.Sums.Reading.{reading};
 ghost use Rattle.certificate.specs.Sums.Laws.{SpelledIsRead, ReadAreBytes, bytes_of};
 ghost use Rattle.certificate.specs.Sums.Serving.{AsksForMemory};
-ghost use Rattle.certificate.specs.Sums.Kept.{meaning, claims, facts_from, exits_from, IsBeforeFacts, IsBeforeExits};
+ghost use Rattle.certificate.specs.Sums.Kept.{meaning, claims, facts_from, exits_from, IsBeforeFacts, IsBeforeExits, HasShape, Follows};
 ghost use Rattle.certificate.specs.Sums.Found.{first_with_details};
 ghost use Rattle.certificate.specs.Sums.Packed.{said_lines};
 ghost use Rattle.certificate.specs.Sums.Spelled.{all_ended};
@@ -224,6 +224,8 @@ impl<A: Allocator> Certificate<A> {
         ensures none { result ≡ false → facts_from self.now line.old at ≡ [] }
         ensures next { result ≡ true →
             facts_from self.now line.old at ≡ fact_in_code fact.new ∷ facts_from self.now line.new at }
+        // Its relations have two or three terms, and it has at most four chains of at most 16 steps.
+        ensures shape { result ≡ true → HasShape (fact_in_code fact.new) }
         ensures stands { IsBeforeFacts self.now line.new at }
         ensures kept { result ≡ false → fact.new ≡ fact.old }
     {
@@ -237,6 +239,21 @@ impl<A: Allocator> Certificate<A> {
             }
             None => false,
         }
+    }
+
+    /// The same, but what the fact says is passed over.
+    pub fn skip_fact(&self, at: Word, line: &mut usize) -> bool
+        requires { IsBeforeFacts self.now line.old at }
+        ensures none { result ≡ false → facts_from self.now line.old at ≡ [] }
+        ensures next { result ≡ true →
+            Follows (facts_from self.now line.old at) (facts_from self.now line.new at) }
+        ensures stands { IsBeforeFacts self.now line.new at }
+    {
+        if !self.kept.is_at(*line, FIRST_FACT + at.index()) {
+            return false;
+        }
+        *line = end_of(&self.kept, *line);
+        true
     }
 
     /// Where the exits of an entry for an offset begin, if there are any: the place of a line, from which `next_exit` goes on.
@@ -278,6 +295,25 @@ impl<A: Allocator> Certificate<A> {
             }
             None => false,
         }
+    }
+
+    /// The same, but what the exit says is passed over.
+    pub fn skip_exit(&self, entry: Word, offset: usize, line: &mut usize) -> bool
+        requires offset { offset < 64 }
+        requires stands { IsBeforeExits self.now line.old entry offset }
+        ensures none { result ≡ false → exits_from self.now line.old entry offset ≡ [] }
+        ensures next { result ≡ true → Follows (exits_from self.now line.old entry offset)
+            (exits_from self.now line.new entry offset) }
+        ensures stands { IsBeforeExits self.now line.new entry offset }
+    {
+        if !self
+            .kept
+            .is_at(*line, FIRST_EXIT + 64 * entry.index() + offset)
+        {
+            return false;
+        }
+        *line = end_of(&self.kept, *line);
+        true
     }
 
     /// The least offset from a number on for which an entry has an exit.

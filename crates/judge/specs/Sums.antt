@@ -4,3 +4,10 @@ pub mod Conditions
 pub mod Laws
 pub mod Headline
 pub mod Equations
+pub mod Judged
+pub mod Shapes
+pub mod Sources
+pub mod Bodies
+pub mod Asked
+pub mod Points
+pub mod Callees

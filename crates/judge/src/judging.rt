@@ -106,7 +106,7 @@ fn judge_on<A: Allocator, C: Claims>(
 }
 
 /// Whether it is this entry.
-fn is_of(entry: &Option<Word>, at: Word) -> bool
+pub(crate) fn is_of(entry: &Option<Word>, at: Word) -> bool
     ensures { IsTrue result ↔ entry.now ≡ Some at }
 {
     match entry {

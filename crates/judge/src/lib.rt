@@ -10,6 +10,7 @@ mod landing;
 pub mod laws;
 mod lines;
 mod point;
+pub mod several;
 pub mod sum_laws;
 mod verdict;
 mod words;

@@ -18,10 +18,10 @@ use word12::Word;
 use wordset::WordSet;
 
 /// The most words that may be possible at one address.
-const MOST_WORDS: usize = 64;
+pub(crate) const MOST_WORDS: usize = 64;
 
 /// The condition at a place among those that are asked of words at one address.
-fn nth(place: usize) -> Condition
+pub(crate) fn nth(place: usize) -> Condition
     requires low { 2 ≤ place }
     requires high { place < 15 }
     ensures { place_among result ≡ place }
@@ -44,14 +44,14 @@ fn nth(place: usize) -> Condition
 }
 
 /// Whether a condition asks for few words.
-fn asks_few(condition: Condition) -> bool
+pub(crate) fn asks_few(condition: Condition) -> bool
     ensures { result ≡ asks_few condition }
 {
     matches!(condition, Condition::V3)
 }
 
 /// The word of a tape at an address, if there is one.
-fn word_of(image: &Image, at: Word) -> Option<Word>
+pub(crate) fn word_of(image: &Image, at: Word) -> Option<Word>
     ensures { result ≡ image_of image.now at }
 {
     image.get(at)

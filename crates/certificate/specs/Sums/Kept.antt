@@ -1,7 +1,9 @@
 -- How a certificate is kept, and what it says.
-use Rattle.std.specs.Prelude.{◌≡◌, ℕ, ◌+◌, ◌*◌, ◌≤◌, false, List, [], ◌∷◌, ◌++◌, drop}
+use Rattle.std.specs.Prelude.{◌≡◌, ℕ, ◌+◌, ◌*◌, ◌≤◌, true, false, List, [], ◌∷◌, ◌++◌, drop, length}
 use Rattle.domain.specs.Sums.Facts.{Fact}
 use Rattle.certificate.specs.declared.sums.Version.{Version}
+use Rattle.certificate.specs.Reading.{Each}
+use Rattle.certificate.specs.Sums.LineOf.{is_relation}
 use Rattle.certificate.specs.Sums.Lines.{Line, End, is_detail}
 use Rattle.certificate.specs.Sums.Order.{place_of_head}
 use Rattle.certificate.specs.Sums.Certificate.{Certificate}
@@ -45,3 +47,13 @@ IsBeforeFacts c i a = BeginAt (4096 + a) (lines_from c i)
 -- Exits of an entry for an offset may be looked for from this line on.
 abbrev pub IsBeforeExits : Kept → ℕ → ℕ → ℕ → Type 0
 IsBeforeExits c i e o = BeginAt (8192 + (64 * e + o)) (lines_from c i)
+
+-- These facts are one more than those, which come behind it.
+abbrev pub Follows : List Fact → List Fact → Type 0
+Follows fs rest = (f : Fact) × (fs ≡ f ∷ rest)
+
+-- Each relation's sum is one of which a relation may speak, and there are at most four chains of at most 16 steps.
+pub record HasShape (f : Fact) : Type 0 where
+  pub relations : Each (λ r. is_relation r.sum ≡ true) f.relations
+  pub chains : Each (λ c. length c.steps ≤ 16) f.chains
+  pub few : length f.chains ≤ 4

@@ -1,0 +1,108 @@
+//! The body that has an address, and what is claimed of it.
+
+ghost use Rattle.std.specs.Prelude.{◌≡◌, ◌↔◌, None, Some, true, IsTrue};
+ghost use Rattle.domain.specs.Sums.FactInCode.{fact_in_code, rules_of};
+ghost use Rattle.certificate.specs.Sums.Certificate as said;
+ghost use Rattle.judge.specs.Sums.Bodies.{Tells, IsOfBody};
+
+use crate::several::claims::Claims;
+use certificate::RoutineClaim;
+use domain::Rules;
+use facts::sum_facts::Fact;
+use word12::Word;
+use wordset::WordSet;
+
+/// A body: main's, or that of the routine of an entry, with what is claimed of it; nothing is claimed of main.
+#[derive(Clone, Copy)]
+pub(crate) struct Body {
+    pub(crate) routine: Option<Word>,
+    pub(crate) claim: RoutineClaim,
+}
+
+impl Body {
+    /// Main's body.
+    pub(crate) fn main() -> Body
+        ensures main { result.routine ≡ None }
+        ensures tells { (c : said.Certificate) → Tells c result }
+    {
+        Body {
+            routine: None,
+            claim: RoutineClaim {
+                rank: 0,
+                sites: WordSet::empty(),
+                writes: WordSet::empty(),
+            },
+        }
+    }
+
+    /// Whether it is that of the routine of an entry.
+    fn is_of(&self, entry: Word) -> bool
+        ensures { IsTrue result → self.now.routine ≡ Some entry }
+    {
+        match &self.routine {
+            None => false,
+            Some(own) => *own == entry,
+        }
+    }
+
+    /// Lets main's body stand here.
+    pub(crate) fn turn_to_main(&mut self)
+        ensures main { self.new.routine ≡ None }
+        ensures tells { (c : said.Certificate) → Tells c self.old → Tells c self.new }
+    {
+        if self.routine.is_some() {
+            *self = Body::main();
+        }
+    }
+
+    /// Whether the routine of an entry is listed, whose body then stands here, with what is claimed of
+    /// it. One that stands here already isn't read again.
+    pub(crate) fn turn_to<C: Claims>(&mut self, claims: &C, entry: Word) -> bool
+        requires { Tells (C.claims claims.now) self.old }
+        ensures listed { result ≡ (C.claims claims.now).listed entry }
+        ensures body { result ≡ true → self.new.routine ≡ Some entry }
+        ensures tells { Tells (C.claims claims.now) self.new }
+    {
+        if self.is_of(entry) {
+            return true;
+        }
+        self.read(claims, entry)
+    }
+
+    /// The same, where it is read; the room for it is made here alone.
+    #[inline(never)]
+    fn read<C: Claims>(&mut self, claims: &C, entry: Word) -> bool
+        requires { Tells (C.claims claims.now) self.old }
+        ensures listed { result ≡ (C.claims claims.now).listed entry }
+        ensures body { result ≡ true → self.new.routine ≡ Some entry }
+        ensures tells { Tells (C.claims claims.now) self.new }
+    {
+        match claims.routine(entry) {
+            None => false,
+            Some(claim) => {
+                *self = Body {
+                    routine: Some(entry),
+                    claim,
+                };
+                true
+            }
+        }
+    }
+
+    /// Whether a fact has sites and offsets as it must have in this body: none in main's, some offset in a routine's,
+    /// and there by the rules of sums some site.
+    pub(crate) fn allows(&self, rules: &Rules, fact: &Fact) -> bool
+        ensures { IsTrue result ↔ IsOfBody (rules_of rules.now) self.now.routine (fact_in_code fact.now) }
+    {
+        if self.routine.is_none() {
+            return fact.sites().is_empty() && fact.offsets().is_empty();
+        }
+        if fact.offsets().is_empty() {
+            return false;
+        }
+        match rules {
+            Rules::OfEquations => true,
+            Rules::OfSums => !fact.sites().is_empty(),
+        }
+    }
+}

@@ -1,0 +1,33 @@
+//! The facts among which a run lands: those at an address, and the exits of a routine for an offset.
+
+ghost use Rattle.std.specs.Prelude.{◌<◌};
+
+use crate::several::claims::Claims;
+use word12::Word;
+use wordset::WordSet;
+
+/// The facts at an address of a body, with the sites that they have by the rules.
+///
+/// Contracts see them as the list that `facts_of` gives.
+#[derive(Drop)]
+pub(crate) struct FactsAt<'a, C: Claims> {
+    pub(crate) claims: &'a C,
+    pub(crate) at: Word,
+    /// The sites of the routine whose body has the address.
+    pub(crate) sites: &'a WordSet,
+    /// The line that is looked at first.
+    pub(crate) near: usize,
+}
+
+/// The exits of a routine for an offset, with the sites that they have by the rules.
+///
+/// Contracts see them as the list that `exits_for` gives.
+#[derive(Drop)]
+pub(crate) struct ExitsFor<'a, C: Claims> {
+    pub(crate) claims: &'a C,
+    pub(crate) entry: Word,
+    pub(crate) offset: usize,
+    /// The sites of the routine.
+    pub(crate) sites: &'a WordSet,
+    ghost small: { offset < 64 },
+}

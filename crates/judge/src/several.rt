@@ -11,5 +11,10 @@ mod sited;
 mod sources;
 mod words;
 
+pub use body::Body;
+pub use case::{Case, Rooms, put_asked};
 pub use claims::Claims;
 pub use judging::judge;
+pub use point::{Others, Point, place_of};
+pub use sited::put_sites;
+pub use sources::{ExitsFor, FactsAt};

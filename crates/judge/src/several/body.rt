@@ -14,14 +14,14 @@ use wordset::WordSet;
 
 /// A body: main's, or that of the routine of an entry, with what is claimed of it; nothing is claimed of main.
 #[derive(Clone, Copy)]
-pub(crate) struct Body {
-    pub(crate) routine: Option<Word>,
-    pub(crate) claim: RoutineClaim,
+pub struct Body {
+    pub routine: Option<Word>,
+    pub claim: RoutineClaim,
 }
 
 impl Body {
     /// Main's body.
-    pub(crate) fn main() -> Body
+    pub fn main() -> Body
         ensures main { result.routine ≡ None }
         ensures tells { (c : said.Certificate) → Tells c result }
     {
@@ -46,7 +46,7 @@ impl Body {
     }
 
     /// Lets main's body stand here.
-    pub(crate) fn turn_to_main(&mut self)
+    pub fn turn_to_main(&mut self)
         ensures main { self.new.routine ≡ None }
         ensures tells { (c : said.Certificate) → Tells c self.old → Tells c self.new }
     {
@@ -57,7 +57,7 @@ impl Body {
 
     /// Whether the routine of an entry is listed, whose body then stands here, with what is claimed of
     /// it. One that stands here already isn't read again.
-    pub(crate) fn turn_to<C: Claims>(&mut self, claims: &C, entry: Word) -> bool
+    pub fn turn_to<C: Claims>(&mut self, claims: &C, entry: Word) -> bool
         requires { Tells (C.claims claims.now) self.old }
         ensures listed { result ≡ (C.claims claims.now).listed entry }
         ensures body { result ≡ true → self.new.routine ≡ Some entry }
@@ -91,7 +91,7 @@ impl Body {
 
     /// Whether a fact has sites and offsets as it must have in this body: none in main's, some offset in a routine's,
     /// and there by the rules of sums some site.
-    pub(crate) fn allows(&self, rules: &Rules, fact: &Fact) -> bool
+    pub fn allows(&self, rules: &Rules, fact: &Fact) -> bool
         ensures { IsTrue result ↔ IsOfBody (rules_of rules.now) self.now.routine (fact_in_code fact.now) }
     {
         if self.routine.is_none() {

@@ -125,7 +125,7 @@ impl<A: Allocator, C: Claims> Point<'_, A, C> {
     }
 
     /// Whether a condition on calls holds of a callee.
-    fn callee_passes(&self, condition: Condition, entry: Word, others: &mut Others) -> bool
+    pub fn callee_passes(&self, condition: Condition, entry: Word, others: &mut Others) -> bool
         requires { IsPoint C.claims self.now }
         ensures { IsTrue result ↔
             HoldsOfCallee (case_of C.claims self.now) condition self.now.place.routine self.now.at
@@ -142,7 +142,7 @@ impl<A: Allocator, C: Claims> Point<'_, A, C> {
     }
 
     /// What is claimed of the routine of an entry, and nothing where it isn't listed.
-    fn claimed(&self, entry: Word) -> RoutineClaim
+    pub fn claimed(&self, entry: Word) -> RoutineClaim
         ensures rank { result.rank ≡ (case_of C.claims self.now).certificate.rank entry }
         ensures sites { words result.sites ≡ (case_of C.claims self.now).certificate.sites entry }
         ensures writes { words result.writes ≡
@@ -220,7 +220,7 @@ impl<A: Allocator, C: Claims> Point<'_, A, C> {
     }
 
     /// Puts the fact that holds behind the entry of a routine that is called from here into room for it.
-    fn put_called_from(&self, next: &mut NextFact)
+    pub fn put_called_from(&self, next: &mut NextFact)
         ensures { fact_in_code next.new ≡ called_from self.now.at (fact_asked self.now) }
     {
         self.fact.is_within_room();
@@ -270,7 +270,7 @@ impl<A: Allocator, C: Claims> Point<'_, A, C> {
     }
 
     /// Whether the run lands after a return by an offset with each exit that is claimed for it.
-    fn lands_by(
+    pub fn lands_by(
         &self,
         entry: Word,
         offset: usize,
@@ -305,7 +305,7 @@ impl<A: Allocator, C: Claims> Point<'_, A, C> {
     /// Whether the run lands after a return by an offset with what the exit at hand says, if the address
     /// is one of its sites.
     #[inline(never)]
-    fn lands_with(&self, offset: usize, written: &WordSet, others: &mut Others) -> bool
+    pub fn lands_with(&self, offset: usize, written: &WordSet, others: &mut Others) -> bool
         requires point { IsPoint C.claims self.now }
         requires offset { offset < 64 }
         ensures { IsTrue result ↔
@@ -345,7 +345,7 @@ impl<A: Allocator, C: Claims> Point<'_, A, C> {
     }
 
     /// Whether an entry is the routine's.
-    fn is_own(&self, entry: Word) -> bool
+    pub fn is_own(&self, entry: Word) -> bool
         ensures { IsTrue result ↔ (self.now.place.routine ≡ Some entry) }
     {
         match &self.place.routine {
@@ -369,7 +369,7 @@ impl<A: Allocator, C: Claims> Point<'_, A, C> {
     }
 
     /// Whether the routine may return by an offset with what the fact says.
-    fn may_return(&self, entry: Word, offset: usize, others: &mut Others) -> bool
+    pub fn may_return(&self, entry: Word, offset: usize, others: &mut Others) -> bool
         requires point { IsPoint C.claims self.now }
         requires own { self.now.place.routine ≡ Some entry }
         requires offset { offset < 64 }

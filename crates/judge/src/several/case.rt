@@ -39,23 +39,23 @@ const PAST_ALL: usize = 15;
 ///
 /// Contracts see it as `case_kept` gives it.
 #[derive(Drop)]
-pub(crate) struct Case<'a, A: Allocator, C: Claims> {
-    pub(crate) image: &'a Image,
-    pub(crate) declaration: &'a Declaration<A>,
-    pub(crate) claims: &'a C,
+pub struct Case<'a, A: Allocator, C: Claims> {
+    pub image: &'a Image,
+    pub declaration: &'a Declaration<A>,
+    pub claims: &'a C,
 }
 
 /// Room for a fact as it is claimed, for the same fact as it is asked, and for others.
 #[derive(Drop)]
-pub(crate) struct Rooms {
-    pub(crate) claimed: Fact,
-    pub(crate) fact: NarrowedFact,
-    pub(crate) others: Others,
+pub struct Rooms {
+    pub claimed: Fact,
+    pub fact: NarrowedFact,
+    pub others: Others,
 }
 
 impl Rooms {
     /// Room that nothing stands in.
-    pub(crate) fn new() -> Rooms {
+    pub fn new() -> Rooms {
         Rooms {
             claimed: Fact::any(),
             fact: NarrowedFact::any(),
@@ -67,7 +67,7 @@ impl Rooms {
 /// Lets a fact be the one of which conditions are asked: by the rules of sums narrowed, and by those of
 /// equations as it stands. Tells whether they are asked of it: by the rules of sums they aren't where no
 /// state satisfies it.
-fn put_asked(rules: &Rules, image: &Image, claimed: &Fact, fact: &mut NarrowedFact) -> bool
+pub fn put_asked(rules: &Rules, image: &Image, claimed: &Fact, fact: &mut NarrowedFact) -> bool
     requires { HasShape (fact_in_code claimed.now) }
     ensures asked { asked (rules_of rules.now) (image_of image.now) (fact_in_code claimed.now ∷ []) ≡
         (if result then fact_in_code fact.new ∷ [] else []) }
@@ -88,7 +88,7 @@ fn put_asked(rules: &Rules, image: &Image, claimed: &Fact, fact: &mut NarrowedFa
 
 impl<A: Allocator, C: Claims> Case<'_, A, C> {
     /// Whether one of the facts at the start holds of every start.
-    pub(crate) fn starts_well(&self, rooms: &mut Rooms) -> bool
+    pub fn starts_well(&self, rooms: &mut Rooms) -> bool
         ensures { IsTrue result ↔
             HoldsAt (case_kept C.claims self.now) V1 (case_kept C.claims self.now).declaration.start }
     {
@@ -105,7 +105,7 @@ impl<A: Allocator, C: Claims> Case<'_, A, C> {
 
     /// Whether facts may stand at an address: in main's body or in a listed routine's. That body then
     /// stands in the place of the one that is lent.
-    fn finds_body(&self, at: Word, body: &mut Body) -> bool
+    pub fn finds_body(&self, at: Word, body: &mut Body) -> bool
         requires { Tells (C.claims self.now.claims.now) body.old }
         ensures found { result ≡ true →
             (case_kept C.claims self.now).declaration.body body.new.routine at ≡ true }
@@ -127,7 +127,7 @@ impl<A: Allocator, C: Claims> Case<'_, A, C> {
 
     /// The first condition that fails at an address, if one does; it's told whether a routine of that
     /// entry is named, and which line is looked at first.
-    pub(crate) fn check_at(
+    pub fn check_at(
         &self,
         at: Word,
         is_named: bool,

@@ -20,7 +20,7 @@ use wordset::WordSet;
 
 impl<A: Allocator, C: Claims> Point<'_, A, C> {
     /// Whether a routine's body has an address.
-    fn is_inside(&self, owner: &Option<Word>, at: Word) -> bool
+    pub fn is_inside(&self, owner: &Option<Word>, at: Word) -> bool
         ensures { result ≡ (case_of C.claims self.now).declaration.body owner.now at }
     {
         match owner {
@@ -31,7 +31,7 @@ impl<A: Allocator, C: Claims> Point<'_, A, C> {
 
     /// Whether what is known lands at an address of a routine's body, with the sites of that routine. It
     /// stays as it is.
-    pub(crate) fn lands(
+    pub fn lands(
         &self,
         owner: &Option<Word>,
         sites: &WordSet,
@@ -64,7 +64,7 @@ impl<A: Allocator, C: Claims> Point<'_, A, C> {
     }
 
     /// Whether what is known lands at an address of the same body.
-    pub(crate) fn lands_here(
+    pub fn lands_here(
         &self,
         at: Word,
         known: &mut NextFact,

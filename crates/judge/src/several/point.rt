@@ -18,16 +18,16 @@ use word12::Word;
 
 /// Room for further facts, with which the one at an address is compared or which come of it.
 #[derive(Drop)]
-pub(crate) struct Others {
-    pub(crate) exit: Fact,
-    pub(crate) next: NextFact,
-    pub(crate) outcomes: Outcomes,
-    pub(crate) landing: LandingRooms,
+pub struct Others {
+    pub exit: Fact,
+    pub next: NextFact,
+    pub outcomes: Outcomes,
+    pub landing: LandingRooms,
 }
 
 impl Others {
     /// Room that nothing stands in.
-    pub(crate) fn new() -> Others {
+    pub fn new() -> Others {
         Others {
             exit: Fact::any(),
             next: NextFact::any(),
@@ -39,20 +39,20 @@ impl Others {
 
 /// A fact of which conditions are asked at an address of a body.
 #[derive(Drop)]
-pub(crate) struct Point<'a, A: Allocator, C: Claims> {
-    pub(crate) claims: &'a C,
-    pub(crate) place: Place<'a, A>,
+pub struct Point<'a, A: Allocator, C: Claims> {
+    pub claims: &'a C,
+    pub place: Place<'a, A>,
     /// The tape and the declaration, of which some things are asked whatever the fact says.
-    pub(crate) machine: facts::Place<'a, A>,
-    pub(crate) body: &'a Body,
-    pub(crate) at: Word,
-    pub(crate) fact: &'a NarrowedFact,
+    pub machine: facts::Place<'a, A>,
+    pub body: &'a Body,
+    pub at: Word,
+    pub fact: &'a NarrowedFact,
     /// The line at which facts at other addresses are looked for first.
-    pub(crate) near: usize,
+    pub near: usize,
 }
 
 /// The place of the facts in a routine's body.
-pub(crate) fn place_of<'a, A: Allocator>(
+pub fn place_of<'a, A: Allocator>(
     image: &'a Image,
     declaration: &'a Declaration<A>,
     routine: &Option<Word>,
@@ -73,7 +73,7 @@ pub(crate) fn place_of<'a, A: Allocator>(
 
 impl<'a, A: Allocator, C: Claims> Point<'a, A, C> {
     /// The fact at an address of a body.
-    pub(crate) fn of(
+    pub fn of(
         image: &'a Image,
         declaration: &'a Declaration<A>,
         claims: &'a C,

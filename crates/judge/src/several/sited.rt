@@ -12,7 +12,7 @@ use facts::sum_facts::{Fact, FactSource};
 use wordset::WordSet;
 
 /// Gives a fact the sites that it has by the rules.
-pub(crate) fn put_sites(rules: &Rules, sites: &WordSet, fact: &mut Fact)
+pub fn put_sites(rules: &Rules, sites: &WordSet, fact: &mut Fact)
     ensures { fact_in_code fact.new ≡
         sited_one (rules_of rules.now) (words sites.now) (fact_in_code fact.old) }
 {

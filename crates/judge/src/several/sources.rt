@@ -10,24 +10,24 @@ use wordset::WordSet;
 ///
 /// Contracts see them as the list that `facts_of` gives.
 #[derive(Drop)]
-pub(crate) struct FactsAt<'a, C: Claims> {
-    pub(crate) claims: &'a C,
-    pub(crate) at: Word,
+pub struct FactsAt<'a, C: Claims> {
+    pub claims: &'a C,
+    pub at: Word,
     /// The sites of the routine whose body has the address.
-    pub(crate) sites: &'a WordSet,
+    pub sites: &'a WordSet,
     /// The line that is looked at first.
-    pub(crate) near: usize,
+    pub near: usize,
 }
 
 /// The exits of a routine for an offset, with the sites that they have by the rules.
 ///
 /// Contracts see them as the list that `exits_for` gives.
 #[derive(Drop)]
-pub(crate) struct ExitsFor<'a, C: Claims> {
-    pub(crate) claims: &'a C,
-    pub(crate) entry: Word,
-    pub(crate) offset: usize,
+pub struct ExitsFor<'a, C: Claims> {
+    pub claims: &'a C,
+    pub entry: Word,
+    pub offset: usize,
     /// The sites of the routine.
-    pub(crate) sites: &'a WordSet,
+    pub sites: &'a WordSet,
     ghost small: { offset < 64 },
 }

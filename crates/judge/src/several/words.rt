@@ -85,7 +85,7 @@ impl<A: Allocator, C: Claims> Point<'_, A, C> {
     }
 
     /// The words that are possible here.
-    fn possible_words(&self) -> WordSet
+    pub fn possible_words(&self) -> WordSet
         requires { IsPoint C.claims self.now }
         ensures { words result ≡ possible_at C.claims self.now }
     {
@@ -132,7 +132,7 @@ impl<A: Allocator, C: Claims> Point<'_, A, C> {
     }
 
     /// Whether a condition holds of a word here.
-    fn holds_for(&self, condition: Condition, word: Word, others: &mut Others) -> bool
+    pub fn holds_for(&self, condition: Condition, word: Word, others: &mut Others) -> bool
         requires { IsPoint C.claims self.now }
         ensures { IsTrue result ↔ HoldsHere C.claims self.now condition word }
     {

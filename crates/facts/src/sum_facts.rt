@@ -31,4 +31,4 @@ pub use rooms::{
 };
 pub use source::FactSource;
 pub use start_fact::StartFact;
-pub use starts::StartPart;
+pub use starts::{StartPart, start_part};

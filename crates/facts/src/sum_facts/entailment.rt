@@ -229,9 +229,9 @@ impl Allowed<'_> {
 fn permits_all<'a>(
     chain: &Chain,
     cells: &WordSet,
-    pub accumulators: &'a WordSet,
-    pub links: Links,
-    pub chains: &'a [Chain],
+    accumulators: &'a WordSet,
+    links: Links,
+    chains: &'a [Chain],
 ) -> bool
     ensures { IsTrue result ↔ ((v : ℕ) → v < 4096 → words cells.now v ≡ true →
         GivesAllowed (words accumulators.now) (links_of links) (map chain_of chains.now) (chain_of chain.now) v) }

@@ -25,12 +25,12 @@ SomeChain p (c ∷ cs) = p c ⊎ SomeChain p cs
 
 -- By what the fact says of the relation's sum, the sum may be this word, which the relation excludes.
 pub record IsSumBeyond (pl : Place) (a : Fact) (sum : Sum) (w : ℕ) (r : Relation) : Type 0 where
-  pub sum : r.sum ≡ sum
+  pub sum_is : r.sum ≡ sum
   pub beyond : IsBeyond (said_of pl.image a r.sum) r.set w
 
 -- The relation is of this sum, with this as its one word, if it has one; and the fact doesn't know it by the rules of equations.
 pub record IsUnknown (pl : Place) (a : Fact) (sum : Sum) (w : Option ℕ) (r : Relation) : Type 0 where
-  pub sum : r.sum ≡ sum
+  pub sum_is : r.sum ≡ sum
   pub word : only r.set ≡ w
   pub unknown : KnowsBy OfEquations pl a r → ⊥
 

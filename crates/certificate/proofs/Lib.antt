@@ -40,3 +40,4 @@ pub mod SumSpelledLemmas
 pub mod SumNamedLemmas
 pub mod SumMadeLemmas
 pub mod SumSitedLemmas
+pub mod SumSkipLemmas

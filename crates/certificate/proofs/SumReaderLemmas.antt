@@ -363,7 +363,7 @@ details_fit v before (FactIs a s r o ∷ ls) f h = few_fit before h
 details_fit v before (ExitIs e o s r ∷ ls) f h = few_fit before h
 details_fit v before (End ∷ ls) f h = few_fit before h
 
-follow_from : (v : Version) (before ls : List Line) (i : ℕ) → Follow v before ls → (l : Line) (rest : List Line) → drop i ls ≡ l ∷ rest → (others : List Line) × (Follow v (l ∷ others) rest × IsLine v l)
+pub follow_from : (v : Version) (before ls : List Line) (i : ℕ) → Follow v before ls → (l : Line) (rest : List Line) → drop i ls ≡ l ∷ rest → (others : List Line) × (Follow v (l ∷ others) rest × IsLine v l)
 follow_from v before [] zero f l rest e = absurd (cc)
 follow_from v before [] (suc i) f l rest e = absurd (let z : [] ≡ l ∷ rest = sym (drop_all (suc i) [] (omega arith)) ∙ e in cc)
 follow_from v before (k ∷ ks) zero f l rest e = let a : k ≡ l = cc in let b : ks ≡ rest = cc in rw (← a, ← b) (before, (f.2, f.0))

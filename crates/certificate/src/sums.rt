@@ -16,7 +16,7 @@ ghost use Rattle.certificate.specs.Sums.Found.{first_with_details};
 ghost use Rattle.certificate.specs.Sums.Packed.{said_lines};
 ghost use Rattle.certificate.specs.Sums.Spelled.{all_ended};
 
-use crate::sums::lines::{end_of, first_routine, first_said};
+use crate::sums::lines::{behind, end_of, first_routine, first_said};
 use crate::sums::packed::{CertifiedFact, PackedLines};
 use crate::sums::parser::Parser;
 use crate::sums::progress::{FIRST_EXIT, FIRST_FACT};
@@ -247,12 +247,13 @@ impl<A: Allocator> Certificate<A> {
         ensures none { result ≡ false → facts_from self.now line.old at ≡ [] }
         ensures next { result ≡ true →
             Follows (facts_from self.now line.old at) (facts_from self.now line.new at) }
+        ensures after { result ≡ true → line.old < line.new }
         ensures stands { IsBeforeFacts self.now line.new at }
     {
         if !self.kept.is_at(*line, FIRST_FACT + at.index()) {
             return false;
         }
-        *line = end_of(&self.kept, *line);
+        *line = behind(&self.kept, *line);
         true
     }
 
@@ -304,6 +305,7 @@ impl<A: Allocator> Certificate<A> {
         ensures none { result ≡ false → exits_from self.now line.old entry offset ≡ [] }
         ensures next { result ≡ true → Follows (exits_from self.now line.old entry offset)
             (exits_from self.now line.new entry offset) }
+        ensures after { result ≡ true → line.old < line.new }
         ensures stands { IsBeforeExits self.now line.new entry offset }
     {
         if !self
@@ -312,7 +314,7 @@ impl<A: Allocator> Certificate<A> {
         {
             return false;
         }
-        *line = end_of(&self.kept, *line);
+        *line = behind(&self.kept, *line);
         true
     }
 

@@ -52,12 +52,12 @@ first_too {t} {d} {c} p q one other r = subst (λ j. IsFirst j r.condition r.add
 -- ---- one condition is the first
 
 -- the condition that has a place among those at one address
-abbrev condition_at : ℕ → Condition
+abbrev pub condition_at : ℕ → Condition
 condition_at n =
     if n == 0 then V1 else (if n == 1 then V2 else (if n == 2 then V3 else (if n == 3 then V5 else (if n == 4 then V14 else (if n == 5 then V6 else (if n == 6 then V13 else
     (if n == 7 then V7 else (if n == 8 then V8 else (if n == 9 then V9 else (if n == 10 then V10 else (if n == 11 then V12 else (if n == 12 then V11 else (if n == 13 then V4 else V15)))))))))))))
 
-place_of : (v : Condition) → condition_at (place_among v) ≡ v
+pub place_of : (v : Condition) → condition_at (place_among v) ≡ v
 place_of V1 = refl
 place_of V2 = refl
 place_of V3 = refl

@@ -1,4 +1,4 @@
--- What a valid certificate of facts with sums says of runs.
+-- What a valid certificate of facts with sums says of runs, and what the code asks of one.
 pub mod Fine
 pub mod Frames
 pub mod Induction
@@ -6,3 +6,10 @@ pub mod Legal
 pub mod Worlds
 pub mod TrueLemmas
 pub mod FirstLemmas
+pub mod SourceLemmas
+pub mod PointLemmas
+pub mod AskedLemmas
+pub mod OrderLemmas
+pub mod LineLemmas
+pub mod CallLemmas
+pub mod CaseLemmas

@@ -175,6 +175,22 @@ pub fn end_of<A: Allocator>(lines: &PackedLines<A>, start: usize) -> usize
     count
 }
 
+/// Where the lines begin that come behind the one at a place and its details.
+pub fn behind<A: Allocator>(lines: &PackedLines<A>, start: usize) -> usize
+    requires { start < length (said_lines lines.now) }
+    ensures after { start < result }
+    ensures is { drop result (said_lines lines.now) ≡
+        behind_details (drop (start + 1) (said_lines lines.now)) }
+{
+    for at in start + 1..lines.len() {
+        let lent = lines.line(at);
+        if !lent.line.is_detail() {
+            return at;
+        }
+    }
+    lines.len()
+}
+
 /// What the line at a place says of a routine, if there is one and it does.
 pub fn first_routine<A: Allocator>(lines: &PackedLines<A>, start: usize) -> Option<RoutineClaim>
     ensures there { is_some result ≡ begins is_routine (drop start (said_lines lines.now)) }

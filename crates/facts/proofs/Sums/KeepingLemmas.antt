@@ -15,7 +15,7 @@ use Rattle.domain.specs.Sums.Narrowing.{narrowed, parts_of, parts_of_chain, link
 use Rattle.domain.proofs.Sums.AddingLemmas.{adding_keeps}
 use Rattle.facts.specs.Sums.Shaped.{HaveFewTerms}
 
-shape_few : (sum : Sum) → has_shape sum ≡ true → length sum ≤ 3
+pub shape_few : (sum : Sum) → has_shape sum ≡ true → length sum ≤ 3
 shape_few [] h = omega arith
 shape_few (s ∷ []) h = omega arith
 shape_few (s ∷ t ∷ []) h = omega arith
@@ -71,7 +71,7 @@ pub narrowed_few : (image : Image) (f : Fact) → HaveFewTerms f.relations → H
 unfolding narrowed
 narrowed_few image f all = adding_few OfSums (all_told image f) (linked image f) all
 
-narrowed_chains : (image : Image) (f : Fact) → (narrowed image f).chains ≡ f.chains
+pub narrowed_chains : (image : Image) (f : Fact) → (narrowed image f).chains ≡ f.chains
 unfolding narrowed
 narrowed_chains image f = (adding_keeps OfSums (all_told image f) (linked image f)).chains
 

@@ -3,7 +3,8 @@
 ghost use Rattle.std.specs.Prelude.{◌≡◌, ◌<◌, ◌↔◌, Some, true, IsTrue};
 ghost use Rattle.wordset.specs.Lanes.{words};
 ghost use Rattle.instruct.specs.Instructions.{meaning_of};
-ghost use Rattle.domain.specs.Sums.FactInCode.{fact_in_code};
+ghost use Rattle.domain.specs.Sums.Facts.{last_site};
+ghost use Rattle.domain.specs.Sums.FactInCode.{fact_in_code, rules_of};
 ghost use Rattle.facts.specs.declared.Condition.TheVariants.{V7, V8, V9, V10, V11, V12};
 ghost use Rattle.judge.specs.Sums.Landing.{called_from, LandsAfter};
 ghost use Rattle.judge.specs.Sums.Conditions.{EachTarget, MayCall, CoversCallee, MayReturn};

@@ -58,8 +58,8 @@ pub fn place_of<'a, A: Allocator>(
     routine: &Option<Word>,
     rules: Rules,
 ) -> Place<'a, A>
-    ensures image { result.image ≡ image }
-    ensures declaration { result.declaration ≡ declaration }
+    ensures image { result.image.now ≡ image.now }
+    ensures declaration { result.declaration.now ≡ declaration.now }
     ensures routine { result.routine ≡ routine.now }
     ensures rules { result.rules ≡ rules }
 {
@@ -91,7 +91,7 @@ impl<'a, A: Allocator, C: Claims> Point<'a, A, C> {
             judged image.now declaration.now (C.claims claims.now) }
         ensures at { result.at ≡ at }
         ensures routine { result.place.routine ≡ body.now.routine }
-        ensures fact { result.fact ≡ fact }
+        ensures fact { result.fact.now ≡ fact.now }
     {
         let place = place_of(image, declaration, &body.routine, claims.rules());
         let machine = facts::Place {

@@ -2,7 +2,6 @@
 
 ghost use Rattle.std.specs.Prelude.{◌<◌};
 
-use crate::several::claims::Claims;
 use word12::Word;
 use wordset::WordSet;
 
@@ -10,7 +9,7 @@ use wordset::WordSet;
 ///
 /// Contracts see them as the list that `facts_of` gives.
 #[derive(Drop)]
-pub struct FactsAt<'a, C: Claims> {
+pub struct FactsAt<'a, C> {
     pub claims: &'a C,
     pub at: Word,
     /// The sites of the routine whose body has the address.
@@ -23,7 +22,7 @@ pub struct FactsAt<'a, C: Claims> {
 ///
 /// Contracts see them as the list that `exits_for` gives.
 #[derive(Drop)]
-pub struct ExitsFor<'a, C: Claims> {
+pub struct ExitsFor<'a, C> {
     pub claims: &'a C,
     pub entry: Word,
     pub offset: usize,

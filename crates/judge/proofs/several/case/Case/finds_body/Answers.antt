@@ -1,0 +1,16 @@
+use Rattle.std.proofs.Common.{◌≡◌, ◌∙◌, true, None, Some, ap, sym, refl}
+use Rattle.judge.specs.Sums.Judged.{case_kept}
+use Rattle.judge.proofs.Sums.LineLemmas.{nowhere, is_unlisted, inside_body}
+use Rattle.judge.proofs.several.case.Case.finds_body.Goals as goal
+
+pub returns-in_default-clause-nowhere : goal.returns-in_default-clause-nowhere
+returns-in_default-clause-nowhere g c = λ q. nowhere (case_kept g.C.Claims.claims c.args.self.now) c.args.at c.in_default.ensures.none
+
+pub returns-in-Main-clause-found : goal.returns-in-Main-clause-found
+returns-in-Main-clause-found g c = λ q. inside_body (case_kept g.C.Claims.claims c.args.self.now) c.args.at _ None c.turn_to_main.ensures.main (rw c.in-Main.is at c.in-Some.ensures.found)
+
+pub returns-in-Routine-clause-found : goal.returns-in-Routine-clause-found
+returns-in-Routine-clause-found g c = λ q. inside_body (case_kept g.C.Claims.claims c.args.self.now) c.args.at _ (Some c.in-Routine.entry) (c.turn_to.ensures.body q) (rw c.in-Routine.is at c.in-Some.ensures.found)
+
+pub returns-in-Routine-clause-nowhere : goal.returns-in-Routine-clause-nowhere
+returns-in-Routine-clause-nowhere g c = λ q. is_unlisted (case_kept g.C.Claims.claims c.args.self.now) c.args.at c.in-Routine.entry (rw c.in-Routine.is at c.in-Some.ensures.only) (sym c.turn_to.ensures.listed ∙ q)

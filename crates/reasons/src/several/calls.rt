@@ -1,16 +1,13 @@
 //! What a call breaks.
 
-ghost use Rattle.std.specs.Prelude.{ℕ, ◌≡◌, ◌<◌, IfNone, IfSome};
+ghost use Rattle.std.specs.Prelude.{◌≡◌, ◌<◌, ◌+◌, true, IfNone, IfSome};
 ghost use Rattle.wordset.specs.Lanes.{words};
-ghost use Rattle.instruct.specs.Instructions.{meaning_of};
 ghost use Rattle.domain.specs.Sums.FactInCode.{fact_in_code, rules_of};
-ghost use Rattle.facts.specs.Sums.Landing.{fact_at};
+ghost use Rattle.domain.specs.Sums.Facts.{last_site};
 ghost use Rattle.facts.specs.declared.Condition.TheVariants.{V7, V8, V9, V10, V11};
 ghost use Rattle.judge.specs.Sums.Callees.{LandsBy, LandsWith};
 ghost use Rattle.judge.specs.Sums.Conditions.{EachTarget, IsLower};
-ghost use Rattle.judge.specs.Sums.Landing.{exits_of};
 ghost use Rattle.judge.specs.Sums.Points.{HoldsHere, IsPoint, case_of, fact_asked};
-ghost use Rattle.reasons.specs.Sums.Breaches.{MissesAfter};
 ghost use Rattle.reasons.specs.Sums.Landing.{Misses};
 ghost use Rattle.reasons.specs.Sums.Points.{BreaksHere, CallBreaksHere, CallHoldsHere, meaning_here};
 ghost use Rattle.wordset.specs.Words.{plus};

@@ -1,11 +1,11 @@
 //! Why a condition fails.
 
-ghost use Rattle.std.specs.Prelude.{◌≡◌, ◌<◌, true, is_some, length, IfNone, IfSome};
-ghost use Rattle.declaration.specs.Kept as declared;
+ghost use Rattle.std.specs.Prelude.{◌≡◌, ◌<◌, ◌∷◌, [], true, is_some, length, IfNone, IfSome};
 ghost use Rattle.facts.specs.Sums.Landing.{fact_at};
 ghost use Rattle.judge.specs.Sums.Asked.{HoldsOfFact, HoldsOfFacts};
 ghost use Rattle.judge.specs.Sums.Bodies.{Tells};
-ghost use Rattle.judge.specs.Sums.Conditions.{IsFirst, LinesArePlaced, OfEachFact};
+ghost use Rattle.facts.specs.declared.Condition.TheVariants.{V1};
+ghost use Rattle.judge.specs.Sums.Conditions.{HoldsAt, IsFirst, LinesArePlaced, OfEachFact};
 ghost use Rattle.judge.specs.Sums.Judged.{case_kept, judged};
 ghost use Rattle.reasons.specs.Sums.Reasons.{Explains, HasWrongWord};
 

@@ -152,6 +152,24 @@ fn written<A: Allocator, C: Claims>(point: &Point<'_, A, C>, word: Word) -> Word
     cells
 }
 
+/// The first of some cells that isn't an entry.
+fn first_other<A: Allocator, C: Claims>(
+    point: &Point<'_, A, C>,
+    cells: &WordSet,
+) -> Option<Word>
+    ensures found { IfSome result (λ cell. (cell < 4096) × (words cells.now cell ≡ true) ×
+        ((case_of C.claims point.now).declaration.entry cell ≡ false)) }
+    ensures none { IfNone result ((a : ℕ) → a < 4096 → words cells.now a ≡ true →
+        (case_of C.claims point.now).declaration.entry a ≡ true) }
+{
+    for cell in cells.iter() {
+        if !point.place.declaration.is_entry(cell) {
+            return Some(cell);
+        }
+    }
+    None
+}
+
 /// A cell that a word may write and that is neither a variable nor an entry.
 fn writes_undeclared<A: Allocator, C: Claims>(
     point: &Point<'_, A, C>,
@@ -162,12 +180,10 @@ fn writes_undeclared<A: Allocator, C: Claims>(
     ensures none { IfNone result (HoldsHere C.claims point.now V5 word) }
 {
     let rest = written(point, word).minus(point.place.declaration.variables());
-    for cell in rest.iter() {
-        if !point.place.declaration.is_entry(cell) {
-            return Some(Breach::WritesUndeclared(cell));
-        }
+    match first_other(point, &rest) {
+        None => None,
+        Some(cell) => Some(Breach::WritesUndeclared(cell)),
     }
-    None
 }
 
 /// The first entry of some cells.
@@ -175,7 +191,7 @@ fn first_entry<A: Allocator, C: Claims>(
     point: &Point<'_, A, C>,
     cells: &WordSet,
 ) -> Option<Word>
-    ensures found { IfSome result (λ cell. (words cells.now cell ≡ true) ×
+    ensures found { IfSome result (λ cell. (cell < 4096) × (words cells.now cell ≡ true) ×
         ((case_of C.claims point.now).declaration.entry cell ≡ true)) }
     ensures none { IfNone result ((a : ℕ) → a < 4096 → words cells.now a ≡ true →
         (case_of C.claims point.now).declaration.entry a ≡ false) }

@@ -16,7 +16,7 @@ use Rattle.facts.specs.Sums.Operations.{outcomes_of}
 use Rattle.facts.specs.Sums.Outcomes.{Successor, Goes, CallsTo, Returns}
 use Rattle.facts.specs.Sums.References.{possible}
 use Rattle.facts.specs.declared.Condition.{Condition}
-use Rattle.facts.specs.declared.Condition.TheVariants.{V1, V2, V3}
+use Rattle.facts.specs.declared.Condition.TheVariants.{V1, V2, V3, V4, V5, V6, V7, V8, V9, V10, V11, V12, V13, V14, V15}
 use Rattle.certificate.specs.Sums.Certificate.{Certificate, has_exits}
 use Rattle.judge.specs.Sums.Landing.{Case, place_in, sited, with_sites, sites_of, asked, asked_at, LandsAt, SuccessorLands, EachSuccessor, EachLandsAfter, exits_of, called_from, LandsAfter}
 use Rattle.judge.specs.Sums.Conditions.{EachFact, IsPlaced, IsOfMain, HasSites, LinesArePlaced, EachTarget, KeepsPointer, IsLower, MayCall, Covers, CoversCallee, IsSite, MayReturn, ReturnsWell, HoldsFor, HoldsForWords, HoldsAt}
@@ -192,7 +192,18 @@ asks_word : (j : Case) (v : Condition) (a : ℕ) (r : Routine) (i : ℕ) (f : Fa
 asks_word j V1 a r i f w is lt may h = tt
 asks_word j V2 a r i f w is lt may h = tt
 asks_word j V3 a r i f w is lt may h = asked_here j r a i f (HoldsForWords j V3 r a) is (h.1 r is.body) w lt may
-asks_word j _ a r i f w is lt may h = asked_here j r a i f (HoldsForWords j _ r a) is (h r is.body) w lt may
+asks_word j V4 a r i f w is lt may h = asked_here j r a i f (HoldsForWords j V4 r a) is (h r is.body) w lt may
+asks_word j V5 a r i f w is lt may h = asked_here j r a i f (HoldsForWords j V5 r a) is (h r is.body) w lt may
+asks_word j V6 a r i f w is lt may h = asked_here j r a i f (HoldsForWords j V6 r a) is (h r is.body) w lt may
+asks_word j V7 a r i f w is lt may h = asked_here j r a i f (HoldsForWords j V7 r a) is (h r is.body) w lt may
+asks_word j V8 a r i f w is lt may h = asked_here j r a i f (HoldsForWords j V8 r a) is (h r is.body) w lt may
+asks_word j V9 a r i f w is lt may h = asked_here j r a i f (HoldsForWords j V9 r a) is (h r is.body) w lt may
+asks_word j V10 a r i f w is lt may h = asked_here j r a i f (HoldsForWords j V10 r a) is (h r is.body) w lt may
+asks_word j V11 a r i f w is lt may h = asked_here j r a i f (HoldsForWords j V11 r a) is (h r is.body) w lt may
+asks_word j V12 a r i f w is lt may h = asked_here j r a i f (HoldsForWords j V12 r a) is (h r is.body) w lt may
+asks_word j V13 a r i f w is lt may h = asked_here j r a i f (HoldsForWords j V13 r a) is (h r is.body) w lt may
+asks_word j V14 a r i f w is lt may h = asked_here j r a i f (HoldsForWords j V14 r a) is (h r is.body) w lt may
+asks_word j V15 a r i f w is lt may h = asked_here j r a i f (HoldsForWords j V15 r a) is (h r is.body) w lt may
 
 wrong_refutes : (j : Case) (v : Condition) (a : ℕ) (r : Routine) (i : ℕ) (f : Fact) (reason : Reason) → IsAskedFact j r a i f → IsWrongWord j r a f i v reason → HoldsAt j v a → ⊥
 wrong_refutes j v a r i f (why.TooManyWords k n) is wrong holds =

@@ -18,7 +18,6 @@ ghost use Rattle.facts.specs.Sums.Entailment.{KnowsAll, KnowsBy};
 ghost use Rattle.facts.specs.Sums.PlaceInCode.{place_in_code};
 ghost use Rattle.reasons.specs.Gaps.{IsBeyond};
 ghost use Rattle.reasons.specs.Sums.Gaps.{IsBesideChain, IsGap, IsSumBeyond};
-ghost use Rattle.reasons.specs.declared.several.gap.Gap.TheVariants as gap;
 
 use crate::counterexample::{link_beyond, word_beyond};
 use domain::{BriefSet, CellSet, Chain, Location, Relation, ReturnOffsets, Rules, Sum};
@@ -293,28 +292,29 @@ fn pair_beside(allowed: &Allowed<'_>, chain: &Chain, word: Word) -> Option<(Word
     None
 }
 
-/// What is possible together and excluded by a chain, where these are allowed and the cell may hold these words.
-fn beside(allowed: &Allowed<'_>, chain: &Chain, cells: &WordSet) -> Option<Gap>
-    ensures { IfSome result (λ g. (v : ℕ) × (w : ℕ) × (l : ℕ) × (g ≡ gap.Chain (chain_of chain.now).cell v w l) ×
-        (v < 4096) × (words cells.now v ≡ true) × (w < 4096) × (l < 2) × (GivesIfAllowed (words allowed.now.accumulators.now)
-        (links_of allowed.now.links) (map chain_of allowed.now.chains.now) (chain_of chain.now) v w l → ⊥)) }
+/// A word of a chain's cell, a word of the accumulator and a link that are possible together and that the chain doesn't give, where
+/// these are allowed and the cell may hold these words.
+fn beside(allowed: &Allowed<'_>, chain: &Chain, cells: &WordSet) -> Option<(Word, Word, Link)>
+    ensures { IfSome result (λ p. (p.0 < 4096) × (words cells.now p.0 ≡ true) × (p.1 < 4096) × (p.2 < 2) ×
+        (GivesIfAllowed (words allowed.now.accumulators.now) (links_of allowed.now.links)
+        (map chain_of allowed.now.chains.now) (chain_of chain.now) p.0 p.1 p.2 → ⊥)) }
 {
     for word in cells.iter() {
         if let Some((ac, link)) = pair_beside(allowed, chain, word) {
-            return Some(Gap::Chain(chain.cell(), word, ac, link));
+            return Some((word, ac, link));
         }
     }
     None
 }
 
-/// What is possible together and excluded by a chain.
-fn one_chain_gap<A: Allocator, K: KnownFact>(
+/// The same of what a fact leaves possible.
+fn known_beside<A: Allocator, K: KnownFact>(
     place: &Place<'_, A>,
     fact: &K,
     chain: &Chain,
-) -> Option<Gap>
-    ensures found { IfSome result (λ g. (v : ℕ) × (w : ℕ) × (l : ℕ) × (g ≡ gap.Chain (chain_of chain.now).cell v w l) ×
-        IsBesideChain (place_in_code place.now) (K.known fact.now) (chain_of chain.now).cell v w l (chain_of chain.now)) }
+) -> Option<(Word, Word, Link)>
+    ensures { IfSome result (λ p. IsBesideChain (place_in_code place.now) (K.known fact.now)
+        (chain_of chain.now).cell p.0 p.1 p.2 (chain_of chain.now)) }
 {
     let mut cells = WordSet::all();
     place.put_known(fact, &Location::Cell(chain.cell()), &mut cells);
@@ -338,8 +338,8 @@ fn chain_gap<A: Allocator, K: KnownFact>(
         (IsGap (place_in_code place.now) (K.known fact.now) (fact_in_code other.now)) }
 {
     for chain in other.chains() {
-        if let Some(gap) = one_chain_gap(place, fact, chain) {
-            return Some(gap);
+        if let Some((word, ac, link)) = known_beside(place, fact, chain) {
+            return Some(Gap::Chain(chain.cell(), word, ac, link));
         }
     }
     None

@@ -2,7 +2,7 @@
 use Rattle.std.proofs.Common.{◌≡◌, ℕ, ◌+◌, ◌<◌, ◌≤◌, arith, Bool, true, false, ◌⊎◌, Option, Some, None, List, [], ◌∷◌, length, get_or, drop, map, inl, inr, refl, sym, ap, ◌∙◌, subst, zero, suc}
 use Rattle.std.specs.Prelude.{◌↔◌, ◌==◌}
 use Rattle.std.proofs.Math.ListN.{drop_of_length-le}
-use Rattle.std.specs.Prelude.{IsTrue}
+use Rattle.std.specs.Prelude.{IsTrue, IfSome}
 use Rattle.std.proofs.lemmas.Bool.{true≢false, eqb-true, eq-eqb}
 use Rattle.wordset.specs.Words.{Words, some_below}
 use Rattle.wordset.proofs.Tests.{none_of_some}
@@ -105,7 +105,7 @@ each_or_not : (x v w l : ℕ) (cs : List Chain) → EachGives x v w l cs ⊎ (Ea
 each_or_not x v w l [] = inl tt
 each_or_not x v w l (c ∷ cs) = elim (each_or_not x v w l cs) [
   | inl rest ↦ first (c.cell == x) (gives c v w l) refl refl rest
-  | inr no ↦ inr (λ h. no h.1)
+  | inr fails ↦ inr (λ h. fails h.1)
 ]
   where
     first : (same given : Bool) → (c.cell == x) ≡ same → gives c v w l ≡ given → EachGives x v w l cs → EachGives x v w l (c ∷ cs) ⊎ (EachGives x v w l (c ∷ cs) → ⊥)
@@ -122,7 +122,7 @@ is_beside pl a c v w l cells acs links one two three small has wide low not = re
   cell_word = ap (λ (s : Words). s v) (sym one) ∙ has;
   ac_word = ap (λ (s : Words). s w) (sym two) ∙ ac_has (acs w) refl;
   link = ap (λ (s : Words). s l) (sym three) ∙ link_has (links l) refl;
-  own = elim (each_or_not c.cell v w l a.chains) [ inl h ↦ h | inr no ↦ absurd (not (λ x y e. absurd (no e))) ];
+  own = elim (each_or_not c.cell v w l a.chains) [ inl h ↦ h | inr fails ↦ absurd (not (λ x y e. absurd (fails e))) ];
   excluded = not_given (gives c v w l) refl;
 }
   where
@@ -135,3 +135,8 @@ is_beside pl a c v w l cells acs links one two three small has wide low not = re
     not_given : (b : Bool) → gives c v w l ≡ b → gives c v w l ≡ false
     not_given false is = is
     not_given true is = absurd (not (λ x y e. is))
+
+-- What holds of what is found holds in other words.
+pub some_weaker : {T : Type 0} (r : Option T) (P Q : T → Type 0) → ((x : T) → P x → Q x) → IfSome r P → IfSome r Q
+some_weaker {T} None P Q f h = tt
+some_weaker {T} (Some x) P Q f h = f x h

@@ -95,8 +95,10 @@ fn cell_left<A: Allocator, P: Part, F: FactSource>(
 {
     for cell in cells.iter() {
         let name = Location::Cell(cell);
-        if let Some((word, false)) = word_left(place, part, &name, among, given) {
-            return Some((name, word));
+        if let Some((word, is_alone)) = word_left(place, part, &name, among, given) {
+            if !is_alone {
+                return Some((name, word));
+            }
         }
     }
     None

@@ -16,9 +16,8 @@ ExcludesOne p [] = ⊥
 ExcludesOne p (b ∷ []) = p b
 ExcludesOne p (b ∷ c ∷ bs) = ⊥
 
--- The fact allows this link, and what is left of it under this link doesn't land among those of the list.
+-- The fact allows this link, which is 0 or 1 as each link in code is, and what is left of it under this link doesn't land among those of the list.
 pub record FailsUnder (pl : Place) (f : Fact) (among : List Fact) (l : ℕ) : Type 0 where
-  pub small : l < 2
   pub allowed : f.link l ≡ true
   pub fails : PartLands pl (with_one_link pl l f) among → ⊥
 

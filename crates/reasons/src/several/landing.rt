@@ -59,26 +59,27 @@ fn words_taken<A: Allocator, P: Part, F: FactSource>(
     taken
 }
 
-/// The least word of a name that a part may have and that none of some facts takes; and whether they take none of its
-/// words.
+/// The least word of a name that a part may have and that none of some facts takes. Where it is told to be looked for of a name of
+/// which they take some words alone, there is none if they take none.
 fn word_left<A: Allocator, P: Part, F: FactSource>(
     place: &Place<'_, A>,
     part: &mut P,
     name: &Location,
+    needs_some: bool,
     among: &F,
     given: &mut Fact,
-) -> Option<(Word, bool)>
-    ensures found { IfSome result (λ left. IsNotTaken (place_in_code place.now) (P.part part.old)
-        (F.facts among.now) (location_of name.now) left.0) }
+) -> Option<Word>
+    ensures found { IfSome result (IsNotTaken (place_in_code place.now) (P.part part.old)
+        (F.facts among.now) (location_of name.now)) }
     ensures kept { P.part part.new ≡ P.part part.old }
 {
     let taken = words_taken(place, part, name, among, given);
+    if needs_some && taken.is_empty() {
+        return None;
+    }
     let mut possible = WordSet::all();
     part.put_set_of(name, &mut possible);
-    match possible.minus(&taken).first_from(0) {
-        None => None,
-        Some(word) => Some((word, taken.is_empty())),
-    }
+    possible.minus(&taken).first_from(0)
 }
 
 /// A word of one of some cells that none of some facts takes, where they take some of the cell's words.
@@ -95,10 +96,8 @@ fn cell_left<A: Allocator, P: Part, F: FactSource>(
 {
     for cell in cells.iter() {
         let name = Location::Cell(cell);
-        if let Some((word, is_alone)) = word_left(place, part, &name, among, given) {
-            if !is_alone {
-                return Some((name, word));
-            }
+        if let Some(word) = word_left(place, part, &name, true, among, given) {
+            return Some((name, word));
         }
     }
     None
@@ -121,9 +120,9 @@ fn name_left<A: Allocator, P: Part, F: FactSource>(
         return Some(found);
     }
     let name = Location::Accumulator;
-    match word_left(place, part, &name, among, given) {
+    match word_left(place, part, &name, false, among, given) {
         None => None,
-        Some((word, _none)) => Some((name, word)),
+        Some(word) => Some((name, word)),
     }
 }
 

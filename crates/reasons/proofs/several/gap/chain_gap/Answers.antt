@@ -7,7 +7,7 @@ use Rattle.reasons.proofs.several.gap.chain_gap.Goals as goal
 
 pub returns-in-Some : goal.returns-in-Some
 returns-in-Some g c = record { found =
-    subst (SomeChain (IsBesideChain (place_in_code c.args.place.now) (g.K.KnownFact.known c.args.fact.now) c.cell.result c.in-Some.word c.in-Some.ac c.in-Some.link)) c.chains-chain-items.ensures.chains
+    subst (SomeChain _) c.chains-chain-items.ensures.chains
     (some_chain _ _ _ _ c.loop-chain-test.true c.chain-item.is
-    (subst (λ x. IsBesideChain (place_in_code c.args.place.now) (g.K.KnownFact.known c.args.fact.now) x c.in-Some.word c.in-Some.ac c.in-Some.link (chain_of c.chain-item.result)) (sym c.cell.ensures) c.in-Some.ensures))
+    (subst (λ x. IsBesideChain (place_in_code c.args.place.now) (g.K.KnownFact.known c.args.fact.now) x _ _ _ (chain_of c.chain-item.result)) (sym c.cell.ensures) c.in-Some.ensures))
 }

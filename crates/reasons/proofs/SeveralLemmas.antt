@@ -26,7 +26,8 @@ use Rattle.judge.specs.Sums.Conditions.{Covers, CoversCallee, EachFact, IsPlaced
 use Rattle.judge.specs.Sums.Landing.{Case}
 use Rattle.judge.specs.Sums.Bodies.{IsOfBody}
 use Rattle.reasons.specs.Sums.Landing.{ExcludesOne}
-use Rattle.reasons.specs.Sums.Gaps.{IsBesideChain, SomeChain, SomeRelation}
+use Rattle.reasons.specs.Sums.Gaps.{IsBesideChain, IsGap, SomeChain, SomeRelation}
+use Rattle.reasons.specs.declared.several.gap.Gap.{Gap}
 
 relation_drop : (p : Relation → Type 0) (xs : List CodeRelation) (i : ℕ) → SomeRelation p (map relation_of (drop i xs)) → SomeRelation p (map relation_of xs)
 relation_drop p [] zero h = h
@@ -140,3 +141,14 @@ is_beside pl a c v w l cells acs links one two three small has wide low not = re
 pub some_weaker : {T : Type 0} (r : Option T) (P Q : T → Type 0) → ((x : T) → P x → Q x) → IfSome r P → IfSome r Q
 some_weaker {T} None P Q f h = tt
 some_weaker {T} (Some x) P Q f h = f x h
+
+-- What is possible beside a chain of the list.
+pub chain_found : (pl : Place) (a : Fact) (xs : List CodeChain) (ys : List Chain) (i : ℕ) (x : CodeChain) (cell v w l : ℕ) → map chain_of xs ≡ ys → i < length xs → x ≡ get_or xs i x → cell ≡ (chain_of x).cell →
+    IsBesideChain pl a (chain_of x).cell v w l (chain_of x) → SomeChain (IsBesideChain pl a cell v w l) ys
+chain_found pl a xs ys i x cell v w l all lt is same h =
+    subst (SomeChain (IsBesideChain pl a cell v w l)) all
+    (some_chain (IsBesideChain pl a cell v w l) xs i x lt is (subst (λ c. IsBesideChain pl a c v w l (chain_of x)) (sym same) h))
+
+-- What the only fact of a list excludes of a fact.
+pub excludes_equally : (pl : Place) (x y : Fact) (g : Gap) (fs : List Fact) → x ≡ y → ExcludesOne (λ b. IsGap pl x b g) fs → ExcludesOne (λ b. IsGap pl y b g) fs
+excludes_equally pl x y g fs same h = subst (λ a. ExcludesOne (λ b. IsGap pl a b g) fs) same h

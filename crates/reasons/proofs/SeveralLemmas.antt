@@ -130,9 +130,11 @@ is_beside pl a c v w l cells acs links one two three small has wide low not = re
     ac_has : (b : Bool) → acs w ≡ b → acs w ≡ true
     ac_has true is = is
     ac_has false is = absurd (not (λ x y e. absurd (true≢false (sym x ∙ is))))
+
     link_has : (b : Bool) → links l ≡ b → links l ≡ true
     link_has true is = is
     link_has false is = absurd (not (λ x y e. absurd (true≢false (sym y ∙ is))))
+
     not_given : (b : Bool) → gives c v w l ≡ b → gives c v w l ≡ false
     not_given false is = is
     not_given true is = absurd (not (λ x y e. is))

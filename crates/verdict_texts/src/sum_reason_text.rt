@@ -209,11 +209,7 @@ fn push_word_told<L: Lines>(text: &mut L, word: &Option<Word>) -> Result<(), All
 }
 
 /// Adds that it isn't known that a sum is a word.
-fn push_unknown<L: Lines>(
-    text: &mut L,
-    sum: &Sum,
-    word: &Option<Word>,
-) -> Result<(), AllocError>
+fn push_unknown<L: Lines>(text: &mut L, sum: &Sum, word: &Option<Word>) -> Result<(), AllocError>
     ensures { OnOk result (L.text text.new ≡ L.text text.old ++
         ((sum_text (sum_of sum.now) ++ word_told word.now) ++ codes " may be wrong as far as is known")) }
 {
@@ -454,7 +450,12 @@ fn push_which<L: Lines>(text: &mut L, several: bool, index: usize) -> Result<(),
     if !several {
         return text.push_text(b"");
     }
-    push_around_number(text, b"by fact ", index.saturating_add(1), b" of those there ")
+    push_around_number(
+        text,
+        b"by fact ",
+        index.saturating_add(1),
+        b" of those there ",
+    )
 }
 
 /// Adds why a condition fails. It is told whether several facts stand at the address.
@@ -476,9 +477,7 @@ fn push_reason<L: Lines>(text: &mut L, several: bool, reason: &Reason) -> Result
             *offset,
             b"",
         ),
-        Reason::SitesInMain(_) => {
-            text.push_text(b"the fact is in main's body, and has sites")
-        }
+        Reason::SitesInMain(_) => { text.push_text(b"the fact is in main's body, and has sites") }
         Reason::NoOffset(_, entry) => push_around(
             text,
             b"the fact is in the body of ",
@@ -534,11 +533,7 @@ fn word_shown(image: &Image, at: Word, reason: &Option<Reason>) -> Option<Word>
 }
 
 /// Adds the line of what a condition asks by the rules.
-fn push_asked<L: Lines>(
-    text: &mut L,
-    rules: &Rules,
-    condition: Condition,
-) -> Result<(), AllocError>
+fn push_asked<L: Lines>(text: &mut L, rules: &Rules, condition: Condition) -> Result<(), AllocError>
     ensures { OnOk result (L.text text.new ≡ L.text text.old
         ++ (condition_text condition ++ codes " asks: " ++ asked_by rules.now condition ++ codes "\n")) }
 {

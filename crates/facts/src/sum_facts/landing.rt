@@ -83,7 +83,13 @@ impl<A: Allocator> Place<'_, A> {
 
     /// Adds another fact's words of a name to those that are taken, if it takes what they leave of a part. It isn't asked
     /// where each of them that the part may have is taken already.
-    pub fn add_taken<P: Part>(&self, part: &mut P, name: &Location, other: &Fact, taken: &mut WordSet)
+    pub fn add_taken<P: Part>(
+        &self,
+        part: &mut P,
+        name: &Location,
+        other: &Fact,
+        taken: &mut WordSet,
+    )
         ensures taken { (v : ℕ) → v < 4096 → (P.part part.old).set (location_of name.now) v ≡ true →
             (words taken.new v ≡ true) ↔ ((words taken.old v ≡ true) ⊎
             TakesAt (place_in_code self.now) (location_of name.now) v (P.part part.old) (fact_in_code other.now)) }

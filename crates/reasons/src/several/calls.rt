@@ -97,10 +97,7 @@ fn call_breaks<A: Allocator, C: Claims>(
 }
 
 /// Why an address may not be called.
-fn may_not_call<A: Allocator, C: Claims>(
-    point: &Point<'_, A, C>,
-    entry: Word,
-) -> Option<CallBreach>
+fn may_not_call<A: Allocator, C: Claims>(point: &Point<'_, A, C>, entry: Word) -> Option<CallBreach>
     requires { IsPoint C.claims point.now }
     ensures found { IfSome result (CallBreaksHere C.claims point.now V7 entry) }
     ensures none { IfNone result (CallHoldsHere C.claims point.now V7 entry) }
@@ -265,7 +262,10 @@ fn misses_with<A: Allocator, C: Claims>(
         (words written.now) offset (fact_asked point.now) (fact_in_code rooms.old.exit)) }
 {
     let WhyRooms {
-        exit, next, left, ..
+        exit,
+        next,
+        left,
+        ..
     } = rooms;
     let mut sites = WordSet::empty();
     exit.sites().put(&mut sites);

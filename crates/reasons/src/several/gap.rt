@@ -115,11 +115,7 @@ fn known_beyond<A: Allocator, K: KnownFact>(
 }
 
 /// What the accumulator, MQ or the link may be that a fact excludes.
-fn word_gap<A: Allocator, K: KnownFact>(
-    place: &Place<'_, A>,
-    fact: &K,
-    other: &Fact,
-) -> Option<Gap>
+fn word_gap<A: Allocator, K: KnownFact>(place: &Place<'_, A>, fact: &K, other: &Fact) -> Option<Gap>
     ensures found { IfSome result
         (IsGap (place_in_code place.now) (K.known fact.now) (fact_in_code other.now)) }
 {
@@ -136,11 +132,7 @@ fn word_gap<A: Allocator, K: KnownFact>(
 }
 
 /// A site or an offset that is possible and that a fact excludes.
-fn call_gap<A: Allocator, K: KnownFact>(
-    place: &Place<'_, A>,
-    fact: &K,
-    other: &Fact,
-) -> Option<Gap>
+fn call_gap<A: Allocator, K: KnownFact>(place: &Place<'_, A>, fact: &K, other: &Fact) -> Option<Gap>
     ensures found { IfSome result
         (IsGap (place_in_code place.now) (K.known fact.now) (fact_in_code other.now)) }
 {
@@ -173,11 +165,7 @@ fn entry_gap<A: Allocator, K: KnownFact>(
 }
 
 /// What a cell may hold that a fact excludes.
-fn cell_gap<A: Allocator, K: KnownFact>(
-    place: &Place<'_, A>,
-    fact: &K,
-    other: &Fact,
-) -> Option<Gap>
+fn cell_gap<A: Allocator, K: KnownFact>(place: &Place<'_, A>, fact: &K, other: &Fact) -> Option<Gap>
     ensures found { IfSome result
         (IsGap (place_in_code place.now) (K.known fact.now) (fact_in_code other.now)) }
 {
@@ -206,11 +194,7 @@ fn sum_beyond<A: Allocator, K: KnownFact>(
 }
 
 /// A word that the sum of one of a fact's relations may be, by the rules of sums, and that the relation excludes.
-fn sum_gap<A: Allocator, K: KnownFact>(
-    place: &Place<'_, A>,
-    fact: &K,
-    other: &Fact,
-) -> Option<Gap>
+fn sum_gap<A: Allocator, K: KnownFact>(place: &Place<'_, A>, fact: &K, other: &Fact) -> Option<Gap>
     requires { (place_in_code place.now).rules ≡ said.OfSums }
     ensures found { IfSome result
         (IsGap (place_in_code place.now) (K.known fact.now) (fact_in_code other.now)) }

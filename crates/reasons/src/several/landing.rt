@@ -14,9 +14,7 @@ ghost use Rattle.reasons.specs.Sums.Landing.{ExcludesOne, FailsUnder, IsLeft, Is
 use crate::several::breach::Landing;
 use crate::several::gap::{Gap, gap_between};
 use domain::{Location, Rules};
-use facts::sum_facts::{
-    Fact, FactSource, KnownFact, LinkPart, NextFact, Part, Place, cells_told,
-};
+use facts::sum_facts::{Fact, FactSource, KnownFact, LinkPart, NextFact, Part, Place, cells_told};
 use std::alloc::Allocator;
 use word12::{Link, Word};
 use wordset::WordSet;

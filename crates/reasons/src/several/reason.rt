@@ -90,15 +90,7 @@ fn why_fact<A: Allocator, C: Claims>(
     if !put_asked(&rules, case.image, claimed, fact) {
         return None;
     }
-    let point = Point::of(
-        case.image,
-        case.declaration,
-        case.claims,
-        body,
-        at,
-        fact,
-        0,
-    );
+    let point = Point::of(case.image, case.declaration, case.claims, body, at, fact, 0);
     first_breach(&point, index, condition, why)
 }
 
@@ -145,10 +137,7 @@ fn why_words<A: Allocator, C: Claims>(
 }
 
 /// Why no fact at the start holds of every start, if it's asked at the start and none does.
-fn why_at_start<A: Allocator, C: Claims>(
-    case: &Case<'_, A, C>,
-    at: Word,
-) -> Option<Reason>
+fn why_at_start<A: Allocator, C: Claims>(case: &Case<'_, A, C>, at: Word) -> Option<Reason>
     ensures found { IfSome result (Explains (case_kept C.claims case.now) V1 at) }
     ensures none { IfNone result (at ≡ (case_kept C.claims case.now).declaration.start →
         HoldsAt (case_kept C.claims case.now) V1 at) }

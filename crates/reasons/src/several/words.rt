@@ -100,8 +100,9 @@ fn breach<A: Allocator, C: Claims>(
         Condition::V5 => writes_undeclared(point, word),
         Condition::V6 => writes_unlisted(point, word),
         Condition::V7 => calls_wrongly(point, word, rooms),
-        Condition::V8 | Condition::V9 | Condition::V10 | Condition::V11 =>
-            first_call(point, condition, word, rooms),
+        Condition::V8 | Condition::V9 | Condition::V10 | Condition::V11 => first_call(
+            point, condition, word, rooms,
+        ),
         Condition::V12 => returns_wrongly(point, word, rooms),
         Condition::V13 => halts_undeclared(point, word),
         Condition::V14 => writes_entry(point, word),
@@ -110,10 +111,7 @@ fn breach<A: Allocator, C: Claims>(
 }
 
 /// That a word isn't supported.
-fn is_not_supported<A: Allocator, C: Claims>(
-    point: &Point<'_, A, C>,
-    word: Word,
-) -> Option<Breach>
+fn is_not_supported<A: Allocator, C: Claims>(point: &Point<'_, A, C>, word: Word) -> Option<Breach>
     requires { IsPoint C.claims point.now }
     ensures found { IfSome result (BreaksHere C.claims point.now V3 word) }
     ensures none { IfNone result (HoldsHere C.claims point.now V3 word) }
@@ -125,10 +123,7 @@ fn is_not_supported<A: Allocator, C: Claims>(
 }
 
 /// That a word halts where no halt is declared.
-fn halts_undeclared<A: Allocator, C: Claims>(
-    point: &Point<'_, A, C>,
-    word: Word,
-) -> Option<Breach>
+fn halts_undeclared<A: Allocator, C: Claims>(point: &Point<'_, A, C>, word: Word) -> Option<Breach>
     requires { IsPoint C.claims point.now }
     ensures found { IfSome result (BreaksHere C.claims point.now V13 word) }
     ensures none { IfNone result (HoldsHere C.claims point.now V13 word) }
@@ -153,10 +148,7 @@ fn written<A: Allocator, C: Claims>(point: &Point<'_, A, C>, word: Word) -> Word
 }
 
 /// The first of some cells that isn't an entry.
-fn first_other<A: Allocator, C: Claims>(
-    point: &Point<'_, A, C>,
-    cells: &WordSet,
-) -> Option<Word>
+fn first_other<A: Allocator, C: Claims>(point: &Point<'_, A, C>, cells: &WordSet) -> Option<Word>
     ensures found { IfSome result (λ cell. (cell < 4096) × (words cells.now cell ≡ true) ×
         ((case_of C.claims point.now).declaration.entry cell ≡ false)) }
     ensures none { IfNone result ((a : ℕ) → a < 4096 → words cells.now a ≡ true →
@@ -171,10 +163,7 @@ fn first_other<A: Allocator, C: Claims>(
 }
 
 /// A cell that a word may write and that is neither a variable nor an entry.
-fn writes_undeclared<A: Allocator, C: Claims>(
-    point: &Point<'_, A, C>,
-    word: Word,
-) -> Option<Breach>
+fn writes_undeclared<A: Allocator, C: Claims>(point: &Point<'_, A, C>, word: Word) -> Option<Breach>
     requires { IsPoint C.claims point.now }
     ensures found { IfSome result (BreaksHere C.claims point.now V5 word) }
     ensures none { IfNone result (HoldsHere C.claims point.now V5 word) }
@@ -187,10 +176,7 @@ fn writes_undeclared<A: Allocator, C: Claims>(
 }
 
 /// The first entry of some cells.
-fn first_entry<A: Allocator, C: Claims>(
-    point: &Point<'_, A, C>,
-    cells: &WordSet,
-) -> Option<Word>
+fn first_entry<A: Allocator, C: Claims>(point: &Point<'_, A, C>, cells: &WordSet) -> Option<Word>
     ensures found { IfSome result (λ cell. (cell < 4096) × (words cells.now cell ≡ true) ×
         ((case_of C.claims point.now).declaration.entry cell ≡ true)) }
     ensures none { IfNone result ((a : ℕ) → a < 4096 → words cells.now a ≡ true →
@@ -205,10 +191,7 @@ fn first_entry<A: Allocator, C: Claims>(
 }
 
 /// An entry that a word may write, save where it counts the running routine's own.
-fn writes_entry<A: Allocator, C: Claims>(
-    point: &Point<'_, A, C>,
-    word: Word,
-) -> Option<Breach>
+fn writes_entry<A: Allocator, C: Claims>(point: &Point<'_, A, C>, word: Word) -> Option<Breach>
     requires { IsPoint C.claims point.now }
     ensures found { IfSome result (BreaksHere C.claims point.now V14 word) }
     ensures none { IfNone result (HoldsHere C.claims point.now V14 word) }
@@ -223,10 +206,7 @@ fn writes_entry<A: Allocator, C: Claims>(
 }
 
 /// A cell that a word may write and the running routine may not.
-fn writes_unlisted<A: Allocator, C: Claims>(
-    point: &Point<'_, A, C>,
-    word: Word,
-) -> Option<Breach>
+fn writes_unlisted<A: Allocator, C: Claims>(point: &Point<'_, A, C>, word: Word) -> Option<Breach>
     requires { IsPoint C.claims point.now }
     ensures found { IfSome result (BreaksHere C.claims point.now V6 word) }
     ensures none { IfNone result (HoldsHere C.claims point.now V6 word) }
@@ -241,10 +221,7 @@ fn writes_unlisted<A: Allocator, C: Claims>(
 
 /// A cell that a word may read and that isn't on the list of reads, nor the running routine's
 /// entry.
-fn reads_unlisted<A: Allocator, C: Claims>(
-    point: &Point<'_, A, C>,
-    word: Word,
-) -> Option<Breach>
+fn reads_unlisted<A: Allocator, C: Claims>(point: &Point<'_, A, C>, word: Word) -> Option<Breach>
     requires { IsPoint C.claims point.now }
     ensures found { IfSome result (BreaksHere C.claims point.now V15 word) }
     ensures none { IfNone result (HoldsHere C.claims point.now V15 word) }

@@ -13,8 +13,8 @@ pub returns-then-not-knows_equation-clause-found : goal.returns-then-not-knows_e
 returns-then-not-knows_equation-clause-found g c = (
   c.requires,
   subst (SomeRelation (IsUnknown (place_in_code c.args.place.now) (g.K.KnownFact.known c.args.fact.now) (sum_of c.relation-item.result.sum) c.only.result)) (c.as_slice-relation-items.ensures.relations ∙ c.relations.ensures)
-  (some_relation _ _ _ _ c.loop-relation-test.true c.relation-item.is
-  (record { sum_is = refl; word = sym c.only.ensures; unknown = not_both _ c.if-not-knows_equation.true c.knows_equation.ensures.1 })),
+      (some_relation _ _ _ _ c.loop-relation-test.true c.relation-item.is
+      (record { sum_is = refl; word = sym c.only.ensures; unknown = not_both _ c.if-not-knows_equation.true c.knows_equation.ensures.1 })),
 )
 
 pub loop-relation-preserved : goal.loop-relation-preserved

@@ -13,7 +13,7 @@ pub returns-in-Some-clause-found : goal.returns-in-Some-clause-found
 returns-in-Some-clause-found g c = (
   c.requires,
   subst (SomeRelation (IsSumBeyond (place_in_code c.args.place.now) (g.K.KnownFact.known c.args.fact.now) (sum_of c.relation-item.result.sum) c.in-Some.word)) (c.as_slice-relation-items.ensures.relations ∙ c.relations.ensures)
-  (some_relation _ _ _ _ c.loop-relation-test.true c.relation-item.is c.in-Some.ensures.found),
+      (some_relation _ _ _ _ c.loop-relation-test.true c.relation-item.is c.in-Some.ensures.found),
 )
 
 pub loop-relation-preserved : goal.loop-relation-preserved

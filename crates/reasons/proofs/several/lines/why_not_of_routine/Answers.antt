@@ -10,10 +10,12 @@ use Rattle.reasons.proofs.SeveralLemmas.{not_empty}
 use Rattle.reasons.proofs.several.lines.why_not_of_routine.Goals as goal
 
 pub returns-then-is_empty-clause-found : goal.returns-then-is_empty-clause-found
-returns-then-is_empty-clause-found g c =
-    (c.requires.index, c.requires.body,
-    some_none_of 64 (fact_at ((g.C.Claims.claims c.args.case.now.claims.now).facts c.args.at) c.args.index).offsets
-    (λ o lt. ap (λ (x : Fact). x.offsets o) (sym c.requires.fact) ∙ ap (λ (s : Words). s o) (sym c.offsets.ensures) ∙ c.is_empty.ensures.0 c.if-is_empty.true o lt))
+returns-then-is_empty-clause-found g c = (
+  c.requires.index,
+  c.requires.body,
+  some_none_of 64 (fact_at ((g.C.Claims.claims c.args.case.now.claims.now).facts c.args.at) c.args.index).offsets
+      (λ o lt. ap (λ (x : Fact). x.offsets o) (sym c.requires.fact) ∙ ap (λ (s : Words). s o) (sym c.offsets.ensures) ∙ c.is_empty.ensures.0 c.if-is_empty.true o lt),
+)
 
 pub returns-clause-none : goal.returns-clause-none
 returns-clause-none g c =

@@ -23,9 +23,11 @@ use Rattle.facts.specs.Sums.Landing.{fact_at}
 use Rattle.facts.proofs.Sums.SplitLemmas.{TakenSoFar, fact_dropped}
 use Rattle.certificate.specs.Sums.Certificate.{Certificate, writes_of}
 use Rattle.judge.specs.Sums.Conditions.{Covers, CoversCallee, EachFact, IsPlaced}
-use Rattle.judge.specs.Sums.Landing.{Case}
+use Rattle.judge.specs.Sums.Landing.{Case, facts_in, place_in}
 use Rattle.judge.specs.Sums.Bodies.{IsOfBody}
-use Rattle.reasons.specs.Sums.Landing.{ExcludesOne}
+use Rattle.reasons.specs.Sums.Landing.{ExcludesOne, IsLeft, IsLeftAt}
+use Rattle.reasons.specs.declared.several.breach.Landing.{Landing}
+use Rattle.reasons.specs.declared.several.breach.Landing.TheVariants.{NoFact, OtherBody, Excluded, ExcludedUnder, NotTaken, NotEntailed}
 use Rattle.reasons.specs.Sums.Gaps.{IsBesideChain, IsGap, SomeChain, SomeRelation}
 use Rattle.reasons.specs.declared.several.gap.Gap.{Gap}
 
@@ -154,3 +156,18 @@ chain_found pl a xs ys i x cell v w l all lt is same h =
 -- What the only fact of a list excludes of a fact.
 pub excludes_equally : (pl : Place) (x y : Fact) (g : Gap) (fs : List Fact) → x ≡ y → ExcludesOne (λ b. IsGap pl x b g) fs → ExcludesOne (λ b. IsGap pl y b g) fs
 excludes_equally pl x y g fs same h = subst (λ a. ExcludesOne (λ b. IsGap pl a b g) fs) same h
+
+left_inside : (j : Case) (r : Routine) (a : ℕ) (f : Fact) (l : Landing) → j.declaration.body r a ≡ true → IsLeft (place_in j r) f (facts_in j r a) l → IsLeftAt j r a f l
+left_inside j r a f NoFact here h = (here, h)
+left_inside j r a f OtherBody here h = absurd h
+left_inside j r a f (Excluded g) here h = (here, h)
+left_inside j r a f (ExcludedUnder l g) here h = (here, h)
+left_inside j r a f (NotTaken l n v) here h = (here, h)
+left_inside j r a f NotEntailed here h = (here, h)
+
+-- What is left of a fact at an address of the body.
+pub left_here : (j : Case) (r : Routine) (a : ℕ) (k f : Fact) (pl : Place) (fs : List Fact) (l : Landing) → j.declaration.body r a ≡ true → k ≡ f → pl ≡ place_in j r → fs ≡ facts_in j r a →
+    IsLeft pl k fs l → IsLeftAt j r a f l
+left_here j r a k f pl fs l here same place among h =
+    left_inside j r a f l here
+    (subst (λ xs. IsLeft (place_in j r) f xs l) among (subst (λ (p : Place). IsLeft p f fs l) place (subst (λ (x : Fact). IsLeft pl x fs l) same h)))

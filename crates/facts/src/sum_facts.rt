@@ -20,8 +20,9 @@ mod start_fact;
 mod starts;
 mod stores;
 
+pub use entailment::Allowed;
 pub use known::KnownFact;
-pub use landing::LandingRooms;
+pub use landing::{LandingRooms, cells_told};
 pub use outcomes::{Kind, Outcome, Outcomes};
 pub use parts::{LinkPart, Part};
 pub use place::Place;
@@ -30,4 +31,4 @@ pub use rooms::{
 };
 pub use source::FactSource;
 pub use start_fact::StartFact;
-pub use starts::StartPart;
+pub use starts::{StartPart, start_part};

@@ -6,3 +6,5 @@ pub mod LineLemmas
 pub mod SetLemmas
 mod ByLinesLemmas
 mod RefuteLemmas
+mod SeveralLemmas
+mod SeveralRefuteLemmas

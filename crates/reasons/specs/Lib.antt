@@ -5,3 +5,4 @@ pub mod Laws
 pub mod Reasons
 pub mod Spots
 pub mod Stuck
+pub mod Sums

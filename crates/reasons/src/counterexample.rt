@@ -37,7 +37,7 @@ pub enum Counterexample {
 }
 
 /// The least word of one set that another lacks.
-fn word_beyond(set: &WordSet, other: &WordSet) -> Option<Word>
+pub(crate) fn word_beyond(set: &WordSet, other: &WordSet) -> Option<Word>
     ensures found { IfSome result (IsBeyond (words set.now) (words other.now)) }
     ensures none { IfNone result (IsWithin (words set.now) (words other.now)) }
 {
@@ -45,7 +45,7 @@ fn word_beyond(set: &WordSet, other: &WordSet) -> Option<Word>
 }
 
 /// The least link of one set that another lacks.
-fn link_beyond(links: Links, others: Links) -> Option<Link>
+pub(crate) fn link_beyond(links: Links, others: Links) -> Option<Link>
     ensures found { IfSome result (IsLinkBeyond (links_of links) (links_of others)) }
     ensures none { IfNone result (IsLinkWithin (links_of links) (links_of others)) }
 {

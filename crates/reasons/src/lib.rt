@@ -11,6 +11,7 @@ mod lines;
 mod point;
 mod reason;
 mod returns;
+pub mod several;
 mod stuck;
 mod told;
 mod words;

@@ -2,3 +2,4 @@ pub mod CertificateInputs
 pub mod CertificateFaults
 pub mod CheckText
 pub mod WhyText
+pub mod SumWhyText

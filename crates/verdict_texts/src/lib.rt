@@ -6,4 +6,5 @@ pub mod explanation;
 mod gathered;
 pub mod messages;
 pub mod reason_text;
+pub mod sum_reason_text;
 pub mod verdict;

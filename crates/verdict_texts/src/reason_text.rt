@@ -19,7 +19,7 @@ use std::alloc::AllocError;
 use word12::{Link, Word};
 
 /// What a condition asks.
-fn asked(condition: Condition) -> &'static [u8]
+pub(crate) fn asked(condition: Condition) -> &'static [u8]
     ensures { result.now ≡ asked_text condition }
 {
     match condition {
@@ -51,7 +51,7 @@ fn asked(condition: Condition) -> &'static [u8]
 }
 
 /// Adds a text, an address and a text.
-fn push_around<L: Lines>(
+pub(crate) fn push_around<L: Lines>(
     text: &mut L,
     before: &[u8],
     at: Word,
@@ -66,7 +66,7 @@ fn push_around<L: Lines>(
 }
 
 /// Adds a text, a number and a text.
-fn push_around_number<L: Lines>(
+pub(crate) fn push_around_number<L: Lines>(
     text: &mut L,
     before: &[u8],
     number: usize,
@@ -82,14 +82,14 @@ fn push_around_number<L: Lines>(
 }
 
 /// Adds the digit of a link.
-fn push_link_digit<L: Lines>(text: &mut L, link: Link) -> Result<(), AllocError>
+pub(crate) fn push_link_digit<L: Lines>(text: &mut L, link: Link) -> Result<(), AllocError>
     ensures { OnOk result (L.text text.new ≡ L.text text.old ++ link_text link) }
 {
     text.push_text(if link.is_set() { b"1" } else { b"0" })
 }
 
 /// Adds what the link may be.
-fn push_link<L: Lines>(text: &mut L, link: Link) -> Result<(), AllocError>
+pub(crate) fn push_link<L: Lines>(text: &mut L, link: Link) -> Result<(), AllocError>
     ensures { OnOk result
         (L.text text.new ≡ L.text text.old ++ (codes "the link may be " ++ link_text link)) }
 {
@@ -235,7 +235,7 @@ fn push_return<L: Lines>(text: &mut L, breach: &ReturnBreach) -> Result<(), Allo
 }
 
 /// Adds a cell that may be written, and what is wrong with that.
-fn push_write<L: Lines>(text: &mut L, cell: Word, wrong: &[u8]) -> Result<(), AllocError>
+pub(crate) fn push_write<L: Lines>(text: &mut L, cell: Word, wrong: &[u8]) -> Result<(), AllocError>
     ensures { OnOk result
         (L.text text.new ≡ L.text text.old ++ around (codes "it may write ") cell wrong.now) }
 {

@@ -115,15 +115,18 @@ fn each_gives(chains: &[Chain], cell: Word, word: Word, ac: Word, link: Link) ->
 
 /// What is allowed beside a word of a cell: words of the accumulator, links, and what chains give.
 #[derive(Drop)]
-struct Allowed<'a> {
-    accumulators: &'a WordSet,
-    links: Links,
-    chains: &'a [Chain],
+pub struct Allowed<'a> {
+    /// The words of the accumulator.
+    pub accumulators: &'a WordSet,
+    /// The links.
+    pub links: Links,
+    /// The chains that are true.
+    pub chains: &'a [Chain],
 }
 
 impl Allowed<'_> {
     /// Whether a chain gives a pair of a word of its cell, or the pair isn't allowed beside the word.
-    fn permits(&self, chain: &Chain, word: Word, ac: Word, link: Link) -> bool
+    pub fn permits(&self, chain: &Chain, word: Word, ac: Word, link: Link) -> bool
         ensures { IsTrue result ↔ GivesIfAllowed (words self.now.accumulators.now) (links_of self.now.links)
             (map chain_of self.now.chains.now) (chain_of chain.now) word ac link }
     {
@@ -193,7 +196,7 @@ impl Allowed<'_> {
 
     /// Whether a chain gives each pair that is allowed beside a word of its cell. Where another chain is on the cell, only the
     /// two pairs are tried that it gives.
-    fn permits_word(&self, chain: &Chain, word: Word) -> bool
+    pub fn permits_word(&self, chain: &Chain, word: Word) -> bool
         ensures { IsTrue result ↔ GivesAllowed (words self.now.accumulators.now) (links_of self.now.links)
             (map chain_of self.now.chains.now) (chain_of chain.now) word }
     {
@@ -244,7 +247,7 @@ fn permits_all<'a>(
 impl<A: Allocator> Place<'_, A> {
     /// Puts the words that a name may hold, by a fact of which something is asked, into a place for them. By the rules of sums
     /// the fact is narrowed already; by those of equations it stands as it was told.
-    fn put_known<K: KnownFact>(&self, fact: &K, name: &Location, place: &mut WordSet)
+    pub fn put_known<K: KnownFact>(&self, fact: &K, name: &Location, place: &mut WordSet)
         ensures { words place.new ≡
             words_known (place_in_code self.now) (K.known fact.now) (location_of name.now) }
     {
@@ -394,7 +397,7 @@ impl<A: Allocator> Place<'_, A> {
 
     /// Whether a fact knows a relation by the rules of equations: it is one of its own, or one word for each of two names
     /// shows it.
-    fn knows_equation<K: KnownFact>(&self, fact: &K, relation: &Relation) -> bool
+    pub fn knows_equation<K: KnownFact>(&self, fact: &K, relation: &Relation) -> bool
         ensures { IsTrue result ↔ KnowsBy OfEquations (place_in_code self.now) (K.known fact.now) (relation_of relation.now) }
     {
         if is_among(relation, fact.relations()) {

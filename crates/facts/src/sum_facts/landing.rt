@@ -51,7 +51,7 @@ fn add_cells(cells: &[CellSet], told: &mut WordSet)
 }
 
 /// The cells of which some fact tells.
-fn cells_told<F: FactSource>(among: &F, given: &mut Fact) -> WordSet
+pub fn cells_told<F: FactSource>(among: &F, given: &mut Fact) -> WordSet
     ensures { (a : ℕ) → words result a ≡ false → AllowAll (Cell a) (F.facts among.now) }
 {
     let mut told = WordSet::empty();
@@ -83,7 +83,13 @@ impl<A: Allocator> Place<'_, A> {
 
     /// Adds another fact's words of a name to those that are taken, if it takes what they leave of a part. It isn't asked
     /// where each of them that the part may have is taken already.
-    fn add_taken<P: Part>(&self, part: &mut P, name: &Location, other: &Fact, taken: &mut WordSet)
+    pub fn add_taken<P: Part>(
+        &self,
+        part: &mut P,
+        name: &Location,
+        other: &Fact,
+        taken: &mut WordSet,
+    )
         ensures taken { (v : ℕ) → v < 4096 → (P.part part.old).set (location_of name.now) v ≡ true →
             (words taken.new v ≡ true) ↔ ((words taken.old v ≡ true) ⊎
             TakesAt (place_in_code self.now) (location_of name.now) v (P.part part.old) (fact_in_code other.now)) }
@@ -179,7 +185,7 @@ impl<A: Allocator> Place<'_, A> {
     }
 
     /// Whether a narrowed fact of one link lands among some facts.
-    pub(crate) fn part_lands<P: Part, F: FactSource>(
+    pub fn part_lands<P: Part, F: FactSource>(
         &self,
         part: &mut P,
         among: &F,

@@ -158,6 +158,13 @@ impl LinkPart {
     {
         put_part(place, fact, link, &mut self.part);
     }
+
+    /// The fact that it is.
+    pub fn fact(&self) -> &PartFact
+        ensures { fact_in_code result.now ≡ part_in_code self.now }
+    {
+        &self.part
+    }
 }
 
 impl Part for LinkPart {

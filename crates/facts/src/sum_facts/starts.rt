@@ -319,7 +319,7 @@ impl Part for StartPart<'_> {
 }
 
 /// The part of all starts with one link.
-fn start_part(image: &Image, link: Link) -> StartPart<'_>
+pub fn start_part(image: &Image, link: Link) -> StartPart<'_>
     ensures { start_part_in_code result ≡ record (start_fact (image_of image.now)) { link = one link } }
 {
     StartPart {
@@ -330,7 +330,7 @@ fn start_part(image: &Image, link: Link) -> StartPart<'_>
 
 impl<A: Allocator> Place<'_, A> {
     /// Whether the fact of all starts with one link lands among some facts.
-    fn starts_land_under<F: FactSource>(&self, link: Link, among: &F, given: &mut Fact) -> bool
+    pub fn starts_land_under<F: FactSource>(&self, link: Link, among: &F, given: &mut Fact) -> bool
         ensures { IsTrue result ↔ PartLands (place_in_code self.now)
             (with_one_link (place_in_code self.now) link (start_fact (place_in_code self.now).image)) (F.facts among.now) }
     {

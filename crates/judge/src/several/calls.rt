@@ -126,7 +126,7 @@ impl<A: Allocator, C: Claims> Point<'_, A, C> {
     }
 
     /// Whether a condition on calls holds of a callee.
-    fn callee_passes(&self, condition: Condition, entry: Word, others: &mut Others) -> bool
+    pub fn callee_passes(&self, condition: Condition, entry: Word, others: &mut Others) -> bool
         requires { IsPoint C.claims self.now }
         ensures { IsTrue result ↔
             HoldsOfCallee (case_of C.claims self.now) condition self.now.place.routine self.now.at
@@ -271,7 +271,7 @@ impl<A: Allocator, C: Claims> Point<'_, A, C> {
     }
 
     /// Whether the run lands after a return by an offset with each exit that is claimed for it.
-    fn lands_by(
+    pub fn lands_by(
         &self,
         entry: Word,
         offset: usize,
@@ -306,7 +306,7 @@ impl<A: Allocator, C: Claims> Point<'_, A, C> {
     /// Whether the run lands after a return by an offset with what the exit at hand says, if the address
     /// is one of its sites.
     #[inline(never)]
-    fn lands_with(&self, offset: usize, written: &WordSet, others: &mut Others) -> bool
+    pub fn lands_with(&self, offset: usize, written: &WordSet, others: &mut Others) -> bool
         requires point { IsPoint C.claims self.now }
         requires offset { offset < 64 }
         ensures { IsTrue result ↔
@@ -370,7 +370,7 @@ impl<A: Allocator, C: Claims> Point<'_, A, C> {
     }
 
     /// Whether the routine may return by an offset with what the fact says.
-    fn may_return(&self, entry: Word, offset: usize, others: &mut Others) -> bool
+    pub fn may_return(&self, entry: Word, offset: usize, others: &mut Others) -> bool
         requires point { IsPoint C.claims self.now }
         requires own { self.now.place.routine ≡ Some entry }
         requires offset { offset < 64 }

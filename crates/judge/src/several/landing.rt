@@ -20,7 +20,7 @@ use wordset::WordSet;
 
 impl<A: Allocator, C: Claims> Point<'_, A, C> {
     /// Whether a routine's body has an address.
-    fn is_inside(&self, owner: &Option<Word>, at: Word) -> bool
+    pub fn is_inside(&self, owner: &Option<Word>, at: Word) -> bool
         ensures { result ≡ (case_of C.claims self.now).declaration.body owner.now at }
     {
         match owner {

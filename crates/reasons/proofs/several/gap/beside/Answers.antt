@@ -1,0 +1,13 @@
+use Rattle.wordset.proofs.IterLemmas.{none_yet, given_word, one_more}
+use Rattle.reasons.proofs.several.gap.beside.Goals as goal
+
+pub loop-word-init : goal.loop-word-init
+loop-word-init c = none_yet c.iter-word-items.ensures c.into_iter-word-iterator.ensures.into_iter_gives
+
+pub loop-word-preserved : goal.loop-word-preserved
+loop-word-preserved c = one_more c.loop-word.invariant c.in-Some.ensures.steps tt
+
+pub returns-in-Some-pair_beside : goal.returns-in-Some-pair_beside
+returns-in-Some-pair_beside c =
+    let p = c.in-Some-pair_beside.ensures in
+    (c.in-Some.ensures.steps.0.small, given_word c.loop-word.invariant c.in-Some.ensures.steps, p.0, p.1, p.2)

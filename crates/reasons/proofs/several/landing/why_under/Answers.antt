@@ -1,0 +1,19 @@
+use Rattle.std.proofs.Common.{sym, ap, subst, ◌∙◌}
+use Rattle.wordset.specs.Words.{Words}
+use Rattle.domain.specs.Sums.Facts.{Fact}
+use Rattle.domain.specs.Sums.FactInCode.{fact_in_code}
+use Rattle.facts.proofs.EntailLemmas.{not_both}
+use Rattle.facts.specs.Sums.Entailment.{PartLands}
+use Rattle.facts.specs.Sums.PlaceInCode.{place_in_code}
+use Rattle.reasons.proofs.several.landing.why_under.Goals as goal
+
+pub why_link_fails-requires : goal.why_link_fails-requires
+why_link_fails-requires g c = λ h.
+    not_both _ c.if-part_lands.false c.part_lands.ensures.lands.1
+    (subst (λ (a : Fact). PartLands (place_in_code c.args.place.now) a (g.F.FactSource.facts c.args.among.now)) c.part_lands.ensures.kept h)
+
+pub returns-clause-found : goal.returns-clause-found
+returns-clause-found g c =
+    c.why_link_fails.ensures (fact_in_code c.args.fact.now)
+    (ap (λ (s : Words). s c.args.link) (sym c.link.ensures) ∙ sym c.contains.ensures ∙ c.if-not-contains.false)
+    (c.part_lands.ensures.kept ∙ c.take.ensures.part)

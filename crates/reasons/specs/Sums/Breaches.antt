@@ -1,0 +1,113 @@
+-- What a possible word breaks at the address of a fact that may have sums.
+use Rattle.std.specs.Prelude.{◌≡◌, ℕ, ◌+◌, ◌<◌, ◌≤◌, true, false, ◌⊎◌, Some, List, [], ◌∷◌, length}
+use Rattle.wordset.specs.Words.{plus}
+use Rattle.instruct.specs.Instructions.{Meaning, meaning_of}
+use Rattle.declaration.specs.Declaration.{Routine, IsListed}
+use Rattle.policy.specs.Rules.{IsSupported, HaltsDeclared}
+use Rattle.domain.specs.Sums.Facts.{Fact, last_site}
+use Rattle.domain.specs.Sums.Moves.{joined}
+use Rattle.facts.specs.Conditions.{MayWrite, calls_through_index, returned_through}
+use Rattle.facts.specs.Sums.Outcomes.{Successor, Goes, CallsTo, Returns}
+use Rattle.facts.specs.Sums.Operations.{outcomes_of}
+use Rattle.facts.specs.Sums.Landing.{fact_at}
+use Rattle.facts.specs.Sums.Conditions.{EntriesAreKept, may_write, may_read, called}
+use Rattle.facts.specs.declared.Condition.{Condition}
+use Rattle.facts.specs.declared.Condition.TheVariants.{V3, V4, V5, V6, V7, V8, V9, V10, V11, V12, V13, V14, V15}
+use Rattle.certificate.specs.Sums.Certificate.{Certificate, writes_of}
+use Rattle.judge.specs.Sums.Landing.{Case, place_in, exits_of, called_from}
+use Rattle.reasons.specs.Sums.Landing.{Misses, MissesExit}
+use Rattle.reasons.specs.declared.several.breach.Landing.{Landing}
+use Rattle.reasons.specs.declared.several.breach.CallBreach.{CallBreach}
+use Rattle.reasons.specs.declared.several.breach.CallBreach.TheVariants as call
+use Rattle.reasons.specs.declared.several.breach.ReturnBreach.{ReturnBreach}
+use Rattle.reasons.specs.declared.several.breach.ReturnBreach.TheVariants as return
+use Rattle.reasons.specs.declared.several.breach.Breach.{Breach}
+use Rattle.reasons.specs.declared.several.breach.Breach.TheVariants as breach
+
+-- In a routine this is true of it.
+abbrev pub InRoutine : Routine → (ℕ → Type 0) → Type 0
+InRoutine r p = (e : ℕ) × (r ≡ Some e) × p e
+
+-- The condition that a call which breaks this fails.
+abbrev pub condition_of_call : CallBreach → Condition
+condition_of_call call.NoEntry = V7
+condition_of_call call.NotListed = V7
+condition_of_call (call.NotLower rank own) = V7
+condition_of_call (call.Writes c) = V8
+condition_of_call call.EntryNotWritten = V8
+condition_of_call call.WritesCaller = V8
+condition_of_call call.NoSite = V9
+condition_of_call call.TooHigh = V9
+condition_of_call (call.Enters l) = V10
+condition_of_call (call.Returns o i l) = V11
+
+-- The exit at this place among those of the callee for the offset has the address of the call among its sites, and what is joined
+-- of it and of the fact doesn't land, for this reason.
+pub record MissesAfter (j : Case) (r : Routine) (a e o i : ℕ) (f : Fact) (l : Landing) : Type 0 where
+  pub offset : o < 64
+  pub there : i < length (exits_of j e o)
+  pub site : (fact_at (exits_of j e o) i).sites a ≡ true
+  pub misses : Misses j r (plus (a + 1) o) (joined j.certificate.rules f (fact_at (exits_of j e o) i) (j.certificate.writes e)) l
+
+-- What a call of e from the address a breaks.
+abbrev pub CallBreaks : Case → Routine → ℕ → Fact → ℕ → CallBreach → Type 0
+CallBreaks j r a f e call.NoEntry = j.declaration.entry e ≡ false
+CallBreaks j r a f e call.NotListed = j.certificate.listed e ≡ false
+CallBreaks j r a f e (call.NotLower rank own) =
+    InRoutine r (λ x. (j.certificate.rank e ≡ rank) × (j.certificate.rank x ≡ own) × (own ≤ rank))
+CallBreaks j r a f e (call.Writes b) =
+    InRoutine r (λ x. (b < 4096) × (j.certificate.writes e b ≡ true) × (j.certificate.writes x b ≡ false))
+CallBreaks j r a f e call.EntryNotWritten = InRoutine r (λ x. j.certificate.writes x e ≡ false)
+CallBreaks j r a f e call.WritesCaller = InRoutine r (λ x. j.certificate.writes e x ≡ true)
+CallBreaks j r a f e call.NoSite = j.certificate.sites e a ≡ false
+CallBreaks j r a f e call.TooHigh = last_site j.certificate.rules < a
+CallBreaks j r a f e (call.Enters l) = Misses j (Some e) (plus e 1) (called_from a f) l
+CallBreaks j r a f e (call.Returns o i l) = MissesAfter j r a e o i f l
+
+-- What a return through e breaks.
+abbrev pub ReturnBreaks : Case → Routine → Fact → ℕ → ReturnBreach → Type 0
+ReturnBreaks j r f e return.OtherRoutine = r ≡ Some e → ⊥
+ReturnBreaks j r f e (return.NotDeclared o) =
+    (o < 64) × (f.offsets o ≡ true) × ((8 ≤ o) ⊎ (j.declaration.offset e o ≡ false))
+ReturnBreaks j r f e (return.NotAllowed o l) = (o < 64) × (f.offsets o ≡ true) × MissesExit j e o f l
+
+-- The outcome goes on at this address, and doesn't land there.
+abbrev pub OutcomeMisses : Case → Routine → ℕ → Landing → Successor → Type 0
+OutcomeMisses j r a l (Goes next f) = (a < 4096) × (next a ≡ true) × Misses j r a f l
+OutcomeMisses j r a l (CallsTo next f) = ⊥
+OutcomeMisses j r a l (Returns f) = ⊥
+
+-- Some outcome of the list has the property.
+abbrev pub SomeOutcome : (Successor → Type 0) → List Successor → Type 0
+SomeOutcome p [] = ⊥
+SomeOutcome p (o ∷ os) = p o ⊎ SomeOutcome p os
+
+-- The condition that a word which breaks this fails.
+abbrev pub condition_of : Breach → Condition
+condition_of breach.NotSupported = V3
+condition_of (breach.WritesUndeclared c) = V5
+condition_of (breach.WritesEntry c) = V14
+condition_of (breach.WritesUnlisted c) = V6
+condition_of breach.HaltsUndeclared = V13
+condition_of breach.CallsThroughIndex = V7
+condition_of (breach.Calls e b) = condition_of_call b
+condition_of (breach.Returns e b) = V12
+condition_of (breach.GoesOn a l) = V4
+condition_of (breach.ReadsUnlisted c) = V15
+
+-- What a word of this meaning breaks at the address a of a fact in a routine's body.
+abbrev pub Breaks : Case → Routine → ℕ → Fact → Meaning → Breach → Type 0
+Breaks j r a f m breach.NotSupported = IsSupported m → ⊥
+Breaks j r a f m (breach.WritesUndeclared b) =
+    (b < 4096) × (may_write (place_in j r) f m b ≡ true) × (j.declaration.variable b ≡ false) × (j.declaration.entry b ≡ false)
+Breaks j r a f m (breach.WritesEntry b) =
+    (b < 4096) × (may_write (place_in j r) f m b ≡ true) × (j.declaration.entry b ≡ true) × (EntriesAreKept (place_in j r) f m → ⊥)
+Breaks j r a f m (breach.WritesUnlisted b) =
+    (b < 4096) × (may_write (place_in j r) f m b ≡ true) × (MayWrite (writes_of j.certificate r) r b → ⊥)
+Breaks j r a f m breach.HaltsUndeclared = HaltsDeclared j.declaration m a → ⊥
+Breaks j r a f m breach.CallsThroughIndex = calls_through_index m ≡ true
+Breaks j r a f m (breach.Calls e b) = (e < 4096) × (called (place_in j r) f m e ≡ true) × CallBreaks j r a f e b
+Breaks j r a f m (breach.Returns e b) = (returned_through j.declaration m ≡ Some e) × ReturnBreaks j r f e b
+Breaks j r a f m (breach.GoesOn b l) = SomeOutcome (OutcomeMisses j r b l) (outcomes_of (place_in j r) f a m)
+Breaks j r a f m (breach.ReadsUnlisted b) =
+    (b < 4096) × (may_read (place_in j r) f m b ≡ true) × (IsListed j.declaration.reads b ⊎ (r ≡ Some b) → ⊥)

@@ -1,0 +1,86 @@
+//! What a possible word breaks.
+
+use crate::several::gap::Gap;
+use domain::Location;
+use word12::{Link, Word};
+
+/// Why a fact doesn't land at an address, or among the exits of a routine.
+#[derive(Clone, Copy, Debug)]
+pub enum Landing {
+    /// No fact is there, or no exit.
+    NoFact,
+    /// The address isn't in the body.
+    OtherBody,
+    /// There is one, and it excludes this.
+    Excluded(Gap),
+    /// There is one, and with this link it excludes this.
+    ExcludedUnder(Link, Gap),
+    /// There are several, and with this link none of them is left for this word of a name.
+    NotTaken(Link, Location, Word),
+    /// None of them allows all that is possible.
+    NotEntailed,
+}
+
+/// What a call of an entry breaks.
+#[derive(Clone, Copy, Debug)]
+pub enum CallBreach {
+    /// V7: the address called isn't an entry.
+    NoEntry,
+    /// V7: the entry has no routine line.
+    NotListed,
+    /// V7: its rank, the first, isn't below that of the calling routine, the second.
+    NotLower(usize, usize),
+    /// V8: it may write this cell, which isn't in the written set of the calling routine.
+    Writes(Word),
+    /// V8: the entry isn't in the written set of the calling routine.
+    EntryNotWritten,
+    /// V8: the entry of the calling routine is in its written set.
+    WritesCaller,
+    /// V9: the address isn't a listed site of the entry.
+    NoSite,
+    /// V9: the address is past the last that may be a site.
+    TooHigh,
+    /// V10: the fact doesn't land at the address after the entry.
+    Enters(Landing),
+    /// V11: after a return by this offset with the exit at this place among those for the offset the fact
+    /// doesn't land.
+    Returns(usize, usize, Landing),
+}
+
+/// What a return through an entry breaks.
+#[derive(Clone, Copy, Debug)]
+pub enum ReturnBreach {
+    /// The entry isn't that of the running routine.
+    OtherRoutine,
+    /// The offset is possible and isn't declared.
+    NotDeclared(usize),
+    /// The offset is possible, and the fact doesn't land among the exits for it.
+    NotAllowed(usize, Landing),
+}
+
+/// What a possible word breaks.
+#[derive(Clone, Copy, Debug)]
+pub enum Breach {
+    /// V3: it isn't supported.
+    NotSupported,
+    /// V5: it may write this cell, which is neither a variable nor an entry.
+    WritesUndeclared(Word),
+    /// V14: it may write this entry.
+    WritesEntry(Word),
+    /// V6: it may write this cell, which isn't in the written set of the running routine, nor its
+    /// entry.
+    WritesUnlisted(Word),
+    /// V13: it halts where no halt is declared.
+    HaltsUndeclared,
+    /// V7: it calls through an auto-index cell.
+    CallsThroughIndex,
+    /// V7 to V11: it calls this address, and that call breaks this.
+    Calls(Word, CallBreach),
+    /// V12: it returns through this entry, and that return breaks this.
+    Returns(Word, ReturnBreach),
+    /// V4: the run may go on at this address, and doesn't land there.
+    GoesOn(Word, Landing),
+    /// V15: it may read this cell, which isn't on the list of reads, nor the entry of the running
+    /// routine.
+    ReadsUnlisted(Word),
+}

@@ -1,0 +1,280 @@
+//! What a call breaks.
+
+ghost use Rattle.std.specs.Prelude.{◌≡◌, ◌<◌, ◌+◌, true, IfNone, IfSome};
+ghost use Rattle.wordset.specs.Lanes.{words};
+ghost use Rattle.domain.specs.Sums.FactInCode.{fact_in_code, rules_of};
+ghost use Rattle.domain.specs.Sums.Facts.{last_site};
+ghost use Rattle.facts.specs.declared.Condition.TheVariants.{V7, V8, V9, V10, V11};
+ghost use Rattle.judge.specs.Sums.Callees.{LandsBy, LandsWith};
+ghost use Rattle.judge.specs.Sums.Conditions.{EachTarget, IsLower};
+ghost use Rattle.judge.specs.Sums.Points.{HoldsHere, IsPoint, case_of, fact_asked};
+ghost use Rattle.reasons.specs.Sums.Landing.{Misses};
+ghost use Rattle.reasons.specs.Sums.Points.{BreaksHere, CallBreaksHere, CallHoldsHere, meaning_here};
+ghost use Rattle.wordset.specs.Words.{plus};
+ghost use Rattle.domain.specs.Sums.Moves.{joined};
+
+use crate::several::breach::{Breach, CallBreach, Landing};
+use crate::several::outcomes::{misses, misses_here};
+use crate::several::rooms::WhyRooms;
+use domain::Rules;
+use facts::Condition;
+use facts::sum_facts::FactSource;
+use judge::RoutineClaim;
+use judge::several::{Claims, ExitsFor, Point};
+use std::alloc::Allocator;
+use word12::Word;
+use wordset::WordSet;
+
+/// The last address that may be a site of a call by the rules.
+fn last_site(rules: &Rules) -> usize
+    ensures { result ≡ last_site (rules_of rules.now) }
+{
+    match rules {
+        Rules::OfEquations => 0o7767,
+        Rules::OfSums => 0o7776,
+    }
+}
+
+/// A call that the rules on what may be called forbid.
+pub(crate) fn calls_wrongly<A: Allocator, C: Claims>(
+    point: &Point<'_, A, C>,
+    word: Word,
+    rooms: &mut WhyRooms,
+) -> Option<Breach>
+    requires { IsPoint C.claims point.now }
+    ensures found { IfSome result (BreaksHere C.claims point.now V7 word) }
+    ensures none { IfNone result (HoldsHere C.claims point.now V7 word) }
+{
+    if point.machine.steps_call_pointer(point.at, word) {
+        return Some(Breach::CallsThroughIndex);
+    }
+    first_call(point, Condition::V7, word, rooms)
+}
+
+/// The first call of a word that breaks a condition on calls.
+pub(crate) fn first_call<A: Allocator, C: Claims>(
+    point: &Point<'_, A, C>,
+    condition: Condition,
+    word: Word,
+    rooms: &mut WhyRooms,
+) -> Option<Breach>
+    requires { IsPoint C.claims point.now }
+    ensures found { IfSome result (BreaksHere C.claims point.now condition word) }
+    ensures none { IfNone result (EachTarget (case_of C.claims point.now) point.now.place.routine
+        (fact_asked point.now) (meaning_here C.claims point.now word) (CallHoldsHere C.claims point.now condition)) }
+{
+    let mut callees = WordSet::empty();
+    point
+        .place
+        .put_called(point.fact, point.at, word, &mut callees);
+    for entry in callees.iter() {
+        if let Some(breach) = call_breaks(point, condition, entry, rooms) {
+            return Some(Breach::Calls(entry, breach));
+        }
+    }
+    None
+}
+
+/// What a call of an entry breaks of a condition.
+fn call_breaks<A: Allocator, C: Claims>(
+    point: &Point<'_, A, C>,
+    condition: Condition,
+    entry: Word,
+    rooms: &mut WhyRooms,
+) -> Option<CallBreach>
+    requires { IsPoint C.claims point.now }
+    ensures found { IfSome result (CallBreaksHere C.claims point.now condition entry) }
+    ensures none { IfNone result (CallHoldsHere C.claims point.now condition entry) }
+{
+    match condition {
+        Condition::V7 => may_not_call(point, entry),
+        Condition::V8 => is_not_covered(point, entry),
+        Condition::V9 => is_no_site(point, entry),
+        Condition::V10 => does_not_enter(point, entry, rooms),
+        Condition::V11 => does_not_return(point, entry, rooms),
+        _ => None,
+    }
+}
+
+/// Why an address may not be called.
+fn may_not_call<A: Allocator, C: Claims>(point: &Point<'_, A, C>, entry: Word) -> Option<CallBreach>
+    requires { IsPoint C.claims point.now }
+    ensures found { IfSome result (CallBreaksHere C.claims point.now V7 entry) }
+    ensures none { IfNone result (CallHoldsHere C.claims point.now V7 entry) }
+{
+    if !point.place.declaration.is_entry(entry) {
+        return Some(CallBreach::NoEntry);
+    }
+    match point.claims.routine(entry) {
+        None => Some(CallBreach::NotListed),
+        Some(callee) => is_not_lower(point, entry, callee.rank),
+    }
+}
+
+/// Why the rank of an entry, which is this, isn't lower than that of the running routine.
+fn is_not_lower<A: Allocator, C: Claims>(
+    point: &Point<'_, A, C>,
+    entry: Word,
+    rank: usize,
+) -> Option<CallBreach>
+    requires { rank ≡ (case_of C.claims point.now).certificate.rank entry }
+    ensures found { IfSome result (CallBreaksHere C.claims point.now V7 entry) }
+    ensures none { IfNone result
+        (IsLower (case_of C.claims point.now).certificate point.now.place.routine entry) }
+{
+    let running = point.place.routine?;
+    let own = point.claimed(running).rank;
+    if rank < own {
+        return None;
+    }
+    Some(CallBreach::NotLower(rank, own))
+}
+
+/// What of a callee the running routine's written set doesn't cover.
+fn is_not_covered<A: Allocator, C: Claims>(
+    point: &Point<'_, A, C>,
+    entry: Word,
+) -> Option<CallBreach>
+    requires { IsPoint C.claims point.now }
+    ensures found { IfSome result (CallBreaksHere C.claims point.now V8 entry) }
+    ensures none { IfNone result (CallHoldsHere C.claims point.now V8 entry) }
+{
+    let running = point.place.routine?;
+    let caller = point.claimed(running);
+    let callee = point.claimed(entry);
+    if callee.writes.contains(running) {
+        return Some(CallBreach::WritesCaller);
+    }
+    if !caller.writes.contains(entry) {
+        return Some(CallBreach::EntryNotWritten);
+    }
+    match callee.writes.minus(&caller.writes).first_from(0) {
+        None => None,
+        Some(cell) => Some(CallBreach::Writes(cell)),
+    }
+}
+
+/// Why an entry may not be called from the address.
+fn is_no_site<A: Allocator, C: Claims>(point: &Point<'_, A, C>, entry: Word) -> Option<CallBreach>
+    requires { IsPoint C.claims point.now }
+    ensures found { IfSome result (CallBreaksHere C.claims point.now V9 entry) }
+    ensures none { IfNone result (CallHoldsHere C.claims point.now V9 entry) }
+{
+    if point.at.index() > last_site(&point.place.rules) {
+        return Some(CallBreach::TooHigh);
+    }
+    if point.claimed(entry).sites.contains(point.at) {
+        return None;
+    }
+    Some(CallBreach::NoSite)
+}
+
+/// Why a call doesn't land at the address after an entry.
+fn does_not_enter<A: Allocator, C: Claims>(
+    point: &Point<'_, A, C>,
+    entry: Word,
+    rooms: &mut WhyRooms,
+) -> Option<CallBreach>
+    requires { IsPoint C.claims point.now }
+    ensures found { IfSome result (CallBreaksHere C.claims point.now V10 entry) }
+    ensures none { IfNone result (CallHoldsHere C.claims point.now V10 entry) }
+{
+    let WhyRooms { next, left, .. } = rooms;
+    let callee = point.claimed(entry);
+    point.put_called_from(next);
+    match misses(
+        point,
+        &Some(entry),
+        &callee.sites,
+        entry.increment(),
+        next,
+        left,
+    ) {
+        None => None,
+        Some(landing) => Some(CallBreach::Enters(landing)),
+    }
+}
+
+/// Why the run doesn't land after a return that is claimed of an entry.
+fn does_not_return<A: Allocator, C: Claims>(
+    point: &Point<'_, A, C>,
+    entry: Word,
+    rooms: &mut WhyRooms,
+) -> Option<CallBreach>
+    requires { IsPoint C.claims point.now }
+    ensures found { IfSome result (CallBreaksHere C.claims point.now V11 entry) }
+    ensures none { IfNone result (CallHoldsHere C.claims point.now V11 entry) }
+{
+    let callee = point.claimed(entry);
+    for offset in 0..64usize {
+        if let Some(breach) = does_not_return_by(point, entry, offset, &callee, rooms) {
+            return Some(breach);
+        }
+    }
+    None
+}
+
+/// Why the run doesn't land after a return by an offset, with the first of the exits for it with which it doesn't.
+fn does_not_return_by<A: Allocator, C: Claims>(
+    point: &Point<'_, A, C>,
+    entry: Word,
+    offset: usize,
+    callee: &RoutineClaim,
+    rooms: &mut WhyRooms,
+) -> Option<CallBreach>
+    requires point { IsPoint C.claims point.now }
+    requires offset { offset < 64 }
+    requires sites { words callee.now.sites ≡ (case_of C.claims point.now).certificate.sites entry }
+    requires writes { words callee.now.writes ≡ (case_of C.claims point.now).certificate.writes entry }
+    ensures found { IfSome result (CallBreaksHere C.claims point.now V11 entry) }
+    ensures none { IfNone result (LandsBy (case_of C.claims point.now) point.now.place.routine point.now.at entry
+        offset (fact_asked point.now)) }
+{
+    let exits = ExitsFor {
+        claims: point.claims,
+        entry,
+        offset,
+        sites: &callee.sites,
+    };
+    for index in 0..exits.len() {
+        exits.put(index, &mut rooms.exit);
+        if let Some(landing) = misses_with(point, offset, &callee.writes, rooms) {
+            return Some(CallBreach::Returns(offset, index, landing));
+        }
+    }
+    None
+}
+
+/// Why the run doesn't land after a return by an offset with what the exit at hand says, if the address is one of its sites.
+fn misses_with<A: Allocator, C: Claims>(
+    point: &Point<'_, A, C>,
+    offset: usize,
+    written: &WordSet,
+    rooms: &mut WhyRooms,
+) -> Option<Landing>
+    requires point { IsPoint C.claims point.now }
+    requires offset { offset < 64 }
+    ensures site { IfSome result (λ l. (fact_in_code rooms.old.exit).sites point.now.at ≡ true) }
+    ensures found { IfSome result (Misses (case_of C.claims point.now) point.now.place.routine
+        (plus (point.now.at + 1) offset) (joined (case_of C.claims point.now).certificate.rules
+        (fact_asked point.now) (fact_in_code rooms.old.exit) (words written.now))) }
+    ensures none { IfNone result (LandsWith (case_of C.claims point.now) point.now.place.routine point.now.at
+        (words written.now) offset (fact_asked point.now) (fact_in_code rooms.old.exit)) }
+{
+    let WhyRooms {
+        exit,
+        next,
+        left,
+        ..
+    } = rooms;
+    let mut sites = WordSet::empty();
+    exit.sites().put(&mut sites);
+    if !sites.contains(point.at) {
+        return None;
+    }
+    point.fact.is_within_room();
+    exit.is_within_room();
+    next.take_joined(&point.place.rules, point.fact, exit, written);
+    let at = point.at.increment().add(Word::from_index(offset));
+    misses_here(point, at, next, left)
+}

@@ -1,0 +1,120 @@
+//! What a return breaks.
+
+ghost use Rattle.std.specs.Prelude.{◌≡◌, ◌<◌, IfNone, IfSome, Some};
+ghost use Rattle.facts.specs.declared.Condition.TheVariants.{V12};
+ghost use Rattle.judge.specs.Sums.Callees.{ReturnsBy, ReturnsThrough};
+ghost use Rattle.judge.specs.Sums.Landing.{LandsAtExit};
+ghost use Rattle.judge.specs.Sums.Points.{HoldsHere, IsPoint, case_of, fact_asked};
+ghost use Rattle.reasons.specs.Sums.Landing.{MissesExit};
+ghost use Rattle.reasons.specs.Sums.Points.{BreaksHere, ReturnBreaksHere};
+
+use crate::several::breach::{Breach, Landing, ReturnBreach};
+use crate::several::landing::what_is_left;
+use crate::several::rooms::{LeftRooms, WhyRooms};
+use judge::several::{Claims, ExitsFor, Point};
+use std::alloc::Allocator;
+use word12::Word;
+
+/// A return that breaks the rules on returns.
+pub(crate) fn returns_wrongly<A: Allocator, C: Claims>(
+    point: &Point<'_, A, C>,
+    word: Word,
+    rooms: &mut WhyRooms,
+) -> Option<Breach>
+    requires { IsPoint C.claims point.now }
+    ensures found { IfSome result (BreaksHere C.claims point.now V12 word) }
+    ensures none { IfNone result (HoldsHere C.claims point.now V12 word) }
+{
+    let entry = point.machine.returned_entry(point.at, word)?;
+    match return_breaks(point, entry, rooms) {
+        None => None,
+        Some(breach) => Some(Breach::Returns(entry, breach)),
+    }
+}
+
+/// What a return through an entry breaks.
+fn return_breaks<A: Allocator, C: Claims>(
+    point: &Point<'_, A, C>,
+    entry: Word,
+    rooms: &mut WhyRooms,
+) -> Option<ReturnBreach>
+    requires { IsPoint C.claims point.now }
+    ensures found { IfSome result (ReturnBreaksHere C.claims point.now entry) }
+    ensures none { IfNone result (ReturnsThrough (case_of C.claims point.now) point.now.place.routine entry
+        (fact_asked point.now)) }
+{
+    if !point.is_own(entry) {
+        return Some(ReturnBreach::OtherRoutine);
+    }
+    for offset in 0..64usize {
+        if let Some(breach) = returns_by(point, entry, offset, rooms) {
+            return Some(breach);
+        }
+    }
+    None
+}
+
+/// What a return through the running routine's entry by an offset breaks, if the fact has the offset.
+fn returns_by<A: Allocator, C: Claims>(
+    point: &Point<'_, A, C>,
+    entry: Word,
+    offset: usize,
+    rooms: &mut WhyRooms,
+) -> Option<ReturnBreach>
+    requires point { IsPoint C.claims point.now }
+    requires own { point.now.place.routine ≡ Some entry }
+    requires offset { offset < 64 }
+    ensures found { IfSome result (ReturnBreaksHere C.claims point.now entry) }
+    ensures none { IfNone result (ReturnsBy (case_of C.claims point.now) entry (fact_asked point.now) offset) }
+{
+    if !point.fact.offsets().contains(offset) {
+        return None;
+    }
+    if offset >= 8 {
+        return Some(ReturnBreach::NotDeclared(offset));
+    }
+    if !point
+        .place
+        .declaration
+        .has_offset(entry, Word::from_index(offset))
+    {
+        return Some(ReturnBreach::NotDeclared(offset));
+    }
+    match misses_exits(point, entry, offset, rooms) {
+        None => None,
+        Some(landing) => Some(ReturnBreach::NotAllowed(offset, landing)),
+    }
+}
+
+/// Why the fact doesn't land among the exits of the running routine for an offset, if it doesn't.
+fn misses_exits<A: Allocator, C: Claims>(
+    point: &Point<'_, A, C>,
+    entry: Word,
+    offset: usize,
+    rooms: &mut WhyRooms,
+) -> Option<Landing>
+    requires point { IsPoint C.claims point.now }
+    requires own { point.now.place.routine ≡ Some entry }
+    requires offset { offset < 64 }
+    ensures found { IfSome result (MissesExit (case_of C.claims point.now) entry offset (fact_asked point.now)) }
+    ensures none { IfNone result (LandsAtExit (case_of C.claims point.now) entry offset (fact_asked point.now)) }
+{
+    let WhyRooms { next, left, .. } = rooms;
+    let LeftRooms {
+        landing,
+        part,
+        given,
+    } = left;
+    point.fact.is_within_room();
+    next.copy_from(point.fact);
+    let exits = ExitsFor {
+        claims: point.claims,
+        entry,
+        offset,
+        sites: &point.body.claim.sites,
+    };
+    if point.place.lands(next, &exits, landing) {
+        return None;
+    }
+    Some(what_is_left(&point.place, next, &exits, part, given))
+}

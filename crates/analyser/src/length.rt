@@ -2,7 +2,7 @@
 
 ghost use Rattle.std.specs.Prelude.{◌≡◌, false};
 
-use certificate::Certificate;
+use certificate::sums::Certificate;
 use std::alloc::Allocator;
 use streams::{ByteSink, Failed};
 

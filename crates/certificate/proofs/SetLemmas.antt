@@ -141,10 +141,10 @@ text_all s rs h same =
 -- ---- the runs of a set
 
 -- The runs of a set's words from n on.
-record RunsFrom (s : Words) (n : ℕ) : Type 0 where
-  runs : List Run
-  apart : StandApart n runs
-  same : (v : ℕ) → n ≤ v → v < 4096 → s v ≡ joined nothing runs v
+pub record RunsFrom (s : Words) (n : ℕ) : Type 0 where
+  pub runs : List Run
+  pub apart : StandApart n runs
+  pub same : (v : ℕ) → n ≤ v → v < 4096 → s v ≡ joined nothing runs v
 
 -- A run at the front, and further ones.
 begun : (s : Words) (n last : ℕ) (rs : List Run) → n ≤ last → last < 4096 → StandApart (last + 2) rs → ((v : ℕ) → n ≤ v → v ≤ last → s v ≡ true) →
@@ -194,7 +194,7 @@ runs_down s (suc k) n e =
       }
     ]
 
-set_runs : (s : Words) → RunsFrom s 0
+pub set_runs : (s : Words) → RunsFrom s 0
 set_runs s = runs_down s 4096 0 (omega arith)
 
 pub text_of : (rs : List Run) → StandApart 0 rs → marks 4096 (set_of_runs rs) ≡ runs_text rs

@@ -1,23 +1,18 @@
 //! The conditions on a certificate, and the theorem that they make a program safe.
 #![tactic(auto)]
 
-ghost use Rattle.judge.specs.Headline.{ProgramsAreSafe, UnlistedReadsAreFree};
+ghost use Rattle.judge.specs.Sums.Headline.{ProgramsAreSafe, UnlistedReadsAreFree};
 
-mod calls;
-mod claims;
 mod judging;
-mod landing;
 pub mod laws;
-mod lines;
-mod point;
+pub mod several;
 mod verdict;
-mod words;
 
 pub use certificate::RoutineClaim;
-pub use claims::Claims;
 pub use facts::Condition;
-pub use judging::{Refusal, judge};
-pub use verdict::{Certified, CertifyFault, certify};
+pub use judging::Refusal;
+pub use several::{Certified, Claims, Rooms, certify, judge};
+pub use verdict::CertifyFault;
 
 /// The headline. Whenever `certify` answers yes for a tape, a declaration and a certificate, then in
 /// every run from the declared start, whatever unset memory holds and however keys, tape frames,

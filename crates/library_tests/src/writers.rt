@@ -3,7 +3,8 @@
 
 use crate::fixtures::{HELLO, HELLO_CERTIFICATE, HELLO_WORDS, image};
 use bin_tape::{ByteSink, Failed, WriteTapeFault, write_tape};
-use certificate::{Certificate, WriteFault};
+use certificate::WriteFault;
+use certificate::sums::Certificate;
 use instruct::Profile;
 use pal_asm::assemble;
 use std::test::Fail;

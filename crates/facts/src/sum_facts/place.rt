@@ -1,0 +1,56 @@
+//! Where a fact stands: the tape, the declaration, the running routine and the rules.
+
+ghost use Rattle.std.specs.Prelude.{◌≡◌};
+ghost use Rattle.wordset.specs.Lanes.{words};
+ghost use Rattle.domain.specs.Facts.{is_routine};
+ghost use Rattle.domain.specs.Meaning.{location_of};
+ghost use Rattle.domain.specs.Sums.FactInCode.{fact_in_code};
+ghost use Rattle.domain.specs.Sums.Narrowing.{words_known};
+ghost use Rattle.facts.specs.Sums.PlaceInCode.{place_in_code};
+
+use bin_tape::Image;
+use declaration::Declaration;
+use domain::{Location, Rules, SumFact};
+use std::alloc::Allocator;
+use word12::Word;
+use wordset::WordSet;
+
+/// Where a fact stands, beside its address.
+///
+/// Contracts see it as `place_in_code` gives it.
+#[derive(Drop)]
+pub struct Place<'a, A: Allocator> {
+    /// The tape's words.
+    pub image: &'a Image,
+    /// The program's declaration.
+    pub declaration: &'a Declaration<A>,
+    /// The entry of the routine whose body has the address; none in main.
+    pub routine: Option<Word>,
+    /// By which rules facts are taken further.
+    pub rules: Rules,
+}
+
+impl<A: Allocator> Place<'_, A> {
+    /// Whether a cell is the running routine's entry.
+    pub fn is_own(&self, cell: Word) -> bool
+        ensures { result ≡ is_routine (place_in_code self.now).routine cell }
+    {
+        match self.routine {
+            None => false,
+            Some(entry) => cell == entry,
+        }
+    }
+
+    /// Puts the words that a name may hold, by a fact of which something is asked, into a place for them.
+    pub fn put_words_known<const C: usize, const R: usize>(
+        &self,
+        fact: &SumFact<C, R>,
+        name: &Location,
+        place: &mut WordSet,
+    )
+        ensures { words place.new ≡
+            words_known (place_in_code self.now) (fact_in_code fact.now) (location_of name.now) }
+    {
+        fact.put_words_by(&self.rules, self.image, name, place);
+    }
+}

@@ -176,7 +176,7 @@ impl<A: Allocator> Certificate<A> {
     {
         let routine = entry.index();
         let exits = FIRST_EXIT + 64 * routine;
-        self.kept.next_place(routine) == routine || self.kept.next_place(exits) < exits + 64
+        self.kept.next_place(0, routine) == routine || self.kept.next_place(0, exits) < exits + 64
     }
 
     /// The least entry from a number on whose routine is named.
@@ -188,8 +188,8 @@ impl<A: Allocator> Certificate<A> {
         if from >= 4096 {
             return None;
         }
-        let routine = self.kept.next_place(from);
-        let exit = (self.kept.next_place(FIRST_EXIT + 64 * from) - FIRST_EXIT) / 64;
+        let routine = self.kept.next_place(0, from);
+        let exit = (self.kept.next_place(0, FIRST_EXIT + 64 * from) - FIRST_EXIT) / 64;
         let least = routine.min(exit);
         if least < 4096 {
             Some(Word::from_index(least))
@@ -199,8 +199,8 @@ impl<A: Allocator> Certificate<A> {
     }
 
     /// The least address from a number on at which something is claimed: that of a fact, or the entry of a routine that is
-    /// named. A fact mostly stands at the number itself, so facts are looked for first.
-    pub fn next_claimed(&self, from: usize) -> Option<Word>
+    /// named. A fact mostly stands at the number itself, so facts are looked for first, and one line is looked at before all others.
+    pub fn next_claimed(&self, from: usize, near: usize) -> Option<Word>
         ensures { MatchOption result
             (HasNoneFrom from (claimed (claims self.now)))
             (λ w. IsFirstFrom from (claimed (claims self.now)) w) }
@@ -208,12 +208,12 @@ impl<A: Allocator> Certificate<A> {
         if from >= 4096 {
             return None;
         }
-        let fact = self.kept.next_place(FIRST_FACT + from) - FIRST_FACT;
+        let fact = self.kept.next_place(near, FIRST_FACT + from) - FIRST_FACT;
         if fact == from {
             return Some(Word::from_index(from));
         }
-        let routine = self.kept.next_place(from);
-        let exit = (self.kept.next_place(FIRST_EXIT + 64 * from) - FIRST_EXIT) / 64;
+        let routine = self.kept.next_place(0, from);
+        let exit = (self.kept.next_place(0, FIRST_EXIT + 64 * from) - FIRST_EXIT) / 64;
         let least = routine.min(fact).min(exit);
         if least < 4096 {
             Some(Word::from_index(least))
@@ -342,7 +342,7 @@ impl<A: Allocator> Certificate<A> {
     {
         let first = FIRST_EXIT + 64 * entry.index();
         let least = from.min(64);
-        let place = self.kept.next_place(first + least);
+        let place = self.kept.next_place(0, first + least);
         if place >= first + 64 {
             return None;
         }

@@ -194,7 +194,7 @@ fn routine_is_told(read: &Certificate<Global>, entry: Word) -> bool {
 fn a_certificate_tells_its_lines(rt: HostRuntime) -> Result<(), Fail> {
     let read = Certificate::parse(rt.alloc(), TEXT)?;
     let (entry, at) = (word(0o214), word(0o206));
-    assert!(rt; read.version() == Version::Two && read.next_claimed(0o207) == Some(entry));
+    assert!(rt; read.version() == Version::Two && read.next_claimed(0o207, 0) == Some(entry));
     assert!(rt; read.names(entry) && !read.names(at) && read.count_facts(entry, 0) == 0);
     assert!(rt; fact_is_told(&read, at) && routine_is_told(&read, entry));
     Ok(())

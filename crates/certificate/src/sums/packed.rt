@@ -980,6 +980,7 @@ impl<A: Allocator> PackedLines<A> {
     }
 
     /// The line at a place as it is packed, with its runs and steps.
+    #[inline(always)]
     pub fn line(&self, at: usize) -> LentLine<'_>
         requires { at < length (said_lines self.now) }
         ensures there { drop at (said_lines self.now) ≡ said_of result ∷ drop (at + 1) (said_lines self.now) }
@@ -1114,13 +1115,13 @@ impl<A: Allocator> PackedLines<A> {
         kept.past as usize == place + 1
     }
 
-    /// The least place of a line from a number on, or that of the end, which is not kept.
-    pub fn next_place(&self, from: usize) -> usize
+    /// The least place of a line from a number on, or that of the end, which is not kept. It is looked first at one line.
+    pub fn next_place(&self, near: usize, from: usize) -> usize
         requires order { AreRising 0 (said_lines self.now) }
         requires small { from ≤ 270336 }
         ensures { result ≡ least_place (from_place from (said_lines self.now)) }
     {
-        let at = self.seek(from);
+        let at = self.from(near, from);
         if at >= self.list.len() {
             return LAST_PLACE;
         }

@@ -1,7 +1,8 @@
 -- Entailment part by part: one entry, relation or chain after another.
-use Rattle.std.proofs.Common.{◌≡◌, ℕ, ◌+◌, ◌<◌, ◌≤◌, Bool, true, false, ◌&&◌, ◌||◌, ◌==◌, List, [], ◌∷◌, ◌++◌, map, drop, get_or, length, refl, sym, ap, ◌∙◌, subst, arith, inl, inr, Option, Some, None}
+use Rattle.std.proofs.Common.{◌≡◌, ℕ, zero, suc, ◌+◌, ◌<◌, ◌≤◌, Bool, true, false, ◌&&◌, ◌||◌, ◌==◌, List, [], ◌∷◌, ◌++◌, map, drop, get_or, length, refl, sym, ap, ◌∙◌, subst, arith, inl, inr, Option, Some, None}
 use Rattle.std.specs.Prelude.{IsTrue, ◌↔◌, ◌⊎◌, if◌then◌else◌, flat_map}
 use Rattle.std.specs.List.{list_all}
+use Rattle.std.proofs.Math.ListN.{drop_of_length-le}
 use Rattle.std.proofs.lemmas.Bool.{and_from, and_parts, cond_both, eqb-true, eq-eqb, true≢false, false≢true, cases_eq, cases_lt, ne_eqb}
 use Rattle.wordset.specs.Words.{Words, IsWithin, SameWords, IsLinkWithin, meet, plus, some_below}
 use Rattle.wordset.proofs.SetLemmas.{lt_to, words_past}
@@ -160,6 +161,25 @@ pub among_found : {A : Type 0} (f : A → Relation) (r : Relation) (xs : List A)
     (Among r (map f (drop i xs)) ↔ Among r (map f xs)) → IsTrue true ↔ Among r (map f xs)
 among_found f r xs i x lt e w h = some_found f (Among r) (IsOne r) (λ b bs k. k) xs i x lt e w h
 
+-- the one at a place
+pub among_at : {A : Type 0} (f : A → Relation) (r : Relation) (xs : List A) (i : ℕ) (x : A) → i < length xs → x ≡ get_or xs i x → IsOne r (f x) → Among r (map f xs)
+among_at f r [] i x lt e w = absurd (omega arith)
+among_at f r (y ∷ ys) zero x lt e w = inl (subst (λ z. IsOne r (f z)) e w)
+among_at f r (y ∷ ys) (suc i) x lt e w = inr (among_at f r ys i x (omega arith) e w)
+
+-- one that is another one leaves those behind it
+pub among_behind : {A : Type 0} (f : A → Relation) (r : Relation) (xs : List A) (i : ℕ) (x : A) → i < length xs → x ≡ get_or xs i x → (IsOne r (f x) → ⊥) →
+    Among r (map f (drop i xs)) → Among r (map f (drop (i + 1) xs))
+among_behind f r xs i x lt e w h = behind (subst (λ ys. Among r (map f ys)) (drop_item xs i x lt e) h)
+  where
+    behind : IsOne r (f x) ⊎ Among r (map f (drop (i + 1) xs)) → Among r (map f (drop (i + 1) xs))
+    behind (inl one) = absurd (w one)
+    behind (inr rest) = rest
+
+-- past the last one there is none
+pub among_none : {A : Type 0} (f : A → Relation) (r : Relation) (xs : List A) (i : ℕ) → length xs ≤ i → Among r (map f (drop i xs)) → ⊥
+among_none f r xs i le h = subst (λ ys. Among r (map f ys)) (drop_of_length-le xs le) h
+
 pub among_step : {A : Type 0} (f : A → Relation) (r : Relation) (xs : List A) (i : ℕ) (x : A) → i < length xs → x ≡ get_or xs i x → (IsOne r (f x) → ⊥) →
     (Among r (map f (drop i xs)) ↔ Among r (map f xs)) → Among r (map f (drop (i + 1) xs)) ↔ Among r (map f xs)
 among_step f r xs i x lt e w h = some_step f (Among r) (IsOne r) (λ b bs k. k) (λ b bs k. k) xs i x lt e w h
@@ -252,8 +272,8 @@ module _ (accumulators links : Words) (own : List Chain) (c : Chain) (v : ℕ) w
 
   -- both links
   pub each_link : (p : ℕ → Type 0) → p 0 → p 1 → (l : ℕ) → l < 2 → p l
-  each_link p zero one l lt = elim (cases_eq l 0) [
-    | inl e ↦ subst p (sym e) zero
+  each_link p clear one l lt = elim (cases_eq l 0) [
+    | inl e ↦ subst p (sym e) clear
     | inr n ↦ (let e : l ≡ 1 = omega (arith, n) in subst p (sym e) one)
   ]
 
@@ -282,7 +302,7 @@ module _ (accumulators links : Words) (own : List Chain) (c : Chain) (v : ℕ) w
   pub by_both : (b : Bool) (other : Chain) → ((w l : ℕ) → gives_from other 0 v w l ≡ true → Allows w l) → (IsTrue b ↔ ((w l : ℕ) → gives_from other 1 v w l ≡ true → Allows w l)) →
       IsTrue b ↔ ((w l : ℕ) → gives other v w l ≡ true → Allows w l)
   by_both b other first second = (
-    λ t w l g. elim (from_either (λ k. gives_from other k v w l) g) [ inl one ↦ second.0 t w l one | inr zero ↦ first w l zero ],
+    λ t w l g. elim (from_either (λ k. gives_from other k v w l) g) [ inl one ↦ second.0 t w l one | inr clear ↦ first w l clear ],
     λ all. second.1 (λ w l g. all w l (from_first (λ k. gives_from other k v w l) g)),
   )
 
@@ -366,6 +386,12 @@ entry_here f a xs i x lt e same v h =
     let p = and_parts (if (f x).address == a then (f x).set v else true) (tracked a (map f (drop (i + 1) xs)) v) (subst (λ ys. tracked a (map f ys) v ≡ true) (drop_item xs i x lt e) h) in
     let q : ((f x).address == a) ≡ true = eq-eqb (f x).address a same in
     subst (λ b. (if b then (f x).set v else true) ≡ true) q p.0
+
+pub entry_at : {A : Type 0} (f : A → TrackedCell) (a : ℕ) (xs : List A) (i : ℕ) (x : A) → i < length xs → x ≡ get_or xs i x → (f x).address ≡ a →
+    (v : ℕ) → tracked a (map f xs) v ≡ true → (f x).set v ≡ true
+entry_at f a [] i x lt e same v h = absurd (omega arith)
+entry_at f a (y ∷ ys) zero x lt e same v h = entry_here f a (y ∷ ys) 0 x lt e same v h
+entry_at f a (y ∷ ys) (suc i) x lt e same v h = entry_at f a ys i x (omega arith) e same v (and_parts (if (f y).address == a then (f y).set v else true) (tracked a (map f ys) v) h).1
 
 pub entry_passed : {A : Type 0} (f : A → TrackedCell) (a : ℕ) (xs : List A) (i : ℕ) (x : A) → i < length xs → x ≡ get_or xs i x →
     (v : ℕ) → tracked a (map f (drop i xs)) v ≡ true → tracked a (map f (drop (i + 1) xs)) v ≡ true

@@ -1,6 +1,6 @@
 //! Whether one fact says at least as much as another.
 
-ghost use Rattle.std.specs.Prelude.{ℕ, ◌≡◌, ◌<◌, ◌↔◌, IsTrue, MatchOption, true, map};
+ghost use Rattle.std.specs.Prelude.{ℕ, ◌≡◌, ◌<◌, ◌+◌, ◌↔◌, IsTrue, MatchOption, true, false, drop, map};
 ghost use Rattle.wordset.specs.Words.{IsWithin, SameWords, only};
 ghost use Rattle.wordset.specs.Lanes.{words};
 ghost use Rattle.wordset.specs.Links.{links_of};
@@ -44,16 +44,34 @@ fn is_same_relation(a: &Relation, b: &Relation) -> bool
     b.set.is_subset(&a.set)
 }
 
-/// Whether a relation is one of some.
-fn is_among(relation: &Relation, relations: &[Relation]) -> bool
-    ensures { IsTrue result ↔ Among (relation_of relation.now) (map relation_of relations.now) }
+/// Whether the relation at a place of some is this one.
+fn is_at(relation: &Relation, relations: &[Relation], at: usize) -> bool
+    ensures found { IsTrue result → Among (relation_of relation.now) (map relation_of relations.now) }
+    ensures other { result ≡ false → Among (relation_of relation.now) (map relation_of (drop at relations.now)) →
+        Among (relation_of relation.now) (map relation_of (drop (at + 1) relations.now)) }
 {
-    for other in relations {
-        if is_same_relation(other, relation) {
-            return true;
+    if at >= relations.len() {
+        return false;
+    }
+    is_same_relation(&relations[at], relation)
+}
+
+/// Where a relation stands among some, if it is one of them. One place is looked at first: any serves, and it only spares a
+/// search.
+fn place_among(relation: &Relation, relations: &[Relation], near: usize) -> Option<usize>
+    ensures { MatchOption result
+        (Among (relation_of relation.now) (map relation_of relations.now) → ⊥)
+        (λ at. Among (relation_of relation.now) (map relation_of relations.now)) }
+{
+    if is_at(relation, relations, near) {
+        return Some(near);
+    }
+    for at in 0..relations.len() {
+        if is_at(relation, relations, at) {
+            return Some(at);
         }
     }
-    false
+    None
 }
 
 /// The two names of which a sum is the difference, if it is one.
@@ -277,11 +295,15 @@ impl<A: Allocator> Place<'_, A> {
         known.only()
     }
 
-    /// Whether a cell has no word that another fact's entry excludes; its set as it stands is tried first.
-    fn has_cell_within<K: KnownFact>(&self, fact: &K, entry: &CellSet) -> bool
+    /// Whether a cell has no word that another fact's entry excludes; its set as it stands is tried first, and before that its
+    /// entry at a place.
+    fn has_cell_within<K: KnownFact>(&self, fact: &K, near: usize, entry: &CellSet) -> bool
         ensures { IsTrue result ↔
             IsWithin (words_known (place_in_code self.now) (K.known fact.now) (Cell entry.now.cell)) (brief_words entry.now.set) }
     {
+        if fact.has_within_at(near, entry.cell, &entry.set) {
+            return true;
+        }
         if fact.has_plainly_within(entry.cell, &entry.set) {
             return true;
         }
@@ -293,10 +315,12 @@ impl<A: Allocator> Place<'_, A> {
         ensures { IsTrue result ↔
             EachWithin (place_in_code self.now) (K.known fact.now) (map cell_set_of cells.now) }
     {
+        let mut near = 0usize;
         for entry in cells {
-            if !self.has_cell_within(fact, entry) {
+            if !self.has_cell_within(fact, near, entry) {
                 return false;
             }
+            near = near.wrapping_add(1);
         }
         true
     }
@@ -400,20 +424,35 @@ impl<A: Allocator> Place<'_, A> {
     pub fn knows_equation<K: KnownFact>(&self, fact: &K, relation: &Relation) -> bool
         ensures { IsTrue result ↔ KnowsBy OfEquations (place_in_code self.now) (K.known fact.now) (relation_of relation.now) }
     {
-        if is_among(relation, fact.relations()) {
-            return true;
+        self.knows_equation_near(fact, relation, &mut 0)
+    }
+
+    /// The same, where the fact's own relation at a place is looked at first. The place becomes the next one.
+    fn knows_equation_near<K: KnownFact>(
+        &self,
+        fact: &K,
+        relation: &Relation,
+        near: &mut usize,
+    ) -> bool
+        ensures { IsTrue result ↔ KnowsBy OfEquations (place_in_code self.now) (K.known fact.now) (relation_of relation.now) }
+    {
+        match place_among(relation, fact.relations(), *near) {
+            Some(at) => {
+                *near = at.wrapping_add(1);
+                true
+            }
+            None => self.shows_difference(fact, relation),
         }
-        self.shows_difference(fact, relation)
     }
 
     /// Whether a fact knows a relation, by the rules of the place.
-    fn knows<K: KnownFact>(&self, fact: &K, relation: &Relation) -> bool
+    fn knows<K: KnownFact>(&self, fact: &K, relation: &Relation, near: &mut usize) -> bool
         ensures { IsTrue result ↔ KnowsBy (place_in_code self.now).rules (place_in_code self.now) (K.known fact.now)
             (relation_of relation.now) }
     {
         match &self.rules {
             Rules::OfSums => self.says_within(fact, relation),
-            Rules::OfEquations => self.knows_equation(fact, relation),
+            Rules::OfEquations => self.knows_equation_near(fact, relation, near),
         }
     }
 
@@ -422,8 +461,9 @@ impl<A: Allocator> Place<'_, A> {
         ensures { IsTrue result ↔
             KnowsAll (place_in_code self.now) (K.known fact.now) (map relation_of relations.now) }
     {
+        let mut near = 0usize;
         for relation in relations {
-            if !self.knows(fact, relation) {
+            if !self.knows(fact, relation, &mut near) {
                 return false;
             }
         }

@@ -48,6 +48,16 @@ fn shows_within(cells: &[CellSet], cell: Word, set: &BriefSet) -> bool
     false
 }
 
+/// Whether the entry at a place is of a cell and shows that the cell has no word outside a set.
+fn shows_within_at(cells: &[CellSet], at: usize, cell: Word, set: &BriefSet) -> bool
+    ensures { IsTrue result → IsWithin (tracked cell (map cell_set_of cells.now)) (brief_words set.now) }
+{
+    if at >= cells.len() {
+        return false;
+    }
+    is_within_of(&cells[at], cell, set)
+}
+
 /// A fact that may entail others: one in room for facts, or that of all starts.
 pub trait KnownFact {
     /// The fact that is meant.
@@ -80,6 +90,11 @@ pub trait KnownFact {
     /// The chains.
     fn chains(&self) -> &[Chain]
         ensures { map chain_of result.now ≡ (known self.now).chains };
+
+    /// Whether the entry at a place is of a cell and shows that the cell has no word outside a set. Facts of neighbours mostly
+    /// tell of the same cells in the same order.
+    fn has_within_at(&self, at: usize, cell: Word, set: &BriefSet) -> bool
+        ensures { IsTrue result → IsWithin ((known self.now).set (Cell cell)) (brief_words set.now) };
 
     /// Whether it is seen at once that a cell has no word outside a set.
     fn has_plainly_within(&self, cell: Word, set: &BriefSet) -> bool
@@ -131,6 +146,10 @@ impl<const C: usize, const R: usize> KnownFact for SumFact<C, R> {
 
     fn chains(&self) -> &[Chain] {
         self.chains()
+    }
+
+    fn has_within_at(&self, at: usize, cell: Word, set: &BriefSet) -> bool {
+        shows_within_at(self.cells().as_slice(), at, cell, set)
     }
 
     fn has_plainly_within(&self, cell: Word, set: &BriefSet) -> bool {

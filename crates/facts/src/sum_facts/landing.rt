@@ -27,7 +27,7 @@ use wordset::WordSet;
 #[derive(Drop)]
 pub struct LandingRooms {
     given: Fact,
-    part: LinkPart,
+    part: Option<LinkPart>,
 }
 
 impl LandingRooms {
@@ -35,7 +35,7 @@ impl LandingRooms {
     pub fn new() -> LandingRooms {
         LandingRooms {
             given: SumFact::any(),
-            part: LinkPart::new(),
+            part: None,
         }
     }
 }
@@ -219,6 +219,7 @@ impl<A: Allocator> Place<'_, A> {
             return true;
         }
         let LandingRooms { given, part } = rooms;
+        let part = part.get_or_insert_with(LinkPart::new);
         part.take(self, fact, link);
         self.part_lands(part, among, given)
     }
@@ -255,6 +256,7 @@ impl<A: Allocator> Place<'_, A> {
             return true;
         }
         let LandingRooms { part, .. } = rooms;
+        let part = part.get_or_insert_with(LinkPart::new);
         part.take(self, fact, link);
         part.is_none()
     }

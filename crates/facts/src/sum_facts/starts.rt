@@ -188,6 +188,10 @@ impl KnownFact for StartFact<'_> {
         &[]
     }
 
+    fn has_within_at(&self, _at: usize, _cell: Word, _set: &BriefSet) -> bool {
+        false
+    }
+
     fn has_plainly_within(&self, _cell: Word, _set: &BriefSet) -> bool {
         false
     }

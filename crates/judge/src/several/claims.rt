@@ -49,8 +49,8 @@ pub trait Claims {
             (λ w. IsFirstFrom from (names_routine (claims self.now)) w) };
 
     /// The least address from a number on at which something is claimed: that of a fact, or the entry
-    /// of a routine that is named.
-    fn next_claimed(&self, from: usize) -> Option<Word>
+    /// of a routine that is named. It's looked first at one line, as below.
+    fn next_claimed(&self, from: usize, near: usize) -> Option<Word>
         ensures { MatchOption result
             (HasNoneFrom from (claimed (claims self.now)))
             (λ w. IsFirstFrom from (claimed (claims self.now)) w) };
@@ -107,8 +107,8 @@ impl<A: Allocator> Claims for Certificate<A> {
         self.next_named(from)
     }
 
-    fn next_claimed(&self, from: usize) -> Option<Word> {
-        self.next_claimed(from)
+    fn next_claimed(&self, from: usize, near: usize) -> Option<Word> {
+        self.next_claimed(from, near)
     }
 
     fn count_facts(&self, at: Word, near: usize) -> usize {

@@ -54,7 +54,7 @@ pub fn judge<A: Allocator, C: Claims>(
     let mut near = 0usize;
     let mut next = 0usize;
     let mut named = claims.next_named(0);
-    while let Some(address) = claims.next_claimed(next) {
+    while let Some(address) = claims.next_claimed(next, near) {
         let is_named = is_of(&named, address);
         if let Err(condition) = case.check_at(address, is_named, &mut near, &mut body, rooms) {
             return Err(Refusal { condition, address });

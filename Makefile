@@ -6,7 +6,10 @@ BUILT = crates/pdp8/out/pdp8
 # How many checks the gate runs side by side: one for each processor.
 LANES ?= $(shell nproc)
 
-VERSION = 1.0
+# The stack of the proved tests in KB: judge::certify has rooms of megabytes on the stack, and the program has them on the heap.
+STACK = 65536
+
+VERSION = 1.1
 DIST = pdp8-workbench-$(VERSION)
 
 .PHONY: help try run test cases edits install dist compare time bench fmt
@@ -43,7 +46,7 @@ test:
 	python3 tests/definitions.py
 	python3 tests/links.py
 	python3 tests/edits.py
-	RT_JOBS=$(LANES) rt ci
+	ulimit -s $(STACK) && RT_JOBS=$(LANES) rt ci
 	python3 tests/agreement.py $(BUILT)
 	python3 tests/explained.py $(BUILT)
 	python3 tests/reports.py $(BUILT)

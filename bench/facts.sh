@@ -14,15 +14,36 @@ program=$top/crates/speed/out/speed
 few=$((thousands / 20 + 1))
 rustc -O -o "$work/plain" "$top/bench/facts/plain.rs"
 
-# Seconds of processor time that a command takes; what it writes goes to a file.
-TIMEFORMAT=%U
-seconds() { { time "${@:2}" >"$1" 2>&1 </dev/null; } 2>&1; }
+# A certificate with so many pairs of cells, each with an equation: at 0200 there is 0 in the accumulator, and five words are
+# in each cell, the first of which is 0010; at 0201 is what TAD of 0010 makes of that, with one equation more where there are
+# fewer than 32.
+certificate() {
+    echo "PDP8-CERTIFICATE 1"
+    for at in 0200 0201; do
+        [ "$at" = 0200 ] && ac=0000 || ac=0225-0231
+        echo "fact $at ac $ac link 0 offsets -"
+        for ((pair = 0; pair < $1; pair++)); do
+            printf 'cell %04o 0225-0231\ncell %04o 7773-7777\n' $((8 + 2 * pair)) $((9 + 2 * pair))
+        done
+        [ "$at" = 0201 ] && [ "$1" -lt 32 ] && echo "equal AC 0010 0000"
+        for ((pair = 0; pair < $1; pair++)); do
+            printf 'equal %04o %04o 0232\n' $((8 + 2 * pair)) $((9 + 2 * pair))
+        done
+    done
+    echo end
+}
 
+# Seconds of processor time that a command takes on a file; what it writes goes to another one.
+TIMEFORMAT=%U
+seconds() { { time "${@:3}" >"$1" 2>&1 <"$2"; } 2>&1; }
+
+certificate 1 >"$work/two"
+certificate 32 >"$work/many"
 for _ in 1 2 3 4 5 6 7; do
-    echo "facts $thousands $(seconds "$work/facts" "$program" facts "$thousands")"
-    echo "facts64 $few $(seconds "$work/facts64" "$program" facts64 "$few")"
-    echo "plain $thousands $(seconds "$work/said" "$work/plain" 1 "$thousands")"
-    echo "plain64 $few $(seconds "$work/said" "$work/plain" 32 "$few")"
+    echo "facts $thousands $(seconds "$work/facts" "$work/two" "$program" facts "$thousands")"
+    echo "facts64 $few $(seconds "$work/facts64" "$work/many" "$program" facts "$few")"
+    echo "plain $thousands $(seconds "$work/said" /dev/null "$work/plain" 1 "$thousands")"
+    echo "plain64 $few $(seconds "$work/said" /dev/null "$work/plain" 32 "$few")"
 done >"$work/times"
 cat "$work/facts" "$work/facts64"
 awk '

@@ -13,6 +13,7 @@ from pathlib import Path
 
 sys.path[:0] = [str(Path(__file__).parent), str(Path(__file__).parent.parent)]
 import check  # noqa: E402
+import check3  # noqa: E402
 import guess  # noqa: E402
 import machine  # noqa: E402
 import pal  # noqa: E402
@@ -73,7 +74,11 @@ def guessed(words):
 
 def checked(words):
     image, declared = second_reader.words(read(words.tape)), watch.declaration(read(words.declaration))
-    failed = check.judge(image, declared, check.parse(read(words.certificate).decode("ascii")))
+    text = read(words.certificate).decode("latin-1")
+    if text.startswith("PDP8-CERTIFICATE 3\n"):
+        failed = check3.judge(image, declared, check3.read(text))
+    else:
+        failed = check.judge(image, declared, check.parse(text))
     print("no: V{} at {:04o}".format(*failed) if failed else check.counts(declared))
     return int(failed is not None)
 
@@ -103,6 +108,8 @@ def main():
         return refused("declaration", fault)
     except machine.BadEvents as fault:
         return refused("events", fault)
+    except check3.Fault as fault:
+        return refused("certificate", fault)
     except guess.Stuck as fault:
         return refused("guess", f"Stuck {fault}")
 

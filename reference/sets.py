@@ -84,3 +84,70 @@ def or_any(members, mask):
         clear = of(word for word in range(4096) if not word & bit)
         members |= (members & clear) << bit
     return members
+
+
+def runs(members):
+    """The maximal runs of a set, rising."""
+    low = 0
+    while members:
+        skipped = (members & -members).bit_length() - 1
+        members, low = members >> skipped, low + skipped
+        length = (~members & members + 1).bit_length() - 1
+        yield low, low + length - 1
+        members, low = members >> length, low + length
+
+
+def totals(left, right):
+    """The sums that carry nothing, and those that carry, less 10000."""
+    if left.bit_count() < right.bit_count():
+        left, right = right, left
+    found = 0
+    for first, last in runs(right):
+        part, done, length = left, 1, last - first + 1
+        while done < length:
+            step = min(done, length - done)
+            part |= part << step
+            done += step
+        found |= part << first
+    return found & ALL, found >> 4096
+
+
+def added(left, right):
+    """All sums modulo 10000."""
+    low, high = totals(left, right)
+    return low | high
+
+
+def complement(members):
+    """All -x - 1, which is each word with its bits complemented."""
+    return int(format(members, "04096b")[::-1], 2)
+
+
+def negated(members):
+    return shift(complement(members), 1)
+
+
+def subtracted(left, right):
+    """All differences modulo 10000."""
+    return added(left, negated(right))
+
+
+def times(factor, members):
+    """All products with a factor."""
+    if factor in (1, 0o7777):
+        return members if factor == 1 else negated(members)
+    return of(factor * word % 4096 for word in words(members))
+
+
+def divided(factor, members, among):
+    """The words of a set whose products with a factor are members."""
+    if factor in (1, 0o7777):
+        return (members if factor == 1 else negated(members)) & among
+    return of(word for word in words(among) if members >> factor * word % 4096 & 1)
+
+
+def union(several):
+    found = 0
+    for members in several:
+        found |= members
+    return found

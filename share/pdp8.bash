@@ -17,6 +17,10 @@ _pdp8() {
             COMPREPLY=($(compgen -W '8i 8e' -- "$word"))
             return
             ;;
+        --certificate)
+            COMPREPLY=($(compgen -W '2 3' -- "$word"))
+            return
+            ;;
         --start | --steps | --continue | --seed | --save | --switches | --show | --until | --until-write | --until-read | --last)
             return
             ;;
@@ -40,7 +44,7 @@ _pdp8() {
         refute) options='--output --source --steps --seed --why --help' ;;
         declare) options='--output --source --from --start --reads --profile --why --help' ;;
         place) options='--output --declaration --why --help' ;;
-        migrate) options='--output --why --help' ;;
+        migrate) options='--output --certificate --declaration --why --help' ;;
         explain) options='--help' ;;
     esac
     if [[ $word == -* ]]; then

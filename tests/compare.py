@@ -98,7 +98,8 @@ def compare_facts(asked, folder):
 
 
 def compare_verdicts(asked, folder):
-    return worker('verdicts.py', asked.program, 'examples', folder, asked.count or 3000, asked.seed)
+    count = asked.count or 3000
+    return all([worker('verdicts.py', asked.program, programs, folder, count, asked.seed) for programs in ('examples', 'tests/version3')])
 
 
 def compare_second_reader(asked, folder):
@@ -146,8 +147,8 @@ def compare_examples(asked, folder):
 COMPARISONS = {
     'assembler': (compare_assembler, 'generated sources with the assembler in reference/'),
     'watcher': (compare_watcher, 'generated programs and events with the watcher in reference/'),
-    'facts': (compare_facts, 'generated facts and outcomes with those in reference/'),
-    'verdicts': (compare_verdicts, 'verdicts on changed programs with the checker in reference/'),
+    'facts': (compare_facts, 'generated facts of all versions and their outcomes with those in reference/'),
+    'verdicts': (compare_verdicts, 'verdicts on changed programs and certificates of all versions with the checkers in reference/'),
     'second-reader': (compare_second_reader, 'the fullest tape with a reader in Python'),
     'palbart': (compare_palbart, 'images with palbart'),
     'written-sources': (compare_written_sources, 'sources of generated tapes, read back, with palbart'),

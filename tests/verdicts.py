@@ -1,7 +1,7 @@
-"""Compares the verdicts of `pdp8 check` with those of the checker in reference on the programs of examples/ with
-something changed: a line of the certificate left out, a set with a word more or less, another digit, rank, site, offset,
-link or equation, the other version, another word on the tape, another declaration. The line of a yes or a no must be the
-same, and what isn't a certificate or a declaration for the one may not be one for the other. What is accepted is watched
+"""Compares the verdicts of `pdp8 check` with those of the checkers in reference on the programs of examples/ or tests/version3
+with something changed: a line of the certificate left out, a set with a word more or less, another digit, rank, site, offset,
+link, equation or coefficient, another version, another word on the tape, another declaration. The line of a yes or a no must
+be the same, and what is no certificate or declaration for the one may not be one for the other. What is accepted is watched
 in a run by events of chance from a start of chance: no rule may be broken.
 
 usage: verdicts.py PROGRAM EXAMPLES FOLDER COUNT SEED, where FOLDER takes what is made. Cases on which the two differ
@@ -16,12 +16,14 @@ from pathlib import Path
 
 sys.path.insert(0, str(Path(__file__).parent.parent / "reference"))
 import check as judge  # noqa: E402
+import check3  # noqa: E402
+import labels  # noqa: E402
 import pal  # noqa: E402
 import sets  # noqa: E402
 import tape  # noqa: E402
 import watch  # noqa: E402
 
-SET = re.compile(r"(?<=(?:ac|mq|es) )[-0-7,]+|(?<=^cell \d{4} )[-0-7,]+", re.M)
+SET = re.compile(r"(?<=(?:ac|mq|es|in) )[-0-7,]+|(?<=^cell \d{4} )[-0-7,]+", re.M)
 DIGIT = re.compile(r"[0-7]")
 
 
@@ -35,8 +37,18 @@ def is_sound(certificate):
             all(len(set(two)) == len(two) <= 32 and all(x < y for x, y in two) for two in pairs))
 
 
+def is_third(text):
+    """A text says that it is of version 3."""
+    return text.startswith("PDP8-CERTIFICATE 3\n")
+
+
 def certificate_of(text):
     """The certificate that a text spells, or None where it spells none."""
+    if is_third(text):
+        try:
+            return check3.read(text)
+        except check3.Fault:
+            return None
     if any(first >= last for first, last in re.findall(r"(\d{4})-(\d{4})", text)):
         return None
     try:
@@ -91,7 +103,8 @@ class Changes:
         return self.in_a_line(text, r"rank (\d\d)", lambda old: self.one(["00", "01", "02", "03", "77"]))
 
     def with_offsets(self, text):
-        return self.in_a_line(text, r"offsets ([-0-7]+)", lambda old: self.one(["-", "0", "1", "01", "7", "0127"]))
+        several = ["-", "00", "01", "00-01", "07", "00-02,07"] if is_third(text) else ["-", "0", "1", "01", "7", "0127"]
+        return self.in_a_line(text, r"offsets ([-0-7,]+)", lambda old: self.one(several))
 
     def with_links(self, text):
         return self.in_a_line(text, r"link ([01]+)", lambda old: self.one(["0", "1", "01"]))
@@ -100,7 +113,13 @@ class Changes:
         """Another difference in an equation."""
         return self.in_a_line(text, r"^equal \S+ \d+ (\d+)", lambda old: f"{(int(old, 8) + self.one([1, 7777])) % 4096:04o}")
 
-    def in_the_other_version(self, text):
+    def with_a_coefficient(self, text):
+        """Another coefficient in a sum, where there is one."""
+        return self.in_a_line(text, r"^sum \S+ (\S+) ", lambda old: self.one(["+", "-", "0002", "7776", "0012"]))
+
+    def in_another_version(self, text):
+        if is_third(text):
+            return text.replace("CERTIFICATE 3", self.one(["CERTIFICATE 1", "CERTIFICATE 2"]))
         if text.startswith("PDP8-CERTIFICATE 1"):
             text = re.sub(r"^((?:fact|exit) .*) link", r"\1 mq 0000-7777 link", text, flags=re.M)
             return text.replace("CERTIFICATE 1", "CERTIFICATE 2")
@@ -109,9 +128,10 @@ class Changes:
     def changed_certificate(self, text):
         changes = [self.without_a_line, self.with_a_digit, self.with_a_set, self.with_a_set, self.with_a_set,
                    self.with_a_rank, self.with_offsets, self.with_links, self.with_an_equation]
+        changes += [self.with_a_coefficient] * is_third(text)
         for _ in range(self.one([1, 1, 1, 2])):
             text = self.one(changes)(text)
-        return self.in_the_other_version(text) if self.numbers.random() < 0.2 else text
+        return self.in_another_version(text) if self.numbers.random() < (0.02 if is_third(text) else 0.2) else text
 
     def changed_image(self, image):
         at = self.one(image)
@@ -165,7 +185,7 @@ def verdict(image, declaration, certificate):
     claimed = certificate_of(certificate)
     if claimed is None:
         return "certificate"
-    failed = judge.judge(image, declared, claimed)
+    failed = (check3 if is_third(certificate) else judge).judge(image, declared, claimed)
     return "no: V{} at {:04o}".format(*failed) if failed else judge.counts(declared)
 
 
@@ -191,15 +211,19 @@ class Case:
             file.unlink()
 
 
+def program_of(certificate):
+    """The tape's words and the declaration of the program that a file has a certificate of; it stands in a file of its own or in
+    comments of the source."""
+    source, declared = (certificate.with_suffix(kind) for kind in (".pal", ".declaration"))
+    if not declared.exists():
+        return labels.program(source.read_bytes())
+    profile = "8e" if "profile 8e" in declared.read_text() else "8i"
+    return pal.assemble([source.read_bytes()], profile).image, declared.read_text()
+
+
 def programs(examples):
     """The examples that have a certificate: the tape's words, the declaration and the certificate."""
-    found = []
-    for certificate in sorted(examples.glob("*.certificate")):
-        profile = "8e" if "profile 8e" in certificate.with_suffix(".declaration").read_text() else "8i"
-        image = pal.assemble([certificate.with_suffix(".pal").read_bytes()], profile).image
-        found.append((certificate.stem, image, *(certificate.with_suffix(kind).read_text()
-                                                 for kind in (".declaration", ".certificate"))))
-    return found
+    return [(certificate.stem, *program_of(certificate), certificate.read_text()) for certificate in sorted(examples.glob("*.certificate"))]
 
 
 def main():

@@ -2,8 +2,8 @@
 use Rattle.std.specs.Prelude.{◌≡◌, ◌<◌, ℕ, ⊤, true, List, Option}
 use Rattle.declaration.specs.Declaration.{Declaration, Routine}
 use Rattle.declaration.specs.Kept as declared
-use Rattle.certificate.specs.Certificate.{Certificate}
-use Rattle.certificate.specs.Kept.{Kept, claims}
+use Rattle.certificate.specs.Sums.Certificate.{Certificate, has_any, has_exits}
+use Rattle.certificate.specs.Sums.Kept.{Kept, claims}
 use Rattle.analyser.specs.Accepted.{IsAccepted}
 use Rattle.analyser.specs.declared.Attempt.{Attempt}
 use Rattle.analyser.specs.declared.Attempt.TheVariants.{Found, Stuck}
@@ -22,16 +22,16 @@ IsAcceptedIfFound image d (Stuck at c) = ⊤
 abbrev pub IsInSomeBody : Declaration → ℕ → Type 0
 IsInSomeBody d a = (r : Routine) × (d.body r a ≡ true)
 
--- The lines of an address are where they may be: a fact's in some body, a routine's and its exits' at an entry.
+-- The lines of an address are where they may be: those of facts in some body, a routine's and its exits' at an entry.
 pub record StandsRight (d : Declaration) (c : Certificate) (a : ℕ) : Type 0 where
-  pub fact : c.has_fact a ≡ true → IsInSomeBody d a
+  pub facts : has_any (c.facts a) ≡ true → IsInSomeBody d a
   pub routine : c.listed a ≡ true → d.entry a ≡ true
-  pub exits : (o : ℕ) → o < 8 → c.has_exit a o ≡ true → d.entry a ≡ true
+  pub exits : has_exits c a ≡ true → d.entry a ≡ true
 
 -- A draft's lines are where they may be, and where it is stuck it has a fact.
 pub record IsDraft (d : Declaration) (at : ℕ) (c : Certificate) : Type 0 where
   pub stands : (a : ℕ) → a < 4096 → StandsRight d c a
-  pub there : c.has_fact at ≡ true
+  pub there : has_any (c.facts at) ≡ true
 
 -- This is promised of a draft; nothing is said here of what was found.
 abbrev pub IsDraftIfStuck : {A : Type 0} → Declaration → Attempt A → Type 0

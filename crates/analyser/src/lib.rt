@@ -3,9 +3,9 @@
 
 ghost use Rattle.std.specs.Prelude.{◌≡◌, ◌≢◌, ◌≤◌, IfErr, IfOk};
 ghost use Rattle.declaration.specs.Kept.{meaning as declared};
-ghost use Rattle.certificate.specs.Kept.{claims, meaning};
-ghost use Rattle.certificate.specs.Reading.{AreLines};
-ghost use Rattle.judge.specs.Judged.{judged};
+ghost use Rattle.certificate.specs.Sums.Kept.{claims, meaning};
+ghost use Rattle.certificate.specs.Sums.Exact.{AreLines};
+ghost use Rattle.judge.specs.Sums.Judged.{judged};
 ghost use Rattle.turns.specs.Counts.{IsSpentUp};
 ghost use Rattle.turns.specs.declared.GuessFault.TheVariants.{TurnsSpent};
 ghost use Rattle.analyser.specs.Accepted.{IsAccepted};
@@ -23,7 +23,7 @@ use certificate::{Certificate, Version};
 use declaration::Declaration;
 use fixpoint::{AnalysedProgram, Halt, MANY_RUNS, ONE_RUN, Search};
 use instruct::Profile;
-use judge::judge;
+use judge::{Rooms, judge};
 use std::alloc::Allocator;
 pub use turns::{GuessFault, Turns};
 use word12::Word;
@@ -37,7 +37,7 @@ pub enum Attempt<A: Allocator> {
     /// This certificate is found, which the judge accepts.
     Found(Certificate<A>),
     /// At this address an instruction was met that the judge would refuse. The draft has what was
-    /// found until then, and lacks what wasn't come to.
+    /// found until then, and lacks what was not come to.
     Stuck(Word, Certificate<A>),
 }
 
@@ -52,7 +52,8 @@ fn version_of(profile: Profile) -> Version
 }
 
 /// A certificate, if the judge accepts it.
-fn accepted<A: Allocator, D: Allocator>(
+fn accepted<A: Allocator + Copy, D: Allocator>(
+    alloc: A,
     image: &Image,
     declaration: &Declaration<D>,
     certificate: Certificate<A>,
@@ -63,7 +64,10 @@ fn accepted<A: Allocator, D: Allocator>(
         (IsRefused (judged image.now declaration.now (claims certificate))) }
     ensures left { IfErr result (λ fault. fault ≢ TurnsSpent) }
 {
-    match judge(image, declaration, &certificate) {
+    let Ok(mut rooms) = Rooms::boxed(alloc) else {
+        return Err(GuessFault::NoMemory);
+    };
+    match judge(image, declaration, &certificate, &mut rooms) {
         Ok(()) => Ok(certificate),
         Err(refusal) => Err(GuessFault::Stuck(refusal.address)),
     }
@@ -71,6 +75,7 @@ fn accepted<A: Allocator, D: Allocator>(
 
 /// Searches, and gives the certificate of what was found.
 fn found_by<A: Allocator + Copy, D: Allocator>(
+    alloc: A,
     search: &mut Search<A>,
     program: &AnalysedProgram<'_, D>,
     version: Version,
@@ -87,7 +92,7 @@ fn found_by<A: Allocator + Copy, D: Allocator>(
 {
     search.run_all(program, turns)?;
     match search.finish(program, version) {
-        Ok(certificate) => accepted(program.image, program.declaration, certificate),
+        Ok(certificate) => accepted(alloc, program.image, program.declaration, certificate),
         Err(halt) => Err(halt.fault()),
     }
 }
@@ -95,6 +100,7 @@ fn found_by<A: Allocator + Copy, D: Allocator>(
 /// Searches, and gives the certificate of what was found. Where its text is too long to be read again,
 /// one more search fills all sets, and what it finds takes the place of that certificate.
 fn found_within<A: Allocator + Copy, D: Allocator>(
+    alloc: A,
     search: &mut Search<A>,
     program: &AnalysedProgram<'_, D>,
     version: Version,
@@ -109,12 +115,12 @@ fn found_within<A: Allocator + Copy, D: Allocator>(
     ensures within { turns.new.spent ≤ turns.new.limit }
     ensures spent { IfErr result (IsSpentUp turns.new) }
 {
-    let certificate = found_by(search, program, version, turns)?;
+    let certificate = found_by(alloc, search, program, version, turns)?;
     if is_short(&certificate) {
         return Ok(certificate);
     }
     let filled = AnalysedProgram::of(program.image, program.declaration, ONE_RUN);
-    match found_by(search, &filled, version, turns) {
+    match found_by(alloc, search, &filled, version, turns) {
         Ok(shorter) => Ok(shorter),
         Err(GuessFault::NoMemory) => Err(GuessFault::NoMemory),
         Err(_) => Ok(certificate),
@@ -147,7 +153,7 @@ fn drafted_by<A: Allocator + Copy, D: Allocator>(
 
 /// Looks for facts, exits and written sets that show a tape's words safe under a declaration. What
 /// is found is a certificate that the judge accepts, of version 1 for a PDP-8/I and of version 2 for a
-/// PDP-8/E: no run of the program breaks the declaration. That one is found isn't promised. A turn is
+/// PDP-8/E: no run of the program breaks the declaration. That one is found is not promised. A turn is
 /// one `post`, taken right before it.
 ///
 /// # Errors
@@ -175,7 +181,7 @@ pub fn guess_within<A: Allocator + Copy, D: Allocator>(
     let program = AnalysedProgram::of(image, declaration, MANY_RUNS);
     let mut search = Search::new(alloc);
     let version = version_of(declaration.profile());
-    found_within(&mut search, &program, version, turns)
+    found_within(alloc, &mut search, &program, version, turns)
 }
 
 /// Looks for a guess within 2,000,000 turns, and tells how many were taken.
@@ -252,7 +258,7 @@ pub fn guess_or_draft_within<A: Allocator + Copy, D: Allocator>(
     let program = AnalysedProgram::of(image, declaration, MANY_RUNS);
     let mut search = Search::new(alloc);
     let version = version_of(declaration.profile());
-    match found_within(&mut search, &program, version, turns) {
+    match found_within(alloc, &mut search, &program, version, turns) {
         Ok(certificate) => Ok(Attempt::Found(certificate)),
         Err(fault) => drafted_by(&mut search, &program, version, &fault),
     }

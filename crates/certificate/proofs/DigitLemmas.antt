@@ -1,12 +1,9 @@
 -- Digits in rising order, read one after another.
-use Rattle.std.proofs.Common.{◌≡◌, ◌≢◌, ◌⊎◌, ℕ, zero, suc, ◌+◌, ◌-◌, ◌<◌, ◌≤◌, ◌==◌, Bool, true, false, not, ◌&&◌, ◌||◌, List, [], ◌∷◌, ◌++◌, length, Option, Some, None, refl, ap, ◌∙◌, sym, subst, inl, inr, arith, append_assoc, append-nil}
+use Rattle.std.proofs.Common.{◌≡◌, ◌≢◌, ◌⊎◌, ℕ, zero, suc, ◌+◌, ◌-◌, ◌<◌, ◌≤◌, ◌==◌, Bool, true, false, not, ◌&&◌, ◌||◌, List, [], ◌∷◌, ◌++◌, Option, Some, None, refl, ap, ◌∙◌, sym, subst, inl, inr, arith, append_assoc, append-nil}
 use Rattle.std.specs.Prelude.{if◌then◌else◌, IfSome, IsTrue}
 use Rattle.std.specs.Option.{IsSomeAnd}
 use Rattle.std.proofs.lemmas.Bool.{true≢false, false≢true, eq-eqb, ne_eqb, cases_lt, cases_Bool}
-use Rattle.std.proofs.lemmas.List.{get_or_past}
 use Rattle.std.proofs.Math.Bool.{and-true, and-false, or-false}
-use Rattle.domain.specs.Meaning.{offsets_of}
-use Rattle.domain.specs.declared.offsets.CountedOffsets.{CountedOffsets}
 use Rattle.wordset.specs.Words.{Words, nothing, some_below}
 use Rattle.wordset.proofs.Tests.{some_none_of, none_of_some}
 use Rattle.certificate.specs.Reading.{EndsBefore}
@@ -229,9 +226,8 @@ not_true true e = e
 not_true false e = refl
 
 -- Not each offset is missing.
-pub has_offset : (t : Words) → (((v : ℕ) → v < 8 → t v ≡ false) → IsTrue false) → some_below 8 t ≡ true
-has_offset t h = elim (by_offsets t) [ inl some ↦ some | inr none ↦ absurd (false≢true (h none)) ]
-
--- Of eight offsets none is past 7.
-pub eight_alone : (o : CountedOffsets) → length o.known ≡ 8 → EndsBefore 8 (offsets_of o)
-eight_alone o e v past = get_or_past o.known v false (omega (arith, e))
+pub has_offset : (t : Words) → EndsBefore 8 t → (((v : ℕ) → v < 64 → t v ≡ false) → IsTrue false) → some_below 8 t ≡ true
+has_offset t ends h = elim (by_offsets t) [
+  | inl some ↦ some
+  | inr none ↦ absurd (false≢true (h (λ v lt. elim (cases_lt v 8) [ inl small ↦ none v small | inr past ↦ ends v past ])))
+]

@@ -3,12 +3,10 @@ use Rattle.std.proofs.Common.{◌≡◌, ℕ, zero, suc, ◌+◌, ◌*◌, ◌/�
 use Rattle.std.specs.Prelude.{if◌then◌else◌, codes}
 use Rattle.std.proofs.lemmas.Bool.{false≢true, eq-eqb, ne_eqb, cases_lt, cases_Bool}
 use Rattle.word12.specs.Words.{octal_text}
-use Rattle.wordset.specs.Words.{Words, some_below}
+use Rattle.wordset.specs.Words.{Words}
 use Rattle.domain.specs.Facts.{Location, Ac, Cell}
-use Rattle.certificate.specs.declared.Version.{Version}
-use Rattle.certificate.specs.declared.Version.TheVariants.{One, Two}
-use Rattle.certificate.specs.declared.packed.Run.{Run}
-use Rattle.certificate.specs.Spelling.{digits, set_text, offsets_text, mq_text, name_text, version_text, Registers, Line, RoutineIs, FactIs, ExitIs, CellIs, EquationIs, End, words_text, rank_text, line_text}
+use Rattle.certificate.specs.declared.runs.Run.{Run}
+use Rattle.certificate.specs.Spelling.{digits, set_text, name_text, rank_text}
 use Rattle.certificate.specs.Fields.{run_text}
 use Rattle.certificate.specs.Parser.{NoFeed}
 use Rattle.certificate.specs.Packed.{StandApart}
@@ -16,11 +14,11 @@ use Rattle.certificate.proofs.ApartLemmas.{more_text}
 use Rattle.certificate.proofs.SetLemmas.{by_words, empty_text}
 
 -- Bytes with no line feed.
-feedless : List ℕ → Bool
+unfoldable pub feedless : List ℕ → Bool
 feedless [] = true
 feedless (c ∷ cs) = not (c == 10) && feedless cs
 
-no_feeds : (cs : List ℕ) → feedless cs ≡ true → NoFeed cs
+pub no_feeds : (cs : List ℕ) → feedless cs ≡ true → NoFeed cs
 unfolding feedless
 no_feeds [] e = tt
 no_feeds (c ∷ cs) e = elim (cases_Bool (c == 10)) [
@@ -39,33 +37,33 @@ feed_taken (suc k) [] h = tt
 feed_taken (suc k) (x ∷ xs) h = (h.0, feed_taken k xs h.1)
 
 -- A part of a line's text, of at most so many bytes.
-record Part (n : ℕ) (xs : List ℕ) : Type 0 where
-  feed : NoFeed xs
-  short : length xs ≤ n
+pub record Part (n : ℕ) (xs : List ℕ) : Type 0 where
+  pub feed : NoFeed xs
+  pub short : length xs ≤ n
 
-both : {n m : ℕ} {xs ys : List ℕ} → Part n xs → Part m ys → Part (n + m) (xs ++ ys)
+pub both : {n m : ℕ} {xs ys : List ℕ} → Part n xs → Part m ys → Part (n + m) (xs ++ ys)
 both {xs} {ys} p q = record {
   feed = no_feed_both xs ys p.feed q.feed;
   short = (let a = p.short in let b = q.short in omega (arith, a, b, length-append xs ys));
 }
 
-most : {n m : ℕ} {xs : List ℕ} → Part n xs → n ≤ m → Part m xs
+pub most : {n m : ℕ} {xs : List ℕ} → Part n xs → n ≤ m → Part m xs
 most p h = record { feed = p.feed; short = (let a = p.short in omega (arith, a, h)) }
 
-choice : {n : ℕ} {xs ys : List ℕ} (b : Bool) → Part n xs → Part n ys → Part n (if b then xs else ys)
+pub choice : {n : ℕ} {xs ys : List ℕ} (b : Bool) → Part n xs → Part n ys → Part n (if b then xs else ys)
 choice true p q = p
 choice false p q = q
 
-none : {n : ℕ} → Part n []
+pub none : {n : ℕ} → Part n []
 none = record { feed = tt; short = omega arith }
 
-as_is : (xs : List ℕ) → feedless xs ≡ true → Part (length xs) xs
+pub as_is : (xs : List ℕ) → feedless xs ≡ true → Part (length xs) xs
 as_is xs e = record { feed = no_feeds xs e; short = omega arith }
 
-digit : (n : ℕ) → Part 1 ((48 + n) ∷ [])
+pub digit : (n : ℕ) → Part 1 ((48 + n) ∷ [])
 digit n = record { feed = ((λ z. omega arith), tt); short = omega arith }
 
-word : (n : ℕ) → Part 4 (octal_text n)
+pub word : (n : ℕ) → Part 4 (octal_text n)
 word n = record { feed = (λ z. omega arith, (λ z. omega arith, (λ z. omega arith, (λ z. omega arith, tt)))); short = omega arith }
 
 -- A run takes at most ten bytes for each three words, with its comma and the gap after it.
@@ -93,7 +91,7 @@ more_feed [] = tt
 more_feed (r ∷ rs) = ((λ z. omega arith), no_feed_both (run_text r.first r.last) (more_text rs) (run_feed r.first r.last) (more_feed rs))
 
 -- The parts of a line.
-set : (s : Words) → Part 13656 (set_text s)
+pub set : (s : Words) → Part 13656 (set_text s)
 set s = elim (by_words s) [
   | inl f ↦ (
       let a : 3 * length (more_text (f.runs.first ∷ f.runs.more)) + 10 * 0 ≤ 40970 = more_short 0 (f.runs.first ∷ f.runs.more) (omega arith) f.runs.apart in
@@ -101,53 +99,15 @@ set s = elim (by_words s) [
   | inr empty ↦ rw (empty_text s empty) (record { feed = ((λ z. omega arith), tt); short = omega arith })
 ]
 
-digits_of : (n : ℕ) (s : Words) → Part n (digits n s)
+pub digits_of : (n : ℕ) (s : Words) → Part n (digits n s)
 unfolding digits
 digits_of zero s = none
 digits_of (suc n) s = most (both (digits_of n s) (choice (s n) (digit n) none)) (omega arith)
 
-offsets : (s : Words) → Part 8 (offsets_text s)
-unfolding feedless
-offsets s = choice (some_below 8 s) (digits_of 8 s) (most (as_is (codes "-") refl) (omega arith))
-
-mq : (v : Version) (s : Words) → Part 13660 (mq_text v s)
-unfolding feedless
-mq One s = none
-mq Two s = both (as_is (codes " mq ") refl) (set s)
-
-registers : (v : Version) (r : Registers) → Part 27328 (words_text v r)
-unfolding feedless
-registers v r = both (both (both (both (as_is (codes " ac ") refl) (set r.ac)) (mq v r.mq)) (as_is (codes " link ") refl)) (digits_of 2 r.link)
-
-name : (n : Location) → Part 4 (name_text n)
+pub name : (n : Location) → Part 4 (name_text n)
 unfolding feedless
 name Ac = most (as_is (codes "AC") refl) (omega arith)
 name (Cell a) = word a
 
-rank : (n : ℕ) → Part 2 (rank_text n)
+pub rank : (n : ℕ) → Part 2 (rank_text n)
 rank n = both (digit (n / 8)) (digit (n % 8))
-
-line : (v : Version) (l : Line) → Part 32768 (line_text v l)
-unfolding feedless
-line v (RoutineIs r) =
-    most (both (both (both (both (both (both (both (as_is (codes "routine ") refl) (word r.entry)) (as_is (codes " rank ") refl)) (rank r.rank))
-    (as_is (codes " sites ") refl)) (set r.sites)) (as_is (codes " writes ") refl)) (set r.writes)) (omega arith)
-line v (FactIs a r o) =
-    most (both (both (both (both (as_is (codes "fact ") refl) (word a)) (registers v r)) (as_is (codes " offsets ") refl)) (offsets o)) (omega arith)
-line v (ExitIs e o r) = most (both (both (both (as_is (codes "exit ") refl) (word e)) (as_is (codes " ") refl)) (both (digit o) (registers v r))) (omega arith)
-line v (CellIs c) = most (both (both (both (as_is (codes "cell ") refl) (word c.address)) (as_is (codes " ") refl)) (set c.set)) (omega arith)
-line v (EquationIs e) =
-    most (both (both (both (both (both (as_is (codes "equal ") refl) (name e.left)) (as_is (codes " ") refl)) (name e.right)) (as_is (codes " ") refl)) (word e.more))
-    (omega arith)
-line v End = most (as_is (codes "end") refl) (omega arith)
-
-pub line_feed : (v : Version) (l : Line) → NoFeed (line_text v l)
-line_feed v l = (line v l).feed
-
-pub line_short : (v : Version) (l : Line) → length (line_text v l) ≤ 32768
-line_short v l = (line v l).short
-
-pub version_feed : (v : Version) → NoFeed (version_text v)
-unfolding feedless
-version_feed One = no_feeds (codes "PDP8-CERTIFICATE 1") refl
-version_feed Two = no_feeds (codes "PDP8-CERTIFICATE 2") refl

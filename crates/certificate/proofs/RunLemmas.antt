@@ -7,7 +7,7 @@ use Rattle.std.proofs.lemmas.Bool.{false≢true}
 use Rattle.wordset.specs.Words.{Words, has_some}
 use Rattle.certificate.specs.Spelling.{marks, set_text}
 use Rattle.certificate.specs.Fields.{run_text, NoDash, EndsField}
-use Rattle.certificate.specs.declared.packed.Run.{Run}
+use Rattle.certificate.specs.declared.runs.Run.{Run}
 use Rattle.certificate.specs.Packed.{Begins, set_of_runs, added, StandApart}
 use Rattle.certificate.proofs.PackedLemmas.{no_run}
 use Rattle.certificate.proofs.DigitLemmas.{at_some}
@@ -145,7 +145,7 @@ going_on old now mid (Some y) before runs new n m run h g is below e took begins
 pub record AllRead (old now : Option (List ℕ)) (before runs : List Run) : Type 0 where
   pub front : Begins before runs
   pub read : IfSome now (λ r. (has_some (added before runs) ≡ true) × (old ≡ Some (marks 4096 (added before runs) ++ r)))
-  pub only : (s : Words) (tail : List ℕ) → length before ≤ 2048 → has_some s ≡ true → EndsField tail → old ≡ Some (marks 4096 s ++ tail) →
+  pub only : (s : Words) (tail : List ℕ) → length before ≤ 4096 → has_some s ≡ true → EndsField tail → old ≡ Some (marks 4096 s ++ tail) →
       (now ≡ Some tail) × (length runs ≤ length before + 2048)
 
 -- The text of a set, by its runs.
@@ -182,7 +182,7 @@ ending old now mid next before runs new n m run h g is below e same none = rw sa
         let w : Whole old more r = subst (λ (x : List Run). Whole old x r) (append-nil more) (f [] r tt refl) in
         rw alike (some a.front a.last w.apart, w.text ∙ ap (λ (x : List ℕ). Some (x ++ r)) (sym (text_of more w.apart)))
 
-    all : (s : Words) (tail : List ℕ) (r : RunsOf s) → length before ≤ 2048 → (others : List Run) → r.first ∷ r.more ≡ more ++ others → mid ≡ Some (more_text others ++ tail) →
+    all : (s : Words) (tail : List ℕ) (r : RunsOf s) → length before ≤ 4096 → (others : List Run) → r.first ∷ r.more ≡ more ++ others → mid ≡ Some (more_text others ++ tail) →
         (mid ≡ Some tail) × (length new ≤ length before + 2048)
     all s tail r room (x ∷ xs) here left = absurd (false≢true (none _ left).0)
     all s tail r room [] here left =
@@ -193,14 +193,14 @@ ending old now mid next before runs new n m run h g is below e same none = rw sa
 
 -- There was no room for a run.
 pub no_room : (old now mid next : Option (List ℕ)) (before runs : List Run) (n : ℕ) (run : Run) → RunsRead old now before runs n →
-    RunRead n now mid run.first run.last → length runs ≡ 4096 → next ≡ None → AllRead old next before runs
+    RunRead n now mid run.first run.last → length runs ≡ 6144 → next ≡ None → AllRead old next before runs
 no_room old now mid next before runs n run h g full none = rw none (record {
   front = (h.more, h.is);
   read = tt;
   only = λ s tail room some ends q. let r : RunsOf s = runs_of s some in absurd (too_many s tail r room (h.only r.first r.more tail r.apart ends (by_runs old s tail r q)));
 })
   where
-    too_many : (s : Words) (tail : List ℕ) (r : RunsOf s) → length before ≤ 2048 → Ahead (r.first ∷ r.more) h.more n now tail → ⊥
+    too_many : (s : Words) (tail : List ℕ) (r : RunsOf s) → length before ≤ 4096 → Ahead (r.first ∷ r.more) h.more n now tail → ⊥
     too_many s tail r room a =
         let few : 2 * length (r.first ∷ r.more) + 0 ≤ 4097 = few_apart 0 (r.first ∷ r.more) (omega arith) r.apart in
         let l : length runs ≡ length before + length h.more = ap length h.is ∙ length-append before h.more in
@@ -239,7 +239,7 @@ first_digit s f tail r e =
 -- What a call that reads a set says.
 pub record FieldRead (old now : Option (List ℕ)) (before runs : List Run) : Type 0 where
   pub read : IfSome now (λ r. old ≡ Some (set_text (added before runs) ++ r))
-  pub only : (s : Words) (tail : List ℕ) → length before ≤ 2048 → EndsField tail → old ≡ Some (set_text s ++ tail) →
+  pub only : (s : Words) (tail : List ℕ) → length before ≤ 4096 → EndsField tail → old ≡ Some (set_text s ++ tail) →
       (now ≡ Some tail) × (length runs ≤ length before + 2048)
 
 -- A dash.
@@ -258,7 +258,7 @@ dash_read old now before took begins = record { read = reads now took; only = on
     dashed None a s tail full q = absurd a
     dashed (Some r) a s tail full q = first_digit s full tail r (cc)
 
-    only : (s : Words) (tail : List ℕ) → length before ≤ 2048 → EndsField tail → old ≡ Some (set_text s ++ tail) →
+    only : (s : Words) (tail : List ℕ) → length before ≤ 4096 → EndsField tail → old ≡ Some (set_text s ++ tail) →
         (now ≡ Some tail) × (length before ≤ length before + 2048)
     only s tail room ends q = elim (by_words s) [
       | inl full ↦ absurd (dashed now took s tail full q)

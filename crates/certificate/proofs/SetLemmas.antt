@@ -6,7 +6,7 @@ use Rattle.std.proofs.Math.Bool.{and-false, or-true}
 use Rattle.word12.specs.Words.{octal_text}
 use Rattle.wordset.specs.Words.{Words, SameWords, nothing, some_below, has_some}
 use Rattle.wordset.proofs.Tests.{some_from, some_none_of, none_of_some}
-use Rattle.certificate.specs.declared.packed.Run.{Run}
+use Rattle.certificate.specs.declared.runs.Run.{Run}
 use Rattle.certificate.specs.Spelling.{begins, ends, mark, marks, set_text}
 use Rattle.certificate.specs.Fields.{run_text}
 use Rattle.certificate.specs.Packed.{joined, set_of_runs, StandApart}
@@ -141,10 +141,10 @@ text_all s rs h same =
 -- ---- the runs of a set
 
 -- The runs of a set's words from n on.
-record RunsFrom (s : Words) (n : ℕ) : Type 0 where
-  runs : List Run
-  apart : StandApart n runs
-  same : (v : ℕ) → n ≤ v → v < 4096 → s v ≡ joined nothing runs v
+pub record RunsFrom (s : Words) (n : ℕ) : Type 0 where
+  pub runs : List Run
+  pub apart : StandApart n runs
+  pub same : (v : ℕ) → n ≤ v → v < 4096 → s v ≡ joined nothing runs v
 
 -- A run at the front, and further ones.
 begun : (s : Words) (n last : ℕ) (rs : List Run) → n ≤ last → last < 4096 → StandApart (last + 2) rs → ((v : ℕ) → n ≤ v → v ≤ last → s v ≡ true) →
@@ -194,7 +194,7 @@ runs_down s (suc k) n e =
       }
     ]
 
-set_runs : (s : Words) → RunsFrom s 0
+pub set_runs : (s : Words) → RunsFrom s 0
 set_runs s = runs_down s 4096 0 (omega arith)
 
 pub text_of : (rs : List Run) → StandApart 0 rs → marks 4096 (set_of_runs rs) ≡ runs_text rs

@@ -1,22 +1,19 @@
 -- The text of a line while it's written.
-use Rattle.std.proofs.Common.{◌≡◌, ℕ, Option, suc, drop, subst, length-append, ◌-◌, ◌+◌, ◌<◌, ◌≤◌, ◌==◌, Bool, false, List, [], ◌∷◌, ◌++◌, length, refl, ap, ◌∙◌, sym, inl, inr, arith, append_assoc, append-nil, get_or, length-take-le}
-use Rattle.std.specs.Prelude.{take, slice_range, if◌then◌else◌, IsTrue}
+use Rattle.std.proofs.Common.{◌≡◌, ℕ, Option, length-append, ◌-◌, ◌+◌, ◌<◌, ◌≤◌, ◌==◌, Bool, false, List, [], ◌∷◌, ◌++◌, length, refl, ap, ◌∙◌, sym, inl, inr, arith, append_assoc, append-nil, get_or, length-take-le}
+use Rattle.std.specs.Prelude.{take, if◌then◌else◌}
 use Rattle.std.proofs.lemmas.Bool.{true≢false, ne_eqb, cases_lt}
 use Rattle.std.proofs.lemmas.List.{take_all, length-take, take-append-le}
 use Rattle.std.proofs.Math.Seq.{take-append-add}
-use Rattle.std.specs.Io.KnownBytes.{Appends}
 use Rattle.streams.specs.Bytes.{AppendsFront}
-use Rattle.streams.proofs.BytesLemmas.{front_after}
-use Rattle.certificate.specs.declared.Version.{Version}
 use Rattle.wordset.specs.Words.{Words, all_words, difference, IsFirstFrom, HasNoneFrom}
-use Rattle.certificate.specs.Spelling.{marks, set_text, digits, offsets_text, Line, line_text, ended, all_ended}
+use Rattle.certificate.specs.Spelling.{marks, set_text, digits}
 use Rattle.certificate.specs.Fields.{run_text}
-use Rattle.certificate.specs.declared.packed.Run.{Run}
+use Rattle.certificate.specs.declared.runs.Run.{Run}
 use Rattle.certificate.specs.Packed.{set_of_runs, StandApart}
 use Rattle.certificate.specs.Spelled.{Adds, IsLastOf}
 use Rattle.certificate.proofs.SetLemmas.{text_of, text_all, some_runs}
 use Rattle.certificate.proofs.ApartLemmas.{runs_text, comma, has_more, runs_more, taken, Closed, found_run, closed_all, closed_apart}
-use Rattle.certificate.proofs.DigitLemmas.{digits_more, digits_none, no_offsets, some_offsets, has_offset}
+use Rattle.certificate.proofs.DigitLemmas.{digits_more, digits_none}
 
 take_twice : (xs ys : List ℕ) (n : ℕ) → take n (take n xs ++ ys) ≡ take n (xs ++ ys)
 take_twice xs ys n = elim (cases_lt n (length xs)) [
@@ -27,27 +24,23 @@ take_twice xs ys n = elim (cases_lt n (length xs)) [
 
 -- Nothing was added.
 pub none : (xs : List ℕ) → Adds xs xs []
-none xs = record { is = sym (ap (λ (x : List ℕ). take 32769 x) (append-nil xs)) }
+none xs = record { is = sym (ap (λ (x : List ℕ). take 49153 x) (append-nil xs)) }
 
 -- One text after another.
 pub joined : (a b c s t : List ℕ) → Adds a b s → Adds b c t → Adds a c (s ++ t)
 joined a b c s t p q = record {
-  is = q.is ∙ (sym (take_twice b t 32769) ∙ (ap (λ (x : List ℕ). take 32769 (x ++ t)) p.is ∙
-      (take_twice (a ++ s) t 32769 ∙ ap (λ (x : List ℕ). take 32769 x) (append_assoc a s t))));
+  is = q.is ∙ (sym (take_twice b t 49153) ∙ (ap (λ (x : List ℕ). take 49153 (x ++ t)) p.is ∙
+      (take_twice (a ++ s) t 49153 ∙ ap (λ (x : List ℕ). take 49153 x) (append_assoc a s t))));
 }
 
--- A text that was added, and a byte for which there was no room.
-pub added : (xs ys text : List ℕ) → ys ≡ xs ++ text → Adds xs ys text
-added xs ys text e = record { is = ap (λ (x : List ℕ). take 32769 x) e }
-
-pub dropped : (xs : List ℕ) (b : ℕ) → 32769 ≤ length xs → Adds xs xs (b ∷ [])
-dropped xs b h = record { is = sym (take-append-le 32769 xs (b ∷ []) h) }
+pub dropped : (xs : List ℕ) (b : ℕ) → 49153 ≤ length xs → Adds xs xs (b ∷ [])
+dropped xs b h = record { is = sym (take-append-le 49153 xs (b ∷ []) h) }
 
 -- What is written is the line.
-pub whole : (xs ys text : List ℕ) → xs ≡ [] → Adds xs ys text → length ys ≤ 32769 → length text ≤ 32769 → ys ≡ text
+pub whole : (xs ys text : List ℕ) → xs ≡ [] → Adds xs ys text → length ys ≤ 49153 → length text ≤ 49153 → ys ≡ text
 whole xs ys text none h a b =
-    let e : take 32769 ys ≡ take 32769 text = rw none at h.is in
-    sym (take_all 32769 ys a) ∙ (e ∙ take_all 32769 text b)
+    let e : take 49153 ys ≡ take 49153 text = rw none at h.is in
+    sym (take_all 49153 ys a) ∙ (e ∙ take_all 49153 text b)
 
 -- Runs as far as they're written, and whether a comma comes next.
 pub record RunsWritten (old now : List ℕ) (rs : List Run) (n : ℕ) : Type 0 where
@@ -101,12 +94,12 @@ full_written old now [] some h a = absurd (true≢false (sym some))
 full_written old now (r ∷ rs) some h a = rw (some_runs 0 r rs h) a
 
 -- As much of a text as there is room for.
-pub fronted : (old new text : List ℕ) (room n : ℕ) → room + length old ≡ 32769 → n ≤ room → (n < room → length text ≤ n) → new ≡ old ++ take n text →
+pub fronted : (old new text : List ℕ) (room n : ℕ) → room + length old ≡ 49153 → n ≤ room → (n < room → length text ≤ n) → new ≡ old ++ take n text →
     Adds old new text
 fronted old new text room n all few whole e = record {
-  is = ap (λ (x : List ℕ). take 32769 x) e ∙ elim (cases_lt n room) [
-    | inl h ↦ ap (λ (x : List ℕ). take 32769 (old ++ x)) (take_all n text (whole h))
-    | inr h ↦ (let z : 32769 ≡ length old + n = omega arith in
+  is = ap (λ (x : List ℕ). take 49153 x) e ∙ elim (cases_lt n room) [
+    | inl h ↦ ap (λ (x : List ℕ). take 49153 (old ++ x)) (take_all n text (whole h))
+    | inr h ↦ (let z : 49153 ≡ length old + n = omega arith in
         rw (z, take-append-add old (take n text) n, take-append-add old text n, take_all n (take n text) (omega (arith, length-take n text))) refl)
   ];
 }
@@ -124,39 +117,9 @@ digit_written old now new s n b e h k =
 pub digits_written : (old now : List ℕ) (s : Words) (n : ℕ) → 8 ≤ n → n ≤ 8 → Adds old now (digits n s) → Adds old now (digits 8 s)
 digits_written old now s n a b h = let e : n ≡ 8 = omega arith in rw e at h
 
--- Offsets.
-pub no_offset : (old now : List ℕ) (s : Words) → ((o : ℕ) → o < 8 → s o ≡ false) → Adds old now (45 ∷ []) → Adds old now (offsets_text s)
-no_offset old now s none h = rw (no_offsets s none) h
-
-pub some_offset : (old now : List ℕ) (s : Words) → (((o : ℕ) → o < 8 → s o ≡ false) → IsTrue false) → Adds old now (digits 8 s) →
-    Adds old now (offsets_text s)
-some_offset old now s some h = rw (some_offsets s (has_offset s some)) h
-
 pub front_more : (a b : Option (List ℕ)) (first second : List ℕ) → AppendsFront a b first → AppendsFront a b (first ++ second)
 front_more a b first second front = record {
   count = front.count;
   within = let e = length-append first second in let f = front.within in omega (arith, e, f);
   out = (let f : front.count ≤ length first = (let g = front.within in omega (arith, g)) in rw (take-append-le front.count first second f) front.out);
 }
-
--- Lines that are written one after another, up to the one at a place n.
-first_in_range : (ls : List Line) (i n : ℕ) (l : Line) → drop i ls ≡ l ∷ drop (i + 1) ls → i < n → slice_range ls i n ≡ l ∷ slice_range ls (i + 1) n
-first_in_range ls i n l at more = let k : n - i ≡ suc (n - (i + 1)) = omega arith in ap (take (n - i)) at ∙ rw k refl
-
-pub line_next : (v : Version) (ls : List Line) (i n : ℕ) (l : Line) (wrote all : List ℕ) → drop i ls ≡ l ∷ drop (i + 1) ls → i < n →
-    wrote ++ all_ended v (slice_range ls i n) ≡ all → (wrote ++ ended (line_text v l)) ++ all_ended v (slice_range ls (i + 1) n) ≡ all
-line_next v ls i n l wrote all at more so =
-    append_assoc wrote (ended (line_text v l)) (all_ended v (slice_range ls (i + 1) n)) ∙
-    (ap (λ (x : List Line). wrote ++ all_ended v x) (sym (first_in_range ls i n l at more)) ∙ so)
-
-pub line_cut : (a b c : Option (List ℕ)) (v : Version) (ls : List Line) (i n : ℕ) (l : Line) (wrote all piece : List ℕ) → drop i ls ≡ l ∷ drop (i + 1) ls → i < n →
-    wrote ++ all_ended v (slice_range ls i n) ≡ all → Appends a b wrote → piece ≡ ended (line_text v l) → AppendsFront b c piece → AppendsFront a c all
-line_cut a b c v ls i n l wrote all piece at more so whole same front =
-    subst (λ (x : List ℕ). AppendsFront a c x) (line_next v ls i n l wrote all at more so)
-    (front_more a c (wrote ++ ended (line_text v l)) (all_ended v (slice_range ls (i + 1) n)) (front_after a b c wrote (ended (line_text v l)) whole (rw same at front)))
-
-pub lines_done : (v : Version) (ls : List Line) (i n : ℕ) (wrote all : List ℕ) → n ≤ i → wrote ++ all_ended v (slice_range ls i n) ≡ all → wrote ≡ all
-lines_done v ls i n wrote all h so = let k : n - i ≡ 0 = omega arith in sym (append-nil wrote) ∙ (rw k at so)
-
-pub all_lines : (ls : List Line) (n : ℕ) → n ≡ length ls → slice_range ls 0 n ≡ ls
-all_lines ls n e = let k : n - 0 ≡ n = omega arith in rw k (take_all n ls (omega (arith, e)))

@@ -1,20 +1,7 @@
--- What reading a certificate takes from a source.
-use Rattle.std.specs.Prelude.{◌≡◌, ℕ, ◌+◌, ◌≤◌, List, ◌++◌, length, take, Result, Ok, Err, Bool, true, false}
+-- Which faults are of the bytes of a text, and which of a read.
+use Rattle.std.specs.Prelude.{Result, Ok, Err, Bool, true, false}
 use Rattle.certificate.specs.declared.CertificateFault.{CertificateFault}
 use Rattle.certificate.specs.declared.CertificateFault.TheVariants as faults
-use Rattle.certificate.specs.Faults.{reading}
-
--- The bytes bring the answer that their text has this fault: whatever follows them, it has.
-abbrev pub Settles : List ℕ → CertificateFault → Type 0
-Settles bytes fault = (rest : List ℕ) → reading (bytes ++ rest) ≡ Err fault
-
--- The bytes bring no answer. That a text is a certificate is never known of its front, since nothing may follow.
-abbrev pub IsUnanswered : List ℕ → Type 0
-IsUnanswered bytes = (fault : CertificateFault) → Settles bytes fault → ⊥
-
--- At most so many bytes lie past the one that brings the answer: all fronts that leave more bring none.
-abbrev pub IsPrompt : ℕ → List ℕ → Type 0
-IsPrompt past given = (n : ℕ) → n + (past + 1) ≤ length given → IsUnanswered (take n given)
 
 -- This fault is that of a read that failed.
 abbrev pub is_read_fault : CertificateFault → Bool

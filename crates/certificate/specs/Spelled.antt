@@ -4,7 +4,7 @@ use Rattle.wordset.specs.Words.{Words}
 
 -- A text was added to bytes, of which those past the length of the longest line aren't kept.
 pub record Adds (old new text : List ℕ) : Type 0 where
-  pub is : take 32769 new ≡ take 32769 (old ++ text)
+  pub is : take 49153 new ≡ take 49153 (old ++ text)
 
 -- From one word to another no word is in a set, and after the other one is, unless it's the last word that there is.
 pub record IsLastOf (others : Words) (low high : ℕ) : Type 0 where

@@ -3,17 +3,18 @@
 ghost use Rattle.std.specs.Prelude.{ℕ, ◌≡◌, ◌+◌, ◌<◌, ◌≤◌, ◌↔◌, List, [], ◌∷◌, ◌++◌, length, IsTrue, true, false, Some, None, IfSome};
 ghost use Rattle.word12.specs.Words.{octal_text};
 ghost use Rattle.std.specs.Option.{IsSomeAnd};
-ghost use Rattle.wordset.specs.Words.{Words, all_words, some_below, has_some};
+ghost use Rattle.wordset.specs.Words.{Words, all_words, one, some_below, has_some};
 ghost use Rattle.wordset.specs.Links.{links_of};
 ghost use Rattle.domain.specs.Facts.{Location as Named};
-ghost use Rattle.domain.specs.Meaning.{location_of, offsets_of};
+ghost use Rattle.domain.specs.Meaning.{location_of};
+ghost use Rattle.domain.specs.Sums.Offsets.{offsets_in};
 ghost use Rattle.certificate.specs.Spelling.{marks, set_text, digits, offsets_text, name_text, rank_text};
 ghost use Rattle.certificate.specs.Reading.{place_of_name, EndsBefore};
 ghost use Rattle.certificate.specs.Packed.{Begins, added};
 ghost use Rattle.certificate.specs.Fields.{left, WasFirst, run_text, NoDash, EndsField};
 
-use crate::packed::{Run, Runs};
-use domain::{CountedOffsets, Location};
+use crate::runs::{Run, Runs};
+use domain::{Location, ReturnOffsets};
 use word12::Word;
 use wordset::Links;
 
@@ -66,6 +67,20 @@ impl<'a> Fields<'a> {
                 true
             }
             _ => false,
+        }
+    }
+
+    /// Whether some text is next.
+    pub fn begins_with(&self, text: &[u8]) -> bool
+        ensures there { result ≡ true → (rest : List ℕ) × (left self.now ≡ Some (text.now ++ rest)) }
+        ensures only { (rest : List ℕ) → left self.now ≡ Some (text.now ++ rest) → result ≡ true }
+    {
+        if !self.reads {
+            return false;
+        }
+        match self.rest.strip_prefix(text) {
+            Some(_rest) => true,
+            None => false,
         }
     }
 
@@ -152,7 +167,7 @@ impl<'a> Fields<'a> {
         ensures read { IfSome (left self.new) (λ rest.
             (has_some (added runs.old.items runs.new.items) ≡ true) ×
             (left self.old ≡ Some (marks 4096 (added runs.old.items runs.new.items) ++ rest))) }
-        ensures only { (s : Words) (rest : List ℕ) → length runs.old.items ≤ 2048 →
+        ensures only { (s : Words) (rest : List ℕ) → length runs.old.items ≤ 4096 →
             has_some s ≡ true → EndsField rest →
             left self.old ≡ Some (marks 4096 s ++ rest) →
             (left self.new ≡ Some rest) × (length runs.new.items ≤ length runs.old.items + 2048) }
@@ -179,7 +194,7 @@ impl<'a> Fields<'a> {
             has_some (added runs.old.items runs.new.items) ≡ true) }
         ensures read { WasFirst self.old self.new
             (set_text (added runs.old.items runs.new.items)) }
-        ensures only { (s : Words) (rest : List ℕ) → length runs.old.items ≤ 2048 →
+        ensures only { (s : Words) (rest : List ℕ) → length runs.old.items ≤ 4096 →
             has_some s ≡ true → EndsField rest →
             left self.old ≡ Some (set_text s ++ rest) →
             (left self.new ≡ Some rest) × (length runs.new.items ≤ length runs.old.items + 2048) }
@@ -195,7 +210,7 @@ impl<'a> Fields<'a> {
         ensures count { length runs.old.items + result ≡ length runs.new.items }
         ensures read { WasFirst self.old self.new
             (set_text (added runs.old.items runs.new.items)) }
-        ensures only { (s : Words) (rest : List ℕ) → length runs.old.items ≤ 2048 →
+        ensures only { (s : Words) (rest : List ℕ) → length runs.old.items ≤ 4096 →
             EndsField rest →
             left self.old ≡ Some (set_text s ++ rest) →
             (left self.new ≡ Some rest) × (length runs.new.items ≤ length runs.old.items + 2048) }
@@ -212,7 +227,7 @@ impl<'a> Fields<'a> {
         ensures count { length runs.old.items + result ≡ length runs.new.items }
         ensures read { IfSome (left self.new) (λ rest. (left self.old ≡ Some rest) ×
             (added runs.old.items runs.new.items ≡ all_words)) }
-        ensures only { length runs.old.items ≤ 2048 → left self.new ≡ left self.old }
+        ensures only { length runs.old.items ≤ 4096 → left self.new ≡ left self.old }
     {
         let first = Word::from_index(0);
         let last = Word::from_index(4095);
@@ -225,16 +240,38 @@ impl<'a> Fields<'a> {
         }
     }
 
+    /// Adds the run of one word.
+    pub fn one(&mut self, word: Word, runs: &mut Runs) -> u16
+        ensures front { Begins runs.old.items runs.new.items }
+        ensures count { length runs.old.items + result ≡ length runs.new.items }
+        ensures read { IfSome (left self.new) (λ rest. (left self.old ≡ Some rest) ×
+            (added runs.old.items runs.new.items ≡ one word)) }
+        ensures only { length runs.old.items ≤ 4096 → left self.new ≡ left self.old }
+    {
+        let index = word.index();
+        prove!(index < 4096);
+        match runs.try_push(Run {
+            first: word,
+            last: word,
+        }) {
+            Ok(()) => 1,
+            Err(_) => {
+                self.fail();
+                0
+            }
+        }
+    }
+
     /// Some of the digits below `count`, in rising order.
-    fn digits(&mut self, count: usize) -> CountedOffsets
+    fn digits(&mut self, count: usize) -> ReturnOffsets
         requires { count ≤ 8 }
-        ensures read { WasFirst self.old self.new (digits count (offsets_of result)) }
-        ensures ends { EndsBefore count (offsets_of result) }
+        ensures read { WasFirst self.old self.new (digits count (offsets_in result)) }
+        ensures ends { EndsBefore count (offsets_in result) }
         ensures only { (s : Words) (rest : List ℕ) → EndsField rest → left self.old ≡
             Some (digits count s ++ rest) →
-            ((v : ℕ) → v < count → offsets_of result v ≡ s v) × (left self.new ≡ Some rest) }
+            ((v : ℕ) → v < count → offsets_in result v ≡ s v) × (left self.new ≡ Some rest) }
     {
-        let mut found = CountedOffsets::none();
+        let mut found = ReturnOffsets::none();
         for digit in 0..count {
             if self.takes(b'0' + digit as u8) {
                 found.insert(digit);
@@ -257,15 +294,15 @@ impl<'a> Fields<'a> {
         links
     }
 
-    /// Offsets, `-` where there are none.
-    pub fn offsets(&mut self) -> CountedOffsets
-        ensures ends { EndsBefore 8 (offsets_of result) }
-        ensures read { WasFirst self.old self.new (offsets_text (offsets_of result)) }
+    /// The offsets of a fact in versions 1 and 2: their digits, `-` where there are none.
+    pub fn digit_offsets(&mut self) -> ReturnOffsets
+        ensures ends { EndsBefore 8 (offsets_in result) }
+        ensures read { WasFirst self.old self.new (offsets_text (offsets_in result)) }
         ensures only { (s : Words) (rest : List ℕ) → EndsField rest → left self.old ≡
             Some (offsets_text s ++ rest) → left self.new ≡ Some rest }
     {
         if self.takes(b'-') {
-            return CountedOffsets::none();
+            return ReturnOffsets::none();
         }
         let offsets = self.digits(8);
         if offsets.is_empty() {
@@ -319,8 +356,8 @@ fn digit_of(byte: u8) -> usize
 }
 
 /// The links of which the numbers are among these digits.
-fn links_among(digits: CountedOffsets) -> Links
-    ensures { (k : ℕ) → k < 2 → links_of result k ≡ offsets_of digits k }
+fn links_among(digits: ReturnOffsets) -> Links
+    ensures { (k : ℕ) → k < 2 → links_of result k ≡ offsets_in digits k }
 {
     Links {
         clear: digits.contains(0),

@@ -1,15 +1,17 @@
 //! The text of a certificate, a line at a time.
 
-ghost use Rattle.std.specs.Prelude.{ℕ, ◌≡◌, ◌+◌, ◌<◌, ◌≤◌, ◌⊎◌, ◌^◌, List, [], ◌∷◌, ◌++◌, length, take, get_or, IfOk, MatchResult, Some, None, Err};
+ghost use Rattle.std.specs.Prelude.{ℕ, ◌≡◌, ◌+◌, ◌<◌, ◌≤◌, ◌^◌, List, [], ◌∷◌, ◌++◌, length, take, get_or, IfOk, MatchResult, Some, None, Err};
 ghost use Rattle.std.specs.Prelude.{IfSome, false, true};
 ghost use Rattle.certificate.specs.declared.Version.{Version as Spelled};
-ghost use Rattle.certificate.specs.Spelling.{version_text};
-ghost use Rattle.certificate.specs.Faults.{most_bytes, reading};
-ghost use Rattle.certificate.specs.Packed.{Packed};
-ghost use Rattle.certificate.specs.Parser.{NoFeed, WasRead, Parts, Seen, IsSmall, Refuses, IsParsed};
+ghost use Rattle.certificate.specs.Sums.Spelling.{version_text};
+ghost use Rattle.certificate.specs.Faults.{most_bytes};
+ghost use Rattle.certificate.specs.Sums.Reading.{reading};
+ghost use Rattle.certificate.specs.Sums.Packed.{Packed};
+ghost use Rattle.certificate.specs.Sums.Parser.{NoFeed, WasRead, Parts, Seen, IsSmall, Refuses, IsParsed};
 
-use crate::packed::{PackedLines, Runs};
+use crate::packed::{PackedLines, Steps};
 use crate::progress::Progress;
+use crate::runs::Runs;
 use crate::{Certificate, CertificateFault, Version};
 use arrayvec::ArrayVec;
 use memchr::memchr;
@@ -19,11 +21,11 @@ use std::alloc::Allocator;
 const MOST_BYTES: usize = 1_048_576;
 
 /// No line of a certificate has more bytes.
-const MOST_OF_A_LINE: usize = 32_768;
+const MOST_OF_A_LINE: usize = 49_152;
 
 /// A certificate's text as far as it was taken: what its whole lines say and what that means for
 /// those that follow, the bytes of the line since then, of which there may be too many, and room for
-/// the runs of a line's sets.
+/// the runs of a line's sets and the steps of a chain.
 #[derive(Drop)]
 pub struct Parser<A: Allocator> {
     kept: PackedLines<A>,
@@ -31,6 +33,7 @@ pub struct Parser<A: Allocator> {
     line: ArrayVec<u8, MOST_OF_A_LINE>,
     is_long: bool,
     runs: Runs,
+    steps: Steps,
     count: usize,
 }
 
@@ -44,6 +47,9 @@ fn version_of(line: &[u8]) -> Option<Version>
     }
     if line == b"PDP8-CERTIFICATE 2".as_slice() {
         return Some(Version::Two);
+    }
+    if line == b"PDP8-CERTIFICATE 3".as_slice() {
+        return Some(Version::Three);
     }
     None
 }
@@ -73,6 +79,7 @@ impl<A: Allocator + Copy> Parser<A> {
             line: ArrayVec::new(),
             is_long: false,
             runs: ArrayVec::new(),
+            steps: ArrayVec::new(),
             count: 0,
         }
     }
@@ -102,6 +109,7 @@ fn take_next<A: Allocator>(
     kept: &mut PackedLines<A>,
     progress: &mut Progress,
     runs: &mut Runs,
+    steps: &mut Steps,
 ) -> Result<(), CertificateFault>
     requires number { progress.old.number < 2 ^ 32 }
     ensures number { progress.new.number ≤ progress.old.number + 1 }
@@ -112,9 +120,10 @@ fn take_next<A: Allocator>(
         (Refuses (bytes ++ 10 ∷ [])) }
 {
     runs.clear();
-    match progress.accept(line, runs) {
+    steps.clear();
+    match progress.accept(line, runs, steps) {
         Ok(read) => {
-            let Ok(()) = kept.keep(&read, runs) else {
+            let Ok(()) = kept.keep(&read, runs, steps) else {
                 return Err(CertificateFault::NoMemory);
             };
             Ok(())
@@ -129,6 +138,7 @@ fn take_line<A: Allocator>(
     kept: &mut PackedLines<A>,
     progress: &mut Option<Progress>,
     runs: &mut Runs,
+    steps: &mut Steps,
 ) -> Result<(), CertificateFault>
     requires number { IfSome progress.old (λ g. g.number < 2 ^ 32) }
     ensures number { (n : ℕ) → IfSome progress.old (λ g. g.number ≤ n + 2) →
@@ -141,7 +151,7 @@ fn take_line<A: Allocator>(
 {
     match progress {
         None => take_first(line, progress),
-        Some(progress) => take_next(line, kept, progress, runs),
+        Some(progress) => take_next(line, kept, progress, runs, steps),
     }
 }
 
@@ -202,9 +212,10 @@ impl<A: Allocator> Parser<A> {
             progress,
             line,
             runs,
+            steps,
             ..
         } = self;
-        let taken = take_line(line, kept, progress, runs);
+        let taken = take_line(line, kept, progress, runs, steps);
         line.clear();
         taken
     }
@@ -229,9 +240,10 @@ impl<A: Allocator> Parser<A> {
             kept,
             progress,
             runs,
+            steps,
             ..
         } = self;
-        take_line(line, kept, progress, runs)
+        take_line(line, kept, progress, runs, steps)
     }
 
     /// Takes the rest of a line and its line feed. A line that lies whole in what was given isn't copied.
@@ -309,6 +321,7 @@ impl<A: Allocator> Parser<A> {
             line,
             is_long,
             runs: _,
+            steps: _,
             count: _,
         } = self;
         let Some(progress) = progress else {

@@ -1,18 +1,17 @@
-//! The lines of a certificate, one after another.
+//! The lines of a certificate, one after another, in all versions.
 
-ghost use Rattle.std.specs.Prelude.{ℕ, ◌≡◌, ◌+◌, ◌<◌, ◌≤◌, ◌^◌, ◌↔◌, List, [], ◌∷◌, length, true, false, IsTrue, IfOk};
-ghost use Rattle.domain.specs.Meaning.{equation_of};
-ghost use Rattle.certificate.specs.declared.packed.Run.{Run};
-ghost use Rattle.certificate.specs.Reading.{place_of_equation};
-ghost use Rattle.certificate.specs.Spelling.{Line as SaidLine};
-ghost use Rattle.certificate.specs.Order.{may_stand, is_detail, place, next_place, fellows, HasRoom};
-ghost use Rattle.certificate.specs.Progress.{Tracks, TracksOthers, Fits, Takes};
-ghost use Rattle.certificate.specs.Packed.{said_at, LiesWithin};
+ghost use Rattle.std.specs.Prelude.{◌≡◌, ◌+◌, ◌<◌, ◌≤◌, ◌^◌, List, [], ◌∷◌, length, true, false, IfOk};
+ghost use Rattle.certificate.specs.declared.runs.Run.{Run};
+ghost use Rattle.domain.specs.declared.chains.Step.{Step};
+ghost use Rattle.certificate.specs.Sums.Lines.{Line as SaidLine, is_detail};
+ghost use Rattle.certificate.specs.Sums.Order.{may_stand, place_of_head, comes_in_order, has_room, may_be_level, heads, follows_newest};
+ghost use Rattle.certificate.specs.Sums.Progress.{Tracks, TracksOthers, Fits, Takes};
+ghost use Rattle.certificate.specs.Sums.Packed.{said_at, LiesWithin, IsNumbered};
 
 use crate::line::read_line;
-use crate::packed::{PackedLine, Runs};
+use crate::packed::{PackedLine, Steps};
+use crate::runs::Runs;
 use crate::{CertificateFault, Version};
-use domain::{Equation, Location};
 
 /// The place of a fact at 0000; those of routines are their entries.
 pub const FIRST_FACT: usize = 4096;
@@ -21,7 +20,7 @@ pub const FIRST_FACT: usize = 4096;
 pub const FIRST_EXIT: usize = 8192;
 
 /// The place of the end.
-pub const LAST_PLACE: usize = 40960;
+pub const LAST_PLACE: usize = 270_336;
 
 /// What is kept of the lines that were read.
 #[derive(Clone, Copy)]
@@ -34,39 +33,24 @@ pub struct Progress {
     pub ended: bool,
     takes_details: bool,
     next_head: usize,
-    next_detail: usize,
+    last_detail: Option<PackedLine>,
     routines: usize,
     cells: usize,
-    equations: usize,
+    sums: usize,
+    chains: usize,
 }
 
-/// The place of an equation among those of a fact or exit.
-fn place_of_equation(equation: &Equation) -> usize
-    ensures same { result ≡ place_of_equation (equation_of equation.now) }
-    ensures small { result < 2 ^ 25 }
-{
-    let left = match equation.left {
-        Location::Accumulator => 0,
-        Location::Cell(cell) => cell.index() + 1,
-    };
-    4097 * left + equation.right.index() + 1
-}
-
-/// The place of a line in the order.
+/// The place of a line among those that are no details, which have the end's.
 pub fn place_of(line: &PackedLine) -> usize
-    ensures same { (runs : List Run) → result ≡ place (said_at runs line.now) }
-    ensures small { result < 2 ^ 26 }
-    ensures head { is_detail (said_at [] line.now) ≡ false → result < 65535 }
+    requires { IsNumbered line.now }
+    ensures same { (runs : List Run) (steps : List Step) → result ≡ place_of_head (said_at runs steps line.now) }
+    ensures small { result ≤ 270336 }
 {
     match line {
         PackedLine::Routine(routine) => routine.entry.index(),
-        PackedLine::Fact(address, _, _) => FIRST_FACT + address.index(),
-        PackedLine::Exit(entry, offset, _) => {
-            FIRST_EXIT + 8 * entry.index() + usize::from(*offset)
-        }
-        PackedLine::Cell(cell, _) => cell.index(),
-        PackedLine::Equation(equation) => 4096 + place_of_equation(equation),
-        PackedLine::End => LAST_PLACE,
+        PackedLine::Fact(fact) => FIRST_FACT + fact.address.index(),
+        PackedLine::Exit(exit) => FIRST_EXIT + 64 * exit.entry.index() + usize::from(exit.offset),
+        _ => LAST_PLACE,
     }
 }
 
@@ -82,107 +66,143 @@ impl Progress {
             ended: false,
             takes_details: false,
             next_head: 0,
-            next_detail: 0,
+            last_detail: None,
             routines: 0,
             cells: 0,
-            equations: 0,
+            sums: 0,
+            chains: 0,
         }
     }
 
     /// Whether a line may stand here.
     fn may_stand(&self, line: &PackedLine) -> bool
-        ensures { (runs : List Run) (before : List SaidLine) → Tracks self.now before → result ≡
-            may_stand before (said_at runs line.now) }
+        ensures { (runs : List Run) (steps : List Step) (before : List SaidLine) → Tracks self.now before → result ≡
+            may_stand before (said_at runs steps line.now) }
     {
         !self.ended && (!line.is_detail() || self.takes_details)
     }
 
     /// Whether there is room for a line.
     fn has_room(&self, line: &PackedLine) -> bool
-        ensures room { (runs : List Run) (before : List SaidLine) → Tracks self.now before → IsTrue result ↔
-            HasRoom before (said_at runs line.now) }
-        ensures fits { result ≡ true → Fits self.now (said_at [] line.now) }
+        ensures room { (runs : List Run) (steps : List Step) (before : List SaidLine) → Tracks self.now before → result ≡
+            has_room before (said_at runs steps line.now) }
+        ensures fits { result ≡ true → Fits self.now (said_at [] [] line.now) }
     {
         match line {
             PackedLine::Routine(_) => self.routines < 64,
             PackedLine::Cell(_, _) => self.cells < 64,
-            PackedLine::Equation(_) => self.equations < 32,
+            PackedLine::Sum(_, _) => self.sums < 32,
+            PackedLine::Chain(_) => self.chains < 4,
             _ => true,
         }
     }
 
-    /// The least place that a line may have here.
-    fn next_place(&self, line: &PackedLine) -> usize
-        ensures { (runs : List Run) (before : List SaidLine) → Tracks self.now before →
-            result ≡ next_place (fellows before (said_at runs line.now)) }
+    /// Whether several lines of this kind may stand at one place.
+    fn may_be_level(&self, line: &PackedLine) -> bool
+        ensures { (runs : List Run) (steps : List Step) → result ≡ may_be_level self.now.version (said_at runs steps line.now) }
     {
-        if line.is_detail() {
-            self.next_detail
-        } else {
-            self.next_head
+        match self.version {
+            Version::One | Version::Two => false,
+            Version::Three => line.has_details(),
+        }
+    }
+
+    /// Whether a line that is no detail comes in order.
+    fn is_next_head(&self, line: &PackedLine) -> bool
+        requires numbers { IsNumbered line.now }
+        requires head { is_detail (said_at [] [] line.now) ≡ false }
+        ensures { (runs : List Run) (steps : List Step) (before : List SaidLine) → Tracks self.now before →
+            result ≡ follows_newest self.now.version (said_at runs steps line.now) (heads before) }
+    {
+        let place = place_of(line);
+        let is_level = self.may_be_level(line);
+        self.next_head <= place || self.next_head == place + 1 && is_level
+    }
+
+    /// Whether a line comes in order.
+    fn is_next(&self, line: &PackedLine) -> bool
+        requires numbers { IsNumbered line.now }
+        ensures { (runs : List Run) (steps : List Step) (before : List SaidLine) → Tracks self.now before →
+            result ≡ comes_in_order self.now.version before (said_at runs steps line.now) }
+    {
+        if !line.is_detail() {
+            return self.is_next_head(line);
+        }
+        match &self.last_detail {
+            None => true,
+            Some(last) => last.is_before(line),
         }
     }
 
     /// Keeps what a line says for those after it.
     fn add(&mut self, line: &PackedLine)
         requires number { self.old.number < 2 ^ 32 }
-        requires fits { Fits self.old (said_at [] line.now) }
+        requires numbers { IsNumbered line.now }
+        requires fits { Fits self.old (said_at [] [] line.now) }
         ensures version { self.new.version ≡ self.old.version }
         ensures number { self.new.number ≡ self.old.number + 1 }
-        ensures lines { (runs : List Run) (before : List SaidLine) → Tracks self.old before →
-            Tracks self.new (said_at runs line.now ∷ before) }
+        ensures lines { (runs : List Run) (steps : List Step) (before : List SaidLine) → Tracks self.old before →
+            Tracks self.new (said_at runs steps line.now ∷ before) }
     {
         self.number += 1;
         match line {
-            PackedLine::Cell(_, _) => {
-                self.next_detail = place_of(line) + 1;
-                self.cells += 1;
+            PackedLine::Cell(_, _) => self.cells += 1,
+            PackedLine::Sum(_, _) => self.sums += 1,
+            PackedLine::Chain(_) => self.chains += 1,
+            _ => {
+                self.add_head(line);
+                return;
             }
-            PackedLine::Equation(_) => {
-                self.next_detail = place_of(line) + 1;
-                self.equations += 1;
-            }
-            _ => self.add_head(line),
         }
+        self.last_detail = Some(*line);
     }
 
-    /// The same of a line that isn't a cell or an equation.
+    /// The same of a line that is not a detail.
     fn add_head(&mut self, line: &PackedLine)
-        requires head { is_detail (said_at [] line.now) ≡ false }
-        requires fits { Fits self.old (said_at [] line.now) }
+        requires head { is_detail (said_at [] [] line.now) ≡ false }
+        requires numbers { IsNumbered line.now }
+        requires fits { Fits self.old (said_at [] [] line.now) }
         ensures version { self.new.version ≡ self.old.version }
         ensures number { self.new.number ≡ self.old.number }
-        ensures lines { (runs : List Run) (before : List SaidLine) → TracksOthers self.old before →
-            TracksOthers self.new (said_at runs line.now ∷ before) }
+        ensures lines { (runs : List Run) (steps : List Step) (before : List SaidLine) → TracksOthers self.old before →
+            TracksOthers self.new (said_at runs steps line.now ∷ before) }
     {
         self.next_head = place_of(line) + 1;
-        self.next_detail = 0;
+        self.last_detail = None;
         self.cells = 0;
-        self.equations = 0;
+        self.sums = 0;
+        self.chains = 0;
         match line {
             PackedLine::Routine(_) => self.routines += 1,
-            PackedLine::Fact(_, _, _) | PackedLine::Exit(_, _, _) => self.takes_details = true,
+            PackedLine::Fact(_) | PackedLine::Exit(_) => self.takes_details = true,
             _ => self.ended = true,
         }
     }
 
-    /// Takes the next line; the runs of its sets are added.
-    pub fn accept(&mut self, bytes: &[u8], runs: &mut Runs) -> Result<PackedLine, CertificateFault>
+    /// Takes the next line; the runs of its sets and the steps of a chain are added.
+    pub fn accept(
+        &mut self,
+        bytes: &[u8],
+        runs: &mut Runs,
+        steps: &mut Steps,
+    ) -> Result<PackedLine, CertificateFault>
         requires number { self.old.number < 2 ^ 32 }
-        requires empty { runs.old.items ≡ [] }
+        requires runs { runs.old.items ≡ [] }
+        requires steps { steps.old.items ≡ [] }
         ensures version { self.new.version ≡ self.old.version }
         ensures number { self.new.number ≤ self.old.number + 1 }
-        ensures within { IfOk result (LiesWithin (length runs.new.items)) }
+        ensures within { IfOk result (LiesWithin (length runs.new.items) (length steps.new.items)) }
+        ensures numbers { IfOk result IsNumbered }
         ensures lines { (before : List SaidLine) → Tracks self.old before →
-            Takes self.old.version before bytes.now self.new runs.new.items result }
+            Takes self.old.version before bytes.now self.new runs.new.items steps.new.items result }
     {
-        let Some(line) = read_line(self.version, bytes, runs) else {
+        let Some(line) = read_line(self.version, bytes, runs, steps) else {
             return Err(CertificateFault::BadLine(self.number));
         };
         if !self.may_stand(&line) {
             return Err(CertificateFault::BadLine(self.number));
         }
-        if place_of(&line) < self.next_place(&line) {
+        if !self.is_next(&line) {
             return Err(CertificateFault::Order(self.number));
         }
         if !self.has_room(&line) {

@@ -1,5 +1,5 @@
 -- The programs that break rules are declared ones.
-use Rattle.std.proofs.Common.{◌≡◌, ℕ, ◌<◌, ◌==◌, Bool, true, false, Option, Some, None, refl, sym, ap, ◌∙◌, inl, inr, arith}
+use Rattle.std.proofs.Common.{◌≡◌, ℕ, ◌<◌, ◌==◌, true, false, Option, Some, None, refl, inl, inr, arith}
 use Rattle.std.proofs.lemmas.Bool.{eqb-true, false≢true}
 use Rattle.wordset.specs.Words.{Words}
 use Rattle.declaration.specs.Declaration.{Routine, IsDeclared}

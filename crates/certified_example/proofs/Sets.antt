@@ -3,7 +3,7 @@ use Rattle.std.proofs.Common.{◌≡◌, ℕ, zero, suc, ◌<◌, ◌≤◌, ◌
 use Rattle.std.specs.Prelude.{if◌then◌else◌}
 use Rattle.std.proofs.lemmas.Bool.{cases_Bool, eq-eqb, ne_eqb, cases_eq}
 use Rattle.wordset.specs.Words.{Words, one, some_below, how_many, first_below, without, only}
-use Rattle.facts.proofs.Numbers.{some_from}
+use Rattle.wordset.proofs.Tests.{some_from}
 
 pub and_false : (b : Bool) → (b && false) ≡ false
 and_false true = refl

@@ -1,51 +1,29 @@
 -- The declaration keeps the overlap rules, and every condition holds of the certificate.
-use Rattle.std.proofs.Common.{◌≡◌, ℕ, ◌<◌, ◌≤◌, ◌==◌, Bool, true, false, ◌&&◌, ◌||◌, ◌⊎◌, Some, None, List, [], ◌∷◌, ◌++◌, refl, sym, ap, ◌∙◌, subst, inl, inr, arith}
-use Rattle.std.specs.Prelude.{if◌then◌else◌}
-use Rattle.std.proofs.lemmas.Bool.{and_parts, cases_Bool, eqb-true, lt-ltb, true≢false, false≢true, or_cases}
+use Rattle.std.proofs.Common.{◌≡◌, ◌≢◌, ℕ, ◌<◌, ◌≤◌, ◌==◌, Bool, true, false, ◌&&◌, ◌||◌, ◌⊎◌, Some, None, List, [], ◌∷◌, ◌++◌, refl, sym, ap, ◌∙◌, subst, inl, inr, arith}
+use Rattle.std.proofs.lemmas.Bool.{and_parts, cases_eq, eqb-true, lt-ltb, ne_eqb, true≢false, false≢true, or_cases}
 use Rattle.instruct.specs.declared.Profile.TheVariants.{Pdp8I}
 use Rattle.instruct.specs.Instructions.{meaning_of}
-use Rattle.wordset.specs.Words.{Words, plus, nothing, all_words, all_links, one, some_below, how_many}
-use Rattle.processor.specs.Machine.{State}
+use Rattle.wordset.specs.Words.{Words, plus, nothing, all_words, all_links, one, some_below, how_many, IsWithin}
+use Rattle.wordset.proofs.Tests.{some_from}
 use Rattle.declaration.specs.Declaration.{Routine, IsDeclared}
-use Rattle.domain.specs.Facts.{Location, Ac, Cell, Fact, narrowed, possible, values, Entails, joined}
-use Rattle.domain.specs.Statements.{all_offsets}
-use Rattle.domain.specs.Changes.{moved, strongly_updated, copied, with_equations, with_offsets}
-use Rattle.facts.specs.Outcomes.{Successor, Goes, given, dca_case, part2, operated2}
-use Rattle.facts.specs.Starts.{HoldsOfStarts}
+use Rattle.domain.specs.Facts.{Location, Ac, Cell}
+use Rattle.domain.specs.Statements.{TrackedCell}
+use Rattle.domain.specs.Sums.Facts.{Fact, Place, OfEquations}
+use Rattle.domain.specs.Sums.Narrowing.{narrowed, words_known}
+use Rattle.domain.specs.Sums.Moves.{joined}
 use Rattle.facts.specs.declared.Condition.TheVariants.{V1, V2, V3, V4, V5, V6, V7, V8, V9, V10, V11, V12, V13, V14, V15}
-use Rattle.facts.proofs.Numbers.{some_from}
-use Rattle.judge.specs.Conditions.{place_in, fact_at, LandsAt, IsPlaced, EachSuccessor, SuccessorLands, IsValid}
-use Rattle.judge.proofs.Fine.{Fine}
-use Rattle.certified_example.specs.Example.{main_cells, body, variables, declaration, knowing, any, clear, changed, fact, certificate, example}
+use Rattle.facts.specs.Sums.References.{possible}
+use Rattle.facts.specs.Sums.Outcomes.{Successor, Goes, given, dca_case, stored_by}
+use Rattle.facts.specs.Sums.Operations.{operated2, part2}
+use Rattle.facts.specs.Sums.Entailment.{Entails}
+use Rattle.facts.specs.Sums.Starts.{start_fact}
+use Rattle.certificate.specs.Sums.Certificate.{has_exits}
+use Rattle.certificate.specs.Sums.Reading.{all_offsets, sets_of}
+use Rattle.judge.specs.Sums.Landing.{place_in, sited, asked, asked_at, called_from, LandsAt, EachLandsAfter, EachSuccessor, SuccessorLands}
+use Rattle.judge.specs.Sums.Conditions.{EachFact, HoldsForWords, IsPlaced, IsValid, MayReturn}
+use Rattle.judge.proofs.Sums.Fine.{Fine}
+use Rattle.certified_example.specs.Example.{main_cells, body, declaration, image, certificate, example}
 use Rattle.certified_example.proofs.Sets.{and_false, none_in, few, only_one}
-
--- the addresses, one by one
-by_cell : (P : ℕ → Type 0) → P 0o200 → P 0o201 → P 0o202 → P 0o203 → P 0o204 → P 0o205 → P 0o206 → (a : ℕ) → main_cells a ≡ true → P a
-by_cell P p0 p1 p2 p3 p4 p5 p6 a h = elim (or_cases (a == 0o200) _ h) [
-  | inl e ↦ subst P (sym (eqb-true a 0o200 e)) p0
-  | inr h1 ↦ elim (or_cases (a == 0o201) _ h1) [
-    | inl e ↦ subst P (sym (eqb-true a 0o201 e)) p1
-    | inr h2 ↦ elim (or_cases (a == 0o202) _ h2) [
-      | inl e ↦ subst P (sym (eqb-true a 0o202 e)) p2
-      | inr h3 ↦ elim (or_cases (a == 0o203) _ h3) [
-        | inl e ↦ subst P (sym (eqb-true a 0o203 e)) p3
-        | inr h4 ↦ elim (or_cases (a == 0o204) _ h4) [
-          | inl e ↦ subst P (sym (eqb-true a 0o204 e)) p4
-          | inr h5 ↦ elim (or_cases (a == 0o205) _ h5) [
-            | inl e ↦ subst P (sym (eqb-true a 0o205 e)) p5
-            | inr e ↦ subst P (sym (eqb-true a 0o206 e)) p6
-          ]
-        ]
-      ]
-    ]
-  ]
-]
-
-by_fact : (P : ℕ → Type 0) → P 0o200 → P 0o201 → P 0o202 → P 0o203 → P 0o204 → P 0o205 → P 0o206 → P 0o211 → (a : ℕ) → certificate.has_fact a ≡ true → P a
-by_fact P p0 p1 p2 p3 p4 p5 p6 p9 a h = elim (or_cases (main_cells a) _ h) [
-  | inl e ↦ by_cell P p0 p1 p2 p3 p4 p5 p6 a e
-  | inr e ↦ subst P (sym (eqb-true a 0o211 e)) p9
-]
 
 pub is_declared : IsDeclared declaration
 is_declared = record {
@@ -81,9 +59,101 @@ is_declared = record {
       | inr e ↦ (None, (let q : a ≡ 0o205 = eqb-true a 0o205 e in rw q refl))
     ]
 
--- a fact that allows everything is entailed by each
-any_entailed : (f : Fact) (offsets : Words) → Entails f (knowing any offsets)
-any_entailed f offsets = record { sets = λ n v lt h. lt-ltb v 4096 lt; mq = λ v lt h. lt-ltb v 4096 lt; link = λ l lt h. lt-ltb l 2 lt; equations = tt }
+-- an address without a fact
+pub record IsOther (a : ℕ) : Type 0 where
+  pub t0 : a ≢ 0o200
+  pub t1 : a ≢ 0o201
+  pub t2 : a ≢ 0o202
+  pub t3 : a ≢ 0o203
+  pub t4 : a ≢ 0o204
+  pub t5 : a ≢ 0o205
+  pub t6 : a ≢ 0o206
+  pub t9 : a ≢ 0o211
+
+by_address : (P : ℕ → Type 0) → P 0o200 → P 0o201 → P 0o202 → P 0o203 → P 0o204 → P 0o205 → P 0o206 → P 0o211 → ((a : ℕ) → IsOther a → P a) → (a : ℕ) → P a
+by_address P p0 p1 p2 p3 p4 p5 p6 p9 rest a = elim (cases_eq a 0o200) [
+  | inl e ↦ subst P (sym e) p0
+  | inr n0 ↦ elim (cases_eq a 0o201) [
+    | inl e ↦ subst P (sym e) p1
+    | inr n1 ↦ elim (cases_eq a 0o202) [
+      | inl e ↦ subst P (sym e) p2
+      | inr n2 ↦ elim (cases_eq a 0o203) [
+        | inl e ↦ subst P (sym e) p3
+        | inr n3 ↦ elim (cases_eq a 0o204) [
+          | inl e ↦ subst P (sym e) p4
+          | inr n4 ↦ elim (cases_eq a 0o205) [
+            | inl e ↦ subst P (sym e) p5
+            | inr n5 ↦ elim (cases_eq a 0o206) [
+              | inl e ↦ subst P (sym e) p6
+              | inr n6 ↦ elim (cases_eq a 0o211) [
+                | inl e ↦ subst P (sym e) p9
+                | inr n9 ↦ rest a (record { t0 = n0; t1 = n1; t2 = n2; t3 = n3; t4 = n4; t5 = n5; t6 = n6; t9 = n9 })
+              ]
+            ]
+          ]
+        ]
+      ]
+    ]
+  ]
+]
+
+-- a test with its numbers exchanged
+left : (k a : ℕ) → a ≢ k → (k == a) ≡ false
+left k a n = ne_eqb k a (λ q. n (sym q))
+
+no_facts : (a : ℕ) → IsOther a → certificate.facts a ≡ []
+no_facts a o = rw (
+  left 0o200 a o.t0,
+  left 0o201 a o.t1,
+  left 0o202 a o.t2,
+  left 0o203 a o.t3,
+  left 0o204 a o.t4,
+  left 0o205 a o.t5,
+  left 0o206 a o.t6,
+  left 0o211 a o.t9,
+) refl
+
+-- a fact of these sites, accumulator, cells and offsets
+abbrev pub knowing : Words → Words → List TrackedCell → Words → Fact
+knowing sites ac cells offsets = record {
+  set = sets_of ac cells;
+  relations = [];
+  chains = [];
+  mq = all_words;
+  link = all_links;
+  sites = sites;
+  offsets = offsets;
+}
+
+-- the facts of main and the routine
+abbrev pub plain : Fact
+plain = knowing nothing all_words [] nothing
+
+abbrev pub cleared : Fact
+cleared = knowing nothing (one 0) [] nothing
+
+abbrev pub with_cell : Fact
+with_cell = knowing nothing all_words (record { address = 0o202; set = one 0 } ∷ []) nothing
+
+abbrev pub returning : Fact
+returning = knowing (one 0o203) all_words [] (one 0)
+
+-- all words are allowed of each name
+any_set : (n : Location) (v : ℕ) → v < 4096 → sets_of all_words [] n v ≡ true
+any_set Ac v lt = lt-ltb v 4096 lt
+any_set (Cell a) v lt = lt-ltb v 4096 lt
+
+-- a fact that allows everything but sites and offsets is entailed by each with those
+any_entailed : (pl : Place) (f : Fact) (sites offsets : Words) → IsWithin f.sites sites → ((o : ℕ) → o < 64 → f.offsets o ≡ true → offsets o ≡ true) → Entails pl f (knowing sites all_words [] offsets)
+any_entailed pl f sites offsets within counted = record {
+  sets = λ n v lt h. any_set n v lt;
+  mq = λ v lt h. lt-ltb v 4096 lt;
+  link = λ l lt h. lt-ltb l 2 lt;
+  relations = tt;
+  chains = tt;
+  sites = within;
+  offsets = counted;
+}
 
 each_given : (p : Successor → Type 0) (b : Bool) (o : Successor) → p o → EachSuccessor p (given b o)
 each_given p true o h = (h, tt)
@@ -114,24 +184,20 @@ none_right : (a b : Bool) → b ≡ false → (a && b) ≡ false
 none_right true b e = e
 none_right false b e = refl
 
--- a fact in main lands where nothing is known
-main_lands : (a : ℕ) (f : Fact) → certificate.has_fact a ≡ true → main_cells a ≡ true → fact a ≡ knowing any nothing → f.offsets ≡ nothing → LandsAt example None a f
-main_lands a f there inside e o = record {
-  there = there;
-  inside = inside;
-  entails = subst (λ g. Entails f g) (sym e) (any_entailed f nothing);
-  offsets = λ n lt h. subst (λ g. g.offsets n ≡ true) (sym e) (subst (λ x. x n ≡ true) o h);
-}
+-- a fact in main without sites and offsets lands where nothing is known
+lands : (f : Fact) → IsWithin f.sites nothing → ((o : ℕ) → o < 64 → f.offsets o ≡ true → nothing o ≡ true) → (a : ℕ) → body None a ≡ true → certificate.facts a ≡ plain ∷ [] → LandsAt example None a f
+lands f sites offsets a inside facts =
+    inr (inside, rw facts (inl (any_entailed (place_in example None) f nothing nothing sites offsets)))
 
 one_lands : (a : ℕ) (f : Fact) → LandsAt example None a f → (q : ℕ) → q < 4096 → one a q ≡ true → LandsAt example None q f
 one_lands a f l q lq h = subst (λ x. LandsAt example None x f) (sym (eqb-true q a h)) l
 
 -- 0200: DCA 0202
-first_fine : Fine example None 0o200 (meaning_of Pdp8I 0o200 0o3202)
-unfolding meaning_of strongly_updated narrowed
+first_fine : Fine example None 0o200 plain (meaning_of Pdp8I 0o200 0o3202)
+unfolding meaning_of narrowed
 first_fine = record {
   v3 = tt;
-  v4 = subst (λ o. EachSuccessor (SuccessorLands example None) (dca_case (place_in example None) 0o200 (fact 0o200) (one 0o202) o)) (sym (only_one 0o202 (omega arith))) deposits;
+  v4 = subst (λ o. EachSuccessor (SuccessorLands example None) (dca_case (place_in example None) 0o200 plain (one 0o202) o)) (sym (only_one 0o202 (omega arith))) deposits;
   v5 = λ a lt h. inl (let q : a ≡ 0o202 = eqb-true a 0o202 h in rw q refl);
   v6 = λ a lt h. tt;
   v7 = (tt, tt);
@@ -146,29 +212,24 @@ first_fine = record {
 }
   where
     after : Fact
-    after = strongly_updated Ac (one 0) (with_equations (copied 0o202 []) (strongly_updated (Cell 0o202) (narrowed (fact 0o200) Ac) (fact 0o200)))
+    after = stored_by OfEquations 0o202 (words_known (place_in example None) plain Ac) plain
 
-    sets : (n : Location) (v : ℕ) → v < 4096 → narrowed after n v ≡ true → clear n v ≡ true
-    sets Ac v lt g = (and_parts (v == 0) true g).0
+    sets : (n : Location) (v : ℕ) → v < 4096 → words_known (place_in example None) after n v ≡ true → cleared.set n v ≡ true
+    sets Ac v lt g = g
     sets (Cell a) v lt g = lt-ltb v 4096 lt
 
-    lands : LandsAt example None 0o201 after
-    lands = record {
-      there = refl;
-      inside = refl;
-      entails = record { sets = sets; mq = λ v lt g. g; link = λ l lt g. g; equations = tt };
-      offsets = λ n lt g. g;
-    }
+    lands_there : LandsAt example None 0o201 after
+    lands_there = inr (refl, inl (record { sets = sets; mq = λ v lt g. g; link = λ l lt g. g; relations = tt; chains = tt; sites = λ v lt g. g; offsets = λ n lt g. g }))
 
-    deposits : EachSuccessor (SuccessorLands example None) (dca_case (place_in example None) 0o200 (fact 0o200) (one 0o202) (Some 0o202))
-    deposits = each_given (SuccessorLands example None) _ (Goes (one 0o201) after) (one_lands 0o201 after lands)
+    deposits : EachSuccessor (SuccessorLands example None) (dca_case (place_in example None) 0o200 plain (one 0o202) (Some 0o202))
+    deposits = each_given (SuccessorLands example None) _ (Goes (one 0o201) after) (one_lands 0o201 after lands_there)
 
 -- 0201: DCA 0202, with the accumulator 0
-second_fine : Fine example None 0o201 (meaning_of Pdp8I 0o201 0o3202)
-unfolding meaning_of strongly_updated narrowed
+second_fine : Fine example None 0o201 cleared (meaning_of Pdp8I 0o201 0o3202)
+unfolding meaning_of narrowed
 second_fine = record {
   v3 = tt;
-  v4 = subst (λ o. EachSuccessor (SuccessorLands example None) (dca_case (place_in example None) 0o201 (fact 0o201) (one 0o202) o)) (sym (only_one 0o202 (omega arith))) deposits;
+  v4 = subst (λ o. EachSuccessor (SuccessorLands example None) (dca_case (place_in example None) 0o201 cleared (one 0o202) o)) (sym (only_one 0o202 (omega arith))) deposits;
   v5 = λ a lt h. inl (let q : a ≡ 0o202 = eqb-true a 0o202 h in rw q refl);
   v6 = λ a lt h. tt;
   v7 = (tt, tt);
@@ -183,33 +244,31 @@ second_fine = record {
 }
   where
     after : Fact
-    after = strongly_updated Ac (one 0) (with_equations (copied 0o202 []) (strongly_updated (Cell 0o202) (narrowed (fact 0o201) Ac) (fact 0o201)))
+    after = stored_by OfEquations 0o202 (words_known (place_in example None) cleared Ac) cleared
 
-    cell : (b : Bool) (v : ℕ) → (let c : Words = if b then narrowed (fact 0o201) Ac else all_words in (c v && true) ≡ true) → (let c : Words = if b then one 0 else all_words in c v ≡ true)
-    cell true v g = (and_parts (v == 0) true (and_parts ((v == 0) && true) true g).0).0
-    cell false v g = (and_parts (all_words v) true g).0
+    -- the cell has the accumulator's word, and every other cell any word
+    cell : (a v : ℕ) → v < 4096 → words_known (place_in example None) after (Cell a) v ≡ true → with_cell.set (Cell a) v ≡ true
+    cell a v lt g = elim (cases_eq a 0o202) [
+      | inl e ↦ (let h : (v == 0) ≡ true = rw e at g in rw (e, h, lt-ltb v 4096 lt) refl)
+      | inr n ↦ rw (left 0o202 a n) (lt-ltb v 4096 lt)
+    ]
 
-    sets : (n : Location) (v : ℕ) → v < 4096 → narrowed after n v ≡ true → changed n v ≡ true
+    sets : (n : Location) (v : ℕ) → v < 4096 → words_known (place_in example None) after n v ≡ true → with_cell.set n v ≡ true
     sets Ac v lt g = lt-ltb v 4096 lt
-    sets (Cell a) v lt g = cell (a == 0o202) v g
+    sets (Cell a) v lt g = cell a v lt g
 
-    lands : LandsAt example None 0o202 after
-    lands = record {
-      there = refl;
-      inside = refl;
-      entails = record { sets = sets; mq = λ v lt g. g; link = λ l lt g. g; equations = tt };
-      offsets = λ n lt g. g;
-    }
+    lands_there : LandsAt example None 0o202 after
+    lands_there = inr (refl, inl (record { sets = sets; mq = λ v lt g. g; link = λ l lt g. g; relations = tt; chains = tt; sites = λ v lt g. g; offsets = λ n lt g. g }))
 
-    deposits : EachSuccessor (SuccessorLands example None) (dca_case (place_in example None) 0o201 (fact 0o201) (one 0o202) (Some 0o202))
-    deposits = each_given (SuccessorLands example None) _ (Goes (one 0o202) after) (one_lands 0o202 after lands)
+    deposits : EachSuccessor (SuccessorLands example None) (dca_case (place_in example None) 0o201 cleared (one 0o202) (Some 0o202))
+    deposits = each_given (SuccessorLands example None) _ (Goes (one 0o202) after) (one_lands 0o202 after lands_there)
 
 -- 0202: AND 0000, in the cell of changeable code
-third_fine : Fine example None 0o202 (meaning_of Pdp8I 0o202 0)
-unfolding meaning_of strongly_updated
+third_fine : Fine example None 0o202 with_cell (meaning_of Pdp8I 0o202 0)
+unfolding meaning_of
 third_fine = record {
   v3 = tt;
-  v4 = each_given (SuccessorLands example None) _ _ (one_lands 0o203 _ (main_lands 0o203 _ refl refl refl refl));
+  v4 = each_given (SuccessorLands example None) _ _ (one_lands 0o203 _ (lands _ (λ v lt g. g) (λ n lt g. g) 0o203 refl refl));
   v5 = λ a lt h. absurd (false≢true h);
   v6 = λ a lt h. tt;
   v7 = (tt, tt);
@@ -224,36 +283,40 @@ third_fine = record {
 }
 
 -- 0203: JMS 0210
-fourth_fine : Fine example None 0o203 (meaning_of Pdp8I 0o203 0o4210)
+fourth_fine : Fine example None 0o203 plain (meaning_of Pdp8I 0o203 0o4210)
 unfolding meaning_of joined
 fourth_fine = record {
   v3 = tt;
   v4 = each_given (SuccessorLands example None) _ _ tt;
   v5 = λ a lt h. absurd (false≢true h);
   v6 = λ a lt h. tt;
-  v7 = (refl, λ e lt h. record { entry = h; listed = h; lower = tt });
+  v7 = (refl, λ e lt h. record { entry = h; listed = subst (λ x. certificate.listed x ≡ true) (sym (eqb-true e 0o210 h)) refl; lower = tt });
   v8 = λ e lt h. tt;
-  v9 = λ e lt h. (let q : e ≡ 0o210 = eqb-true e 0o210 h in rw q refl, omega arith);
-  v10 = λ e lt h. subst (λ x. LandsAt example (Some x) (plus x 1) (with_offsets (one 0) (fact 0o203))) (sym (eqb-true e 0o210 h)) enters;
-  v11 = λ e lt h o lo g. subst (λ x. LandsAt example None (plus 0o204 x) (joined (fact 0o203) (knowing any all_offsets) nothing)) (sym (eqb-true o 0 (and_parts (e == 0o210) (o == 0) g).1)) returns;
+  v9 = λ e lt h. subst (λ x. (certificate.sites x 0o203 ≡ true) × (0o203 ≤ 4087)) (sym (eqb-true e 0o210 h)) (refl, omega arith);
+  v10 = λ e lt h. subst (λ x. LandsAt example (Some x) (plus x 1) (called_from 0o203 plain)) (sym (eqb-true e 0o210 h)) enters;
+  v11 = λ e lt h o lo. subst (λ x. EachLandsAfter example None 0o203 x o plain (sited OfEquations (certificate.sites x) (certificate.exits x o))) (sym (eqb-true e 0o210 h)) (returns o);
   v12 = tt;
   v13 = tt;
   v14 = λ a lt h e. absurd (false≢true h);
   v15 = λ a lt h. inl tt;
 }
   where
-    enters : LandsAt example (Some 0o210) 0o211 (with_offsets (one 0) (fact 0o203))
-    enters = record { there = refl; inside = refl; entails = any_entailed _ _; offsets = λ n lt g. g }
+    enters : LandsAt example (Some 0o210) 0o211 (called_from 0o203 plain)
+    enters = inr (refl, inl (any_entailed (place_in example (Some 0o210)) (called_from 0o203 plain) (one 0o203) (one 0) (λ v lt g. g) (λ n lt g. g)))
 
-    returns : LandsAt example None 0o204 (joined (fact 0o203) (knowing any all_offsets) nothing)
-    returns = record { there = refl; inside = refl; entails = any_entailed _ _; offsets = λ n lt g. g }
+    -- by the offset 0 it returns to 0204, and it has no other exit
+    returns : (o : ℕ) → EachLandsAfter example None 0o203 0o210 o plain (sited OfEquations (certificate.sites 0o210) (certificate.exits 0o210 o))
+    returns o = elim (cases_eq o 0) [
+      | inl e ↦ rw e (λ there. lands _ (λ v lt g. g) (λ n lt g. g) 0o204 refl refl, tt)
+      | inr n ↦ rw (left 0 o n) tt
+    ]
 
 -- 0204: TAD I 10
-fifth_fine : Fine example None 0o204 (meaning_of Pdp8I 0o204 0o1410)
-unfolding meaning_of moved
+fifth_fine : Fine example None 0o204 plain (meaning_of Pdp8I 0o204 0o1410)
+unfolding meaning_of
 fifth_fine = record {
   v3 = tt;
-  v4 = each_given (SuccessorLands example None) _ _ (one_lands 0o205 _ (main_lands 0o205 _ refl refl refl refl));
+  v4 = each_given (SuccessorLands example None) _ _ (one_lands 0o205 _ (lands _ (λ v lt g. g) (λ n lt g. g) 0o205 refl refl));
   v5 = λ a lt h. inl (pointer a h);
   v6 = λ a lt h. tt;
   v7 = (tt, tt);
@@ -274,7 +337,7 @@ fifth_fine = record {
     pointer a h = let q : a ≡ 8 = at a h in rw q refl
 
 -- 0205: HLT, a pause
-sixth_fine : Fine example None 0o205 (meaning_of Pdp8I 0o205 0o7402)
+sixth_fine : Fine example None 0o205 plain (meaning_of Pdp8I 0o205 0o7402)
 unfolding meaning_of
 sixth_fine = record {
   v3 = tt;
@@ -295,18 +358,18 @@ sixth_fine = record {
     p : Successor → Type 0
     p = SuccessorLands example None
 
-    skips : (l : ℕ) → EachSuccessor p (operated2 0o205 0o7402 (fact 0o205) l true)
-    skips l = none_given p _ _ (none_right (all_links l) _ (and_none _ _ (none_in 4096 (part2 0o7402 (fact 0o205) l true) (λ k lt. and_false (narrowed (fact 0o205) Ac k)))))
+    skips : (l : ℕ) → EachSuccessor p (operated2 (place_in example None) 0o205 0o7402 plain l true)
+    skips l = none_given p _ _ (none_right (all_links l) _ (and_none _ _ (none_in 4096 (part2 (place_in example None) 0o7402 plain l true) (λ k lt. and_false (words_known (place_in example None) plain Ac k)))))
 
-    stays : (l : ℕ) → EachSuccessor p (operated2 0o205 0o7402 (fact 0o205) l false)
-    stays l = each_given p _ _ (one_lands 0o206 _ (main_lands 0o206 _ refl refl refl refl))
+    stays : (l : ℕ) → EachSuccessor p (operated2 (place_in example None) 0o205 0o7402 plain l false)
+    stays l = each_given p _ _ (one_lands 0o206 _ (lands _ (λ v lt g. g) (λ n lt g. g) 0o206 refl refl))
 
 -- 0206: JMP 0200
-seventh_fine : Fine example None 0o206 (meaning_of Pdp8I 0o206 0o5200)
+seventh_fine : Fine example None 0o206 plain (meaning_of Pdp8I 0o206 0o5200)
 unfolding meaning_of
 seventh_fine = record {
   v3 = tt;
-  v4 = each_given (SuccessorLands example None) _ _ (one_lands 0o200 _ (main_lands 0o200 _ refl refl refl refl));
+  v4 = each_given (SuccessorLands example None) _ _ (one_lands 0o200 _ (lands _ (λ v lt g. g) (λ n lt g. g) 0o200 refl refl));
   v5 = λ a lt h. absurd (false≢true h);
   v6 = λ a lt h. tt;
   v7 = (tt, tt);
@@ -321,7 +384,7 @@ seventh_fine = record {
 }
 
 -- 0211: JMP I 0210
-return_fine : Fine example (Some 0o210) 0o211 (meaning_of Pdp8I 0o211 0o5610)
+return_fine : Fine example (Some 0o210) 0o211 returning (meaning_of Pdp8I 0o211 0o5610)
 unfolding meaning_of
 return_fine = record {
   v3 = tt;
@@ -333,97 +396,106 @@ return_fine = record {
   v9 = tt;
   v10 = tt;
   v11 = tt;
-  v12 = λ i e. (refl, λ o lt h. record { declared = h; there = h; entails = any_entailed _ _ });
+  v12 = λ i e. (refl, λ o lt h. subst (λ x. MayReturn example 0o210 returning x) (sym (eqb-true o 0 h)) returns);
   v13 = tt;
   v14 = λ a lt h e. absurd (false≢true h);
   v15 = λ a lt h. inl tt;
 }
-
--- each word that is possible at an address
-abbrev pub FineAt : ℕ → Type 0
-FineAt a = (r : Routine) (w : ℕ) → body r a ≡ true → possible (place_in example r) (fact_at example a) a w ≡ true → Fine example r a (meaning_of Pdp8I a w)
-
--- a word of the tape in main
-tape_fine : (a x : ℕ) → (a == 0o211) ≡ false → ((r : Routine) (w : ℕ) → possible (place_in example r) (fact_at example a) a w ≡ true → w ≡ x) → Fine example None a (meaning_of Pdp8I a x) → FineAt a
-tape_fine a x n word fine r w b p =
-    let m : r ≡ None = in_main a r n b in
-    let e : w ≡ x = word r w p in
-    rw (m, e) fine
-
-fine_of : (a : ℕ) → certificate.has_fact a ≡ true → FineAt a
-unfolding possible narrowed
-fine_of = by_fact FineAt
-    (tape_fine 0o200 0o3202 refl (λ r w p. eqb-true w 0o3202 p) first_fine)
-    (tape_fine 0o201 0o3202 refl (λ r w p. eqb-true w 0o3202 p) second_fine)
-    (tape_fine 0o202 0 refl (λ r w p. eqb-true w 0 (and_parts (w == 0) true p).0) third_fine)
-    (tape_fine 0o203 0o4210 refl (λ r w p. eqb-true w 0o4210 p) fourth_fine)
-    (tape_fine 0o204 0o1410 refl (λ r w p. eqb-true w 0o1410 p) fifth_fine)
-    (tape_fine 0o205 0o7402 refl (λ r w p. eqb-true w 0o7402 p) sixth_fine)
-    (tape_fine 0o206 0o5200 refl (λ r w p. eqb-true w 0o5200 p) seventh_fine)
-    (λ r w b p.
-    let m : r ≡ Some 0o210 = in_routine r b in
-    let e : w ≡ 0o5610 = eqb-true w 0o5610 p in
-    rw (m, e) return_fine)
-
-abbrev pub FewAt : ℕ → Type 0
-FewAt a = (r : Routine) → how_many 4096 (possible (place_in example r) (fact_at example a) a) ≤ 64
-
-few_of : (a : ℕ) → certificate.has_fact a ≡ true → FewAt a
-unfolding possible narrowed
-few_of = by_fact FewAt
-    (λ r. few 0o3202 _ (λ w p. eqb-true w 0o3202 p))
-    (λ r. few 0o3202 _ (λ w p. eqb-true w 0o3202 p))
-    (λ r. few 0 _ (λ w p. eqb-true w 0 (and_parts (w == 0) true p).0))
-    (λ r. few 0o4210 _ (λ w p. eqb-true w 0o4210 p))
-    (λ r. few 0o1410 _ (λ w p. eqb-true w 0o1410 p))
-    (λ r. few 0o7402 _ (λ w p. eqb-true w 0o7402 p))
-    (λ r. few 0o5200 _ (λ w p. eqb-true w 0o5200 p))
-    (λ r. few 0o5610 _ (λ w p. eqb-true w 0o5610 p))
-
-placed_of : (a : ℕ) → certificate.has_fact a ≡ true → IsPlaced example a
-placed_of = by_fact (IsPlaced example)
-    (inl (refl, λ o lt. refl)) (inl (refl, λ o lt. refl)) (inl (refl, λ o lt. refl)) (inl (refl, λ o lt. refl))
-    (inl (refl, λ o lt. refl)) (inl (refl, λ o lt. refl)) (inl (refl, λ o lt. refl))
-    (inr (0o210, refl, refl, some_from 8 (one 0) 0 (omega arith) refl))
-
--- exit lines are at the entry
-exits_of : (a : ℕ) → some_below 8 (certificate.has_exit a) ≡ true → declaration.entry a ≡ true
-exits_of a h = elim (cases_Bool (a == 0o210)) [
-  | inl e ↦ e
-  | inr e ↦ absurd (true≢false (sym h ∙ none_in 8 (certificate.has_exit a) (λ k lt. and_none _ _ e)))
-]
-
-start_words : (s : State) → s.ac < 4096 → ((a : ℕ) → s.memory a < 4096) → (n : Location) → any n (values declaration s.memory s.ac s.memory n) ≡ true
-start_words s ac memory Ac = lt-ltb s.ac 4096 ac
-start_words s ac memory (Cell a) = either (variables a)
   where
-    either : (b : Bool) → all_words (if b then s.memory a else s.memory a) ≡ true
-    either true = lt-ltb (s.memory a) 4096 (memory a)
-    either false = lt-ltb (s.memory a) 4096 (memory a)
+    returns : MayReturn example 0o210 returning 0
+    returns = (omega arith, refl, inl (any_entailed (place_in example (Some 0o210)) returning (one 0o203) all_offsets (λ v lt g. g) (λ o lt g. lt-ltb o 64 lt)))
 
-starts : HoldsOfStarts (place_in example None) (fact_at example 0o200)
-starts s st = record {
-  holds = record { sets = start_words s st.ac st.words; equations = tt };
-  mq = lt-ltb s.mq 4096 st.mq;
-  link = lt-ltb s.link 2 st.link;
-  rest = λ a v e. refl;
-  stands = refl;
-  own = tt;
+-- of a fact at an address, in a body, few words are possible, and of each all conditions hold
+pub record IsFine (r : Routine) (a : ℕ) (f : Fact) : Type 0 where
+  pub few_words : how_many 4096 (possible (place_in example r) f a) ≤ 64
+  pub each_word : (w : ℕ) → possible (place_in example r) f a w ≡ true → Fine example r a f (meaning_of Pdp8I a w)
+
+-- of each fact at the address
+abbrev pub AreFine : ℕ → Type 0
+AreFine a = (r : Routine) → body r a ≡ true → EachFact (IsFine r a) (asked_at example r a)
+
+-- one word of the tape is possible
+one_word : (r : Routine) (a x : ℕ) (f : Fact) → ((w : ℕ) → possible (place_in example r) f a w ≡ true → w ≡ x) → Fine example r a f (meaning_of Pdp8I a x) → IsFine r a f
+one_word r a x f word fine = record {
+  few_words = few x (possible (place_in example r) f a) word;
+  each_word = λ w p. subst (λ v. Fine example r a f (meaning_of Pdp8I a v)) (sym (word w p)) fine;
 }
 
+all_fine : (a : ℕ) → AreFine a
+unfolding possible narrowed
+all_fine = by_address AreFine
+    (λ r b. let m : r ≡ None = in_main 0o200 r refl b in rw m (one_word None 0o200 0o3202 plain (λ w p. eqb-true w 0o3202 p) first_fine, tt))
+    (λ r b. let m : r ≡ None = in_main 0o201 r refl b in rw m (one_word None 0o201 0o3202 cleared (λ w p. eqb-true w 0o3202 p) second_fine, tt))
+    (λ r b. let m : r ≡ None = in_main 0o202 r refl b in rw m (one_word None 0o202 0 with_cell (λ w p. eqb-true w 0 (and_parts (w == 0) _ p).0) third_fine, tt))
+    (λ r b. let m : r ≡ None = in_main 0o203 r refl b in rw m (one_word None 0o203 0o4210 plain (λ w p. eqb-true w 0o4210 p) fourth_fine, tt))
+    (λ r b. let m : r ≡ None = in_main 0o204 r refl b in rw m (one_word None 0o204 0o1410 plain (λ w p. eqb-true w 0o1410 p) fifth_fine, tt))
+    (λ r b. let m : r ≡ None = in_main 0o205 r refl b in rw m (one_word None 0o205 0o7402 plain (λ w p. eqb-true w 0o7402 p) sixth_fine, tt))
+    (λ r b. let m : r ≡ None = in_main 0o206 r refl b in rw m (one_word None 0o206 0o5200 plain (λ w p. eqb-true w 0o5200 p) seventh_fine, tt))
+    (λ r b. let m : r ≡ Some 0o210 = in_routine r b in rw m (one_word (Some 0o210) 0o211 0o5610 returning (λ w p. eqb-true w 0o5610 p) return_fine, tt))
+    (λ a o r b. let none : certificate.facts a ≡ [] = no_facts a o in rw none tt)
+
+main_placed_at : (a : ℕ) (f : Fact) → body None a ≡ true → f.sites ≡ nothing → f.offsets ≡ nothing → IsPlaced example a f
+unfolding some_below
+main_placed_at a f inside sites offsets = inl (
+  inside,
+  record {
+    sites = subst (λ s. some_below 4096 s ≡ false) (sym sites) (none_in 4096 nothing (λ k lt. refl));
+    offsets = subst (λ s. some_below 64 s ≡ false) (sym offsets) (none_in 64 nothing (λ k lt. refl));
+  },
+)
+
+-- facts stand in bodies, with sites and offsets in the routine's alone
+placed_of : (a : ℕ) → EachFact (IsPlaced example a) (certificate.facts a)
+unfolding some_below
+placed_of = by_address (λ a. EachFact (IsPlaced example a) (certificate.facts a))
+    (main_placed_at 0o200 _ refl refl refl, tt)
+    (main_placed_at 0o201 _ refl refl refl, tt)
+    (main_placed_at 0o202 _ refl refl refl, tt)
+    (main_placed_at 0o203 _ refl refl refl, tt)
+    (main_placed_at 0o204 _ refl refl refl, tt)
+    (main_placed_at 0o205 _ refl refl refl, tt)
+    (main_placed_at 0o206 _ refl refl refl, tt)
+    (inr (0o210, refl, refl, record { sites = tt; offsets = some_from 64 (one 0) 0 (omega arith) refl }), tt)
+    (λ a o. let none : certificate.facts a ≡ [] = no_facts a o in rw none tt)
+
+-- the routine's line and its exits are at its entry
+swapped : (a : ℕ) → certificate.listed a ≡ true → declaration.entry a ≡ true
+swapped a h = elim (cases_eq a 0o210) [
+  | inl e ↦ rw e refl
+  | inr n ↦ (let other : (0o210 == a) ≡ false = left 0o210 a n in absurd (false≢true (rw other at h)))
+]
+
+exits_of : (a : ℕ) → has_exits certificate a ≡ true → declaration.entry a ≡ true
+exits_of a h = elim (cases_eq a 0o210) [
+  | inl e ↦ rw e refl
+  | inr n ↦ absurd (true≢false (sym h ∙ none_in 64 _ (λ o lt. let other : (0o210 == a) ≡ false = left 0o210 a n in rw other refl)))
+]
+
+-- the fact of all starts lands at the start
+starts : LandsAt example None 0o200 (start_fact image)
+starts = lands (start_fact image) (λ v lt g. g) (λ n lt g. g) 0o200 refl refl
+
+-- from what holds of each fact what holds of it by one condition
+each_by : (p q : Fact → Type 0) (fs : List Fact) → ((f : Fact) → p f → q f) → EachFact p fs → EachFact q fs
+each_by p q [] h e = tt
+each_by p q (f ∷ fs) h e = (h f e.0, each_by p q fs h e.1)
+
 pub is_valid : IsValid example
-is_valid V1 a asked = subst (λ x. (certificate.has_fact x ≡ true) × HoldsOfStarts (place_in example None) (fact_at example x)) (sym asked) (refl, starts)
-is_valid V2 a asked = record { fact = placed_of a; routine = λ h. h; exits = exits_of a }
-is_valid V3 a asked = (λ r i. few_of a i.fact r, λ r w i lw p. (fine_of a i.fact r w i.body p).v3)
-is_valid V4 a asked = λ r w i lw p. (fine_of a i.fact r w i.body p).v4
-is_valid V5 a asked = λ r w i lw p. (fine_of a i.fact r w i.body p).v5
-is_valid V6 a asked = λ r w i lw p. (fine_of a i.fact r w i.body p).v6
-is_valid V7 a asked = λ r w i lw p. (fine_of a i.fact r w i.body p).v7
-is_valid V8 a asked = λ r w i lw p. (fine_of a i.fact r w i.body p).v8
-is_valid V9 a asked = λ r w i lw p. (fine_of a i.fact r w i.body p).v9
-is_valid V10 a asked = λ r w i lw p. (fine_of a i.fact r w i.body p).v10
-is_valid V11 a asked = λ r w i lw p. (fine_of a i.fact r w i.body p).v11
-is_valid V12 a asked = λ r w i lw p. (fine_of a i.fact r w i.body p).v12
-is_valid V13 a asked = λ r w i lw p. (fine_of a i.fact r w i.body p).v13
-is_valid V14 a asked = λ r w i lw p. (fine_of a i.fact r w i.body p).v14
-is_valid V15 a asked = λ r w i lw p. (fine_of a i.fact r w i.body p).v15
+is_valid V1 a asked = subst (λ x. LandsAt example None x (start_fact image)) (sym asked) starts
+is_valid V2 a asked = record { facts = placed_of a; routine = swapped a; exits = exits_of a }
+is_valid V3 a asked = (
+  λ r b. each_by (IsFine r a) (λ f. how_many 4096 (possible (place_in example r) f a) ≤ 64) (asked_at example r a) (λ f h. h.few_words) (all_fine a r b),
+  λ r b. each_by (IsFine r a) (HoldsForWords example V3 r a) (asked_at example r a) (λ f h w lw p. (h.each_word w p).v3) (all_fine a r b),
+)
+is_valid V4 a asked = λ r b. each_by (IsFine r a) (HoldsForWords example V4 r a) (asked_at example r a) (λ f h w lw p. (h.each_word w p).v4) (all_fine a r b)
+is_valid V5 a asked = λ r b. each_by (IsFine r a) (HoldsForWords example V5 r a) (asked_at example r a) (λ f h w lw p. (h.each_word w p).v5) (all_fine a r b)
+is_valid V6 a asked = λ r b. each_by (IsFine r a) (HoldsForWords example V6 r a) (asked_at example r a) (λ f h w lw p. (h.each_word w p).v6) (all_fine a r b)
+is_valid V7 a asked = λ r b. each_by (IsFine r a) (HoldsForWords example V7 r a) (asked_at example r a) (λ f h w lw p. (h.each_word w p).v7) (all_fine a r b)
+is_valid V8 a asked = λ r b. each_by (IsFine r a) (HoldsForWords example V8 r a) (asked_at example r a) (λ f h w lw p. (h.each_word w p).v8) (all_fine a r b)
+is_valid V9 a asked = λ r b. each_by (IsFine r a) (HoldsForWords example V9 r a) (asked_at example r a) (λ f h w lw p. (h.each_word w p).v9) (all_fine a r b)
+is_valid V10 a asked = λ r b. each_by (IsFine r a) (HoldsForWords example V10 r a) (asked_at example r a) (λ f h w lw p. (h.each_word w p).v10) (all_fine a r b)
+is_valid V11 a asked = λ r b. each_by (IsFine r a) (HoldsForWords example V11 r a) (asked_at example r a) (λ f h w lw p. (h.each_word w p).v11) (all_fine a r b)
+is_valid V12 a asked = λ r b. each_by (IsFine r a) (HoldsForWords example V12 r a) (asked_at example r a) (λ f h w lw p. (h.each_word w p).v12) (all_fine a r b)
+is_valid V13 a asked = λ r b. each_by (IsFine r a) (HoldsForWords example V13 r a) (asked_at example r a) (λ f h w lw p. (h.each_word w p).v13) (all_fine a r b)
+is_valid V14 a asked = λ r b. each_by (IsFine r a) (HoldsForWords example V14 r a) (asked_at example r a) (λ f h w lw p. (h.each_word w p).v14) (all_fine a r b)
+is_valid V15 a asked = λ r b. each_by (IsFine r a) (HoldsForWords example V15 r a) (asked_at example r a) (λ f h w lw p. (h.each_word w p).v15) (all_fine a r b)

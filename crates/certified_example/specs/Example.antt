@@ -1,13 +1,15 @@
 -- A small program, its declaration and a certificate for it.
-use Rattle.std.specs.Prelude.{ℕ, ◌==◌, ◌&&◌, ◌||◌, if◌then◌else◌, Some, None, []}
+use Rattle.std.specs.Prelude.{ℕ, ◌==◌, ◌&&◌, ◌||◌, if◌then◌else◌, Some, None, [], ◌∷◌}
 use Rattle.instruct.specs.declared.Profile.TheVariants.{Pdp8I}
 use Rattle.wordset.specs.Words.{Words, nothing, all_words, all_links, one}
 use Rattle.processor.specs.Runs.{Image}
 use Rattle.declaration.specs.Declaration.{Routine, Declaration}
-use Rattle.domain.specs.Facts.{Location, Ac, Cell, Fact}
-use Rattle.domain.specs.Statements.{all_offsets}
-use Rattle.certificate.specs.Certificate.{Certificate}
-use Rattle.judge.specs.Conditions.{Case}
+use Rattle.certificate.specs.Spelling.{Registers}
+use Rattle.certificate.specs.declared.Version.TheVariants.{One}
+use Rattle.certificate.specs.Sums.Certificate.{Certificate}
+use Rattle.certificate.specs.Sums.Lines.{Line, RoutineIs, FactIs, ExitIs, CellIs, End}
+use Rattle.certificate.specs.Sums.Reading.{Text, certificate_of}
+use Rattle.judge.specs.Sums.Landing.{Case}
 
 -- 0200: DCA 0202, which clears the accumulator; 0201: DCA 0202, which makes the next word AND 0000; 0202: NOP on the tape;
 -- 0203: JMS 0210; 0204: TAD I 10, which steps the pointer in 0010; 0205: HLT, a pause; 0206: JMP 0200.
@@ -52,45 +54,34 @@ declaration = record {
   reads = None;
 }
 
--- A fact that allows everything, save for one name.
-abbrev pub knowing : (Location → Words) → Words → Fact
-knowing sets offsets = record { set = sets; mq = all_words; link = all_links; equations = []; offsets = offsets }
+-- These words of the accumulator are known, and nothing else of the registers.
+abbrev pub with_ac : Words → Registers
+with_ac ac = record { ac = ac; mq = all_words; link = all_links }
 
--- Nothing is known of the accumulator, nor of any cell: each may hold any word.
-abbrev pub any : Location → Words
-any n = all_words
+-- In main nothing is known at the address.
+abbrev pub in_main : ℕ → Line
+in_main a = FactIs a nothing (with_ac all_words) nothing
 
--- The accumulator is 0, and nothing is known of any cell.
-abbrev pub clear : Location → Words
-clear Ac = one 0
-clear (Cell a) = all_words
-
--- The cell 0202 is 0000, and nothing is known of the accumulator, nor of any other cell.
-abbrev pub changed : Location → Words
-changed Ac = all_words
-changed (Cell a) = if a == 0o202 then one 0 else all_words
-
--- The accumulator is known at 0201, and the changed cell at 0202; the routine's return word is its call's own. Elsewhere
--- nothing is said.
-abbrev pub fact : ℕ → Fact
-fact a =
-    if a == 0o201 then knowing clear nothing
-    else (if a == 0o202 then knowing changed nothing
-    else (if a == 0o211 then knowing any (one 0)
-    else (if main_cells a then knowing any nothing else knowing any all_offsets)))
-
--- The routine has rank 0, is called from 0203 alone, and writes nothing.
-abbrev pub certificate : Certificate
-certificate = record {
-  listed = one 0o210;
-  rank = λ e. 0;
-  sites = λ e. if e == 0o210 then one 0o203 else nothing;
-  writes = λ e. nothing;
-  has_fact = λ a. main_cells a || a == 0o211;
-  fact = fact;
-  has_exit = λ e o. e == 0o210 && o == 0;
-  exit = λ e o. knowing any all_offsets;
+-- The certificate line by line, in version 1. The routine has rank 0, is called from 0203 alone, and writes nothing. The
+-- accumulator is known at 0201, and the changed cell at 0202; the routine's return word is its call's own. Elsewhere nothing is
+-- said.
+abbrev pub lines : Text
+lines = record {
+  version = One;
+  lines =
+      RoutineIs (record { entry = 0o210; rank = 0; sites = one 0o203; writes = nothing }) ∷
+      in_main 0o200 ∷
+      FactIs 0o201 nothing (with_ac (one 0)) nothing ∷
+      in_main 0o202 ∷ CellIs (record { address = 0o202; set = one 0 }) ∷
+      in_main 0o203 ∷ in_main 0o204 ∷ in_main 0o205 ∷ in_main 0o206 ∷
+      FactIs 0o211 nothing (with_ac all_words) (one 0) ∷
+      ExitIs 0o210 0 nothing (with_ac all_words) ∷
+      End ∷ [];
 }
+
+-- The certificate that these lines make.
+abbrev pub certificate : Certificate
+certificate = certificate_of lines
 
 -- The tape, the declaration and the certificate.
 abbrev pub example : Case

@@ -1,34 +1,9 @@
--- The certificate of the small program line by line, and its text.
+-- The text of the small program's certificate.
 use Rattle.std.specs.Prelude.{◌≡◌, ℕ, List, [], ◌∷◌, ◌++◌, codes, Ok}
-use Rattle.wordset.specs.Words.{Words, nothing, all_words, all_links, one}
-use Rattle.domain.specs.Statements.{Statement, TrackedCell}
-use Rattle.certificate.specs.declared.Version.TheVariants.{One}
-use Rattle.certificate.specs.Faults.{reading}
-use Rattle.certificate.specs.Spelling.{FactLine, Lines, text}
-use Rattle.certificate.specs.Reading.{AreLines, certificate_of}
-use Rattle.certified_example.specs.Example.{certificate}
-
--- These words of the accumulator and these cells are known, and nothing else.
-abbrev pub knowing_of : Words → List TrackedCell → Statement
-knowing_of ac cells = record { ac = ac; mq = all_words; link = all_links; cells = cells; equations = [] }
-
--- In main nothing is known at the address.
-abbrev pub in_main : ℕ → FactLine
-in_main a = record { address = a; statement = knowing_of all_words []; offsets = nothing }
-
--- The small program's certificate line by line, in version 1: one routine, eight facts and one exit.
-abbrev pub lines : Lines
-lines = record {
-  version = One;
-  routines = record { entry = 0o210; rank = 0; sites = one 0o203; writes = nothing } ∷ [];
-  facts =
-      in_main 0o200 ∷
-      record { address = 0o201; statement = knowing_of (one 0) []; offsets = nothing } ∷
-      record { address = 0o202; statement = knowing_of all_words (record { address = 0o202; set = one 0 } ∷ []); offsets = nothing } ∷
-      in_main 0o203 ∷ in_main 0o204 ∷ in_main 0o205 ∷ in_main 0o206 ∷
-      record { address = 0o211; statement = knowing_of all_words []; offsets = one 0 } ∷ [];
-  exits = record { entry = 0o210; offset = 0; statement = knowing_of all_words [] } ∷ [];
-}
+use Rattle.certificate.specs.Sums.Exact.{AreLines}
+use Rattle.certificate.specs.Sums.Laws.{bytes_of}
+use Rattle.certificate.specs.Sums.Reading.{reading}
+use Rattle.certified_example.specs.Example.{lines}
 
 -- A line and what follows it.
 abbrev pub line : List ℕ → List ℕ → List ℕ
@@ -51,9 +26,8 @@ certificate_text =
     line (codes "exit 0210 0 ac 0000-7777 link 01") (
     line (codes "end") []))))))))))))
 
--- The lines are in order, this is their text, which is read as these lines, and they make the certificate.
+-- The lines are in order, this is their text, and it is read as these lines.
 pub record IsWritten : Type 0 where
   pub are_lines : AreLines lines
-  pub text_is : text lines ≡ certificate_text
+  pub text_is : bytes_of lines ≡ certificate_text
   pub is_read : reading certificate_text ≡ Ok lines
-  pub makes : certificate_of lines ≡ certificate

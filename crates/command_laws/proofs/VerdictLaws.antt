@@ -1,24 +1,27 @@
 -- Bytes have one verdict, and so has what a certificate is migrated to.
 use Rattle.std.proofs.Common.{ℕ, ◌≡◌, ◌≤◌, true, List, [], ◌∷◌, length, take, Option, Some, refl, sym, ap, ◌∙◌, subst, arith}
 use Rattle.std.specs.Prelude.{Result, Ok, Err}
-use Rattle.wordset.specs.Words.{Words, all_words, has_some}
-use Rattle.wordset.proofs.Tests.{some_from}
 use Rattle.bin_tape.proofs.OneAnswer.{one_tape}
 use Rattle.peripherals.specs.Loading.{image_of}
 use Rattle.declaration.specs.Declaration.{Declaration}
 use Rattle.declaration.proofs.AnswerLemmas.{one_declaration}
-use Rattle.domain.specs.Statements.{Statement}
+use Rattle.domain.specs.Sums.Facts.{Rules}
 use Rattle.certificate.specs.declared.Version.{Version}
-use Rattle.certificate.specs.declared.Version.TheVariants.{One, Two}
-use Rattle.certificate.specs.Certificate.{Certificate}
+use Rattle.certificate.specs.declared.Version.TheVariants.{One, Two, Three}
 use Rattle.certificate.specs.Faults.{most_bytes}
-use Rattle.certificate.specs.Made.{migrated}
-use Rattle.certificate.specs.Reading.{AreLines, Each, FitsVersion, IsExit, IsFactLine, IsStatement, certificate_of}
-use Rattle.certificate.specs.Spelling.{ExitLine, FactLine, Lines, text}
-use Rattle.certificate.proofs.TextAnswerLemmas.{spelling_law}
-use Rattle.judge.specs.Conditions.{Case}
+use Rattle.certificate.specs.Sums.Certificate.{Certificate}
+use Rattle.certificate.specs.Sums.Exact.{AreLines}
+use Rattle.certificate.specs.Sums.Found.{Follow}
+use Rattle.certificate.specs.Sums.Laws.{bytes_of}
+use Rattle.certificate.specs.Sums.Lines.{Line, rules_of}
+use Rattle.certificate.specs.Sums.Made.{migrated, with_mq}
+use Rattle.certificate.specs.Sums.Reading.{Text, certificate_of}
+use Rattle.certificate.proofs.SumExactLemmas.{spelling_law}
+use Rattle.certificate.proofs.SumMadeLemmas.{line_two}
+use Rattle.judge.specs.Sums.Landing.{Case}
 use Rattle.judge.specs.declared.judging.Refusal.{Refusal}
-use Rattle.judge.proofs.ReadingLemmas.{none_fails, one_first}
+use Rattle.judge.proofs.Sums.FirstLemmas.{one_first}
+use Rattle.judge.proofs.Sums.ReadingLemmas.{none_fails}
 use Rattle.facts.specs.declared.Condition.{Condition}
 use Rattle.search_commands.specs.GuessText.{IsGuess}
 use Rattle.diagnostics.specs.CheckText.{IsCheckedSo, IsVerdict, checked_case, verdict_status, verdict_text, yes_text}
@@ -72,8 +75,8 @@ module _ (t d : List ℕ) (c e : List ℕ) (line line' : List ℕ) (status statu
     x.is.status_is ∙ ap verdict_status verdict_is ∙ sym y.is.status_is,
   )
 
-lines_alike : (c e : Lines) → AreLines c → AreLines e → text c ≡ text e → certificate_of c ≡ certificate_of e
-lines_alike c e one other same = ap certificate_of (spelling_law.lines c e one other same)
+lines_alike : (c e : Text) → AreLines c → AreLines e → bytes_of c ≡ bytes_of e → certificate_of c ≡ certificate_of e
+lines_alike c e one other same = ap certificate_of (spelling_law.texts c e one other same)
 
 pub checks_are_one : ChecksAreOne
 checks_are_one t d c line line' status status' x y =
@@ -102,52 +105,34 @@ guess_is_read t d guess g few = (yes_text g.declaration, guess_checked t d guess
 
 -- ---- what is migrated
 
-any_word : (mq : Words) → mq ≡ all_words → has_some mq ≡ true
-any_word mq same = some_from 4096 mq 0 (omega arith) (rw same refl)
+-- lines that may follow one another in version 1 may in version 2
+follow_two : (before ls : List Line) → Follow One before ls → Follow Two before ls
+follow_two before [] h = tt
+follow_two before (l ∷ ls) h =
+    (line_two l h.0, record { stands = h.1.stands; order = h.1.order; room = h.1.room }, follow_two (l ∷ before) ls h.2)
 
-fits_two : (v : Version) (mq : Words) → FitsVersion v mq → FitsVersion Two mq
-fits_two One mq fits = any_word mq fits
-fits_two Two mq fits = fits
+follow_mq : (v : Version) (ls : List Line) → Follow v [] ls → Follow (with_mq v) [] ls
+follow_mq One ls h = follow_two [] ls h
+follow_mq Two ls h = h
+follow_mq Three ls h = h
 
-statement_two : (v : Version) (s : Statement) → IsStatement v s → IsStatement Two s
-statement_two v s h = record {
-  ac = h.ac;
-  mq = fits_two v s.mq h.mq;
-  link = h.link;
-  cells = h.cells;
-  cells_rise = h.cells_rise;
-  few_cells = h.few_cells;
-  equations = h.equations;
-  equations_rise = h.equations_rise;
-  few_equations = h.few_equations;
-}
+migrated_lines : (c : Text) → AreLines c → AreLines (migrated c)
+migrated_lines c h = record { order = follow_mq c.version c.lines h.order; has_end = h.has_end }
 
-facts_two : (v : Version) (fs : List FactLine) → Each (IsFactLine v) fs → Each (IsFactLine Two) fs
-facts_two v [] h = tt
-facts_two v (f ∷ fs) h = (record { address = h.0.address; statement = statement_two v f.statement h.0.statement }, facts_two v fs h.1)
+-- what is claimed stays, since the rules do
+same_rules : (v : Version) → rules_of v ≡ rules_of (with_mq v)
+same_rules One = refl
+same_rules Two = refl
+same_rules Three = refl
 
-exits_two : (v : Version) (xs : List ExitLine) → Each (IsExit v) xs → Each (IsExit Two) xs
-exits_two v [] h = tt
-exits_two v (x ∷ xs) h =
-    (record { entry = h.0.entry; offset = h.0.offset; statement = statement_two v x.statement h.0.statement }, exits_two v xs h.1)
-
-migrated_lines : (c : Lines) → AreLines c → AreLines (migrated c)
-migrated_lines c h = record {
-  routines = h.routines;
-  routines_rise = h.routines_rise;
-  few_routines = h.few_routines;
-  facts = facts_two c.version c.facts h.facts;
-  facts_rise = h.facts_rise;
-  exits = exits_two c.version c.exits h.exits;
-  exits_rise = h.exits_rise;
-  ends = h.ends;
-}
+migrated_claims : (c : Text) → certificate_of c ≡ certificate_of (migrated c)
+migrated_claims c = ap (λ (r : Rules). record (certificate_of c) { rules = r }) (same_rules c.version)
 
 pub migrated_is_checked_alike : MigratedIsCheckedAlike
 migrated_is_checked_alike t d c m line line' status status' moved x y =
     let read : IsTextOf c moved.lines = moved.claims in
-    let lines : x.lines ≡ moved.lines = spelling_law.lines x.lines moved.lines x.claims.lines_are read.lines_are (sym x.claims.text_is ∙ read.text_is) in
-    let both : text (migrated x.lines) ≡ text (migrated moved.lines) = ap (λ (l : Lines). text (migrated l)) lines in
-    let same : text (migrated x.lines) ≡ text y.lines = both ∙ sym moved.text_is ∙ y.claims.text_is in
+    let lines : x.lines ≡ moved.lines = spelling_law.texts x.lines moved.lines x.claims.lines_are read.lines_are (sym x.claims.text_is ∙ read.text_is) in
+    let both : bytes_of (migrated x.lines) ≡ bytes_of (migrated moved.lines) = ap (λ (l : Text). bytes_of (migrated l)) lines in
+    let same : bytes_of (migrated x.lines) ≡ bytes_of y.lines = both ∙ sym moved.text_is ∙ y.claims.text_is in
     let are : AreLines (migrated x.lines) = migrated_lines x.lines x.claims.lines_are in
-    one_answer t d c m line line' status status' x y (lines_alike (migrated x.lines) y.lines are y.claims.lines_are same)
+    one_answer t d c m line line' status status' x y (migrated_claims x.lines ∙ lines_alike (migrated x.lines) y.lines are y.claims.lines_are same)

@@ -5,7 +5,7 @@ use clap::Command;
 use std::alloc::{AllocError, Global};
 
 /// What `--version` prints after the program's name.
-const VERSION: &str = "1.0";
+const VERSION: &str = "1.1";
 
 /// The text below the list of commands.
 const STATUSES: &str = "Exit status:
@@ -15,7 +15,7 @@ const STATUSES: &str = "Exit status:
   3  a file or a stream failed
   4  memory was refused
 
-Files are opened in the order of the operands. - stands for standard input, and as OUT for standard output.
+Files are opened in the order of the operands. The operand - stands for standard input or, as OUT, for standard output.
 
 Example:
   pdp8 assemble -o hello.bin hello.pal && pdp8 run hello.bin";
@@ -78,7 +78,7 @@ const DECLARATION_WITH_SYMBOLS: Argument = Argument {
     name: "declaration",
     short: None,
     form: Form::Value("FILE"),
-    help: "the declaration, which may use the symbols of the source, or - for standard input; by default its lines within the source",
+    help: "the declaration, which may use the symbols of the source, or - for standard input; by default the /: lines of the source",
 };
 
 const CERTIFICATE: Argument = Argument {
@@ -86,6 +86,20 @@ const CERTIFICATE: Argument = Argument {
     short: None,
     form: Form::Operand,
     help: "the certificate, or - for standard input",
+};
+
+const VERSION_OF_CERTIFICATE: Argument = Argument {
+    name: "certificate",
+    short: None,
+    form: Form::Value("V"),
+    help: "the version that is written, 2 or 3; 2 without it. Version 3 needs the option --declaration",
+};
+
+const DECLARATION_OF_SITES: Argument = Argument {
+    name: "declaration",
+    short: None,
+    form: Form::Value("FILE"),
+    help: "the declaration, which says in whose body an address is, or - for standard input; only for version 3",
 };
 
 const EVENTS: Argument = Argument {
@@ -225,7 +239,7 @@ const ROUNDS: Argument = Argument {
     name: "steps",
     short: None,
     form: Form::Value("N"),
-    help: "the maximum number of rounds; 100000 without it",
+    help: "the maximum number of rounds, each of which is one instruction and what the devices then do; 100000 without it",
 };
 
 const CONTINUE: Argument = Argument {
@@ -239,7 +253,7 @@ const EVENTS_FILE: Argument = Argument {
     name: "events",
     short: None,
     form: Form::Value("FILE"),
-    help: "the events that happen instead of rounds, or - for standard input",
+    help: "a file of events that happen instead of rounds, or - for standard input",
 };
 
 const TRACE: Argument = Argument {
@@ -293,7 +307,7 @@ const RAW: Argument = Argument {
     name: "raw",
     short: None,
     form: Form::Flag,
-    help: "strikes the bytes of keys as they come, without a carriage return for a line feed and without setting channel 8",
+    help: "strikes the bytes of keys as they come: a line feed does not become a carriage return, and channel 8 is not set",
 };
 
 const SWITCHES: Argument = Argument {
@@ -566,7 +580,14 @@ const PLACE_ARGUMENTS: [Argument; 5] = [
     WHY_SOURCE,
 ];
 
-const MIGRATE_ARGUMENTS: [Argument; 4] = [CERTIFICATE, CERTIFICATE_OUT, OUTPUT, WHY_INPUT];
+const MIGRATE_ARGUMENTS: [Argument; 6] = [
+    CERTIFICATE,
+    CERTIFICATE_OUT,
+    OUTPUT,
+    VERSION_OF_CERTIFICATE,
+    DECLARATION_OF_SITES,
+    WHY_INPUT,
+];
 
 const EXPLAIN_ARGUMENTS: [Argument; 1] = [CODE];
 
@@ -671,8 +692,8 @@ const PLACE: Entry = Entry {
 const MIGRATE: Entry = Entry {
     name: "migrate",
     usage: "pdp8 migrate [OPTIONS] <CERTIFICATE> [-o] <OUT>",
-    about: "Writes a certificate in version 2, which says what MQ may hold",
-    after_help: "The operand OUT is emptied before the certificate is read, even if the certificate is then refused.\n\nExample:\n  pdp8 migrate hello.certificate -o hello-2.certificate",
+    about: "Writes a certificate in version 2, which says what MQ may hold, or in version 3",
+    after_help: "The operand OUT is emptied before the certificate is read, even if the certificate is then refused. Version 3 also names the calls of which a routine may return. A certificate of a later version stays as it is.\n\nExamples:\n  pdp8 migrate hello.certificate -o hello-2.certificate\n  pdp8 migrate --certificate 3 --declaration hello.declaration hello.certificate -o hello-3.certificate",
 };
 
 const EXPLAIN: Entry = Entry {

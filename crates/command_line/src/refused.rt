@@ -63,6 +63,10 @@ pub enum Misuse {
     Continue,
     /// The value of `--profile` is neither `8i` nor `8e`.
     Profile,
+    /// The value of `--certificate` is neither `2` nor `3`.
+    Version,
+    /// A certificate is to be of version 3 and there is no declaration, or there is one and it is not.
+    VersionAndDeclaration,
     /// Two inputs are to come from standard input.
     BothStandardInput,
     /// The result is to go to an input.
@@ -109,6 +113,7 @@ impl Misuse {
             Misuse::Seed => "bad value for '--seed': expected a number from 0 to 99999999",
             Misuse::Continue => "bad value for '--continue': expected a number from 1 to 1000000",
             Misuse::Profile => "bad value for '--profile': expected 8i or 8e",
+            Misuse::Version => "bad value for '--certificate': expected 2 or 3",
             _ => return None,
         })
     }
@@ -126,6 +131,8 @@ impl Misuse {
                 "EVENTS cannot be combined with the options for the reader, the keys, the switches and the rounds",
             Misuse::DeclarationAndStart =>
                 "a declaration determines the start and the machine: '--start' and '--profile' cannot be combined with it",
+            Misuse::VersionAndDeclaration =>
+                "'--certificate 3' needs '--declaration FILE', and no other version does",
             Misuse::TapeAndSource => "'--source' takes the place of TAPE: too many operands",
             Misuse::NoOutput =>
                 "'-o OUT' is missing: with '--source', each operand here is taken for an input",

@@ -125,6 +125,8 @@ pub(crate) fn source_request<'a>(found: &ArgMatches<'a>) -> Result<SourceRequest
 pub struct MigrateRequest<'a> {
     /// The name of the certificate's file.
     pub certificate: &'a str,
+    /// The name of the declaration's file, if the certificate is to be of version 3; else it is to be of version 2.
+    pub declaration: Option<&'a str>,
     /// Where the migrated certificate goes.
     pub out: Destination<'a>,
 }
@@ -132,6 +134,7 @@ pub struct MigrateRequest<'a> {
 impl<'a> MigrateRequest<'a> {
     pub(crate) fn names(&self) -> FileNames<'a> {
         FileNames {
+            declaration: self.declaration,
             certificate: Some(self.certificate),
             output: Some(self.out.name()),
             ..FileNames::NONE
@@ -139,11 +142,29 @@ impl<'a> MigrateRequest<'a> {
     }
 }
 
+/// The name of the declaration's file, which is given if version 3 is asked for, and only then.
+fn declaration_of_sites<'a>(found: &ArgMatches<'a>) -> Result<Option<&'a str>, Refused> {
+    let declaration = found.get_str("declaration");
+    let is_third = match found.get_str("certificate") {
+        None | Some("2") => false,
+        Some("3") => true,
+        Some(_) => return Err(Refused::Misuse(Misuse::Version)),
+    };
+    if declaration.is_some() != is_third {
+        return Err(Refused::Misuse(Misuse::VersionAndDeclaration));
+    }
+    Ok(declaration)
+}
+
 /// The certificate in another version that is asked for.
 pub(crate) fn migrate_request<'a>(found: &ArgMatches<'a>) -> Result<MigrateRequest<'a>, Refused> {
     let certificate = found.get_str("CERTIFICATE").unwrap_or("-");
+    let declaration = declaration_of_sites(found)?;
+    read_standard_input_once(&[certificate, declaration.unwrap_or("")])?;
+    let inputs = [declaration.unwrap_or(certificate), certificate];
     Ok(MigrateRequest {
         certificate,
-        out: no_source(emptied_destination(found), &[certificate])?,
+        declaration,
+        out: no_source(emptied_destination(found), &inputs)?,
     })
 }

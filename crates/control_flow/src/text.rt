@@ -2,7 +2,7 @@
 
 ghost use Rattle.std.specs.Prelude.{◌≡◌, ◌++◌, ◌∷◌, OnOk};
 ghost use Rattle.word12.specs.Words.{octal_text};
-ghost use Rattle.control_flow.specs.Texts.{range_text};
+ghost use Rattle.control_flow.specs.Texts.{StaysInFront, range_text};
 
 use crate::map::Map;
 use crate::tape::Tape;
@@ -52,7 +52,9 @@ fn push_line_break<A: Allocator>(
     text: &mut Vec<u8, A>,
     kind: &[u8],
     ranges: usize,
-) -> Result<(), AllocError> {
+) -> Result<(), AllocError>
+    ensures { OnOk result (StaysInFront text.old.items text.new.items) }
+{
     if ranges % MOST_RANGES != 0 {
         return Ok(());
     }
@@ -63,11 +65,13 @@ fn push_line_break<A: Allocator>(
 }
 
 /// Adds lines of a kind with the ranges of a set, if it has a word.
-fn push_cells<A: Allocator>(
+pub fn push_cells<A: Allocator>(
     text: &mut Vec<u8, A>,
     kind: &[u8],
     set: &WordSet,
-) -> Result<(), AllocError> {
+) -> Result<(), AllocError>
+    ensures { OnOk result (StaysInFront text.old.items text.new.items) }
+{
     let mut ranges = 0usize;
     for (first, last) in set.ranges() {
         push_line_break(text, kind, ranges)?;

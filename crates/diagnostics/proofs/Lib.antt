@@ -1,2 +1,4 @@
+pub mod BoundLemmas
 pub mod CheckLemmas
 pub mod ReasonLemmas
+pub mod TellingLemmas

@@ -1,28 +1,28 @@
 -- What a command read of a certificate, as far as a source tells its bytes.
 use Rattle.std.specs.Prelude.{ℕ, ◌≡◌, ◌≤◌, true, IfSome, List, Option, length}
 use Rattle.streams.specs.Bytes.{Gave}
-use Rattle.certificate.specs.Spelling.{Lines}
-use Rattle.certificate.specs.Spelling as certificate
-use Rattle.certificate.specs.Reading.{AreLines}
 use Rattle.certificate.specs.Faults.{most_bytes}
-use Rattle.certificate.specs.Serving.{IsUnanswered}
-use Rattle.certificate.specs.Serving as serving
+use Rattle.certificate.specs.Sums.Exact.{AreLines}
+use Rattle.certificate.specs.Sums.Laws.{bytes_of}
+use Rattle.certificate.specs.Sums.Reading.{Text}
+use Rattle.certificate.specs.Sums.Serving.{IsUnanswered}
+use Rattle.certificate.specs.Sums.Serving as serving
 use Rattle.declaration.specs.Declaration.{Declaration}
 use Rattle.command_parts.specs.Inputs.{HasDeclaration, HasImage, Input, TakesAtMost}
 
 -- The bytes are the text of a certificate with these lines, and not too many.
-pub record IsTextOf (bytes : List ℕ) (lines : Lines) : Type 0 where
+pub record IsTextOf (bytes : List ℕ) (lines : Text) : Type 0 where
   pub lines_are : AreLines lines
-  pub text_is : bytes ≡ certificate.text lines
+  pub text_is : bytes ≡ bytes_of lines
   pub few : length bytes ≤ most_bytes
 
 -- The text is that of a certificate with these lines.
-abbrev pub HasCertificate : Option (List ℕ) → Lines → Type 0
+abbrev pub HasCertificate : Option (List ℕ) → Text → Type 0
 HasCertificate certificate lines = IfSome certificate (λ bytes. IsTextOf bytes lines)
 
 -- The text is that of a certificate.
 pub record IsGoodCertificate (certificate : Option (List ℕ)) : Type 0 where
-  pub lines : Lines
+  pub lines : Text
   pub claims : HasCertificate certificate lines
 
 -- A read of a certificate failed, and the bytes given before it bring no answer.
@@ -36,11 +36,11 @@ pub record TakesCertificate (had left : Option (List ℕ)) : Type 0 where
   pub prompt : Gave had left (serving.IsPrompt 511)
 
 -- The frames are a tape, the texts a declaration and a certificate; by what they hold the answer and what is written are right.
-pub record OfCertified {T : Type 0} (frames text certificate : Option (List ℕ)) (IsRight : List (Option ℕ) → Declaration → Lines → T → List ℕ → Type 0) (answer : T) (written : List ℕ) : Type 0 where
+pub record OfCertified {T : Type 0} (frames text certificate : Option (List ℕ)) (IsRight : List (Option ℕ) → Declaration → Text → T → List ℕ → Type 0) (answer : T) (written : List ℕ) : Type 0 where
   pub image : List (Option ℕ)
   pub tape : HasImage frames image
   pub declaration : Declaration
   pub declares : HasDeclaration text declaration
-  pub lines : Lines
+  pub lines : Text
   pub claims : HasCertificate certificate lines
   pub is : IsRight image declaration lines answer written

@@ -7,9 +7,9 @@ use Rattle.declaration.specs.Declaration.{Declaration}
 use Rattle.policy.specs.Runs.{IsSafe}
 use Rattle.facts.specs.declared.Condition.{Condition}
 use Rattle.facts.specs.declared.Condition.TheVariants as condition
-use Rattle.certificate.specs.Spelling.{Lines}
-use Rattle.certificate.specs.Reading.{certificate_of}
-use Rattle.judge.specs.Conditions.{Case, IsValid, IsFirst}
+use Rattle.certificate.specs.Sums.Reading.{Text, certificate_of}
+use Rattle.judge.specs.Sums.Landing.{Case}
+use Rattle.judge.specs.Sums.Conditions.{IsValid, IsFirst}
 use Rattle.judge.specs.declared.judging.Refusal.{Refusal}
 use Rattle.command_parts.specs.declared.status.Status.{Status}
 use Rattle.command_parts.specs.declared.status.Status.TheVariants.{Done, Refused}
@@ -62,7 +62,7 @@ no_text r = codes "no: " ++ condition_text r.condition ++ codes " at " ++ octal_
 
 -- What the conditions are asked of: the words of a tape's image, a declaration, and the certificate that these lines
 -- make.
-abbrev pub checked_case : List (Option ℕ) → Declaration → Lines → Case
+abbrev pub checked_case : List (Option ℕ) → Declaration → Text → Case
 checked_case image d c = record { image = image_of image; declaration = d; certificate = certificate_of c }
 
 -- Every condition holds, and so the program is safe.
@@ -87,7 +87,7 @@ verdict_status (Ok _) = Done
 verdict_status (Err r) = Refused
 
 -- The line is that of the verdict on an image, a declaration and the lines of a certificate, and the status is that of the verdict.
-pub record IsVerdictOf (image : List (Option ℕ)) (declaration : Declaration) (lines : Lines) (status : Status) (line : List ℕ) : Type 0 where
+pub record IsVerdictOf (image : List (Option ℕ)) (declaration : Declaration) (lines : Text) (status : Status) (line : List ℕ) : Type 0 where
   pub verdict : Result (Unit {0}) Refusal
   pub is : IsVerdict (checked_case image declaration lines) verdict
   pub line_is : line ≡ verdict_text declaration verdict

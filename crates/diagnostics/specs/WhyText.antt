@@ -1,17 +1,22 @@
 -- What `check --why` writes after the verdict: the word that violates the condition, what the condition asks, and why it
--- fails.
-use Rattle.std.specs.Prelude.{ℕ, ◌≡◌, ◌++◌, codes, decimal, true, List, [], Option, Some, None, is_some, IfSome, Result, Ok, Err}
+-- fails. Of the rules of equations, by which certificates of versions 1 and 2 are judged, some of it reads otherwise.
+use Rattle.std.specs.Prelude.{ℕ, ◌≡◌, ◌+◌, ◌==◌, nat_lt, ◌&&◌, if◌then◌else◌, Bool, ◌++◌, codes, decimal, true, List, [], ◌∷◌, flat_map, length, min, false, Option, Some, None, is_some, IfSome, Result, Ok, Err}
 use Rattle.word12.specs.Words.{octal_text}
+use Rattle.wordset.specs.Words.{minus}
 use Rattle.instruct.specs.declared.Profile.{Profile}
 use Rattle.bin_tape.specs.Image.{word_at}
 use Rattle.declaration.specs.Declaration.{Declaration}
 use Rattle.facts.specs.declared.Condition.{Condition}
 use Rattle.facts.specs.declared.Condition.TheVariants as condition
-use Rattle.domain.specs.declared.location.Location.{Location}
-use Rattle.domain.specs.declared.location.Location.TheVariants as name
-use Rattle.domain.specs.declared.location.Equation.{Equation}
-use Rattle.certificate.specs.Spelling.{Lines, fact_text_at}
-use Rattle.judge.specs.Conditions.{Case, IsFirst}
+use Rattle.domain.specs.Facts.{Location, Ac, Cell}
+use Rattle.domain.specs.Meaning.{location_of}
+use Rattle.domain.specs.Sums.Terms.{Term, Holding, Behind, Summand, Sum}
+use Rattle.domain.specs.Sums.InCode.{sum_of, summand_at}
+use Rattle.domain.specs.declared.sum_fact.Rules.{Rules}
+use Rattle.domain.specs.declared.sum_fact.Rules.TheVariants.{OfEquations, OfSums}
+use Rattle.certificate.specs.Sums.Reading.{Text, certificate_of}
+use Rattle.judge.specs.Sums.Landing.{Case}
+use Rattle.judge.specs.Sums.Conditions.{IsFirst}
 use Rattle.judge.specs.declared.judging.Refusal.{Refusal}
 use Rattle.reasons.specs.Reasons.{Explains}
 use Rattle.reasons.specs.declared.counterexample.Counterexample.{Counterexample}
@@ -27,11 +32,16 @@ use Rattle.reasons.specs.declared.breach.Breach.TheVariants as breach
 use Rattle.reasons.specs.declared.reason.Reason.{Reason}
 use Rattle.reasons.specs.declared.reason.Reason.TheVariants as reason
 use Rattle.command_parts.specs.declared.status.Status.{Status}
-use Rattle.diagnostics.specs.CheckText.{IsVerdict, checked_case, condition_text, verdict_status, verdict_text}
 use Rattle.command_parts.specs.Dumping.{dump_line}
 use Rattle.command_parts.specs.LinkText.{link_text}
+use Rattle.diagnostics.specs.CheckText.{IsVerdict, checked_case, condition_text, verdict_status, verdict_text}
+use Rattle.certificate.specs.Sums.Written.{fact_text_at}
+use Rattle.diagnostics.specs.Telling.{IsTellingOf, place_of_reason}
+use Rattle.diagnostics.specs.declared.verdicts.telling.Mark.{Mark}
+use Rattle.diagnostics.specs.declared.verdicts.telling.Mark.TheVariants as mark
+use Rattle.diagnostics.specs.declared.verdicts.telling.Telling.{Telling}
 
--- What each condition asks, as `check --why` says it.
+-- What each condition asks by the rules of equations.
 abbrev pub asked_text : Condition → List ℕ
 asked_text condition.V1 = codes "there is a fact at the start, and it holds for every start"
 asked_text condition.V2 = codes "a fact is in a body, and has offsets only in a routine; routine and exit lines are at entries"
@@ -49,6 +59,30 @@ asked_text condition.V13 = codes "a HLT is at a declared halt"
 asked_text condition.V14 = codes "no word writes an entry, except that a JMS stores its return address there and an ISZ may increment the routine's own"
 asked_text condition.V15 = codes "each cell that a word may read is on the list of reads or is the routine's entry"
 
+-- What each condition asks by the rules of sums, by which several facts may stand at an address. Most ask the same as by those of
+-- equations.
+abbrev pub sums_asked_text : Condition → List ℕ
+sums_asked_text condition.V1 = codes "the facts at the start allow every start"
+sums_asked_text condition.V2 = codes "each fact is in a body, and has sites and offsets only in a routine; routine and exit lines are at entries"
+sums_asked_text condition.V4 = codes "wherever the run may go on there are facts in the same body that allow what is possible"
+sums_asked_text condition.V9 = codes "a JMS is at a listed site of its callee, at an address of at most 7776"
+sums_asked_text condition.V10 = codes "the facts at the callee's first address allow what is possible"
+sums_asked_text condition.V11 = codes "the facts at each return address allow what is possible"
+sums_asked_text condition.V3 = asked_text condition.V3
+sums_asked_text condition.V5 = asked_text condition.V5
+sums_asked_text condition.V6 = asked_text condition.V6
+sums_asked_text condition.V7 = asked_text condition.V7
+sums_asked_text condition.V8 = asked_text condition.V8
+sums_asked_text condition.V12 = asked_text condition.V12
+sums_asked_text condition.V13 = asked_text condition.V13
+sums_asked_text condition.V14 = asked_text condition.V14
+sums_asked_text condition.V15 = asked_text condition.V15
+
+-- What each condition asks, by the rules.
+abbrev pub asked_by : Rules → Condition → List ℕ
+asked_by OfEquations c = asked_text c
+asked_by OfSums c = sums_asked_text c
+
 -- A text, an address in four octal digits, and a text.
 abbrev pub around : List ℕ → ℕ → List ℕ → List ℕ
 around before at after = before ++ octal_text at ++ after
@@ -59,97 +93,251 @@ around_number before number after = before ++ decimal number ++ after
 
 -- AC, or the address of a cell.
 abbrev pub name_text : Location → List ℕ
-name_text name.Accumulator = codes "AC"
-name_text (name.Cell a) = octal_text a
+name_text Ac = codes "AC"
+name_text (Cell a) = octal_text a
 
--- An equation: the name on its left side, the address of the cell on its right side, and the word that is added to
--- that, both in octal digits.
-abbrev pub equation_text : Equation → List ℕ
-equation_text e = name_text e.left ++ (codes " = " ++ octal_text e.right) ++ (codes " + " ++ octal_text e.more)
+-- A number that is added to an address, or taken away from it, and nothing for 0.
+abbrev pub added_text : ℕ → List ℕ
+added_text k =
+    if k == 0 then [] else (if nat_lt k 2048 then codes " + " ++ octal_text k else codes " - " ++ octal_text (minus 0 k))
+
+-- A term: AC, a cell, or the word of the start at the address that a cell holds, or at one that is a number more.
+abbrev pub term_text : Term → List ℕ
+term_text (Holding n) = name_text n
+term_text (Behind x k) = (codes "the word at " ++ octal_text x) ++ added_text k
+
+-- What stands before a term: its sign, or a coefficient. Of the first term a plus sign is left out.
+abbrev pub coefficient_text : Bool → ℕ → List ℕ
+coefficient_text first c =
+    if c == 1 then (if first then [] else codes " + ")
+    else (if c == 4095 then (if first then codes "-" else codes " - ")
+    else ((if first then [] else codes " + ") ++ octal_text c) ++ codes " * ")
+
+-- A term with what stands before it.
+abbrev pub summand_text : Bool → Summand → List ℕ
+summand_text first s = coefficient_text first s.coefficient ++ term_text s.term
+
+-- Terms behind the first one.
+abbrev pub further_text : Sum → List ℕ
+further_text ss = flat_map (λ s. summand_text false s) ss
+
+-- A sum of terms.
+abbrev pub sum_text : Sum → List ℕ
+sum_text [] = codes "0000"
+sum_text (s ∷ ss) = summand_text true s ++ further_text ss
+
+-- The sum is one term less another.
+abbrev pub is_minus : Sum → Bool
+is_minus sum =
+    (length sum == 2) && (((summand_at sum 0).coefficient == 1) && ((summand_at sum 1).coefficient == 4095))
+
+-- That one word may be this word more than another, or less, or equal it.
+abbrev pub more_text : ℕ → List ℕ
+more_text w =
+    if w == 0 then codes " may equal "
+    else (if nat_lt w 2048 then (codes " may be " ++ octal_text w) ++ codes " more than "
+    else (codes " may be " ++ octal_text (minus 0 w)) ++ codes " less than ")
+
+-- That a term may be a word more than another one.
+abbrev pub difference_may_be : Term → Term → ℕ → List ℕ
+difference_may_be s t w = (term_text s ++ more_text w) ++ term_text t
+
+-- That a sum may be this word. Of a difference it is said by how much the one term may be more than the other.
+abbrev pub sum_may_be : Sum → ℕ → List ℕ
+sum_may_be sum w =
+    if is_minus sum then difference_may_be (summand_at sum 0).term (summand_at sum 1).term w
+    else sum_text sum ++ (codes " may be " ++ octal_text w)
+
+-- That a term is a word more than another one.
+abbrev pub equation_text : Term → Term → ℕ → List ℕ
+equation_text s t w = term_text s ++ (codes " = " ++ term_text t) ++ (codes " + " ++ octal_text w)
+
+-- That a sum is this word. Of a difference it is said what its first term is.
+abbrev pub sum_is : Sum → ℕ → List ℕ
+sum_is sum w =
+    if is_minus sum then equation_text (summand_at sum 0).term (summand_at sum 1).term w
+    else sum_text sum ++ (codes " = " ++ octal_text w)
+
+-- What is said of a sum, if it is told which word it is.
+abbrev pub word_told : Sum → Option ℕ → List ℕ
+word_told sum None = sum_text sum
+word_told sum (Some w) = sum_is sum w
 
 -- What may be, as far as is known, though the fact or the exit line that is looked at excludes it.
 abbrev pub gap_text : Counterexample → List ℕ
 gap_text (gap.Accumulator w) = codes "AC may be " ++ octal_text w
 gap_text (gap.Mq w) = codes "MQ may be " ++ octal_text w
 gap_text (gap.Link l) = codes "the link may be " ++ link_text l
-gap_text (gap.Cell c w) = (codes "the cell " ++ octal_text c) ++ (codes " may hold " ++ octal_text w)
-gap_text (gap.Equation e) = equation_text e ++ codes " may be false"
+gap_text (gap.Site a) = codes "the routine may have been called from " ++ octal_text a
 gap_text (gap.Offset o) = around_number (codes "the return word may have been incremented by ") o (codes "")
+gap_text (gap.Cell c w) = (codes "the cell " ++ octal_text c) ++ (codes " may hold " ++ octal_text w)
+gap_text (gap.Sum s w) = sum_may_be (sum_of s) w
+gap_text (gap.Equation s w) = word_told (sum_of s) w ++ codes " may be false"
+gap_text (gap.Chain c v w l) =
+    (codes "while the cell " ++ octal_text c) ++ (codes " holds " ++ octal_text v) ++ (codes " AC may be " ++ octal_text w) ++
+    (codes " with the link " ++ link_text l)
+
+-- The link with which something is possible, before what is.
+abbrev pub with_link_text : ℕ → List ℕ
+with_link_text l = (codes "with the link " ++ link_text l) ++ codes " "
+
+-- A word that a name may hold.
+abbrev pub name_may_hold : Location → ℕ → List ℕ
+name_may_hold Ac w = codes "AC may be " ++ octal_text w
+name_may_hold (Cell c) w = (codes "the cell " ++ octal_text c) ++ (codes " may hold " ++ octal_text w)
+
+-- A word that a name may hold with a link.
+abbrev pub left_text : ℕ → Location → ℕ → List ℕ
+left_text l n w = with_link_text l ++ name_may_hold n w
 
 -- Why a run does not land.
 abbrev pub landing_text : Landing → List ℕ
 landing_text landing.NoFact = codes "there is no fact at that address"
 landing_text landing.OtherBody = codes "that address is not in the body"
 landing_text (landing.Excluded g) = gap_text g ++ codes ", which the fact there excludes"
+landing_text (landing.ExcludedUnder l g) = with_link_text l ++ (gap_text g ++ codes ", which the fact there excludes")
+landing_text (landing.NotTaken l n w) = left_text l (location_of n) w ++ codes ", which none of the facts there allows"
+landing_text landing.NotEntailed = codes "none of the facts there allows all that is possible"
+
+-- Why what is possible at a return is not among what the exit lines allow.
+abbrev pub exit_text : Landing → List ℕ
+exit_text landing.NoFact = codes ", which has no exit line"
+exit_text landing.OtherBody = codes ", which is not in the body"
+exit_text (landing.Excluded g) = codes ": " ++ (gap_text g ++ codes ", which the exit line excludes")
+exit_text (landing.ExcludedUnder l g) = (codes ": " ++ with_link_text l) ++ (gap_text g ++ codes ", which the exit line excludes")
+exit_text (landing.NotTaken l n w) = codes ": " ++ (left_text l (location_of n) w ++ codes ", which none of the exit lines allows")
+exit_text landing.NotEntailed = codes ": none of the exit lines allows all that is possible"
+
+-- A run does not land since there is no fact.
+abbrev pub is_without_fact : Landing → Bool
+is_without_fact landing.NoFact = true
+is_without_fact landing.OtherBody = false
+is_without_fact (landing.Excluded g) = false
+is_without_fact (landing.ExcludedUnder l g) = false
+is_without_fact (landing.NotTaken l n w) = false
+is_without_fact landing.NotEntailed = false
+
+-- Why the facts at the start do not allow every start.
+abbrev pub start_text : Landing → List ℕ
+start_text l =
+    if is_without_fact l then codes "there is no fact at this address" else codes "at a start " ++ landing_text l
+
+-- A call from an address past the last that may be a site, by the rules.
+abbrev pub too_high_text : Rules → List ℕ
+too_high_text OfEquations = codes ", from an address above 7767"
+too_high_text OfSums = codes ", from an address above 7776"
+
+-- The number of a place, counted from 1. Where the numbers end it stays the last.
+abbrev pub from_one : ℕ → ℕ
+from_one i = min (i + 1) 18446744073709551615
+
+-- By which offset a callee returns, and by the rules of sums, by which several exit lines may stand for an offset, which of them.
+abbrev pub returned_text : Rules → ℕ → ℕ → List ℕ
+returned_text OfEquations o i = around_number (codes ", which returns with offset ") o (codes ": ")
+returned_text OfSums o i = around_number (codes ", which returns with offset ") o (codes " by exit ") ++ around_number (codes "") (from_one i) (codes ": ")
 
 -- What a call violates.
-abbrev pub call_text : CallBreach → List ℕ
-call_text call.NoEntry = codes ", which is not an entry"
-call_text call.NotListed = codes ", which has no routine line"
-call_text (call.NotLower rank own) =
+abbrev pub call_text : Rules → CallBreach → List ℕ
+call_text rules call.NoEntry = codes ", which is not an entry"
+call_text rules call.NotListed = codes ", which has no routine line"
+call_text rules (call.NotLower rank own) =
     around_number (codes " of rank ") rank (codes ", which is not below the caller's rank, ") ++ decimal own
-call_text (call.Writes c) = around (codes ", which may write ") c (codes ", but the caller's written set does not contain it")
-call_text call.EntryNotWritten = codes ", which the caller's written set does not contain"
-call_text call.WritesCaller = codes ", which may write the caller's entry"
-call_text call.NoSite = codes ", but this address is not one of its sites"
-call_text call.TooHigh = codes ", from an address above 7767"
-call_text (call.Enters l) = codes " and continues after the entry: " ++ landing_text l
-call_text (call.Returns o l) = around_number (codes ", which returns with offset ") o (codes ": ") ++ landing_text l
+call_text rules (call.Writes c) = around (codes ", which may write ") c (codes ", but the caller's written set does not contain it")
+call_text rules call.EntryNotWritten = codes ", which the caller's written set does not contain"
+call_text rules call.WritesCaller = codes ", which may write the caller's entry"
+call_text rules call.NoSite = codes ", but this address is not one of its sites"
+call_text rules call.TooHigh = too_high_text rules
+call_text rules (call.Enters l) = codes " and continues after the entry: " ++ landing_text l
+call_text rules (call.Returns o i l) = returned_text rules o i ++ landing_text l
 
 -- What a return violates.
 abbrev pub return_text : ReturnBreach → List ℕ
 return_text return.OtherRoutine = codes ", which is not its own entry"
 return_text (return.NotDeclared o) = around_number (codes " with offset ") o (codes ", which is not declared")
-return_text (return.NoExit o) = around_number (codes " with offset ") o (codes ", which has no exit line")
-return_text (return.Excluded o g) =
-    around_number (codes " with offset ") o (codes ": ") ++ (gap_text g ++ codes ", which the exit line excludes")
+return_text (return.NotAllowed o l) = around_number (codes " with offset ") o (codes "") ++ exit_text l
 
 -- What a word violates.
-abbrev pub breach_text : Breach → List ℕ
-breach_text breach.NotSupported = codes "this word is not supported"
-breach_text (breach.WritesUndeclared c) = around (codes "it may write ") c (codes ", which is neither a variable nor an entry")
-breach_text (breach.WritesEntry c) = around (codes "it may write ") c (codes ", which is an entry")
-breach_text (breach.WritesUnlisted c) = around (codes "it may write ") c (codes ", which is not in the routine's written set")
-breach_text breach.HaltsUndeclared = codes "it halts, and no halt is declared there"
-breach_text breach.CallsThroughIndex = codes "it calls through an auto-index cell"
-breach_text (breach.Calls e b) = (codes "it calls " ++ octal_text e) ++ call_text b
-breach_text (breach.Returns e b) = (codes "it returns through " ++ octal_text e) ++ return_text b
-breach_text (breach.GoesOn a l) = around (codes "it may continue at ") a (codes ": ") ++ landing_text l
-breach_text (breach.ReadsUnlisted c) = around (codes "it may read ") c (codes ", which is not on the list of reads")
+abbrev pub breach_text : Rules → Breach → List ℕ
+breach_text rules breach.NotSupported = codes "this word is not supported"
+breach_text rules (breach.WritesUndeclared c) = around (codes "it may write ") c (codes ", which is neither a variable nor an entry")
+breach_text rules (breach.WritesEntry c) = around (codes "it may write ") c (codes ", which is an entry")
+breach_text rules (breach.WritesUnlisted c) = around (codes "it may write ") c (codes ", which is not in the routine's written set")
+breach_text rules breach.HaltsUndeclared = codes "it halts, and no halt is declared there"
+breach_text rules breach.CallsThroughIndex = codes "it calls through an auto-index cell"
+breach_text rules (breach.Calls e b) = (codes "it calls " ++ octal_text e) ++ call_text rules b
+breach_text rules (breach.Returns e b) = (codes "it returns through " ++ octal_text e) ++ return_text b
+breach_text rules (breach.GoesOn a l) = around (codes "it may continue at ") a (codes ": ") ++ landing_text l
+breach_text rules (breach.ReadsUnlisted c) = around (codes "it may read ") c (codes ", which is not on the list of reads")
+
+-- What tells a fact from another at its address.
+abbrev pub mark_text : Mark → List ℕ
+mark_text (mark.CalledFrom a) = codes ", called from " ++ octal_text a
+mark_text mark.LinkClear = codes ", link 0"
+mark_text mark.LinkSet = codes ", link 1"
+mark_text (mark.Accumulator w) = codes ", AC = " ++ octal_text w
+mark_text (mark.Cell c w) = (codes ", " ++ octal_text c) ++ (codes " = " ++ octal_text w)
+
+-- The same, if something tells it.
+abbrev pub told_mark : Option Mark → List ℕ
+told_mark None = []
+told_mark (Some m) = mark_text m
+
+-- All that tells it.
+abbrev pub marks_text : Telling → List ℕ
+marks_text t = ((told_mark t.site ++ told_mark t.link) ++ told_mark t.accumulator) ++ told_mark t.cell
+
+-- Which fact it is, where several stand at the address: its place among their lines, and what tells it.
+abbrev pub which_text : Telling → Option ℕ → List ℕ
+which_text t None = []
+which_text t (Some i) =
+    if nat_lt t.count 2 then []
+    else (around_number (codes "fact ") (from_one i) (codes " of ") ++ around_number (codes "") t.count (codes " there")) ++ (marks_text t ++ codes ": ")
 
 -- Why the condition fails.
-abbrev pub reason_text : Reason → List ℕ
-reason_text reason.NoFact = codes "there is no fact at this address"
-reason_text (reason.StartExcluded g) = codes "at a start " ++ gap_text g ++ codes ", which the fact there excludes"
-reason_text reason.LineAtNoEntry = codes "a routine or exit line names the address, which is not an entry"
-reason_text reason.InNoBody = codes "there is a fact at this address, which is not in any body"
-reason_text (reason.OffsetInMain o) = around_number (codes "the fact is in main's body but has the offset ") o (codes "")
-reason_text (reason.NoOffset e) = around (codes "the fact is in the body of ") e (codes " but has no offset")
-reason_text (reason.RoutineNotListed e) = around (codes "the fact is in the body of ") e (codes ", which has no routine line")
-reason_text (reason.TooManyWords n) = around_number (codes "") n (codes " words are possible")
-reason_text (reason.ByWord w b) = breach_text b
+abbrev pub reason_text : Rules → Reason → List ℕ
+reason_text rules (reason.AtStart l) = start_text l
+reason_text rules reason.LineAtNoEntry = codes "a routine or exit line names the address, which is not an entry"
+reason_text rules reason.InNoBody = codes "there is a fact at this address, which is not in any body"
+reason_text rules (reason.OffsetInMain i o) = around_number (codes "the fact is in main's body but has the offset ") o (codes "")
+reason_text rules (reason.SitesInMain i) = codes "the fact is in main's body but has sites"
+reason_text rules (reason.NoOffset i e) = around (codes "the fact is in the body of ") e (codes " but has no offset")
+reason_text rules (reason.NoSites i e) = around (codes "the fact is in the body of ") e (codes " but has no sites")
+reason_text rules (reason.RoutineNotListed e) = around (codes "the fact is in the body of ") e (codes ", which has no routine line")
+reason_text rules (reason.TooManyWords i n) = around_number (codes "") n (codes " words are possible")
+reason_text rules (reason.ByWord i w b) = breach_text rules b
 
 -- The word that is shown: the one that breaks the condition, or else the tape's.
 abbrev pub word_shown : List (Option ℕ) → ℕ → Option Reason → Option ℕ
-word_shown image at (Some (reason.ByWord w b)) = Some w
+word_shown image at (Some (reason.ByWord i w b)) = Some w
 word_shown image at _ = word_at image at
 
--- The line of a reason, if there is one.
-abbrev pub reason_line : Option Reason → List ℕ
-reason_line None = []
-reason_line (Some r) = reason_text r ++ codes "\n"
+-- The line of a reason, if there is one, told by which fact it is so.
+abbrev pub reason_line : Telling → Option Reason → List ℕ
+reason_line t None = []
+reason_line t (Some r) = (which_text t t.place ++ reason_text t.rules r) ++ codes "\n"
 
 -- The address with its word and its name, what the condition asks, and why it fails. After a yes there is nothing.
-abbrev pub why_text : Profile → List (Option ℕ) → Result (Unit {0}) Refusal → Option Reason → List ℕ
-why_text profile image (Ok _) reason = []
-why_text profile image (Err r) reason =
+abbrev pub why_text : Profile → List (Option ℕ) → Result (Unit {0}) Refusal → Option Reason → Telling → List ℕ
+why_text profile image (Ok _) reason t = []
+why_text profile image (Err r) reason t =
     dump_line profile r.address (word_shown image r.address reason) ++
-    (condition_text r.condition ++ codes " asks: " ++ asked_text r.condition ++ codes "\n") ++ reason_line reason
+    (condition_text r.condition ++ codes " asks: " ++ asked_by t.rules r.condition ++ codes "\n") ++ reason_line t reason
 
--- The lines of the fact at the address of a refusal, as the certificate has them, if it has one there.
-abbrev pub fact_shown : Lines → Result (Unit {0}) Refusal → List ℕ
-fact_shown lines (Ok _) = []
-fact_shown lines (Err r) = fact_text_at lines r.address
+-- The place of the fact that is shown, of so many at an address: the one of the reason, or else the only one there.
+abbrev pub place_shown : Option ℕ → ℕ → Option ℕ
+place_shown (Some i) n = Some i
+place_shown None n = if n == 1 then Some 0 else None
+
+-- The lines of the fact at this place of those at an address, if one is shown.
+abbrev pub shown_text : Text → ℕ → Option ℕ → List ℕ
+shown_text t a None = []
+shown_text t a (Some i) = fact_text_at t a i
+
+-- The lines of the fact by which a verdict is no, as the certificate has them, or of the only one at the address of the refusal.
+abbrev pub fact_shown : Text → Result (Unit {0}) Refusal → Option Reason → List ℕ
+fact_shown t (Ok _) reason = []
+fact_shown t (Err r) reason =
+    shown_text t r.address (place_shown (place_of_reason reason) (length ((certificate_of t).facts r.address)))
 
 -- The reason is why the condition fails; where it is the first that fails, one is told.
 pub record IsReasonFor (j : Case) (r : Refusal) (reason : Option Reason) : Type 0 where
@@ -163,16 +351,20 @@ IsReason j (Err r) reason = IsReasonFor j r reason
 
 -- The text is the line of the verdict on an image, a declaration and the lines of a certificate, why it is, and the fact there; and
 -- the status is that of the verdict.
-pub record IsExplanationOf (image : List (Option ℕ)) (declaration : Declaration) (lines : Lines) (status : Status) (text : List ℕ) : Type 0 where
+pub record IsExplanationOf (image : List (Option ℕ)) (declaration : Declaration) (lines : Text) (status : Status) (text : List ℕ) : Type 0 where
   pub verdict : Result (Unit {0}) Refusal
   pub is : IsVerdict (checked_case image declaration lines) verdict
   pub reason : Option Reason
   pub why : IsReason (checked_case image declaration lines) verdict reason
-  pub text_is : text ≡ (verdict_text declaration verdict ++ why_text declaration.profile image verdict reason) ++ fact_shown lines verdict
+  pub telling : Telling
+  pub told : IsTellingOf (certificate_of lines) verdict reason telling
+  pub text_is : text ≡ (verdict_text declaration verdict ++ why_text declaration.profile image verdict reason telling) ++ fact_shown lines verdict reason
   pub status_is : status ≡ verdict_status verdict
 
--- To a text were added the line of the verdict on an image, a declaration and the lines of a certificate, and why it is.
-pub record AddsExplanation (image : List (Option ℕ)) (declaration : Declaration) (lines : Lines) (verdict : Result (Unit {0}) Refusal) (old new : List ℕ) : Type 0 where
+-- To a text were added the line of the verdict on an image, a declaration and the lines of a certificate, why it is, and the fact there.
+pub record AddsExplanation (image : List (Option ℕ)) (declaration : Declaration) (lines : Text) (verdict : Result (Unit {0}) Refusal) (old new : List ℕ) : Type 0 where
   pub reason : Option Reason
   pub why : IsReason (checked_case image declaration lines) verdict reason
-  pub text_is : new ≡ old ++ (verdict_text declaration verdict ++ why_text declaration.profile image verdict reason)
+  pub telling : Telling
+  pub told : IsTellingOf (certificate_of lines) verdict reason telling
+  pub text_is : new ≡ old ++ ((verdict_text declaration verdict ++ why_text declaration.profile image verdict reason telling) ++ fact_shown lines verdict reason)

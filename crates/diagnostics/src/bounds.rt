@@ -1,10 +1,12 @@
 //! What is said about a pointer where a search for a certificate is stuck: the words that it may hold there, and the
 //! last place where fewer were known. It is tested, not proved.
 
+mod known;
 mod losses;
 mod relations;
 mod sets;
 
+use crate::bounds::known::Known;
 use crate::bounds::losses::{Loss, loss_at, may_go_on, refers_to_memory};
 use crate::bounds::relations::{Relation, lost_relation};
 use crate::bounds::sets::push_set;
@@ -12,7 +14,7 @@ use bin_tape::Image;
 use certificate::Certificate;
 use command_parts::message::{Lines, push_text_and_address};
 use declaration::Declaration;
-use facts::{Fact, Location, narrowed};
+use domain::Location;
 use instruct::{name, refers_indirectly, target};
 use std::alloc::{AllocError, Allocator};
 use word12::Word;
@@ -44,13 +46,11 @@ fn step_back<A: Allocator, D: Allocator, C: Allocator>(
     seen: &mut Vec<Word, A>,
     image: &Image,
     declaration: &Declaration<D>,
-    draft: &Certificate<C>,
+    known: &mut Known<'_, C>,
     pointer: Word,
     here: Word,
 ) -> Result<Option<LostBound>, AllocError> {
-    let mut behind = Fact::any();
-    let mut before = Fact::any();
-    if !draft.fact_into(here, &mut behind) {
+    if !known.has_fact(here) {
         return Ok(None);
     }
     for index in 0..ADDRESSES {
@@ -58,10 +58,10 @@ fn step_back<A: Allocator, D: Allocator, C: Allocator>(
         let Some(word) = image.get(from) else {
             continue;
         };
-        if !may_go_on(declaration, from, word, here) || !draft.fact_into(from, &mut before) {
+        if !may_go_on(declaration, from, word, here) || !known.has_fact(from) {
             continue;
         }
-        if let Some(loss) = loss_at(&before, from, word, &behind, here, pointer) {
+        if let Some(loss) = loss_at(known, from, word, here, pointer) {
             return Ok(Some(LostBound {
                 from,
                 to: here,
@@ -81,7 +81,7 @@ fn lost_before<A: Allocator + Copy, D: Allocator, C: Allocator>(
     alloc: A,
     image: &Image,
     declaration: &Declaration<D>,
-    draft: &Certificate<C>,
+    known: &mut Known<'_, C>,
     pointer: Word,
     at: Word,
 ) -> Result<Option<LostBound>, AllocError> {
@@ -92,7 +92,7 @@ fn lost_before<A: Allocator + Copy, D: Allocator, C: Allocator>(
             return Ok(None);
         };
         let here = *here;
-        let found = step_back(&mut seen, image, declaration, draft, pointer, here)?;
+        let found = step_back(&mut seen, image, declaration, known, pointer, here)?;
         if found.is_some() {
             return Ok(found);
         }
@@ -118,15 +118,15 @@ pub fn push_bound<A: Allocator + Copy, L: Lines, D: Allocator, C: Allocator>(
     let Some(pointer) = pointer_at(image, declaration, at) else {
         return Ok(());
     };
-    let mut fact = Fact::any();
-    if !draft.fact_into(at, &mut fact) {
+    let mut known = Known::of(image, draft);
+    if !known.has_fact(at) {
         return Ok(());
     }
     push_text_and_address(text, b"the pointer ", pointer)?;
     text.push_text(b" may hold ")?;
-    push_set(text, &narrowed(&fact, &Location::Cell(pointer)))?;
+    push_set(text, &known.words_at(at, &Location::Cell(pointer)))?;
     text.push_text(b" there\n")?;
-    let Some(lost) = lost_before(alloc, image, declaration, draft, pointer, at)? else {
+    let Some(lost) = lost_before(alloc, image, declaration, &mut known, pointer, at)? else {
         return Ok(());
     };
     push_lost(alloc, text, image, declaration, draft, pointer, &lost)

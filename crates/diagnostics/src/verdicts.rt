@@ -5,4 +5,5 @@ pub mod explanation;
 mod gathered;
 pub mod messages;
 pub mod reason_text;
+pub mod telling;
 pub mod verdict;

@@ -1,42 +1,13 @@
--- What a word's kind says of its outcomes.
-use Rattle.std.proofs.Common.{◌≡◌, ℕ, ◌==◌, ◌/◌, Bool, true, false, not, ◌||◌, Option, Some, None, List, refl, sym, ap, ◌∙◌}
+-- Which group of operate words a word is of, on the 8/I and on the 8/E.
+use Rattle.std.proofs.Common.{◌≡◌, ℕ, ◌==◌, ◌/◌, Bool, true, false, not, ◌||◌, Option, Some, None, refl, sym, ap, ◌∙◌}
 use Rattle.std.specs.Prelude.{if◌then◌else◌}
-use Rattle.std.specs.Option.{option_map}
 use Rattle.instruct.specs.declared.Profile.{Profile}
 use Rattle.instruct.specs.declared.Profile.TheVariants.{Pdp8I, Pdp8E}
 use Rattle.instruct.specs.declared.Instruction.{Instruction}
 use Rattle.instruct.specs.declared.Instruction.TheVariants.{Operate1, Operate3, Iot, Unsupported}
-use Rattle.instruct.specs.declared.devices.DeviceOperation.{DeviceOperation}
 use Rattle.instruct.specs.Bits.{has_bit}
 use Rattle.instruct.specs.Operates.{MqOperate, mq_operate_of}
-use Rattle.instruct.specs.Devices.{device_operation}
-use Rattle.instruct.specs.Instructions.{Meaning, Group1, Undefined, DeviceAction, kind_of, meaning_of, instruction_of, processor_action, device_action, device_meaning, mq_meaning, group3_meaning, operate_meaning, is_group1}
-use Rattle.instruct.proofs.KindLemmas.{group3_meaning_of, device_meaning_of}
-use Rattle.wordset.specs.Words.{all_words, one, plus}
-use Rattle.domain.specs.Facts.{Fact, Place}
-use Rattle.facts.specs.Outcomes.{Successor, goes, operated3, device_outcomes, outcomes_of, outcomes_at}
-use Rattle.facts.proofs.EntailLemmas.{none_is, some_is}
-
-pub by_meaning : {os : List Successor} {f g : Fact} (pl : Place) (at w : ℕ) {m : Meaning} → f ≡ g → meaning_of pl.declaration.profile at w ≡ m → os ≡ outcomes_of pl f at m → os ≡ outcomes_at pl g at w
-by_meaning {g = g} pl at w {m} same e h = h ∙ ap (λ (x : Fact). outcomes_of pl x at m) same ∙ ap (outcomes_of pl g at) (sym e)
-
-pub by_group3 : {os : List Successor} {f g : Fact} (pl : Place) (at w : ℕ) → f ≡ g → kind_of (meaning_of pl.declaration.profile at w) ≡ Operate3 →
-    ((o : MqOperate) → mq_operate_of w ≡ Some o → os ≡ goes all_words f all_words (one (plus at 1)) (operated3 o f)) → os ≡ outcomes_at pl g at w
-by_group3 pl at w same k h =
-    let told = group3_meaning_of pl.declaration.profile at w k in
-    by_meaning pl at w same told.2 (h told.0 told.1)
-
-pub by_device : {os : List Successor} (pl : Place) (f : Fact) (at w : ℕ) (o : DeviceOperation) → kind_of (meaning_of pl.declaration.profile at w) ≡ Iot → Some o ≡ device_operation pl.declaration.profile w →
-    os ≡ device_outcomes at f (processor_action o) → os ≡ outcomes_at pl f at w
-by_device pl f at w o k e h =
-    let told = device_meaning_of pl.declaration.profile at w k in
-    let same : processor_action o ≡ told.0 = some_is (ap (λ x. option_map processor_action x) e ∙ told.1) in
-    h ∙ ap (device_outcomes at f) same ∙ ap (outcomes_of pl f at) (sym told.2)
-
-pub by_no_device : {os : List Successor} (pl : Place) (f : Fact) (at w : ℕ) → kind_of (meaning_of pl.declaration.profile at w) ≡ Iot → None ≡ device_operation pl.declaration.profile w → os ≡ outcomes_at pl f at w
-by_no_device pl f at w k e =
-    let told = device_meaning_of pl.declaration.profile at w k in
-    absurd (none_is (ap (λ x. option_map processor_action x) e ∙ told.1))
+use Rattle.instruct.specs.Instructions.{Meaning, Group1, Undefined, DeviceAction, kind_of, meaning_of, instruction_of, device_action, device_meaning, mq_meaning, group3_meaning, operate_meaning, is_group1}
 
 -- each word of group 1 of the 8/I is one of the 8/E
 kind_if : (b : Bool) (x y p q : Meaning) → (kind_of x ≡ Operate1 → kind_of p ≡ Operate1) → (kind_of y ≡ Operate1 → kind_of q ≡ Operate1) → kind_of (if b then x else y) ≡ Operate1 → kind_of (if b then p else q) ≡ Operate1

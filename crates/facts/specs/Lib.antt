@@ -1,9 +1,4 @@
-pub mod Outcomes
 pub mod Conditions
 pub mod Law
 pub mod Starts
-pub mod Showing
-pub mod Places
-pub mod Slots
-pub mod Access
-pub mod Knowing
+pub mod Sums

@@ -1,35 +1,51 @@
 //! Facts about a running program, and what each instruction makes of them.
 #![tactic(auto)]
 
-ghost use Rattle.facts.specs.Access.{CallsAreForeseen, EntailedFactsHold, ReadsAreForeseen, WordsAreForeseen, WritesAreForeseen};
-ghost use Rattle.facts.specs.Law.{StepLaw};
-ghost use Rattle.facts.specs.Starts.{StartLaw};
-ghost use Rattle.domain.specs.Same.{SameLaw};
+ghost use Rattle.facts.specs.Sums.Access.{CallsAreForeseen, ReadsAreForeseen, WordsAreForeseen, WritesAreForeseen};
+ghost use Rattle.facts.specs.Sums.Laws.{EntailedFactsHold, IdleNeverHolds, JoinedHolds, OneLandedHolds, StepLaw};
+ghost use Rattle.facts.specs.Sums.Shaped.{NarrowingKeepsShape};
+ghost use Rattle.facts.specs.Sums.Starts.{StartFactHolds, StartsAreExact, StartsLand};
 
+mod additions;
 mod asked;
-mod changes;
+mod carrying;
 mod conditions;
 mod dispatch;
 mod entailment;
-mod equations;
-mod lent;
+mod instructions;
+mod known;
+mod landing;
+mod memory;
+mod operations;
+mod outcomes;
+mod parts;
 mod place;
 mod references;
 mod registers;
-mod scratch;
+mod rooms;
+mod sets;
 mod skipping;
-mod state;
-mod successor;
+mod source;
+mod start_fact;
+mod starts;
+mod stores;
 
-pub use asked::post;
-pub use conditions::{reads, writes};
-pub use dispatch::outcomes;
-pub use domain::{CountedOffsets, Equation, Fact, Location, TrackedCell, TrackedCells};
-pub use entailment::{entails, entails_return, holds_before, is_always, narrowed};
-pub use place::{Context, Place};
-pub use scratch::Scratch;
-pub use state::AbstractState;
-pub use successor::{Outcomes, Successor};
+pub use domain::{
+    BriefSet, CellSet, CellSets, Chain, Location, Relation, Relations, ReturnOffsets, Rules, Step,
+    Sum, SumFact, Summand, Term,
+};
+pub use entailment::Allowed;
+pub use known::KnownFact;
+pub use landing::{LandingRooms, cells_told};
+pub use outcomes::{Kind, Outcome, Outcomes};
+pub use parts::{LinkPart, Part};
+pub use place::Place;
+pub use rooms::{
+    ChosenFact, Fact, MetFact, NarrowedFact, NextFact, PartFact, SteppedFact, TestedFact,
+};
+pub use source::FactSource;
+pub use start_fact::StartFact;
+pub use starts::{StartPart, start_part};
 
 /// The conditions that a certificate must meet.
 #[derive(Clone, Copy, PartialEq, Eq, Debug)]
@@ -49,7 +65,7 @@ pub enum Condition {
     V6,
     /// A JMS goes to listed entries of lower rank, and not through an auto-index cell.
     V7,
-    /// In a routine the callee's written set and entry are in the routine's, whose entry isn't in
+    /// In a routine the callee's written set and entry are in the routine's, whose entry is not in
     /// the callee's.
     V8,
     /// The address is a listed site of the callee, and at most 7767.
@@ -71,8 +87,9 @@ pub enum Condition {
 }
 
 /// The step law: from a state of a fact, a step by the word at the program counter lands in one of
-/// the word's outcomes, of the same call list. It is asked of words whose writes are declared and
-/// keep the entries; a JMS, a JMP I through an entry and a HLT that isn't at a pause are apart.
+/// the outcomes of the word, of the same call list. It is asked of words whose writes are declared and
+/// keep the entries. It does not speak of a JMS, of a JMP I through an entry, or of a HLT that is not
+/// at a pause. By the rules of sums the fact may be the narrowed one.
 pub fn step_law()
     ensures { StepLaw }
 {}
@@ -92,16 +109,29 @@ pub fn entail_law()
     ensures { EntailedFactsHold }
 {}
 
-/// The test `holds_before` is true exactly where a fact holds of every start: whatever the
-/// accumulator, the link, MQ and the cells that aren't on the tape hold.
-#[tactic(auto, using(crate::proofs::Starting::start_law))]
-pub fn start_law()
-    ensures { StartLaw }
+/// One of the facts among which a fact lands holds wherever that fact holds. A fact of which nothing
+/// need be asked holds nowhere.
+pub fn landing_law()
+    ensures landed { OneLandedHolds }
+    ensures idle { IdleNeverHolds }
 {}
 
-/// Facts with the same sets and the same equations, in whatever order, entail the same facts, and are
-/// entailed by the same.
-#[tactic(auto, using(crate::proofs::Alike::same_law))]
-pub fn same_law()
-    ensures { SameLaw }
+/// What is joined of a fact at a JMS and of an exit of the routine holds when the routine has returned.
+pub fn return_law()
+    ensures { JoinedHolds }
+{}
+
+/// The fact of all starts holds of each start, whatever the accumulator, the link, MQ and the cells
+/// that are not on the tape hold; and so does one of the facts among which it lands. By the rules of
+/// equations it entails a fact of equations exactly where that fact holds of every start.
+pub fn start_law()
+    ensures fact { StartFactHolds }
+    ensures landed { StartsLand }
+    ensures exact { StartsAreExact }
+{}
+
+/// A narrowed fact keeps what the outcomes of a word ask of a fact: relations of few terms, and chains
+/// with room for one step more.
+pub fn narrowing_law()
+    ensures { NarrowingKeepsShape }
 {}

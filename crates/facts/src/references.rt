@@ -1,356 +1,246 @@
-//! The outcomes of the words that refer to memory.
+//! To which cells a memory reference may refer, and what they may hold.
+//!
+//! A set is put into a place that is lent for it.
 
-ghost use Rattle.std.specs.Prelude.{◌≡◌, ◌≤◌, ◌++◌, ◌&&◌, true, false, length, Some, None};
-ghost use Rattle.wordset.specs.Words.{Words, all_words, only, sums, some_below};
+ghost use Rattle.std.specs.Prelude.{◌≡◌, ◌<◌, ◌≤◌, ◌+◌, ◌||◌, ◌&&◌, ℕ, length};
+ghost use Rattle.wordset.specs.Words.{only, shifted};
 ghost use Rattle.wordset.specs.Lanes.{words};
-ghost use Rattle.processor.specs.Machine.{steps_pointer};
-ghost use Rattle.domain.specs.Facts as said;
-ghost use Rattle.domain.specs.Facts.{Ac, Cell, narrowed, is_routine};
-ghost use Rattle.facts.specs.Outcomes.{targets, alive, given, anded, tad_word, tad_case, tad, dca_case, isz_case, jmp, CallsTo};
-ghost use Rattle.facts.specs.Knowing.{fact_of_state, IsUnchanged};
-ghost use Rattle.facts.specs.Places.{place_of};
-ghost use Rattle.facts.specs.Showing.{has_last_or_other};
-ghost use Rattle.facts.specs.Slots.{slot};
+ghost use Rattle.domain.specs.Facts.{tape_word};
+ghost use Rattle.domain.specs.Sums.CellsInCode.{cell_sets_of};
+ghost use Rattle.domain.specs.Sums.RelationsInCode.{relations_of};
+ghost use Rattle.domain.specs.Sums.FactInCode.{fact_in_code};
+ghost use Rattle.domain.specs.Sums.Moves.{counted};
+ghost use Rattle.facts.specs.Sums.References.{own_words, words_in, possible, targets, words_at, is_fixed, are_fixed, one_target, operand_term};
+ghost use Rattle.facts.specs.Sums.Shaped.{term_if};
+ghost use Rattle.facts.specs.Sums.PlaceInCode.{place_in_code};
 
-use crate::equations::{Equations, has_cell};
-use crate::lent::{has_some, put_counted, put_one, put_set};
+use crate::instructions::steps_pointer;
 use crate::place::Place;
-use crate::scratch::SuccessorScratch;
-use crate::state::AbstractState;
-use crate::successor::{Successor, address_after, address_skipped_to, going, is_alive};
-use domain::Location;
-use processor::is_auto_index;
+use crate::sets::word_of;
+use domain::{Location, SumFact, Term};
 use std::alloc::Allocator;
 use word12::Word;
 use wordset::WordSet;
 
-/// Whether a reference steps the pointer in its named cell.
-pub(crate) fn steps_pointer(indirect: bool, named: Word) -> bool
-    ensures { result ≡ steps_pointer indirect named }
+/// Puts the tape's word into a place for it, or all words where the tape has none.
+fn put_tape_word(word: Option<Word>, place: &mut WordSet)
+    ensures { words place.new ≡ tape_word word }
 {
-    indirect && is_auto_index(named)
-}
-
-/// DCA: the one target takes the accumulator's words and equations, or an unknown one of several
-/// its words; then the accumulator is 0.
-#[inline(never)]
-pub(crate) fn deposit<'a>(
-    at: Word,
-    state: &AbstractState<'a>,
-    targets: &'a WordSet,
-    single: &Option<Word>,
-    scratch: &'a mut SuccessorScratch,
-) -> Option<Successor<'a>>
-    requires single { single.now ≡ only (words targets.now) }
-    requires target { IsUnchanged state.now.target }
-    requires room { length state.now.equations.now ≤ 32 }
-    ensures { (place : said.Place) → slot result ≡
-        dca_case place at (fact_of_state state.now) (words targets.now) (only (words targets.now)) }
-{
-    let held = state.left_in(&Location::Accumulator, &mut scratch.held);
-    let zero = put_one(&mut scratch.ac, Word::ZERO);
-    let next = address_after(at, &mut scratch.next);
-    match single {
-        Some(cell) => {
-            let put = state.with_cell(*cell, held, &mut scratch.first);
-            let told = put.told(*cell, state.equations, &mut scratch.second);
-            let after = told.with_ac(zero, &mut scratch.third);
-            going(has_some(held), targets, held, next, after)
-        }
-        None => {
-            let put = state.stored(targets, held, &mut scratch.first);
-            let cleared = put.with_ac(zero, &mut scratch.second);
-            going(true, targets, held, next, cleared)
-        }
+    match word {
+        None => *place = WordSet::all(),
+        Some(word) => *place = WordSet::one(word),
     }
 }
 
-/// ISZ of one variable: it skips where the variable was 7777, and otherwise leaves it not zero.
-#[inline(never)]
-pub(crate) fn count_one<'a>(
-    at: Word,
-    state: &AbstractState<'a>,
-    targets: &WordSet,
-    cell: Word,
-    scratch: &'a mut SuccessorScratch,
-    other: &'a mut SuccessorScratch,
-) -> (Option<Successor<'a>>, Option<Successor<'a>>)
-    requires target { IsUnchanged state.now.target }
-    requires room { length state.now.equations.now ≤ 32 }
-    ensures { (place : said.Place) → place.declaration.variable cell ≡ true →
-        slot result.0 ++ slot result.1 ≡
-        isz_case place at (fact_of_state state.now) (words targets.now) (Some cell) }
+/// Adds to a set the words that are k more than those of another, where it is chosen.
+fn add_shifted_if(chosen: bool, more: &WordSet, k: Word, set: &mut WordSet)
+    ensures { (v : ℕ) → words set.new v ≡
+        (words set.old v || (chosen && shifted (words more.now) k v)) }
 {
-    let held = state.left_in(&Location::Accumulator, &mut scratch.held);
-    let old = state.left_in(&Location::Cell(cell), &mut scratch.read);
-    let zero = put_one(&mut scratch.changed, Word::ZERO);
-    let wraps = has_cell(old, Word::ZERO.complement());
-    let after = state.counted_to(cell, zero, &mut scratch.first);
-    let next = address_skipped_to(at, &mut scratch.next);
-    let skips = going(wraps, targets, held, next, after);
-    let more = put_counted(&mut other.changed, old);
-    let after = state.counted_to(cell, more, &mut other.first);
-    let next = address_after(at, &mut other.next);
-    (skips, going(has_some(more), targets, held, next, after))
-}
-
-/// ISZ of the running routine's own entry counts the offsets up.
-#[inline(never)]
-pub(crate) fn count_own<'a>(
-    at: Word,
-    state: &AbstractState<'a>,
-    targets: &WordSet,
-    cell: Word,
-    scratch: &'a mut SuccessorScratch,
-) -> Option<Successor<'a>>
-    ensures { (place : said.Place) → place.declaration.variable cell ≡ false →
-        slot result ≡ isz_case place at (fact_of_state state.now) (words targets.now) (Some cell) }
-{
-    let held = state.left_in(&Location::Accumulator, &mut scratch.held);
-    let next = address_after(at, &mut scratch.next);
-    going(true, targets, held, next, state.returning_later())
-}
-
-/// Whether a cell may hold 7777, or whether it may hold another word.
-fn may_hold(state: &AbstractState<'_>, cell: Word, last: bool) -> bool
-    ensures { result ≡ has_last_or_other last (narrowed (fact_of_state state.now) (Cell cell)) }
-{
-    let mut left = state.narrowed(&Location::Cell(cell));
-    if last {
-        return left.contains(Word::ZERO.complement());
-    }
-    left.remove(Word::ZERO.complement());
-    has_some(&left)
-}
-
-/// Whether some of the cells may hold 7777, or whether some of them may hold another word.
-fn may_some_hold(state: &AbstractState<'_>, cells: &WordSet, last: bool) -> bool
-    ensures { result ≡ some_below 4096 (λ y. words cells.now y &&
-        has_last_or_other last (narrowed (fact_of_state state.now) (Cell y))) }
-{
-    for cell in cells.iter() {
-        if may_hold(state, cell, last) {
-            return true;
-        }
-    }
-    false
-}
-
-/// ISZ of several variables counts an unknown one of them up.
-#[inline(never)]
-pub(crate) fn count_several<'a>(
-    at: Word,
-    state: &AbstractState<'a>,
-    targets: &'a WordSet,
-    scratch: &'a mut SuccessorScratch,
-    other: &'a mut SuccessorScratch,
-) -> (Option<Successor<'a>>, Option<Successor<'a>>)
-    requires target { IsUnchanged state.now.target }
-    requires room { length state.now.equations.now ≤ 32 }
-    ensures { (place : said.Place) → slot result.0 ++ slot result.1 ≡
-        isz_case place at (fact_of_state state.now) (words targets.now) None }
-{
-    let held = state.left_in(&Location::Accumulator, &mut scratch.held);
-    let wraps = may_some_hold(state, targets, true);
-    let after = state.counted(targets, &mut scratch.first);
-    let next = address_skipped_to(at, &mut scratch.next);
-    let skips = going(wraps, targets, held, next, after);
-    let stays = may_some_hold(state, targets, false);
-    let after = state.counted(targets, &mut other.first);
-    let next = address_after(at, &mut other.next);
-    (skips, going(stays, targets, held, next, after))
-}
-
-/// What is known after a sum: with one word added the accumulator's equations move by it, and
-/// otherwise they are dropped.
-fn after_sum<'a>(
-    state: &AbstractState<'a>,
-    added: &Option<Word>,
-    set: &'a WordSet,
-    list: &'a mut Equations,
-) -> AbstractState<'a>
-    requires room { length state.now.equations.now ≤ 32 }
-    ensures { (v : Words) → words set.now ≡ sums (narrowed (fact_of_state state.now) Ac) v →
-        fact_of_state result ≡ tad_word (fact_of_state state.now) v added.now }
-{
-    match added {
-        Some(word) => return state.raised_to(*word, set, list),
-        None => return state.with_ac(set, list),
+    if chosen {
+        *set = set.union(&more.shift(k));
     }
 }
 
-/// JMS calls each target.
-#[inline(never)]
-pub(crate) fn call<'a>(
-    state: &AbstractState<'a>,
-    targets: &'a WordSet,
-    scratch: &'a mut SuccessorScratch,
-) -> Option<Successor<'a>>
-    ensures { slot result ≡
-        given (alive (words targets.now) (fact_of_state state.now) all_words (fact_of_state state.now))
-        (CallsTo (words targets.now) (fact_of_state state.now)) }
+/// Puts the words that the running routine's entry may hold into a place for them: a site, one more, and an offset.
+pub(crate) fn put_own_words<const C: usize, const R: usize>(
+    fact: &SumFact<C, R>,
+    place: &mut WordSet,
+)
+    ensures { words place.new ≡ own_words (fact_in_code fact.now) }
 {
-    let held = state.left_in(&Location::Accumulator, &mut scratch.held);
-    let after = state.same();
-    if !is_alive(targets, held, &after) {
-        return None;
+    let mut sites = WordSet::empty();
+    fact.sites().put(&mut sites);
+    let offsets = fact.offsets();
+    *place = WordSet::empty();
+    for o in 0..64usize {
+        add_shifted_if(offsets.contains(o), &sites, Word::from_index(o + 1), place);
     }
-    Some(Successor::Calls(targets, after))
 }
 
 impl<A: Allocator> Place<'_, A> {
-    /// The targets of a reference, in a place for them: the named cell, or the words that the pointer in
-    /// it may be, which counts up first where it is stepped.
-    #[inline(never)]
-    pub(crate) fn reached<'b>(
+    /// Puts the words that a cell may hold in an operand or a pointer into a place for them: a variable's words, the running
+    /// routine's own return words, any word in another entry, else the tape's word.
+    pub(crate) fn put_words_in<const C: usize, const R: usize>(
+        &self,
+        fact: &SumFact<C, R>,
+        cell: Word,
+        place: &mut WordSet,
+    )
+        ensures { words place.new ≡ words_in (place_in_code self.now) (fact_in_code fact.now) cell }
+    {
+        if self.declaration.is_variable(cell) {
+            self.put_words_known(fact, &Location::Cell(cell), place);
+            return;
+        }
+        if self.is_own(cell) {
+            put_own_words(fact, place);
+            return;
+        }
+        if self.declaration.is_entry(cell) {
+            *place = WordSet::all();
+            return;
+        }
+        put_tape_word(word_of(self.image, cell), place);
+    }
+
+    /// Puts the words that are possible at an address of a body into a place for them: a variable's words, else the tape's
+    /// word, or all words where the tape has none.
+    pub fn put_possible<const C: usize, const R: usize>(
+        &self,
+        fact: &SumFact<C, R>,
+        at: Word,
+        place: &mut WordSet,
+    )
+        ensures { words place.new ≡ possible (place_in_code self.now) (fact_in_code fact.now) at }
+    {
+        if self.declaration.is_variable(at) {
+            self.put_words_known(fact, &Location::Cell(at), place);
+            return;
+        }
+        put_tape_word(word_of(self.image, at), place);
+    }
+
+    /// Puts the targets of a reference into a place for them: the named cell, or the words that the pointer in it may be, which
+    /// counts up first where it is stepped.
+    pub(crate) fn put_targets<const C: usize, const R: usize>(
         &self,
         indirect: bool,
         named: Word,
-        state: &AbstractState<'_>,
-        place: &'b mut WordSet,
-    ) -> &'b WordSet
-        requires pointer { IsUnchanged state.now.pointer }
-        requires target { IsUnchanged state.now.target }
-        ensures { words result.now ≡ targets (place_of self.now) indirect named (fact_of_state state.now) }
+        fact: &SumFact<C, R>,
+        place: &mut WordSet,
+    )
+        ensures { words place.new ≡ targets (place_in_code self.now) indirect named (fact_in_code fact.now) }
     {
         if steps_pointer(indirect, named) {
-            return state.shifted_in(&Location::Cell(named), Word::ZERO.increment(), place);
+            self.put_words_known(fact, &Location::Cell(named), place);
+            *place = place.shift(Word::ZERO.increment());
+            return;
         }
         if indirect {
-            return self.words_in(state, named, place);
+            self.put_words_in(fact, named, place);
+            return;
         }
-        put_one(place, named)
+        *place = WordSet::one(named);
     }
 
-    /// AND: all a and v, for the words a of the accumulator and v of the targets.
-    #[inline(never)]
-    pub(crate) fn combine<'a>(
+    /// Puts the words that some cells may hold, of which the one is given that has no other beside it, into a place for them.
+    pub(crate) fn put_words_at<const C: usize, const R: usize>(
         &self,
-        at: Word,
-        state: &AbstractState<'a>,
-        targets: &WordSet,
+        fact: &SumFact<C, R>,
+        cells: &WordSet,
         single: &Option<Word>,
-        scratch: &'a mut SuccessorScratch,
-    ) -> Option<Successor<'a>>
-        requires single { single.now ≡ only (words targets.now) }
-        requires room { length state.now.equations.now ≤ 32 }
-        ensures { slot result ≡ anded (place_of self.now) at (fact_of_state state.now) (words targets.now) }
+        place: &mut WordSet,
+    )
+        requires { single.now ≡ only (words cells.now) }
+        ensures { words place.new ≡ words_at (place_in_code self.now) (fact_in_code fact.now) (words cells.now) }
     {
-        let held = state.left_in(&Location::Accumulator, &mut scratch.held);
-        let read: &'a WordSet = self.words_at(state, targets, single, &mut scratch.read);
-        let both = put_set(&mut scratch.ac, &held.ands(read));
-        let after = state.with_ac(both, &mut scratch.first);
-        let next = address_after(at, &mut scratch.next);
-        going(true, targets, held, next, after)
+        match single {
+            Some(cell) => self.put_words_in(fact, *cell, place),
+            None => self.put_words_at_each(fact, cells, place),
+        }
     }
 
-    /// What is known of the accumulator after TAD: of one variable to one word it is their sum.
+    /// The same, one cell after another.
     #[inline(never)]
-    fn after_tad<'a>(
+    fn put_words_at_each<const C: usize, const R: usize>(
         &self,
-        state: &AbstractState<'a>,
-        target: &Option<Word>,
-        ac: &Option<Word>,
-        added: &Option<Word>,
-        set: &'a WordSet,
-        list: &'a mut Equations,
-    ) -> AbstractState<'a>
-        requires room { length state.now.equations.now ≤ 32 }
-        ensures { (v : Words) → words set.now ≡ sums (narrowed (fact_of_state state.now) Ac) v →
-            fact_of_state result ≡
-            tad_case (place_of self.now) (fact_of_state state.now) v target.now ac.now added.now }
+        fact: &SumFact<C, R>,
+        cells: &WordSet,
+        place: &mut WordSet,
+    )
+        ensures { words place.new ≡ words_at (place_in_code self.now) (fact_in_code fact.now) (words cells.now) }
     {
-        if let Some(cell) = target {
-            if let Some(word) = ac {
+        let mut one = WordSet::all();
+        *place = WordSet::empty();
+        for cell in cells.iter() {
+            self.put_words_in(fact, cell, &mut one);
+            *place = place.union(&one);
+        }
+    }
+
+    /// Whether a cell is neither a variable nor an entry, so that it holds the word of the start in every run.
+    fn is_fixed(&self, cell: Word) -> bool
+        ensures { result ≡ is_fixed (place_in_code self.now).declaration cell }
+    {
+        !(self.declaration.is_variable(cell) || self.declaration.is_entry(cell))
+    }
+
+    /// Whether all of some cells are neither variables nor entries.
+    fn are_fixed(&self, cells: &WordSet) -> bool
+        ensures { result ≡ are_fixed (place_in_code self.now).declaration (words cells.now) }
+    {
+        for cell in cells.iter() {
+            if !self.is_fixed(cell) {
+                return false;
+            }
+        }
+        true
+    }
+
+    /// The one target as a term, where there is one and it is a variable.
+    pub(crate) fn one_target(&self, single: &Option<Word>) -> Option<Term>
+        ensures { term_if result ≡ one_target (place_in_code self.now).declaration single.now }
+    {
+        match single {
+            None => None,
+            Some(cell) => {
                 if self.declaration.is_variable(*cell) {
-                    return state.summed(*cell, *word, set, list);
+                    Some(Term::Holding(Location::Cell(*cell)))
+                } else {
+                    None
                 }
             }
         }
-        after_sum(state, added, set, list)
     }
 
-    /// TAD: all sums, and the link complemented by the carries that occur.
-    #[inline(never)]
-    pub(crate) fn add<'a>(
-        &self,
-        at: Word,
-        state: &AbstractState<'a>,
-        targets: &WordSet,
-        single: &Option<Word>,
-        scratch: &'a mut SuccessorScratch,
-    ) -> Option<Successor<'a>>
-        requires single { single.now ≡ only (words targets.now) }
-        requires room { length state.now.equations.now ≤ 32 }
-        ensures { slot result ≡ tad (place_of self.now) at (fact_of_state state.now) (words targets.now) }
+    /// Whether the words that a reference reads are those that stood behind a variable at the start: it goes through a pointer in
+    /// the variable, and all its targets are neither variables nor entries.
+    fn is_behind(&self, indirect: bool, named: Word, targets: &WordSet) -> bool
+        ensures { result ≡ (indirect && ((place_in_code self.now).declaration.variable named &&
+            are_fixed (place_in_code self.now).declaration (words targets.now))) }
     {
-        let held = state.left_in(&Location::Accumulator, &mut scratch.held);
-        let read: &'a WordSet = self.words_at(state, targets, single, &mut scratch.read);
-        let (sums, carries) = held.sums(read);
-        let ac = put_set(&mut scratch.ac, &sums);
-        let links = state.link.toggled(carries);
-        let (one, added) = (held.only(), read.only());
-        let sum = self.after_tad(state, single, &one, &added, ac, &mut scratch.first);
-        let next = address_after(at, &mut scratch.next);
-        going(true, targets, held, next, sum.with_link(links))
+        indirect && self.declaration.is_variable(named) && self.are_fixed(targets)
     }
 
-    /// Whether a JMP returns: through the running routine's own entry.
-    fn is_returning(&self, indirect: bool, named: Word) -> bool
-        ensures { result ≡ (indirect && is_routine (place_of self.now).routine named) }
-    {
-        indirect && self.is_own(named)
-    }
-
-    /// JMP goes to each target; JMP I through the running routine's own entry returns.
-    #[inline(never)]
-    pub(crate) fn jump<'a>(
+    /// The term that has the operand's word, if there is one: the one target, of which there is none beside it; or what stands
+    /// behind the variable that holds the pointer.
+    pub(crate) fn operand_term(
         &self,
         indirect: bool,
         named: Word,
-        state: &AbstractState<'a>,
-        targets: &'a WordSet,
-        scratch: &'a mut SuccessorScratch,
-    ) -> Option<Successor<'a>>
-        ensures { slot result ≡ jmp (place_of self.now) indirect named (fact_of_state state.now)
-            (words targets.now) }
+        targets: &WordSet,
+        single: &Option<Word>,
+    ) -> Option<Term>
+        requires { single.now ≡ only (words targets.now) }
+        ensures { term_if result ≡
+            operand_term (place_in_code self.now).declaration indirect named (words targets.now) }
     {
-        let held = state.left_in(&Location::Accumulator, &mut scratch.held);
-        let after = state.same();
-        if !self.is_returning(indirect, named) {
-            return going(true, targets, held, targets, after);
+        if self.is_behind(indirect, named, targets) {
+            return Some(Term::Behind {
+                cell: named,
+                more: Word::ZERO,
+            });
         }
-        if !is_alive(targets, held, &after) {
-            return None;
-        }
-        Some(Successor::Returns(after))
+        self.one_target(single)
     }
 
-    /// ISZ: of one variable, of the running routine's own entry, or of one of several variables.
-    pub(crate) fn count<'a>(
+    /// Puts the fact after a cell's word was counted up by 1 into room for it.
+    pub(crate) fn put_counted<const C: usize, const R: usize, const D: usize, const S: usize>(
         &self,
-        at: Word,
-        state: &AbstractState<'a>,
-        targets: &'a WordSet,
-        single: &Option<Word>,
-        scratch: &'a mut SuccessorScratch,
-        other: &'a mut SuccessorScratch,
-    ) -> (Option<Successor<'a>>, Option<Successor<'a>>)
-        requires single { single.now ≡ only (words targets.now) }
-        requires target { IsUnchanged state.now.target }
-        requires room { length state.now.equations.now ≤ 32 }
-        ensures { slot result.0 ++ slot result.1 ≡
-            isz_case (place_of self.now) at (fact_of_state state.now) (words targets.now)
-            (only (words targets.now)) }
+        fact: &SumFact<C, R>,
+        cell: Word,
+        room: &mut SumFact<D, S>,
+    )
+        requires cells { length (cell_sets_of fact.now.cells) < D }
+        requires relations { length (relations_of fact.now.relations) ≤ S }
+        ensures fact { fact_in_code room.new ≡ counted (place_in_code self.now) cell (fact_in_code fact.now) }
+        ensures cells { length (cell_sets_of room.new.cells) ≤ length (cell_sets_of fact.now.cells) + 1 }
+        ensures relations { length (relations_of room.new.relations) ≡ length (relations_of fact.now.relations) }
+        ensures chains { length room.new.chains.items ≡ length fact.now.chains.items }
     {
-        match single {
-            None => count_several(at, state, targets, scratch, other),
-            Some(cell) => {
-                if self.declaration.is_variable(*cell) {
-                    return count_one(at, state, targets, *cell, scratch, other);
-                }
-                (count_own(at, state, targets, *cell, scratch), None)
-            }
-        }
+        let mut set = WordSet::all();
+        self.put_words_known(fact, &Location::Cell(cell), &mut set);
+        room.take_counted(fact, cell, &set.shift(Word::ZERO.increment()));
     }
 }

@@ -3,7 +3,7 @@
 
 ghost use Rattle.std.specs.Prelude.{◌≡◌, false};
 
-use crate::fixtures::{HALT, HALT_CERTIFICATE, HALT_DECLARED, LETTER, UNDECLARED};
+use crate::fixtures::{HALT, HALT_CERTIFICATE, HALT_DECLARED, HALT_SEVERAL, LETTER, UNDECLARED};
 use command_laws::assembling::{assemble, list};
 use command_laws::checking::check;
 use command_laws::declaring::{DeclareOptions, declare};
@@ -39,6 +39,8 @@ enum Command {
     Watch,
     WatchSession,
     Check,
+    /// A check where several facts stand at an address.
+    CheckSeveral,
     Explain,
     Declare,
     Guess,
@@ -205,6 +207,10 @@ fn promised<A: Allocator + Copy>(
         Command::Watch => watched(alloc, plan, out),
         Command::WatchSession => watched_with_operator(alloc, plan, out),
         Command::Check => check(alloc, &mut tape, &mut text, &mut certificate, out),
+        Command::CheckSeveral => {
+            let mut certificate = plan.source(2, HALT_SEVERAL);
+            check(alloc, &mut tape, &mut text, &mut certificate, out)
+        }
         Command::Explain => {
             let mut text = plan.source(1, UNDECLARED);
             explain(alloc, &mut tape, &mut text, &mut certificate, out)
@@ -284,7 +290,7 @@ fn left_by<A: Allocator + Copy>(alloc: A, heap: Global, command: Command, plan: 
 /// How many reads of an input are made where none fails, if each that fails before is told as such and
 /// nothing is written then.
 fn reads_in_turn(heap: Global, command: Command, input: usize) -> Option<usize> {
-    for reads in 0..100usize {
+    for reads in 0..200usize {
         let plan = Plan {
             input,
             reads,
@@ -331,7 +337,7 @@ const MIGRATED: &[u8] =
 
 /// Commands, how many reads of each input they make, and what goes to their first output. A tape is read up to the first
 /// frame of its trailer, a text until its end was told.
-const COMMANDS: [(Command, [usize; 4], &[u8]); 18] = [
+const COMMANDS: [(Command, [usize; 4], &[u8]); 19] = [
     (Command::Assemble, [6, 7, 0, 0], TAPE),
     (Command::List, [6, 7, 0, 0], LISTING),
     (Command::Source, [11, 0, 0, 0], SOURCE),
@@ -344,6 +350,7 @@ const COMMANDS: [(Command, [usize; 4], &[u8]); 18] = [
     (Command::Watch, [11, 29, 6, 0], b"clean\n"),
     (Command::WatchSession, [11, 29, 3, 2], b"clean\n"),
     (Command::Check, [11, 29, 65, 0], VERDICT),
+    (Command::CheckSeveral, [11, 29, 146, 0], VERDICT),
     (Command::Explain, [11, 20, 65, 0], REASON),
     (Command::Declare, [11, 0, 0, 0], PROPOSED),
     (Command::Guess, [11, 29, 0, 0], HALT_CERTIFICATE),

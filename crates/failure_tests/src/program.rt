@@ -3,7 +3,7 @@
 use crate::runtime::{ROOMY, Rooms, run_program};
 
 /// Words with a file of which a read fails after some bytes.
-const FAILING_READS: [&str; 24] = [
+const FAILING_READS: [&str; 25] = [
     "pdp8 run failing.bin",
     "pdp8 run failing.bin --events step.ev",
     "pdp8 run halt.bin --events failing.ev",
@@ -23,6 +23,7 @@ const FAILING_READS: [&str; 24] = [
     "pdp8 watch halt.bin halt.dcl --reader step.ev --keys failing.ev",
     "pdp8 check halt.bin failing.dcl halt.cert",
     "pdp8 check halt.bin halt.dcl failing.cert",
+    "pdp8 check halt.bin halt.dcl failing.several",
     "pdp8 check halt.bin halt.dcl failing.cert --why",
     "pdp8 declare failing.bin o",
     "pdp8 guess failing.bin halt.dcl o",
@@ -44,7 +45,7 @@ fn a_read_that_fails_is_told(rt: HostRuntime) {
 }
 
 /// Words by which something is printed or goes to a file, and the status where all of it goes out.
-const WRITING: [(&str, u8); 22] = [
+const WRITING: [(&str, u8); 23] = [
     ("pdp8 run halt.bin", 0),
     ("pdp8 run halt.bin --trace", 0),
     ("pdp8 run halt.bin --events step.ev", 0),
@@ -59,6 +60,7 @@ const WRITING: [(&str, u8); 22] = [
     ("pdp8 watch halt.bin halt.dcl --keys step.ev", 0),
     ("pdp8 watch halt.bin wild.dcl --mark", 1),
     ("pdp8 check halt.bin halt.dcl halt.cert", 0),
+    ("pdp8 check halt.bin halt.dcl several.cert", 0),
     ("pdp8 check halt.bin wild.dcl halt.cert --why", 1),
     ("pdp8 declare halt.bin o", 0),
     ("pdp8 declare halt.bin -", 0),

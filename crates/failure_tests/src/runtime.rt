@@ -1,6 +1,6 @@
 //! A runtime whose words, input and files are given, and which keeps what the program writes.
 
-use crate::fixtures::{HALT, HALT_CERTIFICATE, HALT_DECLARED, LETTER, UNDECLARED};
+use crate::fixtures::{HALT, HALT_CERTIFICATE, HALT_DECLARED, HALT_SEVERAL, LETTER, UNDECLARED};
 use std::alloc::{Allocator, Global};
 use std::cell::RefCell;
 use std::env::FillError;
@@ -23,10 +23,12 @@ fn content(name: &str) -> Option<&'static [u8]> {
         "halt.dcl" => Some(HALT_DECLARED),
         "wild.dcl" | "failing.dcl" => Some(UNDECLARED),
         "halt.cert" => Some(HALT_CERTIFICATE),
+        "several.cert" => Some(HALT_SEVERAL),
         "step.ev" | "failing.ev" => Some(b"step\n"),
         "failing.bin" => Some(b"\x80\x80\x80\x80\x42\x00\x3c"),
         "failing.pal" => Some(b"*200\nHLT\n"),
         "failing.cert" => Some(b"PDP8-CERTIFICATE 1\nfact 0200"),
+        "failing.several" => Some(b"PDP8-CERTIFICATE 3\nfact 0200 sites -"),
         "failing.tape" => Some(b"\x00\x01"),
         _ => None,
     }

@@ -1,34 +1,58 @@
 -- What is said of facts as they are kept, and where they are; it serves private contracts.
-use Rattle.std.specs.Prelude.{ℕ, Bool, ◌&&◌, nat_le, length, map, Option, Some, None}
+use Rattle.std.specs.Prelude.{ℕ, Bool, ◌&&◌, ◌||◌, ◌==◌, nat_lt, List, [], map, Option, Some, None}
 use Rattle.std.specs.Ordering.{nat_cmp}
 use Rattle.std.specs.BTreeMap.{get}
+use Rattle.wordset.specs.Words.{nothing}
 use Rattle.wordset.specs.Lanes.{words}
 use Rattle.wordset.specs.Links.{links_of}
-use Rattle.domain.specs.Statements as said
-use Rattle.domain.specs.Statements.{Statement}
-use Rattle.domain.specs.Meaning.{equation_of, tracked_of}
+use Rattle.domain.specs.Facts.{Ac}
+use Rattle.domain.specs.Statements.{TrackedCell}
+use Rattle.domain.specs.Sums.Terms.{Summand, term_is_before, same_term}
+use Rattle.domain.specs.Sums.Facts as said
+use Rattle.domain.specs.Sums.CellsInCode.{cell_set_of}
+use Rattle.domain.specs.Sums.RelationsInCode.{relation_of}
+use Rattle.domain.specs.Sums.Offsets.{offsets_in}
+use Rattle.domain.specs.Sums.FactInCode.{names_words}
 use Rattle.fixpoint.specs.declared.invariant.CellInvariant.{CellInvariant}
 use Rattle.fixpoint.specs.declared.invariant.Invariant.{Invariant}
 use Rattle.fixpoint.specs.declared.table.Summary.{Summary}
 use Rattle.fixpoint.specs.declared.table.Candidate.{Candidate}
 
--- The tracked cell that is meant.
-abbrev pub cell_of : CellInvariant → said.TrackedCell
-cell_of l = tracked_of l.tracked
+-- The cell that is meant, with its words.
+abbrev pub cell_of : CellInvariant → TrackedCell
+cell_of l = cell_set_of l.told
 
--- What is said of a fact.
-abbrev pub said_of : {A : Type 0} → Invariant A → Statement
+-- The cells of which a kept fact tells.
+abbrev pub cells_of : {A : Type 0} → Invariant A → List TrackedCell
+cells_of k = map cell_of k.cells.items
+
+-- What is said of a fact, without sites.
+abbrev pub said_of : {A : Type 0} → Invariant A → said.Fact
 said_of k = record {
-  ac = words k.ac;
+  set = names_words (words k.ac) (cells_of k);
+  relations = map relation_of k.relations.items;
+  chains = [];
   mq = words k.mq;
   link = links_of k.link;
-  cells = map cell_of k.cells.items;
-  equations = map equation_of k.equations.items;
+  sites = nothing;
+  offsets = offsets_in k.offsets;
 }
 
--- A fact has at most 64 cells and 32 equations.
-abbrev pub has_room : {A : Type 0} → Invariant A → Bool
-has_room k = nat_le (length k.cells.items) 64 && nat_le (length k.equations.items) 32
+-- A fact with other words of its cells: those that these entries allow.
+abbrev pub said_in : said.Fact → List TrackedCell → said.Fact
+said_in f cells = record f { set = names_words (f.set Ac) cells }
+
+-- A sum that goes on with the first summand stands before one that goes on with the other: these two tell it, or else what comes
+-- behind them does.
+abbrev pub told_by_first : Summand → Summand → Bool → Bool
+told_by_first s t rest =
+    term_is_before s.term t.term ||
+    (same_term s.term t.term && (nat_lt s.coefficient t.coefficient || ((s.coefficient == t.coefficient) && rest)))
+
+-- What is told, or else what the rest tells.
+abbrev pub told_or : Bool → Option Bool → Bool
+told_or rest None = rest
+told_or rest (Some found) = found
 
 -- What is kept at an address.
 abbrev pub kept_at : {A : Type 0} → Candidate A → ℕ → Option (Invariant A)

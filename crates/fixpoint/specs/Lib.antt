@@ -1,3 +1,5 @@
+pub mod Asked
 pub mod Claimed
+pub mod Form
 pub mod Halts
 pub mod Making

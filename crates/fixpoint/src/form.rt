@@ -1,35 +1,54 @@
 //! Whether what is kept is of the form that the text of a certificate wants.
 
 ghost use Rattle.std.specs.Prelude.{◌≡◌, true, map};
-ghost use Rattle.domain.specs.Meaning.{equation_of};
-ghost use Rattle.certificate.specs.Reading.{Each, RiseFrom, IsTracked, IsEquation, IsStatement, place_of_equation};
-ghost use Rattle.fixpoint.specs.Claimed.{cell_of, said_of};
+ghost use Rattle.certificate.specs.Reading.{Each, RiseFrom};
+ghost use Rattle.wordset.specs.Lanes.{words};
+ghost use Rattle.domain.specs.Meaning.{location_of};
+ghost use Rattle.domain.specs.Sums.Brief.{brief_words};
+ghost use Rattle.domain.specs.Sums.InCode.{sum_of, term_of};
+ghost use Rattle.domain.specs.Sums.Offsets.{offsets_in};
+ghost use Rattle.domain.specs.Sums.RelationsInCode.{relation_of};
+ghost use Rattle.fixpoint.specs.Claimed.{cell_of};
+ghost use Rattle.certificate.specs.Sums.LineOf.{most_offsets};
+ghost use Rattle.certificate.specs.Sums.Laws.{MqFits};
+ghost use Rattle.fixpoint.specs.Form.{IsAfter, IsCellLine, sum_if, IsName, IsBehind, IsCellBehind, IsDifference, HasOneWord, IsEquationLine, IsInForm, AreBelow, SumsRise, HasWords, AreCellLines, AreRelationLines, IsFactInForm};
 
-use crate::invariant::{CellInvariant, Invariant, MOST_CELLS, MOST_EQUATIONS, place_of};
+use crate::invariant::{CellInvariant, Invariant, MOST_CELLS, MOST_RELATIONS};
+use crate::sums::{is_before, is_left_of};
 use certificate::Version;
-use facts::{Equation, Location};
+use domain::{BriefSet, Location, Relation, ReturnOffsets, Sum, Term};
 use std::alloc::Allocator;
+use wordset::WordSet;
 
-/// Whether each tracked cell has a word.
+/// Whether a cell that is told of has a word.
+fn is_cell_line(line: &CellInvariant) -> bool
+    ensures { result ≡ true → IsCellLine (cell_of line.now) }
+{
+    let _address = line.told.cell.index();
+    let mut set = WordSet::empty();
+    line.told.set.put(&mut set);
+    !set.is_empty()
+}
+
+/// Whether each cell that is told of has a word.
 fn have_words(cells: &[CellInvariant]) -> bool
-    ensures { result ≡ true → Each IsTracked (map cell_of cells.now) }
+    ensures { result ≡ true → Each IsCellLine (map cell_of cells.now) }
 {
     for line in cells {
-        let _address = line.tracked.cell.index();
-        if line.tracked.set.is_empty() {
+        if !is_cell_line(line) {
             return false;
         }
     }
     true
 }
 
-/// Whether the addresses of tracked cells rise.
+/// Whether the addresses of the cells that are told of rise.
 fn cells_rise(cells: &[CellInvariant]) -> bool
     ensures { result ≡ true → RiseFrom 0 (map (λ c. c.address) (map cell_of cells.now)) }
 {
     let mut next = 0usize;
     for line in cells {
-        let address = line.tracked.cell.index();
+        let address = line.told.cell.index();
         if address < next {
             return false;
         }
@@ -38,63 +57,186 @@ fn cells_rise(cells: &[CellInvariant]) -> bool
     true
 }
 
-/// Whether the left side of an equation comes before its right one.
-fn is_oriented(equation: &Equation) -> bool
-    ensures { result ≡ true → IsEquation (equation_of equation.now) }
+/// Whether a sum is a name less a cell that it stands before.
+fn is_difference(sum: &Sum) -> bool
+    ensures { result ≡ true → IsDifference (sum_of sum.now) }
 {
-    let _more = equation.more.index();
-    let left = match equation.left {
-        Location::Accumulator => 0,
-        Location::Cell(cell) => cell.index() + 1,
-    };
-    left < equation.right.index() + 1
+    if sum.len() != 2 {
+        return false;
+    }
+    let first = sum.get(0);
+    let second = sum.get(1);
+    if first.coefficient.index() != 1 || second.coefficient.index() != 4095 {
+        return false;
+    }
+    match first.term {
+        Term::Holding(name) => holds_cell_behind(&second.term, &name),
+        Term::Behind { .. } => false,
+    }
 }
 
-/// Whether each equation is oriented.
-fn are_oriented(equations: &[Equation]) -> bool
-    ensures { result ≡ true → Each IsEquation (map equation_of equations.now) }
+/// Whether a term is the word of a cell that stands behind a name.
+fn holds_cell_behind(term: &Term, name: &Location) -> bool
+    ensures { result ≡ true → IsCellBehind (location_of name.now) (term_of term.now) }
 {
-    for equation in equations {
-        if !is_oriented(equation) {
+    holds_name(term) && is_cell_behind(&term.name(), name)
+}
+
+/// Whether a term is the word of a name.
+fn holds_name(term: &Term) -> bool
+    ensures { result ≡ true → IsName (term_of term.now) }
+{
+    match term {
+        Term::Holding(_) => true,
+        Term::Behind { .. } => false,
+    }
+}
+
+/// Whether a name is a cell that stands behind another one.
+fn is_cell_behind(name: &Location, other: &Location) -> bool
+    ensures { result ≡ true → IsBehind (location_of other.now) (location_of name.now) }
+{
+    match name {
+        Location::Accumulator => false,
+        Location::Cell(cell) => is_left_of(other, *cell),
+    }
+}
+
+/// Whether a set has one word and no other.
+fn has_one_word(set: &BriefSet) -> bool
+    ensures { result ≡ true → HasOneWord (brief_words set.now) }
+{
+    let mut words = WordSet::empty();
+    set.put(&mut words);
+    words.only().is_some()
+}
+
+/// Whether a relation is an equation: a name is one number more than a cell behind it.
+fn is_equation(relation: &Relation) -> bool
+    ensures { result ≡ true → IsEquationLine (relation_of relation.now) }
+{
+    is_difference(&relation.sum) && has_one_word(&relation.set)
+}
+
+/// Whether a relation is of the form that a version wants. A search by the rules of equations makes no certificate of version 3.
+#[tactic(auto, using(crate::proofs::FormLemmas::in_form_one, crate::proofs::FormLemmas::in_form_two))]
+fn is_in_form(version: Version, relation: &Relation) -> bool
+    ensures { result ≡ true → IsInForm version (relation_of relation.now) }
+{
+    match version {
+        Version::One => is_equation(relation),
+        Version::Two => is_equation(relation),
+        Version::Three => false,
+    }
+}
+
+/// Whether each relation is of the form that a version wants.
+fn are_in_form(version: Version, relations: &[Relation]) -> bool
+    ensures { result ≡ true → Each (IsInForm version) (map relation_of relations.now) }
+{
+    for relation in relations {
+        if !is_in_form(version, relation) {
             return false;
         }
     }
     true
 }
 
-/// Whether equations rise.
-pub(crate) fn equations_rise(equations: &[Equation]) -> bool
-    ensures { result ≡ true →
-        RiseFrom 0 (map place_of_equation (map equation_of equations.now)) }
+/// Whether a sum comes after another, if one is given.
+fn is_after(sum: &Sum, last: &Option<Sum>) -> bool
+    ensures { result ≡ true → IsAfter (sum_if last.now) (sum_of sum.now) }
 {
-    let mut next = 0usize;
-    for equation in equations {
-        let place = place_of(equation);
-        if place < next {
+    match last {
+        None => true,
+        Some(last) => is_before(last, sum),
+    }
+}
+
+/// Whether the sums of relations rise.
+pub(crate) fn sums_rise(relations: &[Relation]) -> bool
+    ensures { result ≡ true → SumsRise (map relation_of relations.now) }
+{
+    let mut last: Option<Sum> = None;
+    for relation in relations {
+        if !is_after(&relation.sum, &last) {
             return false;
         }
-        next = place + 1;
+        last = Some(relation.sum);
     }
     true
+}
+
+/// Whether no offset from a number on is among some.
+fn are_below(offsets: ReturnOffsets, end: usize) -> bool
+    ensures { result ≡ true → AreBelow end (offsets_in offsets) }
+{
+    for offset in end..64usize {
+        if offsets.contains(offset) {
+            return false;
+        }
+    }
+    true
+}
+
+/// How many offsets a version has.
+fn most_offsets(version: Version) -> usize
+    ensures { result ≡ most_offsets version }
+{
+    match version {
+        Version::One | Version::Two => 8,
+        Version::Three => 64,
+    }
+}
+
+/// Whether a version can say which words MQ may hold.
+#[tactic(auto, using(crate::proofs::FollowLemmas::words_end))]
+fn can_say(version: Version, mq: &WordSet) -> bool
+    ensures { result ≡ true → MqFits version (words mq.now) }
+{
+    match version {
+        Version::One => mq.is_all(),
+        Version::Two => true,
+        Version::Three => true,
+    }
+}
+
+/// Whether cells are of the form of a certificate's lines: they have words, they rise, and there is room for them.
+#[tactic(auto, using(crate::proofs::FormLemmas::few_mapped))]
+fn are_cell_lines(cells: &[CellInvariant]) -> bool
+    ensures { result ≡ true → AreCellLines (map cell_of cells.now) }
+{
+    cells.len() <= MOST_CELLS && have_words(cells) && cells_rise(cells)
+}
+
+/// Whether relations are of the form that a version wants: each is, they rise, and there is room for them.
+#[tactic(auto, using(crate::proofs::FormLemmas::few_mapped))]
+fn are_relation_lines(version: Version, relations: &[Relation]) -> bool
+    ensures { result ≡ true → AreRelationLines version (map relation_of relations.now) }
+{
+    relations.len() <= MOST_RELATIONS && are_in_form(version, relations) && sums_rise(relations)
 }
 
 impl<A: Allocator> Invariant<A> {
+    /// Whether there are words for AC and MQ and a link.
+    fn has_words(&self) -> bool
+        ensures { result ≡ true → HasWords self.now }
+    {
+        !self.ac.is_empty() && !self.mq.is_empty() && !self.link.is_empty()
+    }
+
     /// Whether it is of the form that a version wants.
     pub(crate) fn is_in_form(&self, version: Version) -> bool
-        ensures { result ≡ true → IsStatement version (said_of self.now) }
+        ensures { result ≡ true → IsFactInForm version self.now }
     {
-        if version == Version::One && !self.mq.is_all() {
+        if !self.has_words() || !can_say(version, &self.mq) {
             return false;
         }
-        if self.ac.is_empty() || self.mq.is_empty() || self.link.is_empty() {
+        if !are_below(self.offsets, most_offsets(version)) {
             return false;
         }
-        if self.cells.len() > MOST_CELLS || self.equations.len() > MOST_EQUATIONS {
+        if !are_cell_lines(&self.cells) {
             return false;
         }
-        if !have_words(&self.cells) || !cells_rise(&self.cells) {
-            return false;
-        }
-        are_oriented(&self.equations) && equations_rise(&self.equations)
+        are_relation_lines(version, &self.relations)
     }
 }

@@ -1,13 +1,19 @@
 //! Facts as they are kept: only as long as what they say.
 
-ghost use Rattle.std.specs.Prelude.{◌≡◌, ◌<◌, ◌≤◌, ◌+◌, ◌^◌, ◌++◌, length, map, true};
-ghost use Rattle.domain.specs.Meaning.{statement_of, offsets_of, equation_of};
-ghost use Rattle.certificate.specs.Reading.{place_of_equation};
-ghost use Rattle.fixpoint.specs.Claimed.{cell_of, said_of, has_room};
+ghost use Rattle.std.specs.Prelude.{◌≡◌, ◌≤◌, ◌+◌, ◌++◌, [], length, map, true};
+ghost use Rattle.domain.specs.Sums.CellsInCode.{cell_sets_of};
+ghost use Rattle.domain.specs.Sums.RelationsInCode.{relation_of, relations_of};
+ghost use Rattle.domain.specs.Sums.FactInCode.{fact_in_code};
+ghost use Rattle.facts.specs.Sums.Shaped.{HaveFewTerms};
+ghost use Rattle.fixpoint.specs.Asked.{MayBeAsked};
+ghost use Rattle.fixpoint.specs.Claimed.{cell_of, cells_of, said_of, said_in};
 
 use crate::halt::Halt;
+use crate::known::{Known, brief, has_word};
+use crate::sums::{first_behind, is_short, speaks_only_of, touches};
 use crate::widening::Limits;
-use facts::{AbstractState, CountedOffsets, Equation, Fact, Location, TrackedCell};
+use domain::{CellSet, Location, Relation, ReturnOffsets, Sum, Term, product};
+use facts::{Fact, KnownFact};
 use std::alloc::Allocator;
 use word12::Word;
 use wordset::{Links, WordSet};
@@ -15,33 +21,37 @@ use wordset::{Links, WordSet};
 /// The most cells of a fact.
 pub(crate) const MOST_CELLS: usize = 64;
 
-/// The most equations of a fact.
-pub(crate) const MOST_EQUATIONS: usize = 32;
+/// The most relations of a fact.
+pub(crate) const MOST_RELATIONS: usize = 32;
 
-/// A tracked cell, and how often its words grew.
+/// A cell with the words that it may hold, and how often these grew.
 #[derive(Clone, Copy)]
 pub(crate) struct CellInvariant {
-    pub(crate) tracked: TrackedCell,
+    pub(crate) told: CellSet,
     pub(crate) growths: u32,
 }
 
-/// A fact, how often the accumulator's words grew, and of which instruction it is told: the one where it
-/// holds, or for an exit the return that was met first.
+/// A fact, how often the accumulator's words grew, and of which instruction it is told: the one where it holds, or for an exit
+/// the return that was met first.
 #[derive(Drop)]
 pub(crate) struct Invariant<A: Allocator> {
     pub(crate) at: Word,
     pub(crate) ac: WordSet,
     pub(crate) mq: WordSet,
     pub(crate) link: Links,
-    pub(crate) offsets: CountedOffsets,
+    pub(crate) offsets: ReturnOffsets,
     pub(crate) growths: u32,
     pub(crate) cells: Vec<CellInvariant, A>,
-    pub(crate) equations: Vec<Equation, A>,
+    pub(crate) relations: Vec<Relation, A>,
 }
 
-/// The words that are left to a name by one step along its equations, or all of its words where the
-/// equations contradict; filled where they are ragged.
-pub(crate) fn left_to(known: &AbstractState<'_>, name: &Location, limits: &Limits) -> WordSet {
+/// The words that are left to a name by one step along the relations, or all of its words where the relations contradict;
+/// filled where they are ragged.
+pub(crate) fn left_to<F: KnownFact>(
+    known: &Known<'_, F>,
+    name: &Location,
+    limits: &Limits,
+) -> WordSet {
     let narrowed = known.narrowed(name);
     if narrowed.is_empty() {
         limits.smoothed(&known.set(name))
@@ -50,126 +60,41 @@ pub(crate) fn left_to(known: &AbstractState<'_>, name: &Location, limits: &Limit
     }
 }
 
-/// Whether a name is the accumulator or a cell of a set.
-fn is_among(cells: &WordSet, name: &Location) -> bool {
-    match name {
-        Location::Accumulator => true,
-        Location::Cell(cell) => cells.contains(*cell),
-    }
-}
-
-/// Whether an equation speaks of the accumulator and the cells of a set alone.
-fn speaks_of(cells: &WordSet, equation: &Equation) -> bool {
-    is_among(cells, &equation.left) && cells.contains(equation.right)
-}
-
-/// Whether an equation speaks of the accumulator or a cell of a set.
-fn touches(cells: &WordSet, equation: &Equation) -> bool {
-    is_among(cells, &equation.left) || cells.contains(equation.right)
-}
-
-/// The place of an equation among those of a fact.
-pub(crate) fn place_of(equation: &Equation) -> usize
-    ensures same { result ≡ place_of_equation (equation_of equation.now) }
-    ensures small { result < 2 ^ 25 }
-{
-    let left = match equation.left {
-        Location::Accumulator => 0,
-        Location::Cell(cell) => cell.index() + 1,
-    };
-    4097 * left + equation.right.index() + 1
-}
-
-/// The first of some equations in their order, from a place on.
-fn first_from(equations: &[Equation], from: usize) -> Option<Equation> {
-    let mut first: Option<Equation> = None;
-    let mut end = usize::MAX;
-    for equation in equations {
-        let place = place_of(equation);
-        if from <= place && place < end {
-            first = Some(*equation);
-            end = place;
-        }
-    }
-    first
-}
-
 impl<A: Allocator + Copy> Invariant<A> {
-    /// What is known at an instruction, without cells and equations.
-    pub(crate) fn bare(
+    /// What is known at an instruction, without cells and relations.
+    pub(crate) fn bare<F: KnownFact>(
         alloc: A,
         at: Word,
-        known: &AbstractState<'_>,
+        known: &Known<'_, F>,
         limits: &Limits,
     ) -> Invariant<A> {
         Invariant {
             at,
             ac: left_to(known, &Location::Accumulator, limits),
-            mq: limits.smoothed(&known.mq()),
+            mq: limits.smoothed(known.mq()),
             link: known.link(),
-            offsets: known.offsets(),
+            offsets: known.offsets,
             growths: 0,
             cells: Vec::new(alloc),
-            equations: Vec::new(alloc),
+            relations: Vec::new(alloc),
         }
     }
 
     /// What is known at an instruction, of the tracked cells alone.
-    pub(crate) fn of(
+    pub(crate) fn of<F: KnownFact>(
         alloc: A,
         at: Word,
         tracked: &WordSet,
-        known: &AbstractState<'_>,
+        known: &Known<'_, F>,
         limits: &Limits,
     ) -> Result<Invariant<A>, Halt> {
         let mut kept = Invariant::bare(alloc, at, known, limits);
         kept.take_cells(tracked, known, limits)?;
-        kept.take_equations(tracked, known)?;
+        kept.take_relations(tracked, known)?;
         Ok(kept)
     }
 
-    /// Adds what is known of the tracked cells.
-    fn take_cells(
-        &mut self,
-        tracked: &WordSet,
-        known: &AbstractState<'_>,
-        limits: &Limits,
-    ) -> Result<(), Halt> {
-        for cell in tracked.iter() {
-            self.track(cell, left_to(known, &Location::Cell(cell), limits), 0)?;
-        }
-        Ok(())
-    }
-
-    /// Adds the words of a cell, if they say something.
-    pub(crate) fn track(&mut self, cell: Word, set: WordSet, growths: u32) -> Result<(), Halt> {
-        if set.is_all() {
-            return Ok(());
-        }
-        if self.cells.len() >= MOST_CELLS {
-            return Ok(());
-        }
-        let line = CellInvariant {
-            tracked: TrackedCell { cell, set },
-            growths,
-        };
-        let Ok(()) = self.cells.push(line) else {
-            return Err(Halt::NoMemory);
-        };
-        Ok(())
-    }
-
-    /// Adds the equations between tracked cells.
-    fn take_equations(&mut self, tracked: &WordSet, known: &AbstractState<'_>) -> Result<(), Halt> {
-        for equation in known.equations() {
-            if speaks_of(tracked, equation) && !self.has_one_word_each(equation) {
-                self.relate(*equation)?;
-            }
-        }
-        Ok(())
-    }
-
-    /// The part that speaks of the accumulator and of written cells, its equations in rising order.
+    /// The part that speaks of the accumulator and of written cells, its relations in rising order.
     pub(crate) fn written(&self, alloc: A, cells: &WordSet) -> Result<Invariant<A>, Halt> {
         let mut kept = Invariant {
             at: self.at,
@@ -179,145 +104,210 @@ impl<A: Allocator + Copy> Invariant<A> {
             offsets: self.offsets,
             growths: self.growths,
             cells: Vec::new(alloc),
-            equations: Vec::new(alloc),
+            relations: Vec::new(alloc),
         };
-        for line in &self.cells {
-            if cells.contains(line.tracked.cell) {
-                kept.track(line.tracked.cell, line.tracked.set, line.growths)?;
-            }
-        }
-        kept.take_touching(cells, &self.equations)?;
+        kept.take_lines(cells, &self.cells)?;
+        kept.take_touching(cells, &self.relations)?;
         Ok(kept)
-    }
-
-    /// Adds those equations that speak of the accumulator or of written cells, in rising order.
-    fn take_touching(&mut self, cells: &WordSet, equations: &[Equation]) -> Result<(), Halt> {
-        let mut next = 0usize;
-        for _turn in 0..MOST_EQUATIONS {
-            let Some(equation) = first_from(equations, next) else {
-                return Ok(());
-            };
-            if touches(cells, &equation) {
-                self.relate(equation)?;
-            }
-            next = place_of(&equation) + 1;
-        }
-        Ok(())
     }
 }
 
 impl<A: Allocator> Invariant<A> {
-    /// Adds an equation, if there is room and none for its two names.
-    pub(crate) fn relate(&mut self, equation: Equation) -> Result<(), Halt> {
-        if self.equations.len() >= MOST_EQUATIONS {
+    /// Adds what is known of the tracked cells.
+    fn take_cells<F: KnownFact>(
+        &mut self,
+        tracked: &WordSet,
+        known: &Known<'_, F>,
+        limits: &Limits,
+    ) -> Result<(), Halt> {
+        for cell in tracked.iter() {
+            self.track(cell, &left_to(known, &Location::Cell(cell), limits))?;
+        }
+        Ok(())
+    }
+
+    /// Adds the words of a cell, if they say something.
+    pub(crate) fn track(&mut self, cell: Word, set: &WordSet) -> Result<(), Halt> {
+        if set.is_all() {
             return Ok(());
         }
-        if self.relates(&equation) {
+        let line = CellInvariant {
+            told: CellSet {
+                cell,
+                set: brief(set),
+            },
+            growths: 0,
+        };
+        self.add_line(&line)
+    }
+
+    /// Adds a cell, if there is room.
+    fn add_line(&mut self, line: &CellInvariant) -> Result<(), Halt> {
+        if self.cells.len() >= MOST_CELLS {
             return Ok(());
         }
-        let Ok(()) = self.equations.push(equation) else {
+        let Ok(()) = self.cells.push(*line) else {
             return Err(Halt::NoMemory);
         };
         Ok(())
     }
 
-    /// Whether there is an equation for two names.
-    fn relates(&self, equation: &Equation) -> bool {
-        for known in &self.equations {
-            if known.left == equation.left && known.right == equation.right {
+    /// Adds those of some cells that are in a set.
+    fn take_lines(&mut self, cells: &WordSet, lines: &[CellInvariant]) -> Result<(), Halt> {
+        for line in lines {
+            if cells.contains(line.told.cell) {
+                self.add_line(line)?;
+            }
+        }
+        Ok(())
+    }
+
+    /// Adds the relations between tracked cells, but for those that cannot be fulfilled.
+    fn take_relations<F: KnownFact>(
+        &mut self,
+        tracked: &WordSet,
+        known: &Known<'_, F>,
+    ) -> Result<(), Halt> {
+        for relation in known.relations() {
+            if speaks_only_of(tracked, &relation.sum) && self.wants(relation) {
+                self.relate(relation)?;
+            }
+        }
+        Ok(())
+    }
+
+    /// Whether a relation says something: it can be fulfilled, and not each of its names has one word.
+    fn wants(&self, relation: &Relation) -> bool {
+        !relation.set.is_empty() && self.value_of(&relation.sum).is_none()
+    }
+
+    /// Adds those relations that speak of the accumulator or of written cells, in rising order.
+    fn take_touching(&mut self, cells: &WordSet, relations: &[Relation]) -> Result<(), Halt> {
+        let mut last: Option<Sum> = None;
+        for _turn in 0..MOST_RELATIONS {
+            let Some(relation) = first_behind(relations, &last) else {
+                return Ok(());
+            };
+            if touches(cells, &relation.sum) {
+                self.relate(relation)?;
+            }
+            last = Some(relation.sum);
+        }
+        Ok(())
+    }
+
+    /// Adds a relation, if there is room and none of its sum.
+    pub(crate) fn relate(&mut self, relation: &Relation) -> Result<(), Halt> {
+        if self.relations.len() >= MOST_RELATIONS {
+            return Ok(());
+        }
+        if self.relates(&relation.sum) {
+            return Ok(());
+        }
+        let Ok(()) = self.relations.push(*relation) else {
+            return Err(Halt::NoMemory);
+        };
+        Ok(())
+    }
+
+    /// Whether there is a relation of a sum.
+    fn relates(&self, sum: &Sum) -> bool {
+        for known in &self.relations {
+            if known.sum.is_same(sum) {
                 return true;
             }
         }
         false
     }
 
-    /// The words that a name may hold.
-    pub(crate) fn set(&self, name: &Location) -> WordSet {
-        match name {
-            Location::Accumulator => self.ac,
-            Location::Cell(cell) => self.set_of_cell(*cell),
-        }
-    }
-
-    /// The one word that a name may hold, if there is only one.
-    pub(crate) fn only(&self, name: &Location) -> Option<Word> {
-        match name {
-            Location::Accumulator => self.ac.only(),
-            Location::Cell(cell) => self.only_of_cell(*cell),
-        }
-    }
-
-    /// The one word that a cell may hold, if there is only one.
-    fn only_of_cell(&self, cell: Word) -> Option<Word> {
+    /// What is told of a cell, if something is.
+    pub(crate) fn line_of(&self, cell: Word) -> Option<&CellInvariant> {
         for line in &self.cells {
-            if line.tracked.cell == cell {
-                return line.tracked.set.only();
+            if line.told.cell == cell {
+                return Some(line);
             }
         }
         None
     }
 
-    /// Whether both sides of an equation have one word, so that it needn't be said.
-    pub(crate) fn has_one_word_each(&self, equation: &Equation) -> bool {
-        self.only(&equation.left).is_some() && self.only(&Location::Cell(equation.right)).is_some()
-    }
-
-    /// The words that a cell may hold.
-    fn set_of_cell(&self, cell: Word) -> WordSet {
-        for line in &self.cells {
-            if line.tracked.cell == cell {
-                return line.tracked.set;
-            }
+    /// The one word that a name may hold, if there is only one.
+    fn only(&self, name: &Location) -> Option<Word> {
+        match name {
+            Location::Accumulator => self.ac.only(),
+            Location::Cell(cell) => match self.line_of(*cell) {
+                None => None,
+                Some(line) => line.told.set.only(),
+            },
         }
-        WordSet::all()
     }
 
-    /// Whether there is room in a fact for what is kept, which the lent one then says.
+    /// The word of a sum, where each of the names whose words it adds may hold one word alone.
+    fn value_of(&self, sum: &Sum) -> Option<Word> {
+        let mut value = Word::ZERO;
+        for summand in sum.summands() {
+            let Term::Holding(name) = summand.term else {
+                return None;
+            };
+            let Some(word) = self.only(&name) else {
+                return None;
+            };
+            value = value.add(product(summand.coefficient, word));
+        }
+        Some(value)
+    }
+
+    /// Whether each name of a relation has one word, and these fulfil it.
+    pub(crate) fn shows(&self, relation: &Relation) -> bool {
+        match self.value_of(&relation.sum) {
+            None => false,
+            Some(value) => has_word(&relation.set, value),
+        }
+    }
+
+    /// Whether there is room in a fact for what is kept, which the lent one then says. Nothing is said of sites.
     pub(crate) fn fact_into(&self, fact: &mut Fact) -> bool
-        ensures there { result ≡ has_room self.now }
-        ensures statement { result ≡ true → statement_of fact.new ≡ said_of self.now }
-        ensures offsets { result ≡ true →
-            offsets_of fact.new.offsets ≡ offsets_of self.now.offsets }
+        ensures said { result ≡ true → fact_in_code fact.new ≡ said_of self.now }
+        ensures cells { result ≡ true → cell_sets_of fact.new.cells ≡ cells_of self.now }
+        ensures asked { result ≡ true → MayBeAsked fact.new }
     {
-        if self.cells.len() > MOST_CELLS {
+        if self.cells.len() > MOST_CELLS || self.relations.len() > MOST_RELATIONS {
             return false;
         }
-        if self.equations.len() > MOST_EQUATIONS {
+        if !are_short(&self.relations) {
             return false;
         }
         fact.forget();
-        fact.set_accumulator(self.ac);
-        fact.set_mq(self.mq);
+        fact.set_accumulator(&self.ac);
+        fact.set_mq(&self.mq);
         fact.set_link(self.link);
         fact.set_offsets(self.offsets);
         track_all(fact, &self.cells);
-        relate_all(fact, &self.equations);
+        fact.push_relations(&self.relations);
         true
     }
 }
 
-/// Tracks some cells more.
-fn track_all(fact: &mut Fact, cells: &[CellInvariant])
-    requires { length (statement_of fact.old).cells + length cells.now ≤ 64 }
-    ensures statement { statement_of fact.new ≡ record (statement_of fact.old) {
-      cells = (statement_of fact.old).cells ++ map cell_of cells.now;
-    } }
-    ensures offsets { offsets_of fact.new.offsets ≡ offsets_of fact.old.offsets }
+/// Whether each relation's sum has at most three terms.
+fn are_short(relations: &[Relation]) -> bool
+    ensures { result ≡ true → HaveFewTerms (map relation_of relations.now) }
 {
-    for line in cells {
-        fact.track(line.tracked.cell, line.tracked.set);
+    for relation in relations {
+        if !is_short(&relation.sum) {
+            return false;
+        }
     }
+    true
 }
 
-/// Adds some equations.
-fn relate_all(fact: &mut Fact, equations: &[Equation])
-    requires { length (statement_of fact.old).equations + length equations.now ≤ 32 }
-    ensures statement { statement_of fact.new ≡ record (statement_of fact.old) {
-      equations = (statement_of fact.old).equations ++ map equation_of equations.now;
-    } }
-    ensures offsets { offsets_of fact.new.offsets ≡ offsets_of fact.old.offsets }
+/// Tells of some cells.
+fn track_all(fact: &mut Fact, cells: &[CellInvariant])
+    requires { length (cell_sets_of fact.old.cells) + length cells.now ≤ 64 }
+    ensures fact { fact_in_code fact.new ≡ said_in (fact_in_code fact.old) (cell_sets_of fact.new.cells) }
+    ensures cells { cell_sets_of fact.new.cells ≡ cell_sets_of fact.old.cells ++ map cell_of cells.now }
+    ensures relations { fact.new.relations ≡ fact.old.relations }
+    ensures chains { fact.new.chains ≡ fact.old.chains }
 {
-    for equation in equations {
-        fact.relate(*equation);
+    for line in cells {
+        fact.track_copy(&line.told);
     }
 }

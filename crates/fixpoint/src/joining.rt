@@ -2,8 +2,11 @@
 
 use crate::halt::Halt;
 use crate::invariant::{CellInvariant, Invariant, left_to};
+use crate::known::{Known, brief};
+use crate::sums::{difference, is_left_of};
 use crate::widening::{Limits, Pace, widened};
-use facts::{AbstractState, CountedOffsets, Equation, Location};
+use domain::{Location, Relation, ReturnOffsets};
+use facts::KnownFact;
 use std::alloc::Allocator;
 use word12::Word;
 use wordset::WordSet;
@@ -16,58 +19,38 @@ struct Moved {
     after: Word,
 }
 
-/// The difference of two words.
-fn difference(a: Word, b: Word) -> Word {
+/// How much more one word is than another.
+fn more_than(a: Word, b: Word) -> Word {
     a.add(b.complement().increment())
 }
 
-/// Whether a name stands before a cell in equations.
-fn is_before(name: &Location, cell: Word) -> bool {
-    match name {
-        Location::Accumulator => true,
-        Location::Cell(other) => *other < cell,
-    }
-}
-
-/// The equation that two moved names keep, if they differ by the same before and after.
-fn kept_between(left: &Moved, right: &Moved) -> Option<Equation> {
+/// The relation that two moved names keep, if they differ by the same before and after.
+fn kept_between(left: &Moved, right: &Moved) -> Option<Relation> {
     let Location::Cell(cell) = right.name else {
         return None;
     };
-    if !is_before(&left.name, cell) {
+    if !is_left_of(&left.name, cell) {
         return None;
     }
-    let more = difference(left.before, right.before);
-    if difference(left.after, right.after) != more {
+    let more = more_than(left.before, right.before);
+    if more_than(left.after, right.after) != more {
         return None;
     }
-    Some(Equation {
-        left: left.name,
-        right: cell,
-        more,
-    })
+    Some(difference(left.name, cell, more))
 }
 
 /// The offsets of both.
-fn joined_offsets(a: CountedOffsets, b: CountedOffsets) -> CountedOffsets {
+fn joined_offsets(a: ReturnOffsets, b: ReturnOffsets) -> ReturnOffsets {
+    if b.is_subset(a) {
+        return a;
+    }
     let mut offsets = a;
-    for offset in 0..8usize {
+    for offset in 0..64usize {
         if b.contains(offset) {
             offsets.insert(offset);
         }
     }
     offsets
-}
-
-/// Whether one word is left on each side of an equation, and they fulfil it.
-fn fulfils(left: Option<Word>, right: Option<Word>, more: Word) -> bool {
-    match left {
-        None => false,
-        Some(x) => match right {
-            None => false,
-            Some(y) => x == y.add(more),
-        },
-    }
 }
 
 /// What became of cells: whether one has more words, and whether one may hold any word now.
@@ -77,20 +60,14 @@ struct Growth {
     lost: bool,
 }
 
-/// Whether the equations leave a cell no word outside a set; a set that isn't narrowed is tried first.
-fn is_within(known: &AbstractState<'_>, cell: Word, set: &WordSet) -> bool {
-    let name = Location::Cell(cell);
-    known.set(&name).is_subset(set) || known.narrowed(&name).is_subset(set)
-}
-
 /// Adds a name if it had one word and has another now.
-fn add_moved<A: Allocator>(
+fn add_moved<A: Allocator, F: KnownFact>(
     moved: &mut Vec<Moved, A>,
     name: Location,
-    old: &WordSet,
-    known: &AbstractState<'_>,
+    old: Option<Word>,
+    known: &Known<'_, F>,
 ) -> Result<(), Halt> {
-    let Some(before) = old.only() else {
+    let Some(before) = old else {
         return Ok(());
     };
     let Some(after) = known.narrowed(&name).only() else {
@@ -106,21 +83,29 @@ fn add_moved<A: Allocator>(
     Ok(())
 }
 
-/// Joins the words that a cell may hold now to those of its line.
-fn grow(line: &mut CellInvariant, known: &AbstractState<'_>, limits: &Limits, pace: Pace) {
-    let cell = line.tracked.cell;
-    let old = line.tracked.set;
+/// Joins the words that a cell may hold now to those of its line, and tells whether it may hold any word then.
+fn grow<F: KnownFact>(
+    line: &mut CellInvariant,
+    known: &Known<'_, F>,
+    limits: &Limits,
+    pace: Pace,
+) -> bool {
+    let cell = line.told.cell;
+    let mut old = WordSet::all();
+    line.told.set.put(&mut old);
     let set = old.union(&left_to(known, &Location::Cell(cell), limits));
     let growths = line.growths.saturating_add(1);
     let counted = limits.counted.contains(cell);
-    line.tracked.set = widened(&old, &set, growths, counted, limits, pace);
+    let wide = widened(&old, &set, growths, counted, limits, pace);
+    line.told.set = brief(&wide);
     line.growths = growths;
+    wide.is_all()
 }
 
 /// Joins to each line the words that its cell may hold now, and gathers the cells that moved.
-fn grow_all<A: Allocator>(
+fn grow_all<A: Allocator, F: KnownFact>(
     cells: &mut [CellInvariant],
-    known: &AbstractState<'_>,
+    known: &Known<'_, F>,
     limits: &Limits,
     pace: Pace,
     moved: &mut Vec<Moved, A>,
@@ -130,14 +115,14 @@ fn grow_all<A: Allocator>(
         lost: false,
     };
     for line in cells {
-        let cell = line.tracked.cell;
-        if !is_within(known, cell, &line.tracked.set) {
-            add_moved(moved, Location::Cell(cell), &line.tracked.set, known)?;
-            grow(line, known, limits, pace);
-            growth.grew = true;
-            if line.tracked.set.is_all() {
-                growth.lost = true;
-            }
+        if known.is_within(line.told.cell, &line.told.set) {
+            continue;
+        }
+        let name = Location::Cell(line.told.cell);
+        add_moved(moved, name, line.told.set.only(), known)?;
+        growth.grew = true;
+        if grow(line, known, limits, pace) {
+            growth.lost = true;
         }
     }
     Ok(growth)
@@ -146,15 +131,15 @@ fn grow_all<A: Allocator>(
 impl<A: Allocator + Copy> Invariant<A> {
     /// Joins something else that is known: what both say is left. Tells whether less is said than
     /// before.
-    pub(crate) fn join(
+    pub(crate) fn join<F: KnownFact>(
         &mut self,
         alloc: A,
-        known: &AbstractState<'_>,
+        known: &Known<'_, F>,
         limits: &Limits,
         pace: Pace,
     ) -> Result<bool, Halt> {
         let mut moved = Vec::new(alloc);
-        let dropped = self.drop_equations(alloc, known)?;
+        let dropped = self.drop_relations(alloc, known)?;
         self.add_shown(known)?;
         let registers = self.join_registers(known, limits, pace, &mut moved)?;
         let growth = grow_all(&mut self.cells, known, limits, pace, &mut moved)?;
@@ -165,28 +150,33 @@ impl<A: Allocator + Copy> Invariant<A> {
         Ok(dropped || registers || growth.grew)
     }
 
-    /// Drops the equations that aren't known, and tells whether there was one.
-    fn drop_equations(&mut self, alloc: A, known: &AbstractState<'_>) -> Result<bool, Halt> {
+    /// Drops the relations that are not known, and tells whether there was one.
+    fn drop_relations<F: KnownFact>(
+        &mut self,
+        alloc: A,
+        known: &Known<'_, F>,
+    ) -> Result<bool, Halt> {
         if self.knows_all(known) {
             return Ok(false);
         }
         let mut left = Vec::new(alloc);
-        for equation in &self.equations {
-            if known.knows(equation) {
-                let Ok(()) = left.push(*equation) else {
+        for relation in &self.relations {
+            if known.knows(relation) {
+                let Ok(()) = left.push(*relation) else {
                     return Err(Halt::NoMemory);
                 };
             }
         }
-        self.equations = left;
+        self.relations = left;
         Ok(true)
     }
 
     /// Drops the cells that may hold any word.
     fn drop_cells(&mut self, alloc: A) -> Result<(), Halt> {
         let mut left = Vec::new(alloc);
+        let all = WordSet::all();
         for line in &self.cells {
-            if !line.tracked.set.is_all() {
+            if !line.told.set.has_all(&all) {
                 let Ok(()) = left.push(*line) else {
                     return Err(Halt::NoMemory);
                 };
@@ -198,10 +188,10 @@ impl<A: Allocator + Copy> Invariant<A> {
 }
 
 impl<A: Allocator> Invariant<A> {
-    /// Whether all equations are known.
-    fn knows_all(&self, known: &AbstractState<'_>) -> bool {
-        for equation in &self.equations {
-            if !known.knows(equation) {
+    /// Whether all relations are known.
+    fn knows_all<F: KnownFact>(&self, known: &Known<'_, F>) -> bool {
+        for relation in &self.relations {
+            if !known.knows(relation) {
                 return false;
             }
         }
@@ -209,21 +199,21 @@ impl<A: Allocator> Invariant<A> {
     }
 
     /// Joins the registers and the offsets, and tells whether one grew.
-    fn join_registers(
+    fn join_registers<F: KnownFact>(
         &mut self,
-        known: &AbstractState<'_>,
+        known: &Known<'_, F>,
         limits: &Limits,
         pace: Pace,
         moved: &mut Vec<Moved, A>,
     ) -> Result<bool, Halt> {
         let grew = !self.covers_registers(known);
-        self.mq = limits.smoothed(&self.mq.union(&known.mq()));
+        self.mq = limits.smoothed(&self.mq.union(known.mq()));
         self.link = self.link.union(known.link());
-        self.offsets = joined_offsets(self.offsets, known.offsets());
-        if self.covers_accumulator(known) {
+        self.offsets = joined_offsets(self.offsets, known.offsets);
+        if known.has_accumulator_within(&self.ac) {
             return Ok(grew);
         }
-        add_moved(moved, Location::Accumulator, &self.ac, known)?;
+        add_moved(moved, Location::Accumulator, self.ac.only(), known)?;
         let set = self
             .ac
             .union(&left_to(known, &Location::Accumulator, limits));
@@ -233,50 +223,45 @@ impl<A: Allocator> Invariant<A> {
     }
 
     /// Whether MQ, the link and the offsets have no others.
-    fn covers_registers(&self, known: &AbstractState<'_>) -> bool {
+    fn covers_registers<F: KnownFact>(&self, known: &Known<'_, F>) -> bool {
         known.mq().is_subset(&self.mq)
             && known.link().is_subset(self.link)
-            && known.offsets().is_subset(self.offsets)
+            && known.offsets.is_subset(self.offsets)
     }
 
-    /// Whether the accumulator has no other words.
-    fn covers_accumulator(&self, known: &AbstractState<'_>) -> bool {
-        known.accumulator().is_subset(&self.ac)
-            || known.narrowed(&Location::Accumulator).is_subset(&self.ac)
-    }
-
-    /// Whether a name that has one word has no other one now.
-    fn stays(&self, name: &Location, known: &AbstractState<'_>) -> bool {
+    /// Whether a name has no other words now than those that it has.
+    fn stays<F: KnownFact>(&self, name: &Location, known: &Known<'_, F>) -> bool {
         match name {
-            Location::Accumulator => self.covers_accumulator(known),
-            Location::Cell(cell) => is_within(known, *cell, &self.set(name)),
+            Location::Accumulator => known.has_accumulator_within(&self.ac),
+            Location::Cell(cell) => match self.line_of(*cell) {
+                None => true,
+                Some(line) => known.is_within(*cell, &line.told.set),
+            },
         }
     }
 
-    /// Adds those equations that are known now and that the words before fulfil, where not both sides
-    /// keep their one word.
-    fn add_shown(&mut self, known: &AbstractState<'_>) -> Result<(), Halt> {
-        for equation in known.equations() {
-            if self.shows(equation) && !self.keeps_both(equation, known) {
-                self.relate(*equation)?;
+    /// Adds those relations that are known now and that the words before fulfil, where not all of their names keep their one
+    /// word.
+    fn add_shown<F: KnownFact>(&mut self, known: &Known<'_, F>) -> Result<(), Halt> {
+        for relation in known.relations() {
+            if self.shows(relation) && !self.keeps_all(relation, known) {
+                self.relate(relation)?;
             }
         }
         Ok(())
     }
 
-    /// Whether both sides of an equation have one word, and they fulfil it.
-    fn shows(&self, equation: &Equation) -> bool {
-        let left = self.only(&equation.left);
-        let right = self.only(&Location::Cell(equation.right));
-        fulfils(left, right, equation.more)
+    /// Whether no name of a relation has other words now than those that it has.
+    fn keeps_all<F: KnownFact>(&self, relation: &Relation, known: &Known<'_, F>) -> bool {
+        for summand in relation.sum.summands() {
+            if !self.stays(&summand.term.name(), known) {
+                return false;
+            }
+        }
+        true
     }
 
-    /// Whether both sides of an equation, which have one word each, have no other one now.
-    fn keeps_both(&self, equation: &Equation, known: &AbstractState<'_>) -> bool {
-        self.stays(&equation.left, known) && self.stays(&Location::Cell(equation.right), known)
-    }
-
-    /// Adds the equations between names that moved by the same.
+    /// Adds the relations between names that moved by the same.
     fn add_kept(&mut self, moved: &[Moved]) -> Result<(), Halt> {
         for left in moved {
             self.add_kept_of(left, moved)?;
@@ -284,11 +269,11 @@ impl<A: Allocator> Invariant<A> {
         Ok(())
     }
 
-    /// Adds the equations between one name that moved and others that moved by the same.
+    /// Adds the relations between one name that moved and others that moved by the same.
     fn add_kept_of(&mut self, left: &Moved, moved: &[Moved]) -> Result<(), Halt> {
         for right in moved {
-            if let Some(equation) = kept_between(left, right) {
-                self.relate(equation)?;
+            if let Some(relation) = kept_between(left, right) {
+                self.relate(&relation)?;
             }
         }
         Ok(())

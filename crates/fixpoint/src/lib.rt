@@ -7,11 +7,14 @@ mod form;
 mod halt;
 mod invariant;
 mod joining;
+mod known;
 mod making;
 mod needs;
 mod program;
 mod ranks;
+mod rooms;
 mod search;
+mod sums;
 mod table;
 mod widening;
 

@@ -12,7 +12,7 @@ use wordset::WordSet;
 /// How often all words are gone through at most.
 const MOST_ROUNDS: usize = 64;
 
-/// Sets of cells by address; an empty one isn't kept.
+/// Sets of cells by address; an empty one is not kept.
 type Sets<A> = BTreeMap<usize, WordSet, A>;
 
 /// The cells that are needed at each address of a body, and at each entry those that are needed when
@@ -196,7 +196,7 @@ impl<A: Allocator + Copy> Needs<A> {
         }
     }
 
-    /// What is needed before a call; all, where it isn't known what is called. What is needed after it
+    /// What is needed before a call; all, where it is not known what is called. What is needed after it
     /// and the routine writes is needed when the routine returns.
     fn before_call<D: Allocator>(
         &mut self,
@@ -247,7 +247,7 @@ impl<A: Allocator> Needs<A> {
         self.at(next).union(&self.at(next.increment()))
     }
 
-    /// What is needed before a jump; all, where it isn't known where it goes.
+    /// What is needed before a jump; all, where it is not known where it goes.
     fn before_jump<D: Allocator>(
         &self,
         program: &AnalysedProgram<'_, D>,

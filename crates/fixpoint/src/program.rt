@@ -1,14 +1,15 @@
 //! What is analysed: a tape's words and a declaration.
 
 ghost use Rattle.std.specs.Prelude.{◌≡◌};
+ghost use Rattle.fixpoint.specs.Asked.{MayBeAsked};
 
 use crate::halt::Halt;
 use crate::widening::Limits;
 use bin_tape::Image;
-use certificate::RoutineClaim;
 use declaration::{Declaration, Owner};
-use facts::{Context, Fact, Place};
-use instruct::{refers_indirectly, target};
+use domain::Rules;
+use facts::{Fact, Outcomes, Place};
+use instruct::{Instruction, decode, halts, refers_indirectly, target};
 use std::alloc::Allocator;
 use word12::Word;
 use wordset::WordSet;
@@ -16,9 +17,9 @@ use wordset::WordSet;
 /// The most cells that are tracked.
 const MOST_TRACKED: usize = 64;
 
-/// What is analysed, the addresses of all bodies, those whose words may look at an entry, the cells
-/// that instructions name or that stand in bodies, those that facts speak of at most, and where their
-/// sets may end.
+/// What is analysed, the addresses of all bodies, those whose words may look at an entry, the cells that instructions name or
+/// that stand in bodies, those that facts speak of at most, where their sets may end, and the rules by which facts are taken
+/// further: those of equations, as certificates of versions 1 and 2 have them.
 #[derive(Drop)]
 pub struct AnalysedProgram<'a, D: Allocator> {
     pub image: &'a Image,
@@ -28,17 +29,18 @@ pub struct AnalysedProgram<'a, D: Allocator> {
     pub(crate) named: WordSet,
     pub(crate) tracked: WordSet,
     pub(crate) limits: Limits,
+    pub(crate) rules: Rules,
 }
 
-/// The body that has an address: main's, or that of the routine of an entry, with what is known of
-/// its calls.
+/// The body that has an address: main's, or that of the routine of an entry.
 #[derive(Clone, Copy)]
 pub(crate) enum Body {
     Main,
-    Of(Word, RoutineClaim),
+    Of(Word),
 }
 
-/// A fact at an address of a body. It's large, so the same one serves all visits.
+/// A fact at an address of a body, with the sites that are known of the routine whose body it is. It is
+/// large, so the same one serves all visits.
 #[derive(Drop)]
 pub(crate) struct Visit {
     pub(crate) at: Word,
@@ -58,30 +60,12 @@ impl Visit {
 }
 
 impl Body {
-    /// The routine, if it isn't main's.
-    fn running(&self) -> Option<Context<'_>> {
+    /// The entry of the routine, if it is not main's.
+    fn routine(&self) -> Option<Word> {
         match self {
             Body::Main => None,
-            Body::Of(entry, routine) => Some(Context {
-                entry: *entry,
-                sites: &routine.sites,
-                writes: &routine.writes,
-            }),
+            Body::Of(entry) => Some(*entry),
         }
-    }
-}
-
-/// Where a fact of a body stands.
-pub(crate) fn place_in<'a, D: Allocator>(
-    image: &'a Image,
-    declaration: &'a Declaration<D>,
-    body: &'a Body,
-) -> Place<'a, D> {
-    let routine = body.running();
-    Place {
-        image,
-        declaration,
-        routine,
     }
 }
 
@@ -90,15 +74,14 @@ pub(crate) fn is_reference(word: Word) -> bool {
     word.index() < 0o6000
 }
 
-/// Whether a memory reference is ISZ or DCA.
-fn stores(word: Word) -> bool {
-    let operation = word.index() / 0o1000;
-    operation == 2 || operation == 3
+/// Whether a memory reference, which names a cell, counts a pointer in it up first.
+fn steps_pointer(word: Word, named: Word) -> bool {
+    refers_indirectly(word) && named.index() / 8 == 1
 }
 
-/// The JMS that refers to the same cells as a word.
-fn as_call(word: Word) -> Word {
-    Word::from_index(0o4000 + word.index() % 0o1000)
+/// Whether a word is a JMS.
+fn is_call(word: Word) -> bool {
+    word.index() / 0o1000 == 4
 }
 
 /// Adds a cell to the tracked ones, if there is room.
@@ -138,6 +121,7 @@ impl<'a, D: Allocator> AnalysedProgram<'a, D> {
                 landmarks: landmarks(image, declaration, &bodies),
                 most_runs,
             },
+            rules: Rules::OfEquations,
         }
     }
 }
@@ -300,11 +284,11 @@ impl<D: Allocator> AnalysedProgram<'_, D> {
     pub(crate) fn has(&self, body: &Body, at: Word) -> bool {
         match body {
             Body::Main => self.declaration.in_main(at),
-            Body::Of(entry, _) => self.declaration.in_body(*entry, at),
+            Body::Of(entry) => self.declaration.in_body(*entry, at),
         }
     }
 
-    /// The tape's word at an address of a body, if it can't be written.
+    /// The tape's word at an address of a body, if it cannot be written.
     pub(crate) fn fixed_word(&self, at: Word) -> Option<Word> {
         if self.declaration.is_variable(at) {
             return None;
@@ -312,7 +296,7 @@ impl<D: Allocator> AnalysedProgram<'_, D> {
         code_at(self.image, &self.bodies, at)
     }
 
-    /// The cell that a memory reference refers to, which names a cell, if it's the same at all times.
+    /// The cell that a memory reference refers to, which names a cell, if it is the same at all times.
     pub(crate) fn place_named(&self, word: Word, named: Word) -> Option<Word> {
         fixed_target(self.image, self.declaration, word, named)
     }
@@ -335,48 +319,86 @@ impl<D: Allocator> AnalysedProgram<'_, D> {
         }
     }
 
+    /// Where a fact of a body stands.
+    pub(crate) fn place(&self, body: &Body) -> Place<'_, D> {
+        Place {
+            image: self.image,
+            declaration: self.declaration,
+            routine: body.routine(),
+            rules: self.rules,
+        }
+    }
+
     /// The words that are possible where a fact stands.
     pub(crate) fn possible(&self, visit: &Visit) -> WordSet {
-        place_in(self.image, self.declaration, &visit.body).possible_words(&visit.fact, visit.at)
+        let mut possible = WordSet::empty();
+        self.place(&visit.body)
+            .put_possible(&visit.fact, visit.at, &mut possible);
+        possible
     }
 
     /// Whether a word's reads are listed, and it calls through no auto-index cell.
     pub(crate) fn may_stand(&self, visit: &Visit, word: Word) -> bool {
-        let place = place_in(self.image, self.declaration, &visit.body);
-        if place.steps_call_pointer(visit.at, word) {
+        if is_call(word) && steps_pointer(word, target(word, visit.at)) {
             return false;
         }
-        place.reads_are_listed(&visit.fact, visit.at, word)
+        self.place(&visit.body)
+            .reads_are_listed(&visit.fact, visit.at, word)
+    }
+
+    /// Whether a word, which may write some cells, has a meaning, writes only what it may, and is no HLT where the program may
+    /// not halt. Mostly it writes variables alone.
+    pub(crate) fn may_run(&self, visit: &Visit, word: Word, written: &WordSet) -> bool {
+        if !self.may_be_met(visit.at, word) {
+            return false;
+        }
+        if written.is_subset(self.declaration.variables()) {
+            return true;
+        }
+        let place = self.place(&visit.body);
+        place.writes_are_declared(&visit.fact, visit.at, word)
+            && place.entries_are_kept(&visit.fact, visit.at, word)
+    }
+
+    /// Whether a word has a meaning on the machine that is declared, and is no HLT where the program may not halt.
+    fn may_be_met(&self, at: Word, word: Word) -> bool {
+        match decode(word, self.declaration.profile()) {
+            Instruction::Unsupported => false,
+            Instruction::Operate2 => {
+                !halts(word) || self.declaration.is_stop(at) || self.declaration.is_pause(at)
+            }
+            _ => true,
+        }
     }
 
     /// The cells that a word may write, save the one that a JMS itself writes.
     pub(crate) fn written(&self, visit: &Visit, word: Word) -> WordSet {
-        if !is_reference(word) {
-            return WordSet::empty();
-        }
-        let mut cells = if stores(word) {
-            self.targets(visit, word)
-        } else {
-            WordSet::empty()
-        };
-        let named = target(word, visit.at);
-        if refers_indirectly(word) && named.index() / 8 == 1 {
-            cells.insert(named);
-        }
+        let mut cells = WordSet::empty();
+        self.place(&visit.body)
+            .put_writes(&visit.fact, visit.at, word, &mut cells);
         cells
     }
 
-    /// The cells that a memory reference refers to.
-    fn targets(&self, visit: &Visit, word: Word) -> WordSet {
-        place_in(self.image, self.declaration, &visit.body).calls(
-            &visit.fact,
-            visit.at,
-            as_call(word),
-        )
+    /// Puts what may come of a word into the lent room.
+    #[tactic(auto, using(crate::proofs::AskedLemmas::few_chains, crate::proofs::AskedLemmas::short_chains))]
+    pub(crate) fn put_outcomes(&self, visit: &Visit, word: Word, outcomes: &mut Outcomes)
+        requires { MayBeAsked visit.now.fact }
+    {
+        visit.fact.is_within_room();
+        self.place(&visit.body)
+            .put_outcomes(&visit.fact, visit.at, word, outcomes);
     }
 
-    /// The entry through which a word returns.
+    /// The entry through which a word returns: that of a JMP I through one.
     pub(crate) fn returned_entry(&self, visit: &Visit, word: Word) -> Option<Word> {
-        place_in(self.image, self.declaration, &visit.body).returned_entry(visit.at, word)
+        if word.index() / 0o1000 != 5 || !refers_indirectly(word) {
+            return None;
+        }
+        let named = target(word, visit.at);
+        if self.declaration.is_entry(named) {
+            Some(named)
+        } else {
+            None
+        }
     }
 }

@@ -1,13 +1,15 @@
 //! A guess: facts at addresses, and what is claimed of routines.
 
-ghost use Rattle.std.specs.Prelude.{◌≡◌, option_map};
+ghost use Rattle.std.specs.Prelude.{◌≡◌, true, option_map};
+ghost use Rattle.fixpoint.specs.Asked.{MayBeAsked};
 ghost use Rattle.fixpoint.specs.Claimed.{kept_at, row_at, exit_in};
 
 use crate::halt::Halt;
 use crate::invariant::Invariant;
+use crate::known::Known;
 use crate::widening::{Limits, Pace};
 use certificate::RoutineClaim;
-use facts::{AbstractState, Fact};
+use facts::{Fact, KnownFact};
 use std::alloc::Allocator;
 use std::collections::BTreeMap;
 use word12::Word;
@@ -36,7 +38,7 @@ impl<A: Allocator + Copy> Candidate<A> {
         }
     }
 
-    /// Lists the routine of an entry, with nothing known of it, if it isn't listed.
+    /// Lists the routine of an entry, with nothing known of it, if it is not listed.
     pub(crate) fn list(&mut self, alloc: A, entry: Word) -> Result<(), Halt> {
         if self.row(entry).is_some() {
             return Ok(());
@@ -82,11 +84,11 @@ impl<A: Allocator + Copy> Candidate<A> {
 impl<A: Allocator + Copy> Candidate<A> {
     /// Joins what is known to the fact at an address, if there is one, and tells whether less is said
     /// than before.
-    pub(crate) fn join(
+    pub(crate) fn join<F: KnownFact>(
         &mut self,
         alloc: A,
         at: Word,
-        known: &AbstractState<'_>,
+        known: &Known<'_, F>,
         limits: &Limits,
         pace: Pace,
     ) -> Result<bool, Halt> {
@@ -98,12 +100,12 @@ impl<A: Allocator + Copy> Candidate<A> {
 
     /// Joins what is known to what holds at a return, if something is kept of it, and tells whether
     /// less is said than before.
-    pub(crate) fn join_exit(
+    pub(crate) fn join_exit<F: KnownFact>(
         &mut self,
         alloc: A,
         entry: Word,
         offset: usize,
-        known: &AbstractState<'_>,
+        known: &Known<'_, F>,
         limits: &Limits,
         pace: Pace,
     ) -> Result<bool, Halt> {
@@ -142,7 +144,9 @@ impl<A: Allocator> Candidate<A> {
     }
 
     /// Whether there is a fact at an address, which the lent one then says.
-    pub(crate) fn fact_into(&self, at: Word, fact: &mut Fact) -> bool {
+    pub(crate) fn fact_into(&self, at: Word, fact: &mut Fact) -> bool
+        ensures { result ≡ true → MayBeAsked fact.new }
+    {
         match self.kept(at) {
             None => false,
             Some(kept) => kept.fact_into(fact),

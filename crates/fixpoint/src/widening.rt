@@ -1,4 +1,4 @@
-//! How sets that go on growing are made ones that don't.
+//! How sets that go on growing are made ones that do not.
 
 use word12::Word;
 use wordset::WordSet;
@@ -91,7 +91,7 @@ fn is_negative(set: &WordSet) -> bool {
     set.least().is_some_and(|low| low.is_negative())
 }
 
-/// From the last landmark that isn't above a word.
+/// From the last landmark that is not above a word.
 fn landmark_below(landmarks: &WordSet, word: Word) -> Word {
     match landmarks.meet(&WordSet::range(Word::ZERO, word)).greatest() {
         None => Word::ZERO,
@@ -99,7 +99,7 @@ fn landmark_below(landmarks: &WordSet, word: Word) -> Word {
     }
 }
 
-/// To the first landmark that isn't below a word.
+/// To the first landmark that is not below a word.
 fn landmark_above(landmarks: &WordSet, word: Word) -> Word {
     match landmarks.first_from(word.index()) {
         None => Word::ZERO.complement(),

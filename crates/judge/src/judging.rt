@@ -1,18 +1,15 @@
 //! The judgement: every condition holds, or one fails before all others.
 
-ghost use Rattle.std.specs.Prelude.{◌≡◌, ◌↔◌, Some, IsTrue, MatchOption, MatchResult, OnOk};
-ghost use Rattle.wordset.specs.Words.{HasNoneFrom, IsFirstFrom};
-ghost use Rattle.certificate.specs.Certificate.{claimed};
+ghost use Rattle.std.specs.Prelude.{◌≡◌, ◌↔◌, Some, IsTrue, MatchResult, OnOk};
 ghost use Rattle.peripherals.specs.Loading.{image_of};
 ghost use Rattle.declaration.specs.Kept.{meaning};
 ghost use Rattle.policy.specs.Runs.{IsSafe};
-ghost use Rattle.judge.specs.Judged.{judged};
-ghost use Rattle.judge.specs.Conditions.{IsValid, IsFirst};
-ghost use Rattle.judge.specs.Pages.{Shows};
+ghost use Rattle.judge.specs.Sums.Conditions.{IsValid, IsFirst};
+ghost use Rattle.judge.specs.Sums.Judged.{judged};
 
+use crate::body::Body;
+use crate::case::{Case, Rooms};
 use crate::claims::Claims;
-use crate::lines::{Body, Case};
-use crate::point::{FactCache, Others};
 use bin_tape::Image;
 use declaration::Declaration;
 use facts::Condition;
@@ -37,42 +34,16 @@ pub struct Refusal {
 ///
 /// The first condition that fails, and where. V1 is asked first, at the start; then, by rising
 /// address, at each address that a routine, fact or exit line has, the others in the order V2, V3,
-/// V5, V14, V6, V13, V7, V8, V9, V10, V12, V11, V4, V15. A refusal says that the claims don't show
-/// the program safe, not that it is unsafe.
+/// V5, V14, V6, V13, V7, V8, V9, V10, V12, V11, V4, V15, each of all facts at the address. A refusal
+/// says that the claims do not show the program safe, not that it is unsafe.
 ///
-/// No memory is taken, so none can be refused.
+/// Facts are put into the rooms that are lent, whatever stands there. No memory is taken, so none can be refused.
 pub fn judge<A: Allocator, C: Claims>(
     image: &Image,
     declaration: &Declaration<A>,
     claims: &C,
+    rooms: &mut Rooms,
 ) -> Result<(), Refusal>
-    ensures exact { let j = judged image.now declaration.now (C.claims claims.now) in
-        MatchResult result (λ _. IsValid j) (λ r. IsFirst j r.condition r.address) }
-    ensures safe { OnOk result (IsSafe (image_of image.now) (meaning declaration.now)) }
-{
-    judge_on(
-        image,
-        declaration,
-        claims,
-        &mut FactCache::new(),
-        &mut FactCache::new(),
-        &mut Others::new(),
-    )
-}
-
-/// The same, with what claims are read into lent: each an argument of its own, so that it is made once,
-/// where it stays.
-#[inline(never)]
-fn judge_on<A: Allocator, C: Claims>(
-    image: &Image,
-    declaration: &Declaration<A>,
-    claims: &C,
-    even: &mut FactCache,
-    odd: &mut FactCache,
-    others: &mut Others,
-) -> Result<(), Refusal>
-    requires even { Shows (C.claims claims.now) even.old }
-    requires odd { Shows (C.claims claims.now) odd.old }
     ensures exact { let j = judged image.now declaration.now (C.claims claims.now) in
         MatchResult result (λ _. IsValid j) (λ r. IsFirst j r.condition r.address) }
     ensures safe { OnOk result (IsSafe (image_of image.now) (meaning declaration.now)) }
@@ -83,18 +54,19 @@ fn judge_on<A: Allocator, C: Claims>(
         declaration,
         claims,
     };
-    if !case.starts_well(even) {
+    if !case.starts_well(rooms) {
         return Err(Refusal {
             condition: Condition::V1,
             address: declaration.start(),
         });
     }
-    let mut body = Body::Main;
+    let mut body = Body::main();
+    let mut near = 0usize;
     let mut next = 0usize;
     let mut named = claims.next_named(0);
-    while let Some(address) = next_address(claims, even, odd, next) {
+    while let Some(address) = claims.next_claimed(next, near) {
         let is_named = is_of(&named, address);
-        if let Err(condition) = case.check_at(address, is_named, even, odd, &mut body, others) {
+        if let Err(condition) = case.check_at(address, is_named, &mut near, &mut body, rooms) {
             return Err(Refusal { condition, address });
         }
         next = address.index() + 1;
@@ -113,28 +85,4 @@ fn is_of(entry: &Option<Word>, at: Word) -> bool
         None => false,
         Some(entry) => *entry == at,
     }
-}
-
-/// The least address from a number on at which something is claimed. Where the fact of that number was
-/// read already, it isn't looked for.
-fn next_address<C: Claims>(
-    claims: &C,
-    even: &FactCache,
-    odd: &FactCache,
-    from: usize,
-) -> Option<Word>
-    requires even { Shows (C.claims claims.now) even.now }
-    requires odd { Shows (C.claims claims.now) odd.now }
-    ensures { MatchOption result
-        (HasNoneFrom from (claimed (C.claims claims.now)))
-        (λ w. IsFirstFrom from (claimed (C.claims claims.now)) w) }
-{
-    if from < 4096 {
-        let here = if from % 2 == 0 { even } else { odd };
-        let at = Word::from_index(from);
-        if here.is_of(at) {
-            return Some(at);
-        }
-    }
-    claims.next_claimed(from)
 }

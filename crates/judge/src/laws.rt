@@ -1,9 +1,9 @@
 //! Laws over the definitions alone. Each is the contract of a function that does nothing.
 
-ghost use Rattle.judge.specs.Laws.{FactsHoldInEvents, FactsHoldInRuns, FirstIsOne, TextsMakeOneCase};
+ghost use Rattle.judge.specs.Sums.Laws.{FactsHoldInEvents, FactsHoldInRuns, FirstIsOne, TextsMakeOneCase};
 
-/// The facts of a valid certificate are true: wherever a declared run may go on there is a fact, and
-/// it holds.
+/// The facts of a valid certificate are true: wherever a declared run may go on, one of the facts
+/// there holds.
 pub fn facts_hold()
     ensures runs { FactsHoldInRuns }
     ensures events { FactsHoldInEvents }

@@ -1,22 +1,30 @@
 //! The conditions on a certificate, and the theorem that they make a program safe.
 #![tactic(auto)]
 
-ghost use Rattle.judge.specs.Headline.{ProgramsAreSafe, UnlistedReadsAreFree};
+ghost use Rattle.judge.specs.Sums.Headline.{ProgramsAreSafe, UnlistedReadsAreFree};
 
+mod body;
 mod calls;
+mod case;
 mod claims;
 mod judging;
 mod landing;
 pub mod laws;
-mod lines;
 mod point;
+mod sited;
+mod sources;
 mod verdict;
 mod words;
 
+pub use body::Body;
+pub use case::{Case, Rooms, put_asked};
 pub use certificate::RoutineClaim;
 pub use claims::Claims;
 pub use facts::Condition;
 pub use judging::{Refusal, judge};
+pub use point::{Others, Point, place_of};
+pub use sited::put_sites;
+pub use sources::{ExitsFor, FactsAt};
 pub use verdict::{Certified, CertifyFault, certify};
 
 /// The headline. Whenever `certify` answers yes for a tape, a declaration and a certificate, then in

@@ -1,151 +1,104 @@
-//! A fact at an address of a body, of whose words conditions are asked.
+//! A fact of which conditions are asked at an address of a body, and room for what it is compared with.
 
-ghost use Rattle.std.specs.Prelude.{◌≡◌, Some, true, IsTrue};
-ghost use Rattle.certificate.specs.Certificate as said;
-ghost use Rattle.domain.specs.Meaning.{meaning};
-ghost use Rattle.judge.specs.Judged.{judged};
-ghost use Rattle.judge.specs.Asked.{IsBody};
-ghost use Rattle.judge.specs.Pages.{Shows};
-ghost use Rattle.judge.specs.Spots.{IsProgramPoint, case_of};
+ghost use Rattle.std.specs.Prelude.{◌≡◌, true};
+ghost use Rattle.judge.specs.Sums.Bodies.{Tells};
+ghost use Rattle.judge.specs.Sums.Judged.{judged};
+ghost use Rattle.judge.specs.Sums.Shapes.{IsRoomy};
+ghost use Rattle.judge.specs.Sums.Points.{IsPoint, case_of};
 
+use crate::body::Body;
 use crate::claims::Claims;
-use crate::lines::Body;
 use bin_tape::Image;
 use declaration::Declaration;
-use facts::{Fact, Place, Scratch};
+use domain::Rules;
+use facts::{Fact, LandingRooms, NarrowedFact, NextFact, Outcomes, Place};
 use std::alloc::Allocator;
 use word12::Word;
 
-/// A fact that claims are read into, and whose it is: that of an address, or of none. It has some
-/// 35,000 bytes, so two are made, once: for the address that is looked at and for the next one, by
-/// turns. The fact that a run mostly goes on to is then the one that is looked at next, and is read
-/// once.
+/// Room for further facts, with which the one at an address is compared or which come of it.
 #[derive(Drop)]
-pub(crate) struct FactCache {
-    fact: Fact,
-    address: Option<Word>,
-    /// The line behind the fact's own, where that of the next address is looked for first.
-    end: usize,
-}
-
-impl FactCache {
-    /// A fact of which nothing is known, and which is that of no address.
-    pub(crate) fn new() -> FactCache
-        ensures { (c : said.Certificate) → Shows c result }
-    {
-        FactCache {
-            fact: Fact::any(),
-            address: None,
-            end: 0,
-        }
-    }
-
-    /// The fact.
-    pub(crate) fn fact(&self) -> &Fact
-        ensures { result.now ≡ self.now.fact }
-    {
-        &self.fact
-    }
-
-    /// The line behind the fact's own.
-    pub(crate) fn end(&self) -> usize {
-        self.end
-    }
-
-    /// Whether the fact is that of an address.
-    pub(crate) fn is_of(&self, at: Word) -> bool
-        ensures { IsTrue result → self.now.address ≡ Some at }
-    {
-        match &self.address {
-            None => false,
-            Some(address) => *address == at,
-        }
-    }
-
-    /// Whether there is a fact at an address, which then stands here. One that stands here already
-    /// isn't read again, and another is looked for first at the line of a number.
-    pub(crate) fn turn_to<C: Claims>(&mut self, claims: &C, at: Word, near: usize) -> bool
-        requires { Shows (C.claims claims.now) self.old }
-        ensures there { result ≡ (C.claims claims.now).has_fact at }
-        ensures fact { result ≡ true → meaning self.new.fact ≡ (C.claims claims.now).fact at }
-        ensures shows { Shows (C.claims claims.now) self.new }
-    {
-        if self.is_of(at) {
-            return true;
-        }
-        let mut line = near;
-        if !claims.fact_near(at, &mut line, &mut self.fact) {
-            return false;
-        }
-        self.end = line;
-        self.address = Some(at);
-        true
-    }
-}
-
-/// Further facts that the one at an address is compared with: where the run goes on elsewhere, and
-/// at a return; and room for what comes of a word.
-#[derive(Drop)]
-pub(crate) struct Others {
-    pub(crate) next: Fact,
-    pub(crate) exit: Fact,
-    pub(crate) room: Scratch,
+pub struct Others {
+    pub exit: Fact,
+    pub next: NextFact,
+    pub outcomes: Outcomes,
+    pub landing: LandingRooms,
 }
 
 impl Others {
-    /// Facts of which nothing is known, and room that nothing stands in.
-    pub(crate) fn new() -> Others {
+    /// Room that nothing stands in.
+    #[inline]
+    pub fn new() -> Others {
         Others {
-            next: Fact::any(),
             exit: Fact::any(),
-            room: Scratch::new(),
+            next: NextFact::any(),
+            outcomes: Outcomes::new(),
+            landing: LandingRooms::new(),
         }
     }
 }
 
-/// A fact at an address of a body.
+/// A fact of which conditions are asked at an address of a body.
 #[derive(Drop)]
-pub(crate) struct ProgramPoint<'a, A: Allocator, C: Claims> {
-    pub(crate) claims: &'a C,
-    pub(crate) place: Place<'a, A>,
-    pub(crate) at: Word,
-    pub(crate) fact: &'a Fact,
-    pub(crate) following: &'a FactCache,
+pub struct Point<'a, A: Allocator, C: Claims> {
+    pub claims: &'a C,
+    pub place: Place<'a, A>,
+    pub body: &'a Body,
+    pub at: Word,
+    pub fact: &'a NarrowedFact,
+    /// The line at which facts at other addresses are looked for first.
+    pub near: usize,
 }
 
-impl<'a, A: Allocator, C: Claims> ProgramPoint<'a, A, C> {
+/// The place of the facts in a routine's body.
+pub fn place_of<'a, A: Allocator>(
+    image: &'a Image,
+    declaration: &'a Declaration<A>,
+    routine: &Option<Word>,
+    rules: Rules,
+) -> Place<'a, A>
+    ensures image { result.image.now ≡ image.now }
+    ensures declaration { result.declaration.now ≡ declaration.now }
+    ensures routine { result.routine ≡ routine.now }
+    ensures rules { result.rules ≡ rules }
+{
+    Place {
+        image,
+        declaration,
+        routine: *routine,
+        rules,
+    }
+}
+
+impl<'a, A: Allocator, C: Claims> Point<'a, A, C> {
     /// The fact at an address of a body.
-    pub(crate) fn of(
+    pub fn of(
         image: &'a Image,
         declaration: &'a Declaration<A>,
         claims: &'a C,
         body: &'a Body,
         at: Word,
-        fact: &'a Fact,
-        following: &'a FactCache,
-    ) -> ProgramPoint<'a, A, C>
-        requires body { IsBody (judged image.now declaration.now (C.claims claims.now)) at
-            body.now }
-        requires there { (C.claims claims.now).has_fact at ≡ true }
-        requires fact { meaning fact.now ≡ (C.claims claims.now).fact at }
-        requires following { Shows (C.claims claims.now) following.now }
-        ensures spot { IsProgramPoint C.claims result }
+        fact: &'a NarrowedFact,
+        near: usize,
+    ) -> Point<'a, A, C>
+        requires stands { (judged image.now declaration.now (C.claims claims.now)).declaration.body
+            body.now.routine at ≡ true }
+        requires tells { Tells (C.claims claims.now) body.now }
+        requires roomy { IsRoomy fact.now }
+        ensures point { IsPoint C.claims result }
         ensures case { case_of C.claims result ≡
             judged image.now declaration.now (C.claims claims.now) }
         ensures at { result.at ≡ at }
+        ensures routine { result.place.routine ≡ body.now.routine }
+        ensures fact { result.fact.now ≡ fact.now }
     {
-        let running = body.running();
-        let place = Place {
-            image,
-            declaration,
-            routine: running,
-        };
-        ProgramPoint {
+        let place = place_of(image, declaration, &body.routine, claims.rules());
+        Point {
             claims,
             place,
+            body,
             at,
             fact,
-            following,
+            near,
         }
     }
 }

@@ -1,4 +1,4 @@
-//! Certified programs: a tape, a declaration and a certificate that meets every condition.
+//! Certified programs: a tape, a declaration and a certificate of any version that meets every condition.
 
 ghost use Rattle.std.specs.Prelude.{◌≡◌, ◌≢◌, ◌⊎◌, Ok, Err, IfOk, IfErr, IsErrAnd, OnErr};
 ghost use Rattle.bin_tape.specs.Refuses.{Refuses};
@@ -7,16 +7,16 @@ ghost use Rattle.declaration.specs.Text.{Fails};
 ghost use Rattle.declaration.specs.declared.DeclarationFault.{DeclarationFault as DeclarationsFault};
 ghost use Rattle.declaration.specs.declared.DeclarationFault.TheVariants as declaration_fault;
 ghost use Rattle.certificate.specs.declared.CertificateFault.{CertificateFault as CertificatesFault};
-ghost use Rattle.certificate.specs.Spelling.{Lines};
-ghost use Rattle.certificate.specs.Faults.{reading};
+ghost use Rattle.certificate.specs.Sums.Reading.{Text, reading};
 ghost use Rattle.judge.specs.declared.judging.Refusal.{Refusal as Refusals};
 ghost use Rattle.judge.specs.declared.verdict.CertifyFault.TheVariants as fault;
 ghost use Rattle.peripherals.specs.World.{view, profile_of};
 ghost use Rattle.policy.specs.Runs.{IsSafe};
 ghost use Rattle.policy.specs.Watching.{IsClean, LeadsTo, StepPutsOut, begun};
-ghost use Rattle.judge.specs.Conditions.{IsValid};
-ghost use Rattle.judge.specs.Certifying.{AreRead, AreValid, FailFirst, IsRefused, IsRefusal, IsSomeTape, DeclaresSomething, case_of, declaration_of, words_of};
+ghost use Rattle.judge.specs.Sums.Conditions.{IsValid};
+ghost use Rattle.judge.specs.Sums.Certifying.{AreRead, AreValid, FailFirst, IsRefused, IsRefusal, IsSomeTape, DeclaresSomething, case_of, declaration_of, words_of};
 
+use crate::case::Rooms;
 use crate::judging::{Refusal, judge};
 use bin_tape::{Image, TapeFault, read_tape};
 use certificate::{Certificate, CertificateFault};
@@ -58,8 +58,8 @@ pub struct Certified<A: Allocator> {
 }
 
 impl<A: Allocator> Model for Certified<A> {
-    ghost use Rattle.judge.specs.Conditions.{IsValid};
-    ghost use Rattle.judge.specs.Certifying.{Parts, case_of};
+    ghost use Rattle.judge.specs.Sums.Conditions.{IsValid};
+    ghost use Rattle.judge.specs.Sums.Certifying.{Parts, case_of};
 
     ghost Value = { Parts };
 
@@ -145,9 +145,11 @@ impl<A: Allocator> Certified<A> {
 /// The bytes alone decide: a yes comes exactly where every condition holds of what they say, and
 /// each fault exactly where it is the first that there is, unless memory is refused.
 ///
+/// It needs 5 MB of stack, on which the rooms of the judgement stand. A caller with less lends [`judge`] rooms on the heap.
+///
 /// # Errors
 ///
-/// The first part that isn't good, in the order tape, declaration, certificate and conditions, with
+/// The first part that is not good, in the order tape, declaration, certificate and conditions, with
 /// its fault; `NoMemory` where a growth was refused while the declaration or the certificate was
 /// read.
 pub fn certify<A: Allocator + Copy>(
@@ -174,8 +176,8 @@ pub fn certify<A: Allocator + Copy>(
         DeclaresSomething declaration.now → reading certificate.now ≡ Err f →
         IsErrAnd result (λ g. (g ≡ fault.NoMemory) ⊎ (g ≡ fault.Certificate f)) }
     // Where all three are good only a condition refuses, unless memory is.
-    ensures judged { (ls : Lines) → IsSomeTape tape.now → DeclaresSomething declaration.now →
-        reading certificate.now ≡ Ok ls → IfErr result (λ g. (g ≡ fault.NoMemory) ⊎ IsRefusal g) }
+    ensures judged { (text : Text) → IsSomeTape tape.now → DeclaresSomething declaration.now →
+        reading certificate.now ≡ Ok text → IfErr result (λ g. (g ≡ fault.NoMemory) ⊎ IsRefusal g) }
     // Whichever condition fails first of three that are good is told, unless memory is refused.
     ensures refusal_told { (r : Refusals) →
         FailFirst tape.now declaration.now certificate.now r →
@@ -198,7 +200,7 @@ pub fn certify<A: Allocator + Copy>(
         Err(CertificateFault::NoMemory) => return Err(CertifyFault::NoMemory),
         Err(fault) => return Err(CertifyFault::Certificate(fault)),
     };
-    match judge(&image, &declaration, &certificate) {
+    match judge(&image, &declaration, &certificate, &mut Rooms::new()) {
         Ok(()) => Ok(Certified {
             image,
             declaration,

@@ -1,14 +1,17 @@
 //! Calls of the libraries that no command makes, each once.
 
 use crate::fixtures::{
-    HELLO, HELLO_CERTIFICATE, HELLO_DECLARED, HELLO_TAPE, HELLO_WORDS, PRINTED, image, rounds, word,
+    HELLO, HELLO_CERTIFICATE, HELLO_DECLARED, HELLO_TAPE, HELLO_WORDS, PRINTED, SEVERAL, image,
+    rounds, word,
 };
 use analyser::{GuessFault, Turns, guess_within};
+use bin_tape::Image;
 use certificate::{Certificate, Version};
 use declaration::Declaration;
-use facts::{CountedOffsets, Equation, Fact, Location, entails_return};
+use domain::{Chain, Location, ReturnOffsets, Rules, Step, Sum, Summand, Term};
+use facts::{Fact, NextFact, Place};
 use instruct::Profile;
-use judge::certify;
+use judge::{Claims, certify};
 use pal_asm::{assemble, translate};
 use pal_text::statements;
 use peripherals::Start;
@@ -144,51 +147,133 @@ const TEXT: &[u8] = b"PDP8-CERTIFICATE 2\n\
     exit 0214 3 ac 0001 mq 0000-7777 link 0\n\
     end\n";
 
+/// What a cell may hold by a fact.
+fn held(fact: &Fact, cell: u16) -> WordSet {
+    let mut set = WordSet::empty();
+    fact.put_set_of(&Location::Cell(word(cell)), &mut set);
+    set
+}
+
+/// The only fact at an address.
+fn only_fact(read: &Certificate<Global>, at: Word) -> Option<Fact> {
+    let mut fact = Fact::any();
+    if read.count_facts(at, 0) != 1 {
+        return None;
+    }
+    let _line = read.put_fact(at, 0, 0, &mut fact);
+    Some(fact)
+}
+
 /// Whether the fact at 0206 is told.
 fn fact_is_told(read: &Certificate<Global>, at: Word) -> bool {
-    let Some(fact) = read.fact(at) else {
+    let Some(fact) = only_fact(read, at) else {
         return false;
     };
     let registers = fact.accumulator().count() == 6 && fact.mq().is_all();
-    let details = fact.cells().len() == 1 && fact.equations().len() == 1;
-    registers && details && fact.set(&Location::Cell(word(0o10))).count() == 5
+    let details = fact.cells().len() == 1 && fact.relations().len() == 1;
+    registers && details && held(&fact, 0o10).count() == 5
 }
 
 /// Whether the routine and its exit are told.
 fn routine_is_told(read: &Certificate<Global>, entry: Word) -> bool {
-    let (Some(routine), Some(exit)) = (read.routine(entry), read.exit(entry, 3)) else {
+    let Some(routine) = read.routine(entry) else {
         return false;
     };
+    if read.count_exits(entry, 1) != 0 || read.count_exits(entry, 3) != 1 {
+        return false;
+    }
+    let mut exit = Fact::any();
+    read.put_exit(entry, 3, 0, &mut exit);
     routine.rank == 9
         && routine.sites.only() == Some(word(0o207))
         && routine.writes.count() == 2
         && exit.accumulator().only() == Some(word(1))
-        && read.exit(entry, 1).is_none()
 }
 
 #[test]
 fn a_certificate_tells_its_lines(rt: HostRuntime) -> Result<(), Fail> {
     let read = Certificate::parse(rt.alloc(), TEXT)?;
     let (entry, at) = (word(0o214), word(0o206));
-    assert!(rt; read.version() == Version::Two && read.next_claimed(0o207) == Some(entry));
-    assert!(rt; read.names(entry) && !read.names(at) && read.fact(entry).is_none());
+    assert!(rt; read.version() == Version::Two && read.next_claimed(0o207, 0) == Some(entry));
+    assert!(rt; read.names(entry) && !read.names(at) && read.count_facts(entry, 0) == 0);
     assert!(rt; fact_is_told(&read, at) && routine_is_told(&read, entry));
     Ok(())
+}
+
+/// Whether the relations of the first fact are told.
+fn relations_are_told(fact: &Fact) -> bool {
+    let relations = fact.relations().as_slice();
+    if relations.len() != 3 {
+        return false;
+    }
+    let behind = Term::Behind {
+        cell: word(0o11),
+        more: word(0o7777),
+    };
+    relations[0].sum.len() == 2
+        && relations[0].sum.get(1).coefficient == word(0o12)
+        && relations[0].set.only() == Some(word(0o65))
+        && relations[1].sum.len() == 3
+        && relations[1].sum.get(1).coefficient == word(0o7777)
+        && relations[2].sum.len() == 2
+        && relations[2].sum.get(1).term == behind
+}
+
+/// Whether a chain is the one of the first fact.
+fn chain_is_told(chain: &Chain) -> bool {
+    chain.cell() == word(0o10)
+        && chain.more() == word(3)
+        && chain.links() == Links::one(Link::CLEAR)
+        && chain.steps() == [Step::Operates(word(0o7006)), Step::Ands(word(0o77))].as_slice()
+}
+
+/// Whether both facts are told.
+fn both_are_told(read: &Certificate<Global>, at: Word) -> bool {
+    let (mut first, mut second) = (Fact::any(), Fact::any());
+    if read.count_facts(at, 0) != 2 {
+        return false;
+    }
+    let line = read.put_fact(at, 0, 0, &mut first);
+    let _line = read.put_fact(at, line, 1, &mut second);
+    let registers = first.sites().only() == Some(word(0o202))
+        && first.offsets().contains(10)
+        && held(&first, 0o10).count() == 5;
+    let apart = second.sites().only() == Some(word(0o206))
+        && second.link() == Links::both()
+        && second.relations().len() == 0;
+    let chained = first.chains().len() == 1 && chain_is_told(&first.chains()[0]);
+    registers && apart && chained && relations_are_told(&first)
+}
+
+#[test]
+fn several_facts_are_told_in_their_order(rt: HostRuntime) -> Result<(), Fail> {
+    let read = Certificate::parse(rt.alloc(), SEVERAL)?;
+    let (entry, at) = (word(0o214), word(0o215));
+    assert!(rt; read.version() == Version::Three && both_are_told(&read, at));
+    assert!(rt; read.next_offset(entry, 0) == Some(10) && read.next_offset(entry, 11).is_none());
+    assert!(rt; read.count_exits(entry, 10) == 2);
+    let mut exit = Fact::any();
+    read.put_exit(entry, 10, 1, &mut exit);
+    assert!(rt; exit.accumulator().only() == Some(word(1)) && exit.offsets().contains(63));
+    Ok(())
+}
+
+/// The word in 0010 less that in 0224.
+fn pointer_less_count() -> Sum {
+    Sum::difference(Location::Cell(word(0o10)), Location::Cell(word(0o224)))
 }
 
 /// HELLO's fact at 0210, after it typed a letter: the pointer in 0010 and the count in 0224 go
 /// together.
 fn after_a_letter() -> Fact {
     let mut fact = Fact::any();
-    fact.set_accumulator(WordSet::one(Word::ZERO));
+    // Only of a fact that forgot all is it said that there is room for cells.
+    fact.forget();
+    fact.set_accumulator(&WordSet::one(Word::ZERO));
     fact.set_link(Links::one(Link::CLEAR));
-    fact.track(word(0o10), WordSet::range(word(0o225), word(0o231)));
-    fact.track(word(0o224), WordSet::range(word(0o7773), word(0o7777)));
-    fact.relate(Equation {
-        left: Location::Cell(word(0o10)),
-        right: word(0o224),
-        more: word(0o232),
-    });
+    fact.track(word(0o10), &WordSet::range(word(0o225), word(0o231)));
+    fact.track(word(0o224), &WordSet::range(word(0o7773), word(0o7777)));
+    fact.relate_one(&pointer_less_count(), word(0o232));
     fact
 }
 
@@ -197,27 +282,77 @@ fn a_fact_tells_what_it_was_told(rt: HostRuntime) {
     let mut fact = after_a_letter();
     assert!(rt; fact.accumulator().only() == Some(Word::ZERO) && fact.mq().is_all());
     assert_eq!(rt; fact.link(), Links::one(Link::CLEAR));
-    assert!(rt; fact.cells().len() == 2 && !fact.is_full_of_cells());
-    assert!(rt; fact.equations().len() == 1 && !fact.is_full_of_equations());
-    assert_eq!(rt; fact.set(&Location::Cell(word(0o10))).count(), 5);
-    assert!(rt; fact.set(&Location::Cell(word(0o11))).is_all() && fact.offsets().is_empty());
-    fact.set_mq(WordSet::range(word(3), word(5)));
-    let mut offsets = CountedOffsets::none();
+    assert!(rt; fact.cells().len() == 2 && !fact.cells().is_full());
+    assert!(rt; fact.relations().len() == 1 && !fact.relations().is_full());
+    assert_eq!(rt; held(&fact, 0o10).count(), 5);
+    assert!(rt; held(&fact, 0o11).is_all() && fact.offsets().is_empty());
+    fact.set_mq(&WordSet::range(word(3), word(5)));
+    let mut offsets = ReturnOffsets::none();
     offsets.insert(7);
     fact.set_offsets(offsets);
-    assert!(rt; fact.mq().count() == 3 && fact.offsets() == offsets);
+    assert!(rt;
+        fact.mq().count() == 3 && fact.offsets().contains(7) && !fact.offsets().contains(6)
+    );
+}
+
+/// Ten times the word in 0224, and that in 0010.
+fn pointer_and_tens() -> Sum {
+    let mut sum = Sum::of_name(Location::Cell(word(0o10)));
+    sum.push(Summand {
+        coefficient: word(0o12),
+        term: Term::Holding(Location::Cell(word(0o224))),
+    });
+    sum
 }
 
 #[test]
-fn a_return_brings_the_exit_and_keeps_what_is_not_written(rt: HostRuntime) {
-    let hello = after_a_letter();
+fn a_sum_is_known_from_its_parts(rt: HostRuntime) {
+    let image = Image::empty();
+    let mut fact = Fact::any();
+    // Only of a fact that forgot all is it said that there is room for cells.
+    fact.forget();
+    fact.track(word(0o10), &WordSet::range(word(1), word(2)));
+    fact.track(word(0o224), &WordSet::one(word(3)));
+    let mut set = WordSet::empty();
+    fact.put_said_of(&image, &pointer_and_tens(), &mut set);
+    assert!(rt; set == WordSet::range(word(0o37), word(0o40)));
+    fact.relate(&pointer_and_tens(), &WordSet::range(word(0o40), word(0o44)));
+    fact.put_said_of(&image, &pointer_and_tens(), &mut set);
+    assert!(rt; set == WordSet::one(word(0o40)));
+    fact.put_narrowed(&image, &Location::Cell(word(0o10)), &mut set);
+    assert!(rt; set.only() == Some(word(2)));
+}
+
+/// Whether what is known at a call and the exit that says AC and the link are 0 entail HELLO's fact behind the call, where
+/// these cells were written.
+fn returns_to_hello(declared: &Declaration<Global>, rules: Rules, written: &WordSet) -> bool {
+    let image = Image::empty();
+    let place = Place {
+        image: &image,
+        declaration: declared,
+        routine: None,
+        rules,
+    };
     let mut call = after_a_letter();
-    call.set_accumulator(WordSet::range(word(0o305), word(0o317)));
+    call.set_accumulator(&WordSet::range(word(0o305), word(0o317)));
     let mut exit = Fact::any();
-    exit.set_accumulator(WordSet::one(Word::ZERO));
+    exit.set_accumulator(&WordSet::one(Word::ZERO));
     exit.set_link(Links::one(Link::CLEAR));
-    exit.set_offsets(CountedOffsets::all());
-    let none = WordSet::empty();
-    assert!(rt; entails_return(&call, &exit, &none, &hello));
-    assert!(rt; !entails_return(&call, &exit, &WordSet::one(word(0o224)), &hello));
+    exit.set_offsets(ReturnOffsets::all());
+    call.is_within_room();
+    exit.is_within_room();
+    let mut after = NextFact::any();
+    after.take_joined(&rules, &call, &exit, written);
+    place.entails(&after, &after_a_letter())
+}
+
+#[test]
+fn a_return_brings_the_exit_and_keeps_what_is_not_written(rt: HostRuntime) -> Result<(), Fail> {
+    let declared = Declaration::parse(rt.alloc(), HELLO_DECLARED)?;
+    let count = WordSet::one(word(0o224));
+    for rules in &[Rules::OfEquations, Rules::OfSums] {
+        assert!(rt; returns_to_hello(&declared, *rules, &WordSet::empty()));
+        assert!(rt; !returns_to_hello(&declared, *rules, &count));
+    }
+    Ok(())
 }

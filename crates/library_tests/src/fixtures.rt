@@ -44,6 +44,21 @@ pub const HELLO_CERTIFICATE: &[u8] = b"PDP8-CERTIFICATE 1\n\
     fact 0217 ac 0305,0310,0314,0317 link 0 offsets 0\nfact 0220 ac 0305,0310,0314,0317 link 0 offsets 0\n\
     fact 0221 ac 0000 link 0 offsets 0\nexit 0214 0 ac 0000 link 0\nend\n";
 
+/// A certificate of version 3 with each kind of line: two facts stand at one address, told apart by their sites, and there are
+/// two exits for one offset.
+pub const SEVERAL: &[u8] = b"PDP8-CERTIFICATE 3\n\
+    routine 0214 rank 11 sites 0202,0206 writes 0010\n\
+    fact 0215 sites 0202 ac 0000 mq 0000-7777 link 1 offsets 00,12\n\
+    cell 0010 0225-0231\n\
+    sum AC 0012 0010 in 0065\n\
+    sum AC - 0010 + 0011 in 0000-0005\n\
+    sum 0010 - [0011+7777] in 0000\n\
+    func 0010 0003 link 0 7006 AND 0077\n\
+    fact 0215 sites 0206 ac 0001 mq 0000-7777 link 01 offsets 01\n\
+    exit 0214 12 sites 0202 ac 0000 mq 0000-7777 link 0\n\
+    exit 0214 12 sites 0206 ac 0001 mq 0000-7777 link 0\n\
+    end\n";
+
 /// The word of a number.
 pub fn word(value: u16) -> Word {
     Word::new(value).unwrap_or(Word::ZERO)

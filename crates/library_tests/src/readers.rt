@@ -1,6 +1,6 @@
 //! Tapes and certificates that come in pieces, from readers that fail, and from readers that never end.
 
-use crate::fixtures::{HELLO_CERTIFICATE, HELLO_TAPE, HELLO_WORDS, image};
+use crate::fixtures::{HELLO_CERTIFICATE, HELLO_TAPE, HELLO_WORDS, SEVERAL, image};
 use bin_tape::{ByteSource, Failed, TapeFault, read_from, read_tape};
 use certificate::{Certificate, CertificateFault};
 use std::alloc::Global;
@@ -70,44 +70,53 @@ fn told_of(
     (fault, source.failed())
 }
 
-#[test]
-fn a_certificate_that_is_cut_anywhere_is_told(rt: HostRuntime) {
+/// How many lines a certificate has, if it is told of each front of it, in pieces of each size, which line is lacking.
+fn lines_if_told(heap: Global, text: &[u8]) -> Option<usize> {
     let mut lines = 0usize;
-    for (cut, byte) in HELLO_CERTIFICATE.iter().enumerate() {
+    for (cut, byte) in text.iter().enumerate() {
         let wanted = match lines {
             0 => CertificateFault::Version,
             _ => CertificateFault::BadLine(lines.saturating_add(1)),
         };
-        let front = &HELLO_CERTIFICATE[..cut];
         for piece in PIECES {
-            let told = told_of(rt.alloc(), front, piece, usize::MAX);
-            assert_eq!(rt; told, (Some(wanted), false), "{cut}");
+            if told_of(heap, &text[..cut], piece, usize::MAX) != (Some(wanted), false) {
+                return None;
+            }
         }
         if *byte == b'\n' {
             lines = lines.saturating_add(1);
         }
     }
-    assert_eq!(rt; lines, 35);
+    Some(lines)
+}
+
+#[test]
+fn a_certificate_that_is_cut_anywhere_is_told(rt: HostRuntime) {
+    assert_eq!(rt; lines_if_told(rt.alloc(), HELLO_CERTIFICATE), Some(35));
+    assert_eq!(rt; lines_if_told(rt.alloc(), SEVERAL), Some(12));
+}
+
+/// Whether it is told of a certificate that a read fails, after any number of reads, and nothing is told where none does.
+fn failures_are_told(heap: Global, text: &[u8]) -> bool {
+    for reads in 0..=text.len() {
+        if told_of(heap, text, 1, reads) != (Some(CertificateFault::ReadFault), true) {
+            return false;
+        }
+    }
+    for piece in PIECES {
+        if told_of(heap, text, piece, text.len().saturating_add(1)) != (None, false) {
+            return false;
+        }
+    }
+    true
 }
 
 #[test]
 fn a_read_of_a_certificate_that_fails_is_told(rt: HostRuntime) {
-    let length = HELLO_CERTIFICATE.len();
-    for reads in 0..=length {
-        let told = told_of(rt.alloc(), HELLO_CERTIFICATE, 1, reads);
-        assert_eq!(rt; told, (Some(CertificateFault::ReadFault), true), "{reads}");
-    }
-    for piece in PIECES {
-        let told = told_of(
-            rt.alloc(),
-            HELLO_CERTIFICATE,
-            piece,
-            length.saturating_add(1),
-        );
-        assert_eq!(rt; told, (None, false), "{piece}");
-    }
+    assert!(rt; failures_are_told(rt.alloc(), HELLO_CERTIFICATE));
+    assert!(rt; failures_are_told(rt.alloc(), SEVERAL));
     // A fault is told before a failure.
-    let told = told_of(rt.alloc(), b"PDP8-CERTIFICATE 3\nmore", 1, 19);
+    let told = told_of(rt.alloc(), b"PDP8-CERTIFICATE 4\nmore", 1, 19);
     assert_eq!(rt; told, (Some(CertificateFault::Version), false));
 }
 
@@ -153,8 +162,8 @@ impl Endless {
 }
 
 /// Texts that never end, their faults, and how many bytes are read of them.
-const ENDLESS: [(&[u8], CertificateFault, usize); 3] = [
-    (b"PDP8-CERTIFICATE 3\n", CertificateFault::Version, 512),
+const ENDLESS: [(&[u8], CertificateFault, usize); 4] = [
+    (b"PDP8-CERTIFICATE 4\n", CertificateFault::Version, 512),
     (
         b"PDP8-CERTIFICATE 1\nmore\n",
         CertificateFault::BadLine(2),
@@ -162,6 +171,11 @@ const ENDLESS: [(&[u8], CertificateFault, usize); 3] = [
     ),
     (
         b"PDP8-CERTIFICATE 1\n",
+        CertificateFault::TooMany,
+        1_048_577,
+    ),
+    (
+        b"PDP8-CERTIFICATE 3\n",
         CertificateFault::TooMany,
         1_048_577,
     ),

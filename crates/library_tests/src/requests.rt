@@ -2,7 +2,8 @@
 //! a refusal. Each refusal is told, and nothing else is told in its place.
 
 use crate::fixtures::{
-    HELLO, HELLO_CERTIFICATE, HELLO_DECLARED, HELLO_TAPE, HELLO_WORDS, PRINTED, image, rounds, word,
+    HELLO, HELLO_CERTIFICATE, HELLO_DECLARED, HELLO_TAPE, HELLO_WORDS, PRINTED, SEVERAL, image,
+    rounds, word,
 };
 use analyser::{GuessFault, guess};
 use certificate::{Certificate, CertificateFault};
@@ -61,6 +62,14 @@ fn fault_in_pieces<A: Allocator + Copy>(alloc: A, text: &[u8]) -> Option<Certifi
     Certificate::read_from(alloc, &mut source).err()
 }
 
+/// How a certification ends. It is never inlined, so that the other calls, some of which need half of the stack themselves,
+/// do not keep the judge's rooms on the stack as well.
+#[inline(never)]
+fn certification_answer<A: Allocator + Copy>(alloc: A) -> Answer {
+    let fault = certify(alloc, HELLO_TAPE, HELLO_DECLARED, HELLO_CERTIFICATE).err();
+    told(fault, CertifyFault::NoMemory)
+}
+
 fn guess_answer<A: Allocator + Copy>(alloc: A, heap: Global) -> Answer {
     let Ok(declared) = Declaration::parse(heap, HELLO_DECLARED) else {
         return Answer::Fault;
@@ -109,10 +118,7 @@ fn answer_of<A: Allocator + Copy>(alloc: A, heap: Global, call: &Call<'_>) -> An
         ),
         Call::Certificate(text) => told(Certificate::parse(alloc, text).err(), no_lines),
         Call::Pieces(text) => told(fault_in_pieces(alloc, text), no_lines),
-        Call::Certification => told(
-            certify(alloc, HELLO_TAPE, HELLO_DECLARED, HELLO_CERTIFICATE).err(),
-            CertifyFault::NoMemory,
-        ),
+        Call::Certification => certification_answer(alloc),
         Call::Guess => guess_answer(alloc, heap),
         Call::Watch => watch_answer(alloc, heap),
         Call::Run => run_answer(alloc, heap),
@@ -157,7 +163,7 @@ const SUBS: &[u8] =
     sub 410 body 411 returns 0\nsub 412 body 413 returns 0\n";
 
 /// Calls that are done where they get memory, and how often they ask at least.
-const DONE: [(Call<'static>, u64); 20] = [
+const DONE: [(Call<'static>, u64); 22] = [
     (Call::Events(EVENTS), 3),
     (Call::Statements(b"*10;TAD 20;$"), 4),
     (Call::Statements(b"A=5\nPAUSE\n"), 4),
@@ -174,6 +180,8 @@ const DONE: [(Call<'static>, u64); 20] = [
     (Call::Declaration(SUBS), 1),
     (Call::Certificate(HELLO_CERTIFICATE), 1),
     (Call::Pieces(HELLO_CERTIFICATE), 1),
+    (Call::Certificate(SEVERAL), 1),
+    (Call::Pieces(SEVERAL), 1),
     (Call::Certification, 2),
     (Call::Guess, 21),
     (Call::Watch, 2),
@@ -219,7 +227,7 @@ const NO_ROUTINE: &[u8] = b"PDP8-CERTIFICATE 1\nroutine 0214 rank 00 sites 0207 
 
 /// Calls that ask for memory just so often, and how they end. A part has a token and a statement, and a line where a byte isn't
 /// ignored.
-const COUNTED: [(Call<'static>, u64, Answer); 11] = [
+const COUNTED: [(Call<'static>, u64, Answer); 13] = [
     (Call::Events(b"\nbad"), 0, Answer::Fault),
     (Call::Events(b"step 1000000\nstep"), 1, Answer::Fault),
     (Call::Statements(b""), 2, Answer::Done),
@@ -229,6 +237,8 @@ const COUNTED: [(Call<'static>, u64, Answer); 11] = [
     (Call::Declaration(b"sub 1"), 0, Answer::Fault),
     (Call::Pieces(b"PDP8-CERTIFICATE 1\nend\n"), 0, Answer::Done),
     (Call::Pieces(b"PDP8-CERTIFICATE 2\n"), 0, Answer::Fault),
+    (Call::Pieces(b"PDP8-CERTIFICATE 3\nend\n"), 0, Answer::Done),
+    (Call::Pieces(b"PDP8-CERTIFICATE 4\n"), 0, Answer::Fault),
     (Call::Pieces(b""), 0, Answer::Fault),
     (Call::Pieces(NO_ROUTINE), 0, Answer::Fault),
 ];

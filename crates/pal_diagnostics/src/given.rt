@@ -2,7 +2,7 @@
 
 use crate::findings::Finding;
 use crate::lines::count_characters;
-use crate::meanings::{Meanings, Spot};
+use crate::meanings::{Meanings, Occurrence};
 use crate::pieces::name_of;
 use crate::statement::Faulty;
 use crate::symbols::{Source, letters_of, push_line_of, push_written, written};
@@ -16,8 +16,8 @@ fn push_other_advice<A: Allocator + Copy>(
     alloc: A,
     text: &mut String<A>,
     source: &Source<'_>,
-    one: Spot,
-    other: Spot,
+    one: Occurrence,
+    other: Occurrence,
 ) -> Result<(), AllocError> {
     let first = written(source, one);
     let second = written(source, other);
@@ -44,20 +44,20 @@ fn about_other_value<A: Allocator + Copy>(
     alloc: A,
     source: &Source<'_>,
     before: &Meanings<'_, A>,
-    spot: Spot,
+    occurrence: Occurrence,
     had: Word,
     value: Word,
 ) -> Result<Finding<A>, AllocError> {
     let mut wrong = String::new(alloc);
     let mut advice = String::new(alloc);
-    push_written(&mut wrong, source, spot)?;
-    match before.spot(&Name::new(written(source, spot))) {
+    push_written(&mut wrong, source, occurrence)?;
+    match before.occurrence(&Name::new(written(source, occurrence))) {
         Some(first) => {
             write!(
                 wrong,
                 " already has the value {had}, and would be {value} here"
             )?;
-            push_other_advice(alloc, &mut advice, source, first, spot)?;
+            push_other_advice(alloc, &mut advice, source, first, occurrence)?;
         }
         None => {
             write!(
@@ -68,8 +68,8 @@ fn about_other_value<A: Allocator + Copy>(
         }
     }
     Ok(Finding {
-        start: spot.start,
-        end: spot.end,
+        start: occurrence.start,
+        end: occurrence.end,
         wrong,
         advice,
     })
@@ -79,14 +79,14 @@ fn about_other_value<A: Allocator + Copy>(
 fn about_direction<A: Allocator + Copy>(
     alloc: A,
     source: &Source<'_>,
-    spot: Spot,
+    occurrence: Occurrence,
     direction: &'static str,
 ) -> Result<Finding<A>, AllocError> {
     let mut wrong = String::new(alloc);
-    push_written(&mut wrong, source, spot)?;
+    push_written(&mut wrong, source, occurrence)?;
     wrong.push_str(" cannot be a symbol")?;
     let mut advice = String::new(alloc);
-    if count_characters(written(source, spot)) > direction.len() {
+    if count_characters(written(source, occurrence)) > direction.len() {
         write!(
             advice,
             "only six characters of a symbol count, so it is {direction}: "
@@ -94,8 +94,8 @@ fn about_direction<A: Allocator + Copy>(
     }
     advice.push_str("use another symbol")?;
     Ok(Finding {
-        start: spot.start,
-        end: spot.end,
+        start: occurrence.start,
+        end: occurrence.end,
         wrong,
         advice,
     })
@@ -106,10 +106,10 @@ fn about_given<A: Allocator + Copy>(
     alloc: A,
     source: &Source<'_>,
     before: &Meanings<'_, A>,
-    spot: Spot,
+    occurrence: Occurrence,
     value: Word,
 ) -> Result<Option<Finding<A>>, AllocError> {
-    let name = Name::new(written(source, spot));
+    let name = Name::new(written(source, occurrence));
     let direction = match name.kind() {
         Kind::Decimal => "DECIMAL",
         Kind::Octal => "OCTAL",
@@ -117,18 +117,18 @@ fn about_given<A: Allocator + Copy>(
         _ => {
             return match before.symbols.get(&name) {
                 Some(had) if had != value => {
-                    Ok(Some(about_other_value(alloc, source, before, spot, had, value)?))
+                    Ok(Some(about_other_value(alloc, source, before, occurrence, had, value)?))
                 }
                 _ => Ok(None),
             };
         }
     };
-    Ok(Some(about_direction(alloc, source, spot, direction)?))
+    Ok(Some(about_direction(alloc, source, occurrence, direction)?))
 }
 
 /// Where a token of a statement stands.
-fn spot_of<A: Allocator>(faulty: &Faulty<A>, token: Token) -> Spot {
-    Spot {
+fn occurrence_of<A: Allocator>(faulty: &Faulty<A>, token: Token) -> Occurrence {
+    Occurrence {
         part: faulty.part,
         start: token.start,
         end: token.end,
@@ -144,8 +144,8 @@ pub(crate) fn about_tags<A: Allocator + Copy>(
 ) -> Result<Option<Finding<A>>, AllocError> {
     for token in faulty.tags() {
         if token.kind == Kind::Symbol {
-            let spot = spot_of(faulty, *token);
-            let found = about_given(alloc, source, before, spot, before.here)?;
+            let occurrence = occurrence_of(faulty, *token);
+            let found = about_given(alloc, source, before, occurrence, before.here)?;
             if found.is_some() {
                 return Ok(found);
             }
@@ -168,25 +168,25 @@ pub(crate) fn about_assignment<A: Allocator + Copy>(
     let Some(value) = before.value(alloc, bytes, faulty.operand())? else {
         return Ok(None);
     };
-    about_given(alloc, source, before, spot_of(faulty, *token), value)
+    about_given(alloc, source, before, occurrence_of(faulty, *token), value)
 }
 
 /// What is said about one symbol too many.
 fn about_new<A: Allocator + Copy>(
     alloc: A,
     source: &Source<'_>,
-    spot: Spot,
+    occurrence: Occurrence,
 ) -> Result<Finding<A>, AllocError> {
     let mut wrong = String::new(alloc);
-    push_written(&mut wrong, source, spot)?;
+    push_written(&mut wrong, source, occurrence)?;
     wrong.push_str(" would be the 1025th symbol")?;
     let advice = String::from_str(
         alloc,
         "a source has at most 1024 symbols of its own: refer to nearby cells with .+1 or .-1",
     )?;
     Ok(Finding {
-        start: spot.start,
-        end: spot.end,
+        start: occurrence.start,
+        end: occurrence.end,
         wrong,
         advice,
     })
@@ -202,7 +202,7 @@ pub(crate) fn about_room<A: Allocator + Copy>(
     for token in &faulty.tokens {
         let name = name_of(source.bytes(faulty.part), *token);
         if token.kind == Kind::Symbol && before.symbols.get(&name).is_none() {
-            return Ok(Some(about_new(alloc, source, spot_of(faulty, *token))?));
+            return Ok(Some(about_new(alloc, source, occurrence_of(faulty, *token))?));
         }
     }
     Ok(None)

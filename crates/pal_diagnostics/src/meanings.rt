@@ -11,7 +11,7 @@ use word12::Word;
 /// Where a symbol stands: the number of its part, counted from 0, and the byte at which it begins and the
 /// one after it.
 #[derive(Clone, Copy)]
-pub(crate) struct Spot {
+pub(crate) struct Occurrence {
     pub(crate) part: usize,
     pub(crate) start: usize,
     pub(crate) end: usize,
@@ -22,7 +22,7 @@ pub(crate) struct Spot {
 #[derive(Drop)]
 pub(crate) struct Meanings<'p, A: Allocator + Copy> {
     pub(crate) symbols: Symbols<'p, A>,
-    pub(crate) spots: Vec<Spot, A>,
+    pub(crate) occurrences: Vec<Occurrence, A>,
     pub(crate) here: Word,
     pub(crate) is_decimal: bool,
 }
@@ -105,16 +105,16 @@ impl<'p, A: Allocator + Copy> Meanings<'p, A> {
                 permanent,
                 own: IndexMap::new(alloc),
             },
-            spots: Vec::new(alloc),
+            occurrences: Vec::new(alloc),
             here: Word::from_index(0o200),
             is_decimal: false,
         }
     }
 
     /// Where a symbol of the source's own got its value.
-    pub(crate) fn spot(&self, name: &Name) -> Option<Spot> {
+    pub(crate) fn occurrence(&self, name: &Name) -> Option<Occurrence> {
         let index = self.symbols.own.get_index_of(name)?;
-        self.spots.get(index).copied()
+        self.occurrences.get(index).copied()
     }
 
     /// The value of an expression, if each symbol in it has one.
@@ -129,10 +129,15 @@ impl<'p, A: Allocator + Copy> Meanings<'p, A> {
     }
 
     /// Gives a symbol a value, if it has none.
-    fn define(&mut self, name: Name, value: Word, spot: Spot) -> Result<(), AllocError> {
+    fn define(
+        &mut self,
+        name: Name,
+        value: Word,
+        occurrence: Occurrence,
+    ) -> Result<(), AllocError> {
         if self.symbols.get(&name).is_none() {
             self.symbols.own.insert(name, value)?;
-            self.spots.push(spot)?;
+            self.occurrences.push(occurrence)?;
         }
         Ok(())
     }
@@ -145,12 +150,12 @@ impl<'p, A: Allocator + Copy> Meanings<'p, A> {
         token: Token,
         value: Word,
     ) -> Result<(), AllocError> {
-        let spot = Spot {
+        let occurrence = Occurrence {
             part,
             start: token.start,
             end: token.end,
         };
-        self.define(name_of(bytes, token), value, spot)
+        self.define(name_of(bytes, token), value, occurrence)
     }
 
     /// Takes the tags of a statement.

@@ -23,7 +23,7 @@ fn about_undefined<A: Allocator + Copy>(
     let mut wrong = String::new(alloc);
     let mut advice = String::new(alloc);
     push_characters(&mut wrong, bytes_between(bytes, token.start, token.end))?;
-    if known.spot(&name).is_some() {
+    if known.occurrence(&name).is_some() {
         wrong.push_str(" has no value yet")?;
         push_defined(alloc, &mut advice, source, known, &name, part)?;
         advice.push_str(" must come before an origin or an assignment that uses it")?;

@@ -1,7 +1,7 @@
 //! What is said about symbols.
 
 use crate::lines::{bytes_between, line_at, push_characters};
-use crate::meanings::{Meanings, Spot};
+use crate::meanings::{Meanings, Occurrence};
 use instruct::Profile;
 use pal_acts::{Name, SymbolTable, permanent_table};
 use std::alloc::{AllocError, Allocator};
@@ -48,17 +48,21 @@ impl<'s> Source<'s> {
 }
 
 /// The bytes of a symbol as it is written.
-pub(crate) fn written<'s>(source: &Source<'s>, spot: Spot) -> &'s [u8] {
-    bytes_between(source.bytes(spot.part), spot.start, spot.end)
+pub(crate) fn written<'s>(source: &Source<'s>, occurrence: Occurrence) -> &'s [u8] {
+    bytes_between(
+        source.bytes(occurrence.part),
+        occurrence.start,
+        occurrence.end,
+    )
 }
 
 /// Adds a symbol as it is written.
 pub(crate) fn push_written<A: Allocator>(
     text: &mut String<A>,
     source: &Source<'_>,
-    spot: Spot,
+    occurrence: Occurrence,
 ) -> Result<(), AllocError> {
-    push_characters(text, written(source, spot))
+    push_characters(text, written(source, occurrence))
 }
 
 /// The characters of a name that count.
@@ -74,14 +78,14 @@ pub(crate) fn push_line_of<A: Allocator + Copy>(
     alloc: A,
     text: &mut String<A>,
     source: &Source<'_>,
-    spot: Spot,
+    occurrence: Occurrence,
     part: usize,
 ) -> Result<(), AllocError> {
-    let found = line_at(alloc, source.bytes(spot.part), spot.start)?;
+    let found = line_at(alloc, source.bytes(occurrence.part), occurrence.start)?;
     let number = found.number;
     write!(text, "line {number}")?;
-    if spot.part != part {
-        let name = source.name(spot.part);
+    if occurrence.part != part {
+        let name = source.name(occurrence.part);
         write!(text, " of {name}")?;
     }
     Ok(())
@@ -96,12 +100,12 @@ pub(crate) fn push_defined<A: Allocator + Copy>(
     name: &Name,
     part: usize,
 ) -> Result<(), AllocError> {
-    let Some(spot) = known.spot(name) else {
+    let Some(occurrence) = known.occurrence(name) else {
         return Ok(());
     };
-    push_written(text, source, spot)?;
+    push_written(text, source, occurrence)?;
     text.push_str(", defined on ")?;
-    push_line_of(alloc, text, source, spot, part)?;
+    push_line_of(alloc, text, source, occurrence, part)?;
     text.push(',')
 }
 
@@ -169,11 +173,11 @@ fn push_nearest<A: Allocator + Copy>(
     part: usize,
 ) -> Result<(), AllocError> {
     if let Some(own) = nearest(alloc, &known.symbols.own, wanted)? {
-        if let Some(spot) = known.spot(&own) {
+        if let Some(occurrence) = known.occurrence(&own) {
             text.push_str("do you mean ")?;
-            push_written(text, source, spot)?;
+            push_written(text, source, occurrence)?;
             text.push_str(" of ")?;
-            push_line_of(alloc, text, source, spot, part)?;
+            push_line_of(alloc, text, source, occurrence, part)?;
             text.push_str("? Otherwise ")?;
         }
     } else if let Some(permanent) = nearest(alloc, known.symbols.permanent, wanted)? {

@@ -1,19 +1,28 @@
 -- Which cells are touched, and read.
-use Rattle.std.proofs.Common.{◌≡◌, ℕ, ◌+◌, ◌<◌, Bool, true, false, List, Some, inl, inr, sym, ap, ◌∙◌, subst, refl, arith}
-use Rattle.std.specs.Prelude.{◌↔◌, ◌&&◌, ◌||◌, not}
+use Rattle.std.proofs.Common.{◌≡◌, ℕ, ◌+◌, ◌<◌, ◌≤◌, Bool, true, false, List, [], ◌∷◌, ◌++◌, drop, length, None, Some, inl, inr, sym, ap, ◌∙◌, subst, refl, arith}
+use Rattle.std.specs.Prelude.{◌↔◌, ◌&&◌, ◌||◌, ◌⊎◌, not}
+use Rattle.std.proofs.Math.ListN.{drop_of_length-le}
 use Rattle.std.proofs.lemmas.Bool.{cases_eq, or_cases, true≢false}
 use Rattle.wordset.specs.Words.{HasNoneFrom, Words, nothing, some_below, union}
 use Rattle.wordset.specs.Lanes.{words}
 use Rattle.wordset.specs.Iterating.{GoesFrom}
 use Rattle.wordset.specs.declared.iter.Iter.{Iter}
 use Rattle.wordset.proofs.IterLemmas.{Gathered, all_gathered}
-use Rattle.wordset.proofs.Tests.{IsSome, and_both, and_first, and_second, some_from, some_to}
-use Rattle.declaration.specs.Declaration.{Routine}
-use Rattle.domain.specs.Facts.{Fact, Place, possible}
-use Rattle.facts.specs.Outcomes.{meaning_at}
-use Rattle.judge.specs.Conditions.{Case, IsIn, fact_at, place_in}
-use Rattle.proposer.specs.Needed.{IsReadSomewhere}
-use Rattle.proposer.specs.Touched.{IsTouched, IsTouchedBy, IsTouchedFrom, has_line, is_own, touches}
+use Rattle.wordset.proofs.Tests.{IsSome, and_both, and_first, and_second, some_from, some_none_of, some_to}
+use Rattle.declaration.specs.Declaration.{IsDeclared, Routine}
+use Rattle.domain.specs.Sums.Facts.{Fact, Place, Rules, OfEquations, OfSums}
+use Rattle.domain.specs.Sums.FactInCode.{nothing_known}
+use Rattle.facts.specs.Sums.Landing.{fact_at}
+use Rattle.facts.specs.Sums.PlaceInCode.{meaning_in}
+use Rattle.facts.specs.Sums.References.{possible}
+use Rattle.facts.proofs.Sums.SplitLemmas.{fact_dropped}
+use Rattle.certificate.specs.Sums.Certificate.{Certificate}
+use Rattle.judge.specs.Sums.Asked.{asked_of}
+use Rattle.judge.specs.Sums.Conditions.{HasSites, IsPlaced}
+use Rattle.judge.specs.Sums.Landing.{Case, place_in, sites_of}
+use Rattle.judge.proofs.Sums.AskedLemmas.{asked_of_first, nothing_asked}
+use Rattle.proposer.specs.Needed.{IsReadBy, IsReadSomewhere, SomeFact}
+use Rattle.proposer.specs.Touched.{IsTouched, IsTouchedAt, IsTouchedBy, IsTouchedBySome, IsTouchedFrom, has_line, is_own, touches}
 use Rattle.proposer.specs.declared.variables.Access.{Access}
 use Rattle.proposer.specs.declared.variables.Access.TheVariants.{Read}
 
@@ -41,18 +50,105 @@ second_of r s t same cell is = ap (λ (u : Words). u cell) same ∙ in_second (s
 
 -- The cells put together for all possible words are those that some possible word touches.
 pub touched_by : (access : Access) (pl : Place) (f : Fact) (at : ℕ) {lanes : List ℕ} {made begun it : Iter} {cells : Words} → words lanes ≡ possible pl f at → GoesFrom lanes 0 made → begun ≡ made
-    → Gathered (λ word. touches access pl f (meaning_at pl at word)) (words begun.set.now) nothing cells it → HasNoneFrom it.next (words it.set.now)
-    → (cell : ℕ) → (cells cell ≡ true) ↔ IsTouchedBy access pl f at cell
+    → Gathered (λ word. touches access pl f (meaning_in pl at word)) (words begun.set.now) nothing cells it → HasNoneFrom it.next (words it.set.now)
+    → (cell : ℕ) → (cells cell ≡ true) ↔ IsTouchedBy access pl at cell f
 touched_by access pl f at {lanes} {it = it} {cells} same begins is gathered none cell =
-    let test : ℕ → Bool = λ word. possible pl f at word && touches access pl f (meaning_at pl at word) cell in
-    let set : Gathered (λ word. touches access pl f (meaning_at pl at word)) (possible pl f at) nothing cells it =
-    subst (λ s. Gathered (λ word. touches access pl f (meaning_at pl at word)) s nothing cells it) (ap (λ (i : Iter). words i.set.now) is ∙ ap (λ l. words l) begins.set ∙ same) gathered in
+    let test : ℕ → Bool = λ word. possible pl f at word && touches access pl f (meaning_in pl at word) cell in
+    let set : Gathered (λ word. touches access pl f (meaning_in pl at word)) (possible pl f at) nothing cells it =
+    subst (λ s. Gathered (λ word. touches access pl f (meaning_in pl at word)) s nothing cells it) (ap (λ (i : Iter). words i.set.now) is ∙ ap (λ l. words l) begins.set ∙ same) gathered in
     let told : cells cell ≡ some_below 4096 test = all_gathered set none cell in (
       λ e.
           let s : IsSome 4096 test = some_to 4096 test (sym told ∙ e) in
           record { word = s.at; small = s.small; is_possible = and_first _ _ s.holds; touched = and_second _ _ s.holds },
       λ by. told ∙ some_from 4096 test by.word by.small (and_both _ _ by.is_possible by.touched),
     )
+
+-- What one claimed fact touches: nothing where no condition is asked of it, and else what the asked fact touches.
+module _ (access : Access) (j : Case) (r : Routine) (at index : ℕ) (cells : Words) (cell : ℕ) where
+  pub not_asked : asked_of j r (fact_at (j.certificate.facts at) index ∷ []) ≡ [] → cells cell ≡ false → (cells cell ≡ true) ↔ IsTouchedAt access j r at index cell
+  not_asked none empty = (
+    λ is. absurd (true≢false (sym is ∙ empty)),
+    λ t. absurd (subst (SomeFact (IsTouchedBy access (place_in j r) at cell)) none t),
+  )
+
+  pub is_asked : (pl : Place) (g : Fact) → asked_of j r (fact_at (j.certificate.facts at) index ∷ []) ≡ g ∷ [] → pl ≡ place_in j r →
+      ((cells cell ≡ true) ↔ IsTouchedBy access pl at cell g) → (cells cell ≡ true) ↔ IsTouchedAt access j r at index cell
+  is_asked pl g one place told = (
+    λ is. subst (SomeFact (IsTouchedBy access (place_in j r) at cell)) (sym one) (inl (subst (λ (x : Place). IsTouchedBy access x at cell g) place (told.0 is))),
+    λ t. elim (subst (SomeFact (IsTouchedBy access (place_in j r) at cell)) one t) [
+      | inl h ↦ told.1 (subst (λ (x : Place). IsTouchedBy access x at cell g) (sym place) h)
+      | inr n ↦ absurd n
+    ],
+  )
+
+-- A fact of two lists is one of either.
+some_both : (p : Fact → Type 0) (fs gs : List Fact) → SomeFact p (fs ++ gs) ↔ (SomeFact p fs ⊎ SomeFact p gs)
+some_both p [] gs = (λ h. inr h, λ h. elim h [ inl n ↦ absurd n | inr k ↦ k ])
+some_both p (f ∷ fs) gs = let rest = some_both p fs gs in (
+  λ h. elim h [
+    | inl k ↦ inl (inl k)
+    | inr k ↦ elim (rest.0 k) [ inl x ↦ inl (inr x) | inr y ↦ inr y ]
+  ],
+  λ h. elim h [
+    | inl k ↦ elim k [ inl x ↦ inl x | inr y ↦ inr (rest.1 (inl y)) ]
+    | inr k ↦ inr (rest.1 (inr k))
+  ],
+)
+
+-- What some facts of a list touch, by its first fact and the rest.
+by_first : (access : Access) (j : Case) (r : Routine) (at cell : ℕ) (f : Fact) (fs : List Fact) →
+    IsTouchedBySome access j r at cell (f ∷ fs) ↔ (IsTouchedBySome access j r at cell (f ∷ []) ⊎ IsTouchedBySome access j r at cell fs)
+by_first access j r at cell f fs =
+    let p : Fact → Type 0 = IsTouchedBy access (place_in j r) at cell in
+    subst (λ (xs : List Fact). SomeFact p xs ↔ (IsTouchedBySome access j r at cell (f ∷ []) ⊎ IsTouchedBySome access j r at cell fs))
+    (sym (asked_of_first j.certificate.rules j.image (sites_of j.certificate r) f fs))
+    (some_both p (asked_of j r (f ∷ [])) (asked_of j r fs))
+
+-- What was found of the facts before a place of the list.
+abbrev pub FoundSoFar : Access → Case → Routine → ℕ → List Fact → ℕ → Words → Type 0
+FoundSoFar access j r at fs i cells =
+    (cell : ℕ) → cell < 4096 → ((cells cell ≡ true) ⊎ IsTouchedBySome access j r at cell (drop i fs)) ↔ IsTouchedBySome access j r at cell fs
+
+module _ (access : Access) (j : Case) (r : Routine) (at : ℕ) (fs : List Fact) where
+  pub none_yet : (cells : Words) → cells ≡ nothing → FoundSoFar access j r at fs 0 cells
+  none_yet cells empty cell lt = (
+    λ h. elim h [ inl is ↦ absurd (true≢false (sym is ∙ ap (λ (u : Words). u cell) empty)) | inr k ↦ k ],
+    λ h. inr h,
+  )
+
+  pub one_more : (i : ℕ) (both cells found : Words) → i < length fs → both ≡ union cells found →
+      ((cell : ℕ) → cell < 4096 → (found cell ≡ true) ↔ IsTouchedBySome access j r at cell (fact_at fs i ∷ [])) → FoundSoFar access j r at fs i cells → FoundSoFar access j r at fs (i + 1) both
+  one_more i both cells found lt same told so cell small =
+      let split = by_first access j r at cell (fact_at fs i) (drop (i + 1) fs) in
+      let dropped : drop i fs ≡ fact_at fs i ∷ drop (i + 1) fs = fact_dropped fs i lt in
+      let back : IsTouchedBySome access j r at cell (fact_at fs i ∷ drop (i + 1) fs) → IsTouchedBySome access j r at cell (drop i fs) =
+      subst (λ (xs : List Fact). IsTouchedBySome access j r at cell xs) (sym dropped) in (
+        λ h. elim h [
+          | inl is ↦ elim (or_cases (cells cell) (found cell) (sym (ap (λ (u : Words). u cell) same) ∙ is)) [
+            | inl k ↦ (so cell small).0 (inl k)
+            | inr k ↦ (so cell small).0 (inr (back (split.1 (inl ((told cell small).0 k)))))
+          ]
+          | inr k ↦ (so cell small).0 (inr (back (split.1 (inr k))))
+        ],
+        λ h. elim ((so cell small).1 h) [
+          | inl k ↦ inl (first_of both cells found same cell k)
+          | inr k ↦ elim (split.0 (subst (λ (xs : List Fact). IsTouchedBySome access j r at cell xs) dropped k)) [
+            | inl x ↦ inl (second_of both cells found same cell ((told cell small).1 x))
+            | inr y ↦ inr y
+          ]
+        ],
+      )
+
+  pub all_found : (i : ℕ) (cells : Words) → length fs ≤ i → FoundSoFar access j r at fs i cells → (cell : ℕ) → cell < 4096 → (cells cell ≡ true) ↔ IsTouchedBySome access j r at cell fs
+  all_found i cells past so cell small =
+      let none : drop i fs ≡ [] = drop_of_length-le fs past in
+      let p : Fact → Type 0 = IsTouchedBy access (place_in j r) at cell in (
+        λ is. (so cell small).0 (inl is),
+        λ h. elim ((so cell small).1 h) [
+          | inl is ↦ is
+          | inr k ↦ absurd (subst (SomeFact p) (nothing_asked j.certificate.rules j.image (sites_of j.certificate r)) (subst (λ (xs : List Fact). IsTouchedBySome access j r at cell xs) none k))
+        ],
+      )
 
 -- A cell that is in a set and isn't the own entry.
 both_tell : (a b : Bool) → a && not b ≡ true → (a ≡ true) × (b ≡ false)
@@ -65,37 +161,54 @@ both_are true false h q = refl
 both_are true true h q = absurd (true≢false q)
 both_are false b h q = absurd (true≢false (sym h))
 
--- What is touched from an address, by the body there and its place.
-module _ (access : Access) (j : Case) (a : ℕ) (r : Routine) (pl : Place) (f : Fact) (found without : Words)
-    (inside : IsIn j r a) (line : has_line j.certificate r ≡ true) (place : pl ≡ place_in j r) (fact : f ≡ fact_at j a)
-    (only : (s : Routine) → j.declaration.body s a ≡ true → has_line j.certificate s ≡ true → s ≡ r)
-    (touched : (cell : ℕ) → cell < 4096 → (found cell ≡ true) ↔ IsTouchedBy access pl f a cell)
+-- The routine of a body that is told of has a line.
+line_of : (c : Certificate) (r : Routine) → ((e : ℕ) → r ≡ Some e → c.listed e ≡ true) → has_line c r ≡ true
+line_of c None listed = refl
+line_of c (Some e) listed = listed e refl
+
+-- What is touched from an address, by the body there.
+module _ (access : Access) (j : Case) (a : ℕ) (r : Routine) (found without : Words)
+    (declared : IsDeclared j.declaration) (inside : j.declaration.body r a ≡ true) (listed : (e : ℕ) → r ≡ Some e → j.certificate.listed e ≡ true)
+    (touched : (cell : ℕ) → cell < 4096 → (found cell ≡ true) ↔ IsTouchedBySome access j r a cell (j.certificate.facts a))
     (apart : (cell : ℕ) → without cell ≡ (found cell && not (is_own r cell))) where
-  by_place : (cell : ℕ) → IsTouchedBy access pl f a cell → IsTouchedBy access (place_in j r) (fact_at j a) a cell
-  by_place cell by =
-      subst (λ x. IsTouchedBy access (place_in j r) x a cell) fact (subst (λ x. IsTouchedBy access x f a cell) place by)
-
-  to_place : (cell : ℕ) → IsTouchedBy access (place_in j r) (fact_at j a) a cell → IsTouchedBy access pl f a cell
-  to_place cell by =
-      subst (λ x. IsTouchedBy access x f a cell) (sym place) (subst (λ x. IsTouchedBy access (place_in j r) x a cell) (sym fact) by)
-
-  pub touched_in : (cell : ℕ) → cell < 4096 → without cell ≡ true → IsTouchedFrom access j a cell
+  touched_in : (cell : ℕ) → cell < 4096 → without cell ≡ true → IsTouchedFrom access j a cell
   touched_in cell lt is =
       let told = both_tell (found cell) (is_own r cell) (sym (apart cell) ∙ is) in
       record {
         routine = r;
         inside = inside;
-        line = line;
-        by = by_place cell ((touched cell lt).0 told.0);
+        line = line_of j.certificate r listed;
+        by = (touched cell lt).0 told.0;
         other = told.1;
       }
 
-  pub is_among : (cell : ℕ) → cell < 4096 → IsTouchedFrom access j a cell → without cell ≡ true
+  is_among : (cell : ℕ) → cell < 4096 → IsTouchedFrom access j a cell → without cell ≡ true
   is_among cell lt t =
-      let same : t.routine ≡ r = only t.routine t.inside.body t.line in
-      let by : IsTouchedBy access (place_in j r) (fact_at j a) a cell = subst (λ s. IsTouchedBy access (place_in j s) (fact_at j a) a cell) same t.by in
-      let other : is_own r cell ≡ false = subst (λ s. is_own s cell ≡ false) same t.other in
-      apart cell ∙ both_are (found cell) (is_own r cell) ((touched cell lt).1 (to_place cell by)) other
+      let same : t.routine ≡ r = declared.bodies_apart a t.routine r t.inside inside in
+      let by : IsTouchedBySome access j r a cell (j.certificate.facts a) = subst (λ (s : Routine). IsTouchedBySome access j s a cell (j.certificate.facts a)) same t.by in
+      let other : is_own r cell ≡ false = subst (λ (s : Routine). is_own s cell ≡ false) same t.other in
+      apart cell ∙ both_are (found cell) (is_own r cell) ((touched cell lt).1 by) other
+
+  pub touched_there : (cell : ℕ) → cell < 4096 → (without cell ≡ true) ↔ IsTouchedFrom access j a cell
+  touched_there cell lt = (touched_in cell lt, is_among cell lt)
+
+-- A fact that says nothing, and one of a routine that is called from anywhere.
+has_sites : (rules : Rules) (f : Fact) → f.sites 0 ≡ true → HasSites rules f
+has_sites OfEquations f h = tt
+has_sites OfSums f h = some_from 4096 f.sites 0 (omega arith) h
+
+-- Where no fact may stand, no body of main or of a routine that has a line has the address.
+nowhere : (j : Case) (a : ℕ) → ((f : Fact) → IsPlaced j a f → ⊥) → (r : Routine) → j.declaration.body r a ≡ true → has_line j.certificate r ≡ true → ⊥
+nowhere j a none None inside line = none nothing_known (inl (inside, record { sites = some_none_of 4096 nothing (λ v h. refl); offsets = some_none_of 64 nothing (λ v h. refl) }))
+nowhere j a none (Some e) inside line =
+    let f : Fact = record nothing_known { sites = λ v. true; offsets = λ v. true } in
+    none f (inr (e, inside, line, record { sites = has_sites j.certificate.rules f refl; offsets = some_from 64 f.offsets 0 (omega arith) refl }))
+
+pub nothing_there : (access : Access) (j : Case) (a : ℕ) (cells : Words) → ((f : Fact) → IsPlaced j a f → ⊥) → cells ≡ nothing → (cell : ℕ) → (cells cell ≡ true) ↔ IsTouchedFrom access j a cell
+nothing_there access j a cells none empty cell = (
+  λ is. absurd (true≢false (sym is ∙ ap (λ (u : Words). u cell) empty)),
+  λ t. absurd (nowhere j a none t.routine t.inside t.line),
+)
 
 -- The cells that are touched from an address are among these.
 abbrev pub AreGathered : Access → Case → Words → ℕ → Type 0
@@ -108,15 +221,18 @@ next_below P n m below same here a lt = elim (cases_eq a n) [
   | inr q ↦ below a (omega arith)
 ]
 
+-- What is touched by reading is read.
+read_by : (pl : Place) (at cell : ℕ) (fs : List Fact) → SomeFact (IsTouchedBy Read pl at cell) fs → SomeFact (IsReadBy pl at cell) fs
+read_by pl at cell [] n = n
+read_by pl at cell (f ∷ fs) (inl t) = inl (record { word = t.word; small = t.small; is_possible = t.is_possible; reads = t.touched })
+read_by pl at cell (f ∷ fs) (inr rest) = inr (read_by pl at cell fs rest)
+
 pub is_read : (j : Case) (cell : ℕ) → IsTouched Read j cell → IsReadSomewhere j cell
 is_read j cell t = record {
   at = t.0;
   routine = t.2.routine;
   inside = t.2.inside;
-  word = t.2.by.word;
-  small = t.2.by.small;
-  is_possible = t.2.by.is_possible;
-  reads = t.2.by.touched;
+  by = read_by (place_in j t.2.routine) t.0 cell (asked_of j t.2.routine (j.certificate.facts t.0)) t.2.by;
 }
 
 -- A list that is there is this one.

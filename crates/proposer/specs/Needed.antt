@@ -1,21 +1,32 @@
 -- Which cells a proposed list of reads has.
-use Rattle.std.specs.Prelude.{ℕ, ◌≡◌, ◌<◌, true, Some}
+use Rattle.std.specs.Prelude.{ℕ, ◌≡◌, ◌<◌, ◌⊎◌, true, Some, List, [], ◌∷◌}
 use Rattle.wordset.specs.Words.{Words}
 use Rattle.declaration.specs.Declaration.{Routine}
-use Rattle.domain.specs.Facts.{possible}
-use Rattle.facts.specs.Conditions.{may_read}
-use Rattle.facts.specs.Outcomes.{meaning_at}
-use Rattle.judge.specs.Conditions.{Case, IsIn, fact_at, place_in}
+use Rattle.domain.specs.Sums.Facts.{Fact, Place}
+use Rattle.facts.specs.Sums.Conditions.{may_read}
+use Rattle.facts.specs.Sums.PlaceInCode.{meaning_in}
+use Rattle.facts.specs.Sums.References.{possible}
+use Rattle.judge.specs.Sums.Landing.{Case, asked_at, place_in}
 
--- At the address of a fact, which is in some body, a word is possible that may read the cell.
+-- Some fact of the list has the property.
+abbrev pub SomeFact : (Fact → Type 0) → List Fact → Type 0
+SomeFact p [] = ⊥
+SomeFact p (f ∷ fs) = p f ⊎ SomeFact p fs
+
+-- By the fact at the address a word is possible that may read the cell.
+pub record IsReadBy (pl : Place) (at cell : ℕ) (f : Fact) : Type 0 where
+  pub word : ℕ
+  pub small : word < 4096
+  pub is_possible : possible pl f at word ≡ true
+  pub reads : may_read pl f (meaning_in pl at word) cell ≡ true
+
+-- At an address of some body there is a fact, of those of which conditions are asked, by which a word is possible that may read
+-- the cell.
 pub record IsReadSomewhere (j : Case) (cell : ℕ) : Type 0 where
   pub at : ℕ
   pub routine : Routine
-  pub inside : IsIn j routine at
-  pub word : ℕ
-  pub small : word < 4096
-  pub is_possible : possible (place_in j routine) (fact_at j at) at word ≡ true
-  pub reads : may_read (place_in j routine) (fact_at j at) (meaning_at (place_in j routine) at word) cell ≡ true
+  pub inside : j.declaration.body routine at ≡ true
+  pub by : SomeFact (IsReadBy (place_in j routine) at cell) (asked_at j routine at)
 
 -- Each cell of the list of reads, if there is one, is read somewhere.
 abbrev pub ReadsAreNeeded : Case → Type 0

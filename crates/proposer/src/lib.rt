@@ -4,11 +4,11 @@
 ghost use Rattle.std.specs.Prelude.{ℕ, ◌≡◌, ◌≢◌, ◌≤◌, List, Option, IfOk, IfErr, None, is_some, true};
 ghost use Rattle.analyser.specs.Versions.{version_of};
 ghost use Rattle.turns.specs.declared.GuessFault.TheVariants as guess_fault;
-ghost use Rattle.certificate.specs.Kept as certified;
-ghost use Rattle.certificate.specs.Reading.{AreLines};
+ghost use Rattle.certificate.specs.Sums.Kept as certified;
+ghost use Rattle.certificate.specs.Sums.Exact.{AreLines};
 ghost use Rattle.declaration.specs.Kept.{Kept, meaning, routines_of};
 ghost use Rattle.declaration.specs.Text.{Declares, ListsRoutines};
-ghost use Rattle.judge.specs.Judged.{judged};
+ghost use Rattle.judge.specs.Sums.Judged.{judged};
 ghost use Rattle.proposer.specs.Needed.{ReadsAreNeeded};
 ghost use Rattle.proposer.specs.declared.Verdict.TheVariants.{TurnsSpent};
 ghost use Rattle.proposer.specs.Proposals.{AreNeeded, Fits, IsListed, IsShown, IsSpentUp, IsTold, is_safe};
@@ -30,7 +30,7 @@ use control_flow::{Breadth, Findings, Map, Tape, push_reads, surveyed};
 use declaration::{Declaration, DeclarationFault};
 pub use evidence::Evidence;
 use instruct::Profile;
-use judge::judge;
+use judge::{Rooms, judge};
 pub use learning::Obstacle;
 use std::alloc::Allocator;
 pub use turns::{GuessFault, ProposeFault, Turns};
@@ -189,7 +189,7 @@ pub fn propose_with_reads<A: Allocator + Copy>(
             if !lists_needed(image, &listing, &certificate) {
                 return Err(ProposeFault::Mismatch);
             }
-            let verdict = accepted(image, &listing, certificate)?;
+            let verdict = accepted(alloc, image, &listing, certificate)?;
             Ok(Proposal {
                 declaration: listing,
                 text,
@@ -407,7 +407,8 @@ fn judged<A: Allocator + Copy>(
 }
 
 /// The verdict with a certificate, where the judge accepts it.
-fn accepted<A: Allocator>(
+fn accepted<A: Allocator + Copy>(
+    alloc: A,
     image: &Image,
     declaration: &Declaration<A>,
     certificate: Certificate<A>,
@@ -423,7 +424,10 @@ fn accepted<A: Allocator>(
     ensures spent { IfOk result (λ v. v ≢ TurnsSpent) }
     ensures faults { IfErr result IsTold }
 {
-    match judge(image, declaration, &certificate) {
+    let Ok(mut rooms) = Rooms::boxed(alloc) else {
+        return Err(ProposeFault::NoMemory);
+    };
+    match judge(image, declaration, &certificate, &mut rooms) {
         Ok(()) => Ok(Verdict::Safe(certificate)),
         Err(_) => Err(ProposeFault::Mismatch),
     }

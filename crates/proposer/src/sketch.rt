@@ -1,16 +1,13 @@
 //! The parts of a declaration while it is widened, and their text.
 
 use bin_tape::Image;
-use control_flow::push_range;
+use control_flow::{push_cells, push_range};
 use declaration::{Declaration, Offsets, Owner};
 use instruct::{Profile, name};
 use peripherals::NoMemory;
 use std::alloc::{AllocError, Allocator};
 use word12::Word;
 use wordset::WordSet;
-
-/// How many ranges a line has at most where there may be several of its kind.
-const MOST_RANGES: usize = 7;
 
 /// A routine: its entry, its body, and the offsets at which it may return.
 #[derive(Clone, Copy)]
@@ -196,37 +193,4 @@ impl<A: Allocator + Copy> Sketch<A> {
         }
         text.extend_from_slice(b"\n")
     }
-}
-
-/// Begins a line after so many ranges, if there is none yet or the last is full.
-fn push_line_break<A: Allocator>(
-    text: &mut Vec<u8, A>,
-    kind: &[u8],
-    ranges: usize,
-) -> Result<(), AllocError> {
-    if ranges % MOST_RANGES != 0 {
-        return Ok(());
-    }
-    if ranges != 0 {
-        text.extend_from_slice(b"\n")?;
-    }
-    text.extend_from_slice(kind)
-}
-
-/// Adds lines of a kind with the ranges of a set, if it has a word.
-fn push_cells<A: Allocator>(
-    text: &mut Vec<u8, A>,
-    kind: &[u8],
-    set: &WordSet,
-) -> Result<(), AllocError> {
-    let mut ranges = 0usize;
-    for (first, last) in set.ranges() {
-        push_line_break(text, kind, ranges)?;
-        push_range(text, first, last)?;
-        ranges = ranges.saturating_add(1);
-    }
-    if ranges != 0 {
-        text.extend_from_slice(b"\n")?;
-    }
-    Ok(())
 }

@@ -1,100 +1,24 @@
 //! Which cells a program may change, and which it may read.
 
-ghost use Rattle.std.specs.Prelude.{ℕ, ◌≡◌, ◌<◌, ◌↔◌, ◌&&◌, not, true, option_map, IfSome, Some};
+ghost use Rattle.std.specs.Prelude.{ℕ, ◌≡◌, ◌<◌, ◌↔◌, ◌&&◌, not, true, length};
 ghost use Rattle.wordset.specs.Lanes.{words};
-ghost use Rattle.declaration.specs.Declaration.{Routine as MainOrEntry};
-ghost use Rattle.declaration.specs.Kept as declared;
-ghost use Rattle.domain.specs.Meaning.{meaning};
-ghost use Rattle.facts.specs.Outcomes.{meaning_at};
-ghost use Rattle.facts.specs.Places.{place_of, routine_of, sites_of};
-ghost use Rattle.certificate.specs.Kept.{claims};
-ghost use Rattle.judge.specs.Judged.{judged};
+ghost use Rattle.domain.specs.Sums.FactInCode.{fact_in_code};
+ghost use Rattle.facts.specs.Sums.PlaceInCode.{meaning_in, place_in_code};
+ghost use Rattle.certificate.specs.Sums.Kept.{claims};
+ghost use Rattle.judge.specs.Sums.Bodies.{Tells};
+ghost use Rattle.judge.specs.Sums.Judged.{case_kept, judged};
 ghost use Rattle.proposer.specs.Needed.{ReadsAreNeeded};
-ghost use Rattle.proposer.specs.Touched.{IsBody, IsTouched, IsTouchedBy, IsTouchedFrom, has_line, is_own, place_with, routine_with, sites_with, touches};
+ghost use Rattle.proposer.specs.Touched.{IsTouched, IsTouchedAt, IsTouchedBy, IsTouchedBySome, IsTouchedFrom, is_own, touches};
 ghost use Rattle.proposer.specs.declared.variables.Access.TheVariants.{Read};
 
 use bin_tape::Image;
-use certificate::{Certificate, RoutineClaim};
-use declaration::{Declaration, Owner};
-use facts::{Context, Fact, Place, reads, writes};
+use certificate::Certificate;
+use declaration::Declaration;
+use facts::{Fact, NarrowedFact, Place};
+use judge::{Body, Case, Claims, place_of, put_asked, put_sites};
 use std::alloc::Allocator;
 use word12::Word;
 use wordset::WordSet;
-
-/// The body that has an address: main's, or that of the routine of an entry, with what is claimed of
-/// it.
-#[derive(Clone, Copy)]
-enum Body {
-    Main,
-    Of(Word, RoutineClaim),
-}
-
-impl Body {
-    /// The routine, if it isn't main's.
-    fn running(&self) -> Option<Context<'_>>
-        ensures routine { routine_of result ≡ routine_with self.now }
-        ensures sites { sites_of result ≡ sites_with self.now }
-    {
-        match self {
-            Body::Main => None,
-            Body::Of(entry, routine) => Some(Context {
-                entry: *entry,
-                sites: &routine.sites,
-                writes: &routine.writes,
-            }),
-        }
-    }
-
-    /// Cells but the routine's own entry.
-    fn without_own(&self, cells: WordSet) -> WordSet
-        ensures { (cell : ℕ) → words result cell ≡
-            (words cells cell && not (is_own (routine_with self.now) cell)) }
-    {
-        match self {
-            Body::Main => cells,
-            Body::Of(entry, _) => cells.minus(&WordSet::one(*entry)),
-        }
-    }
-}
-
-/// Where a fact of a body stands.
-fn place_in<'a, D: Allocator>(
-    image: &'a Image,
-    declaration: &'a Declaration<D>,
-    body: &'a Body,
-) -> Place<'a, D>
-    ensures { place_of result ≡ place_with image.now declaration.now body.now }
-{
-    let routine = body.running();
-    Place {
-        image,
-        declaration,
-        routine,
-    }
-}
-
-/// The body that has an address, if a certificate has the routine's line.
-fn body_at<A: Allocator, D: Allocator>(
-    declaration: &Declaration<D>,
-    certificate: &Certificate<A>,
-    at: Word,
-) -> Option<Body>
-    ensures found { IfSome result
-        (IsBody (declared.meaning declaration.now) (claims certificate.now) at) }
-    ensures only { (r : MainOrEntry) → (declared.meaning declaration.now).body r at ≡ true →
-        has_line (claims certificate.now) r ≡ true → option_map routine_with result ≡ Some r }
-{
-    let Some(owner) = declaration.owner_of(at) else {
-        return None;
-    };
-    match owner {
-        Owner::Main => Some(Body::Main),
-        Owner::Routine(entry) => match certificate.routine(entry) {
-            None => None,
-            Some(routine) => Some(Body::Of(entry, routine)),
-        },
-    }
-}
 
 /// What a step does to a cell.
 #[derive(Clone, Copy)]
@@ -104,52 +28,133 @@ enum Access {
 }
 
 impl Access {
-    /// The cells to which a word at the address of a fact may do it.
-    fn cells<D: Allocator>(self, fact: &Fact, at: Word, word: Word, place: &Place<'_, D>) -> WordSet
-        ensures { words result ≡ touches self (place_of place.now) (meaning fact.now)
-            (meaning_at (place_of place.now) at word) }
+    /// Puts the cells to which a word at the address of a fact may do it into a place for them.
+    fn put_cells<D: Allocator>(
+        self,
+        place: &Place<'_, D>,
+        fact: &NarrowedFact,
+        at: Word,
+        word: Word,
+        cells: &mut WordSet,
+    )
+        ensures { words cells.new ≡ touches self (place_in_code place.now) (fact_in_code fact.now)
+            (meaning_in (place_in_code place.now) at word) }
     {
         match self {
-            Access::Write => writes(fact, at, word, place),
-            Access::Read => reads(fact, at, word, place),
+            Access::Write => place.put_writes(fact, at, word, cells),
+            Access::Read => place.put_reads(fact, at, word, cells),
         }
     }
 }
 
+/// Room for a fact as it is claimed, and for the same fact as conditions are asked of it.
+#[derive(Drop)]
+struct Rooms {
+    claimed: Fact,
+    asked: NarrowedFact,
+}
+
 /// The cells to which some possible word may do it at the address of a fact.
-fn touched_at<D: Allocator>(access: Access, fact: &Fact, at: Word, place: &Place<'_, D>) -> WordSet
+fn touched_by<D: Allocator>(
+    access: Access,
+    place: &Place<'_, D>,
+    fact: &NarrowedFact,
+    at: Word,
+) -> WordSet
     ensures { (cell : ℕ) → cell < 4096 → (words result cell ≡ true) ↔
-        IsTouchedBy access (place_of place.now) (meaning fact.now) at cell }
+        IsTouchedBy access (place_in_code place.now) at cell (fact_in_code fact.now) }
 {
-    let possible = place.possible_words(fact, at);
+    let mut possible = WordSet::empty();
+    place.put_possible(fact, at, &mut possible);
     let mut cells = WordSet::empty();
+    let mut more = WordSet::empty();
     for word in possible.iter() {
-        cells = cells.union(&access.cells(fact, at, word, place));
+        access.put_cells(place, fact, at, word, &mut more);
+        cells = cells.union(&more);
     }
     cells
 }
 
-/// The cells to which the program may do it by the fact at an address, if there is one, a routine's own
-/// entry apart; the fact is told by way of the lent one.
-fn touched_from<A: Allocator, D: Allocator>(
+/// The cells to which the program may do it by one of the facts at an address of a body. The line that is
+/// looked at first becomes the one behind the fact.
+fn touched_at<A: Allocator, D: Allocator>(
     access: Access,
-    image: &Image,
-    declaration: &Declaration<D>,
-    certificate: &Certificate<A>,
+    case: &Case<'_, D, Certificate<A>>,
+    body: &Body,
     at: Word,
-    fact: &mut Fact,
+    index: usize,
+    near: &mut usize,
+    rooms: &mut Rooms,
 ) -> WordSet
+    requires index { index < length ((claims case.now.claims.now).facts at) }
+    requires tells { Tells (claims case.now.claims.now) body.now }
     ensures { (cell : ℕ) → cell < 4096 → (words result cell ≡ true) ↔
-        IsTouchedFrom access (judged image.now declaration.now (claims certificate.now)) at cell }
+        IsTouchedAt access (case_kept claims case.now) body.now.routine at index cell }
 {
-    let Some(body) = body_at(declaration, certificate, at) else {
-        return WordSet::empty();
-    };
-    if !certificate.fact_into(at, fact) {
+    let rules = case.claims.rules();
+    *near = case.claims.put_fact(at, *near, index, &mut rooms.claimed);
+    put_sites(&rules, &body.claim.sites, &mut rooms.claimed);
+    if !put_asked(&rules, case.image, &rooms.claimed, &mut rooms.asked) {
         return WordSet::empty();
     }
-    let place = place_in(image, declaration, &body);
-    body.without_own(touched_at(access, fact, at, &place))
+    let place = place_of(case.image, case.declaration, &body.routine, rules);
+    touched_by(access, &place, &rooms.asked, at)
+}
+
+/// The cells to which the program may do it by the facts at an address of a body.
+fn touched_by_facts<A: Allocator, D: Allocator>(
+    access: Access,
+    case: &Case<'_, D, Certificate<A>>,
+    body: &Body,
+    at: Word,
+    near: &mut usize,
+    rooms: &mut Rooms,
+) -> WordSet
+    requires { Tells (claims case.now.claims.now) body.now }
+    ensures { let j = case_kept claims case.now in
+        (cell : ℕ) → cell < 4096 → (words result cell ≡ true) ↔
+        IsTouchedBySome access j body.now.routine at cell (j.certificate.facts at) }
+{
+    let count = case.claims.count_facts(at, *near);
+    let mut cells = WordSet::empty();
+    for index in 0..count {
+        let found = touched_at(access, case, body, at, index, near, rooms);
+        cells = cells.union(&found);
+    }
+    cells
+}
+
+/// Cells but a routine's own entry.
+fn without_own(routine: &Option<Word>, cells: WordSet) -> WordSet
+    ensures { (cell : ℕ) → words result cell ≡ (words cells cell && not (is_own routine.now cell)) }
+{
+    match routine {
+        None => cells,
+        Some(entry) => cells.minus(&WordSet::one(*entry)),
+    }
+}
+
+/// The cells to which the program may do it by the facts at an address, if there are any, a routine's own
+/// entry apart.
+fn touched_from<A: Allocator, D: Allocator>(
+    access: Access,
+    case: &Case<'_, D, Certificate<A>>,
+    at: Word,
+    near: &mut usize,
+    body: &mut Body,
+    rooms: &mut Rooms,
+) -> WordSet
+    requires { Tells (claims case.now.claims.now) body.old }
+    ensures touched { (cell : ℕ) → cell < 4096 → (words result cell ≡ true) ↔
+        IsTouchedFrom access (case_kept claims case.now) at cell }
+    ensures tells { Tells (claims case.now.claims.now) body.new }
+{
+    case.declaration.is_declared();
+    if !case.finds_body(at, body) {
+        return WordSet::empty();
+    }
+    let cells = touched_by_facts(access, case, body, at, near, rooms);
+    without_own(&body.routine, cells)
 }
 
 /// The cells to which the program may do it by the facts of a certificate, a routine's own entry apart.
@@ -162,11 +167,21 @@ fn touched<A: Allocator, D: Allocator>(
     ensures { (cell : ℕ) → cell < 4096 → (words result cell ≡ true) ↔
         IsTouched access (judged image.now declaration.now (claims certificate.now)) cell }
 {
-    let mut fact = Fact::any();
+    let case = Case {
+        image,
+        declaration,
+        claims: certificate,
+    };
+    let mut rooms = Rooms {
+        claimed: Fact::any(),
+        asked: NarrowedFact::any(),
+    };
+    let mut body = Body::main();
+    let mut near = 0usize;
     let mut cells = WordSet::empty();
     for index in 0..4096usize {
         let at = Word::from_index(index);
-        let found = touched_from(access, image, declaration, certificate, at, &mut fact);
+        let found = touched_from(access, &case, at, &mut near, &mut body, &mut rooms);
         cells = cells.union(&found);
     }
     cells

@@ -1,143 +1,208 @@
--- What is kept where lines don't count: no word breaks the condition but for want of lines.
-use Rattle.std.proofs.Common.{◌≡◌, ℕ, zero, suc, ◌+◌, ◌<◌, ◌≤◌, Bool, true, false, Some, List, [], ◌∷◌, refl, sym, ap, ◌∙◌, inl, inr, length, get_or, subst, arith}
+-- What is kept where lines do not count: no word breaks the condition but for want of lines.
+use Rattle.std.proofs.Common.{◌≡◌, ℕ, zero, suc, ◌+◌, ◌<◌, ◌≤◌, Bool, true, false, ◌⊎◌, Some, List, [], ◌∷◌, refl, sym, ap, ◌∙◌, inl, inr, length, get_or, subst, arith}
 use Rattle.std.proofs.lemmas.Bool.{cases_lt, false≢true, true≢false}
+use Rattle.instruct.specs.Instructions.{Meaning, meaning_of}
 use Rattle.wordset.specs.Words.{how_many}
-use Rattle.declaration.specs.Declaration.{Routine}
-use Rattle.facts.specs.Conditions.{called}
-use Rattle.domain.specs.Facts.{Fact, Place, possible}
-use Rattle.facts.specs.Outcomes.{Successor, Goes, CallsTo, Returns, meaning_at, outcomes_at}
+use Rattle.declaration.specs.Declaration.{Routine, IsDeclared}
+use Rattle.domain.specs.Sums.Facts.{Fact, last_site}
+use Rattle.facts.specs.Sums.Conditions.{called}
+use Rattle.facts.specs.Sums.Landing.{fact_at}
+use Rattle.facts.specs.Sums.Operations.{outcomes_of}
+use Rattle.facts.specs.Sums.Outcomes.{Successor, Goes, CallsTo, Returns}
+use Rattle.facts.specs.Sums.References.{possible}
 use Rattle.facts.specs.declared.Condition.{Condition}
 use Rattle.facts.specs.declared.Condition.TheVariants.{V1, V2, V3, V6, V8}
-use Rattle.certificate.specs.Certificate.{Certificate}
-use Rattle.judge.specs.Conditions.{Case, EachSuccessor, fact_at, place_in}
-use Rattle.reasons.specs.Breaches.{Breaks, CallBreaks, Misses, OutcomeMisses, ReturnBreaks, SomeOutcome, condition_of, condition_of_call}
-use Rattle.reasons.specs.Keeping.{Arrives, IsLowerIfListed, Keeps, KeepsAt, KeepsCall, OutcomeArrives, ReturnsThrough}
-use Rattle.reasons.specs.Spots.{IsSought}
-use Rattle.reasons.specs.Stuck.{EachFailsByLinesAlone, FailsByLinesAlone, NoneFailsBefore, place_asked, is_call_of_lines, is_landing_of_lines, is_return_of_lines, is_word_of_lines}
+use Rattle.certificate.specs.Sums.Certificate.{Certificate}
+use Rattle.judge.specs.Sums.Conditions.{EachFact}
+use Rattle.judge.specs.Sums.Landing.{Case, EachSuccessor, exits_of, place_in}
+use Rattle.reasons.specs.Breaches.{Breaks, CallBreaks, MissesAfter, OutcomeMisses, ReturnBreaks, SomeOutcome, condition_of, condition_of_call}
+use Rattle.reasons.specs.Keeping.{Arrives, ArrivesWith, EachArrivesWith, FactsKeep, IsLowerIfListed, Keeps, KeepsCall, KeptOrUnowned, OutcomeArrives, ReturnsAsDeclared, ReturnsThrough, WordsKeep}
+use Rattle.reasons.specs.Landing.{Misses}
+use Rattle.reasons.specs.Points.{IsSought}
+use Rattle.reasons.specs.Reasons.{IsAskedFact, IsWrongWord}
+use Rattle.reasons.specs.Stuck.{EachFailsByLinesAlone, FailsByLinesAlone, NoneFailsBefore, place_asked, is_call_of_lines, is_landing_of_lines, is_of_lines, is_return_of_lines, is_word_of_lines}
 use Rattle.reasons.specs.declared.breach.Breach.{Breach}
 use Rattle.reasons.specs.declared.breach.Breach.TheVariants as breach
 use Rattle.reasons.specs.declared.breach.CallBreach.{CallBreach}
 use Rattle.reasons.specs.declared.breach.CallBreach.TheVariants as call
 use Rattle.reasons.specs.declared.breach.Landing.{Landing}
-use Rattle.reasons.specs.declared.breach.Landing.TheVariants.{NoFact, OtherBody, Excluded}
+use Rattle.reasons.specs.declared.breach.Landing.TheVariants.{NoFact, OtherBody, Excluded, ExcludedUnder, NotTaken, NotEntailed}
 use Rattle.reasons.specs.declared.breach.ReturnBreach.{ReturnBreach}
 use Rattle.reasons.specs.declared.breach.ReturnBreach.TheVariants as return
+use Rattle.reasons.specs.declared.reason.Reason.{Reason}
 use Rattle.reasons.specs.declared.reason.Reason.TheVariants as why
-use Rattle.reasons.specs.declared.point.Sought.TheVariants.{NotOfLines}
+use Rattle.reasons.specs.declared.sought.Sought.TheVariants.{NotOfLines}
 use Rattle.reasons.specs.declared.stuck.TheConstants.{ORDER}
-use Rattle.reasons.proofs.RefuteLemmas.{both, declared_or, few, ranks_clash, too_high}
+use Rattle.reasons.proofs.RefuteLemmas.{asked_here, both, declared_or, few, past_last, ranks_clash}
 
 -- ---- what a kept condition excludes
 
-arrived : (lines : Bool) (c : Certificate) (pl : Place) (r : Routine) (a : ℕ) (f : Fact) (l : Landing) → Arrives lines c pl r a f → Misses c pl.declaration r a f l → is_landing_of_lines l ≡ true
-arrived lines c pl r a f NoFact arrives misses = refl
-arrived lines c pl r a f OtherBody arrives misses = absurd (both (pl.declaration.body r a) arrives.inside misses)
-arrived lines c pl r a f (Excluded g) arrives misses = refl
+not_outside : (lines : Bool) (j : Case) (r : Routine) (a : ℕ) (f : Fact) → Arrives lines j r a f → Misses j r a f OtherBody → ⊥
+not_outside true j r a f arrives misses = misses.fails arrives
+not_outside false j r a f (inl idle) misses = misses.fails (inl idle)
+not_outside false j r a f (inr inside) misses = both (j.declaration.body r a) inside misses.left
+
+arrived : (lines : Bool) (j : Case) (r : Routine) (a : ℕ) (f : Fact) (l : Landing) → Arrives lines j r a f → Misses j r a f l → is_landing_of_lines l ≡ true
+arrived lines j r a f NoFact arrives misses = refl
+arrived lines j r a f OtherBody arrives misses = absurd (not_outside lines j r a f arrives misses)
+arrived lines j r a f (Excluded g) arrives misses = refl
+arrived lines j r a f (ExcludedUnder l g) arrives misses = refl
+arrived lines j r a f (NotTaken l n v) arrives misses = refl
+arrived lines j r a f NotEntailed arrives misses = refl
 
 -- The rank of a listed callee is lower than that of the listed routine that calls it.
 lower_than : (c : Certificate) (r : Routine) (q e : ℕ) → r ≡ Some q → IsLowerIfListed c r e → c.listed e ≡ true → c.listed q ≡ true → c.rank e < c.rank q
 lower_than c r q e is h = subst (λ x. IsLowerIfListed c x e) is h
 
-call_kept : (lines : Bool) (c : Certificate) (pl : Place) (f : Fact) (a e : ℕ) (b : CallBreach) → KeepsCall lines c pl f a (condition_of_call b) e → CallBreaks c pl f a e b → is_call_of_lines b ≡ true
-call_kept lines c pl f a e call.NoEntry keeps breaks = absurd (both (pl.declaration.entry e) keeps.entry breaks)
-call_kept lines c pl f a e call.NotListed keeps breaks = refl
-call_kept lines c pl f a e (call.NotLower rank own) keeps breaks =
-    absurd (ranks_clash (c.rank e) (c.rank breaks.1.0) rank own breaks.1.2.1 breaks.1.2.2 breaks.1.2.3 (lower_than c pl.routine breaks.1.0 e breaks.1.1 keeps.lower breaks.0 breaks.1.2.0))
-call_kept lines c pl f a e (call.Writes b) keeps breaks = refl
-call_kept lines c pl f a e call.EntryNotWritten keeps breaks = refl
-call_kept lines c pl f a e call.WritesCaller keeps breaks = refl
-call_kept lines c pl f a e call.NoSite keeps breaks = refl
-call_kept lines c pl f a e call.TooHigh keeps breaks = absurd (too_high a breaks keeps.low)
-call_kept lines c pl f a e (call.Enters l) keeps breaks = arrived lines c pl _ _ _ l keeps breaks
-call_kept lines c pl f a e (call.Returns o l) keeps breaks = arrived lines c pl _ _ _ l (keeps o breaks.0 breaks.1) breaks.2
+-- The exit at a place of the list is arrived with, where all are.
+one_arrives : (p : Fact → Type 0) (xs : List Fact) (i : ℕ) → i < length xs → EachFact p xs → p (fact_at xs i)
+one_arrives p [] i lt h = absurd (omega (arith, lt))
+one_arrives p (x ∷ xs) zero lt h = h.0
+one_arrives p (x ∷ xs) (suc i) lt h = one_arrives p xs i (omega (arith, lt)) h.1
 
-return_kept : (lines : Bool) (c : Certificate) (pl : Place) (f : Fact) (e : ℕ) (b : ReturnBreach) → ReturnsThrough lines c pl f e → ReturnBreaks c pl f e b → is_return_of_lines b ≡ true
-return_kept lines c pl f e return.OtherRoutine keeps breaks = absurd (breaks keeps.own)
-return_kept lines c pl f e (return.NotDeclared o) keeps breaks = absurd (both (pl.declaration.offset e o) (keeps.each o breaks.0 breaks.1).declared breaks.2)
-return_kept lines c pl f e (return.NoExit o) keeps breaks = refl
-return_kept lines c pl f e (return.Excluded o g) keeps breaks = refl
+returned : (lines : Bool) (j : Case) (r : Routine) (a e o i : ℕ) (f : Fact) (l : Landing) → EachArrivesWith lines j r a (j.certificate.writes e) o f (exits_of j e o) → MissesAfter j r a e o i f l → is_landing_of_lines l ≡ true
+returned lines j r a e o i f l arrives misses =
+    arrived lines j r _ _ l (one_arrives (ArrivesWith lines j r a (j.certificate.writes e) o f) (exits_of j e o) i misses.there arrives misses.site) misses.misses
 
-outcome_kept : (lines : Bool) (c : Certificate) (pl : Place) (a : ℕ) (l : Landing) (o : Successor) → OutcomeArrives lines c pl o → OutcomeMisses c pl a l o → is_landing_of_lines l ≡ true
-outcome_kept lines c pl a l (Goes next f) keeps misses = arrived lines c pl pl.routine a f l (keeps a misses.0 misses.1) misses.2
-outcome_kept lines c pl a l (CallsTo next f) keeps misses = absurd misses
-outcome_kept lines c pl a l (Returns f) keeps misses = absurd misses
+call_kept : (lines : Bool) (j : Case) (r : Routine) (a : ℕ) (f : Fact) (e : ℕ) (b : CallBreach) → KeepsCall lines j r a f (condition_of_call b) e → CallBreaks j r a f e b → is_call_of_lines b ≡ true
+call_kept lines j r a f e call.NoEntry keeps breaks = absurd (both (j.declaration.entry e) keeps.entry breaks)
+call_kept lines j r a f e call.NotListed keeps breaks = refl
+call_kept lines j r a f e (call.NotLower rank own) keeps breaks =
+    absurd (ranks_clash (j.certificate.rank e) (j.certificate.rank breaks.1.0) rank own breaks.1.2.1 breaks.1.2.2 breaks.1.2.3 (lower_than j.certificate r breaks.1.0 e breaks.1.1 keeps.lower breaks.0 breaks.1.2.0))
+call_kept lines j r a f e (call.Writes b) keeps breaks = refl
+call_kept lines j r a f e call.EntryNotWritten keeps breaks = refl
+call_kept lines j r a f e call.WritesCaller keeps breaks = refl
+call_kept lines j r a f e call.NoSite keeps breaks = refl
+call_kept lines j r a f e call.TooHigh keeps breaks = absurd (past_last a (last_site j.certificate.rules) breaks keeps.low)
+call_kept lines j r a f e (call.Enters l) keeps breaks = arrived lines j _ _ _ l keeps breaks
+call_kept lines j r a f e (call.Returns o i l) keeps breaks = returned lines j r a e o i f l (keeps o breaks.offset) breaks
 
-outcomes_kept : (lines : Bool) (c : Certificate) (pl : Place) (a : ℕ) (l : Landing) (os : List Successor) → EachSuccessor (OutcomeArrives lines c pl) os → SomeOutcome (OutcomeMisses c pl a l) os → is_landing_of_lines l ≡ true
-outcomes_kept lines c pl a l [] keeps misses = absurd misses
-outcomes_kept lines c pl a l (o ∷ os) keeps (inl misses) = outcome_kept lines c pl a l o keeps.0 misses
-outcomes_kept lines c pl a l (o ∷ os) keeps (inr misses) = outcomes_kept lines c pl a l os keeps.1 misses
+undeclared : (lines : Bool) (j : Case) (e o : ℕ) (f : Fact) → (8 ≤ o) ⊎ (j.declaration.offset e o ≡ false) → ReturnsAsDeclared lines j e f o → ⊥
+undeclared lines j e o f (inl high) h = absurd (let low : o < 8 = h.small in omega (arith, high, low))
+undeclared lines j e o f (inr none) h = both (j.declaration.offset e o) h.declared none
+
+return_kept : (lines : Bool) (j : Case) (r : Routine) (f : Fact) (e : ℕ) (b : ReturnBreach) → ReturnsThrough lines j r f e → ReturnBreaks j r f e b → is_return_of_lines b ≡ true
+return_kept lines j r f e return.OtherRoutine keeps breaks = absurd (breaks keeps.own)
+return_kept lines j r f e (return.NotDeclared o) keeps breaks = absurd (undeclared lines j e o f breaks.2 (keeps.each o breaks.0 breaks.1))
+return_kept lines j r f e (return.NotAllowed o l) keeps breaks = refl
+
+outcome_kept : (lines : Bool) (j : Case) (r : Routine) (a : ℕ) (l : Landing) (o : Successor) → OutcomeArrives lines j r o → OutcomeMisses j r a l o → is_landing_of_lines l ≡ true
+outcome_kept lines j r a l (Goes next f) keeps misses = arrived lines j r a f l (keeps a misses.0 misses.1) misses.2
+outcome_kept lines j r a l (CallsTo next f) keeps misses = absurd misses
+outcome_kept lines j r a l (Returns f) keeps misses = absurd misses
+
+outcomes_kept : (lines : Bool) (j : Case) (r : Routine) (a : ℕ) (l : Landing) (os : List Successor) → EachSuccessor (OutcomeArrives lines j r) os → SomeOutcome (OutcomeMisses j r a l) os → is_landing_of_lines l ≡ true
+outcomes_kept lines j r a l [] keeps misses = absurd misses
+outcomes_kept lines j r a l (o ∷ os) keeps (inl misses) = outcome_kept lines j r a l o keeps.0 misses
+outcomes_kept lines j r a l (o ∷ os) keeps (inr misses) = outcomes_kept lines j r a l os keeps.1 misses
 
 -- A call keeps its condition where the word does.
-call_of_word : (lines : Bool) (c : Certificate) (pl : Place) (f : Fact) (a w e : ℕ) (b : CallBreach) → e < 4096 → called pl f (meaning_at pl a w) e ≡ true →
-    Keeps lines c pl f a (condition_of_call b) (meaning_at pl a w) → KeepsCall lines c pl f a (condition_of_call b) e
-call_of_word lines c pl f a w e call.NoEntry lt is keeps = keeps.1 e lt is
-call_of_word lines c pl f a w e call.NotListed lt is keeps = keeps.1 e lt is
-call_of_word lines c pl f a w e (call.NotLower rank own) lt is keeps = keeps.1 e lt is
-call_of_word lines c pl f a w e (call.Writes b) lt is keeps = keeps e lt is
-call_of_word lines c pl f a w e call.EntryNotWritten lt is keeps = keeps e lt is
-call_of_word lines c pl f a w e call.WritesCaller lt is keeps = keeps e lt is
-call_of_word lines c pl f a w e call.NoSite lt is keeps = keeps e lt is
-call_of_word lines c pl f a w e call.TooHigh lt is keeps = keeps e lt is
-call_of_word lines c pl f a w e (call.Enters l) lt is keeps = keeps e lt is
-call_of_word lines c pl f a w e (call.Returns o l) lt is keeps = keeps e lt is
+call_of_word : (lines : Bool) (j : Case) (r : Routine) (a : ℕ) (f : Fact) (m : Meaning) (e : ℕ) (b : CallBreach) → e < 4096 → called (place_in j r) f m e ≡ true →
+    Keeps lines j r a f (condition_of_call b) m → KeepsCall lines j r a f (condition_of_call b) e
+call_of_word lines j r a f m e call.NoEntry lt is keeps = keeps.1 e lt is
+call_of_word lines j r a f m e call.NotListed lt is keeps = keeps.1 e lt is
+call_of_word lines j r a f m e (call.NotLower rank own) lt is keeps = keeps.1 e lt is
+call_of_word lines j r a f m e (call.Writes b) lt is keeps = keeps e lt is
+call_of_word lines j r a f m e call.EntryNotWritten lt is keeps = keeps e lt is
+call_of_word lines j r a f m e call.WritesCaller lt is keeps = keeps e lt is
+call_of_word lines j r a f m e call.NoSite lt is keeps = keeps e lt is
+call_of_word lines j r a f m e call.TooHigh lt is keeps = keeps e lt is
+call_of_word lines j r a f m e (call.Enters l) lt is keeps = keeps e lt is
+call_of_word lines j r a f m e (call.Returns o i l) lt is keeps = keeps e lt is
 
-word_kept : (lines : Bool) (c : Certificate) (pl : Place) (f : Fact) (a w : ℕ) (b : Breach) → Keeps lines c pl f a (condition_of b) (meaning_at pl a w) → Breaks c pl f a w b → is_word_of_lines b ≡ true
-word_kept lines c pl f a w breach.NotSupported keeps breaks = absurd (breaks keeps)
-word_kept lines c pl f a w (breach.WritesUndeclared b) keeps breaks = absurd (declared_or (pl.declaration.variable b) (pl.declaration.entry b) breaks.2 breaks.3 (keeps b breaks.0 breaks.1))
-word_kept lines c pl f a w (breach.WritesEntry b) keeps breaks = absurd (breaks.3 keeps)
-word_kept lines c pl f a w (breach.WritesUnlisted b) keeps breaks = refl
-word_kept lines c pl f a w breach.HaltsUndeclared keeps breaks = absurd (breaks keeps)
-word_kept lines c pl f a w breach.CallsThroughIndex keeps breaks = absurd (true≢false (sym breaks ∙ keeps.0))
-word_kept lines c pl f a w (breach.Calls e b) keeps breaks = call_kept lines c pl f a e b (call_of_word lines c pl f a w e b breaks.0 breaks.1 keeps) breaks.2
-word_kept lines c pl f a w (breach.Returns e b) keeps breaks = return_kept lines c pl f e b (keeps e breaks.0) breaks.1
-word_kept lines c pl f a w (breach.GoesOn b l) keeps breaks = outcomes_kept lines c pl b l (outcomes_at pl f a w) keeps breaks
-word_kept lines c pl f a w (breach.ReadsUnlisted b) keeps breaks = absurd (breaks.2 (keeps b breaks.0 breaks.1))
+word_kept : (lines : Bool) (j : Case) (r : Routine) (a : ℕ) (f : Fact) (m : Meaning) (b : Breach) → Keeps lines j r a f (condition_of b) m → Breaks j r a f m b → is_word_of_lines b ≡ true
+word_kept lines j r a f m breach.NotSupported keeps breaks = absurd (breaks keeps)
+word_kept lines j r a f m (breach.WritesUndeclared b) keeps breaks = absurd (declared_or (j.declaration.variable b) (j.declaration.entry b) breaks.2 breaks.3 (keeps b breaks.0 breaks.1))
+word_kept lines j r a f m (breach.WritesEntry b) keeps breaks = absurd (breaks.3 keeps)
+word_kept lines j r a f m (breach.WritesUnlisted b) keeps breaks = refl
+word_kept lines j r a f m breach.HaltsUndeclared keeps breaks = absurd (breaks keeps)
+word_kept lines j r a f m breach.CallsThroughIndex keeps breaks = absurd (true≢false (sym breaks ∙ keeps.0))
+word_kept lines j r a f m (breach.Calls e b) keeps breaks = call_kept lines j r a f e b (call_of_word lines j r a f m e b breaks.0 breaks.1 keeps) breaks.2
+word_kept lines j r a f m (breach.Returns e b) keeps breaks = return_kept lines j r f e b (keeps e breaks.0) breaks.1
+word_kept lines j r a f m (breach.GoesOn b l) keeps breaks = outcomes_kept lines j r b l (outcomes_of (place_in j r) f a m) keeps breaks
+word_kept lines j r a f m (breach.ReadsUnlisted b) keeps breaks = absurd (breaks.2 (keeps b breaks.0 breaks.1))
+
+-- What is told of a word of a fact of which the condition is kept is of lines.
+fact_kept : (lines : Bool) (j : Case) (v : Condition) (a : ℕ) (r : Routine) (i : ℕ) (f : Fact) (reason : Reason) → WordsKeep lines j v r a f → IsWrongWord j r a f i v reason → is_of_lines reason ≡ true
+fact_kept lines j v a r i f (why.TooManyWords k n) kept wrong = absurd (few n (how_many 4096 (possible (place_in j r) f a)) wrong.2 wrong.3 (kept.few wrong.1))
+fact_kept lines j v a r i f (why.ByWord k w b) kept wrong =
+    let keeps : Keeps lines j r a f v (meaning_of j.declaration.profile a w) = kept.each w wrong.1 wrong.2 in
+    word_kept lines j r a f (meaning_of j.declaration.profile a w) b (subst (λ u. Keeps lines j r a f u (meaning_of j.declaration.profile a w)) (sym wrong.3) keeps) wrong.4
+fact_kept lines j v a r i f (why.AtStart l) kept wrong = refl
+fact_kept lines j v a r i f why.LineAtNoEntry kept wrong = refl
+fact_kept lines j v a r i f why.InNoBody kept wrong = refl
+fact_kept lines j v a r i f (why.OffsetInMain k o) kept wrong = refl
+fact_kept lines j v a r i f (why.SitesInMain k) kept wrong = refl
+fact_kept lines j v a r i f (why.NoOffset k e) kept wrong = refl
+fact_kept lines j v a r i f (why.NoSites k e) kept wrong = refl
+fact_kept lines j v a r i f (why.RoutineNotListed e) kept wrong = refl
+
+facts_kept : (lines : Bool) (j : Case) (v : Condition) (a : ℕ) (r : Routine) (i : ℕ) (f : Fact) (reason : Reason) → IsDeclared j.declaration → KeptOrUnowned lines j v a → IsAskedFact j r a i f → IsWrongWord j r a f i v reason → is_of_lines reason ≡ true
+facts_kept lines j v a r i f reason d (inl here) is wrong =
+    fact_kept lines j v a r i f reason
+    (asked_here j r a i f (WordsKeep lines j v r a) is (subst (λ k. FactsKeep lines j v k a (j.certificate.facts a)) (d.bodies_apart a here.0 r here.1 is.body) here.2)) wrong
+facts_kept lines j v a r i f reason d (inr none) is wrong = absurd (true≢false (sym is.body ∙ none r))
 
 -- A condition that is kept fails by lines alone.
-pub fails_by_lines : (j : Case) (v : Condition) (a : ℕ) (lines : Bool) → KeepsAt lines j v a → FailsByLinesAlone j a v
-fails_by_lines j v a lines kept (why.TooManyWords n) (inl start) = absurd start.2
-fails_by_lines j v a lines kept (why.TooManyWords n) (inr (inl line)) = absurd line.1
-fails_by_lines j v a lines kept (why.TooManyWords n) (inr (inr (r, inside, wrong))) =
-    absurd (few n (how_many 4096 (possible (place_in j r) (fact_at j a) a)) wrong.1 wrong.2 ((kept r inside).few wrong.0))
-fails_by_lines j v a lines kept (why.ByWord w b) (inl start) = absurd start.2
-fails_by_lines j v a lines kept (why.ByWord w b) (inr (inl line)) = absurd line.1
-fails_by_lines j v a lines kept (why.ByWord w b) (inr (inr (r, inside, wrong))) =
-    let keeps : Keeps lines j.certificate (place_in j r) (fact_at j a) a v (meaning_at (place_in j r) a w) = (kept r inside).each w wrong.0 wrong.1 in
-    word_kept lines j.certificate (place_in j r) (fact_at j a) a w b (subst (λ u. Keeps lines j.certificate (place_in j r) (fact_at j a) a u (meaning_at (place_in j r) a w)) (sym wrong.2) keeps) wrong.3
-fails_by_lines j v a lines kept why.NoFact h = refl
-fails_by_lines j v a lines kept (why.StartExcluded g) h = refl
-fails_by_lines j v a lines kept why.LineAtNoEntry h = refl
-fails_by_lines j v a lines kept why.InNoBody h = refl
-fails_by_lines j v a lines kept (why.OffsetInMain o) h = refl
-fails_by_lines j v a lines kept (why.NoOffset e) h = refl
-fails_by_lines j v a lines kept (why.RoutineNotListed e) h = refl
+pub fails_by_lines : (j : Case) (v : Condition) (a : ℕ) (lines : Bool) → IsDeclared j.declaration → KeptOrUnowned lines j v a → FailsByLinesAlone j a v
+fails_by_lines j v a lines d kept (why.TooManyWords k n) (inl start) = absurd start.2
+fails_by_lines j v a lines d kept (why.TooManyWords k n) (inr (inl line)) = absurd line.1
+fails_by_lines j v a lines d kept (why.TooManyWords k n) (inr (inr word)) = facts_kept lines j v a word.routine word.index word.fact (why.TooManyWords k n) d kept word.is word.wrong
+fails_by_lines j v a lines d kept (why.ByWord k w b) (inl start) = absurd start.2
+fails_by_lines j v a lines d kept (why.ByWord k w b) (inr (inl line)) = absurd line.1
+fails_by_lines j v a lines d kept (why.ByWord k w b) (inr (inr word)) = facts_kept lines j v a word.routine word.index word.fact (why.ByWord k w b) d kept word.is word.wrong
+fails_by_lines j v a lines d kept (why.AtStart l) h = refl
+fails_by_lines j v a lines d kept why.LineAtNoEntry h = refl
+fails_by_lines j v a lines d kept why.InNoBody h = refl
+fails_by_lines j v a lines d kept (why.OffsetInMain i o) h = refl
+fails_by_lines j v a lines d kept (why.SitesInMain i) h = refl
+fails_by_lines j v a lines d kept (why.NoOffset i e) h = refl
+fails_by_lines j v a lines d kept (why.NoSites i e) h = refl
+fails_by_lines j v a lines d kept (why.RoutineNotListed e) h = refl
 
--- What is found where lines don't count isn't of lines.
+-- What is found where lines do not count is not of lines.
 pub not_of_lines : (b : Bool) → IsSought NotOfLines b → b ≡ false
 not_of_lines true h = sym h
 not_of_lines false h = refl
 
 -- ---- the order
 
--- The conditions that aren't asked are kept where lines don't count.
-others_kept : (j : Case) (a : ℕ) (u : Condition) → 11 ≤ place_asked u → KeepsAt false j u a
-others_kept j a V1 le r here = record { few = λ e. absurd (first_not_third e); each = λ w lt is. tt }
+-- The conditions that are not asked are kept of each fact where lines do not count.
+others_kept : (j : Case) (r : Routine) (a : ℕ) (f : Fact) (u : Condition) → 11 ≤ place_asked u → WordsKeep false j u r a f
+others_kept j r a f V1 le = record { few = λ e. absurd (first_not_third e); each = λ w lt is. tt }
   where
     first_not_third : V1 ≡ V3 → ⊥
     first_not_third e = cc
-others_kept j a V2 le r here = record { few = λ e. absurd (second_not_third e); each = λ w lt is. tt }
+others_kept j r a f V2 le = record { few = λ e. absurd (second_not_third e); each = λ w lt is. tt }
   where
     second_not_third : V2 ≡ V3 → ⊥
     second_not_third e = cc
-others_kept j a V6 le r here = record { few = λ e. absurd (sixth_not_third e); each = λ w lt is count. absurd (false≢true count) }
+others_kept j r a f V6 le = record { few = λ e. absurd (sixth_not_third e); each = λ w lt is count. absurd (false≢true count) }
   where
     sixth_not_third : V6 ≡ V3 → ⊥
     sixth_not_third e = cc
-others_kept j a V8 le r here = record { few = λ e. absurd (eighth_not_third e); each = λ w lt is e small called count. absurd (false≢true count) }
+others_kept j r a f V8 le = record { few = λ e. absurd (eighth_not_third e); each = λ w lt is e small called count. absurd (false≢true count) }
   where
     eighth_not_third : V8 ≡ V3 → ⊥
     eighth_not_third e = cc
-others_kept j a _ le r here = absurd (omega (arith, le))
+others_kept j r a f _ le = absurd (omega (arith, le))
+
+-- So they fail by lines alone.
+others_fail : (j : Case) (a : ℕ) (u : Condition) → 11 ≤ place_asked u → FailsByLinesAlone j a u
+others_fail j a u le (why.TooManyWords k n) (inl start) = absurd start.2
+others_fail j a u le (why.TooManyWords k n) (inr (inl line)) = absurd line.1
+others_fail j a u le (why.TooManyWords k n) (inr (inr word)) = fact_kept false j u a word.routine word.index word.fact (why.TooManyWords k n) (others_kept j word.routine a word.fact u le) word.wrong
+others_fail j a u le (why.ByWord k w b) (inl start) = absurd start.2
+others_fail j a u le (why.ByWord k w b) (inr (inl line)) = absurd line.1
+others_fail j a u le (why.ByWord k w b) (inr (inr word)) = fact_kept false j u a word.routine word.index word.fact (why.ByWord k w b) (others_kept j word.routine a word.fact u le) word.wrong
+others_fail j a u le (why.AtStart l) h = refl
+others_fail j a u le why.LineAtNoEntry h = refl
+others_fail j a u le why.InNoBody h = refl
+others_fail j a u le (why.OffsetInMain i o) h = refl
+others_fail j a u le (why.SitesInMain i) h = refl
+others_fail j a u le (why.NoOffset i e) h = refl
+others_fail j a u le (why.NoSites i e) h = refl
+others_fail j a u le (why.RoutineNotListed e) h = refl
 
 -- The places of a list are counted up from n.
 Counted : ℕ → List Condition → Type 0
@@ -186,7 +251,7 @@ passed_one j a i lt fails passed u less = elim (cases_lt (place_asked u) i) [
 pub passed_all : (j : Case) (a i : ℕ) → 11 ≤ i → Passed j a i → EachFailsByLinesAlone j a
 passed_all j a i le passed u = elim (cases_lt (place_asked u) 11) [
   | inl h ↦ passed u (omega (arith, h, le))
-  | inr h ↦ fails_by_lines j u a false (others_kept j a u h)
+  | inr h ↦ others_fail j a u h
 ]
 
 pub none_before : (j : Case) (a i : ℕ) → i < 11 → Passed j a i → NoneFailsBefore j a (in_turn i)

@@ -1,8 +1,8 @@
-pub mod ArriveLemmas
-pub mod BreachLemmas
-pub mod FoundLemmas
-pub mod GapLemmas
-pub mod LineLemmas
-pub mod SetLemmas
 mod ByLinesLemmas
+mod FoundLemmas
+mod GapLemmas
+mod LandingLemmas
+mod ReasonLemmas
 mod RefuteLemmas
+mod SetLemmas
+mod WordLemmas

@@ -1,68 +1,56 @@
--- Where it is explained that a condition fails, it doesn't hold.
-use Rattle.std.proofs.Common.{◌≡◌, ℕ, ◌+◌, ◌<◌, ◌≤◌, Bool, true, false, ◌&&◌, ◌||◌, ◌⊎◌, Option, Some, None, List, [], ◌∷◌, refl, sym, ◌∙◌, subst, inl, inr, arith, if◌then◌else◌}
-use Rattle.std.proofs.lemmas.Bool.{true≢false, and_parts, eqb-true, lt-ltb}
+-- Where it is explained that a condition fails of which several facts may be asked, it does not hold.
+use Rattle.std.proofs.Common.{◌≡◌, ℕ, ◌<◌, ◌≤◌, Bool, true, false, ◌&&◌, ◌||◌, ◌⊎◌, Some, None, List, [], ◌∷◌, length, refl, sym, ◌∙◌, subst, inl, inr, arith, if◌then◌else◌, zero, suc}
+use Rattle.std.proofs.lemmas.Bool.{true≢false}
 use Rattle.instruct.specs.Instructions.{Meaning, Jms, Jmp, meaning_of}
-use Rattle.wordset.specs.Words.{Words, how_many, one, plus, some_below}
-use Rattle.wordset.proofs.Tests.{some_to}
+use Rattle.wordset.specs.Words.{Words, how_many, plus, some_below, has_some}
+use Rattle.wordset.proofs.Tests.{none_of_some}
 use Rattle.processor.specs.Runs.{Image}
 use Rattle.declaration.specs.Declaration.{Routine, IsDeclared}
-use Rattle.domain.specs.Changes.{with_offsets}
-use Rattle.domain.specs.Statements.{all_offsets}
-use Rattle.facts.specs.Conditions.{called, calls_through_index, returned_through}
-use Rattle.domain.specs.Facts.{Ac, Cell, Equation, Fact, Among, Entails, EntailsOffsets, Knows, KnowsAll, joined, possible, tape_word}
-use Rattle.domain.specs.Meaning.{equation_of}
-use Rattle.facts.specs.Outcomes.{Successor, Goes, CallsTo, Returns, outcomes_at}
-use Rattle.facts.specs.Starts.{AreTapeWords, are_always, has_each, is_always}
+use Rattle.domain.specs.Sums.Facts.{Fact, Rules, OfEquations, OfSums, last_site}
+use Rattle.domain.specs.Sums.Adding.{is_void}
+use Rattle.domain.specs.Sums.Narrowing.{narrowed}
+use Rattle.facts.specs.Conditions.{calls_through_index, returned_through}
+use Rattle.facts.specs.Sums.Conditions.{called}
+use Rattle.facts.specs.Sums.Landing.{fact_at}
+use Rattle.facts.specs.Sums.Operations.{outcomes_of}
+use Rattle.facts.specs.Sums.Outcomes.{Successor, Goes, CallsTo, Returns}
+use Rattle.facts.specs.Sums.References.{possible}
 use Rattle.facts.specs.declared.Condition.{Condition}
-use Rattle.facts.specs.declared.Condition.TheVariants.{V1, V2, V3}
-use Rattle.facts.proofs.Starting.{ac_each, cell_each, each_at, equations_always, link_each, mq_each}
-use Rattle.certificate.specs.Certificate.{Certificate}
-use Rattle.judge.specs.Conditions.{Case, Covers, CoversCallee, EachSuccessor, EachTarget, HoldsAt, HoldsFor, IsIn, IsLower, IsPlaced, KeepsPointer, LandsAfter, LandsAt, LinesArePlaced, MayCall, MayReturn, SuccessorLands, ReturnsWell, StartsWell, fact_at, place_in}
-use Rattle.reasons.specs.Breaches.{Breaks, CallBreaks, Misses, OutcomeMisses, ReturnBreaks, SomeOutcome, condition_of, condition_of_call}
-use Rattle.reasons.specs.Gaps.{IsBeyond, IsCounterexample, IsStartCounterexample}
+use Rattle.facts.specs.declared.Condition.TheVariants.{V1, V2, V3, V4, V5, V6, V7, V8, V9, V10, V11, V12, V13, V14, V15}
+use Rattle.certificate.specs.Sums.Certificate.{Certificate, has_exits}
+use Rattle.judge.specs.Sums.Landing.{Case, place_in, sited, with_sites, sites_of, asked, asked_at, LandsAt, SuccessorLands, EachSuccessor, EachLandsAfter, exits_of, called_from, LandsAfter}
+use Rattle.judge.specs.Sums.Conditions.{EachFact, IsPlaced, IsOfMain, HasSites, LinesArePlaced, EachTarget, KeepsPointer, IsLower, MayCall, Covers, CoversCallee, IsSite, MayReturn, ReturnsWell, HoldsFor, HoldsForWords, HoldsAt}
+use Rattle.reasons.specs.Breaches.{Breaks, CallBreaks, MissesAfter, OutcomeMisses, ReturnBreaks, SomeOutcome, condition_of, condition_of_call}
+use Rattle.reasons.specs.Reasons.{IsAskedFact, IsMisplaced, IsWrongStart, IsWrongWord, claimed_at}
 use Rattle.reasons.specs.Laws.{ExplainedFails}
-use Rattle.reasons.specs.Reasons.{HasWrongWord, IsMisplaced, IsWrongStart}
 use Rattle.reasons.specs.declared.breach.Breach.{Breach}
 use Rattle.reasons.specs.declared.breach.Breach.TheVariants as breach
 use Rattle.reasons.specs.declared.breach.CallBreach.{CallBreach}
 use Rattle.reasons.specs.declared.breach.CallBreach.TheVariants as call
 use Rattle.reasons.specs.declared.breach.Landing.{Landing}
-use Rattle.reasons.specs.declared.breach.Landing.TheVariants.{NoFact, OtherBody, Excluded}
 use Rattle.reasons.specs.declared.breach.ReturnBreach.{ReturnBreach}
 use Rattle.reasons.specs.declared.breach.ReturnBreach.TheVariants as return
-use Rattle.reasons.specs.declared.counterexample.Counterexample.{Counterexample}
-use Rattle.reasons.specs.declared.counterexample.Counterexample.TheVariants as gap
 use Rattle.reasons.specs.declared.reason.Reason.{Reason}
 use Rattle.reasons.specs.declared.reason.Reason.TheVariants as why
 
 pub both : (b : Bool) → b ≡ true → b ≡ false → ⊥
 both b t f = true≢false (sym t ∙ f)
 
--- ---- what one fact leaves possible and another excludes
+pub declared_or : (x y : Bool) → x ≡ false → y ≡ false → (x ≡ true) ⊎ (y ≡ true) → ⊥
+declared_or x y f g (inl t) = both x t f
+declared_or x y f g (inr t) = both y t g
 
-known_of_all : (a : Fact) (es : List Equation) (q : Equation) → KnowsAll a es → Among q es → Knows a q
-known_of_all a [] q k h = absurd h
-known_of_all a (x ∷ es) q k (inl same) = subst (λ e. Knows a e) same k.0
-known_of_all a (x ∷ es) q k (inr more) = known_of_all a es q k.1 more
-
-gap_refutes : (a b : Fact) (g : Counterexample) → IsCounterexample a b g → Entails a b → EntailsOffsets a b → ⊥
-gap_refutes a b (gap.Accumulator w) h e o = both (b.set Ac w) (e.sets Ac w h.small h.possible) h.excluded
-gap_refutes a b (gap.Mq w) h e o = both (b.mq w) (e.mq w h.small h.possible) h.excluded
-gap_refutes a b (gap.Link l) h e o = both (b.link l) (e.link l h.small h.possible) h.excluded
-gap_refutes a b (gap.Cell c w) h e o = both (b.set (Cell c) w) (e.sets (Cell c) w h.small h.possible) h.excluded
-gap_refutes a b (gap.Equation q) h e o = h.1 (known_of_all a b.equations (equation_of q) e.equations h.0)
-gap_refutes a b (gap.Offset p) h e o = both (b.offsets p) (o p h.0 h.1) h.2
-
-misses_refutes : (j : Case) (r : Routine) (a : ℕ) (f : Fact) (l : Landing) → Misses j.certificate j.declaration r a f l → LandsAt j r a f → ⊥
-misses_refutes j r a f NoFact h lands = both (j.certificate.has_fact a) lands.there h
-misses_refutes j r a f OtherBody h lands = both (j.declaration.body r a) lands.inside h
-misses_refutes j r a f (Excluded g) h lands = gap_refutes f (fact_at j a) g h.1 lands.entails lands.offsets
+pub few : (n m : ℕ) → 64 < n → n ≡ m → m ≤ 64 → ⊥
+few n m lt same le = absurd (omega (arith, lt, same, le))
 
 -- ---- calls
 
-target_of : (j : Case) (r : Routine) (a : ℕ) (m : Meaning) (P : ℕ → Type 0) (e : ℕ) → e < 4096 → called (place_in j r) (fact_at j a) m e ≡ true → EachTarget j r a m P → P e
-target_of j r a (Jms i c) P e lt is h = h e lt is
-target_of j r a _ P e lt is h = absurd (true≢false (sym is))
+pub ranks_clash : (x y rank own : ℕ) → x ≡ rank → y ≡ own → own ≤ rank → x < y → ⊥
+ranks_clash x y rank own e f le lt = absurd (omega (arith, e, f, le, lt))
+
+target_of : (j : Case) (r : Routine) (f : Fact) (m : Meaning) (P : ℕ → Type 0) (e : ℕ) → e < 4096 → called (place_in j r) f m e ≡ true → EachTarget j r f m P → P e
+target_of j r f (Jms i c) P e lt is h = h e lt is
+target_of j r f _ P e lt is h = absurd (true≢false (sym is))
 
 lower_than : (c : Certificate) (r : Routine) (q e : ℕ) → r ≡ Some q → IsLower c r e → c.rank e < c.rank q
 lower_than c r q e is h = subst (λ x. IsLower c x e) is h
@@ -70,29 +58,35 @@ lower_than c r q e is h = subst (λ x. IsLower c x e) is h
 covered : (c : Certificate) (r : Routine) (q e : ℕ) → r ≡ Some q → CoversCallee c r e → Covers c q e
 covered c r q e is h = subst (λ x. CoversCallee c x e) is h
 
-pub ranks_clash : (x y rank own : ℕ) → x ≡ rank → y ≡ own → own ≤ rank → x < y → ⊥
-ranks_clash x y rank own e f le lt = absurd (omega (arith, e, f, le, lt))
+pub past_last : (a m : ℕ) → m < a → a ≤ m → ⊥
+past_last a m lt le = absurd (omega (arith, lt, le))
 
-pub too_high : (a : ℕ) → 4087 < a → a ≤ 4087 → ⊥
-too_high a lt le = absurd (omega (arith, lt, le))
+-- The exit at a place of the list lands, where all do.
+one_lands_after : (j : Case) (r : Routine) (a e o : ℕ) (f : Fact) (xs : List Fact) (i : ℕ) → i < length xs → EachLandsAfter j r a e o f xs → EachLandsAfter j r a e o f (fact_at xs i ∷ [])
+one_lands_after j r a e o f [] i lt h = absurd (omega (arith, lt))
+one_lands_after j r a e o f (x ∷ xs) zero lt h = (h.0, tt)
+one_lands_after j r a e o f (x ∷ xs) (suc i) lt h = one_lands_after j r a e o f xs i (omega (arith, lt)) h.1
 
-module _ (j : Case) (r : Routine) (a : ℕ) (m : Meaning) (e : ℕ) (lt : e < 4096) (is : called (place_in j r) (fact_at j a) m e ≡ true) where
-  may_call : EachTarget j r a m (λ x. MayCall j r x) → MayCall j r e
-  may_call h = target_of j r a m (λ x. MayCall j r x) e lt is h
+module _ (j : Case) (r : Routine) (a : ℕ) (f : Fact) (m : Meaning) (e : ℕ) (lt : e < 4096) (is : called (place_in j r) f m e ≡ true) where
+  may_call : EachTarget j r f m (λ x. MayCall j r x) → MayCall j r e
+  may_call h = target_of j r f m (λ x. MayCall j r x) e lt is h
 
-  covers : EachTarget j r a m (λ x. CoversCallee j.certificate r x) → (q : ℕ) → r ≡ Some q → Covers j.certificate q e
-  covers h q here = covered j.certificate r q e here (target_of j r a m (λ x. CoversCallee j.certificate r x) e lt is h)
+  covers : EachTarget j r f m (λ x. CoversCallee j.certificate r x) → (q : ℕ) → r ≡ Some q → Covers j.certificate q e
+  covers h q here = covered j.certificate r q e here (target_of j r f m (λ x. CoversCallee j.certificate r x) e lt is h)
 
-  at_site : EachTarget j r a m (λ x. (j.certificate.sites x a ≡ true) × (a ≤ 4087)) → (j.certificate.sites e a ≡ true) × (a ≤ 4087)
-  at_site h = target_of j r a m (λ x. (j.certificate.sites x a ≡ true) × (a ≤ 4087)) e lt is h
+  at_site : EachTarget j r f m (λ x. IsSite j.certificate a x) → IsSite j.certificate a e
+  at_site h = target_of j r f m (λ x. IsSite j.certificate a x) e lt is h
 
-  enters : EachTarget j r a m (λ x. LandsAt j (Some x) (plus x 1) (with_offsets (one 0) (fact_at j a))) → LandsAt j (Some e) (plus e 1) (with_offsets (one 0) (fact_at j a))
-  enters h = target_of j r a m (λ x. LandsAt j (Some x) (plus x 1) (with_offsets (one 0) (fact_at j a))) e lt is h
+  enters : EachTarget j r f m (λ x. LandsAt j (Some x) (plus x 1) (called_from a f)) → LandsAt j (Some e) (plus e 1) (called_from a f)
+  enters h = target_of j r f m (λ x. LandsAt j (Some x) (plus x 1) (called_from a f)) e lt is h
 
-  lands_after : EachTarget j r a m (λ x. LandsAfter j r a x) → LandsAfter j r a e
-  lands_after h = target_of j r a m (λ x. LandsAfter j r a x) e lt is h
+  lands_after : EachTarget j r f m (λ x. LandsAfter j r a x f) → LandsAfter j r a e f
+  lands_after h = target_of j r f m (λ x. LandsAfter j r a x f) e lt is h
 
-  call_refutes : (b : CallBreach) → CallBreaks j.certificate (place_in j r) (fact_at j a) a e b → HoldsFor j (condition_of_call b) r a m → ⊥
+  after_refutes : (o i : ℕ) (l : Landing) → MissesAfter j r a e o i f l → LandsAfter j r a e f → ⊥
+  after_refutes o i l h lands = h.misses.fails ((one_lands_after j r a e o f (exits_of j e o) i h.there (lands o h.offset)).0 h.site)
+
+  call_refutes : (b : CallBreach) → CallBreaks j r a f e b → HoldsFor j (condition_of_call b) r a f m → ⊥
   call_refutes call.NoEntry h holds = both (j.declaration.entry e) (may_call holds.1).entry h
   call_refutes call.NotListed h holds = both (j.certificate.listed e) (may_call holds.1).listed h
   call_refutes (call.NotLower rank own) h holds =
@@ -101,10 +95,9 @@ module _ (j : Case) (r : Routine) (a : ℕ) (m : Meaning) (e : ℕ) (lt : e < 40
   call_refutes call.EntryNotWritten h holds = both (j.certificate.writes h.0 e) (covers holds h.0 h.1).entry h.2
   call_refutes call.WritesCaller h holds = both (j.certificate.writes e h.0) h.2 (covers holds h.0 h.1).own
   call_refutes call.NoSite h holds = both (j.certificate.sites e a) (at_site holds).0 h
-  call_refutes call.TooHigh h holds = too_high a h (at_site holds).1
-  call_refutes (call.Enters l) h holds = misses_refutes j (Some e) (plus e 1) (with_offsets (one 0) (fact_at j a)) l h (enters holds)
-  call_refutes (call.Returns o l) h holds =
-      misses_refutes j r (plus (a + 1) o) (joined (fact_at j a) (j.certificate.exit e o) (j.certificate.writes e)) l h.2 (lands_after holds o h.0 h.1)
+  call_refutes call.TooHigh h holds = past_last a (last_site j.certificate.rules) h (at_site holds).1
+  call_refutes (call.Enters l) h holds = h.fails (enters holds)
+  call_refutes (call.Returns o i l) h holds = after_refutes o i l h (lands_after holds)
 
 pointer_refutes : (m : Meaning) → calls_through_index m ≡ true → KeepsPointer m → ⊥
 pointer_refutes (Jms i c) is h = true≢false (sym is ∙ h)
@@ -126,86 +119,125 @@ own false x c e is = absurd (none_some e is)
     none_some : (x : ℕ) → None ≡ Some x → ⊥
     none_some x same = cc
 
-entails_exit : (a b : Fact) → Entails a b → Entails a (with_offsets all_offsets b)
-entails_exit a b h = record { sets = h.sets; mq = h.mq; link = h.link; equations = h.equations }
-
 -- What a return through e must be.
-abbrev ReturnsRight : Case → Routine → ℕ → ℕ → Type 0
-ReturnsRight j r a e = (r ≡ Some e) × ((o : ℕ) → o < 8 → (fact_at j a).offsets o ≡ true → MayReturn j e (fact_at j a) o)
+abbrev ReturnsRight : Case → Routine → Fact → ℕ → Type 0
+ReturnsRight j r f e = (r ≡ Some e) × ((o : ℕ) → o < 64 → f.offsets o ≡ true → MayReturn j e f o)
 
-own_refutes : (j : Case) (r : Routine) (a e : ℕ) (b : ReturnBreach) → ReturnBreaks j.certificate (place_in j r) (fact_at j a) e b → ReturnsRight j r a e → ⊥
-own_refutes j r a e return.OtherRoutine h right = h right.0
-own_refutes j r a e (return.NotDeclared o) h right = both (j.declaration.offset e o) (right.1 o h.0 h.1).declared h.2
-own_refutes j r a e (return.NoExit o) h right = both (j.certificate.has_exit e o) (right.1 o h.0 h.1).there h.2
-own_refutes j r a e (return.Excluded o g) h right =
-    gap_refutes (fact_at j a) (with_offsets all_offsets (j.certificate.exit e o)) g h.3 (entails_exit (fact_at j a) (j.certificate.exit e o) (right.1 o h.0 h.1).entails) (λ p lt is. lt-ltb p 8 lt)
+undeclared : (j : Case) (e o : ℕ) (f : Fact) → (8 ≤ o) ⊎ (j.declaration.offset e o ≡ false) → MayReturn j e f o → ⊥
+undeclared j e o f (inl high) h = absurd (omega (arith, high, h.0))
+undeclared j e o f (inr none) h = both (j.declaration.offset e o) h.1 none
 
-return_refutes : (j : Case) (r : Routine) (a e : ℕ) (b : ReturnBreach) (m : Meaning) → returned_through j.declaration m ≡ Some e →
-    ReturnBreaks j.certificate (place_in j r) (fact_at j a) e b → ReturnsWell j r a m → ⊥
-return_refutes j r a e b (Jmp i c) through h well =
+own_refutes : (j : Case) (r : Routine) (f : Fact) (e : ℕ) (b : ReturnBreach) → ReturnBreaks j r f e b → ReturnsRight j r f e → ⊥
+own_refutes j r f e return.OtherRoutine h right = h right.0
+own_refutes j r f e (return.NotDeclared o) h right = undeclared j e o f h.2 (right.1 o h.0 h.1)
+own_refutes j r f e (return.NotAllowed o l) h right = h.2.fails (right.1 o h.0 h.1).2
+
+return_refutes : (j : Case) (r : Routine) (f : Fact) (e : ℕ) (b : ReturnBreach) (m : Meaning) → returned_through j.declaration m ≡ Some e →
+    ReturnBreaks j r f e b → ReturnsWell j r f m → ⊥
+return_refutes j r f e b (Jmp i c) through h well =
     let way = own i (j.declaration.entry c) c e through in
-    own_refutes j r a e b h (subst (λ x. ReturnsRight j r a x) way.2 (well way.0 way.1))
-return_refutes j r a e b _ through h well = absurd (none_some e through)
+    own_refutes j r f e b h (subst (λ x. ReturnsRight j r f x) way.2 (well way.0 way.1))
+return_refutes j r f e b _ through h well = absurd (none_some e through)
   where
     none_some : (x : ℕ) → None ≡ Some x → ⊥
     none_some x same = cc
 
 -- ---- outcomes
 
-outcome_refutes : (j : Case) (r : Routine) (b : ℕ) (l : Landing) (o : Successor) → OutcomeMisses j.certificate (place_in j r) b l o → SuccessorLands j r o → ⊥
-outcome_refutes j r b l (Goes next f) h lands = misses_refutes j r b f l h.2 (lands b h.0 h.1)
+outcome_refutes : (j : Case) (r : Routine) (b : ℕ) (l : Landing) (o : Successor) → OutcomeMisses j r b l o → SuccessorLands j r o → ⊥
+outcome_refutes j r b l (Goes next f) h lands = h.2.fails (lands b h.0 h.1)
 outcome_refutes j r b l (CallsTo next f) h lands = absurd h
 outcome_refutes j r b l (Returns f) h lands = absurd h
 
-outcomes_refute : (j : Case) (r : Routine) (b : ℕ) (l : Landing) (os : List Successor) → SomeOutcome (OutcomeMisses j.certificate (place_in j r) b l) os → EachSuccessor (SuccessorLands j r) os → ⊥
+outcomes_refute : (j : Case) (r : Routine) (b : ℕ) (l : Landing) (os : List Successor) → SomeOutcome (OutcomeMisses j r b l) os → EachSuccessor (SuccessorLands j r) os → ⊥
 outcomes_refute j r b l [] h lands = absurd h
 outcomes_refute j r b l (o ∷ os) (inl h) lands = outcome_refutes j r b l o h lands.0
 outcomes_refute j r b l (o ∷ os) (inr h) lands = outcomes_refute j r b l os h lands.1
 
 -- ---- words
 
-pub declared_or : (x y : Bool) → x ≡ false → y ≡ false → (x ≡ true) ⊎ (y ≡ true) → ⊥
-declared_or x y f g (inl t) = both x t f
-declared_or x y f g (inr t) = both y t g
+word_refutes : (j : Case) (r : Routine) (a : ℕ) (f : Fact) (w : ℕ) (b : Breach) → Breaks j r a f (meaning_of j.declaration.profile a w) b → HoldsFor j (condition_of b) r a f (meaning_of j.declaration.profile a w) → ⊥
+word_refutes j r a f w breach.NotSupported h holds = h holds
+word_refutes j r a f w (breach.WritesUndeclared b) h holds = declared_or (j.declaration.variable b) (j.declaration.entry b) h.2 h.3 (holds b h.0 h.1)
+word_refutes j r a f w (breach.WritesEntry b) h holds = h.3 holds
+word_refutes j r a f w (breach.WritesUnlisted b) h holds = h.2 (holds b h.0 h.1)
+word_refutes j r a f w breach.HaltsUndeclared h holds = h holds
+word_refutes j r a f w breach.CallsThroughIndex h holds = pointer_refutes (meaning_of j.declaration.profile a w) h holds.0
+word_refutes j r a f w (breach.Calls e b) h holds = call_refutes j r a f (meaning_of j.declaration.profile a w) e h.0 h.1 b h.2 holds
+word_refutes j r a f w (breach.Returns e b) h holds = return_refutes j r f e b (meaning_of j.declaration.profile a w) h.0 h.1 holds
+word_refutes j r a f w (breach.GoesOn b l) h holds = outcomes_refute j r b l (outcomes_of (place_in j r) f a (meaning_of j.declaration.profile a w)) h holds
+word_refutes j r a f w (breach.ReadsUnlisted b) h holds = h.2 (holds b h.0 h.1)
 
-word_refutes : (j : Case) (r : Routine) (a w : ℕ) (b : Breach) → Breaks j.certificate (place_in j r) (fact_at j a) a w b → HoldsFor j (condition_of b) r a (meaning_of j.declaration.profile a w) → ⊥
-word_refutes j r a w breach.NotSupported h holds = h holds
-word_refutes j r a w (breach.WritesUndeclared b) h holds = declared_or (j.declaration.variable b) (j.declaration.entry b) h.2 h.3 (holds b h.0 h.1)
-word_refutes j r a w (breach.WritesEntry b) h holds = h.3 holds
-word_refutes j r a w (breach.WritesUnlisted b) h holds = h.2 (holds b h.0 h.1)
-word_refutes j r a w breach.HaltsUndeclared h holds = h holds
-word_refutes j r a w breach.CallsThroughIndex h holds = pointer_refutes (meaning_of j.declaration.profile a w) h holds.0
-word_refutes j r a w (breach.Calls e b) h holds = call_refutes j r a (meaning_of j.declaration.profile a w) e h.0 h.1 b h.2 holds
-word_refutes j r a w (breach.Returns e b) h holds = return_refutes j r a e b (meaning_of j.declaration.profile a w) h.0 h.1 holds
-word_refutes j r a w (breach.GoesOn b l) h holds = outcomes_refute j r b l (outcomes_at (place_in j r) (fact_at j a) a w) h holds
-word_refutes j r a w (breach.ReadsUnlisted b) h holds = h.2 (holds b h.0 h.1)
+-- ---- facts that are asked
 
--- what a condition asks of each possible word
-asks_word : (j : Case) (v : Condition) (a : ℕ) (r : Routine) (w : ℕ) → IsIn j r a → w < 4096 → possible (place_in j r) (fact_at j a) a w ≡ true → HoldsAt j v a → HoldsFor j v r a (meaning_of j.declaration.profile a w)
-asks_word j V1 a r w inside lt is h = tt
-asks_word j V2 a r w inside lt is h = tt
-asks_word j V3 a r w inside lt is h = h.1 r w inside lt is
-asks_word j _ a r w inside lt is h = h r w inside lt is
+first_is : (f g : Fact) (p : Fact → Type 0) (xs : List Fact) → (g ∷ []) ≡ f ∷ [] → EachFact p (g ∷ xs) → p f
+first_is f g p xs same h = subst p (head_same g f same) h.0
+  where
+    head_same : (x y : Fact) → (x ∷ []) ≡ y ∷ [] → x ≡ y
+    head_same x y is = cc
 
-pub few : (n m : ℕ) → 64 < n → n ≡ m → m ≤ 64 → ⊥
-few n m lt same le = absurd (omega (arith, lt, same, le))
+nothing_is : (f : Fact) → [] ≡ f ∷ [] → ⊥
+nothing_is f same = cc
 
-wrong_word_refutes : (j : Case) (v : Condition) (a : ℕ) (reason : Reason) → HasWrongWord j v a reason → HoldsAt j v a → ⊥
-wrong_word_refutes j v a (why.TooManyWords n) (r, inside, wrong) holds =
-    let third : HoldsAt j V3 a = subst (λ x. HoldsAt j x a) wrong.0 holds in
-    few n (how_many 4096 (possible (place_in j r) (fact_at j a) a)) wrong.1 wrong.2 (third.0 r inside)
-wrong_word_refutes j v a (why.ByWord w b) (r, inside, wrong) holds =
-    let its : HoldsAt j (condition_of b) a = subst (λ x. HoldsAt j x a) (sym wrong.2) holds in
-    word_refutes j r a w b wrong.3 (asks_word j (condition_of b) a r w inside wrong.0 wrong.1 its)
-wrong_word_refutes j v a why.NoFact (r, inside, wrong) holds = absurd wrong
-wrong_word_refutes j v a (why.StartExcluded g) (r, inside, wrong) holds = absurd wrong
-wrong_word_refutes j v a why.LineAtNoEntry (r, inside, wrong) holds = absurd wrong
-wrong_word_refutes j v a why.InNoBody (r, inside, wrong) holds = absurd wrong
-wrong_word_refutes j v a (why.OffsetInMain o) (r, inside, wrong) holds = absurd wrong
-wrong_word_refutes j v a (why.NoOffset e) (r, inside, wrong) holds = absurd wrong
-wrong_word_refutes j v a (why.RoutineNotListed e) (r, inside, wrong) holds = absurd wrong
+-- The fact that is asked where one of the list stands is among those that are asked where all do.
+asked_one : (p : Fact → Type 0) (rules : Rules) (image : Image) (sites : Words) (fs : List Fact) (i : ℕ) (f : Fact) → i < length fs →
+    asked rules image (sited rules sites (fact_at fs i ∷ [])) ≡ f ∷ [] → EachFact p (asked rules image (sited rules sites fs)) → p f
+asked_one p rules image sites [] i f lt is h = absurd (omega (arith, lt))
+asked_one p OfEquations image sites (x ∷ xs) zero f lt is h = first_is f (with_sites sites x) p (sited OfEquations sites xs) is h
+asked_one p OfEquations image sites (x ∷ xs) (suc i) f lt is h = asked_one p OfEquations image sites xs i f (omega (arith, lt)) is h.1
+asked_one p OfSums image sites (x ∷ xs) zero f lt is h = chosen (is_void (narrowed image x)) is h
+  where
+    chosen : (b : Bool) → (if b then [] else narrowed image x ∷ []) ≡ f ∷ [] → EachFact p (if b then asked OfSums image xs else narrowed image x ∷ asked OfSums image xs) → p f
+    chosen true same k = absurd (nothing_is f same)
+    chosen false same k = first_is f (narrowed image x) p (asked OfSums image xs) same k
+asked_one p OfSums image sites (x ∷ xs) (suc i) f lt is h = asked_one p OfSums image sites xs i f (omega (arith, lt)) is (rest (is_void (narrowed image x)) h)
+  where
+    rest : (b : Bool) → EachFact p (if b then asked OfSums image xs else narrowed image x ∷ asked OfSums image xs) → EachFact p (asked OfSums image xs)
+    rest true k = k
+    rest false k = k.1
+
+pub asked_here : (j : Case) (r : Routine) (a i : ℕ) (f : Fact) (p : Fact → Type 0) → IsAskedFact j r a i f → EachFact p (asked_at j r a) → p f
+asked_here j r a i f p is h = asked_one p j.certificate.rules j.image (sites_of j.certificate r) (j.certificate.facts a) i f is.there is.asked_is h
+
+asks_word : (j : Case) (v : Condition) (a : ℕ) (r : Routine) (i : ℕ) (f : Fact) (w : ℕ) → IsAskedFact j r a i f → w < 4096 → possible (place_in j r) f a w ≡ true → HoldsAt j v a → HoldsFor j v r a f (meaning_of j.declaration.profile a w)
+asks_word j V1 a r i f w is lt may h = tt
+asks_word j V2 a r i f w is lt may h = tt
+asks_word j V3 a r i f w is lt may h = asked_here j r a i f (HoldsForWords j V3 r a) is (h.1 r is.body) w lt may
+asks_word j V4 a r i f w is lt may h = asked_here j r a i f (HoldsForWords j V4 r a) is (h r is.body) w lt may
+asks_word j V5 a r i f w is lt may h = asked_here j r a i f (HoldsForWords j V5 r a) is (h r is.body) w lt may
+asks_word j V6 a r i f w is lt may h = asked_here j r a i f (HoldsForWords j V6 r a) is (h r is.body) w lt may
+asks_word j V7 a r i f w is lt may h = asked_here j r a i f (HoldsForWords j V7 r a) is (h r is.body) w lt may
+asks_word j V8 a r i f w is lt may h = asked_here j r a i f (HoldsForWords j V8 r a) is (h r is.body) w lt may
+asks_word j V9 a r i f w is lt may h = asked_here j r a i f (HoldsForWords j V9 r a) is (h r is.body) w lt may
+asks_word j V10 a r i f w is lt may h = asked_here j r a i f (HoldsForWords j V10 r a) is (h r is.body) w lt may
+asks_word j V11 a r i f w is lt may h = asked_here j r a i f (HoldsForWords j V11 r a) is (h r is.body) w lt may
+asks_word j V12 a r i f w is lt may h = asked_here j r a i f (HoldsForWords j V12 r a) is (h r is.body) w lt may
+asks_word j V13 a r i f w is lt may h = asked_here j r a i f (HoldsForWords j V13 r a) is (h r is.body) w lt may
+asks_word j V14 a r i f w is lt may h = asked_here j r a i f (HoldsForWords j V14 r a) is (h r is.body) w lt may
+asks_word j V15 a r i f w is lt may h = asked_here j r a i f (HoldsForWords j V15 r a) is (h r is.body) w lt may
+
+wrong_refutes : (j : Case) (v : Condition) (a : ℕ) (r : Routine) (i : ℕ) (f : Fact) (reason : Reason) → IsAskedFact j r a i f → IsWrongWord j r a f i v reason → HoldsAt j v a → ⊥
+wrong_refutes j v a r i f (why.TooManyWords k n) is wrong holds =
+    let third : HoldsAt j V3 a = subst (λ x. HoldsAt j x a) wrong.1 holds in
+    few n (how_many 4096 (possible (place_in j r) f a)) wrong.2 wrong.3 (asked_here j r a i f (λ g. how_many 4096 (possible (place_in j r) g a) ≤ 64) is (third.0 r is.body))
+wrong_refutes j v a r i f (why.ByWord k w b) is wrong holds =
+    let its : HoldsAt j (condition_of b) a = subst (λ x. HoldsAt j x a) (sym wrong.3) holds in
+    word_refutes j r a f w b wrong.4 (asks_word j (condition_of b) a r i f w is wrong.1 wrong.2 its)
+wrong_refutes j v a r i f (why.AtStart l) is wrong holds = absurd wrong
+wrong_refutes j v a r i f why.LineAtNoEntry is wrong holds = absurd wrong
+wrong_refutes j v a r i f why.InNoBody is wrong holds = absurd wrong
+wrong_refutes j v a r i f (why.OffsetInMain k o) is wrong holds = absurd wrong
+wrong_refutes j v a r i f (why.SitesInMain k) is wrong holds = absurd wrong
+wrong_refutes j v a r i f (why.NoOffset k e) is wrong holds = absurd wrong
+wrong_refutes j v a r i f (why.NoSites k e) is wrong holds = absurd wrong
+wrong_refutes j v a r i f (why.RoutineNotListed e) is wrong holds = absurd wrong
 
 -- ---- lines
+
+fact_of_each : (p : Fact → Type 0) (fs : List Fact) (i : ℕ) → i < length fs → EachFact p fs → p (fact_at fs i)
+fact_of_each p [] i lt h = absurd (omega (arith, lt))
+fact_of_each p (x ∷ xs) zero lt h = h.0
+fact_of_each p (x ∷ xs) (suc i) lt h = fact_of_each p xs i (omega (arith, lt)) h.1
 
 line_entry : (j : Case) (a : ℕ) (listed exits : Bool) → (listed || exits) ≡ true → (listed ≡ true → j.declaration.entry a ≡ true) → (exits ≡ true → j.declaration.entry a ≡ true) → j.declaration.entry a ≡ true
 line_entry j a true exits h one other = one refl
@@ -217,76 +249,56 @@ some_entry e q same = cc
 main_or : (e : ℕ) → None ≡ Some e → ⊥
 main_or e same = cc
 
-placed_refutes : (j : Case) (a : ℕ) (reason : Reason) → IsDeclared j.declaration → IsMisplaced j.declaration j.certificate a reason → IsPlaced j a → (reason ≡ why.LineAtNoEntry → ⊥) → ⊥
-placed_refutes j a why.LineAtNoEntry declared h placed other = other refl
-placed_refutes j a why.InNoBody declared h (inl main) other = both (j.declaration.body None a) main.0 (h.1 None)
-placed_refutes j a why.InNoBody declared h (inr body) other = both (j.declaration.body (Some body.0) a) body.1 (h.1 (Some body.0))
-placed_refutes j a (why.OffsetInMain o) declared h (inl main) other = both ((fact_at j a).offsets o) h.3 (main.1 o h.2)
-placed_refutes j a (why.OffsetInMain o) declared h (inr body) other = main_or body.0 (declared.bodies_apart a None (Some body.0) h.1 body.1)
-placed_refutes j a (why.NoOffset e) declared h (inl main) other = main_or e (declared.bodies_apart a None (Some e) main.0 h.1)
-placed_refutes j a (why.NoOffset e) declared h (inr body) other =
-    let some = some_to 8 (fact_at j a).offsets body.3 in
-    both ((fact_at j a).offsets some.at) some.holds (h.2 some.at some.small)
-placed_refutes j a (why.RoutineNotListed e) declared h (inl main) other = main_or e (declared.bodies_apart a None (Some e) main.0 h.1)
-placed_refutes j a (why.RoutineNotListed e) declared h (inr body) other =
-    let same : body.0 ≡ e = some_entry body.0 e (declared.bodies_apart a (Some body.0) (Some e) body.1 h.1) in
-    both (j.certificate.listed e) (subst (λ x. j.certificate.listed x ≡ true) same body.2) h.2
-placed_refutes j a why.NoFact declared h placed other = absurd h
-placed_refutes j a (why.StartExcluded g) declared h placed other = absurd h
-placed_refutes j a (why.TooManyWords n) declared h placed other = absurd h
-placed_refutes j a (why.ByWord w b) declared h placed other = absurd h
+no_body : (j : Case) (a : ℕ) (f : Fact) → ((r : Routine) → j.declaration.body r a ≡ false) → IsPlaced j a f → ⊥
+no_body j a f none (inl main) = both (j.declaration.body None a) main.0 (none None)
+no_body j a f none (inr body) = both (j.declaration.body (Some body.0) a) body.1 (none (Some body.0))
 
-misplaced_refutes : (j : Case) (a : ℕ) (reason : Reason) → IsDeclared j.declaration → IsMisplaced j.declaration j.certificate a reason → LinesArePlaced j a → ⊥
+-- In main a fact has no sites and no offsets.
+in_main : (j : Case) (a : ℕ) (f : Fact) → IsDeclared j.declaration → j.declaration.body None a ≡ true → IsPlaced j a f → IsOfMain f
+in_main j a f declared here (inl main) = main.1
+in_main j a f declared here (inr body) = absurd (main_or body.0 (declared.bodies_apart a None (Some body.0) here body.1))
+
+-- In a routine it has some, and the routine is listed.
+in_routine : (j : Case) (a e : ℕ) (f : Fact) → IsDeclared j.declaration → j.declaration.body (Some e) a ≡ true → IsPlaced j a f → (j.certificate.listed e ≡ true) × (HasSites j.certificate.rules f × (some_below 64 f.offsets ≡ true))
+in_routine j a e f declared here (inl main) = absurd (main_or e (declared.bodies_apart a None (Some e) main.0 here))
+in_routine j a e f declared here (inr body) =
+    let same : body.0 ≡ e = some_entry body.0 e (declared.bodies_apart a (Some body.0) (Some e) body.1 here) in
+    (subst (λ x. j.certificate.listed x ≡ true) same body.2, (body.3.sites, body.3.offsets))
+
+misplaced_refutes : (j : Case) (a : ℕ) (reason : Reason) → IsDeclared j.declaration → IsMisplaced j a reason → LinesArePlaced j a → ⊥
 misplaced_refutes j a why.LineAtNoEntry declared h lines =
-    both (j.declaration.entry a) (line_entry j a (j.certificate.listed a) (some_below 8 (j.certificate.has_exit a)) h.0 lines.routine lines.exits) h.1
-misplaced_refutes j a why.InNoBody declared h lines = placed_refutes j a why.InNoBody declared h (lines.fact h.0) (λ is. cc)
-misplaced_refutes j a (why.OffsetInMain o) declared h lines = placed_refutes j a (why.OffsetInMain o) declared h (lines.fact h.0) (λ is. cc)
-misplaced_refutes j a (why.NoOffset e) declared h lines = placed_refutes j a (why.NoOffset e) declared h (lines.fact h.0) (λ is. cc)
-misplaced_refutes j a (why.RoutineNotListed e) declared h lines = placed_refutes j a (why.RoutineNotListed e) declared h (lines.fact h.0) (λ is. cc)
-misplaced_refutes j a why.NoFact declared h lines = absurd h
-misplaced_refutes j a (why.StartExcluded g) declared h lines = absurd h
-misplaced_refutes j a (why.TooManyWords n) declared h lines = absurd h
-misplaced_refutes j a (why.ByWord w b) declared h lines = absurd h
+    both (j.declaration.entry a) (line_entry j a (j.certificate.listed a) (has_exits j.certificate a) h.0 lines.routine lines.exits) h.1
+misplaced_refutes j a why.InNoBody declared h lines = no_body j a (claimed_at j a 0) h.1 (fact_of_each (IsPlaced j a) (j.certificate.facts a) 0 h.0 lines.facts)
+misplaced_refutes j a (why.OffsetInMain i o) declared h lines =
+    both ((claimed_at j a i).offsets o) h.3 (none_of_some 64 (claimed_at j a i).offsets (in_main j a (claimed_at j a i) declared h.1 (fact_of_each (IsPlaced j a) (j.certificate.facts a) i h.0 lines.facts)).offsets o h.2)
+misplaced_refutes j a (why.SitesInMain i) declared h lines =
+    both (has_some (claimed_at j a i).sites) h.2 (in_main j a (claimed_at j a i) declared h.1 (fact_of_each (IsPlaced j a) (j.certificate.facts a) i h.0 lines.facts)).sites
+misplaced_refutes j a (why.NoOffset i e) declared h lines =
+    both (some_below 64 (claimed_at j a i).offsets) (in_routine j a e (claimed_at j a i) declared h.1 (fact_of_each (IsPlaced j a) (j.certificate.facts a) i h.0 lines.facts)).1.1 h.2
+misplaced_refutes j a (why.NoSites i e) declared h lines =
+    both (has_some (claimed_at j a i).sites)
+    (subst (λ x. HasSites x (claimed_at j a i)) h.2 (in_routine j a e (claimed_at j a i) declared h.1 (fact_of_each (IsPlaced j a) (j.certificate.facts a) i h.0 lines.facts)).1.0) h.3
+misplaced_refutes j a (why.RoutineNotListed e) declared h lines =
+    both (j.certificate.listed e) (in_routine j a e (claimed_at j a 0) declared h.1 (fact_of_each (IsPlaced j a) (j.certificate.facts a) 0 h.0 lines.facts)).0 h.2
+misplaced_refutes j a (why.AtStart l) declared h lines = absurd h
+misplaced_refutes j a (why.TooManyWords i n) declared h lines = absurd h
+misplaced_refutes j a (why.ByWord i w b) declared h lines = absurd h
 
 -- ---- the start
 
-cell_refutes : (o : Option ℕ) (set : Words) (w : ℕ) → IsBeyond (tape_word o) set w → has_each o set ≡ true → ⊥
-cell_refutes None set w h each = both (set w) (each_at 4096 set w h.small each) h.excluded
-cell_refutes (Some x) set w h each =
-    let same : w ≡ x = eqb-true w x h.possible in
-    both (set x) each (subst (λ v. set v ≡ false) same h.excluded)
-
-always_among : (image : Image) (es : List Equation) (q : Equation) → are_always image es ≡ true → Among q es → is_always image q ≡ true
-always_among image [] q all h = absurd h
-always_among image (e ∷ es) q all (inl same) = subst (λ x. is_always image x ≡ true) same (and_parts (is_always image e) (are_always image es) all).0
-always_among image (e ∷ es) q all (inr more) = always_among image es q (and_parts (is_always image e) (are_always image es) all).1 more
-
-start_gap_refutes : (j : Case) (a : ℕ) (g : Counterexample) → IsDeclared j.declaration → AreTapeWords j.image → IsStartCounterexample j.image (fact_at j a) g → StartsWell j a → ⊥
-start_gap_refutes j a (gap.Accumulator w) declared tape h start =
-    both ((fact_at j a).set Ac w) (ac_each (place_in j None) tape declared.start_is_word (fact_at j a) start.1 w h.small) h.excluded
-start_gap_refutes j a (gap.Mq w) declared tape h start =
-    both ((fact_at j a).mq w) (mq_each (place_in j None) tape declared.start_is_word (fact_at j a) start.1 w h.small) h.excluded
-start_gap_refutes j a (gap.Link l) declared tape h start =
-    both ((fact_at j a).link l) (link_each (place_in j None) tape declared.start_is_word (fact_at j a) start.1 l h.small) h.excluded
-start_gap_refutes j a (gap.Cell c w) declared tape h start =
-    cell_refutes (j.image c) ((fact_at j a).set (Cell c)) w h (cell_each (place_in j None) tape declared.start_is_word (fact_at j a) start.1 c)
-start_gap_refutes j a (gap.Equation e) declared tape h start =
-    both (is_always j.image (equation_of e))
-    (always_among j.image (fact_at j a).equations (equation_of e) (equations_always (place_in j None) tape declared.start_is_word (fact_at j a) start.1) h.0) h.1
-start_gap_refutes j a (gap.Offset o) declared tape h start = absurd h
-
-start_refutes : (j : Case) (a : ℕ) (reason : Reason) → IsDeclared j.declaration → AreTapeWords j.image → IsWrongStart j.image j.certificate a reason → StartsWell j a → ⊥
-start_refutes j a why.NoFact declared tape h start = both (j.certificate.has_fact a) start.0 h
-start_refutes j a (why.StartExcluded g) declared tape h start = start_gap_refutes j a g declared tape h.1 start
-start_refutes j a why.LineAtNoEntry declared tape h start = absurd h
-start_refutes j a why.InNoBody declared tape h start = absurd h
-start_refutes j a (why.OffsetInMain o) declared tape h start = absurd h
-start_refutes j a (why.NoOffset e) declared tape h start = absurd h
-start_refutes j a (why.RoutineNotListed e) declared tape h start = absurd h
-start_refutes j a (why.TooManyWords n) declared tape h start = absurd h
-start_refutes j a (why.ByWord w b) declared tape h start = absurd h
+start_refutes : (j : Case) (a : ℕ) (reason : Reason) → IsWrongStart j a reason → HoldsAt j V1 a → ⊥
+start_refutes j a (why.AtStart l) h holds = h.fails holds
+start_refutes j a why.LineAtNoEntry h holds = absurd h
+start_refutes j a why.InNoBody h holds = absurd h
+start_refutes j a (why.OffsetInMain i o) h holds = absurd h
+start_refutes j a (why.SitesInMain i) h holds = absurd h
+start_refutes j a (why.NoOffset i e) h holds = absurd h
+start_refutes j a (why.NoSites i e) h holds = absurd h
+start_refutes j a (why.RoutineNotListed e) h holds = absurd h
+start_refutes j a (why.TooManyWords i n) h holds = absurd h
+start_refutes j a (why.ByWord i w b) h holds = absurd h
 
 pub explained_fails : ExplainedFails
-explained_fails j v a reason declared tape (inl start) holds = start_refutes j a reason declared tape start.2 (subst (λ x. HoldsAt j x a) start.0 holds)
-explained_fails j v a reason declared tape (inr (inl line)) holds = misplaced_refutes j a reason declared line.1 (subst (λ x. HoldsAt j x a) line.0 holds)
-explained_fails j v a reason declared tape (inr (inr word)) holds = wrong_word_refutes j v a reason word holds
+explained_fails j v a reason declared (inl start) holds = start_refutes j a reason start.2 (subst (λ x. HoldsAt j x a) start.0 holds)
+explained_fails j v a reason declared (inr (inl line)) holds = misplaced_refutes j a reason declared line.1 (subst (λ x. HoldsAt j x a) line.0 holds)
+explained_fails j v a reason declared (inr (inr word)) holds = wrong_refutes j v a word.routine word.index word.fact reason word.is word.wrong holds

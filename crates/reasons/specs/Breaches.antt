@@ -1,32 +1,28 @@
--- What a possible word breaks at the address of a fact.
-use Rattle.std.specs.Prelude.{◌≡◌, ℕ, ◌+◌, ◌<◌, ◌≤◌, true, false, ◌⊎◌, Some, List, [], ◌∷◌}
-use Rattle.wordset.specs.Words.{plus, one}
-use Rattle.declaration.specs.Declaration.{Routine, Declaration, IsListed}
+-- What a possible word breaks at the address of a fact that may have sums.
+use Rattle.std.specs.Prelude.{◌≡◌, ℕ, ◌+◌, ◌<◌, ◌≤◌, true, false, ◌⊎◌, Some, List, [], ◌∷◌, length}
+use Rattle.wordset.specs.Words.{plus}
+use Rattle.instruct.specs.Instructions.{Meaning}
+use Rattle.declaration.specs.Declaration.{Routine, IsListed}
 use Rattle.policy.specs.Rules.{IsSupported, HaltsDeclared}
-use Rattle.domain.specs.Facts.{Fact, Place, joined}
-use Rattle.domain.specs.Changes.{with_offsets}
-use Rattle.domain.specs.Statements.{all_offsets}
-use Rattle.facts.specs.Outcomes.{Successor, Goes, CallsTo, Returns, meaning_at, outcomes_at}
-use Rattle.facts.specs.Conditions.{MayWrite, EntriesAreKept, may_write, may_read, called, calls_through_index, returned_through}
+use Rattle.domain.specs.Sums.Facts.{Fact, last_site}
+use Rattle.domain.specs.Sums.Moves.{joined}
+use Rattle.facts.specs.Conditions.{MayWrite, calls_through_index, returned_through}
+use Rattle.facts.specs.Sums.Outcomes.{Successor, Goes, CallsTo, Returns}
+use Rattle.facts.specs.Sums.Operations.{outcomes_of}
+use Rattle.facts.specs.Sums.Landing.{fact_at}
+use Rattle.facts.specs.Sums.Conditions.{EntriesAreKept, may_write, may_read, called}
 use Rattle.facts.specs.declared.Condition.{Condition}
 use Rattle.facts.specs.declared.Condition.TheVariants.{V3, V4, V5, V6, V7, V8, V9, V10, V11, V12, V13, V14, V15}
-use Rattle.certificate.specs.Certificate.{Certificate, writes_of}
-use Rattle.reasons.specs.Gaps.{IsCounterexample}
+use Rattle.certificate.specs.Sums.Certificate.{writes_of}
+use Rattle.judge.specs.Sums.Landing.{Case, place_in, exits_of, called_from}
+use Rattle.reasons.specs.Landing.{Misses, MissesExit}
 use Rattle.reasons.specs.declared.breach.Landing.{Landing}
-use Rattle.reasons.specs.declared.breach.Landing.TheVariants.{NoFact, OtherBody, Excluded}
 use Rattle.reasons.specs.declared.breach.CallBreach.{CallBreach}
 use Rattle.reasons.specs.declared.breach.CallBreach.TheVariants as call
 use Rattle.reasons.specs.declared.breach.ReturnBreach.{ReturnBreach}
 use Rattle.reasons.specs.declared.breach.ReturnBreach.TheVariants as return
 use Rattle.reasons.specs.declared.breach.Breach.{Breach}
 use Rattle.reasons.specs.declared.breach.Breach.TheVariants as breach
-
--- A run with this fact doesn't land at the address: no fact has it, it isn't in the routine's body, or the fact there
--- excludes what is possible.
-abbrev pub Misses : Certificate → Declaration → Routine → ℕ → Fact → Landing → Type 0
-Misses c d r a f NoFact = c.has_fact a ≡ false
-Misses c d r a f OtherBody = d.body r a ≡ false
-Misses c d r a f (Excluded g) = (c.has_fact a ≡ true) × IsCounterexample f (c.fact a) g
 
 -- In a routine this is true of it.
 abbrev pub InRoutine : Routine → (ℕ → Type 0) → Type 0
@@ -43,37 +39,44 @@ condition_of_call call.WritesCaller = V8
 condition_of_call call.NoSite = V9
 condition_of_call call.TooHigh = V9
 condition_of_call (call.Enters l) = V10
-condition_of_call (call.Returns o l) = V11
+condition_of_call (call.Returns o i l) = V11
+
+-- The exit at this place among those of the callee for the offset has the address of the call among its sites, and what is joined
+-- of it and of the fact does not land, for this reason.
+pub record MissesAfter (j : Case) (r : Routine) (a e o i : ℕ) (f : Fact) (l : Landing) : Type 0 where
+  pub offset : o < 64
+  pub there : i < length (exits_of j e o)
+  pub site : (fact_at (exits_of j e o) i).sites a ≡ true
+  pub misses : Misses j r (plus (a + 1) o) (joined j.certificate.rules f (fact_at (exits_of j e o) i) (j.certificate.writes e)) l
 
 -- What a call of e from the address a breaks.
-abbrev pub CallBreaks : Certificate → Place → Fact → ℕ → ℕ → CallBreach → Type 0
-CallBreaks c pl f a e call.NoEntry = pl.declaration.entry e ≡ false
-CallBreaks c pl f a e call.NotListed = c.listed e ≡ false
-CallBreaks c pl f a e (call.NotLower rank own) =
-    (c.listed e ≡ true) × InRoutine pl.routine (λ r. (c.listed r ≡ true) × (c.rank e ≡ rank) × (c.rank r ≡ own) × (own ≤ rank))
-CallBreaks c pl f a e (call.Writes b) =
-    InRoutine pl.routine (λ r. (b < 4096) × (c.writes e b ≡ true) × (c.writes r b ≡ false))
-CallBreaks c pl f a e call.EntryNotWritten = InRoutine pl.routine (λ r. c.writes r e ≡ false)
-CallBreaks c pl f a e call.WritesCaller = InRoutine pl.routine (λ r. c.writes e r ≡ true)
-CallBreaks c pl f a e call.NoSite = c.sites e a ≡ false
-CallBreaks c pl f a e call.TooHigh = 4087 < a
-CallBreaks c pl f a e (call.Enters l) = Misses c pl.declaration (Some e) (plus e 1) (with_offsets (one 0) f) l
-CallBreaks c pl f a e (call.Returns o l) =
-    (o < 8) × (c.has_exit e o ≡ true) × Misses c pl.declaration pl.routine (plus (a + 1) o) (joined f (c.exit e o) (c.writes e)) l
+abbrev pub CallBreaks : Case → Routine → ℕ → Fact → ℕ → CallBreach → Type 0
+CallBreaks j r a f e call.NoEntry = j.declaration.entry e ≡ false
+CallBreaks j r a f e call.NotListed = j.certificate.listed e ≡ false
+CallBreaks j r a f e (call.NotLower rank own) =
+    (j.certificate.listed e ≡ true) ×
+    InRoutine r (λ x. (j.certificate.listed x ≡ true) × (j.certificate.rank e ≡ rank) × (j.certificate.rank x ≡ own) × (own ≤ rank))
+CallBreaks j r a f e (call.Writes b) =
+    InRoutine r (λ x. (b < 4096) × (j.certificate.writes e b ≡ true) × (j.certificate.writes x b ≡ false))
+CallBreaks j r a f e call.EntryNotWritten = InRoutine r (λ x. j.certificate.writes x e ≡ false)
+CallBreaks j r a f e call.WritesCaller = InRoutine r (λ x. j.certificate.writes e x ≡ true)
+CallBreaks j r a f e call.NoSite = j.certificate.sites e a ≡ false
+CallBreaks j r a f e call.TooHigh = last_site j.certificate.rules < a
+CallBreaks j r a f e (call.Enters l) = Misses j (Some e) (plus e 1) (called_from a f) l
+CallBreaks j r a f e (call.Returns o i l) = MissesAfter j r a e o i f l
 
--- What a return through e breaks. What an exit says of offsets isn't asked.
-abbrev pub ReturnBreaks : Certificate → Place → Fact → ℕ → ReturnBreach → Type 0
-ReturnBreaks c pl f e return.OtherRoutine = pl.routine ≡ Some e → ⊥
-ReturnBreaks c pl f e (return.NotDeclared o) = (o < 8) × (f.offsets o ≡ true) × (pl.declaration.offset e o ≡ false)
-ReturnBreaks c pl f e (return.NoExit o) = (o < 8) × (f.offsets o ≡ true) × (c.has_exit e o ≡ false)
-ReturnBreaks c pl f e (return.Excluded o g) =
-    (o < 8) × (f.offsets o ≡ true) × (c.has_exit e o ≡ true) × IsCounterexample f (with_offsets all_offsets (c.exit e o)) g
+-- What a return through e breaks.
+abbrev pub ReturnBreaks : Case → Routine → Fact → ℕ → ReturnBreach → Type 0
+ReturnBreaks j r f e return.OtherRoutine = r ≡ Some e → ⊥
+ReturnBreaks j r f e (return.NotDeclared o) =
+    (o < 64) × (f.offsets o ≡ true) × ((8 ≤ o) ⊎ (j.declaration.offset e o ≡ false))
+ReturnBreaks j r f e (return.NotAllowed o l) = (o < 64) × (f.offsets o ≡ true) × MissesExit j e o f l
 
--- The outcome goes on at this address, and doesn't land there.
-abbrev pub OutcomeMisses : Certificate → Place → ℕ → Landing → Successor → Type 0
-OutcomeMisses c pl a l (Goes next f) = (a < 4096) × (next a ≡ true) × Misses c pl.declaration pl.routine a f l
-OutcomeMisses c pl a l (CallsTo next f) = ⊥
-OutcomeMisses c pl a l (Returns f) = ⊥
+-- The outcome goes on at this address, and does not land there.
+abbrev pub OutcomeMisses : Case → Routine → ℕ → Landing → Successor → Type 0
+OutcomeMisses j r a l (Goes next f) = (a < 4096) × (next a ≡ true) × Misses j r a f l
+OutcomeMisses j r a l (CallsTo next f) = ⊥
+OutcomeMisses j r a l (Returns f) = ⊥
 
 -- Some outcome of the list has the property.
 abbrev pub SomeOutcome : (Successor → Type 0) → List Successor → Type 0
@@ -93,22 +96,19 @@ condition_of (breach.Returns e b) = V12
 condition_of (breach.GoesOn a l) = V4
 condition_of (breach.ReadsUnlisted c) = V15
 
--- What the word w breaks at the address a of a fact.
-abbrev pub Breaks : Certificate → Place → Fact → ℕ → ℕ → Breach → Type 0
-Breaks c pl f a w breach.NotSupported = IsSupported (meaning_at pl a w) → ⊥
-Breaks c pl f a w (breach.WritesUndeclared b) =
-    (b < 4096) × (may_write pl f (meaning_at pl a w) b ≡ true) × (pl.declaration.variable b ≡ false) × (pl.declaration.entry b ≡ false)
-Breaks c pl f a w (breach.WritesEntry b) =
-    (b < 4096) × (may_write pl f (meaning_at pl a w) b ≡ true) × (pl.declaration.entry b ≡ true) ×
-    (EntriesAreKept pl f (meaning_at pl a w) → ⊥)
-Breaks c pl f a w (breach.WritesUnlisted b) =
-    (b < 4096) × (may_write pl f (meaning_at pl a w) b ≡ true) × (MayWrite (writes_of c pl.routine) pl.routine b → ⊥)
-Breaks c pl f a w breach.HaltsUndeclared = HaltsDeclared pl.declaration (meaning_at pl a w) a → ⊥
-Breaks c pl f a w breach.CallsThroughIndex = calls_through_index (meaning_at pl a w) ≡ true
-Breaks c pl f a w (breach.Calls e b) =
-    (e < 4096) × (called pl f (meaning_at pl a w) e ≡ true) × CallBreaks c pl f a e b
-Breaks c pl f a w (breach.Returns e b) =
-    (returned_through pl.declaration (meaning_at pl a w) ≡ Some e) × ReturnBreaks c pl f e b
-Breaks c pl f a w (breach.GoesOn b l) = SomeOutcome (OutcomeMisses c pl b l) (outcomes_at pl f a w)
-Breaks c pl f a w (breach.ReadsUnlisted b) =
-    (b < 4096) × (may_read pl f (meaning_at pl a w) b ≡ true) × (IsListed pl.declaration.reads b ⊎ (pl.routine ≡ Some b) → ⊥)
+-- What a word of this meaning breaks at the address a of a fact in a routine's body.
+abbrev pub Breaks : Case → Routine → ℕ → Fact → Meaning → Breach → Type 0
+Breaks j r a f m breach.NotSupported = IsSupported m → ⊥
+Breaks j r a f m (breach.WritesUndeclared b) =
+    (b < 4096) × (may_write (place_in j r) f m b ≡ true) × (j.declaration.variable b ≡ false) × (j.declaration.entry b ≡ false)
+Breaks j r a f m (breach.WritesEntry b) =
+    (b < 4096) × (may_write (place_in j r) f m b ≡ true) × (j.declaration.entry b ≡ true) × (EntriesAreKept (place_in j r) f m → ⊥)
+Breaks j r a f m (breach.WritesUnlisted b) =
+    (b < 4096) × (may_write (place_in j r) f m b ≡ true) × (MayWrite (writes_of j.certificate r) r b → ⊥)
+Breaks j r a f m breach.HaltsUndeclared = HaltsDeclared j.declaration m a → ⊥
+Breaks j r a f m breach.CallsThroughIndex = calls_through_index m ≡ true
+Breaks j r a f m (breach.Calls e b) = (e < 4096) × (called (place_in j r) f m e ≡ true) × CallBreaks j r a f e b
+Breaks j r a f m (breach.Returns e b) = (returned_through j.declaration m ≡ Some e) × ReturnBreaks j r f e b
+Breaks j r a f m (breach.GoesOn b l) = SomeOutcome (OutcomeMisses j r b l) (outcomes_of (place_in j r) f a m)
+Breaks j r a f m (breach.ReadsUnlisted b) =
+    (b < 4096) × (may_read (place_in j r) f m b ≡ true) × (IsListed j.declaration.reads b ⊎ (r ≡ Some b) → ⊥)

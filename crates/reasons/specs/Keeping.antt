@@ -1,37 +1,40 @@
 -- What is kept where no breach is found, as the code asks for it; it serves private contracts. What is asked of lines is
 -- kept where lines count among the reasons that are looked for.
-use Rattle.std.specs.Prelude.{◌≡◌, ℕ, ◌+◌, ◌<◌, ◌≤◌, Bool, true, false, None, Some}
-use Rattle.instruct.specs.Instructions.{Meaning}
-use Rattle.wordset.specs.Words.{how_many, one, plus}
+use Rattle.std.specs.Prelude.{◌≡◌, ℕ, ◌+◌, ◌<◌, ◌≤◌, Bool, true, false, ◌⊎◌, None, Some, List}
+use Rattle.instruct.specs.Instructions.{Meaning, meaning_of}
+use Rattle.wordset.specs.Words.{Words, how_many, plus}
+use Rattle.wordset.specs.Lanes.{words}
 use Rattle.declaration.specs.Declaration.{Routine}
 use Rattle.policy.specs.Rules.{IsSupported, HaltsDeclared}
-use Rattle.domain.specs.Facts.{Fact, Place, Entails, EntailsOffsets, joined, possible}
-use Rattle.domain.specs.Changes.{with_offsets}
-use Rattle.facts.specs.Outcomes.{Successor, Goes, CallsTo, Returns, meaning_at, outcomes_of}
-use Rattle.facts.specs.Conditions.{WritesAreDeclared, WritesAreListed, EntriesAreKept, ReadsAreListed, called, calls_through_index, returned_through}
+use Rattle.domain.specs.Sums.Facts.{Fact, last_site}
+use Rattle.domain.specs.Sums.Moves.{joined}
+use Rattle.facts.specs.Conditions.{calls_through_index, returned_through}
+use Rattle.facts.specs.Sums.Conditions.{WritesAreDeclared, WritesAreListed, EntriesAreKept, ReadsAreListed, called}
+use Rattle.facts.specs.Sums.Entailment.{IsIdle}
+use Rattle.facts.specs.Sums.Operations.{outcomes_of}
+use Rattle.facts.specs.Sums.Outcomes.{Successor, Goes, CallsTo, Returns}
+use Rattle.facts.specs.Sums.References.{possible}
 use Rattle.facts.specs.declared.Condition.{Condition}
 use Rattle.facts.specs.declared.Condition.TheVariants.{V3, V4, V5, V6, V7, V8, V9, V10, V11, V12, V13, V14, V15}
-use Rattle.certificate.specs.Certificate.{Certificate, writes_of}
-use Rattle.judge.specs.Conditions.{Case, CoversCallee, EachSuccessor, IsIn, fact_at, place_in}
-use Rattle.reasons.specs.Spots.{claimed_by, counts_lines, fact_of, here}
-use Rattle.reasons.specs.declared.point.ProgramPoint.{ProgramPoint}
+use Rattle.certificate.specs.Sums.Certificate.{Certificate, writes_of}
+use Rattle.judge.specs.Sums.Asked.{asked_of}
+use Rattle.judge.specs.Sums.Conditions.{CoversCallee, EachFact}
+use Rattle.judge.specs.Sums.Landing.{Case, place_in, exits_of, sites_of, called_from, LandsAt, LandsAtExit, EachSuccessor}
+use Rattle.judge.specs.Sums.Points.{case_of, fact_asked}
+use Rattle.judge.specs.declared.body.Body.{Body}
+use Rattle.judge.specs.declared.point.Point.{Point}
 
--- There is a fact at the address, and this one entails it.
-pub record IsAllowed (c : Certificate) (a : ℕ) (f : Fact) : Type 0 where
-  pub there : c.has_fact a ≡ true
-  pub entails : Entails f (c.fact a)
-  pub offsets : EntailsOffsets f (c.fact a)
-
--- The address is in the routine's body, and a fact there is entailed by this one.
-pub record Arrives (lines : Bool) (c : Certificate) (pl : Place) (r : Routine) (a : ℕ) (f : Fact) : Type 0 where
-  pub inside : pl.declaration.body r a ≡ true
-  pub allowed : lines ≡ true → IsAllowed c a f
+-- The fact lands at the address of the routine's body. Where lines do not count the address is in the body, or nothing is asked of
+-- the fact.
+abbrev pub Arrives : Bool → Case → Routine → ℕ → Fact → Type 0
+Arrives true j r a f = LandsAt j r a f
+Arrives false j r a f = IsIdle j.certificate.rules (place_in j r) f ⊎ (j.declaration.body r a ≡ true)
 
 -- Where the run goes on after an outcome, it arrives.
-abbrev pub OutcomeArrives : Bool → Certificate → Place → Successor → Type 0
-OutcomeArrives lines c pl (Goes next f) = (a : ℕ) → a < 4096 → next a ≡ true → Arrives lines c pl pl.routine a f
-OutcomeArrives lines c pl (CallsTo next f) = Unit {0}
-OutcomeArrives lines c pl (Returns f) = Unit {0}
+abbrev pub OutcomeArrives : Bool → Case → Routine → Successor → Type 0
+OutcomeArrives lines j r (Goes next f) = (a : ℕ) → a < 4096 → next a ≡ true → Arrives lines j r a f
+OutcomeArrives lines j r (CallsTo next f) = Unit {0}
+OutcomeArrives lines j r (Returns f) = Unit {0}
 
 -- Where both are listed, the callee's rank is lower than that of the routine that calls it; main may call any.
 abbrev pub IsLowerIfListed : Certificate → Routine → ℕ → Type 0
@@ -39,118 +42,114 @@ IsLowerIfListed c None e = Unit {0}
 IsLowerIfListed c (Some r) e = c.listed e ≡ true → c.listed r ≡ true → c.rank e < c.rank r
 
 -- The address is an entry, listed and of lower rank.
-pub record MayBeCalled (lines : Bool) (c : Certificate) (pl : Place) (e : ℕ) : Type 0 where
-  pub entry : pl.declaration.entry e ≡ true
-  pub listed : lines ≡ true → c.listed e ≡ true
-  pub lower : IsLowerIfListed c pl.routine e
+pub record MayBeCalled (lines : Bool) (j : Case) (r : Routine) (e : ℕ) : Type 0 where
+  pub entry : j.declaration.entry e ≡ true
+  pub listed : lines ≡ true → j.certificate.listed e ≡ true
+  pub lower : IsLowerIfListed j.certificate r e
 
--- The address is at most 7767, and a site of the entry.
+-- The address is not past the last that may be a site, and it is a site of the entry.
 pub record IsCalledFrom (lines : Bool) (c : Certificate) (a e : ℕ) : Type 0 where
-  pub low : a ≤ 4087
+  pub low : a ≤ last_site c.rules
   pub site : lines ≡ true → c.sites e a ≡ true
 
--- After a return of the callee by an offset that has an exit line, the run arrives.
-abbrev pub ReturnLands : Bool → Certificate → Place → Fact → ℕ → ℕ → ℕ → Type 0
-ReturnLands lines c pl f a e o =
-    c.has_exit e o ≡ true → Arrives lines c pl pl.routine (plus (a + 1) o) (joined f (c.exit e o) (c.writes e))
+-- After a return by this offset from a callee that writes these cells the run arrives, with this exit, if the address of the call is
+-- among its sites.
+abbrev pub ArrivesWith : Bool → Case → Routine → ℕ → Words → ℕ → Fact → Fact → Type 0
+ArrivesWith lines j r a written o f x =
+    x.sites a ≡ true → Arrives lines j r (plus (a + 1) o) (joined j.certificate.rules f x written)
+
+-- So it does with each exit of the list.
+abbrev pub EachArrivesWith : Bool → Case → Routine → ℕ → Words → ℕ → Fact → List Fact → Type 0
+EachArrivesWith lines j r a written o f xs = EachFact (ArrivesWith lines j r a written o f) xs
+
+-- So it does with each exit that is claimed of the callee for the offset.
+abbrev pub ArrivesBy : Bool → Case → Routine → ℕ → ℕ → ℕ → Fact → Type 0
+ArrivesBy lines j r a e o f = EachArrivesWith lines j r a (j.certificate.writes e) o f (exits_of j e o)
 
 -- A call of the entry from the address keeps the condition.
-abbrev pub KeepsCall : Bool → Certificate → Place → Fact → ℕ → Condition → ℕ → Type 0
-KeepsCall lines c pl f a V7 e = MayBeCalled lines c pl e
-KeepsCall lines c pl f a V8 e = lines ≡ true → CoversCallee c pl.routine e
-KeepsCall lines c pl f a V9 e = IsCalledFrom lines c a e
-KeepsCall lines c pl f a V10 e = Arrives lines c pl (Some e) (plus e 1) (with_offsets (one 0) f)
-KeepsCall lines c pl f a V11 e = (o : ℕ) → o < 8 → ReturnLands lines c pl f a e o
-KeepsCall lines c pl f a _ e = Unit {0}
+abbrev pub KeepsCall : Bool → Case → Routine → ℕ → Fact → Condition → ℕ → Type 0
+KeepsCall lines j r a f V7 e = MayBeCalled lines j r e
+KeepsCall lines j r a f V8 e = lines ≡ true → CoversCallee j.certificate r e
+KeepsCall lines j r a f V9 e = IsCalledFrom lines j.certificate a e
+KeepsCall lines j r a f V10 e = Arrives lines j (Some e) (plus e 1) (called_from a f)
+KeepsCall lines j r a f V11 e = (o : ℕ) → o < 64 → ArrivesBy lines j r a e o f
+KeepsCall lines j r a f _ e = Unit {0}
 
 -- So does each call.
-abbrev pub KeepsCalls : Bool → Certificate → Place → Fact → ℕ → Condition → Meaning → Type 0
-KeepsCalls lines c pl f a v m = (e : ℕ) → e < 4096 → called pl f m e ≡ true → KeepsCall lines c pl f a v e
+abbrev pub KeepsCalls : Bool → Case → Routine → ℕ → Fact → Condition → Meaning → Type 0
+KeepsCalls lines j r a f v m = (e : ℕ) → e < 4096 → called (place_in j r) f m e ≡ true → KeepsCall lines j r a f v e
 
--- The exit line of an offset is entailed.
-pub record IsEntailedExit (c : Certificate) (f : Fact) (e o : ℕ) : Type 0 where
-  pub there : c.has_exit e o ≡ true
-  pub entails : Entails f (c.exit e o)
-
--- The offset is declared, and its exit line is entailed.
-pub record ReturnsAsDeclared (lines : Bool) (c : Certificate) (pl : Place) (f : Fact) (e o : ℕ) : Type 0 where
-  pub declared : pl.declaration.offset e o ≡ true
-  pub exit : lines ≡ true → IsEntailedExit c f e o
+-- The offset is one that a declaration can list, it is declared, and the fact lands among the exits for it.
+pub record ReturnsAsDeclared (lines : Bool) (j : Case) (e : ℕ) (f : Fact) (o : ℕ) : Type 0 where
+  pub small : o < 8
+  pub declared : j.declaration.offset e o ≡ true
+  pub exit : lines ≡ true → LandsAtExit j e o f
 
 -- A return by the offset, if the fact has it, is one of those.
-abbrev pub ReturnsBy : Bool → Certificate → Place → Fact → ℕ → ℕ → Type 0
-ReturnsBy lines c pl f e o = f.offsets o ≡ true → ReturnsAsDeclared lines c pl f e o
+abbrev pub ReturnsBy : Bool → Case → ℕ → Fact → ℕ → Type 0
+ReturnsBy lines j e f o = f.offsets o ≡ true → ReturnsAsDeclared lines j e f o
 
 -- The entry is the running routine's, and so is each return through it.
-pub record ReturnsThrough (lines : Bool) (c : Certificate) (pl : Place) (f : Fact) (e : ℕ) : Type 0 where
-  pub own : pl.routine ≡ Some e
-  pub each : (o : ℕ) → o < 8 → ReturnsBy lines c pl f e o
+pub record ReturnsThrough (lines : Bool) (j : Case) (r : Routine) (f : Fact) (e : ℕ) : Type 0 where
+  pub own : r ≡ Some e
+  pub each : (o : ℕ) → o < 64 → ReturnsBy lines j e f o
 
 -- A word of this meaning keeps the condition.
-abbrev pub Keeps : Bool → Certificate → Place → Fact → ℕ → Condition → Meaning → Type 0
-Keeps lines c pl f a V3 m = IsSupported m
-Keeps lines c pl f a V4 m = EachSuccessor (OutcomeArrives lines c pl) (outcomes_of pl f a m)
-Keeps lines c pl f a V5 m = WritesAreDeclared pl f m
-Keeps lines c pl f a V6 m = lines ≡ true → WritesAreListed pl (writes_of c pl.routine) f m
-Keeps lines c pl f a V7 m = (calls_through_index m ≡ false) × KeepsCalls lines c pl f a V7 m
-Keeps lines c pl f a V8 m = KeepsCalls lines c pl f a V8 m
-Keeps lines c pl f a V9 m = KeepsCalls lines c pl f a V9 m
-Keeps lines c pl f a V10 m = KeepsCalls lines c pl f a V10 m
-Keeps lines c pl f a V11 m = KeepsCalls lines c pl f a V11 m
-Keeps lines c pl f a V12 m = (e : ℕ) → returned_through pl.declaration m ≡ Some e → ReturnsThrough lines c pl f e
-Keeps lines c pl f a V13 m = HaltsDeclared pl.declaration m a
-Keeps lines c pl f a V14 m = EntriesAreKept pl f m
-Keeps lines c pl f a V15 m = ReadsAreListed pl f m
-Keeps lines c pl f a _ m = Unit {0}
+abbrev pub Keeps : Bool → Case → Routine → ℕ → Fact → Condition → Meaning → Type 0
+Keeps lines j r a f V3 m = IsSupported m
+Keeps lines j r a f V4 m = EachSuccessor (OutcomeArrives lines j r) (outcomes_of (place_in j r) f a m)
+Keeps lines j r a f V5 m = WritesAreDeclared (place_in j r) f m
+Keeps lines j r a f V6 m = lines ≡ true → WritesAreListed (place_in j r) (writes_of j.certificate r) f m
+Keeps lines j r a f V7 m = (calls_through_index m ≡ false) × KeepsCalls lines j r a f V7 m
+Keeps lines j r a f V8 m = KeepsCalls lines j r a f V8 m
+Keeps lines j r a f V9 m = KeepsCalls lines j r a f V9 m
+Keeps lines j r a f V10 m = KeepsCalls lines j r a f V10 m
+Keeps lines j r a f V11 m = KeepsCalls lines j r a f V11 m
+Keeps lines j r a f V12 m = (e : ℕ) → returned_through j.declaration m ≡ Some e → ReturnsThrough lines j r f e
+Keeps lines j r a f V13 m = HaltsDeclared j.declaration m a
+Keeps lines j r a f V14 m = EntriesAreKept (place_in j r) f m
+Keeps lines j r a f V15 m = ReadsAreListed (place_in j r) f m
+Keeps lines j r a f _ m = Unit {0}
 
--- Each possible word keeps the condition.
-abbrev pub EachKeeps : Bool → Certificate → Place → Fact → ℕ → Condition → Type 0
-EachKeeps lines c pl f a v =
-    (w : ℕ) → w < 4096 → possible pl f a w ≡ true → Keeps lines c pl f a v (meaning_at pl a w)
+-- Each word that is possible by the fact keeps the condition.
+abbrev pub EachKeeps : Bool → Case → Condition → Routine → ℕ → Fact → Type 0
+EachKeeps lines j v r a f =
+    (w : ℕ) → w < 4096 → possible (place_in j r) f a w ≡ true → Keeps lines j r a f v (meaning_of j.declaration.profile a w)
 
 -- And where the condition asks for few words, few are possible.
-pub record WordsKeep (lines : Bool) (c : Certificate) (pl : Place) (f : Fact) (a : ℕ) (v : Condition) : Type 0 where
-  pub few : v ≡ V3 → how_many 4096 (possible pl f a) ≤ 64
-  pub each : EachKeeps lines c pl f a v
+pub record WordsKeep (lines : Bool) (j : Case) (v : Condition) (r : Routine) (a : ℕ) (f : Fact) : Type 0 where
+  pub few : v ≡ V3 → how_many 4096 (possible (place_in j r) f a) ≤ 64
+  pub each : EachKeeps lines j v r a f
 
--- In the body that has the address of a fact, the words that are possible there keep the condition.
-abbrev pub KeepsAt : Bool → Case → Condition → ℕ → Type 0
-KeepsAt lines j v a = (r : Routine) → IsIn j r a → WordsKeep lines j.certificate (place_in j r) (fact_at j a) a v
+-- It is so of each of these facts of which conditions are asked.
+abbrev pub FactsKeep : Bool → Case → Condition → Routine → ℕ → List Fact → Type 0
+FactsKeep lines j v r a fs = EachFact (WordsKeep lines j v r a) (asked_of j r fs)
 
--- The same at a spot, by the fact there, what is claimed, and whether lines count.
-abbrev pub ArrivesHere : {A C : Type 0} → (C → Certificate) → ProgramPoint A C → Routine → ℕ → Fact → Type 0
-ArrivesHere claims s r a f = Arrives (counts_lines s.sought) (claimed_by claims s) (here s) r a f
+-- So it is of the facts at the address, in the body that has it, or no body has it.
+abbrev pub KeptOrUnowned : Bool → Case → Condition → ℕ → Type 0
+KeptOrUnowned lines j v a =
+    ((r : Routine) × (j.declaration.body r a ≡ true) × FactsKeep lines j v r a (j.certificate.facts a)) ⊎
+    ((r : Routine) → j.declaration.body r a ≡ false)
 
-abbrev pub OutcomeArrivesHere : {A C : Type 0} → (C → Certificate) → ProgramPoint A C → Successor → Type 0
-OutcomeArrivesHere claims s o = OutcomeArrives (counts_lines s.sought) (claimed_by claims s) (here s) o
+-- What is claimed of the routine whose body it is.
+pub record IsClaimedOf (c : Certificate) (b : Body) : Type 0 where
+  pub sites : words b.claim.sites ≡ sites_of c b.routine
+  pub writes : words b.claim.writes ≡ writes_of c b.routine
 
-abbrev pub ReturnLandsHere : {A C : Type 0} → (C → Certificate) → ProgramPoint A C → ℕ → ℕ → Type 0
-ReturnLandsHere claims s e o =
-    ReturnLands (counts_lines s.sought) (claimed_by claims s) (here s) (fact_of s) s.at e o
+-- The same at a fact of which it is asked.
+abbrev pub KeepsCallHere : {A C : Type 0} → Bool → (C → Certificate) → Point A C → Condition → ℕ → Type 0
+KeepsCallHere lines claims s v e = KeepsCall lines (case_of claims s) s.place.routine s.at (fact_asked s) v e
 
-abbrev pub IsLowerHere : {A C : Type 0} → (C → Certificate) → ProgramPoint A C → ℕ → Type 0
-IsLowerHere claims s e = IsLowerIfListed (claimed_by claims s) (here s).routine e
+abbrev pub KeepsCallsHere : {A C : Type 0} → Bool → (C → Certificate) → Point A C → Condition → ℕ → Type 0
+KeepsCallsHere lines claims s v w =
+    KeepsCalls lines (case_of claims s) s.place.routine s.at (fact_asked s) v (meaning_of (case_of claims s).declaration.profile s.at w)
 
-abbrev pub KeepsCallHere : {A C : Type 0} → (C → Certificate) → ProgramPoint A C → Condition → ℕ → Type 0
-KeepsCallHere claims s v e =
-    KeepsCall (counts_lines s.sought) (claimed_by claims s) (here s) (fact_of s) s.at v e
+abbrev pub KeepsHere : {A C : Type 0} → Bool → (C → Certificate) → Point A C → Condition → ℕ → Type 0
+KeepsHere lines claims s v w =
+    Keeps lines (case_of claims s) s.place.routine s.at (fact_asked s) v (meaning_of (case_of claims s).declaration.profile s.at w)
 
-abbrev pub KeepsCallsHere : {A C : Type 0} → (C → Certificate) → ProgramPoint A C → Condition → ℕ → Type 0
-KeepsCallsHere claims s v w =
-    KeepsCalls (counts_lines s.sought) (claimed_by claims s) (here s) (fact_of s) s.at v (meaning_at (here s) s.at w)
+abbrev pub EachKeepsHere : {A C : Type 0} → Bool → (C → Certificate) → Point A C → Condition → Type 0
+EachKeepsHere lines claims s v = EachKeeps lines (case_of claims s) v s.place.routine s.at (fact_asked s)
 
-abbrev pub ReturnsByHere : {A C : Type 0} → (C → Certificate) → ProgramPoint A C → ℕ → ℕ → Type 0
-ReturnsByHere claims s e o = ReturnsBy (counts_lines s.sought) (claimed_by claims s) (here s) (fact_of s) e o
-
-abbrev pub ReturnsThroughHere : {A C : Type 0} → (C → Certificate) → ProgramPoint A C → ℕ → Type 0
-ReturnsThroughHere claims s e = ReturnsThrough (counts_lines s.sought) (claimed_by claims s) (here s) (fact_of s) e
-
-abbrev pub KeepsHere : {A C : Type 0} → (C → Certificate) → ProgramPoint A C → Condition → ℕ → Type 0
-KeepsHere claims s v w =
-    Keeps (counts_lines s.sought) (claimed_by claims s) (here s) (fact_of s) s.at v (meaning_at (here s) s.at w)
-
-abbrev pub EachKeepsHere : {A C : Type 0} → (C → Certificate) → ProgramPoint A C → Condition → Type 0
-EachKeepsHere claims s v = EachKeeps (counts_lines s.sought) (claimed_by claims s) (here s) (fact_of s) s.at v
-
-abbrev pub WordsKeepHere : {A C : Type 0} → (C → Certificate) → ProgramPoint A C → Condition → Type 0
-WordsKeepHere claims s v = WordsKeep (counts_lines s.sought) (claimed_by claims s) (here s) (fact_of s) s.at v
+abbrev pub WordsKeepHere : {A C : Type 0} → Bool → (C → Certificate) → Point A C → Condition → Type 0
+WordsKeepHere lines claims s v = WordsKeep lines (case_of claims s) v s.place.routine s.at (fact_asked s)

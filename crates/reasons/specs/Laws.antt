@@ -1,14 +1,13 @@
 -- What it means that a condition's failure is explained.
 use Rattle.std.specs.Prelude.{ℕ}
 use Rattle.declaration.specs.Declaration.{IsDeclared}
-use Rattle.facts.specs.Starts.{AreTapeWords}
 use Rattle.facts.specs.declared.Condition.{Condition}
-use Rattle.judge.specs.Conditions.{Case, HoldsAt}
+use Rattle.judge.specs.Sums.Landing.{Case}
+use Rattle.judge.specs.Sums.Conditions.{HoldsAt}
 use Rattle.reasons.specs.Reasons.{Explains}
 use Rattle.reasons.specs.declared.reason.Reason.{Reason}
 
--- Of a tape's words and a declaration: where it is explained that a condition fails at an address, it doesn't hold there.
+-- Where it is explained that a condition fails at an address, it does not hold there.
 abbrev pub ExplainedFails : Type 0
 ExplainedFails =
-    (j : Case) (v : Condition) (a : ℕ) (reason : Reason) → IsDeclared j.declaration → AreTapeWords j.image →
-    Explains j v a reason → HoldsAt j v a → ⊥
+    (j : Case) (v : Condition) (a : ℕ) (reason : Reason) → IsDeclared j.declaration → Explains j v a reason → HoldsAt j v a → ⊥

@@ -1,7 +1,8 @@
 pub mod Breaches
 pub mod Gaps
 pub mod Keeping
+pub mod Landing
 pub mod Laws
+pub mod Points
 pub mod Reasons
-pub mod Spots
 pub mod Stuck

@@ -1,50 +1,73 @@
--- Why a condition fails at an address.
-use Rattle.std.specs.Prelude.{◌≡◌, ℕ, ◌<◌, true, false, ◌⊎◌, None, Some}
-use Rattle.wordset.specs.Words.{how_many}
-use Rattle.processor.specs.Runs.{Image}
-use Rattle.declaration.specs.Declaration.{Routine, Declaration}
-use Rattle.domain.specs.Facts.{Fact, Place, possible}
+-- Why a condition fails at an address, of a certificate of which several facts may stand there.
+use Rattle.std.specs.Prelude.{◌≡◌, ℕ, ◌<◌, true, false, ◌⊎◌, None, Some, [], ◌∷◌, length}
+use Rattle.wordset.specs.Words.{has_some, how_many, some_below}
+use Rattle.instruct.specs.Instructions.{meaning_of}
+use Rattle.declaration.specs.Declaration.{Routine}
+use Rattle.domain.specs.Sums.Facts.{Fact, OfSums}
+use Rattle.facts.specs.Sums.Landing.{fact_at}
+use Rattle.facts.specs.Sums.References.{possible}
+use Rattle.facts.specs.Sums.Starts.{start_fact}
 use Rattle.facts.specs.declared.Condition.{Condition}
 use Rattle.facts.specs.declared.Condition.TheVariants.{V1, V2, V3}
-use Rattle.certificate.specs.Certificate.{Certificate, names_routine}
-use Rattle.judge.specs.Conditions.{Case, IsIn, fact_at, place_in}
-use Rattle.reasons.specs.Gaps.{IsStartCounterexample}
+use Rattle.certificate.specs.Sums.Certificate.{names_routine}
+use Rattle.judge.specs.Sums.Landing.{Case, place_in, sited, sites_of, asked}
+use Rattle.reasons.specs.Landing.{Misses}
 use Rattle.reasons.specs.Breaches.{Breaks, condition_of}
 use Rattle.reasons.specs.declared.reason.Reason.{Reason}
 use Rattle.reasons.specs.declared.reason.Reason.TheVariants as why
 
--- No fact has the address of the start, or the one that has it excludes what is possible at a start.
-abbrev pub IsWrongStart : Image → Certificate → ℕ → Reason → Type 0
-IsWrongStart image c a why.NoFact = c.has_fact a ≡ false
-IsWrongStart image c a (why.StartExcluded g) = (c.has_fact a ≡ true) × IsStartCounterexample image (c.fact a) g
-IsWrongStart image c a _ = ⊥
+-- The claimed fact at this place among those at the address.
+abbrev pub claimed_at : Case → ℕ → ℕ → Fact
+claimed_at j a i = fact_at (j.certificate.facts a) i
 
--- A line at the address isn't where it may be.
-abbrev pub IsMisplaced : Declaration → Certificate → ℕ → Reason → Type 0
-IsMisplaced d c a why.LineAtNoEntry = (names_routine c a ≡ true) × (d.entry a ≡ false)
-IsMisplaced d c a why.InNoBody = (c.has_fact a ≡ true) × ((r : Routine) → d.body r a ≡ false)
-IsMisplaced d c a (why.OffsetInMain o) =
-    (c.has_fact a ≡ true) × (d.body None a ≡ true) × (o < 8) × ((c.fact a).offsets o ≡ true)
-IsMisplaced d c a (why.NoOffset e) =
-    (c.has_fact a ≡ true) × (d.body (Some e) a ≡ true) × ((o : ℕ) → o < 8 → (c.fact a).offsets o ≡ false)
-IsMisplaced d c a (why.RoutineNotListed e) =
-    (c.has_fact a ≡ true) × (d.body (Some e) a ≡ true) × (c.listed e ≡ false)
-IsMisplaced d c a _ = ⊥
+-- The condition is asked of this fact in the body of a routine, which is what the claimed fact at this place among those at the
+-- address says.
+pub record IsAskedFact (j : Case) (r : Routine) (a i : ℕ) (f : Fact) : Type 0 where
+  pub body : j.declaration.body r a ≡ true
+  pub there : i < length (j.certificate.facts a)
+  pub asked_is : asked j.certificate.rules j.image (sited j.certificate.rules (sites_of j.certificate r) (claimed_at j a i ∷ [])) ≡ f ∷ []
 
--- More than 64 words are possible, or this word is and breaks this.
-abbrev pub IsWrongWord : Certificate → Place → Fact → ℕ → Condition → Reason → Type 0
-IsWrongWord c pl f a v (why.TooManyWords n) = (v ≡ V3) × (64 < n) × (n ≡ how_many 4096 (possible pl f a))
-IsWrongWord c pl f a v (why.ByWord w b) =
-    (w < 4096) × (possible pl f a w ≡ true) × (condition_of b ≡ v) × Breaks c pl f a w b
-IsWrongWord c pl f a v _ = ⊥
+-- A line at the address is not where it may be.
+abbrev pub IsMisplaced : Case → ℕ → Reason → Type 0
+IsMisplaced j a why.LineAtNoEntry = (names_routine j.certificate a ≡ true) × (j.declaration.entry a ≡ false)
+IsMisplaced j a why.InNoBody = (0 < length (j.certificate.facts a)) × ((r : Routine) → j.declaration.body r a ≡ false)
+IsMisplaced j a (why.OffsetInMain i o) =
+    (i < length (j.certificate.facts a)) × (j.declaration.body None a ≡ true) × (o < 64) × ((claimed_at j a i).offsets o ≡ true)
+IsMisplaced j a (why.SitesInMain i) =
+    (i < length (j.certificate.facts a)) × (j.declaration.body None a ≡ true) × (has_some (claimed_at j a i).sites ≡ true)
+IsMisplaced j a (why.NoOffset i e) =
+    (i < length (j.certificate.facts a)) × (j.declaration.body (Some e) a ≡ true) × (some_below 64 (claimed_at j a i).offsets ≡ false)
+IsMisplaced j a (why.NoSites i e) =
+    (i < length (j.certificate.facts a)) × (j.declaration.body (Some e) a ≡ true) × (j.certificate.rules ≡ OfSums) ×
+    (has_some (claimed_at j a i).sites ≡ false)
+IsMisplaced j a (why.RoutineNotListed e) =
+    (0 < length (j.certificate.facts a)) × (j.declaration.body (Some e) a ≡ true) × (j.certificate.listed e ≡ false)
+IsMisplaced j a _ = ⊥
 
--- At the address of a fact, which is in some body, a word is wrong.
-abbrev pub HasWrongWord : Case → Condition → ℕ → Reason → Type 0
-HasWrongWord j v a reason =
-    (r : Routine) × IsIn j r a × IsWrongWord j.certificate (place_in j r) (fact_at j a) a v reason
+-- The fact of all starts does not land at the address, for this reason.
+abbrev pub IsWrongStart : Case → ℕ → Reason → Type 0
+IsWrongStart j a (why.AtStart l) = Misses j None a (start_fact j.image) l
+IsWrongStart j a _ = ⊥
+
+-- More than 64 words are possible by the fact, or this word is and breaks this.
+abbrev pub IsWrongWord : Case → Routine → ℕ → Fact → ℕ → Condition → Reason → Type 0
+IsWrongWord j r a f i v (why.TooManyWords k n) =
+    (k ≡ i) × (v ≡ V3) × (64 < n) × (n ≡ how_many 4096 (possible (place_in j r) f a))
+IsWrongWord j r a f i v (why.ByWord k w b) =
+    (k ≡ i) × (w < 4096) × (possible (place_in j r) f a w ≡ true) × (condition_of b ≡ v) ×
+    Breaks j r a f (meaning_of j.declaration.profile a w) b
+IsWrongWord j r a f i v _ = ⊥
+
+-- By a fact at the address, which is in some body, a word is wrong.
+pub record HasWrongWord (j : Case) (v : Condition) (a : ℕ) (reason : Reason) : Type 0 where
+  pub routine : Routine
+  pub index : ℕ
+  pub fact : Fact
+  pub is : IsAskedFact j routine a index fact
+  pub wrong : IsWrongWord j routine a fact index v reason
 
 -- The condition fails at the address, since this is so.
 abbrev pub Explains : Case → Condition → ℕ → Reason → Type 0
 Explains j v a reason =
-    ((v ≡ V1) × (a ≡ j.declaration.start) × IsWrongStart j.image j.certificate a reason) ⊎
-    (((v ≡ V2) × IsMisplaced j.declaration j.certificate a reason) ⊎ HasWrongWord j v a reason)
+    ((v ≡ V1) × (a ≡ j.declaration.start) × IsWrongStart j a reason) ⊎
+    (((v ≡ V2) × IsMisplaced j a reason) ⊎ HasWrongWord j v a reason)

@@ -2,11 +2,11 @@
 use Rattle.std.specs.Prelude.{◌≡◌, ◌<◌, ℕ, Bool, true, false}
 use Rattle.facts.specs.declared.Condition.{Condition}
 use Rattle.facts.specs.declared.Condition.TheVariants.{V3, V4, V5, V7, V9, V10, V11, V12, V13, V14, V15}
-use Rattle.judge.specs.Conditions.{Case}
+use Rattle.judge.specs.Sums.Landing.{Case}
 use Rattle.judge.specs.declared.judging.Refusal.{Refusal}
 use Rattle.reasons.specs.Reasons.{Explains}
 use Rattle.reasons.specs.declared.breach.Landing.{Landing}
-use Rattle.reasons.specs.declared.breach.Landing.TheVariants.{NoFact, OtherBody, Excluded}
+use Rattle.reasons.specs.declared.breach.Landing.TheVariants.{OtherBody}
 use Rattle.reasons.specs.declared.breach.CallBreach.{CallBreach}
 use Rattle.reasons.specs.declared.breach.CallBreach.TheVariants as call
 use Rattle.reasons.specs.declared.breach.ReturnBreach.{ReturnBreach}
@@ -16,20 +16,19 @@ use Rattle.reasons.specs.declared.breach.Breach.TheVariants as breach
 use Rattle.reasons.specs.declared.reason.Reason.{Reason}
 use Rattle.reasons.specs.declared.reason.Reason.TheVariants as why
 
--- The run doesn't land since a fact is missing or too narrow.
+-- The run does not land since a fact is missing or too narrow.
 abbrev pub is_landing_of_lines : Landing → Bool
-is_landing_of_lines NoFact = true
 is_landing_of_lines OtherBody = false
-is_landing_of_lines (Excluded g) = true
+is_landing_of_lines _ = true
 
--- The call is wrong by lines: one is missing or too narrow, or lets the callee write the caller's entry. A rank that isn't
+-- The call is wrong by lines: one is missing or too narrow, or lets the callee write the caller's entry. A rank that is not
 -- lower is no such thing: where there are ranks, a draft has them.
 abbrev pub is_call_of_lines : CallBreach → Bool
 is_call_of_lines call.NoEntry = false
 is_call_of_lines call.TooHigh = false
 is_call_of_lines (call.NotLower rank own) = false
 is_call_of_lines (call.Enters l) = is_landing_of_lines l
-is_call_of_lines (call.Returns o l) = is_landing_of_lines l
+is_call_of_lines (call.Returns o i l) = is_landing_of_lines l
 is_call_of_lines _ = true
 
 -- The return is wrong since an exit line is missing or too narrow.
@@ -47,13 +46,13 @@ is_word_of_lines (breach.GoesOn a l) = is_landing_of_lines l
 is_word_of_lines _ = false
 
 -- What is told is of lines: that one is missing, misplaced or too narrow, or lets too much be written, so that a certificate
--- with other lines needn't have it.
+-- with other lines need not have it.
 abbrev pub is_of_lines : Reason → Bool
-is_of_lines (why.TooManyWords n) = false
-is_of_lines (why.ByWord w b) = is_word_of_lines b
+is_of_lines (why.TooManyWords i n) = false
+is_of_lines (why.ByWord i w b) = is_word_of_lines b
 is_of_lines _ = true
 
--- It is told of the address at which the search is stuck, and isn't of lines.
+-- It is told of the address at which the search is stuck, and is not of lines.
 abbrev pub IsToldOf : ℕ → Refusal → Reason → Type 0
 IsToldOf at refusal reason = (refusal.address ≡ at) × (is_of_lines reason ≡ false)
 
@@ -63,7 +62,7 @@ FailsByLinesAlone j a v = (reason : Reason) → Explains j v a reason → is_of_
 
 -- The place of a condition in the order in which they are asked at the address where a search is stuck: first those that a
 -- word breaks by itself, then those on calls and returns, then those on where a run goes on. V1, V2, V6 and V8, which stand
--- last, aren't asked: they fail by lines alone.
+-- last, are not asked: they fail by lines alone.
 abbrev pub place_asked : Condition → ℕ
 place_asked V3 = 0
 place_asked V5 = 1

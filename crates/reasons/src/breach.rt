@@ -1,68 +1,73 @@
 //! What a possible word breaks.
 
 use crate::counterexample::Counterexample;
-use word12::Word;
+use domain::Location;
+use word12::{Link, Word};
 
-/// Why a run doesn't land at an address.
-#[derive(Clone, Copy, PartialEq, Eq, Debug)]
+/// Why a fact does not land at an address, or among the exits of a routine.
+#[derive(Clone, Copy, Debug)]
 pub enum Landing {
-    /// No fact has the address.
+    /// No fact is there, or no exit.
     NoFact,
-    /// The address isn't in the body.
+    /// The address is not in the body.
     OtherBody,
-    /// The fact at the address excludes what is possible.
+    /// There is one, and it excludes this.
     Excluded(Counterexample),
+    /// There is one, and with this link it excludes this.
+    ExcludedUnder(Link, Counterexample),
+    /// There are several, and with this link none of them is left for this word of a name.
+    NotTaken(Link, Location, Word),
+    /// None of them allows all that is possible.
+    NotEntailed,
 }
 
 /// What a call of an entry breaks.
-#[derive(Clone, Copy, PartialEq, Eq, Debug)]
+#[derive(Clone, Copy, Debug)]
 pub enum CallBreach {
-    /// V7: the address called isn't an entry.
+    /// V7: the address called is not an entry.
     NoEntry,
     /// V7: the entry has no routine line.
     NotListed,
-    /// V7: it's listed, and its rank, the first, isn't below that of the calling routine, the second,
-    /// which is listed too.
+    /// V7: its rank, the first, is not below that of the calling routine, the second.
     NotLower(usize, usize),
-    /// V8: it may write this cell, which isn't in the written set of the calling routine.
+    /// V8: it may write this cell, which is not in the written set of the calling routine.
     Writes(Word),
-    /// V8: the entry isn't in the written set of the calling routine.
+    /// V8: the entry is not in the written set of the calling routine.
     EntryNotWritten,
     /// V8: the entry of the calling routine is in its written set.
     WritesCaller,
-    /// V9: the address isn't a listed site of the entry.
+    /// V9: the address is not a listed site of the entry.
     NoSite,
-    /// V9: the address is past 7767.
+    /// V9: the address is past the last that may be a site.
     TooHigh,
-    /// V10: the run doesn't land at the address after the entry.
+    /// V10: the fact does not land at the address after the entry.
     Enters(Landing),
-    /// V11: after a return by this offset the run doesn't land.
-    Returns(usize, Landing),
+    /// V11: after a return by this offset with the exit at this place among those for the offset the fact
+    /// does not land.
+    Returns(usize, usize, Landing),
 }
 
 /// What a return through an entry breaks.
-#[derive(Clone, Copy, PartialEq, Eq, Debug)]
+#[derive(Clone, Copy, Debug)]
 pub enum ReturnBreach {
-    /// The entry isn't that of the running routine.
+    /// The entry is not that of the running routine.
     OtherRoutine,
-    /// The offset is possible and isn't declared.
+    /// The offset is possible and is not declared.
     NotDeclared(usize),
-    /// The offset is possible and has no exit line.
-    NoExit(usize),
-    /// The exit line of the offset excludes what is possible.
-    Excluded(usize, Counterexample),
+    /// The offset is possible, and the fact does not land among the exits for it.
+    NotAllowed(usize, Landing),
 }
 
 /// What a possible word breaks.
-#[derive(Clone, Copy, PartialEq, Eq, Debug)]
+#[derive(Clone, Copy, Debug)]
 pub enum Breach {
-    /// V3: it isn't supported.
+    /// V3: it is not supported.
     NotSupported,
     /// V5: it may write this cell, which is neither a variable nor an entry.
     WritesUndeclared(Word),
     /// V14: it may write this entry.
     WritesEntry(Word),
-    /// V6: it may write this cell, which isn't in the written set of the running routine, nor its
+    /// V6: it may write this cell, which is not in the written set of the running routine, nor its
     /// entry.
     WritesUnlisted(Word),
     /// V13: it halts where no halt is declared.
@@ -73,9 +78,9 @@ pub enum Breach {
     Calls(Word, CallBreach),
     /// V12: it returns through this entry, and that return breaks this.
     Returns(Word, ReturnBreach),
-    /// V4: the run may go on at this address, and doesn't land there.
+    /// V4: the run may go on at this address, and does not land there.
     GoesOn(Word, Landing),
-    /// V15: it may read this cell, which isn't on the list of reads, nor the entry of the running
+    /// V15: it may read this cell, which is not on the list of reads, nor the entry of the running
     /// routine.
     ReadsUnlisted(Word),
 }

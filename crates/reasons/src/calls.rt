@@ -1,180 +1,321 @@
 //! What a call breaks.
 
-ghost use Rattle.std.specs.Prelude.{◌≡◌, ◌<◌, true, false, IfNone, IfSome};
+ghost use Rattle.std.specs.Prelude.{◌≡◌, ◌<◌, ◌+◌, false, true, IfNone, IfSome};
+ghost use Rattle.wordset.specs.Lanes.{words};
+ghost use Rattle.wordset.specs.Words.{plus};
+ghost use Rattle.domain.specs.Sums.FactInCode.{fact_in_code, rules_of};
+ghost use Rattle.domain.specs.Sums.Facts.{last_site};
+ghost use Rattle.domain.specs.Sums.Moves.{joined};
 ghost use Rattle.facts.specs.declared.Condition.TheVariants.{V7, V8, V9, V10, V11};
-ghost use Rattle.reasons.specs.Keeping.{IsLowerHere, KeepsCallHere, KeepsCallsHere, KeepsHere, ReturnLandsHere};
-ghost use Rattle.reasons.specs.Spots.{BreaksHere, CallBreaksHere, claimed_by, counts_lines};
+ghost use Rattle.judge.specs.Sums.Points.{IsPoint, case_of, fact_asked};
+ghost use Rattle.reasons.specs.Keeping.{ArrivesBy, ArrivesWith, IsLowerIfListed, KeepsCallHere, KeepsCallsHere, KeepsHere};
+ghost use Rattle.reasons.specs.Points.{BreaksAs, CallBreaksAs, MissesAs, counts_lines};
 
-use crate::breach::{Breach, CallBreach};
-use crate::point::ProgramPoint;
-use crate::told::{claimed_exit, claimed_routine};
-use facts::{AbstractState, Condition, Scratch};
-use judge::Claims;
+use crate::breach::{Breach, CallBreach, Landing};
+use crate::outcomes::{misses, misses_here};
+use crate::rooms::WordRooms;
+use crate::sought::Sought;
+use domain::Rules;
+use facts::{Condition, FactSource};
+use judge::{Claims, ExitsFor, Point, RoutineClaim};
 use std::alloc::Allocator;
 use word12::Word;
+use wordset::WordSet;
 
-/// The last address from which a call may return by each of the eight offsets without going past
-/// 7777.
-const LAST_SITE: usize = 0o7767;
-
-impl<A: Allocator, C: Claims> ProgramPoint<'_, A, C> {
-    /// A call that the rules on what may be called forbid.
-    pub(crate) fn calls_wrongly(&self, word: Word) -> Option<Breach>
-        ensures found { IfSome result (BreaksHere C.claims self.now V7 word) }
-        ensures none { IfNone result (KeepsHere C.claims self.now V7 word) }
-    {
-        if self.place.steps_call_pointer(self.at, word) {
-            return Some(Breach::CallsThroughIndex);
-        }
-        self.first_call(Condition::V7, word)
+/// The last address that may be a site of a call by the rules.
+fn last_site(rules: &Rules) -> usize
+    ensures { result ≡ last_site (rules_of rules.now) }
+{
+    match rules {
+        Rules::OfEquations => 0o7767,
+        Rules::OfSums => 0o7776,
     }
+}
 
-    /// The first call of a word that breaks a condition on calls.
-    pub(crate) fn first_call(&self, condition: Condition, word: Word) -> Option<Breach>
-        ensures found { IfSome result (BreaksHere C.claims self.now condition word) }
-        ensures none { IfNone result (KeepsCallsHere C.claims self.now condition word) }
-    {
-        let callees = self.place.calls(self.fact, self.at, word);
-        for entry in callees.iter() {
-            if let Some(breach) = self.call_breaks(condition, entry) {
-                return Some(Breach::Calls(entry, breach));
-            }
-        }
-        None
+/// A call that the rules on what may be called forbid.
+pub(crate) fn calls_wrongly<A: Allocator, C: Claims, M: Allocator>(
+    point: &Point<'_, A, C>,
+    sought: Sought,
+    word: Word,
+    rooms: &mut WordRooms<M>,
+) -> Option<Breach>
+    requires { IsPoint C.claims point.now }
+    ensures found { IfSome result (BreaksAs sought C.claims point.now V7 word) }
+    ensures none { IfNone result (KeepsHere (counts_lines sought) C.claims point.now V7 word) }
+{
+    if point.place.steps_call_pointer(point.at, word) {
+        return Some(Breach::CallsThroughIndex);
     }
+    first_call(point, sought, Condition::V7, word, rooms)
+}
 
-    /// What a call of an entry breaks of a condition.
-    fn call_breaks(&self, condition: Condition, entry: Word) -> Option<CallBreach>
-        ensures found { IfSome result (CallBreaksHere C.claims self.now condition entry) }
-        ensures none { IfNone result (KeepsCallHere C.claims self.now condition entry) }
-    {
-        match condition {
-            Condition::V7 => self.may_not_call(entry),
-            Condition::V8 => self.is_not_covered(entry),
-            Condition::V9 => self.is_no_site(entry),
-            Condition::V10 => self.does_not_enter(entry),
-            Condition::V11 => self.does_not_return(entry),
-            _ => None,
-        }
-    }
-
-    /// Why an address may not be called.
-    fn may_not_call(&self, entry: Word) -> Option<CallBreach>
-        ensures found { IfSome result (CallBreaksHere C.claims self.now V7 entry) }
-        ensures none { IfNone result (KeepsCallHere C.claims self.now V7 entry) }
-    {
-        if !self.place.declaration.is_entry(entry) {
-            return Some(CallBreach::NoEntry);
-        }
-        if self.is_unlisted(entry) {
-            return Some(CallBreach::NotListed);
-        }
-        self.is_not_lower(entry)
-    }
-
-    /// Whether an entry has no routine line, where lines count.
-    fn is_unlisted(&self, entry: Word) -> bool
-        ensures yes { result ≡ true → (counts_lines self.now.sought ≡ true) ×
-            ((claimed_by C.claims self.now).listed entry ≡ false) }
-        ensures no { result ≡ false → counts_lines self.now.sought ≡ true →
-            (claimed_by C.claims self.now).listed entry ≡ true }
-    {
-        self.counts_lines() && self.claims.routine(entry).is_none()
-    }
-
-    /// Why the rank of a listed callee isn't lower than that of the running routine, if that is listed.
-    fn is_not_lower(&self, entry: Word) -> Option<CallBreach>
-        ensures found { IfSome result (CallBreaksHere C.claims self.now V7 entry) }
-        ensures none { IfNone result (IsLowerHere C.claims self.now entry) }
-    {
-        let callee = self.claims.routine(entry)?;
-        let running = self.owner()?;
-        let own = self.claims.routine(running)?;
-        if callee.rank < own.rank {
-            return None;
-        }
-        Some(CallBreach::NotLower(callee.rank, own.rank))
-    }
-
-    /// What of a callee the running routine's written set doesn't cover.
-    fn is_not_covered(&self, entry: Word) -> Option<CallBreach>
-        ensures found { IfSome result (CallBreaksHere C.claims self.now V8 entry) }
-        ensures none { IfNone result (KeepsCallHere C.claims self.now V8 entry) }
-    {
-        if !self.counts_lines() {
-            return None;
-        }
-        let running = self.owner()?;
-        let caller = claimed_routine(self.claims, running);
-        let callee = claimed_routine(self.claims, entry);
-        if callee.writes.contains(running) {
-            return Some(CallBreach::WritesCaller);
-        }
-        if !caller.writes.contains(entry) {
-            return Some(CallBreach::EntryNotWritten);
-        }
-        match callee.writes.minus(&caller.writes).first_from(0) {
-            None => None,
-            Some(cell) => Some(CallBreach::Writes(cell)),
+/// The first call of a word that breaks a condition on calls.
+pub(crate) fn first_call<A: Allocator, C: Claims, M: Allocator>(
+    point: &Point<'_, A, C>,
+    sought: Sought,
+    condition: Condition,
+    word: Word,
+    rooms: &mut WordRooms<M>,
+) -> Option<Breach>
+    requires { IsPoint C.claims point.now }
+    ensures found { IfSome result (BreaksAs sought C.claims point.now condition word) }
+    ensures none { IfNone result
+        (KeepsCallsHere (counts_lines sought) C.claims point.now condition word) }
+{
+    let mut callees = WordSet::empty();
+    point
+        .place
+        .put_called(point.fact, point.at, word, &mut callees);
+    for entry in callees.iter() {
+        if let Some(breach) = call_breaks(point, sought, condition, entry, rooms) {
+            return Some(Breach::Calls(entry, breach));
         }
     }
+    None
+}
 
-    /// Why an entry may not be called from the address.
-    fn is_no_site(&self, entry: Word) -> Option<CallBreach>
-        ensures found { IfSome result (CallBreaksHere C.claims self.now V9 entry) }
-        ensures none { IfNone result (KeepsCallHere C.claims self.now V9 entry) }
-    {
-        if self.at.index() > LAST_SITE {
-            return Some(CallBreach::TooHigh);
-        }
-        if !self.counts_lines() {
-            return None;
-        }
-        if claimed_routine(self.claims, entry).sites.contains(self.at) {
-            return None;
-        }
-        Some(CallBreach::NoSite)
+/// What a call of an entry breaks of a condition.
+fn call_breaks<A: Allocator, C: Claims, M: Allocator>(
+    point: &Point<'_, A, C>,
+    sought: Sought,
+    condition: Condition,
+    entry: Word,
+    rooms: &mut WordRooms<M>,
+) -> Option<CallBreach>
+    requires { IsPoint C.claims point.now }
+    ensures found { IfSome result (CallBreaksAs sought C.claims point.now condition entry) }
+    ensures none { IfNone result
+        (KeepsCallHere (counts_lines sought) C.claims point.now condition entry) }
+{
+    match condition {
+        Condition::V7 => may_not_call(point, sought, entry),
+        Condition::V8 => is_not_covered(point, sought, entry),
+        Condition::V9 => is_no_site(point, sought, entry),
+        Condition::V10 => does_not_enter(point, sought, entry, rooms),
+        Condition::V11 => does_not_return(point, sought, entry, rooms),
+        _ => None,
     }
+}
 
-    /// Why a call doesn't land at the address after an entry.
-    fn does_not_enter(&self, entry: Word) -> Option<CallBreach>
-        ensures found { IfSome result (CallBreaksHere C.claims self.now V10 entry) }
-        ensures none { IfNone result (KeepsCallHere C.claims self.now V10 entry) }
-    {
-        let known = AbstractState::entering(self.fact);
-        match self.misses(&Some(entry), entry.increment(), &known) {
-            None => None,
-            Some(landing) => Some(CallBreach::Enters(landing)),
-        }
+/// Why an address may not be called.
+fn may_not_call<A: Allocator, C: Claims>(
+    point: &Point<'_, A, C>,
+    sought: Sought,
+    entry: Word,
+) -> Option<CallBreach>
+    requires { IsPoint C.claims point.now }
+    ensures found { IfSome result (CallBreaksAs sought C.claims point.now V7 entry) }
+    ensures none { IfNone result
+        (KeepsCallHere (counts_lines sought) C.claims point.now V7 entry) }
+{
+    if !point.place.declaration.is_entry(entry) {
+        return Some(CallBreach::NoEntry);
     }
+    if is_unlisted(point, sought, entry) {
+        return Some(CallBreach::NotListed);
+    }
+    is_not_lower(point, sought, entry)
+}
 
-    /// Why the run doesn't land after a return that is claimed of an entry.
-    fn does_not_return(&self, entry: Word) -> Option<CallBreach>
-        ensures found { IfSome result (CallBreaksHere C.claims self.now V11 entry) }
-        ensures none { IfNone result (KeepsCallHere C.claims self.now V11 entry) }
-    {
-        for offset in 0..8usize {
-            if let Some(breach) = self.does_not_return_by(entry, offset) {
-                return Some(breach);
-            }
-        }
-        None
-    }
+/// Whether an entry has no routine line, where lines count.
+fn is_unlisted<A: Allocator, C: Claims>(
+    point: &Point<'_, A, C>,
+    sought: Sought,
+    entry: Word,
+) -> bool
+    ensures yes { result ≡ true → (counts_lines sought ≡ true) ×
+        ((case_of C.claims point.now).certificate.listed entry ≡ false) }
+    ensures no { result ≡ false → counts_lines sought ≡ true →
+        (case_of C.claims point.now).certificate.listed entry ≡ true }
+{
+    sought.counts_lines() && point.claims.routine(entry).is_none()
+}
 
-    /// Why the run doesn't land after a return by an offset, if that is claimed of an entry.
-    fn does_not_return_by(&self, entry: Word, offset: usize) -> Option<CallBreach>
-        requires { offset < 8 }
-        ensures found { IfSome result (CallBreaksHere C.claims self.now V11 entry) }
-        ensures none { IfNone result (ReturnLandsHere C.claims self.now entry offset) }
-    {
-        let exit = claimed_exit(self.claims, entry, offset)?;
-        let written = claimed_routine(self.claims, entry).writes;
-        let mut room = Scratch::new();
-        let known = AbstractState::after_call(self.fact, &exit, &written, &mut room);
-        let next = self.at.increment().add(Word::from_index(offset));
-        match self.misses(&self.owner(), next, &known) {
-            None => None,
-            Some(landing) => Some(CallBreach::Returns(offset, landing)),
+/// Why the rank of a listed callee is not lower than that of the running routine, if that is listed.
+fn is_not_lower<A: Allocator, C: Claims>(
+    point: &Point<'_, A, C>,
+    sought: Sought,
+    entry: Word,
+) -> Option<CallBreach>
+    ensures found { IfSome result (CallBreaksAs sought C.claims point.now V7 entry) }
+    ensures none { IfNone result (IsLowerIfListed (case_of C.claims point.now).certificate
+        point.now.place.routine entry) }
+{
+    let callee = point.claims.routine(entry)?;
+    let running = point.place.routine?;
+    let own = point.claims.routine(running)?;
+    if callee.rank < own.rank {
+        return None;
+    }
+    Some(CallBreach::NotLower(callee.rank, own.rank))
+}
+
+/// What of a callee the running routine's written set does not cover.
+fn is_not_covered<A: Allocator, C: Claims>(
+    point: &Point<'_, A, C>,
+    sought: Sought,
+    entry: Word,
+) -> Option<CallBreach>
+    requires { IsPoint C.claims point.now }
+    ensures found { IfSome result (CallBreaksAs sought C.claims point.now V8 entry) }
+    ensures none { IfNone result
+        (KeepsCallHere (counts_lines sought) C.claims point.now V8 entry) }
+{
+    if !sought.counts_lines() {
+        return None;
+    }
+    let running = point.place.routine?;
+    let caller = point.claimed(running);
+    let callee = point.claimed(entry);
+    if callee.writes.contains(running) {
+        return Some(CallBreach::WritesCaller);
+    }
+    if !caller.writes.contains(entry) {
+        return Some(CallBreach::EntryNotWritten);
+    }
+    match callee.writes.minus(&caller.writes).first_from(0) {
+        None => None,
+        Some(cell) => Some(CallBreach::Writes(cell)),
+    }
+}
+
+/// Why an entry may not be called from the address.
+fn is_no_site<A: Allocator, C: Claims>(
+    point: &Point<'_, A, C>,
+    sought: Sought,
+    entry: Word,
+) -> Option<CallBreach>
+    requires { IsPoint C.claims point.now }
+    ensures found { IfSome result (CallBreaksAs sought C.claims point.now V9 entry) }
+    ensures none { IfNone result
+        (KeepsCallHere (counts_lines sought) C.claims point.now V9 entry) }
+{
+    if point.at.index() > last_site(&point.place.rules) {
+        return Some(CallBreach::TooHigh);
+    }
+    if !sought.counts_lines() {
+        return None;
+    }
+    if point.claimed(entry).sites.contains(point.at) {
+        return None;
+    }
+    Some(CallBreach::NoSite)
+}
+
+/// Why a call does not land at the address after an entry.
+fn does_not_enter<A: Allocator, C: Claims, M: Allocator>(
+    point: &Point<'_, A, C>,
+    sought: Sought,
+    entry: Word,
+    rooms: &mut WordRooms<M>,
+) -> Option<CallBreach>
+    requires { IsPoint C.claims point.now }
+    ensures found { IfSome result (CallBreaksAs sought C.claims point.now V10 entry) }
+    ensures none { IfNone result
+        (KeepsCallHere (counts_lines sought) C.claims point.now V10 entry) }
+{
+    let WordRooms { next, left, .. } = rooms;
+    let callee = point.claimed(entry);
+    point.put_called_from(next);
+    match misses(
+        point,
+        sought,
+        &Some(entry),
+        &callee.sites,
+        entry.increment(),
+        next,
+        left,
+    ) {
+        None => None,
+        Some(landing) => Some(CallBreach::Enters(landing)),
+    }
+}
+
+/// Why the run does not land after a return that is claimed of an entry.
+fn does_not_return<A: Allocator, C: Claims, M: Allocator>(
+    point: &Point<'_, A, C>,
+    sought: Sought,
+    entry: Word,
+    rooms: &mut WordRooms<M>,
+) -> Option<CallBreach>
+    requires { IsPoint C.claims point.now }
+    ensures found { IfSome result (CallBreaksAs sought C.claims point.now V11 entry) }
+    ensures none { IfNone result
+        (KeepsCallHere (counts_lines sought) C.claims point.now V11 entry) }
+{
+    let callee = point.claimed(entry);
+    for offset in 0..64usize {
+        if let Some(breach) = does_not_return_by(point, sought, entry, offset, &callee, rooms) {
+            return Some(breach);
         }
     }
+    None
+}
+
+/// Why the run does not land after a return by an offset, with the first of the exits for it with which it does not.
+fn does_not_return_by<A: Allocator, C: Claims, M: Allocator>(
+    point: &Point<'_, A, C>,
+    sought: Sought,
+    entry: Word,
+    offset: usize,
+    callee: &RoutineClaim,
+    rooms: &mut WordRooms<M>,
+) -> Option<CallBreach>
+    requires point { IsPoint C.claims point.now }
+    requires offset { offset < 64 }
+    requires sites { words callee.now.sites ≡ (case_of C.claims point.now).certificate.sites entry }
+    requires writes { words callee.now.writes ≡ (case_of C.claims point.now).certificate.writes entry }
+    ensures found { IfSome result (CallBreaksAs sought C.claims point.now V11 entry) }
+    ensures none { IfNone result (ArrivesBy (counts_lines sought) (case_of C.claims point.now)
+        point.now.place.routine point.now.at entry offset (fact_asked point.now)) }
+{
+    let exits = ExitsFor {
+        claims: point.claims,
+        entry,
+        offset,
+        sites: &callee.sites,
+    };
+    for index in 0..exits.len() {
+        exits.put(index, &mut rooms.exit);
+        if let Some(landing) = misses_with(point, sought, offset, &callee.writes, rooms) {
+            return Some(CallBreach::Returns(offset, index, landing));
+        }
+    }
+    None
+}
+
+/// Why the run does not land after a return by an offset with what the exit at hand says, if the address is one of its sites.
+fn misses_with<A: Allocator, C: Claims, M: Allocator>(
+    point: &Point<'_, A, C>,
+    sought: Sought,
+    offset: usize,
+    written: &WordSet,
+    rooms: &mut WordRooms<M>,
+) -> Option<Landing>
+    requires point { IsPoint C.claims point.now }
+    requires offset { offset < 64 }
+    ensures site { IfSome result (λ l. (fact_in_code rooms.old.exit).sites point.now.at ≡ true) }
+    ensures found { IfSome result (MissesAs sought (case_of C.claims point.now) point.now.place.routine
+        (plus (point.now.at + 1) offset) (joined (case_of C.claims point.now).certificate.rules
+        (fact_asked point.now) (fact_in_code rooms.old.exit) (words written.now))) }
+    ensures none { IfNone result (ArrivesWith (counts_lines sought) (case_of C.claims point.now)
+        point.now.place.routine point.now.at (words written.now) offset (fact_asked point.now)
+        (fact_in_code rooms.old.exit)) }
+{
+    let WordRooms {
+        exit,
+        next,
+        left,
+        ..
+    } = rooms;
+    let mut sites = WordSet::empty();
+    exit.sites().put(&mut sites);
+    if !sites.contains(point.at) {
+        return None;
+    }
+    point.fact.is_within_room();
+    exit.is_within_room();
+    next.take_joined(&point.place.rules, point.fact, exit, written);
+    let at = point.at.increment().add(Word::from_index(offset));
+    misses_here(point, sought, at, next, left)
 }

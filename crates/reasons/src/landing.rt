@@ -1,140 +1,241 @@
-//! Where a run goes on after a word and doesn't land.
+//! Why a fact does not land among others.
 
-ghost use Rattle.std.specs.Prelude.{ℕ, ◌≡◌, ◌<◌, true, IfNone, IfSome};
+ghost use Rattle.std.specs.Prelude.{ℕ, ◌≡◌, ◌<◌, ◌↔◌, true, length, IfNone, IfSome};
 ghost use Rattle.wordset.specs.Lanes.{words};
-ghost use Rattle.facts.specs.Knowing.{fact_of_state};
-ghost use Rattle.facts.specs.Slots.{successor_of, slot, slots};
-ghost use Rattle.facts.specs.declared.Condition.TheVariants.{V4};
-ghost use Rattle.judge.specs.Conditions.{EachSuccessor};
-ghost use Rattle.reasons.specs.Breaches.{OutcomeMisses, SomeOutcome};
-ghost use Rattle.reasons.specs.Keeping.{ArrivesHere, KeepsHere, OutcomeArrivesHere};
-ghost use Rattle.reasons.specs.Stuck.{is_landing_of_lines};
-ghost use Rattle.reasons.specs.Spots.{BreaksHere, IsSoughtHere, MissesHere, claimed_by, here};
+ghost use Rattle.domain.specs.Meaning.{location_of};
+ghost use Rattle.domain.specs.Sums.FactInCode.{fact_in_code};
+ghost use Rattle.domain.specs.Sums.Facts as said;
+ghost use Rattle.facts.specs.Sums.Entailment.{EntailsOne, Lands, LandsBy, PartLands, TakesWord, with_one_link};
+ghost use Rattle.facts.specs.Sums.PartInCode.{part_in_code};
+ghost use Rattle.facts.specs.Sums.PlaceInCode.{place_in_code};
+ghost use Rattle.reasons.specs.Gaps.{IsCounterexample};
+ghost use Rattle.reasons.specs.Landing.{ExcludesOne, IsLeft, IsNotTaken};
 
-use crate::breach::{Breach, Landing};
-use crate::counterexample::gap_between;
-use crate::point::ProgramPoint;
-use crate::told::claimed_fact;
-use facts::{AbstractState, Scratch, Successor, outcomes};
-use judge::Claims;
+use crate::breach::Landing;
+use crate::counterexample::{Counterexample, gap_between};
+use domain::{Location, Rules};
+use facts::{Fact, FactSource, KnownFact, LinkPart, NextFact, Part, Place, cells_told};
 use std::alloc::Allocator;
-use word12::Word;
+use word12::{Link, Word};
 use wordset::WordSet;
 
-impl<A: Allocator, C: Claims> ProgramPoint<'_, A, C> {
-    /// Whether a routine's body has an address.
-    fn is_inside(&self, owner: &Option<Word>, at: Word) -> bool
-        ensures { result ≡ (here self.now).declaration.body owner.now at }
-    {
-        match owner {
-            None => self.place.declaration.in_main(at),
-            Some(entry) => self.place.declaration.in_body(*entry, at),
+/// What the one fact there excludes, if there is one and no other.
+pub(crate) fn one_excludes<A: Allocator, K: KnownFact, F: FactSource>(
+    place: &Place<'_, A>,
+    fact: &K,
+    among: &F,
+    given: &mut Fact,
+) -> Option<Counterexample>
+    ensures found { IfSome result (λ g. ExcludesOne
+        (λ b. IsCounterexample (place_in_code place.now) (K.known fact.now) b g) (F.facts among.now)) }
+    ensures none { IfNone result (length (F.facts among.now) ≡ 1 →
+        EntailsOne (place_in_code place.now) (K.known fact.now) (F.facts among.now)) }
+{
+    if among.len() != 1 {
+        return None;
+    }
+    among.put(0, given);
+    gap_between(place, fact, given)
+}
+
+/// The words of a name that some facts take of a part.
+fn words_taken<A: Allocator, P: Part, F: FactSource>(
+    place: &Place<'_, A>,
+    part: &mut P,
+    name: &Location,
+    among: &F,
+    given: &mut Fact,
+) -> WordSet
+    ensures taken { (v : ℕ) → v < 4096 → (P.part part.old).set (location_of name.now) v ≡ true →
+        (words result v ≡ true) ↔
+        TakesWord (place_in_code place.now) (location_of name.now) v (P.part part.old) (F.facts among.now) }
+    ensures kept { P.part part.new ≡ P.part part.old }
+{
+    let mut taken = WordSet::empty();
+    for at in 0..among.len() {
+        among.put(at, given);
+        place.add_taken(part, name, given, &mut taken);
+    }
+    taken
+}
+
+/// The least word of a name that a part may have and that none of some facts takes. Where it is told to be looked for of a name of
+/// which they take some words alone, there is none if they take none.
+fn word_left<A: Allocator, P: Part, F: FactSource>(
+    place: &Place<'_, A>,
+    part: &mut P,
+    name: &Location,
+    needs_some: bool,
+    among: &F,
+    given: &mut Fact,
+) -> Option<Word>
+    ensures found { IfSome result (IsNotTaken (place_in_code place.now) (P.part part.old)
+        (F.facts among.now) (location_of name.now)) }
+    ensures kept { P.part part.new ≡ P.part part.old }
+{
+    let taken = words_taken(place, part, name, among, given);
+    if needs_some && taken.is_empty() {
+        return None;
+    }
+    let mut possible = WordSet::all();
+    part.put_set_of(name, &mut possible);
+    possible.minus(&taken).first_from(0)
+}
+
+/// A word of one of some cells that none of some facts takes, where they take some of the cell's words.
+fn cell_left<A: Allocator, P: Part, F: FactSource>(
+    place: &Place<'_, A>,
+    part: &mut P,
+    cells: &WordSet,
+    among: &F,
+    given: &mut Fact,
+) -> Option<(Location, Word)>
+    ensures found { IfSome result (λ left. IsNotTaken (place_in_code place.now) (P.part part.old)
+        (F.facts among.now) (location_of left.0) left.1) }
+    ensures kept { P.part part.new ≡ P.part part.old }
+{
+    for cell in cells.iter() {
+        let name = Location::Cell(cell);
+        if let Some(word) = word_left(place, part, &name, true, among, given) {
+            return Some((name, word));
         }
     }
+    None
+}
 
-    /// Why what is known doesn't land at an address of a routine's body, if it doesn't.
-    pub(crate) fn misses(
-        &self,
-        owner: &Option<Word>,
-        at: Word,
-        known: &AbstractState<'_>,
-    ) -> Option<Landing>
-        ensures found { IfSome result
-            (MissesHere C.claims self.now owner.now at (fact_of_state known.now)) }
-        ensures none { IfNone result
-            (ArrivesHere C.claims self.now owner.now at (fact_of_state known.now)) }
-    {
-        if !self.is_inside(owner, at) {
-            return Some(Landing::OtherBody);
-        }
-        if !self.counts_lines() {
-            return None;
-        }
-        let Some(fact) = claimed_fact(self.claims, at) else {
-            return Some(Landing::NoFact);
-        };
-        match gap_between(known, &fact) {
-            None => None,
-            Some(found) => Some(Landing::Excluded(found)),
-        }
+/// A word of a name that a part may have and that none of some facts takes: of a cell of which they take some words, or else of
+/// the accumulator.
+fn name_left<A: Allocator, P: Part, F: FactSource>(
+    place: &Place<'_, A>,
+    part: &mut P,
+    among: &F,
+    given: &mut Fact,
+) -> Option<(Location, Word)>
+    ensures found { IfSome result (λ left. IsNotTaken (place_in_code place.now) (P.part part.old)
+        (F.facts among.now) (location_of left.0) left.1) }
+    ensures kept { P.part part.new ≡ P.part part.old }
+{
+    let told = cells_told(among, given);
+    if let Some(found) = cell_left(place, part, &told, among, given) {
+        return Some(found);
     }
-
-    /// The first of some addresses at which what is known doesn't land, and why.
-    fn misses_at(&self, addresses: &WordSet, known: &AbstractState<'_>) -> Option<(Word, Landing)>
-        ensures found { IfSome result (λ found. (found.0 < 4096) ×
-            (words addresses.now found.0 ≡ true) × MissesHere C.claims self.now
-            (here self.now).routine found.0 (fact_of_state known.now) found.1) }
-        ensures none { IfNone result ((a : ℕ) → a < 4096 → words addresses.now a ≡ true →
-            ArrivesHere C.claims self.now (here self.now).routine a (fact_of_state known.now)) }
-    {
-        let owner = self.owner();
-        for at in addresses.iter() {
-            if let Some(landing) = self.misses(&owner, at, known) {
-                return Some((at, landing));
-            }
-        }
-        None
+    let name = Location::Accumulator;
+    match word_left(place, part, &name, false, among, given) {
+        None => None,
+        Some(word) => Some((name, word)),
     }
+}
 
-    /// The first address at which an outcome goes on and doesn't land, and why.
-    fn outcome_misses(&self, outcome: &Successor<'_>) -> Option<(Word, Landing)>
-        ensures found { IfSome result (λ found. OutcomeMisses (claimed_by C.claims self.now)
-            (here self.now) found.0 found.1 (successor_of outcome.now)) }
-        ensures sought { IfSome result (λ found. IsSoughtHere self.now
-            (is_landing_of_lines found.1)) }
-        ensures none { IfNone result (OutcomeArrivesHere C.claims self.now
-            (successor_of outcome.now)) }
-    {
-        match outcome {
-            Successor::Goes(addresses, known) => self.misses_at(*addresses, known),
-            Successor::Calls(_, _) | Successor::Returns(_) => None,
-        }
+/// Why a part of a fact with one link does not land among several facts, where it does not.
+pub(crate) fn why_part_fails<A: Allocator, P: Part, F: FactSource>(
+    place: &Place<'_, A>,
+    part: &mut P,
+    link: Link,
+    among: &F,
+    given: &mut Fact,
+) -> Landing
+    requires fails { PartLands (place_in_code place.now) (P.part part.old) (F.facts among.now) → ⊥ }
+    requires several { 1 < length (F.facts among.now) }
+    ensures left { (f : said.Fact) → f.link link ≡ true →
+        P.part part.old ≡ with_one_link (place_in_code place.now) link f →
+        IsLeft (place_in_code place.now) f (F.facts among.now) result }
+    ensures kept { P.part part.new ≡ P.part part.old }
+{
+    match name_left(place, part, among, given) {
+        None => Landing::NotEntailed,
+        Some((name, word)) => Landing::NotTaken(link, name, word),
     }
+}
 
-    /// The same of an outcome that may not be there.
-    fn slot_misses(&self, outcome: &Option<Successor<'_>>) -> Option<(Word, Landing)>
-        ensures found { IfSome result (λ found. SomeOutcome
-            (OutcomeMisses (claimed_by C.claims self.now) (here self.now) found.0 found.1)
-            (slot outcome.now)) }
-        ensures sought { IfSome result (λ found. IsSoughtHere self.now
-            (is_landing_of_lines found.1)) }
-        ensures none { IfNone result (EachSuccessor (OutcomeArrivesHere C.claims self.now)
-            (slot outcome.now)) }
-    {
-        match outcome {
-            None => None,
-            Some(outcome) => self.outcome_misses(outcome),
-        }
+/// The same of a part of a fact in room for one, of which it is told what the one fact there excludes.
+fn why_link_fails<A: Allocator, F: FactSource>(
+    place: &Place<'_, A>,
+    part: &mut LinkPart,
+    link: Link,
+    among: &F,
+    given: &mut Fact,
+) -> Landing
+    requires fails { PartLands (place_in_code place.now) (part_in_code part.old) (F.facts among.now) → ⊥ }
+    requires some { 0 < length (F.facts among.now) }
+    ensures { (f : said.Fact) → f.link link ≡ true →
+        part_in_code part.old ≡ with_one_link (place_in_code place.now) link f →
+        IsLeft (place_in_code place.now) f (F.facts among.now) result }
+{
+    if let Some(gap) = one_excludes(place, part.fact(), among, given) {
+        return Landing::ExcludedUnder(link, gap);
     }
+    why_part_fails(place, part, link, among, given)
+}
 
-    /// The same of some outcomes.
-    fn some_misses(&self, outcomes: &[Option<Successor<'_>>]) -> Option<(Word, Landing)>
-        ensures found { IfSome result (λ found. SomeOutcome
-            (OutcomeMisses (claimed_by C.claims self.now) (here self.now) found.0 found.1)
-            (slots outcomes.now)) }
-        ensures sought { IfSome result (λ found. IsSoughtHere self.now
-            (is_landing_of_lines found.1)) }
-        ensures none { IfNone result (EachSuccessor (OutcomeArrivesHere C.claims self.now)
-            (slots outcomes.now)) }
-    {
-        for outcome in outcomes {
-            if let Some(found) = self.slot_misses(outcome) {
-                return Some(found);
-            }
-        }
-        None
+/// Why a fact does not land among some facts with a link, if it allows the link and does not. The fact itself is left as it was.
+fn why_under<A: Allocator, F: FactSource>(
+    place: &Place<'_, A>,
+    fact: &mut NextFact,
+    link: Link,
+    among: &F,
+    part: &mut LinkPart,
+    given: &mut Fact,
+) -> Option<Landing>
+    requires { 0 < length (F.facts among.now) }
+    ensures found { IfSome result
+        (IsLeft (place_in_code place.now) (fact_in_code fact.old) (F.facts among.now)) }
+    ensures none { IfNone result ((fact_in_code fact.old).link link ≡ true → PartLands (place_in_code place.now)
+        (with_one_link (place_in_code place.now) link (fact_in_code fact.old)) (F.facts among.now)) }
+    ensures kept { fact_in_code fact.new ≡ fact_in_code fact.old }
+{
+    if !fact.link().contains(link) {
+        return None;
     }
+    part.take(place, fact, link);
+    if place.part_lands(part, among, given) {
+        return None;
+    }
+    Some(why_link_fails(place, part, link, among, given))
+}
 
-    /// Where a word goes on and doesn't land.
-    pub(crate) fn goes_on(&self, word: Word) -> Option<Breach>
-        ensures found { IfSome result (BreaksHere C.claims self.now V4 word) }
-        ensures none { IfNone result (KeepsHere C.claims self.now V4 word) }
-    {
-        let mut room = Scratch::new();
-        let given = outcomes(self.fact, self.at, word, &self.place, &mut room);
-        match self.some_misses(&given.all) {
-            None => None,
-            Some((at, landing)) => Some(Breach::GoesOn(at, landing)),
-        }
+/// Why a fact does not land among some facts by the rules of sums: of the links the first with which it does not. The fact itself is
+/// left as it was.
+fn why_links<A: Allocator, F: FactSource>(
+    place: &Place<'_, A>,
+    fact: &mut NextFact,
+    among: &F,
+    part: &mut LinkPart,
+    given: &mut Fact,
+) -> Landing
+    requires fails { LandsBy said.OfSums (place_in_code place.now) (fact_in_code fact.old) (F.facts among.now) → ⊥ }
+    requires some { 0 < length (F.facts among.now) }
+    ensures left { IsLeft (place_in_code place.now) (fact_in_code fact.old) (F.facts among.now) result }
+    ensures kept { fact_in_code fact.new ≡ fact_in_code fact.old }
+{
+    if let Some(found) = why_under(place, fact, Link::CLEAR, among, part, given) {
+        return found;
+    }
+    match why_under(place, fact, Link::SET, among, part, given) {
+        None => Landing::NotEntailed,
+        Some(found) => found,
+    }
+}
+
+/// What of a fact none of some facts allows, where it does not land among them. The fact itself is left as it was.
+pub(crate) fn what_is_left<A: Allocator, F: FactSource>(
+    place: &Place<'_, A>,
+    fact: &mut NextFact,
+    among: &F,
+    part: &mut LinkPart,
+    given: &mut Fact,
+) -> Landing
+    requires { Lands (place_in_code place.now) (fact_in_code fact.old) (F.facts among.now) → ⊥ }
+    ensures left { IsLeft (place_in_code place.now) (fact_in_code fact.old) (F.facts among.now) result }
+    ensures kept { fact_in_code fact.new ≡ fact_in_code fact.old }
+{
+    if among.len() == 0 {
+        return Landing::NoFact;
+    }
+    match &place.rules {
+        Rules::OfSums => why_links(place, fact, among, part, given),
+        Rules::OfEquations => match one_excludes(place, fact, among, given) {
+            None => Landing::NotEntailed,
+            Some(gap) => Landing::Excluded(gap),
+        },
     }
 }

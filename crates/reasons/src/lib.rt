@@ -1,4 +1,4 @@
-//! Why a condition on a certificate fails: the cell, the word, the set, the link, the equation, the
+//! Why a condition on a certificate fails: the cell, the word, the set, the link, the sum, the chain, the
 //! rank, the site or the offset that breaks it.
 #![tactic(auto)]
 
@@ -8,14 +8,17 @@ mod counterexample;
 mod landing;
 pub mod laws;
 mod lines;
-mod point;
+mod outcomes;
 mod reason;
 mod returns;
+mod rooms;
+mod sought;
+mod start;
 mod stuck;
-mod told;
 mod words;
 
 pub use breach::{Breach, CallBreach, Landing, ReturnBreach};
 pub use counterexample::Counterexample;
 pub use reason::{Reason, why};
+pub use rooms::WhyRooms;
 pub use stuck::why_stuck;

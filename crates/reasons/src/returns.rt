@@ -1,80 +1,128 @@
 //! What a return breaks.
 
-ghost use Rattle.std.specs.Prelude.{◌≡◌, ◌<◌, ◌↔◌, IfNone, IfSome, IsTrue, Some};
+ghost use Rattle.std.specs.Prelude.{◌≡◌, ◌<◌, IfNone, IfSome, Some};
 ghost use Rattle.facts.specs.declared.Condition.TheVariants.{V12};
-ghost use Rattle.reasons.specs.Keeping.{KeepsHere, ReturnsByHere, ReturnsThroughHere};
-ghost use Rattle.reasons.specs.Spots.{BreaksHere, ReturnBreaksHere, here};
+ghost use Rattle.judge.specs.Sums.Landing.{LandsAtExit};
+ghost use Rattle.judge.specs.Sums.Points.{IsPoint, case_of, fact_asked};
+ghost use Rattle.reasons.specs.Keeping.{KeepsHere, ReturnsBy, ReturnsThrough};
+ghost use Rattle.reasons.specs.Landing.{MissesExit};
+ghost use Rattle.reasons.specs.Points.{BreaksAs, ReturnBreaksAs, counts_lines};
 
-use crate::breach::{Breach, ReturnBreach};
-use crate::counterexample::gap_between;
-use crate::point::ProgramPoint;
-use crate::told::claimed_exit;
-use facts::AbstractState;
-use judge::Claims;
+use crate::breach::{Breach, Landing, ReturnBreach};
+use crate::landing::what_is_left;
+use crate::rooms::{LeftRooms, WordRooms};
+use crate::sought::Sought;
+use judge::{Claims, ExitsFor, Point};
 use std::alloc::Allocator;
 use word12::Word;
 
-impl<A: Allocator, C: Claims> ProgramPoint<'_, A, C> {
-    /// A return that breaks the rules on returns.
-    pub(crate) fn returns_wrongly(&self, word: Word) -> Option<Breach>
-        ensures found { IfSome result (BreaksHere C.claims self.now V12 word) }
-        ensures none { IfNone result (KeepsHere C.claims self.now V12 word) }
-    {
-        let entry = self.place.returned_entry(self.at, word)?;
-        match self.return_breaks(entry) {
-            None => None,
-            Some(breach) => Some(Breach::Returns(entry, breach)),
-        }
+/// A return that breaks the rules on returns.
+pub(crate) fn returns_wrongly<A: Allocator, C: Claims, M: Allocator>(
+    point: &Point<'_, A, C>,
+    sought: Sought,
+    word: Word,
+    rooms: &mut WordRooms<M>,
+) -> Option<Breach>
+    requires { IsPoint C.claims point.now }
+    ensures found { IfSome result (BreaksAs sought C.claims point.now V12 word) }
+    ensures none { IfNone result (KeepsHere (counts_lines sought) C.claims point.now V12 word) }
+{
+    let entry = point.place.returned_entry(point.at, word)?;
+    match return_breaks(point, sought, entry, rooms) {
+        None => None,
+        Some(breach) => Some(Breach::Returns(entry, breach)),
     }
+}
 
-    /// What a return through an entry breaks.
-    fn return_breaks(&self, entry: Word) -> Option<ReturnBreach>
-        ensures found { IfSome result (ReturnBreaksHere C.claims self.now entry) }
-        ensures none { IfNone result (ReturnsThroughHere C.claims self.now entry) }
-    {
-        if !self.is_own(entry) {
-            return Some(ReturnBreach::OtherRoutine);
-        }
-        for offset in 0..8usize {
-            if let Some(breach) = self.returns_by(entry, offset) {
-                return Some(breach);
-            }
-        }
-        None
+/// What a return through an entry breaks.
+fn return_breaks<A: Allocator, C: Claims, M: Allocator>(
+    point: &Point<'_, A, C>,
+    sought: Sought,
+    entry: Word,
+    rooms: &mut WordRooms<M>,
+) -> Option<ReturnBreach>
+    requires { IsPoint C.claims point.now }
+    ensures found { IfSome result (ReturnBreaksAs sought C.claims point.now entry) }
+    ensures none { IfNone result (ReturnsThrough (counts_lines sought) (case_of C.claims point.now)
+        point.now.place.routine (fact_asked point.now) entry) }
+{
+    if !point.is_own(entry) {
+        return Some(ReturnBreach::OtherRoutine);
     }
+    for offset in 0..64usize {
+        if let Some(breach) = returns_by(point, sought, entry, offset, rooms) {
+            return Some(breach);
+        }
+    }
+    None
+}
 
-    /// Whether an entry is the running routine's.
-    fn is_own(&self, entry: Word) -> bool
-        ensures { IsTrue result ↔ ((here self.now).routine ≡ Some entry) }
-    {
-        match &self.place.routine {
-            None => false,
-            Some(running) => running.entry == entry,
-        }
+/// What a return through the running routine's entry by an offset breaks, if the fact has the offset.
+fn returns_by<A: Allocator, C: Claims, M: Allocator>(
+    point: &Point<'_, A, C>,
+    sought: Sought,
+    entry: Word,
+    offset: usize,
+    rooms: &mut WordRooms<M>,
+) -> Option<ReturnBreach>
+    requires point { IsPoint C.claims point.now }
+    requires own { point.now.place.routine ≡ Some entry }
+    requires offset { offset < 64 }
+    ensures found { IfSome result (ReturnBreaksAs sought C.claims point.now entry) }
+    ensures none { IfNone result (ReturnsBy (counts_lines sought) (case_of C.claims point.now) entry
+        (fact_asked point.now) offset) }
+{
+    if !point.fact.offsets().contains(offset) {
+        return None;
     }
+    if offset >= 8 {
+        return Some(ReturnBreach::NotDeclared(offset));
+    }
+    if !point
+        .place
+        .declaration
+        .has_offset(entry, Word::from_index(offset))
+    {
+        return Some(ReturnBreach::NotDeclared(offset));
+    }
+    if !sought.counts_lines() {
+        return None;
+    }
+    match misses_exits(point, entry, offset, rooms) {
+        None => None,
+        Some(landing) => Some(ReturnBreach::NotAllowed(offset, landing)),
+    }
+}
 
-    /// What a return through an entry by an offset breaks, if the fact has the offset.
-    fn returns_by(&self, entry: Word, offset: usize) -> Option<ReturnBreach>
-        requires { offset < 8 }
-        ensures found { IfSome result (ReturnBreaksHere C.claims self.now entry) }
-        ensures none { IfNone result (ReturnsByHere C.claims self.now entry offset) }
-    {
-        if !self.fact.offsets().contains(offset) {
-            return None;
-        }
-        let declared = Word::from_index(offset);
-        if !self.place.declaration.has_offset(entry, declared) {
-            return Some(ReturnBreach::NotDeclared(offset));
-        }
-        if !self.counts_lines() {
-            return None;
-        }
-        let Some(exit) = claimed_exit(self.claims, entry, offset) else {
-            return Some(ReturnBreach::NoExit(offset));
-        };
-        match gap_between(&AbstractState::of(self.fact), &exit) {
-            None => None,
-            Some(found) => Some(ReturnBreach::Excluded(offset, found)),
-        }
+/// Why the fact does not land among the exits of the running routine for an offset, if it does not.
+fn misses_exits<A: Allocator, C: Claims, M: Allocator>(
+    point: &Point<'_, A, C>,
+    entry: Word,
+    offset: usize,
+    rooms: &mut WordRooms<M>,
+) -> Option<Landing>
+    requires point { IsPoint C.claims point.now }
+    requires own { point.now.place.routine ≡ Some entry }
+    requires offset { offset < 64 }
+    ensures found { IfSome result (MissesExit (case_of C.claims point.now) entry offset (fact_asked point.now)) }
+    ensures none { IfNone result (LandsAtExit (case_of C.claims point.now) entry offset (fact_asked point.now)) }
+{
+    let WordRooms { next, left, .. } = rooms;
+    let LeftRooms {
+        landing,
+        part,
+        given,
+    } = &mut **left;
+    point.fact.is_within_room();
+    next.copy_from(point.fact);
+    let exits = ExitsFor {
+        claims: point.claims,
+        entry,
+        offset,
+        sites: &point.body.claim.sites,
+    };
+    if point.place.lands(next, &exits, landing) {
+        return None;
     }
+    Some(what_is_left(&point.place, next, &exits, part, given))
 }

@@ -1,16 +1,17 @@
 //! Why a search for a certificate is stuck at an address, by a draft of what it found until then.
 
 ghost use Rattle.std.specs.Prelude.{◌≡◌, false, IfNone, IfSome};
-ghost use Rattle.judge.specs.Judged.{judged};
+ghost use Rattle.judge.specs.Sums.Judged.{case_kept, judged};
 ghost use Rattle.reasons.specs.Reasons.{Explains};
 ghost use Rattle.reasons.specs.Stuck.{EachFailsByLinesAlone, FailsByLinesAlone, IsToldOf, NoneFailsBefore, is_of_lines};
 
-use crate::point::Sought;
 use crate::reason::{Reason, why_words};
+use crate::rooms::WhyRooms;
+use crate::sought::Sought;
 use bin_tape::Image;
 use declaration::Declaration;
 use facts::Condition;
-use judge::{Claims, Refusal};
+use judge::{Case, Claims, Refusal};
 use std::alloc::Allocator;
 use word12::Word;
 
@@ -30,46 +31,37 @@ const ORDER: [Condition; 11] = [
     Condition::V11,
 ];
 
-/// Why a condition fails at an address, if it isn't that lines are missing or too narrow.
-fn why_by_words<A: Allocator, C: Claims>(
-    image: &Image,
-    declaration: &Declaration<A>,
-    claims: &C,
+/// Why a condition fails at an address, if it is not that lines are missing or too narrow.
+fn why_by_words<A: Allocator, C: Claims, M: Allocator>(
+    case: &Case<'_, A, C>,
     condition: Condition,
     at: Word,
+    rooms: &mut WhyRooms<M>,
 ) -> Option<Reason>
-    ensures explained { IfSome result (Explains
-        (judged image.now declaration.now (C.claims claims.now)) condition at) }
+    ensures explained { IfSome result (Explains (case_kept C.claims case.now) condition at) }
     ensures by_words { IfSome result (λ reason. is_of_lines reason ≡ false) }
-    ensures none { IfNone result (FailsByLinesAlone
-        (judged image.now declaration.now (C.claims claims.now)) at condition) }
+    ensures none { IfNone result (FailsByLinesAlone (case_kept C.claims case.now) at condition) }
 {
-    why_words(
-        image,
-        declaration,
-        claims,
-        condition,
-        at,
-        Sought::NotOfLines,
-    )
+    case.declaration.is_declared();
+    why_words(case, Sought::NotOfLines, condition, at, rooms)
 }
 
-/// Why a search is stuck at an address, by a draft of what it found until then: the first condition that
-/// fails there, and why. That lines are missing or too narrow isn't told, since a draft lacks what wasn't come to; but of a call,
-/// that its rank isn't lower, since a draft has ranks as far as there are.
-///
-/// No memory is taken, so none can be refused.
-pub fn why_stuck<A: Allocator, C: Claims>(
+/// Why a search is stuck at an address, by a draft of what it found until then: the first condition that fails there, and why. It
+/// is not told that lines are missing or too narrow, since a draft lacks what the search has not come to. Of a call it is told that
+/// its rank is not lower, since a draft has ranks as far as there are any. The room is lent, so no memory is taken, and none can be
+/// refused.
+pub fn why_stuck<A: Allocator, C: Claims, M: Allocator>(
     image: &Image,
     declaration: &Declaration<A>,
     claims: &C,
     at: Word,
+    rooms: &mut WhyRooms<M>,
 ) -> Option<(Refusal, Reason)>
     // The condition fails where it is told to, since it is so.
     ensures explained { IfSome result (λ found. Explains
         (judged image.now declaration.now (C.claims claims.now))
         found.0.condition found.0.address found.1) }
-    // It is told of that address, and isn't that a line is missing or too narrow.
+    // It is told of that address, and is not that a line is missing or too narrow.
     ensures place { IfSome result (λ found. IsToldOf at found.0 found.1) }
     // It is the first: none that is asked before it fails there, but for want of lines.
     ensures first { IfSome result (λ found. NoneFailsBefore
@@ -78,8 +70,13 @@ pub fn why_stuck<A: Allocator, C: Claims>(
     ensures none { IfNone result (EachFailsByLinesAlone
         (judged image.now declaration.now (C.claims claims.now)) at) }
 {
+    let case = Case {
+        image,
+        declaration,
+        claims,
+    };
     for condition in &ORDER {
-        if let Some(reason) = why_by_words(image, declaration, claims, *condition, at) {
+        if let Some(reason) = why_by_words(&case, *condition, at, rooms) {
             let refusal = Refusal {
                 condition: *condition,
                 address: at,

@@ -1,164 +1,259 @@
-//! What a possible word breaks by itself.
+//! What a possible word breaks by a fact.
 
 ghost use Rattle.std.specs.Prelude.{ℕ, ◌≡◌, ◌<◌, true, false, IfNone, IfSome};
 ghost use Rattle.wordset.specs.Lanes.{words};
-ghost use Rattle.facts.specs.Conditions.{may_write, may_read};
-ghost use Rattle.facts.specs.Outcomes.{meaning_at};
 ghost use Rattle.facts.specs.declared.Condition.TheVariants.{V3, V5, V6, V13, V14, V15};
-ghost use Rattle.reasons.specs.Keeping.{KeepsHere};
-ghost use Rattle.reasons.specs.Spots.{BreaksHere, fact_of, here};
+ghost use Rattle.facts.specs.Sums.Conditions.{may_write};
+ghost use Rattle.judge.specs.Sums.Landing.{place_in};
+ghost use Rattle.judge.specs.Sums.Points.{HoldsHere, IsPoint, case_of, fact_asked, possible_at};
+ghost use Rattle.reasons.specs.Keeping.{EachKeepsHere, KeepsHere, WordsKeepHere};
+ghost use Rattle.reasons.specs.Points.{BreaksAs, BreaksHere, IsWrongAs, counts_lines, meaning_here};
+ghost use Rattle.reasons.specs.Stuck.{is_word_of_lines};
 
 use crate::breach::Breach;
-use crate::point::ProgramPoint;
-use crate::told::claimed_routine;
-use facts::{Condition, reads, writes};
-use judge::Claims;
+use crate::calls::{calls_wrongly, first_call};
+use crate::outcomes::goes_on;
+use crate::reason::Reason;
+use crate::returns::returns_wrongly;
+use crate::rooms::WordRooms;
+use crate::sought::Sought;
+use facts::Condition;
+use judge::{Claims, Point};
 use std::alloc::Allocator;
 use word12::Word;
 use wordset::WordSet;
 
-impl<A: Allocator, C: Claims> ProgramPoint<'_, A, C> {
-    /// What a word breaks of a condition.
-    pub(crate) fn breach(&self, condition: Condition, word: Word) -> Option<Breach>
-        ensures found { IfSome result (BreaksHere C.claims self.now condition word) }
-        ensures none { IfNone result (KeepsHere C.claims self.now condition word) }
-    {
-        match condition {
-            Condition::V1 | Condition::V2 => None,
-            Condition::V3 => self.is_unsupported(word),
-            Condition::V4 => self.goes_on(word),
-            Condition::V5 => self.writes_undeclared(word),
-            Condition::V6 => self.writes_unlisted(word),
-            Condition::V7 => self.calls_wrongly(word),
-            Condition::V8 | Condition::V9 | Condition::V10 | Condition::V11 => {
-                self.first_call(condition, word)
-            }
-            Condition::V12 => self.returns_wrongly(word),
-            Condition::V13 => self.halts_undeclared(word),
-            Condition::V14 => self.writes_entry(word),
-            Condition::V15 => self.reads_unlisted(word),
+/// The most words that may be possible by one fact.
+const MOST_WORDS: usize = 64;
+
+/// The first possible word that breaks a condition by a fact, which is the one at this place of those at the address, and what it
+/// breaks; or how many words are possible, where they are too many.
+pub(crate) fn first_breach<A: Allocator, C: Claims, M: Allocator>(
+    point: &Point<'_, A, C>,
+    sought: Sought,
+    index: usize,
+    condition: Condition,
+    rooms: &mut WordRooms<M>,
+) -> Option<Reason>
+    requires { IsPoint C.claims point.now }
+    ensures found { IfSome result (IsWrongAs sought C.claims point.now index condition) }
+    ensures none { IfNone result (WordsKeepHere (counts_lines sought) C.claims point.now condition) }
+{
+    let possible = point.possible_words();
+    match condition {
+        Condition::V3 => too_many(point, sought, index, &possible, rooms),
+        _ => first_word(point, sought, index, condition, &possible, rooms),
+    }
+}
+
+/// How many words are possible, where they are too many; else the first that is not supported.
+fn too_many<A: Allocator, C: Claims, M: Allocator>(
+    point: &Point<'_, A, C>,
+    sought: Sought,
+    index: usize,
+    possible: &WordSet,
+    rooms: &mut WordRooms<M>,
+) -> Option<Reason>
+    requires point { IsPoint C.claims point.now }
+    requires possible { words possible.now ≡ possible_at C.claims point.now }
+    ensures found { IfSome result (IsWrongAs sought C.claims point.now index V3) }
+    ensures none { IfNone result (WordsKeepHere (counts_lines sought) C.claims point.now V3) }
+{
+    let count = possible.count();
+    if count > MOST_WORDS {
+        return Some(Reason::TooManyWords(index, count));
+    }
+    first_word(point, sought, index, Condition::V3, possible, rooms)
+}
+
+/// The first possible word that breaks a condition, and what it breaks.
+fn first_word<A: Allocator, C: Claims, M: Allocator>(
+    point: &Point<'_, A, C>,
+    sought: Sought,
+    index: usize,
+    condition: Condition,
+    possible: &WordSet,
+    rooms: &mut WordRooms<M>,
+) -> Option<Reason>
+    requires point { IsPoint C.claims point.now }
+    requires possible { words possible.now ≡ possible_at C.claims point.now }
+    ensures found { IfSome result (IsWrongAs sought C.claims point.now index condition) }
+    ensures none { IfNone result (EachKeepsHere (counts_lines sought) C.claims point.now condition) }
+{
+    for word in possible.iter() {
+        if let Some(breach) = breach(point, sought, condition, word, rooms) {
+            return Some(Reason::ByWord(index, word, breach));
         }
     }
+    None
+}
 
-    /// A word that isn't supported.
-    fn is_unsupported(&self, word: Word) -> Option<Breach>
-        ensures found { IfSome result (BreaksHere C.claims self.now V3 word) }
-        ensures none { IfNone result (KeepsHere C.claims self.now V3 word) }
-    {
-        if self.place.is_supported(word) {
-            return None;
-        }
-        Some(Breach::NotSupported)
+/// What a word breaks of a condition.
+fn breach<A: Allocator, C: Claims, M: Allocator>(
+    point: &Point<'_, A, C>,
+    sought: Sought,
+    condition: Condition,
+    word: Word,
+    rooms: &mut WordRooms<M>,
+) -> Option<Breach>
+    requires { IsPoint C.claims point.now }
+    ensures found { IfSome result (BreaksAs sought C.claims point.now condition word) }
+    ensures none { IfNone result (KeepsHere (counts_lines sought) C.claims point.now condition word) }
+{
+    match condition {
+        Condition::V1 | Condition::V2 => None,
+        Condition::V3 => is_not_supported(point, word),
+        Condition::V4 => goes_on(point, sought, word, rooms),
+        Condition::V5 => writes_undeclared(point, word),
+        Condition::V6 => writes_unlisted(point, sought, word),
+        Condition::V7 => calls_wrongly(point, sought, word, rooms),
+        Condition::V8 | Condition::V9 | Condition::V10 | Condition::V11 => first_call(
+            point, sought, condition, word, rooms,
+        ),
+        Condition::V12 => returns_wrongly(point, sought, word, rooms),
+        Condition::V13 => halts_undeclared(point, word),
+        Condition::V14 => writes_entry(point, word),
+        Condition::V15 => reads_unlisted(point, word),
     }
+}
 
-    /// A HLT where no halt is declared.
-    fn halts_undeclared(&self, word: Word) -> Option<Breach>
-        ensures found { IfSome result (BreaksHere C.claims self.now V13 word) }
-        ensures none { IfNone result (KeepsHere C.claims self.now V13 word) }
-    {
-        if self.place.halts_are_declared(self.at, word) {
-            return None;
-        }
-        Some(Breach::HaltsUndeclared)
+/// That a word is not supported.
+fn is_not_supported<A: Allocator, C: Claims>(point: &Point<'_, A, C>, word: Word) -> Option<Breach>
+    requires { IsPoint C.claims point.now }
+    ensures found { IfSome result (BreaksHere C.claims point.now V3 word) }
+    ensures by_word { IfSome result (λ b. is_word_of_lines b ≡ false) }
+    ensures none { IfNone result (HoldsHere C.claims point.now V3 word) }
+{
+    if point.place.is_supported(word) {
+        return None;
     }
+    Some(Breach::NotSupported)
+}
 
-    /// The cells that a word may write.
-    fn written(&self, word: Word) -> WordSet
-        ensures { words result ≡ may_write (here self.now) (fact_of self.now)
-            (meaning_at (here self.now) self.now.at word) }
-    {
-        writes(self.fact, self.at, word, &self.place)
+/// That a word halts where no halt is declared.
+fn halts_undeclared<A: Allocator, C: Claims>(point: &Point<'_, A, C>, word: Word) -> Option<Breach>
+    requires { IsPoint C.claims point.now }
+    ensures found { IfSome result (BreaksHere C.claims point.now V13 word) }
+    ensures by_word { IfSome result (λ b. is_word_of_lines b ≡ false) }
+    ensures none { IfNone result (HoldsHere C.claims point.now V13 word) }
+{
+    if point.place.halts_are_declared(point.at, word) {
+        return None;
     }
+    Some(Breach::HaltsUndeclared)
+}
 
-    /// The first of some cells that is an entry.
-    fn first_entry(&self, cells: &WordSet) -> Option<Word>
-        ensures found { IfSome result (λ b. (b < 4096) × (words cells.now b ≡ true) ×
-            ((here self.now).declaration.entry b ≡ true)) }
-        ensures none { IfNone result ((b : ℕ) → b < 4096 → words cells.now b ≡ true →
-            (here self.now).declaration.entry b ≡ false) }
-    {
-        for cell in cells.iter() {
-            if self.place.declaration.is_entry(cell) {
-                return Some(cell);
-            }
-        }
-        None
-    }
+/// The cells that a word may write.
+fn written<A: Allocator, C: Claims>(point: &Point<'_, A, C>, word: Word) -> WordSet
+    requires { IsPoint C.claims point.now }
+    ensures { words result ≡ may_write (place_in (case_of C.claims point.now) point.now.place.routine)
+        (fact_asked point.now) (meaning_here C.claims point.now word) }
+{
+    let mut cells = WordSet::empty();
+    point
+        .place
+        .put_writes(point.fact, point.at, word, &mut cells);
+    cells
+}
 
-    /// The first of some cells that isn't an entry.
-    fn first_other(&self, cells: &WordSet) -> Option<Word>
-        ensures found { IfSome result (λ b. (b < 4096) × (words cells.now b ≡ true) ×
-            ((here self.now).declaration.entry b ≡ false)) }
-        ensures none { IfNone result ((b : ℕ) → b < 4096 → words cells.now b ≡ true →
-            (here self.now).declaration.entry b ≡ true) }
-    {
-        for cell in cells.iter() {
-            if !self.place.declaration.is_entry(cell) {
-                return Some(cell);
-            }
-        }
-        None
-    }
-
-    /// A cell that a word may write and that is neither a variable nor an entry.
-    fn writes_undeclared(&self, word: Word) -> Option<Breach>
-        ensures found { IfSome result (BreaksHere C.claims self.now V5 word) }
-        ensures none { IfNone result (KeepsHere C.claims self.now V5 word) }
-    {
-        let rest = self.written(word).minus(self.place.declaration.variables());
-        match self.first_other(&rest) {
-            None => None,
-            Some(cell) => Some(Breach::WritesUndeclared(cell)),
-        }
-    }
-
-    /// An entry that a word may write, where it isn't the one that ISZ may count.
-    fn writes_entry(&self, word: Word) -> Option<Breach>
-        ensures found { IfSome result (BreaksHere C.claims self.now V14 word) }
-        ensures none { IfNone result (KeepsHere C.claims self.now V14 word) }
-    {
-        if self.place.entries_are_kept(self.fact, self.at, word) {
-            return None;
-        }
-        match self.first_entry(&self.written(word)) {
-            None => None,
-            Some(cell) => Some(Breach::WritesEntry(cell)),
+/// The first of some cells that is not an entry.
+fn first_other<A: Allocator, C: Claims>(point: &Point<'_, A, C>, cells: &WordSet) -> Option<Word>
+    ensures found { IfSome result (λ cell. (cell < 4096) × (words cells.now cell ≡ true) ×
+        ((case_of C.claims point.now).declaration.entry cell ≡ false)) }
+    ensures none { IfNone result ((a : ℕ) → a < 4096 → words cells.now a ≡ true →
+        (case_of C.claims point.now).declaration.entry a ≡ true) }
+{
+    for cell in cells.iter() {
+        if !point.place.declaration.is_entry(cell) {
+            return Some(cell);
         }
     }
+    None
+}
 
-    /// A cell that a word may write and the running routine may not.
-    fn writes_unlisted(&self, word: Word) -> Option<Breach>
-        ensures found { IfSome result (BreaksHere C.claims self.now V6 word) }
-        ensures none { IfNone result (KeepsHere C.claims self.now V6 word) }
-    {
-        if !self.counts_lines() {
-            return None;
-        }
-        let entry = self.owner()?;
-        let listed = claimed_routine(self.claims, entry)
-            .writes
-            .union(&WordSet::one(entry));
-        match self.written(word).minus(&listed).first_from(0) {
-            None => None,
-            Some(cell) => Some(Breach::WritesUnlisted(cell)),
+/// A cell that a word may write and that is neither a variable nor an entry.
+fn writes_undeclared<A: Allocator, C: Claims>(point: &Point<'_, A, C>, word: Word) -> Option<Breach>
+    requires { IsPoint C.claims point.now }
+    ensures found { IfSome result (BreaksHere C.claims point.now V5 word) }
+    ensures by_word { IfSome result (λ b. is_word_of_lines b ≡ false) }
+    ensures none { IfNone result (HoldsHere C.claims point.now V5 word) }
+{
+    let rest = written(point, word).minus(point.place.declaration.variables());
+    match first_other(point, &rest) {
+        None => None,
+        Some(cell) => Some(Breach::WritesUndeclared(cell)),
+    }
+}
+
+/// The first entry of some cells.
+fn first_entry<A: Allocator, C: Claims>(point: &Point<'_, A, C>, cells: &WordSet) -> Option<Word>
+    ensures found { IfSome result (λ cell. (cell < 4096) × (words cells.now cell ≡ true) ×
+        ((case_of C.claims point.now).declaration.entry cell ≡ true)) }
+    ensures none { IfNone result ((a : ℕ) → a < 4096 → words cells.now a ≡ true →
+        (case_of C.claims point.now).declaration.entry a ≡ false) }
+{
+    for cell in cells.iter() {
+        if point.place.declaration.is_entry(cell) {
+            return Some(cell);
         }
     }
+    None
+}
 
-    /// A cell that a word may read and that isn't on the list of reads, nor the running routine's
-    /// entry.
-    fn reads_unlisted(&self, word: Word) -> Option<Breach>
-        ensures found { IfSome result (BreaksHere C.claims self.now V15 word) }
-        ensures none { IfNone result (KeepsHere C.claims self.now V15 word) }
-    {
-        let listed = self.place.declaration.reads()?;
-        let read = reads(self.fact, self.at, word, &self.place);
-        let rest = match self.owner() {
-            None => read.minus(listed),
-            Some(entry) => read.minus(&listed.union(&WordSet::one(entry))),
-        };
-        match rest.first_from(0) {
-            None => None,
-            Some(cell) => Some(Breach::ReadsUnlisted(cell)),
-        }
+/// An entry that a word may write, save where it counts the running routine's own.
+fn writes_entry<A: Allocator, C: Claims>(point: &Point<'_, A, C>, word: Word) -> Option<Breach>
+    requires { IsPoint C.claims point.now }
+    ensures found { IfSome result (BreaksHere C.claims point.now V14 word) }
+    ensures by_word { IfSome result (λ b. is_word_of_lines b ≡ false) }
+    ensures none { IfNone result (HoldsHere C.claims point.now V14 word) }
+{
+    if point.place.entries_are_kept(point.fact, point.at, word) {
+        return None;
+    }
+    match first_entry(point, &written(point, word)) {
+        None => None,
+        Some(cell) => Some(Breach::WritesEntry(cell)),
+    }
+}
+
+/// A cell that a word may write and the running routine may not.
+fn writes_unlisted<A: Allocator, C: Claims>(
+    point: &Point<'_, A, C>,
+    sought: Sought,
+    word: Word,
+) -> Option<Breach>
+    requires { IsPoint C.claims point.now }
+    ensures found { IfSome result (BreaksAs sought C.claims point.now V6 word) }
+    ensures none { IfNone result (KeepsHere (counts_lines sought) C.claims point.now V6 word) }
+{
+    if !sought.counts_lines() {
+        return None;
+    }
+    let entry = point.place.routine?;
+    let listed = point.body.claim.writes.union(&WordSet::one(entry));
+    match written(point, word).minus(&listed).first_from(0) {
+        None => None,
+        Some(cell) => Some(Breach::WritesUnlisted(cell)),
+    }
+}
+
+/// A cell that a word may read and that is not on the list of reads, nor the running routine's
+/// entry.
+fn reads_unlisted<A: Allocator, C: Claims>(point: &Point<'_, A, C>, word: Word) -> Option<Breach>
+    requires { IsPoint C.claims point.now }
+    ensures found { IfSome result (BreaksHere C.claims point.now V15 word) }
+    ensures by_word { IfSome result (λ b. is_word_of_lines b ≡ false) }
+    ensures none { IfNone result (HoldsHere C.claims point.now V15 word) }
+{
+    let listed = point.place.declaration.reads()?;
+    let mut read = WordSet::empty();
+    point.place.put_reads(point.fact, point.at, word, &mut read);
+    let rest = match point.place.routine {
+        None => read.minus(listed),
+        Some(entry) => read.minus(&listed.union(&WordSet::one(entry))),
+    };
+    match rest.first_from(0) {
+        None => None,
+        Some(cell) => Some(Breach::ReadsUnlisted(cell)),
     }
 }

@@ -1,6 +1,6 @@
 -- What `report` writes.
 use Rattle.std.specs.Prelude.{ℕ, ◌≡◌, ◌++◌, List, Option}
-use Rattle.certificate.specs.Spelling.{Lines}
+use Rattle.certificate.specs.Sums.Reading.{Text}
 use Rattle.declaration.specs.Declaration.{Declaration}
 use Rattle.command_parts.specs.declared.status.Status.{Status}
 use Rattle.reports.specs.declared.writer.ReportForm.{ReportForm}
@@ -10,7 +10,7 @@ use Rattle.diagnostics.specs.CheckText.{IsVerdictOf}
 -- The page is what stands before the verdict in its form, then the line of the verdict on the image, the declaration and the
 -- certificate's lines, as `check` writes it, then what stands right behind that verdict, and then more; and the status is that of
 -- the verdict.
-pub record IsReportOf (form : ReportForm) (image : List (Option ℕ)) (declaration : Declaration) (lines : Lines) (status : Status) (page : List ℕ) : Type 0 where
+pub record IsReportOf (form : ReportForm) (image : List (Option ℕ)) (declaration : Declaration) (lines : Text) (status : Status) (page : List ℕ) : Type 0 where
   pub line : List ℕ
   pub checked : IsVerdictOf image declaration lines status line
   pub rest : List ℕ

@@ -1,10 +1,10 @@
 //! What an instruction may read, write, call and jump to, as far as the fact at its address tells.
 
-use crate::report::{Kind, Report, place_in};
+use crate::known_fact::KnownFact;
+use crate::report::{Kind, Report};
 use crate::writer::ReportWriter;
-use certificate::RoutineClaim;
 use declaration::Declaration;
-use facts::{Fact, Place, reads, writes};
+use facts::{NarrowedFact, Place};
 use instruct::{Instruction, Operation, decode, refers_indirectly, target};
 use std::alloc::Allocator;
 use word12::Word;
@@ -62,10 +62,34 @@ fn stores<D: Allocator>(declaration: &Declaration<D>, word: Word) -> bool {
         && matches!(Operation::of(word), Operation::Isz | Operation::Dca)
 }
 
+/// The words that may stand in a cell at an address.
+fn words_at<D: Allocator>(place: &Place<'_, D>, fact: &NarrowedFact, at: Word) -> WordSet {
+    let mut words = WordSet::empty();
+    place.put_possible(fact, at, &mut words);
+    words
+}
+
+/// The cells that a word writes.
+fn written<D: Allocator>(
+    place: &Place<'_, D>,
+    fact: &NarrowedFact,
+    at: Word,
+    word: Word,
+) -> WordSet {
+    let mut cells = WordSet::empty();
+    place.put_writes(fact, at, word, &mut cells);
+    cells
+}
+
 /// Where a JMP I that is not a return goes: where the cell that it names points, one up through an auto-index cell.
-fn jumped<D: Allocator>(place: &Place<'_, D>, fact: &Fact, at: Word, word: Word) -> WordSet {
+fn jumped<D: Allocator>(
+    place: &Place<'_, D>,
+    fact: &NarrowedFact,
+    at: Word,
+    word: Word,
+) -> WordSet {
     let named = target(word, at);
-    let words = place.possible_words(fact, named);
+    let words = words_at(place, fact, named);
     if 0o10 <= named.value() && named.value() <= 0o17 {
         words.shift(Word::from_index(1))
     } else {
@@ -73,12 +97,14 @@ fn jumped<D: Allocator>(place: &Place<'_, D>, fact: &Fact, at: Word, word: Word)
     }
 }
 
-/// Where a routine returns: after its sites, by the offsets of a fact.
-fn returned(routine: &RoutineClaim, fact: &Fact) -> WordSet {
+/// Where a routine returns: after the sites of a fact, by its offsets.
+fn returned(known: &KnownFact) -> WordSet {
+    let sites = known.sites();
+    let offsets = known.fact.offsets();
     let mut found = WordSet::empty();
-    for offset in 0..8usize {
-        if fact.offsets().contains(offset) {
-            found = found.union(&routine.sites.shift(Word::from_index(offset + 1)));
+    for offset in 0..64usize {
+        if offsets.contains(offset) {
+            found = found.union(&sites.shift(Word::from_index(offset + 1)));
         }
     }
     found
@@ -96,43 +122,49 @@ impl Access {
         }
     }
 
+    /// Adds where a JMP I goes.
+    fn add_jump<D: Allocator>(
+        &mut self,
+        place: &Place<'_, D>,
+        known: &KnownFact,
+        at: Word,
+        word: Word,
+    ) {
+        if place.declaration.is_entry(target(word, at)) {
+            self.returns = self.returns.union(&returned(known));
+        } else {
+            self.jumps = self.jumps.union(&jumped(place, &known.fact, at, word));
+        }
+    }
+
     /// Adds what an indirect word does beside writing.
     fn add_indirect<D: Allocator>(
         &mut self,
         place: &Place<'_, D>,
-        routine: &RoutineClaim,
-        fact: &Fact,
+        known: &KnownFact,
         at: Word,
         word: Word,
     ) {
+        let mut cells = WordSet::empty();
         match Operation::of(word) {
             Operation::And | Operation::Tad | Operation::Isz => {
-                self.reads = self.reads.union(&reads(fact, at, word, place));
+                place.put_reads(&known.fact, at, word, &mut cells);
+                self.reads = self.reads.union(&cells);
             }
             Operation::Dca => {}
-            Operation::Jms => self.calls = self.calls.union(&place.calls(fact, at, word)),
-            Operation::Jmp => {
-                if place.returned_entry(at, word).is_some() {
-                    self.returns = self.returns.union(&returned(routine, fact));
-                } else {
-                    self.jumps = self.jumps.union(&jumped(place, fact, at, word));
-                }
+            Operation::Jms => {
+                place.put_called(&known.fact, at, word, &mut cells);
+                self.calls = self.calls.union(&cells);
             }
+            Operation::Jmp => self.add_jump(place, known, at, word),
         }
     }
 
     /// Adds what a word does.
-    fn add<D: Allocator>(
-        &mut self,
-        place: &Place<'_, D>,
-        routine: &RoutineClaim,
-        fact: &Fact,
-        at: Word,
-        word: Word,
-    ) {
-        self.writes = self.writes.union(&writes(fact, at, word, place));
+    fn add<D: Allocator>(&mut self, place: &Place<'_, D>, known: &KnownFact, at: Word, word: Word) {
+        self.writes = self.writes.union(&written(place, &known.fact, at, word));
         if is_indirect(place.declaration, word) {
-            self.add_indirect(place, routine, fact, at, word);
+            self.add_indirect(place, known, at, word);
         }
     }
 }
@@ -140,17 +172,13 @@ impl Access {
 /// What the words that may stand at an address do.
 fn access_of<D: Allocator>(
     place: &Place<'_, D>,
-    routine: &RoutineClaim,
-    fact: &Fact,
+    known: &KnownFact,
     at: Word,
     words: &WordSet,
 ) -> Access {
     let mut access = Access::none();
-    for index in 0..4096 {
-        let word = Word::from_index(index);
-        if words.contains(word) {
-            access.add(place, routine, fact, at, word);
-        }
+    for word in words.iter() {
+        access.add(place, known, at, word);
     }
     access
 }
@@ -164,22 +192,19 @@ fn write_each<A: Allocator>(writer: &mut ReportWriter<A>, access: &Access) {
     write_places(writer, b"returns to ", &access.returns);
 }
 
-/// Writes what the word of the tape does at an address where no other may stand.
-fn write_fixed<A: Allocator, D: Allocator>(
+/// Writes what the word of the tape does by an indirect reference at an address where no other may stand.
+fn write_indirect<A: Allocator, D: Allocator>(
     writer: &mut ReportWriter<A>,
     place: &Place<'_, D>,
-    routine: &RoutineClaim,
-    fact: &Fact,
+    known: &KnownFact,
     at: Word,
     word: Word,
 ) {
     if is_indirect(place.declaration, word) {
         let mut access = Access::none();
-        access.add_indirect(place, routine, fact, at, word);
-        access.writes = writes(fact, at, word, place);
+        access.add_indirect(place, known, at, word);
+        access.writes = written(place, &known.fact, at, word);
         write_each(writer, &access);
-    } else if stores(place.declaration, word) {
-        write_places(writer, b"writes ", &WordSet::one(target(word, at)));
     }
 }
 
@@ -187,37 +212,57 @@ fn write_fixed<A: Allocator, D: Allocator>(
 fn write_varying<A: Allocator, D: Allocator>(
     writer: &mut ReportWriter<A>,
     place: &Place<'_, D>,
-    routine: &RoutineClaim,
-    fact: &Fact,
+    known: &KnownFact,
     at: Word,
 ) {
-    let words = place.possible_words(fact, at);
+    let words = words_at(place, &known.fact, at);
     if words.is_all() {
         return writer.item(b"may be any word");
     }
     writer.item(b"may be ");
     writer.words(&words);
     if words.count() <= MOST_WORDS {
-        write_each(writer, &access_of(place, routine, fact, at, &words));
+        write_each(writer, &access_of(place, known, at, &words));
     }
 }
 
-/// Writes what the words at an address may do: the cells that they write, and where they go and what they read by
-/// indirect references. `routine` is what is claimed about that in whose body they are.
+/// The word of the tape at an address where no other may stand.
+fn fixed_word<B: Allocator, D: Allocator, C: Allocator>(
+    report: &Report<'_, B, D, C>,
+    at: Word,
+) -> Option<Word> {
+    if report.declaration.is_variable(at) {
+        return None;
+    }
+    report.image.get(at)
+}
+
+/// Writes the cell that the word of the tape writes by a direct reference, whatever is known.
+pub(crate) fn write_direct<A: Allocator, B: Allocator, D: Allocator, C: Allocator>(
+    writer: &mut ReportWriter<A>,
+    report: &Report<'_, B, D, C>,
+    at: Word,
+) {
+    let Some(word) = fixed_word(report, at) else {
+        return;
+    };
+    if !is_indirect(report.declaration, word) && stores(report.declaration, word) {
+        write_places(writer, b"writes ", &WordSet::one(target(word, at)));
+    }
+}
+
+/// Writes what the words at an address may do by what is known: the cells that they write, and where they go and what they
+/// read by indirect references.
 pub(crate) fn write_access<A: Allocator, B: Allocator, D: Allocator, C: Allocator>(
     writer: &mut ReportWriter<A>,
     report: &Report<'_, B, D, C>,
     kind: &Kind,
-    routine: &RoutineClaim,
-    fact: &Fact,
+    known: &KnownFact,
     at: Word,
 ) {
-    let place = place_in(report.image, report.declaration, kind, routine);
-    if report.declaration.is_variable(at) {
-        return write_varying(writer, &place, routine, fact, at);
-    }
-    match report.image.get(at) {
-        Some(word) => write_fixed(writer, &place, routine, fact, at, word),
-        None => write_varying(writer, &place, routine, fact, at),
+    let place = report.place_in(kind);
+    match fixed_word(report, at) {
+        Some(word) => write_indirect(writer, &place, known, at, word),
+        None => write_varying(writer, &place, known, at),
     }
 }

@@ -3,7 +3,7 @@
 ghost use Rattle.std.specs.Prelude.{◌≡◌, ◌++◌, ◌⊎◌, false, true, IfOk, OnErr};
 ghost use Rattle.declaration.specs.Kept.{meaning};
 ghost use Rattle.analyser.specs.Attempts.{IsDraft};
-ghost use Rattle.certificate.specs.Kept.{claims};
+ghost use Rattle.certificate.specs.Sums.Kept.{claims};
 ghost use Rattle.command_parts.specs.Answers.{IsLaterFault, ReadsTwo};
 ghost use Rattle.command_parts.specs.Faults.{fails_to_write};
 ghost use Rattle.command_parts.specs.Inputs.{input};
@@ -23,9 +23,10 @@ use command_parts::text::push_place;
 use declaration::Declaration;
 use diagnostics::bounds::push_bound;
 use diagnostics::verdicts::reason_text::push_why;
+use diagnostics::verdicts::telling::telling_of;
 use diagnostics::verdicts::verdict::condition_name;
 use judge::Refusal;
-use reasons::{Reason, why_stuck};
+use reasons::{Reason, WhyRooms, why_stuck};
 use std::alloc::{AllocError, Allocator};
 use streams::{ByteSink, ByteSource, put};
 use word12::Word;
@@ -42,12 +43,15 @@ fn why_lines<A: Allocator + Copy, D: Allocator, C: Allocator>(
 ) -> Result<Vec<u8, A>, AllocError> {
     let mut text = Vec::new(alloc);
     if let Some((refusal, reason)) = told {
+        let (verdict, reason) = (Err(*refusal), Some(*reason));
+        let telling = telling_of(draft, &verdict, &reason);
         push_why(
             &mut text,
             declaration.profile(),
             image,
-            &Err(*refusal),
-            &Some(*reason),
+            &verdict,
+            &reason,
+            &telling,
         )?;
     }
     push_bound(alloc, &mut text, image, declaration, draft, at)?;
@@ -64,7 +68,8 @@ fn below_stuck<A: Allocator + Copy, D: Allocator, C: Allocator>(
     form: ReportForm,
     notes: Option<&SourceNotes<A>>,
 ) -> Result<Vec<u8, A>, AllocError> {
-    let told = why_stuck(image, declaration, draft, at);
+    let mut rooms = WhyRooms::boxed(alloc)?;
+    let told = why_stuck(image, declaration, draft, at, &mut rooms);
     let lines = why_lines(alloc, image, declaration, draft, at, &told)?;
     let failing = match &told {
         None => "",

@@ -2,11 +2,14 @@
 #![tactic(auto)]
 
 mod access;
+mod cases;
 mod graph;
 mod known;
+mod known_fact;
 mod listing;
 mod map;
 mod page;
+mod relations;
 mod report;
 mod routines;
 mod source_notes;
@@ -14,7 +17,7 @@ mod style;
 mod variables;
 mod writer;
 
-use listing::push_listing;
+use listing::{ClaimCache, push_listing};
 pub use page::page_below;
 pub use report::{Finding, Report};
 pub use source_notes::{LinePlace, SourceNote, SourceNotes};
@@ -33,7 +36,8 @@ pub fn listing_below<A: Allocator + Copy, D: Allocator, C: Allocator>(
     report: &Report<'_, A, D, C>,
 ) -> Result<Vec<u8, A>, AllocError> {
     let mut writer = ReportWriter::new(alloc, ReportForm::Text, &report.lines());
-    push_listing(&mut writer, report);
+    let mut cache = ClaimCache::boxed(alloc, report.rules)?;
+    push_listing(&mut writer, report, &mut cache);
     writer.into_bytes()
 }
 

@@ -1,15 +1,21 @@
 //! The listing: a line for each address at which something stands, with what is known there.
 
-use crate::access::write_access;
-use crate::known::write_fact;
-use crate::report::{Finding, Kind, Report, before, claimed_of, unclaimed};
+ghost use Rattle.std.specs.Prelude.{◌≡◌, length};
+ghost use Rattle.certificate.specs.Sums.Kept.{claims};
+
+use crate::access::{write_access, write_direct};
+use crate::cases::Apart;
+use crate::known::{write_apart, write_fact};
+use crate::known_fact::KnownFact;
+use crate::report::{Finding, Kind, Report, before, claimed_of, routine_of, unclaimed};
 use crate::routines::{write_exits, write_routine};
 use crate::source_notes::SourceNote;
 use crate::writer::ReportWriter;
 use certificate::{Certificate, RoutineClaim};
-use facts::Fact;
+use domain::Rules;
 use instruct::{Instruction, decode, name, refers_indirectly, target};
-use std::alloc::Allocator;
+use judge::Claims;
+use std::alloc::{AllocError, Allocator};
 use word12::Word;
 use wordset::WordSet;
 
@@ -18,6 +24,9 @@ const SHORT: usize = 16;
 
 /// How many stand after an address alone.
 const ALONE: usize = 21;
+
+/// How many stand where no address is.
+const WITHOUT: usize = 25;
 
 /// Writes the name of a word; that of a direct memory reference leads to the line of its cell.
 fn write_name<A: Allocator, B: Allocator, D: Allocator, C: Allocator>(
@@ -158,10 +167,12 @@ fn is_even(at: Word) -> bool {
 /// Facts to read what is claimed into: those at even and those at odd addresses, so that the one above
 /// an address mostly stands here already.
 #[derive(Drop)]
-struct ClaimCache {
-    even: Fact,
-    odd: Fact,
-    /// The address of the fact that was read last.
+pub(crate) struct ClaimCache {
+    even: KnownFact,
+    odd: KnownFact,
+    /// An exit.
+    exit: KnownFact,
+    /// The address of the fact that was read last, if it is the only one there.
     last: Option<Word>,
     /// What is claimed about the routine that was looked up last, and its entry; of main nothing is.
     routine: RoutineClaim,
@@ -169,11 +180,24 @@ struct ClaimCache {
 }
 
 impl ClaimCache {
+    /// A cache with nothing in it, on the heap, since it is large.
+    ///
+    /// # Errors
+    ///
+    /// Memory was refused.
+    pub(crate) fn boxed<A: Allocator>(
+        alloc: A,
+        rules: Rules,
+    ) -> Result<Box<ClaimCache, A>, AllocError> {
+        Ok(Box::new(alloc, ClaimCache::new(rules))?)
+    }
+
     /// A cache with nothing in it.
-    fn new() -> ClaimCache {
+    fn new(rules: Rules) -> ClaimCache {
         ClaimCache {
-            even: Fact::any(),
-            odd: Fact::any(),
+            even: KnownFact::new(rules),
+            odd: KnownFact::new(rules),
+            exit: KnownFact::new(rules),
             last: None,
             routine: unclaimed(),
             entry: None,
@@ -182,10 +206,7 @@ impl ClaimCache {
 
     /// Looks up what is claimed about the routine in whose body an address of this kind is, if it is in one.
     fn look_up<C: Allocator>(&mut self, certificate: &Certificate<C>, kind: &Kind) {
-        let entry = match kind {
-            Kind::Routine(entry) => Some(*entry),
-            _ => None,
-        };
+        let entry = routine_of(kind);
         if self.entry == entry {
             return;
         }
@@ -196,43 +217,148 @@ impl ClaimCache {
         };
     }
 
-    /// Whether there is a fact at an address, which then stands here.
-    fn read<C: Allocator>(&mut self, certificate: &Certificate<C>, at: Word) -> bool {
-        let found = if is_even(at) {
-            certificate.fact_into(at, &mut self.even)
+    /// Reads the only fact at an address.
+    fn read<B: Allocator, D: Allocator, C: Allocator>(
+        &mut self,
+        report: &Report<'_, B, D, C>,
+        at: Word,
+    )
+        requires { length ((claims report.now.certificate.now).facts at) ≡ 1 }
+    {
+        let (image, certificate) = (report.image, report.certificate);
+        if is_even(at) {
+            self.even
+                .read(image, certificate, &self.routine.sites, at, 0);
         } else {
-            certificate.fact_into(at, &mut self.odd)
-        };
-        if found {
-            self.last = Some(at);
+            self.odd
+                .read(image, certificate, &self.routine.sites, at, 0);
         }
-        found
+        self.last = Some(at);
     }
 
     /// The fact of an even or an odd address that was read last.
-    fn fact(&self, is_even: bool) -> &Fact {
+    fn fact(&self, is_even: bool) -> &KnownFact {
         if is_even { &self.even } else { &self.odd }
     }
 }
 
-/// Writes what is known and done at an address with a fact.
-fn write_with_fact<A: Allocator, B: Allocator, D: Allocator, C: Allocator>(
+/// Writes what is known and done at an address with one fact.
+fn write_only_fact<A: Allocator, B: Allocator, D: Allocator, C: Allocator>(
+    writer: &mut ReportWriter<A>,
+    report: &Report<'_, B, D, C>,
+    cache: &mut ClaimCache,
+    kind: &Kind,
+    at: Word,
+)
+    requires { length ((claims report.now.certificate.now).facts at) ≡ 1 }
+{
+    let above = before(at);
+    let near = at != Word::ZERO && cache.last == Some(above) && report.kind_of(above) == *kind;
+    cache.read(report, at);
+    let known = cache.fact(is_even(at));
+    let above = if near {
+        Some(cache.fact(!is_even(at)))
+    } else {
+        None
+    };
+    let setting = report.setting_of(&cache.routine);
+    write_fact(writer, &setting, known, above, &Apart::by_nothing());
+    writer.end_same();
+    write_access(writer, report, kind, known, at);
+    write_direct(writer, report, at);
+}
+
+/// Writes what is known and done at an address, or how many facts there are if there are several.
+fn write_known<A: Allocator, B: Allocator, D: Allocator, C: Allocator>(
     writer: &mut ReportWriter<A>,
     report: &Report<'_, B, D, C>,
     cache: &mut ClaimCache,
     at: Word,
-) {
+    count: usize,
+)
+    requires { count ≡ length ((claims report.now.certificate.now).facts at) }
+{
     let kind = report.kind_of(at);
-    let above = before(at);
-    let near = at != Word::ZERO && cache.last == Some(above) && report.kind_of(above) == kind;
-    if !cache.read(report.certificate, at) {
+    if count == 0 {
         return write_unknown(writer, report, &kind, at);
     }
     cache.look_up(report.certificate, &kind);
-    let fact = cache.fact(is_even(at));
-    write_fact(writer, fact, cache.fact(!is_even(at)), near);
-    writer.end_same();
-    write_access(writer, report, &kind, &cache.routine, fact, at);
+    if count == 1 {
+        return write_only_fact(writer, report, cache, &kind, at);
+    }
+    cache.last = None;
+    writer.item(b"one of ");
+    writer.number(count);
+    writer.put(b" cases");
+    write_direct(writer, report, at);
+}
+
+/// Writes what tells a case apart from the others: its number, if nothing else does.
+fn write_case_head<A: Allocator>(
+    writer: &mut ReportWriter<A>,
+    known: &KnownFact,
+    apart: &Apart,
+    index: usize,
+) {
+    writer.mark(b"<tr><td colspan=3><td><b>");
+    writer.begin_items(WITHOUT);
+    writer.item(b"");
+    if apart.is_told() {
+        write_apart(writer, known, apart);
+    } else {
+        writer.numbered(b"case ", index.saturating_add(1));
+    }
+    writer.put(b": ");
+    writer.mark(b"</b>");
+    writer.begin_items(0);
+}
+
+/// Writes the line of one of several facts at an address.
+fn write_case<A: Allocator, B: Allocator, D: Allocator, C: Allocator>(
+    writer: &mut ReportWriter<A>,
+    report: &Report<'_, B, D, C>,
+    cache: &ClaimCache,
+    apart: &Apart,
+    at: Word,
+    index: usize,
+) {
+    let known = &cache.even;
+    write_case_head(writer, known, apart, index);
+    if known.is_possible {
+        let setting = report.setting_of(&cache.routine);
+        write_fact(writer, &setting, known, None, apart);
+        write_access(writer, report, &report.kind_of(at), known, at);
+    } else {
+        writer.item(b"never");
+    }
+    writer.put(b"\n");
+}
+
+/// Writes a line for each of several facts at an address.
+fn write_cases<A: Allocator, B: Allocator, D: Allocator, C: Allocator>(
+    writer: &mut ReportWriter<A>,
+    report: &Report<'_, B, D, C>,
+    cache: &mut ClaimCache,
+    at: Word,
+    count: usize,
+)
+    requires { count ≡ length ((claims report.now.certificate.now).facts at) }
+{
+    let (image, certificate) = (report.image, report.certificate);
+    let sites = cache.routine.sites;
+    let apart = Apart::of(
+        image,
+        certificate,
+        &sites,
+        at,
+        count,
+        &mut cache.even,
+        &mut cache.odd,
+    );
+    for index in 0..count {
+        cache.even.read(image, certificate, &sites, at, index);
+        write_case(writer, report, cache, &apart, at, index);
+    }
 }
 
 /// Writes what the source says about an address, if it says something: in a page in a further column.
@@ -263,10 +389,14 @@ fn write_line<A: Allocator, B: Allocator, D: Allocator, C: Allocator>(
     write_word(writer, report, at);
     writer.mark(b"<td>");
     write_declared(writer, report, at);
-    write_with_fact(writer, report, cache, at);
+    let count = report.certificate.count_facts(at, 0);
+    write_known(writer, report, cache, at, count);
     write_mark(writer, report, at);
     write_note(writer, report.note_at(at));
     writer.put(b"\n");
+    if count > 1 {
+        write_cases(writer, report, cache, at, count);
+    }
 }
 
 /// The last address of the row of variables that begins at one, of which nothing is said.
@@ -305,6 +435,7 @@ fn write_quiet<A: Allocator, B: Allocator, D: Allocator, C: Allocator>(
 fn write_heading<A: Allocator, B: Allocator, D: Allocator, C: Allocator>(
     writer: &mut ReportWriter<A>,
     report: &Report<'_, B, D, C>,
+    cache: &mut ClaimCache,
     at: Word,
 ) {
     writer.put(b"\n");
@@ -326,7 +457,7 @@ fn write_heading<A: Allocator, B: Allocator, D: Allocator, C: Allocator>(
                 }
             }
             writer.put(b"\n");
-            write_exits(writer, report, at);
+            write_exits(writer, report, at, &mut cache.exit);
         }
     }
 }
@@ -356,19 +487,19 @@ fn needs_heading<B: Allocator, D: Allocator, C: Allocator>(
 pub(crate) fn push_listing<A: Allocator, B: Allocator, D: Allocator, C: Allocator>(
     writer: &mut ReportWriter<A>,
     report: &Report<'_, B, D, C>,
+    cache: &mut ClaimCache,
 ) {
-    let mut cache = ClaimCache::new();
     let mut last = None;
     for index in 0..4096 {
         let at = Word::from_index(index);
         if writer.has_line(at) {
             if needs_heading(report, at, &last) {
-                write_heading(writer, report, at);
+                write_heading(writer, report, cache, at);
             }
             if report.is_quiet(at) {
                 write_quiet(writer, report, at);
             } else {
-                write_line(writer, report, &mut cache, at);
+                write_line(writer, report, cache, at);
             }
             last = Some(at);
         }

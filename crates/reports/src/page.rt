@@ -2,11 +2,12 @@
 
 use crate::access::writes_through;
 use crate::graph::write_graph;
-use crate::listing::{push_listing, write_variable};
+use crate::listing::{ClaimCache, push_listing, write_variable};
 use crate::map::write_map;
 use crate::report::{Finding, Report};
 use crate::writer::{ReportForm, ReportWriter};
 use declaration::Declaration;
+use domain::Rules;
 use instruct::Profile;
 use std::alloc::{AllocError, Allocator};
 use word12::Word;
@@ -52,10 +53,26 @@ const ITEMS: &[u8] =
     b"; what is the same as on the line above is grey, and if there are more than eight such items, only the number \
 of the others is shown.\n\
 <code>AC in 0305,0310</code>: the accumulator holds one of these words. \
-<code>0010 in 0224-0230</code>: the cell 0010 holds one of these words. <code>any</code>: nothing is claimed. \
-<code>[0010] = [0224] + 0231, so 0224-0230</code>: the word in the cell 0010 is the word in the cell 0224 plus 0231, \
+<code>0010 in 0224-0230</code>: the cell 0010 holds one of these words. <code>any</code>: nothing is claimed. ";
+
+/// How equations are read.
+const EQUATIONS: &[u8] =
+    b"<code>[0010] = [0224] + 0231, so 0224-0230</code>: the word in the cell 0010 is the word in the cell 0224 plus 0231, \
 modulo 10000; with what is known about both, the cell 0010 holds one of the words after <code>so</code>. If a \
 pointer and a count are incremented together, the pointer ends where the count does.";
+
+/// How relations, chains and cases are read.
+const RELATIONS: &[u8] =
+    b"<code>[0010] is 0002 to 0005 more than [0224]</code>: the word in the cell 0010 is the word in the cell 0224 plus one \
+of these numbers, modulo 10000. <code>[0010] + 0012 * [0224] in 0000-0077</code>: this sum is one of these words, \
+modulo 10000. <code>the word at [0010]-0001</code>: the word that stood, when the run began, in the cell whose address \
+is the word in the cell 0010 less 1. <code>AC comes from [0010] by AND 0370, RTR</code>: AC is what these instructions \
+make of the word in the cell 0010; the words of AND and TAD are the operands themselves. <code>AC and L come from [0010] \
+and L 0 by</code>: so are AC and the link, where the link was 0 before. <code>unrelated</code>, <code>no longer</code>: \
+this is not claimed any more.\n\
+<code>one of 2 cases</code>: whenever a run is here, one of the cases below holds. Each has its own line: what tells it \
+apart from the others, and then all that is known in it. <code>called from 0202</code>: the running routine was called \
+from this address. <code>return word up by 1</code>: its return word has been incremented so often.";
 
 /// What a larger count would do, where an instruction writes through a pointer.
 const LARGER: &[u8] =
@@ -248,6 +265,23 @@ fn listed_text(finding: Finding) -> &'static [u8] {
     }
 }
 
+/// Writes how the items of the listing are read.
+fn write_items<A: Allocator, B: Allocator, D: Allocator, C: Allocator>(
+    writer: &mut ReportWriter<A>,
+    report: &Report<'_, B, D, C>,
+) {
+    writer.put(ITEMS);
+    match report.rules {
+        Rules::OfSums => writer.put(RELATIONS),
+        Rules::OfEquations => {
+            writer.put(EQUATIONS);
+            if writes_through(report) {
+                writer.put(LARGER);
+            }
+        }
+    }
+}
+
 /// The page after the verdict and what `opening` or `stuck_opening` says about it. `why` is what is said about a no,
 /// or of a search that is stuck.
 ///
@@ -266,12 +300,10 @@ pub fn page_below<A: Allocator + Copy, D: Allocator, C: Allocator>(
     write_variables(&mut writer, report);
     writer.put(b"<h2 id=listing>Listing, in octal</h2>\n<p>Beside each instruction is ");
     writer.put(listed_text(report.finding));
-    writer.put(ITEMS);
-    if writes_through(report) {
-        writer.put(LARGER);
-    }
+    write_items(&mut writer, report);
     writer.put(NAMES);
-    push_listing(&mut writer, report);
+    let mut cache = ClaimCache::boxed(alloc, report.rules)?;
+    push_listing(&mut writer, report, &mut cache);
     writer.put(b"</table>\n</body>\n</html>\n");
     writer.into_bytes()
 }

@@ -3,12 +3,15 @@
 ghost use Rattle.declaration.specs.Kept.{meaning};
 ghost use Rattle.reports.specs.Kinds.{IsKind, IsOutside};
 
+use crate::known::Setting;
 use crate::source_notes::{SourceNote, SourceNotes};
 use crate::variables::{AllHeld, Held, held_of};
 use bin_tape::Image;
 use certificate::{Certificate, RoutineClaim};
 use declaration::{Declaration, Owner};
-use facts::{Context, Place};
+use domain::Rules;
+use facts::Place;
+use judge::Claims;
 use std::alloc::{AllocError, Allocator};
 use word12::Word;
 use wordset::WordSet;
@@ -47,6 +50,8 @@ pub struct Report<'a, A: Allocator, D: Allocator, C: Allocator> {
     pub(crate) image: &'a Image,
     pub(crate) declaration: &'a Declaration<D>,
     pub(crate) certificate: &'a Certificate<C>,
+    /// The rules by which its facts are read.
+    pub(crate) rules: Rules,
     pub(crate) finding: Finding,
     /// The name of the condition that fails, or nothing where none is told.
     pub(crate) failing: &'a str,
@@ -122,11 +127,12 @@ impl<'a, A: Allocator + Copy, D: Allocator, C: Allocator> Report<'a, A, D, C> {
         notes: Option<&'a SourceNotes<A>>,
     ) -> Result<Report<'a, A, D, C>, AllocError> {
         let mut facts = WordSet::empty();
-        let held = held_of(alloc, declaration, certificate, &mut facts)?;
+        let held = held_of(alloc, image, declaration, certificate, &mut facts)?;
         Ok(Report {
             image,
             declaration,
             certificate,
+            rules: certificate.rules(),
             finding,
             failing,
             notes,
@@ -208,24 +214,32 @@ pub(crate) fn before(at: Word) -> Word {
     at.add(Word::from_index(4095))
 }
 
-/// Where a fact stands in the body of a routine, or in main.
-pub(crate) fn place_in<'b, D: Allocator>(
-    image: &'b Image,
-    declaration: &'b Declaration<D>,
-    kind: &Kind,
-    routine: &'b RoutineClaim,
-) -> Place<'b, D> {
-    let running = match kind {
-        Kind::Routine(entry) => Some(Context {
-            entry: *entry,
-            sites: &routine.sites,
-            writes: &routine.writes,
-        }),
+/// The entry of the routine in whose body an address of this kind is, if it is in one.
+pub(crate) fn routine_of(kind: &Kind) -> Option<Word> {
+    match kind {
+        Kind::Routine(entry) => Some(*entry),
         _ => None,
-    };
-    Place {
-        image,
-        declaration,
-        routine: running,
+    }
+}
+
+impl<A: Allocator, D: Allocator, C: Allocator> Report<'_, A, D, C> {
+    /// The place of the facts at an address of this kind.
+    pub(crate) fn place_in(&self, kind: &Kind) -> Place<'_, D> {
+        Place {
+            image: self.image,
+            declaration: self.declaration,
+            routine: routine_of(kind),
+            rules: self.rules,
+        }
+    }
+
+    /// Where the facts of a routine, or of main, stand. `claimed` is what is claimed about the routine.
+    pub(crate) fn setting_of(&self, claimed: &RoutineClaim) -> Setting<'_> {
+        Setting {
+            image: self.image,
+            rules: self.rules,
+            profile: self.declaration.profile(),
+            sites: claimed.sites,
+        }
     }
 }

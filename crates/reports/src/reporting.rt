@@ -1,7 +1,7 @@
 //! The command that writes what a certificate says.
 
 ghost use Rattle.std.specs.Prelude.{◌≡◌, ◌++◌, false, IfOk, IfErr};
-ghost use Rattle.certificate.specs.Kept.{meaning as lines_of};
+ghost use Rattle.certificate.specs.Sums.Kept.{meaning as text_of};
 ghost use Rattle.declaration.specs.Kept.{meaning};
 ghost use Rattle.command_parts.specs.Answers.{IsLaterFault, IsMemoryFault, WritesAnswer, output};
 ghost use Rattle.command_parts.specs.Faults.{fails_to_write};
@@ -20,14 +20,32 @@ use command_parts::status::{Fault, Status};
 use declaration::Declaration;
 use diagnostics::verdicts::certificates::{Certified, certified_from};
 use diagnostics::verdicts::reason_text::push_why;
+use diagnostics::verdicts::telling::telling_of;
 use diagnostics::verdicts::verdict::{condition_name, verdict_line, verdict_status};
-use judge::{Refusal, judge};
-use reasons::why;
+use judge::{Refusal, Rooms, judge};
+use reasons::{Reason, WhyRooms, why};
 use std::alloc::{AllocError, Allocator};
 use streams::{ByteSink, ByteSource};
 
+/// Why a verdict is no; a yes has no reason.
+fn reason_of<A: Allocator + Copy, D: Allocator, C: Allocator>(
+    alloc: A,
+    image: &Image,
+    declaration: &Declaration<D>,
+    certificate: &Certificate<C>,
+    verdict: &Result<(), Refusal>,
+) -> Result<Option<Reason>, AllocError> {
+    match verdict {
+        Ok(()) => Ok(None),
+        Err(refusal) => {
+            let mut rooms = WhyRooms::boxed(alloc)?;
+            Ok(why(image, declaration, certificate, refusal, &mut rooms))
+        }
+    }
+}
+
 /// Why a verdict is no, as lines; of a yes there are none.
-fn why_lines<A: Allocator, D: Allocator, C: Allocator>(
+fn why_lines<A: Allocator + Copy, D: Allocator, C: Allocator>(
     alloc: A,
     image: &Image,
     declaration: &Declaration<D>,
@@ -35,11 +53,16 @@ fn why_lines<A: Allocator, D: Allocator, C: Allocator>(
     verdict: &Result<(), Refusal>,
 ) -> Result<Vec<u8, A>, AllocError> {
     let mut text = Vec::new(alloc);
-    let reason = match verdict {
-        Ok(()) => None,
-        Err(refusal) => why(image, declaration, certificate, refusal),
-    };
-    push_why(&mut text, declaration.profile(), image, verdict, &reason)?;
+    let reason = reason_of(alloc, image, declaration, certificate, verdict)?;
+    let telling = telling_of(certificate, verdict, &reason);
+    push_why(
+        &mut text,
+        declaration.profile(),
+        image,
+        verdict,
+        &reason,
+        &telling,
+    )?;
     Ok(text)
 }
 
@@ -118,14 +141,15 @@ pub fn report_of<A: Allocator + Copy>(
     notes: Option<&SourceNotes<A>>,
 ) -> Result<Outcome<A>, Fault>
     ensures page { IfOk result (λ page. IsReportOf form certified.now.program.image
-        (meaning certified.now.program.declaration) (lines_of certified.now.certificate)
+        (meaning certified.now.program.declaration) (text_of certified.now.certificate)
         page.status page.text.items) }
     ensures faults { IfErr result IsMemoryFault }
     ensures unwritten { fails_to_write result ≡ false }
 {
     let program = &certified.program;
     let (image, declaration) = (&program.image, &program.declaration);
-    let verdict = judge(image, declaration, &certified.certificate);
+    let mut rooms = Rooms::boxed(alloc)?;
+    let verdict = judge(image, declaration, &certified.certificate, &mut rooms);
     let line = verdict_line(alloc, declaration, &verdict)?;
     let rest = below(
         alloc,

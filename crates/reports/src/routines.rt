@@ -1,11 +1,12 @@
 //! What is declared and claimed about a routine.
 
 use crate::known::write_exit;
-use crate::report::Report;
+use crate::known_fact::KnownFact;
+use crate::report::{Report, claimed_of};
 use crate::writer::ReportWriter;
 use certificate::RoutineClaim as Claimed;
 use declaration::Routine;
-use facts::Fact;
+use judge::Claims;
 use std::alloc::Allocator;
 use word12::Word;
 use wordset::WordSet;
@@ -65,22 +66,36 @@ pub(crate) fn write_routine<A: Allocator, B: Allocator, D: Allocator, C: Allocat
     write_offsets(writer, routine);
 }
 
-/// Writes a line for each exit of a routine that is claimed: what holds when it returns by that offset.
+/// Writes the line of an exit: what holds when the routine returns by that offset.
+fn write_exit_line<A: Allocator, B: Allocator, D: Allocator, C: Allocator>(
+    writer: &mut ReportWriter<A>,
+    report: &Report<'_, B, D, C>,
+    claimed: &Claimed,
+    offset: usize,
+    exit: &KnownFact,
+) {
+    writer.mark(b"<tr><td colspan=3>");
+    writer.put(b"return by ");
+    writer.offset(offset);
+    writer.mark(b"<td>");
+    writer.begin_items(if offset < 8 { 14 } else { 13 });
+    write_exit(writer, &report.setting_of(claimed), exit);
+    writer.put(b"\n");
+}
+
+/// Writes a line for each exit of a routine that is claimed. One fact is lent.
 pub(crate) fn write_exits<A: Allocator, B: Allocator, D: Allocator, C: Allocator>(
     writer: &mut ReportWriter<A>,
     report: &Report<'_, B, D, C>,
     entry: Word,
+    exit: &mut KnownFact,
 ) {
-    let mut exit = Fact::any();
-    for offset in 0..8usize {
-        if report.certificate.exit_into(entry, offset, &mut exit) {
-            writer.mark(b"<tr><td colspan=3>");
-            writer.put(b"return by ");
-            writer.number(offset);
-            writer.mark(b"<td>");
-            writer.begin_items(14);
-            write_exit(writer, &exit);
-            writer.put(b"\n");
+    let certificate = report.certificate;
+    let claimed = claimed_of(certificate, entry);
+    for offset in 0..64usize {
+        for index in 0..certificate.count_exits(entry, offset) {
+            exit.read_exit(certificate, &claimed.sites, entry, offset, index);
+            write_exit_line(writer, report, &claimed, offset, exit);
         }
     }
 }

@@ -1,8 +1,12 @@
 //! Which words variables may hold, as far as the facts of a certificate tell.
 
-use certificate::Certificate;
-use declaration::Declaration;
-use facts::Fact;
+use crate::known_fact::KnownFact;
+use crate::report::{claimed_of, unclaimed};
+use bin_tape::Image;
+use certificate::{Certificate, RoutineClaim};
+use declaration::{Declaration, Owner};
+use domain::Location;
+use judge::Claims;
 use std::alloc::{AllocError, Allocator};
 use word12::Word;
 use wordset::WordSet;
@@ -55,12 +59,12 @@ impl<A: Allocator> AllHeld<A> {
         }
     }
 
-    /// Adds a cell that may hold these words at an address.
-    fn push(&mut self, cell: Word, words: &WordSet, at: Word) -> Result<(), AllocError> {
+    /// Adds a cell that may hold these words.
+    fn push(&mut self, cell: Word, words: &WordSet) -> Result<(), AllocError> {
         let place = self.list.len();
         self.list.push(Held {
             words: *words,
-            known_at: WordSet::one(at),
+            known_at: WordSet::empty(),
         })?;
         if let Some(found) = self.places.get_mut(cell.index()) {
             *found = Some(place);
@@ -68,14 +72,13 @@ impl<A: Allocator> AllHeld<A> {
         Ok(())
     }
 
-    /// Adds that a cell may hold these words at an address.
-    fn add(&mut self, cell: Word, words: &WordSet, at: Word) -> Result<(), AllocError> {
+    /// Adds that a cell may hold these words.
+    fn add(&mut self, cell: Word, words: &WordSet) -> Result<(), AllocError> {
         let Some(place) = self.place_of(cell) else {
-            return self.push(cell, words, at);
+            return self.push(cell, words);
         };
         if let Some(held) = self.list.get_mut(place) {
             held.words = held.words.union(words);
-            held.known_at.insert(at);
         }
         Ok(())
     }
@@ -84,33 +87,82 @@ impl<A: Allocator> AllHeld<A> {
     fn add_fact<D: Allocator>(
         &mut self,
         declaration: &Declaration<D>,
-        fact: &Fact,
-        at: Word,
+        known: &KnownFact,
     ) -> Result<(), AllocError> {
-        for index in 0..fact.cells().len() {
-            let cell = fact.cells().address(index);
+        for cell in known.cells.iter() {
             if declaration.is_variable(cell) {
-                self.add(cell, &fact.cells().get(index).set, at)?;
+                self.add(cell, &known.set_of(&Location::Cell(cell)))?;
             }
         }
         Ok(())
+    }
+
+    /// Adds that something is known about some cells at an address.
+    fn know(&mut self, cells: &WordSet, at: Word) {
+        for cell in cells.iter() {
+            if let Some(place) = self.place_of(cell) {
+                if let Some(held) = self.list.get_mut(place) {
+                    held.known_at.insert(at);
+                }
+            }
+        }
+    }
+
+    /// Adds what the facts at an address say about variables. Something is known about a cell there if each of them says
+    /// it. One fact is lent.
+    fn add_facts<D: Allocator, C: Allocator>(
+        &mut self,
+        image: &Image,
+        declaration: &Declaration<D>,
+        certificate: &Certificate<C>,
+        at: Word,
+        known: &mut KnownFact,
+    ) -> Result<bool, AllocError> {
+        let count = certificate.count_facts(at, 0);
+        if count == 0 {
+            return Ok(false);
+        }
+        let sites = claimed_at(declaration, certificate, at).sites;
+        let mut cells = WordSet::all();
+        for index in 0..count {
+            known.read(image, certificate, &sites, at, index);
+            self.add_fact(declaration, known)?;
+            cells = cells.meet(&known.cells);
+        }
+        self.know(&cells, at);
+        Ok(true)
+    }
+}
+
+/// What is claimed about the routine in whose body an address is; of main nothing is.
+fn claimed_at<D: Allocator, C: Allocator>(
+    declaration: &Declaration<D>,
+    certificate: &Certificate<C>,
+    at: Word,
+) -> RoutineClaim {
+    let Some(owner) = declaration.owner_of(at) else {
+        return unclaimed();
+    };
+    match owner {
+        Owner::Main => unclaimed(),
+        Owner::Routine(entry) => claimed_of(certificate, entry),
     }
 }
 
 /// What is known about variables, and the addresses with a fact, which are added to others.
 pub(crate) fn held_of<A: Allocator + Copy, D: Allocator, C: Allocator>(
     alloc: A,
+    image: &Image,
     declaration: &Declaration<D>,
     certificate: &Certificate<C>,
     facts: &mut WordSet,
 ) -> Result<AllHeld<A>, AllocError> {
     let mut held = AllHeld::new(alloc)?;
-    let mut fact = Fact::any();
+    let mut known = Box::new(alloc, KnownFact::new(certificate.rules()))?;
     for index in 0..4096 {
         let at = Word::from_index(index);
-        if certificate.fact_into(at, &mut fact) {
+        if held.add_facts(image, declaration, certificate, at, &mut known)? {
             facts.insert(at);
-            held.add_fact(declaration, &fact, at)?;
         }
     }
     Ok(held)

@@ -110,6 +110,14 @@ impl<A: Allocator> ReportWriter<A> {
         self.put(digits.format(number).as_bytes());
     }
 
+    /// Writes by how much a return word is counted up, in octal digits.
+    pub(crate) fn offset(&mut self, offset: usize) {
+        if offset >= 8 {
+            self.number(offset / 8);
+        }
+        self.number(offset % 8);
+    }
+
     /// Writes a text, and after it a number in decimal digits.
     pub(crate) fn numbered(&mut self, text: &[u8], number: usize) {
         self.put(text);

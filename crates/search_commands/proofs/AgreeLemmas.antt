@@ -1,19 +1,17 @@
 -- A no and a yes never stand on the same bytes, and `certify` says yes exactly where `check` does.
 use Rattle.std.proofs.Common.{ℕ, ◌≡◌, Bool, List, Option, Some, Result, Ok, Err, refl, sym, ap, ◌∙◌, subst, take}
 use Rattle.bin_tape.proofs.OneAnswer.{one_tape, no_fault}
-use Rattle.certificate.specs.Certificate.{Certificate}
-use Rattle.certificate.specs.Faults.{reading}
-use Rattle.certificate.specs.Kept as certified
-use Rattle.certificate.specs.Reading.{certificate_of}
-use Rattle.certificate.specs.Spelling.{Lines}
-use Rattle.certificate.proofs.TextAnswerLemmas.{reading_law}
+use Rattle.certificate.specs.Sums.Kept as certified
+use Rattle.certificate.specs.Sums.Reading.{Text, reading}
+use Rattle.certificate.proofs.SumExactLemmas.{reading_law}
 use Rattle.declaration.proofs.AnswerLemmas.{one_declaration, no_fault as no_declaration_fault}
 use Rattle.declaration.specs.Declaration.{Declaration}
-use Rattle.judge.specs.Certifying.{AreRead, IsRefused, Parts, case_of, declaration_of, words_of}
-use Rattle.judge.specs.Conditions.{Case, IsFirst, IsValid}
+use Rattle.judge.specs.Sums.Certifying.{AreRead, IsRefused, Parts, case_of, declaration_of, words_of}
+use Rattle.judge.specs.Sums.Conditions.{IsFirst, IsValid}
+use Rattle.judge.specs.Sums.Landing.{Case}
 use Rattle.judge.specs.declared.verdict.CertifyFault.{CertifyFault}
 use Rattle.judge.specs.declared.verdict.CertifyFault.TheVariants as fault
-use Rattle.judge.proofs.ReadingLemmas.{none_fails, not_both}
+use Rattle.judge.proofs.Sums.ReadingLemmas.{none_fails, not_both}
 use Rattle.judge.specs.declared.judging.Refusal.{Refusal}
 use Rattle.peripherals.specs.Loading.{image_of}
 use Rattle.policy.specs.Runs.{IsSafe}
@@ -56,11 +54,11 @@ certified_is_checked tape declaration certificate p read valid safe = record {
 }
 
 -- the text of a certificate is read as that certificate
-read_of : (bytes : List ℕ) (lines : Lines) → IsTextOf bytes lines → reading bytes ≡ Ok lines
+read_of : (bytes : List ℕ) (lines : Text) → IsTextOf bytes lines → reading bytes ≡ Ok lines
 read_of bytes lines is =
     ap reading is.text_is ∙ reading_law.text lines is.lines_are (rw is.text_is at is.few)
 
-same_case : {i k : List (Option ℕ)} {d e : Declaration} {c f : Lines} → i ≡ k → d ≡ e → c ≡ f → checked_case i d c ≡ checked_case k e f
+same_case : {i k : List (Option ℕ)} {d e : Declaration} {c f : Text} → i ≡ k → d ≡ e → c ≡ f → checked_case i d c ≡ checked_case k e f
 same_case words promised claims = rw (words, promised, claims) refl
 
 module _ (tape declaration certificate line : List ℕ) (checked : IsCheckedSo (Some tape) (Some declaration) (Some certificate) line Done) where

@@ -5,9 +5,9 @@ use Rattle.peripherals.specs.Loading.{image_of}
 use Rattle.declaration.specs.Declaration.{Declaration}
 use Rattle.declaration.specs.Text.{Declares}
 use Rattle.policy.specs.Runs.{IsSafe}
-use Rattle.certificate.specs.Reading.{AreLines, certificate_of}
-use Rattle.certificate.specs.Spelling.{Lines}
-use Rattle.judge.specs.Conditions.{IsValid}
+use Rattle.certificate.specs.Sums.Exact.{AreLines}
+use Rattle.certificate.specs.Sums.Reading.{Text, certificate_of}
+use Rattle.judge.specs.Sums.Conditions.{IsValid}
 use Rattle.proposer.specs.Needed.{ReadsAreNeeded}
 use Rattle.diagnostics.specs.CheckText.{checked_case}
 use Rattle.command_parts.specs.declared.options.DeclareOptions.{DeclareOptions}
@@ -30,7 +30,7 @@ IsBare options text = (is : IsDeclarationFor options text) × (is.declaration.re
 -- Every condition holds of some certificate, in the version of the declared machine; and by its facts
 -- some possible word may read each cell of the list of reads.
 pub record ListsNeeded (image : List (Option ℕ)) (d : Declaration) : Type 0 where
-  pub lines : Lines
+  pub lines : Text
   pub lines_are : AreLines lines
   pub version_is : lines.version ≡ version_of d.profile
   pub valid : IsValid (checked_case image d lines)

@@ -9,5 +9,4 @@ pub mod WidenedText
 pub mod WidenedSearch
 pub mod Laws
 pub mod Adding
-pub mod ExplainText
 pub mod MigrateText

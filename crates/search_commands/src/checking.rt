@@ -1,7 +1,7 @@
 //! The command that checks a certificate.
 
 ghost use Rattle.std.specs.Prelude.{◌≡◌, false, IfOk, IfErr};
-ghost use Rattle.certificate.specs.Kept.{meaning as lines_of};
+ghost use Rattle.certificate.specs.Sums.Kept.{meaning as lines_of};
 ghost use Rattle.declaration.specs.Kept.{meaning};
 ghost use Rattle.command_parts.specs.Answers.{IsLaterFault, IsMemoryFault, WritesAnswer, output};
 ghost use Rattle.command_parts.specs.Faults.{fails_to_write};
@@ -14,7 +14,7 @@ use command_parts::outcome::{Outcome, deliver};
 use command_parts::status::{Fault, Status};
 use diagnostics::verdicts::certificates::{Certified, certified_from};
 use diagnostics::verdicts::verdict::{verdict_line, verdict_status};
-use judge::judge;
+use judge::{Rooms, judge};
 use std::alloc::Allocator;
 use streams::{ByteSink, ByteSource};
 
@@ -30,7 +30,13 @@ pub fn verdict_of<A: Allocator + Copy>(
     ensures unwritten { fails_to_write result ≡ false }
 {
     let program = &certified.program;
-    let verdict = judge(&program.image, &program.declaration, &certified.certificate);
+    let mut rooms = Rooms::boxed(alloc)?;
+    let verdict = judge(
+        &program.image,
+        &program.declaration,
+        &certified.certificate,
+        &mut rooms,
+    );
     let text = verdict_line(alloc, &program.declaration, &verdict)?;
     let status = verdict_status(&verdict);
     Ok(Outcome { text, status })

@@ -1,87 +1,57 @@
 //! The command that checks a certificate and says why a verdict is no.
 
-ghost use Rattle.std.specs.Prelude.{◌≡◌, ◌++◌, false, is_err, IfOk, IfErr, OnErr, OnOk};
-ghost use Rattle.std.specs.Io.KnownBytes.{Appends};
-ghost use Rattle.streams.specs.Bytes.{AppendsFront};
-ghost use Rattle.certificate.specs.Kept.{meaning as lines_of};
+ghost use Rattle.std.specs.Prelude.{◌≡◌, false, IfOk, IfErr};
+ghost use Rattle.certificate.specs.Sums.Kept.{meaning as lines_of};
 ghost use Rattle.declaration.specs.Kept.{meaning};
 ghost use Rattle.command_parts.specs.Answers.{IsLaterFault, IsMemoryFault, WritesAnswer, output};
-ghost use Rattle.command_parts.specs.Faults.{IsWriteFault};
+ghost use Rattle.command_parts.specs.Faults.{fails_to_write};
 ghost use Rattle.command_parts.specs.Inputs.{input};
-ghost use Rattle.search_commands.specs.ExplainText.{IsExplainedBy};
 ghost use Rattle.diagnostics.specs.CertificateFaults.{ReadsCertified};
 ghost use Rattle.diagnostics.specs.CertificateInputs.{OfCertified};
-ghost use Rattle.diagnostics.specs.WhyText.{IsExplanationOf, fact_shown};
+ghost use Rattle.diagnostics.specs.WhyText.{IsExplanationOf};
 
-use certificate::{Certificate, WriteFault};
-use command_parts::outcome::Outcome;
+use command_parts::outcome::{Outcome, deliver};
 use command_parts::status::{Fault, Status};
 use diagnostics::verdicts::certificates::{Certified, certified_from};
 use diagnostics::verdicts::explanation::push_explanation;
 use diagnostics::verdicts::verdict::verdict_status;
-use judge::{Refusal, judge};
-use std::alloc::{AllocError, Allocator};
-use streams::{ByteSink, ByteSource, put};
+use judge::{Rooms, judge};
+use std::alloc::Allocator;
+use streams::{ByteSink, ByteSource};
 
-/// Writes the lines of the fact at the address of a refusal as the certificate has them.
-fn put_fact<A: Allocator, W: ByteSink>(
-    out: &mut W,
-    certificate: &Certificate<A>,
-    verdict: &Result<(), Refusal>,
-) -> Result<(), WriteFault>
-    requires { W.mark out.old ≡ false }
-    ensures whole { OnOk result (Appends (W.taken out.old) (W.taken out.new)
-        (fact_shown (lines_of certificate.now) verdict.now)) }
-    ensures front { OnErr result (AppendsFront (W.taken out.old) (W.taken out.new)
-        (fact_shown (lines_of certificate.now) verdict.now)) }
-    ensures marks { W.mark out.new ≡ is_err result }
-{
-    match verdict {
-        Ok(()) => Ok(()),
-        Err(refusal) => certificate.write_fact(refusal.address, out),
-    }
-}
-
-/// The line of a verdict and why it is, and the status.
-fn explained<A: Allocator + Copy>(
+/// The verdict on a certificate of a program with why it is no, and its status.
+fn explanation_of<A: Allocator + Copy>(
     alloc: A,
     certified: &Certified<A>,
-    verdict: &Result<(), Refusal>,
-) -> Result<Outcome<A>, AllocError>
-    ensures { IfOk result (λ told. IsExplainedBy certified.now.program.image
+) -> Result<Outcome<A>, Fault>
+    ensures explained { IfOk result (λ told. IsExplanationOf certified.now.program.image
         (meaning certified.now.program.declaration) (lines_of certified.now.certificate)
-        verdict.now told.status told.text.items) }
+        told.status told.text.items) }
+    ensures faults { IfErr result IsMemoryFault }
+    ensures unwritten { fails_to_write result ≡ false }
 {
-    let program = &certified.program;
+    let Certified {
+        program,
+        certificate,
+    } = certified;
+    let mut rooms = Rooms::boxed(alloc)?;
+    let verdict = judge(
+        &program.image,
+        &program.declaration,
+        certificate,
+        &mut rooms,
+    );
     let mut text = Vec::new(alloc);
     push_explanation(
         alloc,
         &mut text,
         &program.image,
         &program.declaration,
-        &certified.certificate,
-        verdict,
+        certificate,
+        &verdict,
     )?;
-    let status = verdict_status(verdict);
+    let status = verdict_status(&verdict);
     Ok(Outcome { text, status })
-}
-
-/// Writes an explained verdict, and behind it the lines of the fact at the address of a refusal.
-fn write_with_fact<A: Allocator, W: ByteSink>(
-    told: &Outcome<A>,
-    certificate: &Certificate<A>,
-    verdict: &Result<(), Refusal>,
-    out: &mut W,
-) -> Result<Status, Fault>
-    requires { W.mark out.old ≡ false }
-    ensures writes { WritesAnswer (λ status text. (status ≡ told.now.status)
-        × (text ≡ told.now.text.items ++ fact_shown (lines_of certificate.now) verdict.now))
-        (output (W.mark out.new) (W.taken out.old) (W.taken out.new)) result }
-    ensures faults { IfErr result IsWriteFault }
-{
-    put(out, &told.text)?;
-    put_fact(out, certificate, verdict)?;
-    Ok(told.status)
 }
 
 /// Checks a certificate of a tape and a declaration, and writes the verdict: yes, with the numbers of
@@ -118,9 +88,8 @@ pub fn explain<A: Allocator + Copy, R: ByteSource, D: ByteSource, C: ByteSource,
         (input (C.mark certificate.new) (C.remaining certificate.old) (C.remaining certificate.new))
         (declaration.new ≡ declaration.old) (certificate.new ≡ certificate.old) result }
 {
-    let certified = certified_from(alloc, tape, declaration, certificate)?;
-    let program = &certified.program;
-    let verdict = judge(&program.image, &program.declaration, &certified.certificate);
-    let told = explained(alloc, &certified, &verdict)?;
-    write_with_fact(&told, &certified.certificate, &verdict, out)
+    match certified_from(alloc, tape, declaration, certificate) {
+        Ok(certified) => deliver(explanation_of(alloc, &certified), out),
+        Err(fault) => Err(fault),
+    }
 }

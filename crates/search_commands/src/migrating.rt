@@ -1,20 +1,25 @@
 //! The command that migrates a certificate.
 
-ghost use Rattle.std.specs.Prelude.{◌≡◌, false, ⊤};
-ghost use Rattle.command_parts.specs.Answers.{FailsBy, IsLaterFault, NeverFails, WritesAnswer, output};
+ghost use Rattle.std.specs.Prelude.{◌≡◌, false, ⊤, IfOk, IfErr};
+ghost use Rattle.certificate.specs.Sums.Kept.{meaning as lines_of};
+ghost use Rattle.command_parts.specs.Answers.{FailsBy, IsLaterFault, IsMemoryFault, NeverFails, ReadsDeclaration, WritesAnswer, output};
 ghost use Rattle.command_parts.specs.Inputs.{input};
 ghost use Rattle.command_parts.specs.declared.status.Status.TheVariants.{Done};
+ghost use Rattle.declaration.specs.Kept.{meaning};
 ghost use Rattle.diagnostics.specs.CertificateFaults.{ReadsCertificate};
-ghost use Rattle.search_commands.specs.MigrateText.{IsMigrated};
+ghost use Rattle.search_commands.specs.MigrateText.{IsMigrated, IsSited, in_version_3};
 
+use certificate::{Certificate, Version};
+use command_parts::inputs::declaration_from;
 use command_parts::status::{Fault, Status};
+use declaration::Declaration;
 use diagnostics::verdicts::certificates::{certificate_from, write_certificate};
 use std::alloc::Allocator;
 use streams::{ByteSink, ByteSource};
 
 /// Migrates a certificate to version 2 and writes its text. It claims what it claimed before; of MQ
-/// a certificate of version 1 says then that it may hold any word. One of version 2 is written as it
-/// is.
+/// a certificate of version 1 says then that it may hold any word. One of version 2 or 3 is written as
+/// it is.
 ///
 /// # Errors
 ///
@@ -38,5 +43,62 @@ pub fn migrate<A: Allocator + Copy, C: ByteSource, W: ByteSink>(
 {
     let claims = certificate_from(alloc, certificate)?;
     let migrated = claims.migrated();
+    write_certificate(&migrated, out)
+}
+
+/// A certificate in version 3: as it is if it is of that version, and else with the sites by a declaration.
+fn sited<A: Allocator + Copy, D: Allocator>(
+    alloc: A,
+    declaration: &Declaration<D>,
+    claims: Certificate<A>,
+) -> Result<Certificate<A>, Fault>
+    ensures lines { IfOk result (λ c. lines_of c ≡
+        in_version_3 (meaning declaration.now) (lines_of claims)) }
+    ensures faults { IfErr result IsMemoryFault }
+{
+    match claims.version() {
+        Version::Three => Ok(claims),
+        Version::One | Version::Two => match claims.with_sites(alloc, declaration) {
+            Ok(sited) => Ok(sited),
+            Err(_) => Err(Fault::NoMemory),
+        },
+    }
+}
+
+/// Migrates a certificate to version 3 and writes its text: each fact gets the sites of the routine in whose
+/// body its address is by a declaration, and each exit those of its routine. All else that is claimed stays.
+/// One of version 3 is written as it is. It is not promised that a certificate which is accepted is accepted
+/// in version 3 too.
+///
+/// # Errors
+///
+/// The fault of the declaration or of the certificate's text: each is read and, if it has a fault, refused
+/// before the next is read, and then nothing is written; `Device` where a read failed, or where a write
+/// failed, after which a prefix of the text went out; `NoMemory`.
+pub fn migrate_with_sites<A: Allocator + Copy, D: ByteSource, C: ByteSource, W: ByteSink>(
+    alloc: A,
+    declaration: &mut D,
+    certificate: &mut C,
+    out: &mut W,
+) -> Result<Status, Fault>
+    requires declaration_readable { D.mark declaration.old ≡ false }
+    requires readable { C.mark certificate.old ≡ false }
+    requires writable { W.mark out.old ≡ false }
+    // What is written is the text of the certificate with its sites, and then the command is done.
+    ensures sited { WritesAnswer
+        (λ status text. (status ≡ Done) ×
+        IsSited (D.remaining declaration.old) (C.remaining certificate.old) text)
+        (output (W.mark out.new) (W.taken out.old) (W.taken out.new)) result }
+    // The inputs are read in order; after good ones a write may fail, or memory be refused.
+    ensures reads { ReadsDeclaration
+        (input (D.mark declaration.new) (D.remaining declaration.old) (D.remaining declaration.new))
+        (certificate.new ≡ certificate.old)
+        (ReadsCertificate
+        (input (C.mark certificate.new) (C.remaining certificate.old) (C.remaining certificate.new))
+        ⊤ (FailsBy (IsLaterFault IsMemoryFault))) result }
+{
+    let promised = declaration_from(alloc, declaration)?;
+    let claims = certificate_from(alloc, certificate)?;
+    let migrated = sited(alloc, &promised, claims)?;
     write_certificate(&migrated, out)
 }

@@ -3,14 +3,15 @@
 ghost use Rattle.std.specs.Prelude.{◌≡◌, ◌⊎◌, ◌++◌, false, true, IfOk, OnErr, OnOk, Ok};
 ghost use Rattle.declaration.specs.Kept.{meaning};
 ghost use Rattle.analyser.specs.Attempts.{IsDraft};
-ghost use Rattle.certificate.specs.Kept.{claims, meaning as lines_of};
+ghost use Rattle.certificate.specs.Sums.Kept.{claims, meaning as lines_of};
 ghost use Rattle.search_commands.specs.GuessText.{IsGuess};
 ghost use Rattle.search_commands.specs.SearchFaults.{IsSearchFault};
 ghost use Rattle.command_parts.specs.Answers.{IsLaterFault, ReadsTwo};
 ghost use Rattle.command_parts.specs.Faults.{fails_to_write};
 ghost use Rattle.command_parts.specs.Inputs.{input};
 ghost use Rattle.command_parts.specs.Messages.{plain};
-ghost use Rattle.search_commands.specs.StuckText.{IsReport, IsStuck, IsToldOfDraft, stuck_text, told_text};
+ghost use Rattle.diagnostics.specs.CheckText.{checked_case};
+ghost use Rattle.search_commands.specs.StuckText.{IsReport, IsStuck, IsTold, IsToldOfDraft, stuck_text, told_text};
 ghost use Rattle.command_parts.specs.Writes.{FrontOf, Writes};
 ghost use Rattle.command_parts.specs.declared.status.Status.TheVariants.{Done, Refused};
 
@@ -23,9 +24,10 @@ use command_parts::status::{Fault, Status};
 use command_parts::text::push_place;
 use declaration::Declaration;
 use diagnostics::verdicts::reason_text::push_why;
+use diagnostics::verdicts::telling::{Telling, telling_of};
 use instruct::Profile;
 use judge::Refusal;
-use reasons::{Reason, why_stuck};
+use reasons::{Reason, WhyRooms, why_stuck};
 use std::alloc::{AllocError, Allocator};
 use streams::{ByteSink, ByteSource, put};
 use word12::Word;
@@ -35,13 +37,43 @@ fn push_told<L: Lines>(
     text: &mut L,
     profile: Profile,
     image: &Image,
-    told: &Option<(Refusal, Reason)>,
+    told: &Option<(Refusal, Reason, Telling)>,
 ) -> Result<(), AllocError>
     ensures { OnOk result (L.text text.new ≡ L.text text.old ++ told_text profile image.now told.now) }
 {
     match told {
         None => Ok(()),
-        Some((refusal, reason)) => push_why(text, profile, image, &Err(*refusal), &Some(*reason)),
+        Some((refusal, reason, telling)) => {
+            push_why(
+                text,
+                profile,
+                image,
+                &Err(*refusal),
+                &Some(*reason),
+                telling,
+            )
+        }
+    }
+}
+
+/// Why a search is stuck at an address, by the draft of what it found, and how that is told.
+fn told_of<D: Allocator, C: Allocator, M: Allocator>(
+    image: &Image,
+    declaration: &Declaration<D>,
+    draft: &Certificate<C>,
+    at: Word,
+    rooms: &mut WhyRooms<M>,
+) -> Option<(Refusal, Reason, Telling)>
+    ensures { IsTold
+        (checked_case image.now (meaning declaration.now) (lines_of draft.now)) at result }
+{
+    let found = why_stuck(image, declaration, draft, at, rooms);
+    match &found {
+        None => None,
+        Some((refusal, reason)) => {
+            let telling = telling_of(draft, &Err(*refusal), &Some(*reason));
+            Some((*refusal, *reason, telling))
+        }
     }
 }
 
@@ -60,7 +92,8 @@ pub fn draft_message<A: Allocator + Copy, D: Allocator, C: Allocator>(
     ensures { IfOk result (λ text. IsToldOfDraft image.now (meaning declaration.now)
         (lines_of draft.now) at (plain text)) }
 {
-    let told = why_stuck(image, declaration, draft, at);
+    let mut rooms = WhyRooms::boxed(alloc)?;
+    let told = told_of(image, declaration, draft, at, &mut rooms);
     let mut text = Message::new(alloc);
     push_told(&mut text, declaration.profile(), image, &told)?;
     Ok(text)

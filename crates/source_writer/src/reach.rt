@@ -22,7 +22,7 @@ const MOST_TEXT: usize = 256;
 
 /// A cell that control reaches, and by how far the return address of its routine was counted up before.
 #[derive(Clone, Copy)]
-struct Spot {
+struct ReachedCell {
     at: Word,
     offset: usize,
 }
@@ -141,20 +141,20 @@ impl Reach {
     /// Visits what waits, and what it leads to.
     fn go_on(&mut self, image: &Image) {
         for _visit in 0..MOST_VISITS {
-            let Some(spot) = self.next() else {
+            let Some(cell) = self.next() else {
                 return;
             };
-            self.visit(image, &spot);
+            self.visit(image, &cell);
         }
     }
 
     /// The next cell that waits.
-    fn next(&mut self) -> Option<Spot> {
+    fn next(&mut self) -> Option<ReachedCell> {
         for offset in 0..8usize {
             let cells = &mut self.waiting[offset];
             if let Some(at) = cells.least() {
                 cells.remove(at);
-                return Some(Spot { at, offset });
+                return Some(ReachedCell { at, offset });
             }
         }
         None
@@ -186,23 +186,23 @@ impl Reach {
     }
 
     /// Goes on so many cells later.
-    fn advance(&mut self, image: &Image, spot: &Spot, by: usize) {
-        let to = spot.at.add(Word::from_index(by % 4096));
-        self.meet(image, to, spot.offset);
+    fn advance(&mut self, image: &Image, cell: &ReachedCell, by: usize) {
+        let to = cell.at.add(Word::from_index(by % 4096));
+        self.meet(image, to, cell.offset);
     }
 
-    fn visit(&mut self, image: &Image, spot: &Spot) {
-        let Some(word) = image.get(spot.at) else {
+    fn visit(&mut self, image: &Image, cell: &ReachedCell) {
+        let Some(word) = image.get(cell.at) else {
             return;
         };
         match decode(word, self.profile) {
-            Instruction::Memory => self.refer(image, spot, word),
-            Instruction::Operate1 | Instruction::Operate3 => self.advance(image, spot, 1),
-            Instruction::Operate2 => self.test(image, spot, word),
+            Instruction::Memory => self.refer(image, cell, word),
+            Instruction::Operate1 | Instruction::Operate3 => self.advance(image, cell, 1),
+            Instruction::Operate2 => self.test(image, cell, word),
             Instruction::Iot => {
-                self.advance(image, spot, 1);
+                self.advance(image, cell, 1);
                 if skips_on_flag(word, self.profile) {
-                    self.advance(image, spot, 2);
+                    self.advance(image, cell, 2);
                 }
             }
             Instruction::Unsupported => {}
@@ -210,17 +210,17 @@ impl Reach {
     }
 
     /// Goes on from a word of group 2. Its bits 0010 to 0100 say when it skips: 0010 alone always.
-    fn test(&mut self, image: &Image, spot: &Spot, word: Word) {
+    fn test(&mut self, image: &Image, cell: &ReachedCell, word: Word) {
         if halts(word) {
-            self.halts.insert(spot.at);
+            self.halts.insert(cell.at);
             return;
         }
         let tests = word.index() / 8 % 16;
         if tests != 1 {
-            self.advance(image, spot, 1);
+            self.advance(image, cell, 1);
         }
         if tests != 0 {
-            self.advance(image, spot, 2);
+            self.advance(image, cell, 2);
         }
     }
 
@@ -237,19 +237,19 @@ impl Reach {
     }
 
     /// Goes on from a memory reference.
-    fn refer(&mut self, image: &Image, spot: &Spot, word: Word) {
-        let named = target(word, spot.at);
+    fn refer(&mut self, image: &Image, cell: &ReachedCell, word: Word) {
+        let named = target(word, cell.at);
         match Operation::of(word) {
-            Operation::Jms => self.call(image, spot, word),
-            Operation::Jmp => self.jump(image, spot, word),
+            Operation::Jms => self.call(image, cell, word),
+            Operation::Jmp => self.jump(image, cell, word),
             Operation::Isz if self.entries.contains(named) && !refers_indirectly(word) => {
-                self.meet(image, spot.at.increment(), spot.offset.saturating_add(1));
+                self.meet(image, cell.at.increment(), cell.offset.saturating_add(1));
             }
             operation => {
                 self.note_operand(operation, named, refers_indirectly(word));
-                self.advance(image, spot, 1);
+                self.advance(image, cell, 1);
                 if operation == Operation::Isz {
-                    self.advance(image, spot, 2);
+                    self.advance(image, cell, 2);
                 }
             }
         }
@@ -265,41 +265,41 @@ impl Reach {
     }
 
     /// Goes on from a call: at the routine, and where it is known to return.
-    fn call(&mut self, image: &Image, spot: &Spot, word: Word) {
-        let entry = match self.address(image, spot.at, word) {
+    fn call(&mut self, image: &Image, cell: &ReachedCell, word: Word) {
+        let entry = match self.address(image, cell.at, word) {
             Some(entry) if image.get(entry).is_some() => entry,
             _ => {
-                self.advance(image, spot, 1);
+                self.advance(image, cell, 1);
                 return;
             }
         };
         self.entries.insert(entry);
         self.meet(image, entry.increment(), 0);
-        if let Some(calls) = self.calls.get_mut(spot.offset) {
-            calls.insert(spot.at);
+        if let Some(calls) = self.calls.get_mut(cell.offset) {
+            calls.insert(cell.at);
         }
         if self.texts.contains(entry) {
-            if let Some(end) = text_end(image, spot.at) {
-                self.meet(image, end.increment(), spot.offset);
+            if let Some(end) = text_end(image, cell.at) {
+                self.meet(image, end.increment(), cell.offset);
                 return;
             }
         }
         for by in 0..8usize {
             if self.returns[by].contains(entry) {
-                self.advance(image, spot, by + 1);
+                self.advance(image, cell, by + 1);
             }
         }
     }
 
     /// Goes on from a jump. One through the entry of a routine is its return.
-    fn jump(&mut self, image: &Image, spot: &Spot, word: Word) {
-        let named = target(word, spot.at);
+    fn jump(&mut self, image: &Image, cell: &ReachedCell, word: Word) {
+        let named = target(word, cell.at);
         if refers_indirectly(word) && self.entries.contains(named) {
-            self.note_return(named, spot.offset);
+            self.note_return(named, cell.offset);
             return;
         }
-        if let Some(to) = self.address(image, spot.at, word) {
-            self.meet(image, to, spot.offset);
+        if let Some(to) = self.address(image, cell.at, word) {
+            self.meet(image, to, cell.offset);
         }
     }
 

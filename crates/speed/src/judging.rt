@@ -3,7 +3,7 @@
 use bin_tape::{Image, read_tape};
 use certificate::Certificate;
 use declaration::Declaration;
-use judge::judge;
+use judge::{Rooms, judge};
 use std::alloc::Allocator;
 
 /// How often of so many times a judge says yes.
@@ -13,10 +13,11 @@ pub fn accepted<A: Allocator>(
     declaration: &Declaration<A>,
     certificate: &Certificate<A>,
     times: u16,
+    rooms: &mut Rooms,
 ) -> u64 {
     let mut count = 0u64;
     for _ in 0..times {
-        if judge(image, declaration, certificate).is_ok() {
+        if judge(image, declaration, certificate, rooms).is_ok() {
             count = count.wrapping_add(1);
         }
     }
@@ -43,5 +44,6 @@ pub fn accepted_of<A: Allocator + Copy>(
     let image = read_tape(tape)?;
     let declaration = Declaration::parse(alloc, declared)?;
     let certificate = Certificate::parse(alloc, claimed)?;
-    Ok(Some(accepted(&image, &declaration, &certificate, times)))
+    let mut rooms = Rooms::boxed(alloc)?;
+    Ok(Some(accepted(&image, &declaration, &certificate, times, &mut rooms)))
 }

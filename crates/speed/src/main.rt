@@ -2,8 +2,8 @@
 //!
 //! `speed cpu ROUNDS` runs a loop of ISZ and JMP on the processor alone, `world ROUNDS` runs
 //! it by events, a round being 33,558,529 instructions; `tapes TIMES` writes the fullest image and
-//! reads it back; `facts TIMES` works out the outcome of a TAD a thousand times so often, and asks whether
-//! it entails a fact, with two tracked cells, and `facts64 TIMES` with 64 and 32 equations; `judge TIMES
+//! reads it back; `facts TIMES` reads a certificate from standard input and works out the outcome of a TAD at
+//! 0200 a thousand times so often, and asks whether it entails the fact at 0201; `judge TIMES
 //! TAPE DECLARATION` reads a tape and a declaration of so many bytes and a certificate, one after
 //! another from standard input, and judges them so often; `read TIMES` reads a certificate from standard
 //! input so often; these print what came out, and no times.
@@ -16,6 +16,7 @@ mod knowing;
 mod reading;
 
 use bin_tape::{Image, read_tape, write_tape};
+use certificate::Certificate;
 use declaration::Declaration;
 use instruct::Profile;
 use peripherals::{Event, Panel, Seen, Start, World};
@@ -157,18 +158,6 @@ fn put_tape<R: Print>(rt: &R) -> anyhow::Result<()> {
     Ok(())
 }
 
-/// Works out outcomes of facts with so many pairs of tracked cells, and prints how many entail the
-/// fact that is wanted.
-fn time_facts<R: Print + AllocGlobal>(rt: &R, pairs: usize, times: u16) -> anyhow::Result<()> {
-    let declared = Declaration::parse(rt.alloc(), b"start 200\nmain 200\nvar 10-110\n")?;
-    let image = Image::empty();
-    let (fact, next) = (knowing::before(pairs), knowing::after(pairs));
-    let rounds = u32::from(times).wrapping_mul(1000);
-    let hits = knowing::entailed(&image, &declared, &fact, &next, rounds);
-    println!(rt; "facts pairs {pairs} outcomes {rounds} entailed {hits}")?;
-    Ok(())
-}
-
 /// More bytes than a tape, a declaration and a certificate have.
 const MOST_INPUT: usize = 2_000_000;
 
@@ -192,6 +181,22 @@ fn time_judge(rt: &HostRuntime, times: u16, words: &[String]) -> anyhow::Result<
     Ok(())
 }
 
+/// Works out outcomes of the fact at 0200 of the certificate on standard input, and prints how many entail the one at 0201.
+fn time_facts(rt: &HostRuntime, times: u16) -> anyhow::Result<()> {
+    let mut source = Reads::new(rt.reader());
+    let bytes = read_at_most(rt.alloc(), &mut source, MOST_INPUT)?;
+    let declared = Declaration::parse(rt.alloc(), b"start 200\nmain 200\nvar 10-110\n")?;
+    let certificate = Certificate::parse(rt.alloc(), &bytes)?;
+    let rounds = u32::from(times).wrapping_mul(1000);
+    let image = Image::empty();
+    let mut rooms = knowing::Rooms::boxed(rt.alloc())?;
+    match knowing::entailed(&image, &declared, &certificate, rounds, &mut rooms) {
+        Some(hits) => println!(rt; "facts outcomes {rounds} entailed {hits}")?,
+        None => println!(rt; "facts without one at 0200 or 0201")?,
+    }
+    Ok(())
+}
+
 /// Reads the certificate on standard input so many times, and prints how often it is one.
 fn time_read(rt: &HostRuntime, times: u16) -> anyhow::Result<()> {
     let mut source = Reads::new(rt.reader());
@@ -211,8 +216,7 @@ fn main(rt: HostRuntime) -> anyhow::Result<()> {
         Some("cpu") => time_processor(&rt, number),
         Some("world") => time_world(&rt, number),
         Some("tapes") => time_tapes(&rt, number),
-        Some("facts") => time_facts(&rt, 1, number),
-        Some("facts64") => time_facts(&rt, 32, number),
+        Some("facts") => time_facts(&rt, number),
         Some("judge") => time_judge(&rt, number, &words),
         Some("read") => time_read(&rt, number),
         Some("tape") => put_tape(&rt),

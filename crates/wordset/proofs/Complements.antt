@@ -1,7 +1,7 @@
 -- The complements of the words of a set: the bits in the opposite order, lane by lane.
 use Rattle.std.proofs.Common.{◌≡◌, ℕ, zero, suc, ◌+◌, ◌-◌, ◌*◌, ◌/◌, ◌%◌, ◌^◌, ◌<◌, ◌≤◌, ◌==◌, true, false, ◌&&◌, List, get_or, sym, ◌∙◌, ap, inl, inr, arith, w64}
 use Rattle.std.specs.Prelude.{bit_and, bit_or}
-use Rattle.std.specs.Int.{bit_at, reverse_bits, reverse_bits_onto}
+use Rattle.std.specs.Int.{bit_at}
 use Rattle.std.proofs.lemmas.Bool.{cases_lt, eq-eqb, eqb-true}
 use Rattle.std.proofs.lemmas.Nat.{or_lt, and_le_l}
 use Rattle.std.proofs.lemmas.Nat.Bits.{bit_at-suc, bit_at_lowest, bit_at-lt, bit_at_or, bit_at_and, bit_at_ones, same_from_bits, same_from_bits_below}
@@ -13,43 +13,14 @@ use Rattle.wordset.proofs.Tests.{both_ways, some_from, some_to, IsSome, and_both
 use Rattle.std.proofs.Math.Path.{fun_ext}
 use Rattle.wordset.proofs.Ors.{or_swap}
 
--- ---- one lane
-
--- the bits of a stand above the k bits that were put on
-high_bits : (k n a j : ℕ) → bit_at (reverse_bits_onto k n a) (k + j) ≡ bit_at a j
-unfolding reverse_bits_onto
-high_bits zero n a j = let e : zero + j ≡ j = omega arith in ap (λ i. bit_at a i) e
-high_bits (suc k) n a j =
-    let e : suc k + j ≡ k + suc j = omega arith in
-    let half : (a * 2 + n % 2) / 2 ≡ a = omega arith in
-    ap (λ i. bit_at (reverse_bits_onto k (n / 2) (a * 2 + n % 2)) i) e ∙ high_bits k (n / 2) (a * 2 + n % 2) (suc j) ∙ bit_at-suc (a * 2 + n % 2) j ∙ ap (λ m. bit_at m j) half
-
--- the k bits are those of n, last first
-low_bits : (k n a j : ℕ) → j < k → bit_at (reverse_bits_onto k n a) j ≡ bit_at n (k - 1 - j)
-unfolding reverse_bits_onto
-low_bits zero n a j h = absurd (omega arith)
-low_bits (suc k) n a j h = elim (cases_lt j k) [
-  | inl l ↦
-      (let e : suc (k - 1 - j) ≡ suc k - 1 - j = omega arith in
-      low_bits k (n / 2) (a * 2 + n % 2) j l ∙ sym (bit_at-suc n (k - 1 - j)) ∙ ap (λ i. bit_at n i) e)
-  | inr g ↦
-      (let e : j ≡ k + 0 = omega arith in
-      let z : 0 ≡ suc k - 1 - j = omega arith in
-      let odd : (a * 2 + n % 2) % 2 ≡ n % 2 = omega arith in
-      ap (λ i. bit_at (reverse_bits_onto k (n / 2) (a * 2 + n % 2)) i) e ∙ high_bits k (n / 2) (a * 2 + n % 2) 0 ∙ bit_at_lowest (a * 2 + n % 2) ∙ odd ∙ sym (bit_at_lowest n) ∙ ap (λ i. bit_at n i) z)
-]
-
-reversed_bit : (n j : ℕ) → j < 64 → bit_at (reverse_bits w64 n) j ≡ bit_at n (63 - j)
-reversed_bit n j h = low_bits 64 n 0 j h
-
 -- ---- all lanes
 
-pub words-mirrored : (x lanes : List ℕ) → ((i : ℕ) → i < 64 → get_or lanes i 0 ≡ reverse_bits w64 (get_or x (63 - i) 0)) → (v : ℕ) → v < 4096 → words lanes v ≡ words x (4095 - v)
+pub words-mirrored : (x lanes : List ℕ) → ((i : ℕ) → i < 64 → (j : ℕ) → j < 64 → bit_at (get_or lanes i 0) j ≡ bit_at (get_or x (63 - i) 0) (63 - j)) → (v : ℕ) → v < 4096 → words lanes v ≡ words x (4095 - v)
 words-mirrored x lanes each v h =
     let lane : 63 - v / 64 ≡ (4095 - v) / 64 = omega arith in
     let bit : 63 - v % 64 ≡ (4095 - v) % 64 = omega arith in
-    words_bit lanes v h ∙ ap (λ n. bit_at n (v % 64) == 1) (each (v / 64) (omega arith))
-    ∙ ap (λ b. b == 1) (reversed_bit (get_or x (63 - v / 64) 0) (v % 64) (omega arith) ∙ ap (λ i. bit_at (get_or x i 0) (63 - v % 64)) lane ∙ ap (λ j. bit_at (get_or x ((4095 - v) / 64) 0) j) bit)
+    words_bit lanes v h
+    ∙ ap (λ b. b == 1) (each (v / 64) (omega arith) (v % 64) (omega arith) ∙ ap (λ i. bit_at (get_or x i 0) (63 - v % 64)) lane ∙ ap (λ j. bit_at (get_or x ((4095 - v) / 64) 0) j) bit)
     ∙ sym (words_bit x (4095 - v) (omega arith))
 
 -- ---- the and of two words is the complement of the or of their complements

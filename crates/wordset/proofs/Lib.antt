@@ -9,6 +9,7 @@ pub mod Firsts
 pub mod CarryLemmas
 pub mod Parts
 pub mod Ors
+pub mod Reversals
 pub mod Complements
 pub mod SumLemmas
 pub mod Halves

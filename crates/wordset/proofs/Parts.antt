@@ -18,11 +18,11 @@ use Rattle.wordset.proofs.Tests.{true_false, both_ways, some_from, some_to, IsSo
 
 -- ---- the words with a bit
 
-every : ℕ → (ℕ → Bool) → Bool
+unfoldable pub every : ℕ → (ℕ → Bool) → Bool
 every zero test = true
 every (suc n) test = test n && every n test
 
-every_at : (n : ℕ) (test : ℕ → Bool) → every n test ≡ true → (k : ℕ) → k < n → test k ≡ true
+pub every_at : (n : ℕ) (test : ℕ → Bool) → every n test ≡ true → (k : ℕ) → k < n → test k ≡ true
 unfolding every
 every_at zero test e k h = absurd (omega arith)
 every_at (suc n) test e k h = elim (cases_eq k n) [

@@ -47,7 +47,7 @@ bit_mul_high n r j h = ap (λ m. bit_at m j) (sym (add-zero (n * 2 ^ r))) ∙ bi
 bit_mul_low : (n r j : ℕ) → j < r → bit_at (n * 2 ^ r) j ≡ 0
 bit_mul_low n r j h = ap (λ m. bit_at m j) (sym (add-zero (n * 2 ^ r))) ∙ bit_at_cat_low n r 0 j h ∙ bit_at-zero j
 
-up_high : (n r j : ℕ) → j < 64 → r ≤ j → bit_at (up r n) j ≡ bit_at n (j - r)
+pub up_high : (n r j : ℕ) → j < 64 → r ≤ j → bit_at (up r n) j ≡ bit_at n (j - r)
 up_high n r j h g = bit_mod (n * 2 ^ r) 64 j h ∙ bit_mul_high n r j g
 
 up_low : (n r j : ℕ) → j < 64 → j < r → bit_at (up r n) j ≡ 0

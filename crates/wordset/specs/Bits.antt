@@ -1,11 +1,15 @@
 -- One bit of the words of a set: the steps by which the bitwise operations are made.
-use Rattle.std.specs.Prelude.{ℕ, ◌+◌, ◌/◌, ◌^◌, ◌==◌, Bool, not, ◌&&◌, ◌||◌, bit_and, bit_or}
+use Rattle.std.specs.Prelude.{ℕ, ◌+◌, ◌-◌, ◌/◌, ◌^◌, ◌==◌, if◌then◌else◌, Bool, not, ◌&&◌, ◌||◌, bit_and, bit_or}
 use Rattle.std.specs.Int.{bit_at}
 use Rattle.wordset.specs.Words.{Words, plus, minus, some_below}
 
 -- The words with the bit of weight 2 ^ at.
 abbrev pub has_bit : ℕ → Words
 has_bit at v = bit_at v at == 1
+
+-- The place of the bit with which the one at a place changes places, where those 2 ^ at apart are exchanged.
+abbrev pub neighbour : ℕ → ℕ → ℕ
+neighbour at j = if bit_at j at == 1 then j - 2 ^ at else j + 2 ^ at
 
 -- The words of a set, and those of them without the bit moved up by its weight.
 abbrev pub doubled : ℕ → Words → Words

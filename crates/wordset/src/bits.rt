@@ -3,11 +3,11 @@
 //! To set a bit in a word that lacks it is to add its weight. So a bit is put into each word of a
 //! set by one shift of those that lack it.
 
-ghost use Rattle.std.specs.Prelude.{◌≡◌, ◌<◌, ◌+◌, ◌*◌, ◌^◌, ◌==◌, ◌&&◌, ◌||◌, bit_and, ℕ};
+ghost use Rattle.std.specs.Prelude.{◌≡◌, ◌<◌, ◌+◌, ◌-◌, ◌*◌, ◌^◌, ◌==◌, ◌&&◌, ◌||◌, bit_and, ℕ};
 ghost use Rattle.std.specs.Int.{bit_at};
 ghost use Rattle.wordset.specs.Words.{SameWords, some_below, ands, ors, or_any, all_words};
 ghost use Rattle.wordset.specs.Lanes.{words};
-ghost use Rattle.wordset.specs.Bits.{has_bit, doubled, halved, put_bit, ors_with};
+ghost use Rattle.wordset.specs.Bits.{has_bit, doubled, halved, put_bit, ors_with, neighbour};
 
 use crate::WordSet;
 use word12::Word;
@@ -178,6 +178,28 @@ const PATTERNS: [u64; 6] = [
     0xffff_0000_ffff_0000,
     0xffff_ffff_0000_0000,
 ];
+
+/// A lane in which each bit has changed places with the one whose place differs from its own by 2 ^ at in that bit alone.
+fn exchanged(lane: u64, at: usize) -> u64
+    requires { at < 6 }
+    ensures { (j : ℕ) → j < 64 → bit_at result j ≡ bit_at lane (neighbour at j) }
+{
+    let by = 1usize << at;
+    let upper = PATTERNS[at];
+    (lane & upper) >> by | (lane << by) & upper
+}
+
+/// A lane with its bits in the opposite order: they change places by ones, twos, fours and so on, for all bits at once.
+pub(crate) fn reversed(lane: u64) -> u64
+    ensures { (j : ℕ) → j < 64 → bit_at result j ≡ bit_at lane (63 - j) }
+{
+    let pairs = exchanged(lane, 0);
+    let fours = exchanged(pairs, 1);
+    let eights = exchanged(fours, 2);
+    let sixteens = exchanged(eights, 3);
+    let halves = exchanged(sixteens, 4);
+    exchanged(halves, 5)
+}
 
 /// The words of lane i that have the bit of weight 2 ^ at.
 fn lane_of_bit(at: usize, i: usize) -> u64

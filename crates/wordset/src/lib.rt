@@ -315,7 +315,7 @@ impl WordSet {
     {
         let mut lanes = [0u64; 64];
         for i in 0..64usize {
-            lanes[i] = self.lanes[63 - i].reverse_bits();
+            lanes[i] = bits::reversed(self.lanes[63 - i]);
         }
         WordSet { lanes }
     }

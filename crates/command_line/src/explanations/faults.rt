@@ -8,13 +8,13 @@ static FAULTS: [Explanation; 43] = [
         code: "NoWord",
         subject: Subject::Fault("tape: NoWord"),
         meaning: "the tape ends before any word",
-        advice: "it is another file, or its beginning is missing",
+        advice: "the file is not this kind of tape, or its beginning is missing",
     },
     Explanation {
         code: "NoOrigin",
         subject: Subject::Fault("tape: NoOrigin"),
         meaning: "a data word comes before any origin",
-        advice: "it is another file, or its beginning is missing",
+        advice: "the file is not this kind of tape, or its beginning is missing",
     },
     Explanation {
         code: "BadFrame",
@@ -50,7 +50,7 @@ static FAULTS: [Explanation; 43] = [
         code: "TooLong",
         subject: Subject::Fault("tape: TooLong"),
         meaning: "65,536 frames contain no trailer and no fault, and another frame follows",
-        advice: "it is another file, or its beginning is missing",
+        advice: "the file is not this kind of tape, or its beginning is missing",
     },
     Explanation {
         code: "EmptyImage",
@@ -80,7 +80,7 @@ static FAULTS: [Explanation; 43] = [
         code: "UA",
         subject: Subject::Fault("source: UA 1 2"),
         meaning: "a symbol without a value",
-        advice: "define the symbol, and do so before any line that uses it for a\nvalue or an origin; or the source needs something that is left out\n(docs/PAL.md); of MQL and the like: use `--profile 8e`, or the line\n`profile 8e` if there is a declaration",
+        advice: "define the symbol, and do so before any line that uses it for a\nvalue or an origin; or the source needs something that this assembler leaves\nout (docs/PAL.md); of MQL and the like: use `--profile 8e`, or the line\n`profile 8e` if there is a declaration",
     },
     Explanation {
         code: "IR",
@@ -140,7 +140,7 @@ static FAULTS: [Explanation; 43] = [
         code: "Overlap",
         subject: Subject::Fault("declaration: Overlap 0200"),
         meaning: "the cell has two roles that exclude each other (docs/DECLARATIONS.md)",
-        advice: "remove one of the roles that clash (docs/DECLARATIONS.md); code\nthat changes may be both in a body and a variable",
+        advice: "remove one of the roles that clash (docs/DECLARATIONS.md); a cell\nof code that changes may be in a body and be a variable too",
     },
     Explanation {
         code: "EntryInAutoIndex",
@@ -218,7 +218,7 @@ static FAULTS: [Explanation; 43] = [
         code: "TooMany",
         subject: Subject::Fault("certificate: TooMany"),
         meaning: "more than 64 routines, 1,048,576 bytes, or 64 cells or 32 equations in a fact or an exit",
-        advice: "use at most 64 routines, 64 cells and 32 equations under a line,\nand 1,048,576 bytes; say less",
+        advice: "use at most 64 routines, 64 cells and 32 equations under a line,\nand 1,048,576 bytes; let the certificate say less",
     },
     Explanation {
         code: "Stuck",
@@ -230,7 +230,7 @@ static FAULTS: [Explanation; 43] = [
         code: "TurnsSpent",
         subject: Subject::Fault("guess: TurnsSpent"),
         meaning: "the limit of 2,000,000 turns was reached; a turn is one look at what an instruction may do",
-        advice: "declare fewer variables; mask words (`AND`) before they are stored;\nor search for a run with more `--steps` of `refute`",
+        advice: "declare fewer variables; mask words (`AND`) before they are stored;\nor search for a run: use `refute` with more `--steps`",
     },
     Explanation {
         code: "Undeclarable",
@@ -260,7 +260,7 @@ static FAULTS: [Explanation; 43] = [
         code: "NoMemory",
         subject: Subject::Fault("memory: NoMemory"),
         meaning: "memory was refused",
-        advice: "give the program more memory",
+        advice: "give `pdp8` more memory",
     },
 ];
 

@@ -38,7 +38,7 @@ static RULES: [Explanation; 7] = [
         code: "rule6",
         subject: Subject::Asked("fixed code"),
         meaning: "Each cell of a body that is on the tape and is not a variable holds the\ntape's word.",
-        advice: "no run violates this rule first; declare a cell of a body that is\nmeant to change as a `var` too",
+        advice: "a run violates this rule only after it has violated another; if a\ncell of a body is meant to change, declare it as a `var` too",
     },
     Explanation {
         code: "rule7",

@@ -1,7 +1,8 @@
 //! Why less is known about a pointer after an instruction than before it.
 
+use crate::bounds::known::Known;
 use declaration::Declaration;
-use facts::{Fact, Location, narrowed};
+use domain::Location;
 use instruct::{Operation, halts, refers_indirectly, target};
 use std::alloc::Allocator;
 use word12::Word;
@@ -121,45 +122,46 @@ pub(crate) fn may_go_on<D: Allocator>(
     }
 }
 
-/// Whether it is known how far the accumulator is from a cell.
-fn ties_accumulator(fact: &Fact, cell: Word) -> bool {
-    for equation in fact.equations() {
-        if equation.left == Location::Accumulator && equation.right == cell {
-            return true;
-        }
-    }
-    false
-}
-
 /// The words that a pointer may hold after an instruction, as far as the instruction itself tells.
-fn words_behind(before: &Fact, at: Word, word: Word, pointer: Word) -> WordSet {
+fn words_behind<C: Allocator>(
+    known: &mut Known<'_, C>,
+    at: Word,
+    word: Word,
+    pointer: Word,
+) -> WordSet {
     let stores = matches!(operation(word), Some(Operation::Dca)) && !refers_indirectly(word);
     if stores && target(word, at) == pointer {
-        return narrowed(before, &Location::Accumulator);
+        return known.words_at(at, &Location::Accumulator);
     }
-    narrowed(before, &Location::Cell(pointer))
+    known.words_at(at, &Location::Cell(pointer))
+}
+
+/// Why it is no longer known behind an instruction how far the accumulator is from a pointer, if the instruction is a test or a
+/// complement.
+fn loss_of_tie(word: Word) -> Option<Loss> {
+    let bits = word.value();
+    if is_test(word) && bits & 0o200 != 0 {
+        return Some(Loss::ClearingSkip);
+    }
+    (bits & 0o7640 == 0o7040).then_some(Loss::Complement)
 }
 
 /// Why less is known about a pointer at the place where a run goes on from an instruction, if it is so.
-pub(crate) fn loss_at(
-    before: &Fact,
+pub(crate) fn loss_at<C: Allocator>(
+    known: &mut Known<'_, C>,
     at: Word,
     word: Word,
-    behind: &Fact,
     to: Word,
     pointer: Word,
 ) -> Option<Loss> {
-    if ties_accumulator(before, pointer) && !ties_accumulator(behind, pointer) {
-        let bits = word.value();
-        if is_test(word) && bits & 0o200 != 0 {
-            return Some(Loss::ClearingSkip);
-        }
-        if bits & 0o7640 == 0o7040 {
-            return Some(Loss::Complement);
+    if known.ties_accumulator(at, pointer) && !known.ties_accumulator(to, pointer) {
+        let loss = loss_of_tie(word);
+        if loss.is_some() {
+            return loss;
         }
     }
-    let fewer = words_behind(before, at, word, pointer);
-    if fewer.count() >= narrowed(behind, &Location::Cell(pointer)).count() {
+    let fewer = words_behind(known, at, word, pointer);
+    if fewer.count() >= known.words_at(to, &Location::Cell(pointer)).count() {
         return None;
     }
     match operation(word) {

@@ -1,12 +1,18 @@
 //! Where the distance between a pointer and another cell is lost, though a loop keeps it on another way.
 
+ghost use Rattle.std.specs.Prelude.{◌<◌, length};
+ghost use Rattle.certificate.specs.Sums.Kept.{claims};
+ghost use Rattle.domain.specs.Sums.FactInCode.{fact_in_code};
+ghost use Rattle.judge.specs.Sums.Shapes.{HasShape};
+
+use crate::bounds::known::is_difference_of;
 use crate::bounds::losses::{stores_through_pointer, successors_of_call};
 use bin_tape::Image;
-use certificate::{Certificate, RoutineClaim};
-use declaration::{Declaration, Owner};
-use facts::{
-    AbstractState, Context, Equation, Fact, Location, Place, Scratch, Successor, outcomes,
-};
+use certificate::Certificate;
+use declaration::Declaration;
+use domain::{Location, Relation as SumRelation, Sum};
+use facts::{Fact, Kind, NarrowedFact, NextFact, Outcome, Outcomes};
+use judge::{Body, Case, Claims, place_of, put_asked, put_sites};
 use std::alloc::{AllocError, Allocator};
 use word12::Word;
 use wordset::WordSet;
@@ -27,19 +33,55 @@ fn negated(word: Word) -> Word {
     word.complement().increment()
 }
 
+/// How much more a pointer's word is than that of a cell by a relation, if it tells that.
+fn distance_by(relation: &SumRelation, pointer: Word, cell: Word) -> Option<Word> {
+    let (high, low) = (Location::Cell(pointer), Location::Cell(cell));
+    let more = relation.set.only()?;
+    if is_difference_of(&relation.sum, &high, &low) {
+        return Some(more);
+    }
+    is_difference_of(&relation.sum, &low, &high).then_some(negated(more))
+}
+
+/// The word that a name holds by what is known, if it is one.
+fn only_word(image: &Image, fact: &NextFact, name: &Location) -> Option<Word> {
+    let mut words = WordSet::empty();
+    fact.put_narrowed(image, name, &mut words);
+    words.only()
+}
+
 /// How much more a pointer's word is than that of a cell, if that is known.
-fn distance_in(state: &AbstractState<'_>, pointer: Word, cell: Word) -> Option<Word> {
-    for equation in state.equations() {
-        if equation.left == Location::Cell(pointer) && equation.right == cell {
-            return Some(equation.more);
-        }
-        if equation.left == Location::Cell(cell) && equation.right == pointer {
-            return Some(negated(equation.more));
+fn distance_in(image: &Image, fact: &NextFact, pointer: Word, cell: Word) -> Option<Word> {
+    for relation in fact.relations().as_slice() {
+        let distance = distance_by(relation, pointer, cell);
+        if distance.is_some() {
+            return distance;
         }
     }
-    let high = state.narrowed(&Location::Cell(pointer)).only()?;
-    let low = state.narrowed(&Location::Cell(cell)).only()?;
+    let high = only_word(image, fact, &Location::Cell(pointer))?;
+    let low = only_word(image, fact, &Location::Cell(cell))?;
     Some(high.add(negated(low)))
+}
+
+/// Room for a fact as a draft has it, for the same fact as it is asked, for its body, and for what comes of a word.
+#[derive(Drop)]
+struct WalkRooms {
+    claimed: Fact,
+    asked: NarrowedFact,
+    body: Body,
+    outcomes: Outcomes,
+}
+
+impl WalkRooms {
+    /// Room that nothing stands in.
+    fn new() -> WalkRooms {
+        WalkRooms {
+            claimed: Fact::any(),
+            asked: NarrowedFact::any(),
+            body: Body::main(),
+            outcomes: Outcomes::new(),
+        }
+    }
 }
 
 /// Where a walk is, and what it knows there.
@@ -109,69 +151,63 @@ impl<A: Allocator> Walk<A> {
         }
     }
 
-    /// The fact of a draft at a place, with the distance that is known there.
-    fn fact_at<C: Allocator>(&self, draft: &Certificate<C>, stand: &Stand) -> Option<Fact> {
-        let mut fact = Fact::any();
-        if !draft.fact_into(stand.at, &mut fact) {
-            return None;
-        }
-        if let Some(more) = stand.distance {
-            if !fact.is_full_of_equations() {
-                fact.relate(Equation {
-                    left: Location::Cell(self.relation.pointer),
-                    right: self.relation.cell,
-                    more,
-                });
-            }
-        }
-        Some(fact)
-    }
-
-    /// Goes on from a place to wherever the word there leads.
+    /// Goes on from a place to wherever the word there leads, by each fact of a draft there.
     fn step<D: Allocator, C: Allocator>(
         &mut self,
-        image: &Image,
-        declaration: &Declaration<D>,
-        draft: &Certificate<C>,
+        case: &Case<'_, D, Certificate<C>>,
         from: &Stand,
+        rooms: &mut WalkRooms,
     ) -> Result<(), AllocError> {
-        let Some(word) = image.get(from.at) else {
+        let Some(word) = case.image.get(from.at) else {
             return Ok(());
         };
-        let Some(fact) = self.fact_at(draft, from) else {
-            return Ok(());
-        };
-        let claim = claim_at(declaration, draft, from.at);
-        let place = place_with(image, declaration, &claim);
-        let mut scratch = Scratch::new();
-        let found = outcomes(&fact, from.at, word, &place, &mut scratch);
-        for outcome in &found.all {
-            if let Some(successor) = outcome {
-                self.follow(declaration, draft, from, word, successor)?;
+        for index in 0..case.claims.count_facts(from.at, 0) {
+            let known = Known {
+                relation: &self.relation,
+                distance: &from.distance,
+            };
+            if put_outcomes(case, from.at, word, index, &known, rooms) {
+                self.follow_each(case, from, word, &rooms.outcomes)?;
             }
         }
         Ok(())
     }
 
+    /// Goes on with each outcome of a word.
+    fn follow_each<D: Allocator, C: Allocator>(
+        &mut self,
+        case: &Case<'_, D, Certificate<C>>,
+        from: &Stand,
+        word: Word,
+        outcomes: &Outcomes,
+    ) -> Result<(), AllocError> {
+        self.follow(case, from, word, &outcomes.first)?;
+        self.follow(case, from, word, &outcomes.second)?;
+        self.follow(case, from, word, &outcomes.third)?;
+        self.follow(case, from, word, &outcomes.fourth)
+    }
+
     /// Goes on with one outcome of a word.
     fn follow<D: Allocator, C: Allocator>(
         &mut self,
-        declaration: &Declaration<D>,
-        draft: &Certificate<C>,
+        case: &Case<'_, D, Certificate<C>>,
         from: &Stand,
         word: Word,
-        successor: &Successor<'_>,
+        outcome: &Outcome,
     ) -> Result<(), AllocError> {
-        match successor {
-            Successor::Goes(targets, _) if stores_through_pointer(word) => {
-                self.spread(from, &from.distance, targets)
+        let mut targets = WordSet::empty();
+        outcome.targets.put(&mut targets);
+        match outcome.kind {
+            Kind::Goes if stores_through_pointer(word) => {
+                self.spread(from, &from.distance, &targets)
             }
-            Successor::Goes(targets, state) => {
-                let distance = distance_in(state, self.relation.pointer, self.relation.cell);
-                self.spread(from, &distance, targets)
+            Kind::Goes => {
+                let (pointer, cell) = (self.relation.pointer, self.relation.cell);
+                let distance = distance_in(case.image, &outcome.fact, pointer, cell);
+                self.spread(from, &distance, &targets)
             }
-            Successor::Calls(entries, _) => self.call_each(declaration, draft, from, entries),
-            Successor::Returns(_) => Ok(()),
+            Kind::Calls => self.call_each(case.declaration, case.claims, from, &targets),
+            Kind::Returns | Kind::Nothing => Ok(()),
         }
     }
 
@@ -225,52 +261,72 @@ impl<A: Allocator> Walk<A> {
     }
 }
 
-/// The routine in whose body an address is, with what a draft claims of it; none in main.
-fn claim_at<D: Allocator, C: Allocator>(
-    declaration: &Declaration<D>,
-    draft: &Certificate<C>,
+/// A relation, and the distance that is known of it.
+#[derive(Clone, Copy)]
+struct Known<'x> {
+    relation: &'x Relation,
+    distance: &'x Option<Word>,
+}
+
+/// Adds the distance that is known to a fact, if there is room.
+fn relate(fact: &mut Fact, known: &Known<'_>)
+    ensures { HasShape (fact_in_code fact.old) → HasShape (fact_in_code fact.new) }
+{
+    let Some(more) = known.distance else {
+        return;
+    };
+    if fact.relations().is_full() {
+        return;
+    }
+    let sum = Sum::difference(
+        Location::Cell(known.relation.pointer),
+        Location::Cell(known.relation.cell),
+    );
+    fact.relate_one(&sum, *more);
+}
+
+/// Whether the fact at this place of those at an address of a body is asked, with a distance that is known; then the outcomes of a word
+/// there stand in the room for them.
+fn put_outcomes<D: Allocator, C: Allocator>(
+    case: &Case<'_, D, Certificate<C>>,
     at: Word,
-) -> Option<(Word, RoutineClaim)> {
-    match declaration.owner_of(at)? {
-        Owner::Main => None,
-        Owner::Routine(entry) => Some((entry, draft.routine(entry)?)),
+    word: Word,
+    index: usize,
+    known: &Known<'_>,
+    rooms: &mut WalkRooms,
+) -> bool
+    requires { index < length ((claims case.now.claims.now).facts at) }
+{
+    let WalkRooms {
+        claimed,
+        asked,
+        body,
+        outcomes,
+    } = rooms;
+    *body = Body::main();
+    if !case.finds_body(at, body) {
+        return false;
     }
-}
-
-/// The same, as the step law wants it.
-fn context_of(claim: &Option<(Word, RoutineClaim)>) -> Option<Context<'_>> {
-    match claim {
-        None => None,
-        Some((entry, routine)) => Some(Context {
-            entry: *entry,
-            sites: &routine.sites,
-            writes: &routine.writes,
-        }),
+    let rules = case.claims.rules();
+    let _line = case.claims.put_fact(at, 0, index, claimed);
+    put_sites(&rules, &body.claim.sites, claimed);
+    relate(claimed, known);
+    if !put_asked(&rules, case.image, claimed, asked) {
+        return false;
     }
-}
-
-/// What the step law wants to know of an instruction, with what a draft claims of the routine in which it is.
-fn place_with<'x, D: Allocator>(
-    image: &'x Image,
-    declaration: &'x Declaration<D>,
-    claim: &'x Option<(Word, RoutineClaim)>,
-) -> Place<'x, D> {
-    Place {
-        image,
-        declaration,
-        routine: context_of(claim),
-    }
+    let place = place_of(case.image, case.declaration, &body.routine, rules);
+    place.put_outcomes(asked, at, word, outcomes);
+    true
 }
 
 /// The instruction at which a loop with this head loses a relation that holds when it is entered, if another way
 /// through the loop changes both cells and keeps the relation.
 fn lost_in_loop<A: Allocator + Copy, D: Allocator, C: Allocator>(
     alloc: A,
-    image: &Image,
-    declaration: &Declaration<D>,
-    draft: &Certificate<C>,
+    case: &Case<'_, D, Certificate<C>>,
     head: Word,
     relation: &Relation,
+    rooms: &mut WalkRooms,
 ) -> Result<Option<Word>, AllocError> {
     let mut walk = Walk {
         relation: *relation,
@@ -285,12 +341,12 @@ fn lost_in_loop<A: Allocator + Copy, D: Allocator, C: Allocator>(
         lost_at: None,
         restored: false,
     };
-    walk.step(image, declaration, draft, &first)?;
+    walk.step(case, &first, rooms)?;
     for index in 0..MOST_STANDS {
         let Some(next) = walk.stand_at(index) else {
             break;
         };
-        walk.step(image, declaration, draft, &next)?;
+        walk.step(case, &next, rooms)?;
     }
     if walk.is_kept {
         Ok(walk.lost_at)
@@ -299,36 +355,80 @@ fn lost_in_loop<A: Allocator + Copy, D: Allocator, C: Allocator>(
     }
 }
 
-/// A relation between a pointer and a variable that is known in a state in which a loop is entered, and the instruction
-/// at which the loop loses it.
-fn lost_from<A: Allocator + Copy, D: Allocator, C: Allocator>(
+/// The relations between a pointer and a variable that are known where a loop is entered with this fact.
+fn relations_of<A: Allocator, D: Allocator>(
     alloc: A,
     image: &Image,
     declaration: &Declaration<D>,
-    draft: &Certificate<C>,
     pointer: Word,
-    head: Word,
-    state: &AbstractState<'_>,
-) -> Result<Option<(Relation, Word)>, AllocError> {
+    fact: &NextFact,
+) -> Result<Vec<Relation, A>, AllocError> {
+    let mut relations = Vec::new(alloc);
     let others = declaration.variables().minus(&WordSet::one(pointer));
     for cell in others.iter() {
-        if let Some(more) = distance_in(state, pointer, cell) {
-            let relation = Relation {
+        if let Some(more) = distance_in(image, fact, pointer, cell) {
+            relations.push(Relation {
                 pointer,
                 cell,
                 more,
-            };
-            let lost = lost_in_loop(alloc, image, declaration, draft, head, &relation)?;
-            if let Some(at) = lost {
-                return Ok(Some((relation, at)));
-            }
+            })?;
         }
     }
-    Ok(None)
+    Ok(relations)
+}
+
+/// The fact of the first outcome that goes on at the head of a loop.
+fn fact_entering<'x>(outcomes: &'x Outcomes, head: Word) -> Option<&'x NextFact> {
+    let all = [
+        &outcomes.first,
+        &outcomes.second,
+        &outcomes.third,
+        &outcomes.fourth,
+    ];
+    for outcome in all {
+        let mut targets = WordSet::empty();
+        outcome.targets.put(&mut targets);
+        if outcome.kind == Kind::Goes && targets.contains(head) {
+            return Some(&outcome.fact);
+        }
+    }
+    None
+}
+
+/// The relations between a pointer and a variable that are known where a loop is entered from an instruction, by the first fact of a
+/// draft there.
+fn relations_entering<A: Allocator, D: Allocator, C: Allocator>(
+    alloc: A,
+    case: &Case<'_, D, Certificate<C>>,
+    pointer: Word,
+    from: Word,
+    head: Word,
+    rooms: &mut WalkRooms,
+) -> Result<Vec<Relation, A>, AllocError> {
+    let relation = Relation {
+        pointer,
+        cell: pointer,
+        more: Word::ZERO,
+    };
+    let known = Known {
+        relation: &relation,
+        distance: &None,
+    };
+    let Some(word) = case.image.get(from) else {
+        return Ok(Vec::new(alloc));
+    };
+    if case.claims.count_facts(from, 0) == 0 || !put_outcomes(case, from, word, 0, &known, rooms) {
+        return Ok(Vec::new(alloc));
+    }
+    match fact_entering(&rooms.outcomes, head) {
+        None => Ok(Vec::new(alloc)),
+        Some(fact) => relations_of(alloc, case.image, case.declaration, pointer, fact),
+    }
 }
 
 /// A relation between a pointer and a variable that holds when a loop is entered from an instruction, and the
 /// instruction at which the loop loses it.
+#[inline(never)]
 pub(crate) fn lost_relation<A: Allocator + Copy, D: Allocator, C: Allocator>(
     alloc: A,
     image: &Image,
@@ -338,23 +438,16 @@ pub(crate) fn lost_relation<A: Allocator + Copy, D: Allocator, C: Allocator>(
     from: Word,
     head: Word,
 ) -> Result<Option<(Relation, Word)>, AllocError> {
-    let mut before = Fact::any();
-    let Some(word) = image.get(from) else {
-        return Ok(None);
+    let mut rooms = Box::new(alloc, WalkRooms::new())?;
+    let case = Case {
+        image,
+        declaration,
+        claims: draft,
     };
-    if !draft.fact_into(from, &mut before) {
-        return Ok(None);
-    }
-    let claim = claim_at(declaration, draft, from);
-    let place = place_with(image, declaration, &claim);
-    let mut scratch = Scratch::new();
-    let found = outcomes(&before, from, word, &place, &mut scratch);
-    for outcome in &found.all {
-        match outcome {
-            Some(Successor::Goes(targets, state)) if targets.contains(head) => {
-                return lost_from(alloc, image, declaration, draft, pointer, head, state);
-            }
-            _ => {}
+    let relations = relations_entering(alloc, &case, pointer, from, head, &mut rooms)?;
+    for relation in relations.iter() {
+        if let Some(at) = lost_in_loop(alloc, &case, head, relation, &mut rooms)? {
+            return Ok(Some((*relation, at)));
         }
     }
     Ok(None)

@@ -2,7 +2,7 @@
 //! certificate can fix it, if a run comes there.
 
 use bin_tape::Image;
-use command_parts::message::{Lines, push_text_and_address, push_text_and_advised};
+use command_parts::message::{Lines, push_text_and_advised};
 use declaration::{Declaration, Owner};
 use instruct::{Instruction, Operation, Profile, decode, halts, refers_indirectly, target};
 use processor::is_auto_index;
@@ -165,17 +165,6 @@ fn omitted_at<D: Allocator>(
     }
 }
 
-/// Adds an address with what stands before it and after it.
-fn push_around<L: Lines>(
-    text: &mut L,
-    before: &[u8],
-    place: Word,
-    after: &[u8],
-) -> Result<(), AllocError> {
-    push_text_and_address(text, before, place)?;
-    text.push_text(after)
-}
-
 /// Adds an address within a line of a declaration that is advised, with what stands before it and after it.
 fn push_advice<L: Lines>(
     text: &mut L,
@@ -187,56 +176,70 @@ fn push_advice<L: Lines>(
     text.push_text(after)
 }
 
-/// Adds what the instruction at an address would violate.
-fn push_breach<L: Lines>(text: &mut L, at: Word, omission: &Omission) -> Result<(), AllocError> {
+/// What stands before and after the address that is named.
+#[derive(Clone, Copy)]
+struct Words {
+    before: &'static [u8],
+    after: &'static [u8],
+}
+
+/// Words before an address and after it.
+fn around_place(before: &'static [u8], after: &'static [u8]) -> Words {
+    Words { before, after }
+}
+
+/// What an instruction would violate, in words.
+fn breach_words(omission: &Omission) -> Words {
     match omission {
-        Omission::NoWord => {
-            push_around(
-                text,
-                b"",
-                at,
-                b" is in a body, but the tape has no word there",
-            )
+        Omission::NoWord => around_place(b"", b" is in a body, but the tape has no word there"),
+        Omission::Unsupported => around_place(b"the machine does not implement this word", b""),
+        Omission::OfThe8e => around_place(b"only the PDP-8/E implements this word", b""),
+        Omission::Stores(_) => around_place(b"it stores into ", b", which is not a variable"),
+        Omission::StoresInEntry(_) => around_place(b"it stores into ", b", which is an entry"),
+        Omission::Steps(_) => around_place(
+            b"it increments the pointer ",
+            b", which is not a variable",
+        ),
+        Omission::Calls(_) | Omission::CallsIntoBody(_) | Omission::CallsAutoIndex(_) => {
+            around_place(b"it calls ", b", which is not an entry")
         }
-        Omission::Unsupported => text.push_text(b"the machine does not implement this word"),
-        Omission::OfThe8e => text.push_text(b"only the PDP-8/E implements this word"),
-        Omission::Stores(cell) => {
-            push_around(
-                text,
-                b"it stores into ",
-                *cell,
-                b", which is not a variable",
-            )
+        Omission::Jumps(_) | Omission::JumpsAcross(_) => {
+            around_place(b"it jumps to ", b", which is not in the same body")
         }
-        Omission::StoresInEntry(entry) => {
-            push_around(text, b"it stores into ", *entry, b", which is an entry")
-        }
-        Omission::Steps(cell) => {
-            push_around(
-                text,
-                b"it increments the pointer ",
-                *cell,
-                b", which is not a variable",
-            )
-        }
-        Omission::Calls(place) | Omission::CallsIntoBody(place) | Omission::CallsAutoIndex(place) =>
-            { push_around(text, b"it calls ", *place, b", which is not an entry") }
-        Omission::Jumps(place) | Omission::JumpsAcross(place) => {
-            push_around(
-                text,
-                b"it jumps to ",
-                *place,
-                b", which is not in the same body",
-            )
-        }
-        Omission::Halts => text.push_text(b"it halts, and no halt is declared there"),
-        Omission::GoesOn(next) | Omission::GoesAcross(next) => push_around(
-            text,
+        Omission::Halts => around_place(b"it halts, and no halt is declared there", b""),
+        Omission::GoesOn(_) | Omission::GoesAcross(_) => around_place(
             b"the operator may continue at ",
-            *next,
             b", which is not in the same body",
         ),
     }
+}
+
+/// The address that is named, if one is, of what the instruction at an address would violate.
+fn breach_place(at: Word, omission: &Omission) -> Option<Word> {
+    match omission {
+        Omission::NoWord => Some(at),
+        Omission::Unsupported | Omission::OfThe8e | Omission::Halts => None,
+        Omission::Stores(place)
+        | Omission::StoresInEntry(place)
+        | Omission::Steps(place)
+        | Omission::Calls(place)
+        | Omission::CallsIntoBody(place)
+        | Omission::CallsAutoIndex(place)
+        | Omission::Jumps(place)
+        | Omission::JumpsAcross(place)
+        | Omission::GoesOn(place)
+        | Omission::GoesAcross(place) => Some(*place),
+    }
+}
+
+/// Adds what the instruction at an address would violate.
+fn push_breach<L: Lines>(text: &mut L, at: Word, omission: &Omission) -> Result<(), AllocError> {
+    let Words { before, after } = breach_words(omission);
+    text.push_text(before)?;
+    if let Some(place) = breach_place(at, omission) {
+        text.push_address(place)?;
+    }
+    text.push_text(after)
 }
 
 /// What to do about what is omitted, where that names no address.

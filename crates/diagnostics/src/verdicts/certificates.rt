@@ -1,8 +1,8 @@
 //! The certificates that commands read and write.
 
 ghost use Rattle.std.specs.Prelude.{◌≡◌, false, IfOk, IfErr};
-ghost use Rattle.certificate.specs.Kept.{meaning as lines_of};
-ghost use Rattle.certificate.specs.Spelling.{text as spelled};
+ghost use Rattle.certificate.specs.Sums.Kept.{meaning as text_of};
+ghost use Rattle.certificate.specs.Sums.Laws.{bytes_of};
 ghost use Rattle.declaration.specs.Kept.{meaning};
 ghost use Rattle.command_parts.specs.Answers.{NeverFails, WritesAnswer, output};
 ghost use Rattle.command_parts.specs.Faults.{IsWriteFault, fails_to_read, fails_to_write};
@@ -32,7 +32,7 @@ pub fn certificate_from<A: Allocator + Copy, R: ByteSource>(
     source: &mut R,
 ) -> Result<Certificate<A>, Fault>
     requires { R.mark source.old ≡ false }
-    ensures claims { IfOk result (λ c. HasCertificate (R.remaining source.old) (lines_of c)) }
+    ensures claims { IfOk result (λ c. HasCertificate (R.remaining source.old) (text_of c)) }
     ensures faults { IfErr result (IsCertificateInputFault
         (input (R.mark source.new) (R.remaining source.old) (R.remaining source.new))) }
     ensures marks { R.mark source.new ≡ fails_to_read result }
@@ -58,7 +58,7 @@ pub fn certified_from<A: Allocator + Copy, R: ByteSource, D: ByteSource, C: Byte
     ensures declares { IfOk result (λ c.
         HasDeclaration (D.remaining declaration.old) (meaning c.program.declaration)) }
     ensures claims { IfOk result (λ c.
-        HasCertificate (C.remaining certificate.old) (lines_of c.certificate)) }
+        HasCertificate (C.remaining certificate.old) (text_of c.certificate)) }
     ensures reads { ReadsCertified NeverFails
         (input (R.mark tape.new) (R.remaining tape.old) (R.remaining tape.new))
         (input (D.mark declaration.new) (D.remaining declaration.old) (D.remaining declaration.new))
@@ -82,7 +82,7 @@ pub fn write_certificate<A: Allocator, W: ByteSink>(
 ) -> Result<Status, Fault>
     requires { W.mark out.old ≡ false }
     ensures writes { WritesAnswer
-        (λ status text. (status ≡ Done) × (text ≡ spelled (lines_of certificate.now)))
+        (λ status text. (status ≡ Done) × (text ≡ bytes_of (text_of certificate.now)))
         (output (W.mark out.new) (W.taken out.old) (W.taken out.new)) result }
     ensures faults { IfErr result IsWriteFault }
 {

@@ -1,47 +1,134 @@
 //! A verdict and why it is, over whatever takes a text for people.
 
-ghost use Rattle.std.specs.Prelude.{◌≡◌, ◌++◌, IfOk, OnOk};
-ghost use Rattle.certificate.specs.Kept.{meaning as lines_of};
-ghost use Rattle.certificate.specs.Spelling.{fact_text_at};
+ghost use Rattle.std.specs.Prelude.{ℕ, ◌≡◌, ◌++◌, length, IfOk, OnOk};
+ghost use Rattle.certificate.specs.Sums.Kept.{claims, meaning as text_of};
 ghost use Rattle.declaration.specs.Kept.{meaning};
-ghost use Rattle.diagnostics.specs.CheckText.{checked_case};
-ghost use Rattle.diagnostics.specs.WhyText.{AddsExplanation, IsReason, fact_shown};
+ghost use Rattle.diagnostics.specs.CheckText.{checked_case, verdict_text};
+ghost use Rattle.certificate.specs.Sums.Written.{fact_text_at};
+ghost use Rattle.diagnostics.specs.Telling.{IsTellingOf};
+ghost use Rattle.diagnostics.specs.WhyText.{AddsExplanation, IsReason, fact_shown, place_shown, shown_text, why_text};
 
 use crate::verdicts::gathered::Gathered;
 use crate::verdicts::reason_text::push_why;
+use crate::verdicts::telling::{Telling, place_of, telling_of};
 use crate::verdicts::verdict::verdict_line;
 use bin_tape::Image;
 use certificate::Certificate;
 use command_parts::message::Lines;
 use declaration::Declaration;
-use judge::Refusal;
-use reasons::{Reason, why};
+use judge::{Claims, Refusal};
+use reasons::{Reason, WhyRooms, why};
 use std::alloc::{AllocError, Allocator};
 use word12::Word;
 
 /// Why a verdict is no.
-fn reason_of<D: Allocator, C: Allocator>(
+fn reason_of<D: Allocator, C: Allocator, M: Allocator>(
     image: &Image,
     declaration: &Declaration<D>,
     certificate: &Certificate<C>,
     verdict: &Result<(), Refusal>,
+    rooms: &mut WhyRooms<M>,
 ) -> Option<Reason>
     ensures { IsReason
-        (checked_case image.now (meaning declaration.now) (lines_of certificate.now))
+        (checked_case image.now (meaning declaration.now) (text_of certificate.now))
         verdict.now result }
 {
     match verdict {
         Ok(()) => None,
-        Err(refusal) => why(image, declaration, certificate, refusal),
+        Err(refusal) => why(image, declaration, certificate, refusal, rooms),
     }
 }
 
-/// Adds the line of a verdict, and why it is.
+/// Adds the line of a verdict, and why it is, for this reason, which is told so.
+fn push_verdict<L: Lines, A: Allocator, D: Allocator>(
+    alloc: A,
+    text: &mut L,
+    image: &Image,
+    declaration: &Declaration<D>,
+    verdict: &Result<(), Refusal>,
+    reason: &Option<Reason>,
+    telling: &Telling,
+) -> Result<(), AllocError>
+    ensures { OnOk result (L.text text.new ≡ L.text text.old
+        ++ (verdict_text (meaning declaration.now) verdict.now
+        ++ why_text (meaning declaration.now).profile image.now verdict.now reason.now telling.now)) }
+{
+    let line = verdict_line(alloc, declaration, verdict)?;
+    text.push_text(&line)?;
+    push_why(text, declaration.profile(), image, verdict, reason, telling)?;
+    Ok(())
+}
+
+/// The lines of a certificate on the fact at this place of those at an address.
+fn fact_lines<A: Allocator, C: Allocator>(
+    alloc: A,
+    certificate: &Certificate<C>,
+    at: Word,
+    index: usize,
+) -> Result<Vec<u8, A>, AllocError>
+    ensures { IfOk result (λ bytes.
+        bytes.items ≡ fact_text_at (text_of certificate.now) at index) }
+{
+    let mut sink = Gathered::new(alloc);
+    match certificate.write_fact(at, index, &mut sink) {
+        Ok(()) => Ok(sink.into_bytes()),
+        Err(_) => Err(AllocError),
+    }
+}
+
+/// The place of the fact that is shown, of so many at an address: the one of the reason, or else the only one there.
+fn place_shown(place: &Option<usize>, count: usize) -> Option<usize>
+    ensures { result ≡ place_shown place.now count }
+{
+    if let Some(index) = place {
+        return Some(*index);
+    }
+    if count == 1 { Some(0) } else { None }
+}
+
+/// Adds the lines of the fact at this place of those at an address, if one is shown.
+fn push_shown<L: Lines, A: Allocator, C: Allocator>(
+    alloc: A,
+    text: &mut L,
+    certificate: &Certificate<C>,
+    at: Word,
+    place: &Option<usize>,
+) -> Result<(), AllocError>
+    ensures { OnOk result (L.text text.new
+        ≡ L.text text.old ++ shown_text (text_of certificate.now) at place.now) }
+{
+    let Some(index) = place else {
+        return Ok(());
+    };
+    let lines = fact_lines(alloc, certificate, at, *index)?;
+    text.push_text(&lines)
+}
+
+/// Adds the lines of the fact by which a verdict is no, as the certificate has them, or of the only one at the address of a refusal.
+fn push_fact<L: Lines, A: Allocator, C: Allocator>(
+    alloc: A,
+    text: &mut L,
+    certificate: &Certificate<C>,
+    verdict: &Result<(), Refusal>,
+    reason: &Option<Reason>,
+) -> Result<(), AllocError>
+    ensures { OnOk result (L.text text.new
+        ≡ L.text text.old ++ fact_shown (text_of certificate.now) verdict.now reason.now) }
+{
+    let Err(refusal) = verdict else {
+        return Ok(());
+    };
+    let count = certificate.count_facts(refusal.address, 0);
+    let place = place_shown(&place_of(reason), count);
+    push_shown(alloc, text, certificate, refusal.address, &place)
+}
+
+/// Adds the line of a verdict, why it is, and the lines of the fact by which it is no.
 ///
 /// # Errors
 ///
 /// Memory was refused.
-pub fn push_explanation<L: Lines, A: Allocator, D: Allocator, C: Allocator>(
+pub fn push_explanation<L: Lines, A: Allocator + Copy, D: Allocator, C: Allocator>(
     alloc: A,
     text: &mut L,
     image: &Image,
@@ -50,47 +137,12 @@ pub fn push_explanation<L: Lines, A: Allocator, D: Allocator, C: Allocator>(
     verdict: &Result<(), Refusal>,
 ) -> Result<(), AllocError>
     ensures { OnOk result (AddsExplanation image.now (meaning declaration.now)
-        (lines_of certificate.now) verdict.now (L.text text.old) (L.text text.new)) }
+        (text_of certificate.now) verdict.now (L.text text.old) (L.text text.new)) }
 {
-    let reason = reason_of(image, declaration, certificate, verdict);
-    let line = verdict_line(alloc, declaration, verdict)?;
-    text.push_text(&line)?;
-    push_why(text, declaration.profile(), image, verdict, &reason)?;
+    let mut rooms = WhyRooms::boxed(alloc)?;
+    let reason = reason_of(image, declaration, certificate, verdict, &mut rooms);
+    let telling = telling_of(certificate, verdict, &reason);
+    push_verdict(alloc, text, image, declaration, verdict, &reason, &telling)?;
+    push_fact(alloc, text, certificate, verdict, &reason)?;
     Ok(())
-}
-
-/// The lines of a certificate on the fact at an address.
-fn fact_lines<A: Allocator, C: Allocator>(
-    alloc: A,
-    certificate: &Certificate<C>,
-    at: Word,
-) -> Result<Vec<u8, A>, AllocError>
-    ensures { IfOk result (λ bytes. bytes.items ≡ fact_text_at (lines_of certificate.now) at) }
-{
-    let mut sink = Gathered::new(alloc);
-    match certificate.write_fact(at, &mut sink) {
-        Ok(()) => Ok(sink.into_bytes()),
-        Err(_) => Err(AllocError),
-    }
-}
-
-/// Adds the lines of the fact at the address of a refusal as the certificate has them.
-///
-/// # Errors
-///
-/// Memory was refused.
-pub fn push_fact<L: Lines, A: Allocator, C: Allocator>(
-    alloc: A,
-    text: &mut L,
-    certificate: &Certificate<C>,
-    verdict: &Result<(), Refusal>,
-) -> Result<(), AllocError>
-    ensures { OnOk result (L.text text.new
-        ≡ L.text text.old ++ fact_shown (lines_of certificate.now) verdict.now) }
-{
-    let Err(refusal) = verdict else {
-        return Ok(());
-    };
-    let lines = fact_lines(alloc, certificate, refusal.address)?;
-    text.push_text(&lines)
 }

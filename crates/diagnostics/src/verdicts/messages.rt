@@ -2,19 +2,19 @@
 //! source.
 
 ghost use Rattle.std.specs.Prelude.{IfOk};
-ghost use Rattle.certificate.specs.Kept.{meaning as lines_of};
+ghost use Rattle.certificate.specs.Sums.Kept.{meaning as text_of};
 ghost use Rattle.command_parts.specs.Messages.{plain};
 ghost use Rattle.declaration.specs.Kept.{meaning};
 ghost use Rattle.diagnostics.specs.WhyText.{IsExplanationOf};
 
-use crate::verdicts::explanation::{push_explanation, push_fact};
+use crate::verdicts::explanation::push_explanation;
 use crate::verdicts::verdict::verdict_status;
 use bin_tape::Image;
 use certificate::Certificate;
 use command_parts::message::Message;
 use command_parts::status::Status;
 use declaration::Declaration;
-use judge::judge;
+use judge::{Rooms, judge};
 use std::alloc::{AllocError, Allocator};
 
 /// What is said about a certificate, and how the command ends.
@@ -40,12 +40,12 @@ pub fn check_message<A: Allocator + Copy, D: Allocator, C: Allocator>(
 ) -> Result<VerdictMessage<A>, AllocError>
     // What is told is the verdict, and why it is no.
     ensures { IfOk result (λ message. IsExplanationOf image.now (meaning declaration.now)
-        (lines_of certificate.now) message.status (plain message.told)) }
+        (text_of certificate.now) message.status (plain message.told)) }
 {
-    let verdict = judge(image, declaration, certificate);
+    let mut rooms = Rooms::boxed(alloc)?;
+    let verdict = judge(image, declaration, certificate, &mut rooms);
     let mut told = Message::new(alloc);
     push_explanation(alloc, &mut told, image, declaration, certificate, &verdict)?;
-    push_fact(alloc, &mut told, certificate, &verdict)?;
     let status = verdict_status(&verdict);
     Ok(VerdictMessage { told, status })
 }

@@ -1,5 +1,5 @@
+use Rattle.facts.proofs.Sums.EntailedLemmas.{entailed_facts_hold}
 use Rattle.facts.proofs.entail_law.Goals as goal
-use Rattle.facts.proofs.AccessLemmas.{entailed_facts_hold}
 
 pub returns : goal.returns
 returns c = entailed_facts_hold

@@ -3,18 +3,37 @@
 use crate::files::{finish, open_input, open_output};
 use command_line::MigrateRequest;
 use command_parts::status::{Fault, Status};
-use search_commands::migrating::migrate;
+use search_commands::migrating::{migrate, migrate_with_sites};
 use std::alloc::Global;
 use std::rt::Files;
 use streams::standard::Writes;
 
-/// Migrates the certificate of a file.
+/// Migrates the certificate of a file to version 3. The declaration is opened first.
+#[inline(never)]
+fn migrate_by<R: Files + Input + Print>(
+    rt: &R,
+    alloc: Global,
+    asked: &MigrateRequest<'_>,
+    declaration: &str,
+) -> Result<Status, Fault> {
+    let mut promise = open_input(rt, declaration)?;
+    let mut text = open_input(rt, asked.certificate)?;
+    let mut file = open_output(rt, alloc, asked.out)?;
+    let mut out = Writes::new(&mut file);
+    let status = migrate_with_sites(alloc, &mut promise, &mut text, &mut out)?;
+    finish(&mut file, status)
+}
+
+/// Migrates the certificate of a file, to version 3 if there is a declaration, and else to version 2.
 #[inline(never)]
 pub fn migrate_from<R: Files + Input + Print>(
     rt: &R,
     alloc: Global,
     asked: &MigrateRequest<'_>,
 ) -> Result<Status, Fault> {
+    if let Some(declaration) = asked.declaration {
+        return migrate_by(rt, alloc, asked, declaration);
+    }
     let mut text = open_input(rt, asked.certificate)?;
     let mut file = open_output(rt, alloc, asked.out)?;
     let status = migrate(alloc, &mut text, &mut Writes::new(&mut file))?;

@@ -1,23 +1,29 @@
-use Rattle.std.proofs.Common.{rules, subst}
 use Rattle.std.specs.Prelude.{is_ok}
-use Rattle.wordset.specs.Words.{Words}
-use Rattle.certificate.specs.Reading.{EndsBefore}
-use Rattle.certificate.specs.Made.{fact_at}
-use Rattle.certificate.proofs.DigitLemmas.{eight_alone}
-use Rattle.certificate.proofs.MakerLemmas.{fact_added}
+use Rattle.domain.specs.Sums.CellsInCode.{cell_sets_of}
+use Rattle.domain.specs.Sums.FactInCode.{fact_in_code}
+use Rattle.certificate.specs.Sums.Lines.{FactIs, is_of_sums}
+use Rattle.certificate.specs.Sums.Packed.{said_lines, sites_if, registers_in_fact}
+use Rattle.certificate.specs.Sums.Made.{lines_of_fact}
+use Rattle.certificate.proofs.SumMadeLemmas.{added, all_whole, details, may_add_fact, no_end_details}
 use Rattle.certificate.proofs.Certificate.add_fact.Goals as goal
 use Rattle.certificate.proofs.Certificate.add_fact.Goals.{in-Ok, in-Err}
 
+pub keep_all-requires-clause-details : goal.keep_all-requires-clause-details
+keep_all-requires-clause-details g c =
+    details c.self.inside.version (said_lines c.self.inside.kept) (FactIs c.args.at (sites_if (is_of_sums c.self.inside.version) (fact_in_code c.args.fact.now)) (registers_in_fact (fact_in_code c.args.fact.now)) (fact_in_code c.args.fact.now).offsets)
+    c.args.fact.now (may_add_fact _ c.args.self.now c.self.view_is c.args.at c.args.fact.now c.requires)
+
 pub invariant_of-self : goal.invariant_of-self
 invariant_of-self g c =
-    (fact_added c.self.inside.version c.self.inside.kept c.keep_all.new.self (fact_at c.args.at c.args.fact.now) (is_ok c.keep_all.result)
-    c.self.invariant (search rules) (subst (λ (o : Words). EndsBefore 8 o) c.offsets-offsets.ensures (eight_alone c.offsets-offsets.result (search rules))) (rw (← c.self.view_is) at c.requires) (rw (c.cells.ensures, c.equations.ensures.equations) at c.keep_all.ensures)).whole
+    all_whole (is_ok c.keep_all.result) c.self.inside.version c.self.inside.kept c.keep_all.new.self (lines_of_fact c.self.inside.version c.args.at c.args.fact.now)
+    c.self.invariant (no_end_details (cell_sets_of c.args.fact.now.cells) (fact_in_code c.args.fact.now).relations (fact_in_code c.args.fact.now).chains)
+    (may_add_fact _ c.args.self.now c.self.view_is c.args.at c.args.fact.now c.requires) (rw (c.has_sites.ensures, ← c.self.view_is) at c.keep_all.ensures)
 
 pub returns-clause-added : goal.returns-clause-added
-returns-clause-added g c =
-    let a = fact_added c.self.inside.version c.self.inside.kept c.keep_all.new.self (fact_at c.args.at c.args.fact.now) (is_ok c.keep_all.result)
-    c.self.invariant (search rules) (subst (λ (o : Words). EndsBefore 8 o) c.offsets-offsets.ensures (eight_alone c.offsets-offsets.result (search rules))) (rw (← c.self.view_is) at c.requires) (rw (c.cells.ensures, c.equations.ensures.equations) at c.keep_all.ensures) in
-    elim c.match-keep_all.branch [
-      | in-Ok w ↦ rw (w.result-is, ← c.self.view_is) (rw w.in-Ok.is at a.is)
-      | in-Err w ↦ rw w.result-is tt
-    ]
+returns-clause-added g c = elim c.match-keep_all.branch [
+  | in-Ok w ↦ rw (w.result-is, ← c.self.view_is)
+      (added c.self.inside.version c.self.inside.kept c.keep_all.new.self (lines_of_fact c.self.inside.version c.args.at c.args.fact.now)
+      c.self.invariant (no_end_details (cell_sets_of c.args.fact.now.cells) (fact_in_code c.args.fact.now).relations (fact_in_code c.args.fact.now).chains)
+      (may_add_fact _ c.args.self.now c.self.view_is c.args.at c.args.fact.now c.requires) (rw (w.in-Ok.is, c.has_sites.ensures, ← c.self.view_is) at c.keep_all.ensures)).is
+  | in-Err w ↦ rw w.result-is tt
+]

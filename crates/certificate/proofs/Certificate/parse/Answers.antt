@@ -1,5 +1,5 @@
 use Rattle.std.proofs.Common.{[], Err, subst}
-use Rattle.certificate.proofs.ParserLemmas.{Answers, taken_all, of_refused, of_finished, answers_read, answers_refused, was_read}
+use Rattle.certificate.proofs.SumParserLemmas.{Answers, taken_all, of_refused, of_finished, answers_read, answers_refused, was_read}
 use Rattle.certificate.proofs.Certificate.parse.Goals as goal
 
 pub finish-requires-clause-read : goal.finish-requires-clause-read

@@ -1,6 +1,5 @@
-use Rattle.certificate.specs.Faults.{AsksForMemory}
-use Rattle.certificate.specs.Serving.{IsUnanswered}
-use Rattle.certificate.proofs.ServedLemmas.{gave, serves_read, serves_refused}
+use Rattle.certificate.specs.Sums.Serving.{AsksForMemory, IsUnanswered}
+use Rattle.certificate.proofs.SumServedLemmas.{gave, serves_read, serves_refused}
 use Rattle.certificate.proofs.Certificate.read_from.Goals as goal
 
 pub returns-clause-read : goal.returns-clause-read

@@ -1,10 +1,13 @@
-use Rattle.std.proofs.Common.{◌≡◌, ◌++◌, sym}
+use Rattle.std.proofs.Common.{◌≡◌, ◌++◌}
 use Rattle.std.specs.Prelude.{codes}
-use Rattle.certificate.specs.Spelling.{version_text, text, ended, all_ended}
-use Rattle.certificate.specs.Kept.{meaning}
-use Rattle.certificate.specs.Packed.{said_lines}
-use Rattle.certificate.proofs.MakerLemmas.{text_of_open}
-use Rattle.certificate.proofs.ReaderLemmas.{formed}
+use Rattle.certificate.specs.Spelling.{ended}
+use Rattle.certificate.specs.Sums.Spelling.{version_text}
+use Rattle.certificate.specs.Sums.Spelled.{all_ended}
+use Rattle.certificate.specs.Sums.Laws.{bytes_of}
+use Rattle.certificate.specs.Sums.Kept.{meaning}
+use Rattle.certificate.specs.Sums.Packed.{said_lines}
+use Rattle.certificate.proofs.SumReaderLemmas.{formed}
+use Rattle.certificate.proofs.SumMadeLemmas.{text_ended}
 use Rattle.certificate.proofs.Certificate.write.Goals as goal
 
 pub put_text-requires-clause-form : goal.put_text-requires-clause-form
@@ -13,15 +16,13 @@ put_text-requires-clause-form g c = formed c.self.inside.version c.self.inside.k
 pub returns-in-Ok-clause-whole : goal.returns-in-Ok-clause-whole
 returns-in-Ok-clause-whole g c =
     let e : ended (version_text c.self.inside.version) ++ all_ended c.self.inside.version (said_lines c.self.inside.kept) ++ ended (codes "end") ≡
-    text (meaning c.args.self.now) =
-    rw (← c.self.view_is)
-    (sym (text_of_open c.self.inside.version (said_lines c.self.inside.kept) c.self.invariant.order c.self.invariant.no_end)) in
+    bytes_of (meaning c.args.self.now) =
+    rw (← c.self.view_is) (text_ended c.self.inside.version (said_lines c.self.inside.kept)) in
     rw e at c.in-Ok.ensures.whole
 
 pub returns-in-Err-clause-front : goal.returns-in-Err-clause-front
 returns-in-Err-clause-front g c =
     let e : ended (version_text c.self.inside.version) ++ all_ended c.self.inside.version (said_lines c.self.inside.kept) ++ ended (codes "end") ≡
-    text (meaning c.args.self.now) =
-    rw (← c.self.view_is)
-    (sym (text_of_open c.self.inside.version (said_lines c.self.inside.kept) c.self.invariant.order c.self.invariant.no_end)) in
+    bytes_of (meaning c.args.self.now) =
+    rw (← c.self.view_is) (text_ended c.self.inside.version (said_lines c.self.inside.kept)) in
     rw e at c.in-Err.ensures.front

@@ -1,4 +1,4 @@
-use Rattle.certificate.proofs.ParserLemmas.{first_refused}
+use Rattle.certificate.proofs.SumParserLemmas.{first_refused}
 use Rattle.certificate.proofs.parser.take_first.Goals as goal
 
 pub returns-in-None-clause-taken : goal.returns-in-None-clause-taken

@@ -1,10 +1,13 @@
 use Rattle.std.proofs.Common.{◌++◌}
 use Rattle.std.specs.Prelude.{codes}
 use Rattle.std.proofs.KnownBytes.{Appends-trans}
-use Rattle.certificate.specs.Spelling.{version_text, ended, all_ended}
-use Rattle.certificate.specs.Packed.{said_lines}
+use Rattle.certificate.specs.Spelling.{ended}
+use Rattle.certificate.specs.Sums.Spelling.{version_text}
+use Rattle.certificate.specs.Sums.Spelled.{all_ended}
+use Rattle.certificate.specs.Sums.Packed.{said_lines}
 use Rattle.streams.proofs.BytesLemmas.{front_after}
-use Rattle.certificate.proofs.SpelledLemmas.{front_more, all_lines}
+use Rattle.certificate.proofs.SpelledLemmas.{front_more}
+use Rattle.certificate.proofs.SumSpelledLemmas.{all_lines}
 use Rattle.certificate.proofs.PutLemmas.{on_err, any_err}
 use Rattle.certificate.proofs.spelled.put_text.Goals as goal
 

@@ -1,7 +1,8 @@
 use Rattle.std.proofs.Common.{drop, map}
-use Rattle.certificate.specs.Reading.{Each, IsTracked}
+use Rattle.certificate.specs.Reading.{Each}
+use Rattle.fixpoint.specs.Form.{IsCellLine}
 use Rattle.fixpoint.specs.Claimed.{cell_of}
 use Rattle.fixpoint.proofs.form.have_words.Given as goal
 
 abbrev pub invariant-loop-line : goal.invariant-loop-line
-invariant-loop-line l = Each IsTracked (map cell_of (drop l.line-index l.cells)) → Each IsTracked (map cell_of l.cells)
+invariant-loop-line l = Each IsCellLine (map cell_of (drop l.line-index l.cells)) → Each IsCellLine (map cell_of l.cells)

@@ -1,10 +1,19 @@
-use Rattle.std.proofs.Common.{arith}
+use Rattle.std.proofs.Common.{arith, ap, ◌∙◌, sym}
+use Rattle.std.proofs.lemmas.Bool.{true≢false}
+use Rattle.wordset.specs.Words.{Words}
 use Rattle.wordset.specs.Lanes.{words}
-use Rattle.certificate.specs.Kept.{claims}
-use Rattle.judge.specs.Judged.{judged}
+use Rattle.certificate.specs.Sums.Kept.{claims}
+use Rattle.judge.specs.Sums.Judged.{judged}
 use Rattle.proposer.specs.Touched.{IsTouched}
 use Rattle.proposer.proofs.TouchLemmas.{AreGathered, first_of, in_either, next_below, second_of}
 use Rattle.proposer.proofs.variables.touched.Goals as goal
+
+pub loop-index-init : goal.loop-index-init
+loop-index-init g c = record {
+  only = λ cell lt is. absurd (true≢false (sym is ∙ ap (λ (u : Words). u cell) c.empty-cells.ensures));
+  all = λ at lt. absurd (omega (arith, lt));
+  tells = c.main-body.ensures.tells _;
+}
 
 pub loop-index-preserved : goal.loop-index-preserved
 loop-index-preserved g c =
@@ -13,11 +22,12 @@ loop-index-preserved g c =
     record {
       only =
           in_either (IsTouched c.args.access j) both (words c.loop-index.cells) (words c.touched_from-found.result) c.union-cells.ensures c.loop-index.invariant.only
-          (λ cell lt is. (c.from_index-at.result, omega (arith, c.from_index-at.ensures, c.loop-index-test.true), (c.touched_from-found.ensures cell lt).0 is));
+          (λ cell lt is. (c.from_index-at.result, omega (arith, c.from_index-at.ensures, c.loop-index-test.true), (c.touched_from-found.ensures.touched cell lt).0 is));
       all =
           next_below (AreGathered c.args.access j both) c.loop-index.index c.from_index-at.result
           (λ a lt cell small t. first_of both (words c.loop-index.cells) (words c.touched_from-found.result) c.union-cells.ensures cell (c.loop-index.invariant.all a lt cell small t)) c.from_index-at.ensures
-          (λ cell small t. second_of both (words c.loop-index.cells) (words c.touched_from-found.result) c.union-cells.ensures cell ((c.touched_from-found.ensures cell small).1 t));
+          (λ cell small t. second_of both (words c.loop-index.cells) (words c.touched_from-found.result) c.union-cells.ensures cell ((c.touched_from-found.ensures.touched cell small).1 t));
+      tells = c.touched_from-found.ensures.tells;
     }
 
 pub returns : goal.returns

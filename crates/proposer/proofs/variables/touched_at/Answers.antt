@@ -1,23 +1,36 @@
-use Rattle.std.proofs.Common.{refl, ap, ◌∙◌}
-use Rattle.std.specs.Prelude.{◌||◌}
+use Rattle.std.proofs.Common.{◌≡◌, Bool, [], ◌∷◌, refl, ap, ◌∙◌}
+use Rattle.std.specs.Prelude.{if◌then◌else◌}
 use Rattle.wordset.specs.Words.{Words}
 use Rattle.wordset.specs.Lanes.{words}
-use Rattle.wordset.proofs.IterLemmas.{none_gathered, image_gathered}
-use Rattle.wordset.specs.declared.iter.Iter.{Iter}
-use Rattle.domain.specs.Meaning.{meaning}
-use Rattle.facts.specs.Places.{place_of}
-use Rattle.proposer.proofs.TouchLemmas.{touched_by}
+use Rattle.domain.specs.Sums.FactInCode.{fact_in_code, rules_of}
+use Rattle.domain.specs.Sums.Facts.{Fact}
+use Rattle.facts.specs.Sums.Landing.{fact_at}
+use Rattle.facts.specs.Sums.PlaceInCode.{place_in_code}
+use Rattle.certificate.specs.Sums.Kept.{claims}
+use Rattle.judge.specs.Sums.Judged.{case_kept}
+use Rattle.judge.proofs.Sums.CaseLemmas.{asked_alone}
+use Rattle.judge.proofs.Sums.SourceLemmas.{sited_from}
+use Rattle.proposer.proofs.TouchLemmas.{is_asked, not_asked}
 use Rattle.proposer.proofs.variables.touched_at.Goals as goal
 
-pub loop-word-init : goal.loop-word-init
-loop-word-init g c =
-    none_gathered (record { set = refl; next = ap (λ (i : Iter). i.next) c.into_iter-word-iterator.ensures.into_iter_gives ∙ c.iter-word-items.ensures.next }) refl (λ cell. ap (λ (s : Words). s cell) c.empty-cells.ensures)
+pub put_asked-requires : goal.put_asked-requires
+put_asked-requires g c = sited_from _ _ _ _ c.put_sites.ensures c.put_fact.ensures.shape
 
-pub loop-word-preserved : goal.loop-word-preserved
-loop-word-preserved g c =
-    image_gathered c.loop-word.invariant c.in-Some.ensures.steps
-    (λ cell. ap (λ (s : Words). s cell) c.union-cells.ensures ∙ ap (λ p. words c.loop-word.cells cell || p) (ap (λ (s : Words). s cell) c.cells.ensures))
+pub returns-then-not-put_asked : goal.returns-then-not-put_asked
+returns-then-not-put_asked g c = λ cell lt.
+    let j = case_kept claims c.args.case.now in
+    not_asked c.args.access j c.args.body.now.routine c.args.at c.args.index (words c.empty.result) cell
+    (asked_alone j c.args.body.now.routine (rules_of c.rules-rules.result) (words c.args.body.now.claim.sites) (fact_at (j.certificate.facts c.args.at) c.args.index) _ _ []
+    c.rules-rules.ensures c.requires.tells.sites c.put_fact.ensures.fact c.put_sites.ensures
+    (c.put_asked.ensures.asked ∙ ap (λ (x : Bool). if x then fact_in_code c.put_asked.new.fact ∷ [] else []) c.if-not-put_asked.true))
+    (ap (λ (u : Words). u cell) c.empty.ensures)
 
 pub returns : goal.returns
 returns g c = λ cell lt.
-    touched_by c.args.access (place_of c.args.place.now) (meaning c.args.fact.now) c.args.at c.possible_words-possible.ensures c.iter-word-items.ensures c.into_iter-word-iterator.ensures.into_iter_gives c.loop-word.invariant c.in-None.ensures.steps cell
+    let j = case_kept claims c.args.case.now in
+    is_asked c.args.access j c.args.body.now.routine c.args.at c.args.index (words c.touched_by.result) cell (place_in_code c.place_of-place.result) (fact_in_code c.put_asked.new.fact)
+    (asked_alone j c.args.body.now.routine (rules_of c.rules-rules.result) (words c.args.body.now.claim.sites) (fact_at (j.certificate.facts c.args.at) c.args.index) _ _ (fact_in_code c.put_asked.new.fact ∷ [])
+    c.rules-rules.ensures c.requires.tells.sites c.put_fact.ensures.fact c.put_sites.ensures
+    (c.put_asked.ensures.asked ∙ ap (λ (x : Bool). if x then fact_in_code c.put_asked.new.fact ∷ [] else []) c.if-not-put_asked.false))
+    (cc)
+    (c.touched_by.ensures cell lt)

@@ -1,9 +1,11 @@
-use Rattle.std.proofs.Common.{drop}
+use Rattle.std.proofs.Common.{drop, map}
 use Rattle.std.specs.Prelude.{◌↔◌}
-use Rattle.domain.specs.Meaning.{tracked_cells}
-use Rattle.facts.specs.Knowing.{fact_of_state}
-use Rattle.facts.specs.Showing.{EachWithin}
+use Rattle.domain.specs.Sums.CellsInCode.{cell_set_of}
+use Rattle.facts.specs.Sums.Entailing.{EachWithin}
+use Rattle.facts.specs.Sums.PlaceInCode.{place_in_code}
 use Rattle.reasons.proofs.counterexample.cell_gap.Given as goal
 
-abbrev pub invariant-loop-at : goal.invariant-loop-at
-invariant-loop-at l = EachWithin (fact_of_state l.known) (drop l.at (tracked_cells l.cells)) ↔ EachWithin (fact_of_state l.known) (tracked_cells l.cells)
+abbrev pub invariant-loop-entry : goal.invariant-loop-entry
+invariant-loop-entry g l =
+    EachWithin (place_in_code l.place) (g.K.KnownFact.known l.fact) (map cell_set_of (drop l.entry-index l.entry-items)) ↔
+    EachWithin (place_in_code l.place) (g.K.KnownFact.known l.fact) (map cell_set_of l.entry-items)

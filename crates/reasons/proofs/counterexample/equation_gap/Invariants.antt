@@ -1,10 +1,9 @@
 use Rattle.std.proofs.Common.{drop, map}
 use Rattle.std.specs.Prelude.{◌↔◌}
-use Rattle.domain.specs.Facts.{KnowsAll}
-use Rattle.domain.specs.Meaning.{equation_of}
-use Rattle.facts.specs.Knowing.{fact_of_state}
+use Rattle.facts.specs.Sums.Entailment.{KnowsAll}
+use Rattle.facts.specs.Sums.PlaceInCode.{place_in_code}
+use Rattle.domain.specs.Sums.RelationsInCode.{relation_of}
 use Rattle.reasons.proofs.counterexample.equation_gap.Given as goal
 
-abbrev pub invariant-loop-equation : goal.invariant-loop-equation
-invariant-loop-equation l =
-    KnowsAll (fact_of_state l.known) (map equation_of (drop l.equation-index l.equation-items)) ↔ KnowsAll (fact_of_state l.known) (map equation_of l.equation-items)
+abbrev pub invariant-loop-relation : goal.invariant-loop-relation
+invariant-loop-relation g l = KnowsAll (place_in_code l.place) (g.K.KnownFact.known l.fact) (map relation_of (drop l.relation-index l.relation-items)) ↔ KnowsAll (place_in_code l.place) (g.K.KnownFact.known l.fact) (map relation_of l.relation-items)

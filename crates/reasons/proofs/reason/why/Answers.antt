@@ -1,12 +1,12 @@
 use Rattle.std.proofs.Common.{inl, inr, subst}
-use Rattle.judge.specs.Conditions.{IsFirst}
-use Rattle.judge.specs.Judged.{judged}
-use Rattle.reasons.proofs.BreachLemmas.{some_weaker}
+use Rattle.judge.specs.Sums.Conditions.{IsFirst}
+use Rattle.judge.specs.Sums.Judged.{judged}
 use Rattle.reasons.proofs.FoundLemmas.{found_of_lines, found_of_start, found_of_words, past_lines}
+use Rattle.reasons.proofs.ReasonLemmas.{some_weaker}
 use Rattle.reasons.proofs.reason.why.Goals as goal
 
 pub returns-in-V1-clause-explained : goal.returns-in-V1-clause-explained
-returns-in-V1-clause-explained g c = some_weaker _ _ _ (λ x h. inl (c.in-V1.is, h.0, h.1)) c.why_at_start.ensures.found
+returns-in-V1-clause-explained g c = rw c.in-V1.is c.why_at_start.ensures.found
 
 pub returns-in-V2-clause-explained : goal.returns-in-V2-clause-explained
 returns-in-V2-clause-explained g c = some_weaker _ _ _ (λ x h. inr (inl (c.in-V2.is, h))) c.why_placed.ensures.found
@@ -24,7 +24,7 @@ pub returns-in-V2-clause-found : goal.returns-in-V2-clause-found
 returns-in-V2-clause-found g c = λ first.
     let j = judged c.args.image.now c.args.declaration.now (g.C.Claims.claims c.args.claims.now) in
     let a = c.args.refusal.now.address in
-    found_of_lines j a c.why_placed.result (c.why_placed.ensures.none c.args.image.now) (subst (λ v. IsFirst j v a) c.in-V2.is first)
+    found_of_lines j a c.why_placed.result c.why_placed.ensures.none (subst (λ v. IsFirst j v a) c.in-V2.is first)
 
 pub returns-in_default-clause-found : goal.returns-in_default-clause-found
 returns-in_default-clause-found g c = λ first.

@@ -1,5 +1,5 @@
 use Rattle.declaration.specs.Kept.{meaning}
-use Rattle.certificate.specs.Kept.{meaning as lines_of}
+use Rattle.certificate.specs.Sums.Kept.{meaning as text_of}
 use Rattle.command_parts.proofs.AnswerLemmas.{delivered, delivers_by, nothing_written, three_good, three_refused}
 use Rattle.reports.proofs.reporting.report.Goals as goal
 
@@ -20,7 +20,7 @@ returns-in-Ok-clause-reported g c =
       tape = c.in-Ok.ensures.image;
       declaration = meaning c.in-Ok.certified.program.declaration;
       declares = c.in-Ok.ensures.declares;
-      lines = lines_of c.in-Ok.certified.certificate;
+      lines = text_of c.in-Ok.certified.certificate;
       claims = c.in-Ok.ensures.claims;
       is = is;
     })

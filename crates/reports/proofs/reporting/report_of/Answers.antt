@@ -1,6 +1,6 @@
 use Rattle.std.proofs.Common.{rules}
 use Rattle.declaration.specs.Kept.{meaning}
-use Rattle.certificate.specs.Kept.{meaning as lines_of}
+use Rattle.certificate.specs.Sums.Kept.{meaning as text_of}
 use Rattle.diagnostics.specs.CheckText.{checked_case}
 use Rattle.diagnostics.proofs.CheckLemmas.{verdict_is}
 use Rattle.reports.proofs.reporting.report_of.Goals as goal
@@ -10,7 +10,7 @@ returns-clause-page g c = record {
   line = c.in_ok-line.line.items;
   checked = record {
     verdict = c.judge-verdict.result;
-    is = verdict_is (checked_case c.args.certified.now.program.image (meaning c.args.certified.now.program.declaration) (lines_of c.args.certified.now.certificate))
+    is = verdict_is (checked_case c.args.certified.now.program.image (meaning c.args.certified.now.program.declaration) (text_of c.args.certified.now.certificate))
         c.judge-verdict.result c.judge-verdict.ensures.exact c.judge-verdict.ensures.safe;
     line_is = c.in_ok-line.ensures;
     status_is = c.verdict_status-status.ensures;

@@ -1,7 +1,7 @@
 use Rattle.std.proofs.Common.{◌≡◌, rules, refl, Err, inl}
 use Rattle.declaration.specs.Kept.{meaning}
-use Rattle.certificate.specs.Kept.{meaning as lines_of}
-use Rattle.certificate.specs.Spelling.{text as spelled}
+use Rattle.certificate.specs.Sums.Kept.{meaning as lines_of}
+use Rattle.certificate.specs.Sums.Laws.{bytes_of}
 use Rattle.command_parts.specs.Faults.{fault_of_guess}
 use Rattle.command_parts.specs.declared.status.Status.TheVariants.{Done}
 use Rattle.command_parts.proofs.AnswerLemmas.{nothing_written, outcome_written, two_good, two_refused, write_follows}
@@ -32,7 +32,7 @@ returns-clause-reads g c =
 
 pub returns-clause-guessed : goal.returns-clause-guessed
 returns-clause-guessed g c =
-    outcome_written Done (spelled (lines_of c.in_ok-claims.claims))
+    outcome_written Done (bytes_of (lines_of c.in_ok-claims.claims))
     (record {
       image = c.in_ok-program.program.image;
       tape = c.in_ok-program.ensures.image;

@@ -6,12 +6,5 @@ use Rattle.search_commands.proofs.stuck.draft_message.Goals as goal
 
 pub returns : goal.returns
 returns g c =
-    let is : plain c.push_told.new.text ≡ told_text (meaning c.args.declaration.now).profile c.args.image.now c.why_stuck-told.result = search rules in
-    record {
-      told = c.why_stuck-told.result;
-      why = c.why_stuck-told.ensures.explained;
-      place = c.why_stuck-told.ensures.place;
-      first = c.why_stuck-told.ensures.first;
-      none = c.why_stuck-told.ensures.none;
-      lines_are = is;
-    }
+    let is : plain c.push_told.new.text ≡ told_text (meaning c.args.declaration.now).profile c.args.image.now c.told_of-told.result = search rules in
+    record { told = c.told_of-told.result; is = c.told_of-told.ensures; lines_are = is }

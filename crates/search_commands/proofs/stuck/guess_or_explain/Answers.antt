@@ -1,8 +1,8 @@
 use Rattle.std.proofs.Common.{◌≡◌, rules, refl, Err, Ok}
 use Rattle.command_parts.proofs.AnswerLemmas.{two_good, two_refused}
 use Rattle.declaration.specs.Kept.{meaning}
-use Rattle.certificate.specs.Spelling.{text as spelled}
-use Rattle.certificate.specs.Kept.{meaning as lines_of}
+use Rattle.certificate.specs.Sums.Laws.{bytes_of}
+use Rattle.certificate.specs.Sums.Kept.{meaning as lines_of}
 use Rattle.search_commands.proofs.StuckLemmas.{writes_stuck, front_of_stuck}
 use Rattle.search_commands.proofs.stuck.guess_or_explain.Goals as goal
 
@@ -18,7 +18,7 @@ returns-clause-front_of_report g c = λ marked.
 
 pub returns-in-Found-clause-guessed : goal.returns-in-Found-clause-guessed
 returns-in-Found-clause-guessed g c = λ done. record {
-  text = spelled (lines_of c.in-Found.certificate);
+  text = bytes_of (lines_of c.in-Found.certificate);
   is = record {
     image = c.in_ok-program.program.image;
     tape = c.in_ok-program.ensures.image;
@@ -41,7 +41,7 @@ returns-in-Found-clause-guessed g c = λ done. record {
 
 pub returns-in_err-write-in-Found-clause-front : goal.returns-in_err-write-in-Found-clause-front
 returns-in_err-write-in-Found-clause-front g c = λ marked. record {
-  text = spelled (lines_of c.in-Found.certificate);
+  text = bytes_of (lines_of c.in-Found.certificate);
   is = record {
     image = c.in_ok-program.program.image;
     tape = c.in_ok-program.ensures.image;

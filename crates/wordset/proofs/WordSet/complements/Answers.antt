@@ -9,10 +9,10 @@ loop-i-init c = record { are = filled 0 (lit< tt); done = λ k h. absurd (omega 
 
 pub loop-i-preserved : goal.loop-i-preserved
 loop-i-preserved c = record {
-  are = AreLanes-set c.loop-i.lanes c.loop-i.i c.reverse_bits.result c.loop-i-test.true c.reverse_bits.type_inv c.loop-i.invariant.are;
+  are = AreLanes-set c.loop-i.lanes c.loop-i.i c.reversed.result c.loop-i-test.true c.reversed.type_inv c.loop-i.invariant.are;
   done = below_more _ _
       (λ k h. let ne : k ≢ c.loop-i.i = omega arith in rw get_or-set_other (c.loop-i.invariant.done k h))
-      (let lt : c.loop-i.i < length c.loop-i.lanes = omega (arith, c.loop-i.invariant.are.long) in rw get_or-set_same c.reverse_bits.ensures);
+      (let lt : c.loop-i.i < length c.loop-i.lanes = omega (arith, c.loop-i.invariant.are.long) in rw get_or-set_same c.reversed.ensures);
 }
 
 pub invariant_of-result : goal.invariant_of-result

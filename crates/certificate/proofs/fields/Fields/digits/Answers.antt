@@ -1,14 +1,14 @@
 use Rattle.std.proofs.Common.{true, false, sym}
 use Rattle.std.proofs.Math.Bool.{or-false}
 use Rattle.std.proofs.Math.Path.{fun_ext}
-use Rattle.domain.specs.Meaning.{offsets_of}
+use Rattle.domain.specs.Sums.Offsets.{offsets_in}
 use Rattle.certificate.specs.Fields.{left}
 use Rattle.certificate.proofs.DigitLemmas.{no_digits, digit_tried, all_digits}
 use Rattle.certificate.proofs.fields.Fields.digits.Goals as goal
 use Rattle.certificate.proofs.fields.Fields.digits.Goals.{then-takes, else-takes}
 
 pub loop-digit-init : goal.loop-digit-init
-loop-digit-init c = no_digits c.args.count (left c.args.self.now) (offsets_of c.none-found.result) c.none-found.ensures
+loop-digit-init c = no_digits c.args.count (left c.args.self.now) (offsets_in c.none-found.result) c.none-found.ensures
 
 pub loop-digit-preserved : goal.loop-digit-preserved
 loop-digit-preserved c = elim c.if-takes.branch [
@@ -20,5 +20,5 @@ loop-digit-preserved c = elim c.if-takes.branch [
 
 pub returns-clause-only : goal.returns-clause-only
 returns-clause-only c =
-    all_digits c.args.count c.loop-digit.digit (left c.args.self.now) (left c.loop-digit.self) (offsets_of c.loop-digit.found)
+    all_digits c.args.count c.loop-digit.digit (left c.args.self.now) (left c.loop-digit.self) (offsets_in c.loop-digit.found)
     c.loop-digit-test.false c.loop-digit.auto.digit-end c.loop-digit.invariant

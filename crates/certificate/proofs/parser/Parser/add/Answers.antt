@@ -1,8 +1,8 @@
 use Rattle.std.proofs.Common.{◌-◌, arith}
 use Rattle.std.proofs.lemmas.Bool.{false≢true}
 use Rattle.certificate.proofs.LengthLemmas.{feed_taken}
-use Rattle.certificate.proofs.ParserLemmas.{added, passed}
-use Rattle.certificate.proofs.ServedLemmas.{full}
+use Rattle.certificate.proofs.SumParserLemmas.{added, passed}
+use Rattle.certificate.proofs.SumServedLemmas.{full}
 use Rattle.certificate.proofs.parser.Parser.add.Goals as goal
 
 pub returns-then-bytes-self-clause-seen : goal.returns-then-bytes-self-clause-seen

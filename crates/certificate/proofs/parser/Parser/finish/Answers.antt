@@ -1,6 +1,6 @@
 use Rattle.std.proofs.Common.{◌∙◌, refl, sym}
 use Rattle.std.proofs.lemmas.Bool.{true≢false, not-true, not-false}
-use Rattle.certificate.proofs.ParserLemmas.{no_lines, cut, not_empty, is_empty, whole_kept, whole_parsed}
+use Rattle.certificate.proofs.SumParserLemmas.{no_lines, cut, not_empty, is_empty, whole_kept, whole_parsed}
 use Rattle.certificate.proofs.parser.Parser.finish.Goals as goal
 use Rattle.certificate.proofs.parser.Parser.finish.Goals.{then-is_long-via-then-is_long, then-is_long-via-else-is_long+then-not-is_empty}
 

@@ -1,5 +1,5 @@
 use Rattle.std.proofs.Common.{refl}
-use Rattle.certificate.proofs.ParserLemmas.{long_first, long_refused}
+use Rattle.certificate.proofs.SumParserLemmas.{long_first, long_refused}
 use Rattle.certificate.proofs.parser.Parser.long_line.Goals as goal
 
 pub returns-in-Some : goal.returns-in-Some

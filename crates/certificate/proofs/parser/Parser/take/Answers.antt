@@ -1,5 +1,6 @@
 use Rattle.std.proofs.Common.{◌<◌, ◌+◌, ◌++◌, [], ◌∷◌, ◌∙◌, arith, List, ℕ, length, take, drop, ap}
-use Rattle.certificate.proofs.ServedLemmas.{piece_rest, refused_on, with_feed}
+use Rattle.certificate.proofs.ServedLemmas.{piece_rest, with_feed}
+use Rattle.certificate.proofs.SumServedLemmas.{refused_on}
 use Rattle.certificate.proofs.parser.Parser.take.Goals as goal
 
 pub returns-in-Err-clause-seen : goal.returns-in-Err-clause-seen

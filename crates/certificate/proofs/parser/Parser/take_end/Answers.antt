@@ -1,5 +1,6 @@
 use Rattle.std.proofs.Common.{[], ◌∷◌, ◌++◌, ◌∙◌, refl}
-use Rattle.certificate.proofs.ServedLemmas.{piece_length, refused_on}
+use Rattle.certificate.proofs.ServedLemmas.{piece_length}
+use Rattle.certificate.proofs.SumServedLemmas.{refused_on}
 use Rattle.certificate.proofs.parser.Parser.take_end.Goals as goal
 
 pub returns-in-Err-clause-seen : goal.returns-in-Err-clause-seen

@@ -2,10 +2,10 @@ use Rattle.std.proofs.Common.{List, ℕ, [], ◌∷◌, ◌++◌, ◌+◌, ◌-�
 use Rattle.std.proofs.lemmas.List.{take-append-le}
 use Rattle.certificate.specs.declared.CertificateFault.TheVariants as faults
 use Rattle.certificate.specs.Faults.{most_bytes}
-use Rattle.certificate.specs.Parser.{NoFeed, Refuses}
+use Rattle.certificate.specs.Sums.Parser.{NoFeed, Refuses}
 use Rattle.certificate.proofs.LengthLemmas.{feed_taken}
-use Rattle.certificate.proofs.ParserLemmas.{then_seen, few_more, whole_line}
-use Rattle.certificate.proofs.ServedLemmas.{full}
+use Rattle.certificate.proofs.SumParserLemmas.{then_seen, few_more, whole_line}
+use Rattle.certificate.proofs.SumServedLemmas.{full}
 use Rattle.certificate.proofs.parser.Parser.take_whole.Goals as goal
 
 pub returns-then-line-self-clause-seen : goal.returns-then-line-self-clause-seen

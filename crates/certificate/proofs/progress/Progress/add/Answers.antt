@@ -5,16 +5,17 @@ pub returns-in_default : goal.returns-in_default
 returns-in_default c = record {
   version = c.add_head.ensures.version;
   number = c.add_head.ensures.number;
-  lines = λ runs before t. record {
+  lines = λ runs steps before t. record {
     number = (let n = c.add_head.ensures.number in omega (arith, n, t.number));
-    others = c.add_head.ensures.lines runs before (record {
+    others = c.add_head.ensures.lines runs steps before (record {
       ended = t.others.ended;
       takes_details = t.others.takes_details;
       next_head = t.others.next_head;
-      next_detail = t.others.next_detail;
+      last_detail = t.others.last_detail;
       routines = t.others.routines;
       cells = t.others.cells;
-      equations = t.others.equations;
+      sums = t.others.sums;
+      chains = t.others.chains;
     });
   };
 }

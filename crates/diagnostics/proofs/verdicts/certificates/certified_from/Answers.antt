@@ -1,5 +1,5 @@
 use Rattle.std.proofs.Common.{◌≡◌, rules, refl, Err, Ok}
-use Rattle.certificate.specs.Kept.{meaning as lines_of}
+use Rattle.certificate.specs.Sums.Kept.{meaning as text_of}
 use Rattle.command_parts.proofs.AnswerLemmas.{goes_on, read_alone, refused_so}
 use Rattle.diagnostics.proofs.verdicts.certificates.certified_from.Goals as goal
 
@@ -16,5 +16,5 @@ returns-in_err-certificate-clause-reads g c =
 pub returns-clause-reads : goal.returns-clause-reads
 returns-clause-reads g c =
     goes_on (Ok _) (λ rest. goes_on (Ok _) (λ none.
-    read_alone (Ok _) tt (record { lines = lines_of c.in_ok-certificate.certificate; claims = c.in_ok-certificate.ensures.claims }, tt) c.in_ok-certificate.ensures.marks c.in_ok-certificate.ensures.takes tt) rest)
+    read_alone (Ok _) tt (record { lines = text_of c.in_ok-certificate.certificate; claims = c.in_ok-certificate.ensures.claims }, tt) c.in_ok-certificate.ensures.marks c.in_ok-certificate.ensures.takes tt) rest)
     c.in_ok-program.ensures.reads

@@ -1,8 +1,8 @@
 use Rattle.declaration.specs.Kept.{meaning}
-use Rattle.certificate.specs.Kept.{meaning as lines_of}
+use Rattle.certificate.specs.Sums.Kept.{meaning as text_of}
 use Rattle.diagnostics.specs.CheckText.{checked_case}
 use Rattle.diagnostics.proofs.CheckLemmas.{verdict_is}
-use Rattle.diagnostics.proofs.ReasonLemmas.{from_nothing}
+use Rattle.diagnostics.proofs.ReasonLemmas.{behind_nothing}
 use Rattle.diagnostics.proofs.verdicts.messages.check_message.Goals as goal
 
 pub returns : goal.returns
@@ -10,10 +10,12 @@ returns g c =
     let told = c.in_ok-push_explanation.ensures in
     record {
       verdict = c.judge-verdict.result;
-      is = verdict_is (checked_case c.args.image.now (meaning c.args.declaration.now) (lines_of c.args.certificate.now))
+      is = verdict_is (checked_case c.args.image.now (meaning c.args.declaration.now) (text_of c.args.certificate.now))
           c.judge-verdict.result c.judge-verdict.ensures.exact c.judge-verdict.ensures.safe;
       reason = told.reason;
       why = told.why;
-      text_is = from_nothing _ _ _ _ _ c.new-told.ensures told.text_is c.in_ok-push_fact.ensures;
+      telling = told.telling;
+      told = told.told;
+      text_is = behind_nothing _ _ _ c.new-told.ensures told.text_is;
       status_is = c.verdict_status-status.ensures;
     }

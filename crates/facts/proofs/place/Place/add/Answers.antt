@@ -1,23 +1,46 @@
-use Rattle.std.proofs.Common.{◌≡◌, ap, ◌∙◌, refl}
-use Rattle.wordset.specs.Words.{Words, sums, carries, toggled, only}
+use Rattle.std.proofs.Common.{◌≡◌, ◌∙◌, sym, ap, refl}
+use Rattle.wordset.specs.Words.{Words, one, plus, all_words}
 use Rattle.wordset.specs.Lanes.{words}
-use Rattle.wordset.specs.Links.{links_of}
-use Rattle.domain.specs.Facts.{narrowed, Ac, Fact, Place}
-use Rattle.facts.specs.Outcomes.{words_at, tad_case, tad_fact}
-use Rattle.facts.specs.Knowing.{fact_of_state}
-use Rattle.facts.specs.Places.{place_of}
+use Rattle.domain.specs.Sums.Facts.{Fact}
+use Rattle.domain.specs.Sums.FactInCode.{fact_in_code}
+use Rattle.facts.specs.Sums.PlaceInCode.{place_in_code}
+use Rattle.std.specs.Prelude.{Option}
+use Rattle.domain.specs.Sums.Terms.{Term}
+use Rattle.domain.specs.Sums.FactInCode.{rules_of}
+use Rattle.facts.specs.Sums.References.{words_at, operand_term, one_target}
+use Rattle.facts.specs.Sums.Outcomes.{tad_by, ac_of, added, added_under}
+use Rattle.facts.specs.Sums.Shaped.{term_if}
+use Rattle.facts.proofs.Sums.ComesLemmas.{goes_on, both_are, none_after, all_reached}
 use Rattle.facts.proofs.place.Place.add.Goals as goal
-use Rattle.facts.proofs.TadLemmas.{tad_is}
 
-pub returns : goal.returns
-returns g c =
-    let pl : Place = place_of c.args.self.now in
-    let f : Fact = fact_of_state c.args.state.now in
-    let p : Words = words c.args.targets.now in
-    let set : words c.put_set-ac.result.now ≡ sums (narrowed f Ac) (words_at pl f p) =
-    c.put_set-ac.ensures ∙ c.sums-sums.ensures.words ∙ ap (λ (x : Words). sums x (words c.words_at-read.result.now)) c.left_in-held.ensures ∙ ap (sums (narrowed f Ac)) c.words_at-read.ensures in
-    let links : links_of c.toggled-links.result ≡ toggled f.link (carries (narrowed f Ac) (words_at pl f p)) =
-    c.toggled-links.ensures ∙ ap (toggled f.link) (c.sums-sums.ensures.carries ∙ ap (λ (x : Words). carries x (words c.words_at-read.result.now)) c.left_in-held.ensures ∙ ap (carries (narrowed f Ac)) c.words_at-read.ensures) in
-    let sum : fact_of_state c.after_tad-sum.result ≡ tad_case pl f (words_at pl f p) (only p) (only (narrowed f Ac)) (only (words_at pl f p)) =
-    rw (← c.requires.single, ← ap only c.left_in-held.ensures, ← ap only c.words_at-read.ensures, ← c.only-one.ensures, ← c.only-added.ensures) (c.after_tad-sum.ensures (words_at pl f p) set) in
-    c.going.ensures p _ f (tad_fact pl f p) refl c.left_in-held.ensures c.address_after-next.ensures (c.with_link.ensures ∙ tad_is pl f p (fact_of_state c.after_tad-sum.result) (links_of c.toggled-links.result) sum links)
+pub returns-in-OfSums : goal.returns-in-OfSums
+returns-in-OfSums g c =
+    let pl = (place_in_code c.args.self.now) in
+    let f : Fact = (fact_in_code c.args.fact.now) in
+    let p : Words = (words c.args.targets.now) in
+    let t : Option Term = operand_term pl.declaration c.args.indirect c.args.named p in
+    let read : words c.put_words_at.new.place ≡ words_at pl f p = c.put_words_at.ensures in
+    let term : term_if c.operand_term-term.result ≡ t = c.operand_term-term.ensures in
+    both_are
+    (goes_on pl p f all_words (one (plus c.args.at 1)) _
+    (c.is_alive-comes.ensures p all_words c.has_some-reached.ensures (all_reached refl)) c.go_to.ensures c.put_words_known.ensures (ap one c.increment.ensures)
+    (c.put_added_under.ensures ∙ ap (λ (s : Words). added_under s (term_if c.operand_term-term.result) f 0) read ∙ ap (λ (o : Option Term). added_under (words_at pl f p) o f 0) term))
+    (goes_on pl p f all_words (one (plus c.args.at 1)) _
+    (c.is_alive-comes-in-OfSums.ensures p all_words c.has_some-reached.ensures (all_reached refl)) c.go_to-in-OfSums.ensures c.put_words_known.ensures (ap one c.increment-in-OfSums.ensures)
+    (c.put_added_under-in-OfSums.ensures ∙ ap (λ (s : Words). added_under s (term_if c.operand_term-term.result) f 1) read ∙ ap (λ (o : Option Term). added_under (words_at pl f p) o f 1) term))
+    ∙ ap (λ r. tad_by (rules_of r) pl c.args.at f p t) (sym c.in-OfSums.is)
+
+pub returns-in-OfEquations : goal.returns-in-OfEquations
+returns-in-OfEquations g c =
+    let pl = (place_in_code c.args.self.now) in
+    let f : Fact = (fact_in_code c.args.fact.now) in
+    let p : Words = (words c.args.targets.now) in
+    let t : Option Term = operand_term pl.declaration c.args.indirect c.args.named p in
+    let read : words c.put_words_at.new.place ≡ words_at pl f p = c.put_words_at.ensures in
+    let held : words c.put_words_known.new.place ≡ ac_of pl f = c.put_words_known.ensures in
+    none_after (goes_on pl p f all_words (one (plus c.args.at 1)) _
+    (c.is_alive-comes-in-OfEquations.ensures p all_words c.has_some-reached.ensures (all_reached refl)) c.go_to-in-OfEquations.ensures held (ap one c.increment-in-OfEquations.ensures)
+    (c.put_added.ensures ∙ ap (λ (s : Words). added s (words c.put_words_at.new.place) (term_if c.one_target.result) f) held
+    ∙ ap (λ (s : Words). added (ac_of pl f) s (term_if c.one_target.result) f) read
+    ∙ ap (λ (o : Option Term). added (ac_of pl f) (words_at pl f p) o f) (c.one_target.ensures ∙ ap (one_target pl.declaration) c.requires.single))) c.clear.ensures
+    ∙ ap (λ r. tad_by (rules_of r) pl c.args.at f p t) (sym c.in-OfEquations.is)

@@ -1,20 +1,27 @@
 use Rattle.std.proofs.Common.{◌∙◌, sym, ap, refl}
-use Rattle.facts.specs.Outcomes.{Returns, alive}
-use Rattle.facts.specs.Knowing.{fact_of_state}
-use Rattle.facts.proofs.OutcomeLemmas.{given_none, given_some, alive_is}
-use Rattle.facts.proofs.place.Place.jump.Goals as goal
-use Rattle.domain.specs.Facts.{Fact}
-use Rattle.wordset.specs.Words.{all_words}
+use Rattle.wordset.specs.Words.{Words, all_words}
 use Rattle.wordset.specs.Lanes.{words}
+use Rattle.domain.specs.Sums.Facts.{Fact}
+use Rattle.domain.specs.Sums.FactInCode.{fact_in_code}
+use Rattle.facts.specs.Sums.PlaceInCode.{place_in_code}
+use Rattle.facts.specs.Sums.Outcomes.{Goes, Returns, given, alive}
+use Rattle.facts.proofs.Sums.ComesLemmas.{comes_by, all_reached}
+use Rattle.facts.proofs.place.Place.jump.Goals as goal
 
-pub returns-then-not-is_returning : goal.returns-then-not-is_returning
-returns-then-not-is_returning g c = rw (sym c.is_returning.ensures ∙ c.if-not-is_returning.true)
-    (c.going.ensures (words c.args.targets.now) _ (fact_of_state c.args.state.now) _ refl c.left_in-held.ensures refl c.same-after.ensures.same)
-
-pub returns-then-not-is_alive : goal.returns-then-not-is_alive
-returns-then-not-is_alive g c = rw (sym c.is_returning.ensures ∙ c.if-not-is_returning.false)
-    (given_none _ c.if-not-is_alive.true (alive_is (words c.args.targets.now) (words c.args.targets.now) (fact_of_state c.args.state.now) (fact_of_state c.same-after.result) c.is_alive.ensures refl c.left_in-held.ensures ∙ ap (λ (x : Fact). alive (words c.args.targets.now) (fact_of_state c.args.state.now) all_words x) c.same-after.ensures.same))
+pub returns-then-is_returning : goal.returns-then-is_returning
+returns-then-is_returning g c =
+    let pl = (place_in_code c.args.self.now) in
+    let f : Fact = (fact_in_code c.args.fact.now) in
+    let p : Words = (words c.args.targets.now) in
+    rw (sym c.is_returning.ensures ∙ c.if-is_returning.true) (c.go_back.ensures ∙ ap (λ b. given b (Returns (fact_in_code c.copy_from.new.self)))
+    (comes_by pl p f all_words f (c.is_alive-comes.ensures p all_words c.has_some.ensures (all_reached refl)) c.put_words_known.ensures c.copy_from.ensures.fact)
+    ∙ ap (λ (x : Fact). given (alive pl p f all_words f) (Returns x)) c.copy_from.ensures.fact)
 
 pub returns : goal.returns
-returns g c = rw (sym c.is_returning.ensures ∙ c.if-not-is_returning.false)
-    (given_some c.if-not-is_alive.false (alive_is (words c.args.targets.now) (words c.args.targets.now) (fact_of_state c.args.state.now) (fact_of_state c.same-after.result) c.is_alive.ensures refl c.left_in-held.ensures ∙ ap (λ (x : Fact). alive (words c.args.targets.now) (fact_of_state c.args.state.now) all_words x) c.same-after.ensures.same) (ap (λ (x : Fact). Returns x) c.same-after.ensures.same))
+returns g c =
+    let pl = (place_in_code c.args.self.now) in
+    let f : Fact = (fact_in_code c.args.fact.now) in
+    let p : Words = (words c.args.targets.now) in
+    rw (sym c.is_returning.ensures ∙ c.if-is_returning.false) (c.go_to_one_of.ensures ∙ ap (λ b. given b (Goes p (fact_in_code c.copy_from.new.self)))
+    (comes_by pl p f all_words f (c.is_alive-comes.ensures p all_words c.has_some.ensures (all_reached refl)) c.put_words_known.ensures c.copy_from.ensures.fact)
+    ∙ ap (λ (x : Fact). given (alive pl p f all_words f) (Goes p x)) c.copy_from.ensures.fact)

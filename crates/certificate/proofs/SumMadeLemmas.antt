@@ -1,0 +1,175 @@
+-- Lines added to those of a certificate, and its text, in all versions.
+use Rattle.std.proofs.Common.{◌≡◌, ℕ, ◌<◌, ◌≤◌, Bool, true, false, List, [], ◌∷◌, ◌++◌, length, Result, Ok, Err, refl, ap, ◌∙◌, sym, subst, inl, inr, append_assoc}
+use Rattle.std.specs.Prelude.{if◌then◌else◌, codes, map, nat_lt, nat_le, OnOk, OnErr}
+use Rattle.std.specs.List.{list_any}
+use Rattle.std.proofs.lemmas.Bool.{true≢false, cases_Bool, and_parts, ltb-true, leb-true, le-ltb}
+use Rattle.wordset.specs.Words.{Words, all_words, some_below}
+use Rattle.domain.specs.Statements.{TrackedCell}
+use Rattle.domain.specs.Sums.Chains.{Chain}
+use Rattle.domain.specs.Sums.Facts.{Relation}
+use Rattle.domain.specs.Sums.CellsInCode.{cell_sets_of}
+use Rattle.domain.specs.Sums.FactInCode.{fact_in_code}
+use Rattle.domain.specs.declared.sum_fact.SumFact.{SumFact}
+use Rattle.certificate.specs.declared.Version.{Version}
+use Rattle.certificate.specs.declared.Version.TheVariants.{One, Two, Three}
+use Rattle.certificate.specs.Spelling.{RoutineLine, Registers, ended}
+use Rattle.certificate.specs.Reading.{Each, EndsBefore}
+use Rattle.certificate.specs.Sums.Lines.{Line, RoutineIs, FactIs, ExitIs, CellIs, SumIs, ChainIs, End, is_end, is_of_sums}
+use Rattle.certificate.specs.Sums.Spelling.{version_text}
+use Rattle.certificate.specs.Sums.LineOf.{is_relation, has_form}
+use Rattle.certificate.specs.Sums.Reading.{Text}
+use Rattle.certificate.specs.Sums.Laws.{bytes_of}
+use Rattle.certificate.specs.Sums.Found.{IsLine, AreInOrder, Follow, newest_first, unended, IsWhole}
+use Rattle.certificate.specs.Sums.Packed.{Packed, said_lines}
+use Rattle.certificate.specs.Sums.Spelled.{all_ended}
+use Rattle.certificate.specs.Sums.Kept.{Kept, meaning}
+use Rattle.certificate.specs.Sums.Made.{details_of, lines_of_fact, lines_of_exit, before_end, with_lines, MayAdd, AreDetails}
+use Rattle.certificate.proofs.SumTextLemmas.{both_ended}
+use Rattle.certificate.proofs.SumWholeLemmas.{newest_both, followed, whole}
+use Rattle.certificate.proofs.SumReaderLemmas.{has_place}
+
+pub text_ended : (v : Version) (ls : List Line) → ended (version_text v) ++ all_ended v ls ++ ended (codes "end") ≡ bytes_of (record { version = v; lines = ls ++ End ∷ [] })
+text_ended v ls =
+    append_assoc (ended (version_text v)) (all_ended v ls) (ended (codes "end")) ∙
+    ap (λ (x : List ℕ). ended (version_text v) ++ x) (sym (both_ended v ls (End ∷ [])))
+
+-- None of the lines is the end.
+no_end_both : (before ls : List Line) → list_any is_end before ≡ false → list_any is_end ls ≡ false → list_any is_end (newest_first before ls) ≡ false
+no_end_both before [] b m = b
+no_end_both before (l ∷ ls) b m = elim (cases_Bool (is_end l)) [
+  | inl t ↦ absurd (true≢false (rw t at m))
+  | inr f ↦ no_end_both (l ∷ before) ls (rw f b) (rw f at m)
+]
+
+not_ended : (before ls : List Line) → list_any is_end (newest_first before ls) ≡ false → (list_any is_end before ≡ false) × (list_any is_end ls ≡ false)
+not_ended before [] h = (h, refl)
+not_ended before (l ∷ ls) h =
+    let p = not_ended (l ∷ before) ls h in
+    elim (cases_Bool (is_end l)) [
+      | inl t ↦ absurd (true≢false (rw t at p.0))
+      | inr f ↦ (rw f at p.0, rw f p.1)
+    ]
+
+-- Lines before the end are added after all others.
+before_last : (more ls : List Line) → list_any is_end ls ≡ false → before_end more (ls ++ End ∷ []) ≡ (ls ++ more) ++ End ∷ []
+before_last more [] h = refl
+before_last more (End ∷ ls) h = absurd (true≢false h)
+before_last more (RoutineIs r ∷ ls) h = ap (λ (x : List Line). RoutineIs r ∷ x) (before_last more ls h)
+before_last more (FactIs a s r o ∷ ls) h = ap (λ (x : List Line). FactIs a s r o ∷ x) (before_last more ls h)
+before_last more (ExitIs e o s r ∷ ls) h = ap (λ (x : List Line). ExitIs e o s r ∷ x) (before_last more ls h)
+before_last more (CellIs c ∷ ls) h = ap (λ (x : List Line). CellIs c ∷ x) (before_last more ls h)
+before_last more (SumIs r ∷ ls) h = ap (λ (x : List Line). SumIs r ∷ x) (before_last more ls h)
+before_last more (ChainIs c ∷ ls) h = ap (λ (x : List Line). ChainIs c ∷ x) (before_last more ls h)
+
+-- The text of lines that are kept.
+abbrev pub text_of_kept : Version → List Line → Text
+text_of_kept v ls = record { version = v; lines = ls ++ End ∷ [] }
+
+may_follow : (v : Version) (ls more : List Line) → MayAdd (text_of_kept v ls) more → Follow v (newest_first [] ls) more
+may_follow v ls more m = subst (λ (x : List Line). Follow v (unended x) more) (newest_both [] ls (End ∷ [])) m
+
+-- What more lines make of those that are kept.
+pub record Added (v : Version) (k new : Packed) (more : List Line) : Type 0 where
+  pub whole : IsWhole v new
+  pub is : text_of_kept v (said_lines new) ≡ with_lines more (text_of_kept v (said_lines k))
+
+pub added : (v : Version) (k new : Packed) (more : List Line) → IsWhole v k → list_any is_end more ≡ false → MayAdd (text_of_kept v (said_lines k)) more →
+    said_lines new ≡ said_lines k ++ more → Added v k new more
+added v k new more w none m e =
+    let back : newest_first [] (said_lines new) ≡ newest_first (newest_first [] (said_lines k)) more =
+    ap (λ (x : List Line). newest_first [] x) e ∙ newest_both [] (said_lines k) more in
+    record {
+      whole = whole v new (rw back (followed v (newest_first [] (said_lines k)) more w.order (may_follow v (said_lines k) more m)))
+          (rw back (no_end_both (newest_first [] (said_lines k)) more w.no_end none));
+      is = ap (text_of_kept v) e ∙ ap (λ (x : List Line). record { version = v; lines = x }) (sym (before_last more (said_lines k) (not_ended [] (said_lines k) w.no_end).1));
+    }
+
+same_whole : (v : Version) (k new : Packed) → IsWhole v k → said_lines new ≡ said_lines k → IsWhole v new
+same_whole v k new w e = whole v new (rw e w.order) (rw e w.no_end)
+
+-- All were added or none.
+pub either_whole : {X E : Type 0} (r : Result X E) (v : Version) (k new : Packed) (more : List Line) → IsWhole v k → list_any is_end more ≡ false →
+    MayAdd (text_of_kept v (said_lines k)) more → OnOk r (said_lines new ≡ said_lines k ++ more) → OnErr r (said_lines new ≡ said_lines k) → IsWhole v new
+either_whole (Ok x) v k new more w none m a s = (added v k new more w none m a).whole
+either_whole (Err x) v k new more w none m a s = same_whole v k new w s
+
+pub all_whole : (b : Bool) (v : Version) (k new : Packed) (more : List Line) → IsWhole v k → list_any is_end more ≡ false →
+    MayAdd (text_of_kept v (said_lines k)) more → said_lines new ≡ (if b then said_lines k ++ more else said_lines k) → IsWhole v new
+all_whole true v k new more w none m e = (added v k new more w none m e).whole
+all_whole false v k new more w none m e = same_whole v k new w e
+
+-- Details have no end.
+pub no_end_details : (cs : List TrackedCell) (rs : List Relation) (hs : List Chain) → list_any is_end (map CellIs cs ++ map SumIs rs ++ map ChainIs hs) ≡ false
+no_end_details [] [] [] = refl
+no_end_details [] [] (h ∷ hs) = no_end_details [] [] hs
+no_end_details [] (r ∷ rs) hs = no_end_details [] rs hs
+no_end_details (c ∷ cs) rs hs = no_end_details cs rs hs
+
+-- What may be added to a certificate as it is seen.
+pub may_add_fact : (a b : Kept) → a ≡ b → (at : ℕ) (f : SumFact 64 32) → MayAdd (meaning b) (lines_of_fact (meaning b).version at f) →
+    MayAdd (meaning a) (lines_of_fact (meaning a).version at f)
+may_add_fact a b e at f m = subst (λ (k : Kept). MayAdd (meaning k) (lines_of_fact (meaning k).version at f)) (sym e) m
+
+pub may_add_exit : (a b : Kept) → a ≡ b → (x o : ℕ) (f : SumFact 64 32) → MayAdd (meaning b) (lines_of_exit (meaning b).version x o f) →
+    MayAdd (meaning a) (lines_of_exit (meaning a).version x o f)
+may_add_exit a b e x o f m = subst (λ (k : Kept). MayAdd (meaning k) (lines_of_exit (meaning k).version x o f)) (sym e) m
+
+-- What may follow is of its form.
+lines_formed : (v : Version) (before ls : List Line) → Follow v before ls → Each (IsLine v) ls
+lines_formed v before [] f = tt
+lines_formed v before (l ∷ ls) f = (f.0, lines_formed v (l ∷ before) ls f.2)
+
+each_parts : {A : Type 0} (p : A → Type 0) (xs ys : List A) → Each p (xs ++ ys) → Each p xs × Each p ys
+each_parts p [] ys h = (tt, h)
+each_parts p (x ∷ xs) ys h = let r = each_parts p xs ys h.1 in ((h.0, r.0), r.1)
+
+sums_formed : (v : Version) (rs : List Relation) → Each (IsLine v) (map SumIs rs) → Each (λ r. is_relation r.sum ≡ true) rs
+sums_formed v [] h = tt
+sums_formed v (r ∷ rs) h = ((and_parts (is_relation r.sum) _ h.0.0).0, sums_formed v rs h.1)
+
+few_steps : (v : Version) (c : Chain) → has_form v (ChainIs c) ≡ true → length c.steps ≤ 16
+few_steps v c h =
+    let a = (and_parts (nat_lt c.cell 4096) _ h).1 in
+    let b = (and_parts (nat_lt c.more 4096) _ a).1 in
+    let d = (and_parts (some_below 2 c.link) _ b).1 in
+    let e = (and_parts (nat_le 1 (length c.steps)) _ d).1 in
+    leb-true (length c.steps) 16 (and_parts (nat_le (length c.steps) 16) _ e).0
+
+steps_formed : (v : Version) (cs : List Chain) → Each (IsLine v) (map ChainIs cs) → Each (λ c. length c.steps ≤ 16) cs
+steps_formed v [] h = tt
+steps_formed v (c ∷ cs) h = (few_steps v c h.0.0, steps_formed v cs h.1)
+
+pub details : (v : Version) (ls : List Line) (head : Line) (f : SumFact 64 32) → MayAdd (text_of_kept v ls) (head ∷ details_of f) → AreDetails f
+details v ls head f m =
+    let all = (lines_formed v (newest_first [] ls) (head ∷ details_of f) (may_follow v ls (head ∷ details_of f) m)).1 in
+    let outer = each_parts (IsLine v) (map CellIs (cell_sets_of f.cells) ++ map SumIs (fact_in_code f).relations) (map ChainIs (fact_in_code f).chains) all in
+    let inner = each_parts (IsLine v) (map CellIs (cell_sets_of f.cells)) (map SumIs (fact_in_code f).relations) outer.0 in
+    record { sums = sums_formed v (fact_in_code f).relations inner.1; steps = steps_formed v (fact_in_code f).chains outer.1 }
+
+pub exit_small : (v : Version) (ls : List Line) (e o : ℕ) (s : Words) (r : Registers) (more : List Line) → MayAdd (text_of_kept v ls) (ExitIs e o s r ∷ more) → o < 64
+exit_small v ls e o s r more m = has_place v (ExitIs e o s r) (may_follow v ls (ExitIs e o s r ∷ more) m).0.0
+
+pub rank_small : (v : Version) (ls : List Line) (r : RoutineLine) (more : List Line) → MayAdd (text_of_kept v ls) (RoutineIs r ∷ more) → r.rank < 64
+rank_small v ls r more m = ltb-true r.rank 64 (and_parts (nat_lt r.entry 4096) _ (may_follow v ls (RoutineIs r ∷ more) m).0.0).1
+
+-- Lines in order are so in version 2 too.
+pub mq_one : (mq : Words) → mq ≡ all_words → EndsBefore 4096 mq
+mq_one mq e x past = ap (λ (w : Words). w x) e ∙ le-ltb x 4096 past
+
+pub line_two : (l : Line) → IsLine One l → IsLine Two l
+line_two (RoutineIs r) h = h
+line_two (FactIs a s r o) h = (h.0, (h.1.0, record { ac = h.1.1.ac; mq = mq_one r.mq h.1.1.mq; link = h.1.1.link }, h.1.2))
+line_two (ExitIs e o s r) h = (h.0, (h.1.0, record { ac = h.1.1.ac; mq = mq_one r.mq h.1.1.mq; link = h.1.1.link }))
+line_two (CellIs c) h = h
+line_two (SumIs r) h = h
+line_two (ChainIs c) h = h
+line_two End h = h
+
+order_two : (ls : List Line) → AreInOrder One ls → AreInOrder Two ls
+order_two [] h = tt
+order_two (l ∷ ls) h = (line_two l h.0, record { stands = h.1.stands; order = h.1.order; room = h.1.room }, order_two ls h.2)
+
+pub whole_two : (v : Version) (k : Packed) → is_of_sums v ≡ false → IsWhole v k → IsWhole Two k
+whole_two One k e w = whole Two k (order_two (newest_first [] (said_lines k)) w.order) w.no_end
+whole_two Two k e w = w
+whole_two Three k e w = absurd (true≢false e)

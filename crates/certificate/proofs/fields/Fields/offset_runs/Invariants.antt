@@ -1,0 +1,11 @@
+use Rattle.domain.specs.Sums.Offsets.{offsets_in}
+use Rattle.certificate.specs.Fields.{left}
+use Rattle.certificate.proofs.RunLemmas.{how_long}
+use Rattle.certificate.proofs.OffsetReadLemmas.{RunsRead}
+use Rattle.certificate.proofs.fields.Fields.offset_runs.Given as goal
+
+abbrev pub invariant-loop-found : goal.invariant-loop-found
+invariant-loop-found l = RunsRead (left l.fn.self) (left l.self) (offsets_in l.found) l.next
+
+abbrev pub decreases-loop-found : goal.decreases-loop-found
+decreases-loop-found l = how_long (left l.self)

@@ -1,0 +1,21 @@
+-- Certificates whose facts have sums, of which those with equations are a special case.
+pub mod Certificate
+pub mod Packed
+pub mod Fields
+pub mod Lines
+pub mod Spelling
+pub mod LineOf
+pub mod Order
+pub mod Reading
+pub mod Laws
+pub mod Line
+pub mod Kept
+pub mod Adding
+pub mod Found
+pub mod Progress
+pub mod Serving
+pub mod Parser
+pub mod Made
+pub mod Spelled
+pub mod Exact
+pub mod Written

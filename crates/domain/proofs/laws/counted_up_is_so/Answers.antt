@@ -1,0 +1,5 @@
+use Rattle.domain.proofs.Sums.MoveLemmas.{counted_up_is_so}
+use Rattle.domain.proofs.laws.counted_up_is_so.Goals as goal
+
+pub returns : goal.returns
+returns c = counted_up_is_so

@@ -1,0 +1,5 @@
+use Rattle.domain.proofs.Sums.MoveLemmas.{longer_is_so}
+use Rattle.domain.proofs.laws.longer_is_so.Goals as goal
+
+pub returns : goal.returns
+returns c = longer_is_so

@@ -1,6 +1,0 @@
-use Rattle.std.proofs.Common.{◌≡◌, ◌<◌, ℕ, true}
-use Rattle.domain.specs.Meaning.{offsets_of}
-use Rattle.domain.proofs.offsets.CountedOffsets.is_subset.Given as goal
-
-abbrev pub invariant-loop-o : goal.invariant-loop-o
-invariant-loop-o l = (k : ℕ) → k < l.o → offsets_of l.self k ≡ true → offsets_of l.other k ≡ true

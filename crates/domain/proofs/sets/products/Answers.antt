@@ -1,0 +1,15 @@
+use Rattle.std.proofs.Common.{ap, ◌∙◌, ◌||◌, ◌==◌}
+use Rattle.std.proofs.Math.Path.{fun_ext}
+use Rattle.wordset.specs.Lanes.{words}
+use Rattle.wordset.proofs.IterLemmas.{none_gathered, image_gathered, all_gathered}
+use Rattle.domain.proofs.sets.products.Goals as goal
+
+pub loop-word-init : goal.loop-word-init
+loop-word-init c = none_gathered c.iter-word-items.ensures c.into_iter-word-iterator.ensures.into_iter_gives (λ v. ap (λ t. t v) c.empty-found.ensures)
+
+pub loop-word-preserved : goal.loop-word-preserved
+loop-word-preserved c = image_gathered c.loop-word.invariant c.in-Some.ensures.steps
+    (λ v. ap (λ t. t v) c.insert.ensures ∙ ap (λ w. words c.loop-word.found v || v == w) c.product.ensures)
+
+pub returns : goal.returns
+returns c = fun_ext (all_gathered c.loop-word.invariant c.in-None.ensures.steps)

@@ -1,0 +1,17 @@
+use Rattle.std.proofs.Common.{ap}
+use Rattle.wordset.specs.Words.{Words, meet}
+use Rattle.wordset.specs.Lanes.{words}
+use Rattle.domain.specs.Facts.{Location, Cell}
+use Rattle.domain.specs.Sums.CellsInCode.{cell_sets_of}
+use Rattle.domain.specs.Sums.FactInCode.{fact_in_code}
+use Rattle.domain.proofs.FactLemmas.{cell_replaced}
+use Rattle.domain.proofs.sum_fact.SumFact.meet_name.Goals as goal
+
+pub returns-in-Accumulator-clause-fact : goal.returns-in-Accumulator-clause-fact
+returns-in-Accumulator-clause-fact g c = rw c.in-Accumulator.is c.meet_accumulator.ensures.fact
+
+pub returns-in-Cell-clause-fact : goal.returns-in-Cell-clause-fact
+returns-in-Cell-clause-fact g c = rw c.in-Cell.is (
+    ap (λ (w : Location → Words). record (fact_in_code c.args.self.now) { set = w })
+    (cell_replaced (words c.args.self.now.ac) (cell_sets_of c.meet.new.self) (cell_sets_of c.args.self.now.cells) c.in-Cell.cell
+    (meet ((fact_in_code c.args.self.now).set (Cell c.in-Cell.cell)) (words c.args.set.now)) c.meet.ensures.words))

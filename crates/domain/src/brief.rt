@@ -1,0 +1,234 @@
+//! Sets of words that are quick to write where their words are in a row.
+
+ghost use Rattle.std.specs.Prelude.{◌≡◌, ◌↔◌, IsTrue, not};
+ghost use Rattle.wordset.specs.Words.{IsWithin, all_words, between, meet, nothing, one, has_some, only};
+ghost use Rattle.wordset.specs.Lanes.{words};
+
+use crate::rows::{is_range_within, put_row};
+use word12::Word;
+use wordset::WordSet;
+
+/// How a set is kept: as the words from one up to another, or whole.
+#[derive(Clone, Copy)]
+enum Kept {
+    Row(Word, Word),
+    Whole,
+}
+
+/// A set of words in a place of 512 bytes, of which six are written where its words are in a row, so that one word costs
+/// little.
+///
+/// Contracts see it as the words that `brief_words` gives.
+#[derive(Clone, Copy)]
+pub struct BriefSet {
+    kept: Kept,
+    whole: WordSet,
+}
+
+/// The one word of a row, if it has one and no other.
+fn only_in_row(first: Word, last: Word) -> Option<Word>
+    ensures { result ≡ only (between first last) }
+{
+    if first.index() > last.index() {
+        return None;
+    }
+    if first.index() < last.index() {
+        return None;
+    }
+    Some(first)
+}
+
+/// Whether a row has no word.
+fn is_row_empty(first: Word, last: Word) -> bool
+    ensures { result ≡ not (has_some (between first last)) }
+{
+    last.index() < first.index()
+}
+
+/// Whether the words of a row are all within another.
+fn is_row_within(first: Word, last: Word, low: Word, high: Word) -> bool
+    ensures { IsTrue result ↔ IsWithin (between first last) (between low high) }
+{
+    if last.index() < first.index() {
+        return true;
+    }
+    low.index() <= first.index() && last.index() <= high.index()
+}
+
+/// Whether all words of a set are within a row.
+fn is_within_row(set: &WordSet, low: Word, high: Word) -> bool
+    ensures { IsTrue result ↔ IsWithin (words set.now) (between low high) }
+{
+    let mut row = WordSet::empty();
+    put_row(&mut row, low, high);
+    set.is_subset(&row)
+}
+
+/// Keeps those words of a set that a row has.
+fn keep_row(set: &mut WordSet, first: Word, last: Word)
+    ensures { words set.new ≡ meet (words set.old) (between first last) }
+{
+    let mut row = WordSet::empty();
+    put_row(&mut row, first, last);
+    *set = set.meet(&row);
+}
+
+impl BriefSet {
+    ghost use Rattle.domain.specs.Sums.Brief.{brief_words};
+
+    /// The set with no word.
+    #[tactic(auto, using(crate::proofs::BriefLemmas::empty_row))]
+    pub fn none() -> BriefSet
+        ensures { brief_words result ≡ nothing }
+    {
+        BriefSet {
+            kept: Kept::Row(Word::from_index(1), Word::ZERO),
+            whole: WordSet::empty(),
+        }
+    }
+
+    /// The set of the word 0 alone. All its bits are 0, so that room for many sets is made at once, where it stays.
+    #[tactic(auto, using(crate::proofs::BriefLemmas::one_row))]
+    pub fn zero() -> BriefSet
+        ensures { brief_words result ≡ one 0 }
+    {
+        BriefSet {
+            kept: Kept::Row(Word::ZERO, Word::ZERO),
+            whole: WordSet::empty(),
+        }
+    }
+
+    /// The set of all words.
+    #[tactic(auto, using(crate::proofs::CellLemmas::full_row))]
+    pub fn all() -> BriefSet
+        ensures { brief_words result ≡ all_words }
+    {
+        BriefSet {
+            kept: Kept::Row(Word::ZERO, Word::from_index(0o7777)),
+            whole: WordSet::empty(),
+        }
+    }
+
+    /// The words of a set.
+    pub fn of(set: WordSet) -> BriefSet
+        ensures { brief_words result ≡ words set }
+    {
+        BriefSet {
+            kept: Kept::Whole,
+            whole: set,
+        }
+    }
+
+    /// Puts its words into a place for them.
+    pub fn put(&self, place: &mut WordSet)
+        ensures { words place.new ≡ brief_words self.now }
+    {
+        match &self.kept {
+            Kept::Row(first, last) => put_row(place, *first, *last),
+            Kept::Whole => *place = self.whole,
+        }
+    }
+
+    /// Keeps those words of a set that this one has.
+    pub fn keep(&self, set: &mut WordSet)
+        ensures { words set.new ≡ meet (words set.old) (brief_words self.now) }
+    {
+        match &self.kept {
+            Kept::Row(first, last) => keep_row(set, *first, *last),
+            Kept::Whole => *set = set.meet(&self.whole),
+        }
+    }
+
+    /// The word of the set, where it has one and no other.
+    pub fn only(&self) -> Option<Word>
+        ensures { result ≡ only (brief_words self.now) }
+    {
+        match &self.kept {
+            Kept::Row(first, last) => only_in_row(*first, *last),
+            Kept::Whole => self.whole.only(),
+        }
+    }
+
+    /// Whether there is no word.
+    pub fn is_empty(&self) -> bool
+        ensures { result ≡ not (has_some (brief_words self.now)) }
+    {
+        match &self.kept {
+            Kept::Row(first, last) => is_row_empty(*first, *last),
+            Kept::Whole => self.whole.is_empty(),
+        }
+    }
+
+    /// Whether it has all words of a set.
+    pub fn has_all(&self, set: &WordSet) -> bool
+        ensures { IsTrue result ↔ IsWithin (words set.now) (brief_words self.now) }
+    {
+        match &self.kept {
+            Kept::Row(first, last) => is_within_row(set, *first, *last),
+            Kept::Whole => set.is_subset(&self.whole),
+        }
+    }
+
+    /// Whether it has all words of a row.
+    fn has_row(&self, first: Word, last: Word) -> bool
+        ensures { IsTrue result ↔ IsWithin (between first last) (brief_words self.now) }
+    {
+        match &self.kept {
+            Kept::Row(low, high) => is_row_within(first, last, *low, *high),
+            Kept::Whole => is_range_within(first, last, &self.whole),
+        }
+    }
+
+    /// Whether each word is in the other set.
+    pub fn is_subset(&self, other: &BriefSet) -> bool
+        ensures { IsTrue result ↔ IsWithin (brief_words self.now) (brief_words other.now) }
+    {
+        match &self.kept {
+            Kept::Row(first, last) => other.has_row(*first, *last),
+            Kept::Whole => other.has_all(&self.whole),
+        }
+    }
+
+    /// Lets it have the words from one up to another, both of them; none where the second is the lesser.
+    pub fn set_row(&mut self, first: Word, last: Word)
+        ensures { brief_words self.new ≡ between first last }
+    {
+        self.kept = Kept::Row(first, last);
+    }
+
+    /// Lets it have one word alone.
+    #[tactic(auto, using(crate::proofs::BriefLemmas::one_row))]
+    pub fn set_one(&mut self, word: Word)
+        ensures { brief_words self.new ≡ one word }
+    {
+        self.kept = Kept::Row(word, word);
+    }
+
+    /// Lets it have the words of a set.
+    pub fn set(&mut self, set: &WordSet)
+        ensures { brief_words self.new ≡ words set.now }
+    {
+        self.kept = Kept::Whole;
+        self.whole = *set;
+    }
+
+    /// Lets it have the words of another.
+    pub fn copy_from(&mut self, other: &BriefSet)
+        ensures { brief_words self.new ≡ brief_words other.now }
+    {
+        match &other.kept {
+            Kept::Row(first, last) => self.set_row(*first, *last),
+            Kept::Whole => self.set(&other.whole),
+        }
+    }
+
+    /// Keeps those of its words that a set has.
+    #[tactic(auto, using(crate::proofs::BriefLemmas::meet_swap))]
+    pub fn meet(&mut self, set: &WordSet)
+        ensures { brief_words self.new ≡ meet (brief_words self.old) (words set.now) }
+    {
+        let mut both = *set;
+        self.keep(&mut both);
+        self.set(&both);
+    }
+}

@@ -1,9 +1,0 @@
-use Rattle.std.proofs.Common.{drop}
-use Rattle.std.specs.Prelude.{◌↔◌}
-use Rattle.peripherals.specs.Loading.{image_of}
-use Rattle.facts.specs.Showing.{MayStart}
-use Rattle.domain.specs.Meaning.{tracked_cells}
-use Rattle.facts.proofs.entailment.may_each_start.Given as goal
-
-abbrev pub invariant-loop-at : goal.invariant-loop-at
-invariant-loop-at l = MayStart (image_of l.image) (drop l.at (tracked_cells l.cells)) ↔ MayStart (image_of l.image) (tracked_cells l.cells)

@@ -1,0 +1,5 @@
+use Rattle.facts.proofs.Sums.KeepingLemmas.{narrowed_few, narrowed_short}
+use Rattle.facts.proofs.narrowing_law.Goals as goal
+
+pub returns : goal.returns
+returns c = λ image f few short. (narrowed_few image f few, narrowed_short image f short)

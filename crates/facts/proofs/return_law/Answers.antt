@@ -1,0 +1,5 @@
+use Rattle.facts.proofs.Sums.JoinedLemmas.{joined_holds}
+use Rattle.facts.proofs.return_law.Goals as goal
+
+pub returns : goal.returns
+returns c = joined_holds

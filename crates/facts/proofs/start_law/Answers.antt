@@ -1,0 +1,6 @@
+use Rattle.facts.proofs.Sums.ExactLemmas.{starts_are_exact}
+use Rattle.facts.proofs.Sums.StartedLemmas.{start_fact_holds, starts_land}
+use Rattle.facts.proofs.start_law.Goals as goal
+
+pub returns : goal.returns
+returns c = record { fact = start_fact_holds; landed = starts_land; exact = starts_are_exact }

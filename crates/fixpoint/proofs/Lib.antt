@@ -1,0 +1,6 @@
+pub mod AskedLemmas
+pub mod KeptLemmas
+pub mod SumOrderLemmas
+pub mod FormLemmas
+pub mod FollowLemmas
+pub mod MadeLemmas

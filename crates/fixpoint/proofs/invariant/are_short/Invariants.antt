@@ -1,0 +1,8 @@
+use Rattle.std.proofs.Common.{drop, map}
+use Rattle.domain.specs.Sums.RelationsInCode.{relation_of}
+use Rattle.facts.specs.Sums.Shaped.{HaveFewTerms}
+use Rattle.fixpoint.proofs.invariant.are_short.Given as goal
+
+abbrev pub invariant-loop-relation : goal.invariant-loop-relation
+invariant-loop-relation l =
+    HaveFewTerms (map relation_of (drop l.relation-index l.relations)) → HaveFewTerms (map relation_of l.relations)

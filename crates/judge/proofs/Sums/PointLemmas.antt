@@ -1,0 +1,82 @@
+-- What is asked of a fact at an address, by its own place.
+use Rattle.std.proofs.Common.{◌≡◌, ℕ, Bool, true, false, List, [], ◌∷◌, ◌++◌, refl, sym, ap, ◌∙◌, subst, inl, inr}
+use Rattle.std.specs.Prelude.{IsTrue, ◌↔◌}
+use Rattle.std.proofs.lemmas.Bool.{false≢true, true≢false}
+use Rattle.peripherals.specs.Loading.{image_of}
+use Rattle.declaration.specs.Declaration.{Routine, Declaration}
+use Rattle.declaration.specs.Kept.{meaning}
+use Rattle.domain.specs.Sums.Facts.{Fact, Place, Rules}
+use Rattle.facts.specs.Sums.Entailment.{Lands, IsIdle, LandsBy}
+use Rattle.domain.specs.Sums.Facts.{OfEquations, OfSums}
+use Rattle.facts.specs.Sums.Outcomes.{Successor}
+use Rattle.facts.specs.Sums.PlaceInCode.{place_in_code}
+use Rattle.facts.specs.declared.place.Place.{Place as KeptPlace}
+use Rattle.certificate.specs.Sums.Certificate.{Certificate}
+use Rattle.judge.specs.declared.point.Point.{Point}
+use Rattle.judge.specs.Sums.Landing.{Case, place_in, facts_in, LandsAt, EachSuccessor}
+use Rattle.judge.specs.Sums.Points.{IsPoint, case_of}
+
+-- the place at hand is the one that is meant
+pub same_place : {A C : Type 0} (claims : C → Certificate) (s : Point A C) → IsPoint claims s → place_in_code s.place ≡ place_in (case_of claims s) s.place.routine
+same_place claims s point =
+    let with_rules : Rules → Place = λ k. record { image = image_of s.place.image.now; declaration = meaning s.place.declaration.now; routine = s.place.routine; rules = k } in
+    ap with_rules point.rules
+
+pub meant : {A C : Type 0} (claims : C → Certificate) (s : Point A C) (p : Place → Type 0) → IsPoint claims s → p (place_in_code s.place) → p (place_in (case_of claims s) s.place.routine)
+meant claims s p point h = subst p (same_place claims s point) h
+
+-- a place that was made of the parts at hand
+pub made_place : {A C : Type 0} (claims : C → Certificate) (s : Point A C) (p : KeptPlace A) (r : Routine) → IsPoint claims s →
+    p.image.now ≡ s.place.image.now → p.declaration.now ≡ s.place.declaration.now → p.routine ≡ r → p.rules ≡ s.place.rules → place_in_code p ≡ place_in (case_of claims s) r
+made_place claims s p r point image declaration routine rules = rw (image, declaration, routine, rules, point.rules) refl
+
+-- where nothing need be asked of a fact, it lands
+idle_lands : (rules : Rules) (pl : Place) (f : Fact) (among : List Fact) → IsIdle rules pl f → LandsBy rules pl f among
+idle_lands OfSums pl f among idle = λ l lt has. inl (idle l lt has)
+idle_lands OfEquations pl f among idle = absurd idle
+
+pub lands_inside : (j : Case) (r : Routine) (a : ℕ) (f : Fact) (b t : Bool) → b ≡ j.declaration.body r a → b ≡ true → IsTrue t ↔ Lands (place_in j r) f (facts_in j r a) → IsTrue t ↔ LandsAt j r a f
+lands_inside j r a f b t body is told = (
+  λ q. inr (sym body ∙ is, told.0 q),
+  λ l. elim l [ inl i ↦ told.1 (idle_lands j.certificate.rules (place_in j r) f (facts_in j r a) i) | inr k ↦ told.1 k.1 ],
+)
+
+pub lands_outside : (j : Case) (r : Routine) (a : ℕ) (f : Fact) (b t : Bool) → b ≡ j.declaration.body r a → b ≡ false → IsTrue t ↔ IsIdle j.certificate.rules (place_in j r) f → IsTrue t ↔ LandsAt j r a f
+lands_outside j r a f b t body is told = (
+  λ q. inl (told.0 q),
+  λ l. elim l [ inl i ↦ told.1 i | inr k ↦ absurd (true≢false (sym k.0 ∙ (sym body ∙ is))) ],
+)
+
+-- outcomes that are gone through
+pub each_both : (p : Successor → Type 0) (os ps : List Successor) → EachSuccessor p (os ++ ps) ↔ (EachSuccessor p os × EachSuccessor p ps)
+each_both p [] ps = (λ e. (tt, e), λ e. e.1)
+each_both p (o ∷ os) ps = let rest = each_both p os ps in (
+  λ e. ((e.0, (rest.0 e.1).0), (rest.0 e.1).1),
+  λ e. (e.0.0, rest.1 (e.0.1, e.1)),
+)
+
+pub false_if : {P : Type 0} → (P → ⊥) → IsTrue false ↔ P
+false_if not = (λ q. absurd (false≢true q), λ p. absurd (not p))
+
+module _ (p : Successor → Type 0) (os ps qs rs : List Successor) where
+  parts : EachSuccessor p (os ++ (ps ++ (qs ++ rs))) → EachSuccessor p os × EachSuccessor p ps × EachSuccessor p qs × EachSuccessor p rs
+  parts e =
+      let first = (each_both p os (ps ++ (qs ++ rs))).0 e in
+      let second = (each_both p ps (qs ++ rs)).0 first.1 in
+      let third = (each_both p qs rs).0 second.1 in
+      (first.0, second.0, third.0, third.1)
+
+  pub first_fails : (EachSuccessor p os → ⊥) → IsTrue false ↔ EachSuccessor p (os ++ (ps ++ (qs ++ rs)))
+  first_fails not = false_if (λ e. not (parts e).0)
+
+  pub second_fails : (EachSuccessor p ps → ⊥) → IsTrue false ↔ EachSuccessor p (os ++ (ps ++ (qs ++ rs)))
+  second_fails not = false_if (λ e. not (parts e).1)
+
+  pub third_fails : (EachSuccessor p qs → ⊥) → IsTrue false ↔ EachSuccessor p (os ++ (ps ++ (qs ++ rs)))
+  third_fails not = false_if (λ e. not (parts e).2)
+
+  pub four_land : (t : Bool) → EachSuccessor p os → EachSuccessor p ps → EachSuccessor p qs → IsTrue t ↔ EachSuccessor p rs → IsTrue t ↔ EachSuccessor p (os ++ (ps ++ (qs ++ rs)))
+  four_land t x y z told = (
+    λ q. (each_both p os (ps ++ (qs ++ rs))).1 (x, (each_both p ps (qs ++ rs)).1 (y, (each_both p qs rs).1 (z, told.0 q))),
+    λ e. told.1 (parts e).3,
+  )

@@ -1,0 +1,11 @@
+use Rattle.wordset.specs.Words.{nothing}
+use Rattle.wordset.specs.Lanes.{words}
+use Rattle.wordset.proofs.IterLemmas.{Gathered}
+use Rattle.domain.specs.Sums.FactInCode.{fact_in_code}
+use Rattle.facts.specs.Sums.PlaceInCode.{meaning_in, place_in_code}
+use Rattle.proposer.specs.Touched.{touches}
+use Rattle.proposer.proofs.variables.touched_by.Given as goal
+
+abbrev pub invariant-loop-word : goal.invariant-loop-word
+invariant-loop-word g l =
+    Gathered (λ word. touches l.access (place_in_code l.place) (fact_in_code l.fact) (meaning_in (place_in_code l.place) l.at word)) (words l.initial.word-iterator.set.now) nothing (words l.cells) l.word-iterator

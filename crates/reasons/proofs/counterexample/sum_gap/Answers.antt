@@ -1,0 +1,25 @@
+use Rattle.std.proofs.Common.{sym, ◌∙◌, subst, arith}
+use Rattle.domain.specs.Sums.InCode.{sum_of}
+use Rattle.domain.specs.Sums.RelationsInCode.{relation_of}
+use Rattle.facts.specs.Sums.Entailment.{KnowsAll, KnowsBy}
+use Rattle.facts.specs.Sums.PlaceInCode.{place_in_code}
+use Rattle.facts.proofs.Sums.ShowingLemmas.{known_step}
+use Rattle.reasons.specs.Gaps.{IsSumBeyond, SomeRelation}
+use Rattle.reasons.proofs.ReasonLemmas.{some_relation, all_known}
+use Rattle.reasons.proofs.counterexample.sum_gap.Goals as goal
+
+pub returns-in-Some-clause-found : goal.returns-in-Some-clause-found
+returns-in-Some-clause-found g c = (
+  c.requires,
+  subst (SomeRelation (IsSumBeyond (place_in_code c.args.place.now) (g.K.KnownFact.known c.args.fact.now) (sum_of c.relation-item.result.sum) c.in-Some.word)) (c.as_slice-relation-items.ensures.relations ∙ c.relations.ensures)
+      (some_relation _ _ _ _ c.loop-relation-test.true c.relation-item.is c.in-Some.ensures.found),
+)
+
+pub loop-relation-preserved : goal.loop-relation-preserved
+loop-relation-preserved g c = known_step relation_of (place_in_code c.args.place.now) (g.K.KnownFact.known c.args.fact.now) _ _ _ c.loop-relation-test.true c.relation-item.is
+    (subst (λ r. KnowsBy r (place_in_code c.args.place.now) (g.K.KnownFact.known c.args.fact.now) (relation_of c.relation-item.result)) (sym c.requires) c.in_default.ensures.none) c.loop-relation.invariant
+
+pub returns-clause-none : goal.returns-clause-none
+returns-clause-none g c =
+    subst (KnowsAll (place_in_code c.args.place.now) (g.K.KnownFact.known c.args.fact.now)) (c.as_slice-relation-items.ensures.relations ∙ c.relations.ensures)
+    (all_known (place_in_code c.args.place.now) (g.K.KnownFact.known c.args.fact.now) _ c.loop-relation.relation-index (omega (arith, c.loop-relation-test.false)) c.loop-relation.invariant)

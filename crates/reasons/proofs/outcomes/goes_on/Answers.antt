@@ -1,0 +1,30 @@
+use Rattle.std.proofs.Common.{List, refl, subst}
+use Rattle.facts.specs.Sums.Operations.{outcomes_of}
+use Rattle.facts.specs.Sums.Outcomes.{Successor}
+use Rattle.facts.specs.Sums.PlaceInCode.{meaning_in}
+use Rattle.judge.specs.Sums.Landing.{EachSuccessor}
+use Rattle.judge.specs.Sums.Points.{case_of, fact_asked}
+use Rattle.judge.proofs.Sums.PointLemmas.{meant}
+use Rattle.reasons.specs.Breaches.{OutcomeMisses, SomeOutcome}
+use Rattle.reasons.specs.Keeping.{OutcomeArrives}
+use Rattle.reasons.specs.Points.{counts_lines}
+use Rattle.reasons.proofs.outcomes.goes_on.Goals as goal
+
+pub returns-in-Some-clause-found : goal.returns-in-Some-clause-found
+returns-in-Some-clause-found g c =
+    let s = c.args.point.now in
+    let p = OutcomeMisses (case_of g.C.Claims.claims s) s.place.routine c.in-Some.found.0 c.in-Some.found.1 in (
+      (
+        refl,
+        meant g.C.Claims.claims s (λ pl. SomeOutcome p (outcomes_of pl (fact_asked s) s.at (meaning_in pl s.at c.args.word))) c.requires
+            (subst (λ (os : List Successor). SomeOutcome p os) c.put_outcomes.ensures c.in-Some.ensures.found.1),
+      ),
+      c.in-Some.ensures.found.0,
+    )
+
+pub returns-in-None-clause-none : goal.returns-in-None-clause-none
+returns-in-None-clause-none g c =
+    let s = c.args.point.now in
+    let p = OutcomeArrives (counts_lines c.args.sought) (case_of g.C.Claims.claims s) s.place.routine in
+    meant g.C.Claims.claims s (λ pl. EachSuccessor p (outcomes_of pl (fact_asked s) s.at (meaning_in pl s.at c.args.word))) c.requires
+    (subst (λ (os : List Successor). EachSuccessor p os) c.put_outcomes.ensures c.in-None.ensures.none)

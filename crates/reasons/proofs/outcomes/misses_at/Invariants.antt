@@ -1,0 +1,13 @@
+use Rattle.std.proofs.Common.{◌≡◌}
+use Rattle.wordset.specs.Lanes.{words}
+use Rattle.wordset.proofs.IterLemmas.{Passed}
+use Rattle.domain.specs.Sums.FactInCode.{fact_in_code}
+use Rattle.judge.specs.Sums.Points.{case_of}
+use Rattle.reasons.specs.Keeping.{Arrives}
+use Rattle.reasons.specs.Points.{counts_lines}
+use Rattle.reasons.proofs.outcomes.misses_at.Given as goal
+
+abbrev pub invariant-loop-at : goal.invariant-loop-at
+invariant-loop-at g l =
+    Passed (λ a. Arrives (counts_lines l.sought) (case_of g.C.Claims.claims l.point) l.point.place.routine a (fact_in_code l.fn.known)) (words l.addresses) l.at-iterator ×
+    (fact_in_code l.known ≡ fact_in_code l.fn.known)

@@ -1,8 +1,0 @@
-use Rattle.std.proofs.Common.{◌≡◌, false}
-use Rattle.wordset.specs.Lanes.{words}
-use Rattle.wordset.proofs.IterLemmas.{Passed}
-use Rattle.reasons.specs.Spots.{here}
-use Rattle.reasons.proofs.point.ProgramPoint.first_entry.Given as goal
-
-abbrev pub invariant-loop-cell : goal.invariant-loop-cell
-invariant-loop-cell g l = Passed (λ b. (here l.self).declaration.entry b ≡ false) (words l.cells) l.cell-iterator

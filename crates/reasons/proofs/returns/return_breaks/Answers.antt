@@ -1,0 +1,16 @@
+use Rattle.std.proofs.Common.{arith}
+use Rattle.judge.specs.Sums.Points.{case_of, fact_asked}
+use Rattle.reasons.specs.Keeping.{ReturnsBy}
+use Rattle.reasons.specs.Points.{counts_lines}
+use Rattle.reasons.proofs.SetLemmas.{below_next}
+use Rattle.reasons.proofs.returns.return_breaks.Goals as goal
+
+pub loop-offset-preserved : goal.loop-offset-preserved
+loop-offset-preserved g c =
+    below_next (λ o. ReturnsBy (counts_lines c.args.sought) (case_of g.C.Claims.claims c.args.point.now) c.args.entry (fact_asked c.args.point.now) o) c.loop-offset.offset c.loop-offset.invariant c.in_default.ensures.none
+
+pub returns-clause-none : goal.returns-clause-none
+returns-clause-none g c = record {
+  own = c.is_own.ensures.0 c.if-not-is_own.false;
+  each = λ o lt. c.loop-offset.invariant o (omega (arith, lt, c.loop-offset-test.false));
+}

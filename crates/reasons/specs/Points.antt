@@ -1,0 +1,69 @@
+-- What breaks a condition at a fact of which it is asked, as the code keeps the fact; it serves private contracts.
+use Rattle.std.specs.Prelude.{◌≡◌, ℕ, Bool, true, false}
+use Rattle.instruct.specs.Instructions.{Meaning, meaning_of}
+use Rattle.facts.specs.declared.Condition.{Condition}
+use Rattle.certificate.specs.Sums.Certificate.{Certificate}
+use Rattle.declaration.specs.Declaration.{Routine}
+use Rattle.domain.specs.Sums.Facts.{Fact}
+use Rattle.judge.specs.Sums.Landing.{Case}
+use Rattle.judge.specs.Sums.Points.{case_of, fact_asked}
+use Rattle.judge.specs.declared.point.Point.{Point}
+use Rattle.reasons.specs.Breaches.{Breaks, CallBreaks, ReturnBreaks, condition_of, condition_of_call}
+use Rattle.reasons.specs.Landing.{Misses}
+use Rattle.reasons.specs.Reasons.{IsWrongWord}
+use Rattle.reasons.specs.Stuck.{is_call_of_lines, is_landing_of_lines, is_of_lines, is_return_of_lines, is_word_of_lines}
+use Rattle.reasons.specs.declared.breach.Breach.{Breach}
+use Rattle.reasons.specs.declared.breach.CallBreach.{CallBreach}
+use Rattle.reasons.specs.declared.breach.ReturnBreach.{ReturnBreach}
+use Rattle.reasons.specs.declared.breach.Landing.{Landing}
+use Rattle.reasons.specs.declared.reason.Reason.{Reason}
+use Rattle.reasons.specs.declared.sought.Sought.{Sought}
+use Rattle.reasons.specs.declared.sought.Sought.TheVariants.{Any, NotOfLines}
+
+-- A line that is missing or too narrow counts among the reasons that are looked for.
+abbrev pub counts_lines : Sought → Bool
+counts_lines Any = true
+counts_lines NotOfLines = false
+
+-- A reason is one of those, by whether it is of lines.
+abbrev pub IsSought : Sought → Bool → Type 0
+IsSought sought false = Unit {0}
+IsSought sought true = counts_lines sought ≡ true
+
+-- The fact does not land at the address of the routine's body, for this reason, which is one of those.
+abbrev pub MissesAs : Sought → Case → Routine → ℕ → Fact → Landing → Type 0
+MissesAs sought j r a f l = Misses j r a f l × IsSought sought (is_landing_of_lines l)
+
+-- What the word means there.
+abbrev pub meaning_here : {A C : Type 0} → (C → Certificate) → Point A C → ℕ → Meaning
+meaning_here claims s w = meaning_of (case_of claims s).declaration.profile s.at w
+
+-- The word fails the condition there, since it breaks this.
+abbrev pub BreaksHere : {A C : Type 0} → (C → Certificate) → Point A C → Condition → ℕ → Breach → Type 0
+BreaksHere claims s v w b =
+    (condition_of b ≡ v) × Breaks (case_of claims s) s.place.routine s.at (fact_asked s) (meaning_here claims s w) b
+
+-- It does, and this is one of the reasons that are looked for.
+abbrev pub BreaksAs : {A C : Type 0} → Sought → (C → Certificate) → Point A C → Condition → ℕ → Breach → Type 0
+BreaksAs sought claims s v w b = BreaksHere claims s v w b × IsSought sought (is_word_of_lines b)
+
+-- A call of the entry fails the condition there, since it breaks this.
+abbrev pub CallBreaksHere : {A C : Type 0} → (C → Certificate) → Point A C → Condition → ℕ → CallBreach → Type 0
+CallBreaksHere claims s v e b =
+    (condition_of_call b ≡ v) × CallBreaks (case_of claims s) s.place.routine s.at (fact_asked s) e b
+
+abbrev pub CallBreaksAs : {A C : Type 0} → Sought → (C → Certificate) → Point A C → Condition → ℕ → CallBreach → Type 0
+CallBreaksAs sought claims s v e b = CallBreaksHere claims s v e b × IsSought sought (is_call_of_lines b)
+
+-- A return through the entry breaks this there, which is one of the reasons that are looked for.
+abbrev pub ReturnBreaksAs : {A C : Type 0} → Sought → (C → Certificate) → Point A C → ℕ → ReturnBreach → Type 0
+ReturnBreaksAs sought claims s e b =
+    ReturnBreaks (case_of claims s) s.place.routine (fact_asked s) e b × IsSought sought (is_return_of_lines b)
+
+-- By the fact, which is the one at this place of those at the address, more than 64 words are possible, or this word is and breaks
+-- this.
+abbrev pub IsWrongHere : {A C : Type 0} → (C → Certificate) → Point A C → ℕ → Condition → Reason → Type 0
+IsWrongHere claims s i v reason = IsWrongWord (case_of claims s) s.place.routine s.at (fact_asked s) i v reason
+
+abbrev pub IsWrongAs : {A C : Type 0} → Sought → (C → Certificate) → Point A C → ℕ → Condition → Reason → Type 0
+IsWrongAs sought claims s i v reason = IsWrongHere claims s i v reason × IsSought sought (is_of_lines reason)

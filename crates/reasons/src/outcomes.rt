@@ -1,0 +1,273 @@
+//! Where a run goes on after a word and does not land.
+
+ghost use Rattle.std.specs.Prelude.{ℕ, ◌≡◌, ◌<◌, ◌++◌, false, true, IfNone, IfSome};
+ghost use Rattle.wordset.specs.Lanes.{words};
+ghost use Rattle.domain.specs.Sums.Brief.{brief_words};
+ghost use Rattle.domain.specs.Sums.FactInCode.{fact_in_code};
+ghost use Rattle.facts.specs.Sums.Entailment.{IsIdle};
+ghost use Rattle.facts.specs.Sums.OutcomesInCode.{outcome_in, outcomes_in};
+ghost use Rattle.facts.specs.declared.Condition.TheVariants.{V4};
+ghost use Rattle.judge.specs.Sums.Landing.{EachSuccessor, LandsAt, place_in, sites_of};
+ghost use Rattle.judge.specs.Sums.Points.{IsPoint, case_of};
+ghost use Rattle.reasons.specs.Breaches.{OutcomeMisses, SomeOutcome};
+ghost use Rattle.reasons.specs.Keeping.{Arrives, KeepsHere, OutcomeArrives};
+ghost use Rattle.reasons.specs.Landing.{Misses};
+ghost use Rattle.reasons.specs.Points.{BreaksAs, IsSought, MissesAs, counts_lines};
+ghost use Rattle.reasons.specs.Stuck.{is_landing_of_lines};
+ghost use Rattle.reasons.specs.declared.breach.Landing.TheVariants.{OtherBody};
+
+use crate::breach::{Breach, Landing};
+use crate::landing::what_is_left;
+use crate::rooms::{LeftRooms, WordRooms};
+use crate::sought::Sought;
+use domain::BriefSet;
+use facts::{Kind, NextFact, Outcome, Outcomes};
+use judge::{Claims, FactsAt, Point, place_of};
+use std::alloc::Allocator;
+use word12::Word;
+use wordset::WordSet;
+
+/// That an address is not in a routine's body, unless no state satisfies what is known. It stays as it is.
+fn misses_body<A: Allocator, C: Claims>(
+    point: &Point<'_, A, C>,
+    owner: &Option<Word>,
+    sites: &WordSet,
+    at: Word,
+    known: &mut NextFact,
+    rooms: &mut LeftRooms,
+) -> Option<Landing>
+    requires point { IsPoint C.claims point.now }
+    requires sites { words sites.now ≡ sites_of (case_of C.claims point.now).certificate owner.now }
+    requires outside { (case_of C.claims point.now).declaration.body owner.now at ≡ false }
+    ensures found { IfSome result (λ l. (l ≡ OtherBody) ×
+        Misses (case_of C.claims point.now) owner.now at (fact_in_code known.old) l) }
+    ensures none { IfNone result (IsIdle (case_of C.claims point.now).certificate.rules
+        (place_in (case_of C.claims point.now) owner.now) (fact_in_code known.old)) }
+    ensures kept { fact_in_code known.new ≡ fact_in_code known.old }
+{
+    if point.lands(owner, sites, at, known, &mut rooms.landing) {
+        return None;
+    }
+    Some(Landing::OtherBody)
+}
+
+/// Why what is known does not land among the facts at an address of a routine's body, if it does not. It stays as it is.
+fn misses_facts<A: Allocator, C: Claims>(
+    point: &Point<'_, A, C>,
+    owner: &Option<Word>,
+    sites: &WordSet,
+    at: Word,
+    known: &mut NextFact,
+    rooms: &mut LeftRooms,
+) -> Option<Landing>
+    requires point { IsPoint C.claims point.now }
+    requires sites { words sites.now ≡ sites_of (case_of C.claims point.now).certificate owner.now }
+    requires inside { (case_of C.claims point.now).declaration.body owner.now at ≡ true }
+    ensures found { IfSome result
+        (Misses (case_of C.claims point.now) owner.now at (fact_in_code known.old)) }
+    ensures none { IfNone result
+        (LandsAt (case_of C.claims point.now) owner.now at (fact_in_code known.old)) }
+    ensures kept { fact_in_code known.new ≡ fact_in_code known.old }
+{
+    let LeftRooms {
+        landing,
+        part,
+        given,
+    } = rooms;
+    if point.lands(owner, sites, at, known, landing) {
+        return None;
+    }
+    let place = place_of(
+        point.place.image,
+        point.place.declaration,
+        owner,
+        point.place.rules,
+    );
+    let among = FactsAt {
+        claims: point.claims,
+        at,
+        sites,
+        near: point.near,
+    };
+    Some(what_is_left(&place, known, &among, part, given))
+}
+
+/// Why what is known does not land at an address of a routine's body, with the sites of that routine, if it does not. It stays as
+/// it is.
+pub(crate) fn misses<A: Allocator, C: Claims>(
+    point: &Point<'_, A, C>,
+    sought: Sought,
+    owner: &Option<Word>,
+    sites: &WordSet,
+    at: Word,
+    known: &mut NextFact,
+    rooms: &mut LeftRooms,
+) -> Option<Landing>
+    requires point { IsPoint C.claims point.now }
+    requires sites { words sites.now ≡ sites_of (case_of C.claims point.now).certificate owner.now }
+    ensures found { IfSome result
+        (MissesAs sought (case_of C.claims point.now) owner.now at (fact_in_code known.old)) }
+    ensures none { IfNone result
+        (Arrives (counts_lines sought) (case_of C.claims point.now) owner.now at (fact_in_code known.old)) }
+    ensures kept { fact_in_code known.new ≡ fact_in_code known.old }
+{
+    if !point.is_inside(owner, at) {
+        return misses_body(point, owner, sites, at, known, rooms);
+    }
+    match sought {
+        Sought::Any => misses_facts(point, owner, sites, at, known, rooms),
+        Sought::NotOfLines => None,
+    }
+}
+
+/// Why what is known does not land at an address of the same body, if it does not. It stays as it is.
+pub(crate) fn misses_here<A: Allocator, C: Claims>(
+    point: &Point<'_, A, C>,
+    sought: Sought,
+    at: Word,
+    known: &mut NextFact,
+    rooms: &mut LeftRooms,
+) -> Option<Landing>
+    requires { IsPoint C.claims point.now }
+    ensures found { IfSome result
+        (MissesAs sought (case_of C.claims point.now) point.now.place.routine at (fact_in_code known.old)) }
+    ensures none { IfNone result
+        (Arrives (counts_lines sought) (case_of C.claims point.now) point.now.place.routine at (fact_in_code known.old)) }
+    ensures kept { fact_in_code known.new ≡ fact_in_code known.old }
+{
+    misses(
+        point,
+        sought,
+        &point.place.routine,
+        &point.body.claim.sites,
+        at,
+        known,
+        rooms,
+    )
+}
+
+/// The first of some addresses at which what is known does not land, and why.
+fn misses_at<A: Allocator, C: Claims>(
+    point: &Point<'_, A, C>,
+    sought: Sought,
+    addresses: &WordSet,
+    known: &mut NextFact,
+    rooms: &mut LeftRooms,
+) -> Option<(Word, Landing)>
+    requires { IsPoint C.claims point.now }
+    ensures found { IfSome result (λ found. (found.0 < 4096) × (words addresses.now found.0 ≡ true) ×
+        MissesAs sought (case_of C.claims point.now) point.now.place.routine found.0 (fact_in_code known.old) found.1) }
+    ensures none { IfNone result ((a : ℕ) → a < 4096 → words addresses.now a ≡ true →
+        Arrives (counts_lines sought) (case_of C.claims point.now) point.now.place.routine a (fact_in_code known.old)) }
+{
+    for at in addresses.iter() {
+        if let Some(landing) = misses_here(point, sought, at, known, rooms) {
+            return Some((at, landing));
+        }
+    }
+    None
+}
+
+/// The same of addresses that stand in a brief set.
+fn misses_at_brief<A: Allocator, C: Claims>(
+    point: &Point<'_, A, C>,
+    sought: Sought,
+    targets: &BriefSet,
+    known: &mut NextFact,
+    rooms: &mut LeftRooms,
+) -> Option<(Word, Landing)>
+    requires { IsPoint C.claims point.now }
+    ensures found { IfSome result (λ found. (found.0 < 4096) × (brief_words targets.now found.0 ≡ true) ×
+        MissesAs sought (case_of C.claims point.now) point.now.place.routine found.0 (fact_in_code known.old) found.1) }
+    ensures none { IfNone result ((a : ℕ) → a < 4096 → brief_words targets.now a ≡ true →
+        Arrives (counts_lines sought) (case_of C.claims point.now) point.now.place.routine a (fact_in_code known.old)) }
+{
+    let mut addresses = WordSet::empty();
+    targets.put(&mut addresses);
+    misses_at(point, sought, &addresses, known, rooms)
+}
+
+/// The first address at which an outcome goes on and does not land, and why.
+fn outcome_misses<A: Allocator, C: Claims>(
+    point: &Point<'_, A, C>,
+    sought: Sought,
+    outcome: &mut Outcome,
+    rooms: &mut LeftRooms,
+) -> Option<(Word, Landing)>
+    requires { IsPoint C.claims point.now }
+    ensures found { IfSome result (λ found. IsSought sought (is_landing_of_lines found.1) × SomeOutcome (OutcomeMisses (case_of C.claims point.now)
+        point.now.place.routine found.0 found.1) (outcome_in outcome.old)) }
+    ensures none { IfNone result
+        (EachSuccessor (OutcomeArrives (counts_lines sought) (case_of C.claims point.now) point.now.place.routine)
+        (outcome_in outcome.old)) }
+{
+    match &outcome.kind {
+        Kind::Nothing | Kind::Calls | Kind::Returns => None,
+        Kind::Goes => misses_at_brief(point, sought, &outcome.targets, &mut outcome.fact, rooms),
+    }
+}
+
+/// The same of the first two of some outcomes.
+fn first_two_miss<A: Allocator, C: Claims>(
+    point: &Point<'_, A, C>,
+    sought: Sought,
+    outcomes: &mut Outcomes,
+    rooms: &mut LeftRooms,
+) -> Option<(Word, Landing)>
+    requires { IsPoint C.claims point.now }
+    ensures found { IfSome result (λ found. IsSought sought (is_landing_of_lines found.1) × SomeOutcome (OutcomeMisses (case_of C.claims point.now)
+        point.now.place.routine found.0 found.1) (outcome_in outcomes.old.first ++ outcome_in outcomes.old.second)) }
+    ensures none { IfNone result
+        (EachSuccessor (OutcomeArrives (counts_lines sought) (case_of C.claims point.now) point.now.place.routine)
+        (outcome_in outcomes.old.first ++ outcome_in outcomes.old.second)) }
+    ensures kept { (outcomes.new.third ≡ outcomes.old.third) × (outcomes.new.fourth ≡ outcomes.old.fourth) }
+{
+    if let Some(found) = outcome_misses(point, sought, &mut outcomes.first, rooms) {
+        return Some(found);
+    }
+    outcome_misses(point, sought, &mut outcomes.second, rooms)
+}
+
+/// The same of all of some outcomes.
+fn some_miss<A: Allocator, C: Claims>(
+    point: &Point<'_, A, C>,
+    sought: Sought,
+    outcomes: &mut Outcomes,
+    rooms: &mut LeftRooms,
+) -> Option<(Word, Landing)>
+    requires { IsPoint C.claims point.now }
+    ensures found { IfSome result (λ found. IsSought sought (is_landing_of_lines found.1) × SomeOutcome (OutcomeMisses (case_of C.claims point.now)
+        point.now.place.routine found.0 found.1) (outcomes_in outcomes.old)) }
+    ensures none { IfNone result
+        (EachSuccessor (OutcomeArrives (counts_lines sought) (case_of C.claims point.now) point.now.place.routine)
+        (outcomes_in outcomes.old)) }
+{
+    if let Some(found) = first_two_miss(point, sought, outcomes, rooms) {
+        return Some(found);
+    }
+    if let Some(found) = outcome_misses(point, sought, &mut outcomes.third, rooms) {
+        return Some(found);
+    }
+    outcome_misses(point, sought, &mut outcomes.fourth, rooms)
+}
+
+/// Where a word goes on and does not land.
+pub(crate) fn goes_on<A: Allocator, C: Claims, M: Allocator>(
+    point: &Point<'_, A, C>,
+    sought: Sought,
+    word: Word,
+    rooms: &mut WordRooms<M>,
+) -> Option<Breach>
+    requires { IsPoint C.claims point.now }
+    ensures found { IfSome result (BreaksAs sought C.claims point.now V4 word) }
+    ensures none { IfNone result (KeepsHere (counts_lines sought) C.claims point.now V4 word) }
+{
+    let WordRooms { outcomes, left, .. } = rooms;
+    point
+        .place
+        .put_outcomes(point.fact, point.at, word, outcomes);
+    match some_miss(point, sought, outcomes, left) {
+        None => None,
+        Some(found) => Some(Breach::GoesOn(found.0, found.1)),
+    }
+}

@@ -1,0 +1,72 @@
+//! Room for facts that are made on the way to a reason. What stands in it does not matter: the same serves for one question after
+//! another.
+
+use domain::SumFact;
+use facts::{Fact, LandingRooms, LinkPart, NarrowedFact, NextFact, Outcomes};
+use std::alloc::{AllocError, Allocator};
+use std::boxed::Box;
+
+/// Room for finding out what of a fact is left where it lands.
+#[derive(Drop)]
+pub(crate) struct LeftRooms {
+    pub(crate) landing: LandingRooms,
+    pub(crate) part: LinkPart,
+    pub(crate) given: Fact,
+}
+
+/// Room for what comes of a word, and for finding out where it does not land. The latter has memory of its own, since no room of
+/// some megabytes may be made on the stack.
+#[derive(Drop)]
+pub(crate) struct WordRooms<A: Allocator> {
+    pub(crate) exit: Fact,
+    pub(crate) next: NextFact,
+    pub(crate) outcomes: Outcomes,
+    pub(crate) left: Box<LeftRooms, A>,
+}
+
+/// Room for finding out why a condition fails: for a fact as it is claimed, for the same fact as it is asked, and for what
+/// comes of it.
+#[derive(Drop)]
+pub struct WhyRooms<A: Allocator> {
+    pub(crate) claimed: Fact,
+    pub(crate) fact: NarrowedFact,
+    pub(crate) word: WordRooms<A>,
+}
+
+/// Room for finding out what of a fact is left, in memory that an allocator gives.
+#[inline(never)]
+fn boxed_left<A: Allocator>(alloc: A) -> Result<Box<LeftRooms, A>, AllocError> {
+    Ok(Box::new(
+        alloc,
+        LeftRooms {
+            landing: LandingRooms::new(),
+            part: LinkPart::new(),
+            given: SumFact::any(),
+        },
+    )?)
+}
+
+impl<A: Allocator + Copy> WhyRooms<A> {
+    /// Room that nothing stands in, in memory that an allocator gives.
+    ///
+    /// # Errors
+    ///
+    /// Memory was refused.
+    #[inline(never)]
+    pub fn boxed(alloc: A) -> Result<Box<WhyRooms<A>, A>, AllocError> {
+        let left = boxed_left(alloc)?;
+        Ok(Box::new(
+            alloc,
+            WhyRooms {
+                claimed: SumFact::any(),
+                fact: SumFact::any(),
+                word: WordRooms {
+                    exit: SumFact::any(),
+                    next: SumFact::any(),
+                    outcomes: Outcomes::new(),
+                    left,
+                },
+            },
+        )?)
+    }
+}

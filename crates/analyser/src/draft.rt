@@ -6,7 +6,7 @@ ghost use Rattle.certificate.specs.Sums.Certificate.{has_any};
 ghost use Rattle.certificate.specs.Sums.Kept.{claims};
 ghost use Rattle.analyser.specs.Attempts.{IsDraft, IsInSomeBody, StandsRight};
 
-use certificate::sums::Certificate;
+use certificate::Certificate;
 use declaration::Declaration;
 use std::alloc::Allocator;
 use word12::Word;

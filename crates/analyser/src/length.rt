@@ -2,7 +2,7 @@
 
 ghost use Rattle.std.specs.Prelude.{◌≡◌, false};
 
-use certificate::sums::Certificate;
+use certificate::Certificate;
 use std::alloc::Allocator;
 use streams::{ByteSink, Failed};
 

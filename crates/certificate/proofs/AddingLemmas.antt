@@ -1,7 +1,7 @@
 -- Lines that add to what is said of a fact, and the line of the fact itself.
 use Rattle.std.proofs.Common.{◌≡◌, ℕ, ◌+◌, ◌≤◌, List, [], ◌∷◌, length, get_or, refl, ap, ◌∙◌, arith}
 use Rattle.wordset.specs.Words.{between}
-use Rattle.certificate.specs.declared.packed.Run.{Run}
+use Rattle.certificate.specs.declared.runs.Run.{Run}
 use Rattle.certificate.specs.Packed.{set_of_runs}
 use Rattle.std.specs.Prelude.{◌<◌, ◌-◌, take, slice_range}
 use Rattle.std.proofs.lemmas.List.{drop_more}

@@ -6,7 +6,7 @@ use Rattle.std.proofs.lemmas.List.{take_all, take_more, drop_at}
 use Rattle.std.proofs.Math.Bool.{or-false, or_assoc}
 use Rattle.wordset.specs.Words.{Words, nothing, between, union, difference, all_words, IsFirstFrom, HasNoneFrom}
 use Rattle.wordset.specs.Lanes.{words}
-use Rattle.certificate.specs.declared.packed.Run.{Run}
+use Rattle.certificate.specs.declared.runs.Run.{Run}
 use Rattle.certificate.specs.Fields.{run_text}
 use Rattle.certificate.specs.Spelled.{IsLastOf}
 use Rattle.certificate.specs.Packed.{joined, set_of_runs, added, StandApart}

@@ -5,7 +5,7 @@ use Rattle.std.proofs.lemmas.Bool.{false≢true, eq-eqb, ne_eqb, cases_lt, cases
 use Rattle.word12.specs.Words.{octal_text}
 use Rattle.wordset.specs.Words.{Words}
 use Rattle.domain.specs.Facts.{Location, Ac, Cell}
-use Rattle.certificate.specs.declared.packed.Run.{Run}
+use Rattle.certificate.specs.declared.runs.Run.{Run}
 use Rattle.certificate.specs.Spelling.{digits, set_text, name_text, rank_text}
 use Rattle.certificate.specs.Fields.{run_text}
 use Rattle.certificate.specs.Parser.{NoFeed}

@@ -14,7 +14,7 @@ use Rattle.word12.specs.Words.{octal_text}
 use Rattle.word12.specs.Octal.{octal_value}
 use Rattle.wordset.specs.Words.{Words, nothing, between, some_below}
 use Rattle.domain.specs.Facts.{Location, Ac, Cell}
-use Rattle.certificate.specs.declared.packed.Run.{Run}
+use Rattle.certificate.specs.declared.runs.Run.{Run}
 use Rattle.certificate.specs.Spelling.{Registers, digits, set_text, offsets_text, name_text, rank_text}
 use Rattle.certificate.specs.Reading.{Each, EndsBefore, IsOfLinks}
 use Rattle.certificate.specs.Fields.{run_text}

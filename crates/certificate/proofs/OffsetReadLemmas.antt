@@ -9,7 +9,7 @@ use Rattle.domain.specs.Sums.Offsets.{offsets_in}
 use Rattle.domain.specs.declared.return_offsets.ReturnOffsets.{ReturnOffsets}
 use Rattle.certificate.specs.Reading.{EndsBefore}
 use Rattle.certificate.specs.Fields.{NoDash, EndsField}
-use Rattle.certificate.specs.declared.packed.Run.{Run}
+use Rattle.certificate.specs.declared.runs.Run.{Run}
 use Rattle.certificate.specs.Packed.{joined, StandApart}
 use Rattle.certificate.specs.Sums.Fields.{offset_run_text, offset_set_text, with_run}
 use Rattle.certificate.specs.Sums.Spelling.{offset_marks}

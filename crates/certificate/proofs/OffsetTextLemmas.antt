@@ -5,7 +5,7 @@ use Rattle.std.proofs.lemmas.Bool.{true≢false, eq-eqb, ne_eqb, cases_lt}
 use Rattle.std.proofs.Math.Bool.{and-false, or-true}
 use Rattle.wordset.specs.Words.{Words, nothing, some_below}
 use Rattle.wordset.proofs.Tests.{some_from, some_none_of}
-use Rattle.certificate.specs.declared.packed.Run.{Run}
+use Rattle.certificate.specs.declared.runs.Run.{Run}
 use Rattle.certificate.specs.Reading.{EndsBefore}
 use Rattle.certificate.specs.Spelling.{begins, ends, rank_text}
 use Rattle.certificate.specs.Packed.{joined, StandApart}

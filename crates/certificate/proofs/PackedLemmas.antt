@@ -9,9 +9,9 @@ use Rattle.wordset.specs.Words.{Words, SameWords, all_words, difference, nothing
 use Rattle.wordset.specs.Lanes.{words}
 use Rattle.wordset.proofs.SetLemmas.{words_are, equal_words, lt_to, all_past}
 use Rattle.wordset.proofs.RangeLemmas.{all_between}
-use Rattle.certificate.specs.declared.packed.Run.{Run}
-use Rattle.certificate.specs.declared.packed.Counts.{Counts}
-use Rattle.certificate.specs.declared.packed.PackedRegisters.{PackedRegisters}
+use Rattle.certificate.specs.declared.runs.Run.{Run}
+use Rattle.certificate.specs.declared.runs.Counts.{Counts}
+use Rattle.certificate.specs.declared.runs.PackedRegisters.{PackedRegisters}
 use Rattle.certificate.specs.Packed.{Begins, joined, set_of_runs, added, set_at, one_at, other_at, registers_at, AreWithin, AreLaid}
 
 -- A run more.

@@ -6,7 +6,7 @@ use Rattle.std.proofs.Math.Bool.{and-false, or-true}
 use Rattle.word12.specs.Words.{octal_text}
 use Rattle.wordset.specs.Words.{Words, SameWords, nothing, some_below, has_some}
 use Rattle.wordset.proofs.Tests.{some_from, some_none_of, none_of_some}
-use Rattle.certificate.specs.declared.packed.Run.{Run}
+use Rattle.certificate.specs.declared.runs.Run.{Run}
 use Rattle.certificate.specs.Spelling.{begins, ends, mark, marks, set_text}
 use Rattle.certificate.specs.Fields.{run_text}
 use Rattle.certificate.specs.Packed.{joined, set_of_runs, StandApart}

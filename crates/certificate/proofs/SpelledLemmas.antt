@@ -8,7 +8,7 @@ use Rattle.streams.specs.Bytes.{AppendsFront}
 use Rattle.wordset.specs.Words.{Words, all_words, difference, IsFirstFrom, HasNoneFrom}
 use Rattle.certificate.specs.Spelling.{marks, set_text, digits}
 use Rattle.certificate.specs.Fields.{run_text}
-use Rattle.certificate.specs.declared.packed.Run.{Run}
+use Rattle.certificate.specs.declared.runs.Run.{Run}
 use Rattle.certificate.specs.Packed.{set_of_runs, StandApart}
 use Rattle.certificate.specs.Spelled.{Adds, IsLastOf}
 use Rattle.certificate.proofs.SetLemmas.{text_of, text_all, some_runs}

@@ -11,8 +11,8 @@ use Rattle.domain.specs.Sums.Facts.{Fact}
 use Rattle.domain.specs.Sums.ChainsInCode.{step_of}
 use Rattle.domain.specs.Sums.FactInCode.{names_words}
 use Rattle.domain.specs.declared.chains.Step.{Step}
-use Rattle.certificate.specs.declared.packed.Run.{Run}
-use Rattle.certificate.specs.declared.packed.PackedRegisters.{PackedRegisters}
+use Rattle.certificate.specs.declared.runs.Run.{Run}
+use Rattle.certificate.specs.declared.runs.PackedRegisters.{PackedRegisters}
 use Rattle.wordset.specs.Links.{links_of}
 use Rattle.certificate.specs.Packed.{set_of_runs, added, set_at, registers_at}
 use Rattle.certificate.specs.Sums.Reading.{sets_of, fact_said}

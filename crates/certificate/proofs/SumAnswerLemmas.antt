@@ -6,8 +6,8 @@ use Rattle.std.specs.Str.{bytes_eq}
 use Rattle.std.proofs.lemmas.Bool.{cases_Bool}
 use Rattle.std.proofs.lemmas.List.Concat.{flat_map-append}
 use Rattle.std.proofs.Math.Seq.{take-append-add}
-use Rattle.certificate.specs.declared.sums.Version.{Version}
-use Rattle.certificate.specs.declared.sums.Version.TheVariants.{One, Two, Three}
+use Rattle.certificate.specs.declared.Version.{Version}
+use Rattle.certificate.specs.declared.Version.TheVariants.{One, Two, Three}
 use Rattle.certificate.specs.declared.CertificateFault.{CertificateFault}
 use Rattle.certificate.specs.declared.CertificateFault.TheVariants as faults
 use Rattle.certificate.specs.Spelling.{ended}

@@ -4,7 +4,7 @@ use Rattle.std.specs.List.{list_any, join_with_byte}
 use Rattle.std.proofs.lemmas.Bool.{true≢false, cases_lt, cases_Bool, lt-ltb}
 use Rattle.std.proofs.lemmas.List.Splits.{join_with_byte-slice_split}
 use Rattle.certificate.specs.Faults.{most_bytes, pieces}
-use Rattle.certificate.specs.declared.sums.Version.{Version}
+use Rattle.certificate.specs.declared.Version.{Version}
 use Rattle.certificate.specs.Sums.Lines.{Line, is_end}
 use Rattle.certificate.specs.Sums.Order.{oldest}
 use Rattle.certificate.specs.Sums.Reading.{Text, Start, After, at_last, answer_from, reading}

@@ -6,10 +6,10 @@ use Rattle.std.proofs.lemmas.Bool.{cases_Bool}
 use Rattle.std.proofs.lemmas.Bool.Decides.{nat_tests}
 use Rattle.std.proofs.lemmas.List.{drop_all}
 use Rattle.domain.specs.declared.chains.Step.{Step}
-use Rattle.certificate.specs.declared.packed.Run.{Run}
-use Rattle.certificate.specs.declared.sums.packed.PackedLine.{PackedLine}
-use Rattle.certificate.specs.declared.sums.packed.PackedLine.TheVariants as packed
-use Rattle.certificate.specs.declared.sums.packed.KeptLine.{KeptLine}
+use Rattle.certificate.specs.declared.runs.Run.{Run}
+use Rattle.certificate.specs.declared.packed.PackedLine.{PackedLine}
+use Rattle.certificate.specs.declared.packed.PackedLine.TheVariants as packed
+use Rattle.certificate.specs.declared.packed.KeptLine.{KeptLine}
 use Rattle.certificate.specs.Packed.{Begins}
 use Rattle.certificate.specs.Sums.Lines.{Line, is_detail}
 use Rattle.certificate.specs.Sums.Order.{place_of_head}

@@ -7,8 +7,8 @@ use Rattle.domain.specs.Sums.Terms.{Term, Holding, Behind, Summand, Sum}
 use Rattle.domain.specs.Sums.Shapes.{has_shape}
 use Rattle.domain.specs.Sums.Chains.{Step, Operates, Ands, Adds, Chain}
 use Rattle.domain.specs.Sums.Facts.{Relation}
-use Rattle.certificate.specs.declared.sums.Version.{Version}
-use Rattle.certificate.specs.declared.sums.Version.TheVariants.{One, Two, Three}
+use Rattle.certificate.specs.declared.Version.{Version}
+use Rattle.certificate.specs.declared.Version.TheVariants.{One, Two, Three}
 use Rattle.certificate.specs.Spelling.{Registers, begins, ends}
 use Rattle.certificate.specs.Parser.{NoFeed}
 use Rattle.certificate.specs.Sums.Lines.{Line, RoutineIs, FactIs, ExitIs, CellIs, SumIs, ChainIs, End}

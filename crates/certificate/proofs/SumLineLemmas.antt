@@ -17,9 +17,9 @@ use Rattle.domain.specs.Statements.{TrackedCell}
 use Rattle.domain.specs.Sums.Terms.{Term, Holding, Behind, Summand, Sum, difference_of}
 use Rattle.domain.specs.Sums.Chains.{Step, Operates, Ands, Adds, Chain}
 use Rattle.domain.specs.Sums.Facts.{Relation}
-use Rattle.certificate.specs.declared.sums.Version.{Version}
-use Rattle.certificate.specs.declared.sums.Version.TheVariants.{One, Two, Three}
-use Rattle.certificate.specs.declared.packed.Run.{Run}
+use Rattle.certificate.specs.declared.Version.{Version}
+use Rattle.certificate.specs.declared.Version.TheVariants.{One, Two, Three}
+use Rattle.certificate.specs.declared.runs.Run.{Run}
 use Rattle.certificate.specs.Spelling.{RoutineLine, Registers, digits, set_text, offsets_text, name_text, rank_text, routine_line, cell_line}
 use Rattle.certificate.specs.Reading.{Each, EndsBefore}
 use Rattle.certificate.specs.LineOf.{words_in, word_at, set_of, name_of}

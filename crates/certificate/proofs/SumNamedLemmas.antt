@@ -5,7 +5,7 @@ use Rattle.std.proofs.lemmas.Bool.{true≢false, false≢true, cases_Bool, cases
 use Rattle.std.proofs.lemmas.Bool.Decides.{eqb_tells}
 use Rattle.wordset.specs.Words.{some_below, HasNoneFrom, IsFirstFrom}
 use Rattle.wordset.proofs.Tests.{some_from, some_none_of}
-use Rattle.certificate.specs.declared.sums.Version.{Version}
+use Rattle.certificate.specs.declared.Version.{Version}
 use Rattle.certificate.specs.Reading.{Each}
 use Rattle.certificate.specs.Spelling.{RoutineLine}
 use Rattle.certificate.specs.Sums.Certificate.{has_any}

@@ -8,11 +8,11 @@ use Rattle.std.proofs.lemmas.Bool.{cases_lt}
 use Rattle.std.proofs.Math.Path.{fun_ext}
 use Rattle.wordset.specs.Words.{Words, nothing}
 use Rattle.domain.specs.declared.chains.Step.{Step}
-use Rattle.certificate.specs.declared.packed.Run.{Run}
-use Rattle.certificate.specs.declared.packed.PackedRegisters.{PackedRegisters}
-use Rattle.certificate.specs.declared.sums.packed.PackedLine.{PackedLine}
-use Rattle.certificate.specs.declared.sums.packed.PackedLine.TheVariants as packed
-use Rattle.certificate.specs.declared.sums.packed.KeptLine.{KeptLine}
+use Rattle.certificate.specs.declared.runs.Run.{Run}
+use Rattle.certificate.specs.declared.runs.PackedRegisters.{PackedRegisters}
+use Rattle.certificate.specs.declared.packed.PackedLine.{PackedLine}
+use Rattle.certificate.specs.declared.packed.PackedLine.TheVariants as packed
+use Rattle.certificate.specs.declared.packed.KeptLine.{KeptLine}
 use Rattle.certificate.specs.Spelling.{Registers}
 use Rattle.certificate.specs.Packed.{Begins, set_of_runs, added, set_at, registers_at, AreWithin}
 use Rattle.certificate.specs.Sums.Lines.{Line, is_chain}

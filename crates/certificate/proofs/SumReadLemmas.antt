@@ -11,9 +11,9 @@ use Rattle.domain.specs.Sums.Terms.{Sum, difference_of, arranged, same_sum}
 use Rattle.domain.specs.Sums.Shapes.{has_shape}
 use Rattle.domain.specs.Sums.Chains.{Chain, Step, Operates, Ands, Adds}
 use Rattle.domain.specs.Sums.Facts.{Relation}
-use Rattle.certificate.specs.declared.sums.Version.{Version}
-use Rattle.certificate.specs.declared.sums.Version.TheVariants.{One, Two, Three}
-use Rattle.certificate.specs.declared.packed.Run.{Run}
+use Rattle.certificate.specs.declared.Version.{Version}
+use Rattle.certificate.specs.declared.Version.TheVariants.{One, Two, Three}
+use Rattle.certificate.specs.declared.runs.Run.{Run}
 use Rattle.certificate.specs.Spelling.{Registers, set_text, name_text, digits}
 use Rattle.certificate.specs.Reading.{EndsBefore, IsOfLinks, place_of_name}
 use Rattle.certificate.specs.Fields.{EndsField}
@@ -26,7 +26,7 @@ use Rattle.std.specs.List.{list_all}
 use Rattle.wordset.proofs.Tests.{some_from, some_none_of}
 use Rattle.certificate.specs.Sums.Line.{Spells}
 use Rattle.certificate.specs.Sums.Laws.{SitesFit, MqFits, RegistersFit, IsEquation, RelationFits}
-use Rattle.certificate.specs.declared.packed.PackedRegisters.{PackedRegisters}
+use Rattle.certificate.specs.declared.runs.PackedRegisters.{PackedRegisters}
 use Rattle.certificate.proofs.PackedLemmas.{runs_past}
 use Rattle.certificate.proofs.SumPackedLemmas.{AreSited}
 use Rattle.certificate.proofs.DigitLemmas.{at_some}

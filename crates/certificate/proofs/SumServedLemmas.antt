@@ -10,8 +10,8 @@ use Rattle.std.proofs.Math.Seq.{take-append-add}
 use Rattle.streams.specs.Bytes.{Gave}
 use Rattle.certificate.specs.declared.CertificateFault.{CertificateFault}
 use Rattle.certificate.specs.declared.CertificateFault.TheVariants as faults
-use Rattle.certificate.specs.declared.sums.progress.Progress.{Progress}
-use Rattle.certificate.specs.declared.sums.parser.Parser.{Parser}
+use Rattle.certificate.specs.declared.progress.Progress.{Progress}
+use Rattle.certificate.specs.declared.parser.Parser.{Parser}
 use Rattle.certificate.specs.Spelling.{ended}
 use Rattle.certificate.specs.Faults.{most_bytes}
 use Rattle.certificate.specs.Serving.{is_read_fault, failed_to_read}

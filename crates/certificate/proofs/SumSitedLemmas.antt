@@ -9,8 +9,8 @@ use Rattle.wordset.specs.Words.{Words, nothing, one, has_some, some_below}
 use Rattle.wordset.proofs.Tests.{IsSome, some_from, some_to, some_none_of, and_both, and_first, and_second, both_ways}
 use Rattle.declaration.specs.Declaration.{Declaration, Routine}
 use Rattle.domain.specs.Sums.Facts.{Relation}
-use Rattle.certificate.specs.declared.sums.Version.{Version}
-use Rattle.certificate.specs.declared.sums.Version.TheVariants.{One, Two, Three}
+use Rattle.certificate.specs.declared.Version.{Version}
+use Rattle.certificate.specs.declared.Version.TheVariants.{One, Two, Three}
 use Rattle.certificate.specs.Spelling.{RoutineLine, Registers}
 use Rattle.certificate.specs.Reading.{Each, EndsBefore}
 use Rattle.certificate.specs.Sums.Lines.{Line, RoutineIs, FactIs, ExitIs, CellIs, SumIs, ChainIs, End, is_end, is_detail, has_details, is_routine, is_cell, is_sum, is_chain, is_of_sums}
@@ -22,10 +22,10 @@ use Rattle.certificate.specs.Sums.Reading.{routine_at, is_listed, sites_in}
 use Rattle.certificate.specs.Sums.Found.{IsLine, AreInOrder, newest_first, IsWhole}
 use Rattle.certificate.specs.Sums.Packed.{Packed, said_lines, said_at, sited_line, IsNumbered}
 use Rattle.certificate.specs.Sums.Made.{sites_by, sited_by}
-use Rattle.certificate.specs.declared.packed.Run.{Run}
+use Rattle.certificate.specs.declared.runs.Run.{Run}
 use Rattle.domain.specs.declared.chains.Step.{Step}
-use Rattle.certificate.specs.declared.sums.packed.PackedLine.{PackedLine}
-use Rattle.certificate.specs.declared.sums.packed.PackedLine.TheVariants as packed
+use Rattle.certificate.specs.declared.packed.PackedLine.{PackedLine}
+use Rattle.certificate.specs.declared.packed.PackedLine.TheVariants as packed
 use Rattle.certificate.specs.Sums.Kept.{Kept, claims}
 use Rattle.certificate.proofs.SumMadeLemmas.{mq_one}
 use Rattle.certificate.proofs.SumWholeLemmas.{whole}

@@ -5,7 +5,7 @@ use Rattle.std.specs.List.{list_all}
 use Rattle.std.proofs.lemmas.Bool.{true≢false, false≢true, cases_Bool, cases_lt, and_parts, leb-true}
 use Rattle.std.proofs.lemmas.List.{drop_all}
 use Rattle.domain.specs.Sums.Facts.{Fact}
-use Rattle.certificate.specs.declared.sums.Version.{Version}
+use Rattle.certificate.specs.declared.Version.{Version}
 use Rattle.certificate.specs.Reading.{Each}
 use Rattle.certificate.specs.Sums.Lines.{Line, RoutineIs, FactIs, ExitIs, CellIs, SumIs, ChainIs, End, is_detail, has_details}
 use Rattle.certificate.specs.Sums.LineOf.{is_relation, is_step}

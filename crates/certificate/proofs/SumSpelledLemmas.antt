@@ -12,7 +12,7 @@ use Rattle.domain.specs.declared.chains.Step.{Step}
 use Rattle.std.specs.Io.KnownBytes.{Appends}
 use Rattle.streams.specs.Bytes.{AppendsFront}
 use Rattle.streams.proofs.BytesLemmas.{front_after}
-use Rattle.certificate.specs.declared.sums.Version.{Version}
+use Rattle.certificate.specs.declared.Version.{Version}
 use Rattle.certificate.specs.Reading.{Each}
 use Rattle.certificate.specs.Spelling.{begins, ends, digits, offsets_text, ended}
 use Rattle.certificate.specs.Sums.Lines.{Line}

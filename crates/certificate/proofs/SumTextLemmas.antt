@@ -8,8 +8,8 @@ use Rattle.std.proofs.lemmas.List.{take_all}
 use Rattle.std.proofs.lemmas.List.Concat.{flat_map-append}
 use Rattle.std.proofs.lemmas.List.Splits.{length-slice_split, join_with_byte-slice_split}
 use Rattle.std.proofs.lemmas.Slice.Eq.{bytes_eq-Decides}
-use Rattle.certificate.specs.declared.sums.Version.{Version}
-use Rattle.certificate.specs.declared.sums.Version.TheVariants.{One, Two, Three}
+use Rattle.certificate.specs.declared.Version.{Version}
+use Rattle.certificate.specs.declared.Version.TheVariants.{One, Two, Three}
 use Rattle.certificate.specs.declared.CertificateFault.{CertificateFault}
 use Rattle.certificate.specs.declared.CertificateFault.TheVariants as faults
 use Rattle.certificate.specs.Spelling.{ended}

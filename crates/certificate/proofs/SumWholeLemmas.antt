@@ -3,7 +3,7 @@ use Rattle.std.proofs.Common.{◌≡◌, ℕ, ◌+◌, ◌<◌, ◌≤◌, ◌==
 use Rattle.std.specs.Prelude.{nat_lt}
 use Rattle.std.specs.List.{list_any}
 use Rattle.std.proofs.lemmas.Bool.{false≢true, cases_Bool, ltb-true, eqb-true}
-use Rattle.certificate.specs.declared.sums.Version.{Version}
+use Rattle.certificate.specs.declared.Version.{Version}
 use Rattle.certificate.specs.Sums.Lines.{Line, End, is_end, is_detail}
 use Rattle.certificate.specs.Sums.Order.{heads, may_be_level, follows_newest, place_of_head}
 use Rattle.certificate.specs.Sums.Packed.{Packed, said_lines}

@@ -4,7 +4,7 @@ use Rattle.std.specs.Prelude.{nat_le, nat_lt}
 use Rattle.std.proofs.lemmas.Bool.{true≢false, false≢true, cases_Bool, and_parts, not-true, ltb-true, eq-eqb, eqb-true}
 use Rattle.std.proofs.lemmas.Bool.Decides.{nat_tests}
 use Rattle.std.proofs.lemmas.List.{drop_all, length-drop, get_or_past}
-use Rattle.certificate.specs.declared.sums.Version.{Version}
+use Rattle.certificate.specs.declared.Version.{Version}
 use Rattle.certificate.specs.Sums.Lines.{Line, RoutineIs, FactIs, ExitIs, CellIs, SumIs, ChainIs, End, is_detail}
 use Rattle.certificate.specs.Sums.Order.{place_of_head, details_of_last}
 use Rattle.certificate.specs.Sums.Reading.{facts_at}

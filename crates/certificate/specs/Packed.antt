@@ -2,10 +2,10 @@
 use Rattle.std.specs.Prelude.{◌≡◌, ℕ, ◌+◌, ◌<◌, ◌≤◌, List, [], ◌∷◌, ◌++◌, length, drop, slice_range}
 use Rattle.wordset.specs.Words.{Words, all_words, nothing, between, union, meet}
 use Rattle.wordset.specs.Links.{links_of}
-use Rattle.certificate.specs.declared.packed.Run.{Run}
-use Rattle.certificate.specs.declared.packed.Counts.{Counts}
-use Rattle.certificate.specs.declared.packed.PackedRoutine.{PackedRoutine}
-use Rattle.certificate.specs.declared.packed.PackedRegisters.{PackedRegisters}
+use Rattle.certificate.specs.declared.runs.Run.{Run}
+use Rattle.certificate.specs.declared.runs.Counts.{Counts}
+use Rattle.certificate.specs.declared.runs.PackedRoutine.{PackedRoutine}
+use Rattle.certificate.specs.declared.runs.PackedRegisters.{PackedRegisters}
 use Rattle.certificate.specs.Spelling.{RoutineLine, Registers}
 
 -- The list begins with another.

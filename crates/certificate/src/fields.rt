@@ -13,7 +13,7 @@ ghost use Rattle.certificate.specs.Reading.{place_of_name, EndsBefore};
 ghost use Rattle.certificate.specs.Packed.{Begins, added};
 ghost use Rattle.certificate.specs.Fields.{left, WasFirst, run_text, NoDash, EndsField};
 
-use crate::packed::{Run, Runs};
+use crate::runs::{Run, Runs};
 use domain::{Location, ReturnOffsets};
 use word12::Word;
 use wordset::Links;

@@ -4,7 +4,7 @@ use Rattle.std.proofs.lemmas.Bool.{le-ltb, lt-ltb, ne_eqb}
 use Rattle.wordset.specs.Words.{Words, nothing, all_words, all_links, one, some_below}
 use Rattle.wordset.proofs.LinkLemmas.{two_are}
 use Rattle.wordset.proofs.SetLemmas.{all_past}
-use Rattle.certificate.specs.declared.sums.Version.TheVariants.{One}
+use Rattle.certificate.specs.declared.Version.TheVariants.{One}
 use Rattle.certificate.specs.Faults.{most_bytes}
 use Rattle.certificate.specs.Spelling.{marks, digits}
 use Rattle.certificate.specs.Reading.{EndsBefore}

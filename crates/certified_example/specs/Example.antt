@@ -5,7 +5,7 @@ use Rattle.wordset.specs.Words.{Words, nothing, all_words, all_links, one}
 use Rattle.processor.specs.Runs.{Image}
 use Rattle.declaration.specs.Declaration.{Routine, Declaration}
 use Rattle.certificate.specs.Spelling.{Registers}
-use Rattle.certificate.specs.declared.sums.Version.TheVariants.{One}
+use Rattle.certificate.specs.declared.Version.TheVariants.{One}
 use Rattle.certificate.specs.Sums.Certificate.{Certificate}
 use Rattle.certificate.specs.Sums.Lines.{Line, RoutineIs, FactIs, ExitIs, CellIs, End}
 use Rattle.certificate.specs.Sums.Reading.{Text, certificate_of}

@@ -6,8 +6,8 @@ use Rattle.peripherals.specs.Loading.{image_of}
 use Rattle.declaration.specs.Declaration.{Declaration}
 use Rattle.declaration.proofs.AnswerLemmas.{one_declaration}
 use Rattle.domain.specs.Sums.Facts.{Rules}
-use Rattle.certificate.specs.declared.sums.Version.{Version}
-use Rattle.certificate.specs.declared.sums.Version.TheVariants.{One, Two, Three}
+use Rattle.certificate.specs.declared.Version.{Version}
+use Rattle.certificate.specs.declared.Version.TheVariants.{One, Two, Three}
 use Rattle.certificate.specs.Faults.{most_bytes}
 use Rattle.certificate.specs.Sums.Certificate.{Certificate}
 use Rattle.certificate.specs.Sums.Exact.{AreLines}

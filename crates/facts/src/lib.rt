@@ -6,17 +6,46 @@ ghost use Rattle.facts.specs.Sums.Laws.{EntailedFactsHold, IdleNeverHolds, Joine
 ghost use Rattle.facts.specs.Sums.Shaped.{NarrowingKeepsShape};
 ghost use Rattle.facts.specs.Sums.Starts.{StartFactHolds, StartsAreExact, StartsLand};
 
-pub mod sum_facts;
+mod additions;
+mod asked;
+mod carrying;
+mod conditions;
+mod dispatch;
+mod entailment;
+mod instructions;
+mod known;
+mod landing;
+mod memory;
+mod operations;
+mod outcomes;
+mod parts;
+mod place;
+mod references;
+mod registers;
+mod rooms;
+mod sets;
+mod skipping;
+mod source;
+mod start_fact;
+mod starts;
+mod stores;
 
 pub use domain::{
     BriefSet, CellSet, CellSets, Chain, Location, Relation, Relations, ReturnOffsets, Rules, Step,
     Sum, SumFact, Summand, Term,
 };
-pub use sum_facts::{
-    Allowed, ChosenFact, Fact, FactSource, Kind, KnownFact, LandingRooms, LinkPart, MetFact,
-    NarrowedFact, NextFact, Outcome, Outcomes, Part, PartFact, Place, StartFact, StartPart,
-    SteppedFact, TestedFact, cells_told, start_part,
+pub use entailment::Allowed;
+pub use known::KnownFact;
+pub use landing::{LandingRooms, cells_told};
+pub use outcomes::{Kind, Outcome, Outcomes};
+pub use parts::{LinkPart, Part};
+pub use place::Place;
+pub use rooms::{
+    ChosenFact, Fact, MetFact, NarrowedFact, NextFact, PartFact, SteppedFact, TestedFact,
 };
+pub use source::FactSource;
+pub use start_fact::StartFact;
+pub use starts::{StartPart, start_part};
 
 /// The conditions that a certificate must meet.
 #[derive(Clone, Copy, PartialEq, Eq, Debug)]

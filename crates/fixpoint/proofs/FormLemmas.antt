@@ -13,7 +13,7 @@ use Rattle.domain.specs.Facts.{Location, Ac, Cell}
 use Rattle.domain.specs.Statements.{TrackedCell}
 use Rattle.domain.specs.Sums.Terms.{Term, Holding, name_of_term}
 use Rattle.domain.specs.Sums.Facts.{Relation}
-use Rattle.certificate.specs.declared.sums.Version.TheVariants.{One, Two}
+use Rattle.certificate.specs.declared.Version.TheVariants.{One, Two}
 use Rattle.certificate.specs.Reading.{EndsBefore}
 use Rattle.certificate.specs.Sums.LineOf.{is_relation}
 use Rattle.certificate.proofs.SumReadLemmas.{difference_formed}

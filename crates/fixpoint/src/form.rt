@@ -15,7 +15,7 @@ ghost use Rattle.fixpoint.specs.Form.{IsAfter, IsCellLine, sum_if, IsName, IsBeh
 
 use crate::invariant::{CellInvariant, Invariant, MOST_CELLS, MOST_RELATIONS};
 use crate::sums::{is_before, is_left_of};
-use certificate::sums::Version;
+use certificate::Version;
 use domain::{BriefSet, Location, Relation, ReturnOffsets, Sum, Term};
 use std::alloc::Allocator;
 use wordset::WordSet;

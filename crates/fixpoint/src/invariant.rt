@@ -13,7 +13,7 @@ use crate::known::{Known, brief, has_word};
 use crate::sums::{first_behind, is_short, speaks_only_of, touches};
 use crate::widening::Limits;
 use domain::{CellSet, Location, Relation, ReturnOffsets, Sum, Term, product};
-use facts::sum_facts::{Fact, KnownFact};
+use facts::{Fact, KnownFact};
 use std::alloc::Allocator;
 use word12::Word;
 use wordset::{Links, WordSet};

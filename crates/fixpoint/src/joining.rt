@@ -6,7 +6,7 @@ use crate::known::{Known, brief};
 use crate::sums::{difference, is_left_of};
 use crate::widening::{Limits, Pace, widened};
 use domain::{Location, Relation, ReturnOffsets};
-use facts::sum_facts::KnownFact;
+use facts::KnownFact;
 use std::alloc::Allocator;
 use word12::Word;
 use wordset::WordSet;

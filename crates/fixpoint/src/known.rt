@@ -9,7 +9,7 @@ use domain::{
     BriefSet, Location, Relation, ReturnOffsets, Rules, Sum, Term, is_same_location, negated,
     product,
 };
-use facts::sum_facts::KnownFact;
+use facts::KnownFact;
 use word12::Word;
 use wordset::{Links, WordSet};
 

@@ -8,7 +8,7 @@ use crate::widening::Limits;
 use bin_tape::Image;
 use declaration::{Declaration, Owner};
 use domain::Rules;
-use facts::sum_facts::{Fact, Outcomes, Place};
+use facts::{Fact, Outcomes, Place};
 use instruct::{Instruction, decode, halts, refers_indirectly, target};
 use std::alloc::Allocator;
 use word12::Word;

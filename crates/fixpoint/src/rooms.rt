@@ -2,7 +2,7 @@
 
 use crate::halt::Halt;
 use domain::{Rules, SumFact};
-use facts::sum_facts::{Fact, Outcomes};
+use facts::{Fact, Outcomes};
 use std::alloc::Allocator;
 use wordset::WordSet;
 

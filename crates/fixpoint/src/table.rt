@@ -9,7 +9,7 @@ use crate::invariant::Invariant;
 use crate::known::Known;
 use crate::widening::{Limits, Pace};
 use certificate::RoutineClaim;
-use facts::sum_facts::{Fact, KnownFact};
+use facts::{Fact, KnownFact};
 use std::alloc::Allocator;
 use std::collections::BTreeMap;
 use word12::Word;

@@ -3,16 +3,29 @@
 
 ghost use Rattle.judge.specs.Sums.Headline.{ProgramsAreSafe, UnlistedReadsAreFree};
 
+mod body;
+mod calls;
+mod case;
+mod claims;
 mod judging;
+mod landing;
 pub mod laws;
-pub mod several;
+mod point;
+mod sited;
+mod sources;
 mod verdict;
+mod words;
 
+pub use body::Body;
+pub use case::{Case, Rooms, put_asked};
 pub use certificate::RoutineClaim;
+pub use claims::Claims;
 pub use facts::Condition;
-pub use judging::Refusal;
-pub use several::{Certified, Claims, Rooms, certify, judge};
-pub use verdict::CertifyFault;
+pub use judging::{Refusal, judge};
+pub use point::{Others, Point, place_of};
+pub use sited::put_sites;
+pub use sources::{ExitsFor, FactsAt};
+pub use verdict::{Certified, CertifyFault, certify};
 
 /// The headline. Whenever `certify` answers yes for a tape, a declaration and a certificate, then in
 /// every run from the declared start, whatever unset memory holds and however keys, tape frames,

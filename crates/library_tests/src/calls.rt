@@ -6,12 +6,12 @@ use crate::fixtures::{
 };
 use analyser::{GuessFault, Turns, guess_within};
 use bin_tape::Image;
-use certificate::sums::{Certificate, Version};
+use certificate::{Certificate, Version};
 use declaration::Declaration;
 use domain::{Chain, Location, ReturnOffsets, Rules, Step, Sum, Summand, Term};
-use facts::sum_facts::{Fact, NextFact, Place};
+use facts::{Fact, NextFact, Place};
 use instruct::Profile;
-use judge::several::{Claims, certify};
+use judge::{Claims, certify};
 use pal_asm::{assemble, translate};
 use pal_text::statements;
 use peripherals::Start;

@@ -2,8 +2,7 @@
 
 use crate::fixtures::{HELLO_CERTIFICATE, HELLO_TAPE, HELLO_WORDS, SEVERAL, image};
 use bin_tape::{ByteSource, Failed, TapeFault, read_from, read_tape};
-use certificate::CertificateFault;
-use certificate::sums::Certificate;
+use certificate::{Certificate, CertificateFault};
 use std::alloc::Global;
 use testing::memory::MemorySource;
 

@@ -6,12 +6,10 @@ use crate::fixtures::{
     rounds, word,
 };
 use analyser::{GuessFault, guess};
-use certificate::CertificateFault;
-use certificate::sums::Certificate;
+use certificate::{Certificate, CertificateFault};
 use declaration::{Declaration, DeclarationFault};
 use instruct::Profile;
-use judge::CertifyFault;
-use judge::several::certify;
+use judge::{CertifyFault, certify};
 use pal_asm::{AssembleFault, assemble};
 use pal_text::{TextFault, statements};
 use peripherals::{EventsFault, Start, events};

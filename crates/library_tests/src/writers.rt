@@ -3,8 +3,7 @@
 
 use crate::fixtures::{HELLO, HELLO_CERTIFICATE, HELLO_WORDS, image};
 use bin_tape::{ByteSink, Failed, WriteTapeFault, write_tape};
-use certificate::WriteFault;
-use certificate::sums::Certificate;
+use certificate::{Certificate, WriteFault};
 use instruct::Profile;
 use pal_asm::assemble;
 use std::test::Fail;

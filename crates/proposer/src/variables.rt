@@ -12,10 +12,10 @@ ghost use Rattle.proposer.specs.Touched.{IsTouched, IsTouchedAt, IsTouchedBy, Is
 ghost use Rattle.proposer.specs.declared.variables.Access.TheVariants.{Read};
 
 use bin_tape::Image;
-use certificate::sums::Certificate;
+use certificate::Certificate;
 use declaration::Declaration;
-use facts::sum_facts::{Fact, NarrowedFact, Place};
-use judge::several::{Body, Case, Claims, place_of, put_asked, put_sites};
+use facts::{Fact, NarrowedFact, Place};
+use judge::{Body, Case, Claims, place_of, put_asked, put_sites};
 use std::alloc::Allocator;
 use word12::Word;
 use wordset::WordSet;

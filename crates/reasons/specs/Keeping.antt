@@ -21,8 +21,8 @@ use Rattle.judge.specs.Sums.Asked.{asked_of}
 use Rattle.judge.specs.Sums.Conditions.{CoversCallee, EachFact}
 use Rattle.judge.specs.Sums.Landing.{Case, place_in, exits_of, sites_of, called_from, LandsAt, LandsAtExit, EachSuccessor}
 use Rattle.judge.specs.Sums.Points.{case_of, fact_asked}
-use Rattle.judge.specs.declared.several.body.Body.{Body}
-use Rattle.judge.specs.declared.several.point.Point.{Point}
+use Rattle.judge.specs.declared.body.Body.{Body}
+use Rattle.judge.specs.declared.point.Point.{Point}
 
 -- The fact lands at the address of the routine's body. Where lines do not count the address is in the body, or nothing is asked of
 -- the fact.

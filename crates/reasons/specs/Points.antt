@@ -7,7 +7,7 @@ use Rattle.declaration.specs.Declaration.{Routine}
 use Rattle.domain.specs.Sums.Facts.{Fact}
 use Rattle.judge.specs.Sums.Landing.{Case}
 use Rattle.judge.specs.Sums.Points.{case_of, fact_asked}
-use Rattle.judge.specs.declared.several.point.Point.{Point}
+use Rattle.judge.specs.declared.point.Point.{Point}
 use Rattle.reasons.specs.Breaches.{Breaks, CallBreaks, ReturnBreaks, condition_of, condition_of_call}
 use Rattle.reasons.specs.Landing.{Misses}
 use Rattle.reasons.specs.Reasons.{IsWrongWord}

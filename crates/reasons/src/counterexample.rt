@@ -21,7 +21,7 @@ ghost use Rattle.facts.specs.Sums.PlaceInCode.{place_in_code};
 ghost use Rattle.reasons.specs.Gaps.{IsBesideChain, IsBeyond, IsCounterexample, IsLinkBeyond, IsSumBeyond};
 
 use domain::{BriefSet, CellSet, Chain, Location, Relation, ReturnOffsets, Rules, Sum};
-use facts::sum_facts::{Allowed, Fact, KnownFact, Place};
+use facts::{Allowed, Fact, KnownFact, Place};
 use std::alloc::Allocator;
 use word12::{Link, Word};
 use wordset::{Links, WordSet};

@@ -15,8 +15,8 @@ ghost use Rattle.reasons.specs.Reasons.{IsMisplaced};
 use crate::reason::Reason;
 use declaration::Owner;
 use domain::{ReturnOffsets, Rules};
-use facts::sum_facts::Fact;
-use judge::several::{Case, Claims};
+use facts::Fact;
+use judge::{Case, Claims};
 use std::alloc::Allocator;
 use word12::Word;
 

@@ -12,7 +12,7 @@ use crate::breach::{Breach, Landing, ReturnBreach};
 use crate::landing::what_is_left;
 use crate::rooms::{LeftRooms, WordRooms};
 use crate::sought::Sought;
-use judge::several::{Claims, ExitsFor, Point};
+use judge::{Claims, ExitsFor, Point};
 use std::alloc::Allocator;
 use word12::Word;
 

@@ -2,7 +2,7 @@
 //! another.
 
 use domain::SumFact;
-use facts::sum_facts::{Fact, LandingRooms, LinkPart, NarrowedFact, NextFact, Outcomes};
+use facts::{Fact, LandingRooms, LinkPart, NarrowedFact, NextFact, Outcomes};
 use std::alloc::{AllocError, Allocator};
 use std::boxed::Box;
 

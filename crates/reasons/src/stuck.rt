@@ -11,8 +11,7 @@ use crate::sought::Sought;
 use bin_tape::Image;
 use declaration::Declaration;
 use facts::Condition;
-use judge::Refusal;
-use judge::several::{Case, Claims};
+use judge::{Case, Claims, Refusal};
 use std::alloc::Allocator;
 use word12::Word;
 

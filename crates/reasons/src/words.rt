@@ -18,7 +18,7 @@ use crate::returns::returns_wrongly;
 use crate::rooms::WordRooms;
 use crate::sought::Sought;
 use facts::Condition;
-use judge::several::{Claims, Point};
+use judge::{Claims, Point};
 use std::alloc::Allocator;
 use word12::Word;
 use wordset::WordSet;

@@ -4,7 +4,7 @@ use crate::known_fact::KnownFact;
 use crate::report::{Kind, Report};
 use crate::writer::ReportWriter;
 use declaration::Declaration;
-use facts::sum_facts::{NarrowedFact, Place};
+use facts::{NarrowedFact, Place};
 use instruct::{Instruction, Operation, decode, refers_indirectly, target};
 use std::alloc::Allocator;
 use word12::Word;

@@ -5,7 +5,7 @@ ghost use Rattle.certificate.specs.Sums.Kept.{claims};
 
 use crate::known_fact::KnownFact;
 use bin_tape::Image;
-use certificate::sums::Certificate;
+use certificate::Certificate;
 use domain::{Location, ReturnOffsets};
 use std::alloc::Allocator;
 use word12::Word;

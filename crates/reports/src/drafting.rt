@@ -16,7 +16,7 @@ use crate::reporting::below_lines;
 use crate::{Finding, Report, ReportForm, SourceNotes, head_of, stuck_opening};
 use analyser::{Attempt, guess_or_draft};
 use bin_tape::Image;
-use certificate::sums::Certificate;
+use certificate::Certificate;
 use command_parts::programs::program_from;
 use command_parts::status::{Fault, Status};
 use command_parts::text::push_place;

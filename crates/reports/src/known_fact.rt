@@ -6,10 +6,10 @@ ghost use Rattle.certificate.specs.Sums.Kept.{claims};
 ghost use Rattle.judge.specs.Sums.Shapes.{HasShape};
 
 use bin_tape::Image;
-use certificate::sums::Certificate;
+use certificate::Certificate;
 use domain::{Chain, Location, Relation, Rules};
-use facts::sum_facts::{Fact, NarrowedFact};
-use judge::several::{Claims, put_asked, put_sites};
+use facts::{Fact, NarrowedFact};
+use judge::{Claims, put_asked, put_sites};
 use std::alloc::Allocator;
 use word12::Word;
 use wordset::WordSet;

@@ -11,11 +11,10 @@ use crate::report::{Finding, Kind, Report, before, claimed_of, routine_of, uncla
 use crate::routines::{write_exits, write_routine};
 use crate::source_notes::SourceNote;
 use crate::writer::ReportWriter;
-use certificate::RoutineClaim;
-use certificate::sums::Certificate;
+use certificate::{Certificate, RoutineClaim};
 use domain::Rules;
 use instruct::{Instruction, decode, name, refers_indirectly, target};
-use judge::several::Claims;
+use judge::Claims;
 use std::alloc::{AllocError, Allocator};
 use word12::Word;
 use wordset::WordSet;

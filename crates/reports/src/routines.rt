@@ -6,7 +6,7 @@ use crate::report::{Report, claimed_of};
 use crate::writer::ReportWriter;
 use certificate::RoutineClaim as Claimed;
 use declaration::Routine;
-use judge::several::Claims;
+use judge::Claims;
 use std::alloc::Allocator;
 use word12::Word;
 use wordset::WordSet;

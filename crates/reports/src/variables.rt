@@ -3,11 +3,10 @@
 use crate::known_fact::KnownFact;
 use crate::report::{claimed_of, unclaimed};
 use bin_tape::Image;
-use certificate::RoutineClaim;
-use certificate::sums::Certificate;
+use certificate::{Certificate, RoutineClaim};
 use declaration::{Declaration, Owner};
 use domain::Location;
-use judge::several::Claims;
+use judge::Claims;
 use std::alloc::{AllocError, Allocator};
 use word12::Word;
 use wordset::WordSet;

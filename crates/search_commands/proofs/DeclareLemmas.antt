@@ -2,7 +2,7 @@
 use Rattle.std.proofs.Common.{ℕ, ◌≡◌, Bool, true, false, List, Option, None, refl, sym, ap, inl, inr}
 use Rattle.std.proofs.lemmas.Bool.{true≢false}
 use Rattle.declaration.specs.Kept.{meaning}
-use Rattle.certificate.specs.declared.sums.Certificate.{Certificate}
+use Rattle.certificate.specs.declared.Certificate.{Certificate}
 use Rattle.certificate.specs.Sums.Kept as certified
 use Rattle.proposer.specs.Proposals.{AreNeeded, Fits, IsListed, IsShown}
 use Rattle.proposer.specs.declared.Proposal.{Proposal}

@@ -14,7 +14,7 @@ use command_parts::outcome::{Outcome, deliver};
 use command_parts::status::{Fault, Status};
 use diagnostics::verdicts::certificates::{Certified, certified_from};
 use diagnostics::verdicts::verdict::{verdict_line, verdict_status};
-use judge::several::{Rooms, judge};
+use judge::{Rooms, judge};
 use std::alloc::Allocator;
 use streams::{ByteSink, ByteSource};
 

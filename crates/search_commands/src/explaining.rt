@@ -15,7 +15,7 @@ use command_parts::status::{Fault, Status};
 use diagnostics::verdicts::certificates::{Certified, certified_from};
 use diagnostics::verdicts::explanation::push_explanation;
 use diagnostics::verdicts::verdict::verdict_status;
-use judge::several::{Rooms, judge};
+use judge::{Rooms, judge};
 use std::alloc::Allocator;
 use streams::{ByteSink, ByteSource};
 

@@ -17,7 +17,7 @@ use crate::verifying::{Answer, Lack, MOST_TURNS, Proposed, RefuteOptions, Verify
 use crate::widening::{Settled, settle, with_reason};
 use analyser::{Attempt, GuessFault, guess, guess_or_draft};
 use bin_tape::Image;
-use certificate::sums::Certificate;
+use certificate::Certificate;
 use command_parts::message::Message;
 use command_parts::status::Fault;
 use command_parts::text::push_place;

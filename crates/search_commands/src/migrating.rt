@@ -9,7 +9,7 @@ ghost use Rattle.declaration.specs.Kept.{meaning};
 ghost use Rattle.diagnostics.specs.CertificateFaults.{ReadsCertificate};
 ghost use Rattle.search_commands.specs.MigrateText.{IsMigrated, IsSited, in_version_3};
 
-use certificate::sums::{Certificate, Version};
+use certificate::{Certificate, Version};
 use command_parts::inputs::declaration_from;
 use command_parts::status::{Fault, Status};
 use declaration::Declaration;

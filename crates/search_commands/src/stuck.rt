@@ -17,7 +17,7 @@ ghost use Rattle.command_parts.specs.declared.status.Status.TheVariants.{Done, R
 
 use analyser::{Attempt, guess_or_draft};
 use bin_tape::Image;
-use certificate::sums::Certificate;
+use certificate::Certificate;
 use command_parts::message::{Lines, Message};
 use command_parts::programs::program_from;
 use command_parts::status::{Fault, Status};

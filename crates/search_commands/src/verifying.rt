@@ -10,7 +10,7 @@ use crate::messages::{
     AnswerMessage, ProposalMessage, joined, verify_message, verify_proposed_message,
 };
 use analyser::GuessFault;
-use certificate::sums::Certificate;
+use certificate::Certificate;
 use command_parts::inputs::tape_from;
 pub use command_parts::options::{RefuteOptions, VerifyOptions};
 use command_parts::outcome::write_text;

@@ -3,7 +3,7 @@
 use bin_tape::{Image, read_tape};
 use certificate::Certificate;
 use declaration::Declaration;
-use judge::several::{Rooms, judge};
+use judge::{Rooms, judge};
 use std::alloc::Allocator;
 
 /// How often of so many times a judge says yes.

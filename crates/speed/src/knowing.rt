@@ -6,7 +6,7 @@ use bin_tape::Image;
 use certificate::Certificate;
 use declaration::Declaration;
 use facts::{Fact, Kind, NarrowedFact, Outcomes, Place};
-use judge::several::{Claims, put_asked};
+use judge::{Claims, put_asked};
 use std::alloc::{AllocError, Allocator};
 use word12::Word;
 

@@ -4,7 +4,7 @@ use Rattle.std.specs.List.{list_any}
 use Rattle.certificate.specs.declared.CertificateFault.{CertificateFault}
 use Rattle.certificate.specs.Faults.{most_bytes}
 use Rattle.certificate.specs.Serving.{is_of_bytes}
-use Rattle.certificate.specs.declared.sums.Version.{Version}
+use Rattle.certificate.specs.declared.Version.{Version}
 use Rattle.certificate.specs.Sums.Lines.{Line, is_end}
 use Rattle.certificate.specs.Sums.LineOf.{line_of}
 use Rattle.certificate.specs.Sums.Reading.{Text, reading}

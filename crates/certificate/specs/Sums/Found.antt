@@ -4,10 +4,10 @@ use Rattle.std.specs.List.{AllByRecursion, list_any}
 use Rattle.wordset.specs.Lanes.{words}
 use Rattle.domain.specs.Sums.Facts.{Fact}
 use Rattle.certificate.specs.declared.RoutineClaim.{RoutineClaim}
-use Rattle.certificate.specs.declared.packed.Run.{Run}
+use Rattle.certificate.specs.declared.runs.Run.{Run}
 use Rattle.domain.specs.declared.chains.Step.{Step}
-use Rattle.certificate.specs.declared.sums.Version.{Version}
-use Rattle.certificate.specs.declared.sums.packed.KeptLine.{KeptLine}
+use Rattle.certificate.specs.declared.Version.{Version}
+use Rattle.certificate.specs.declared.packed.KeptLine.{KeptLine}
 use Rattle.certificate.specs.Sums.Lines.{Line, RoutineIs, FactIs, ExitIs, End, is_detail, is_end}
 use Rattle.certificate.specs.Sums.Order.{may_stand, comes_in_order, has_room, place_of_head, details_of_last}
 use Rattle.certificate.specs.Sums.LineOf.{has_form}

@@ -1,7 +1,7 @@
 -- How a certificate is kept, and what it says.
 use Rattle.std.specs.Prelude.{◌≡◌, ℕ, ◌+◌, ◌*◌, ◌≤◌, true, false, List, [], ◌∷◌, ◌++◌, drop, length}
 use Rattle.domain.specs.Sums.Facts.{Fact}
-use Rattle.certificate.specs.declared.sums.Version.{Version}
+use Rattle.certificate.specs.declared.Version.{Version}
 use Rattle.certificate.specs.Reading.{Each}
 use Rattle.certificate.specs.Sums.LineOf.{is_relation}
 use Rattle.certificate.specs.Sums.Lines.{Line, End, is_detail}

@@ -6,8 +6,8 @@ use Rattle.domain.specs.Sums.Terms.{difference_of}
 use Rattle.domain.specs.Sums.Facts.{Relation}
 use Rattle.certificate.specs.Spelling.{Registers, ended}
 use Rattle.certificate.specs.Reading.{EndsBefore, IsOfLinks}
-use Rattle.certificate.specs.declared.sums.Version.{Version}
-use Rattle.certificate.specs.declared.sums.Version.TheVariants.{One, Two, Three}
+use Rattle.certificate.specs.declared.Version.{Version}
+use Rattle.certificate.specs.declared.Version.TheVariants.{One, Two, Three}
 use Rattle.certificate.specs.Sums.Lines.{Line, RoutineIs, FactIs, ExitIs, CellIs, SumIs, ChainIs, End}
 use Rattle.certificate.specs.Sums.Spelling.{line_text, version_text}
 use Rattle.certificate.specs.Sums.LineOf.{line_of, has_form, most_offsets}

@@ -1,6 +1,6 @@
 -- Bytes that spell a line.
 use Rattle.std.specs.Prelude.{◌≡◌, ℕ, true, List}
-use Rattle.certificate.specs.declared.sums.Version.{Version}
+use Rattle.certificate.specs.declared.Version.{Version}
 use Rattle.certificate.specs.Sums.Lines.{Line}
 use Rattle.certificate.specs.Sums.Spelling.{line_text}
 use Rattle.certificate.specs.Sums.LineOf.{has_form}

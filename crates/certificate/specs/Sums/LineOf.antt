@@ -11,8 +11,8 @@ use Rattle.domain.specs.Sums.Chains.{Step, Operates, Ands, Adds}
 use Rattle.domain.specs.Sums.Shapes.{has_shape}
 use Rattle.certificate.specs.LineOf.{words_in, word_at, set_of, offsets_in, links_in, name_of}
 use Rattle.certificate.specs.Spelling.{Registers}
-use Rattle.certificate.specs.declared.sums.Version.{Version}
-use Rattle.certificate.specs.declared.sums.Version.TheVariants.{One, Two, Three}
+use Rattle.certificate.specs.declared.Version.{Version}
+use Rattle.certificate.specs.declared.Version.TheVariants.{One, Two, Three}
 use Rattle.certificate.specs.Sums.Lines.{Line, RoutineIs, FactIs, ExitIs, CellIs, SumIs, ChainIs, End, is_of_sums}
 use Rattle.certificate.specs.Sums.Spelling.{line_text}
 

@@ -4,8 +4,8 @@ use Rattle.wordset.specs.Words.{Words}
 use Rattle.domain.specs.Statements.{TrackedCell}
 use Rattle.domain.specs.Sums.Chains.{Chain}
 use Rattle.domain.specs.Sums.Facts.{Relation, Rules, OfEquations, OfSums}
-use Rattle.certificate.specs.declared.sums.Version.{Version}
-use Rattle.certificate.specs.declared.sums.Version.TheVariants.{One, Two, Three}
+use Rattle.certificate.specs.declared.Version.{Version}
+use Rattle.certificate.specs.declared.Version.TheVariants.{One, Two, Three}
 use Rattle.certificate.specs.Spelling.{RoutineLine, Registers}
 
 -- The rules by which its facts are taken further.

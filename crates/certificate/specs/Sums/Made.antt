@@ -8,8 +8,8 @@ use Rattle.domain.specs.Sums.CellsInCode.{cell_sets_of}
 use Rattle.domain.specs.Sums.FactInCode.{fact_in_code}
 use Rattle.domain.specs.declared.sum_fact.SumFact.{SumFact}
 use Rattle.certificate.specs.declared.RoutineClaim.{RoutineClaim}
-use Rattle.certificate.specs.declared.sums.Version.{Version}
-use Rattle.certificate.specs.declared.sums.Version.TheVariants.{One, Two, Three}
+use Rattle.certificate.specs.declared.Version.{Version}
+use Rattle.certificate.specs.declared.Version.TheVariants.{One, Two, Three}
 use Rattle.certificate.specs.Sums.Lines.{Line, RoutineIs, FactIs, ExitIs, CellIs, SumIs, ChainIs, End, is_of_sums}
 use Rattle.certificate.specs.Reading.{Each}
 use Rattle.certificate.specs.Sums.LineOf.{is_relation}

@@ -15,15 +15,15 @@ use Rattle.domain.specs.Sums.FactInCode.{fact_in_code}
 use Rattle.domain.specs.declared.chains.Step.{Step}
 use Rattle.domain.specs.Facts.{Ac}
 use Rattle.wordset.specs.Lanes.{words}
-use Rattle.certificate.specs.declared.packed.Run.{Run}
-use Rattle.certificate.specs.declared.packed.Counts.{Counts}
-use Rattle.certificate.specs.declared.sums.packed.PackedSum.{PackedSum}
-use Rattle.certificate.specs.declared.sums.packed.PackedLine.{PackedLine}
-use Rattle.certificate.specs.declared.sums.packed.PackedLine.TheVariants as packed
-use Rattle.certificate.specs.declared.sums.packed.KeptLine.{KeptLine}
-use Rattle.certificate.specs.declared.sums.packed.LentLine.{LentLine}
-use Rattle.certificate.specs.declared.sums.packed.Claim.{Claim}
-use Rattle.certificate.specs.declared.sums.packed.Claim.TheVariants as claim
+use Rattle.certificate.specs.declared.runs.Run.{Run}
+use Rattle.certificate.specs.declared.runs.Counts.{Counts}
+use Rattle.certificate.specs.declared.packed.PackedSum.{PackedSum}
+use Rattle.certificate.specs.declared.packed.PackedLine.{PackedLine}
+use Rattle.certificate.specs.declared.packed.PackedLine.TheVariants as packed
+use Rattle.certificate.specs.declared.packed.KeptLine.{KeptLine}
+use Rattle.certificate.specs.declared.packed.LentLine.{LentLine}
+use Rattle.certificate.specs.declared.packed.Claim.{Claim}
+use Rattle.certificate.specs.declared.packed.Claim.TheVariants as claim
 use Rattle.certificate.specs.Spelling.{Registers}
 use Rattle.certificate.specs.Packed.{set_at, registers_at, routine_at, AreWithin}
 use Rattle.certificate.specs.Sums.Lines.{Line, RoutineIs, FactIs, ExitIs, CellIs, SumIs, ChainIs, End}

@@ -3,8 +3,8 @@ use Rattle.std.specs.Prelude.{◌≡◌, ◌≢◌, ℕ, ◌+◌, ◌<◌, ◌�
 use Rattle.std.specs.Io.KnownBytes.{Consumes, IsAtEnd}
 use Rattle.certificate.specs.declared.CertificateFault.{CertificateFault}
 use Rattle.certificate.specs.declared.CertificateFault.TheVariants.{NoMemory, ReadFault}
-use Rattle.certificate.specs.declared.sums.progress.Progress.{Progress}
-use Rattle.certificate.specs.declared.sums.parser.Parser.{Parser}
+use Rattle.certificate.specs.declared.progress.Progress.{Progress}
+use Rattle.certificate.specs.declared.parser.Parser.{Parser}
 use Rattle.certificate.specs.Sums.Lines.{Line}
 use Rattle.certificate.specs.Sums.Found.{AreInOrder, Keeps, unended}
 use Rattle.certificate.specs.Sums.Progress.{Tracks}

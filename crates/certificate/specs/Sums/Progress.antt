@@ -2,11 +2,11 @@
 use Rattle.std.specs.Prelude.{◌≡◌, ℕ, ◌+◌, ◌<◌, Option, Some, None, List, [], ◌∷◌, length, Result, Ok, Err}
 use Rattle.std.specs.List.{list_any}
 use Rattle.certificate.specs.declared.CertificateFault.{CertificateFault}
-use Rattle.certificate.specs.declared.packed.Run.{Run}
+use Rattle.certificate.specs.declared.runs.Run.{Run}
 use Rattle.domain.specs.declared.chains.Step.{Step}
-use Rattle.certificate.specs.declared.sums.Version.{Version}
-use Rattle.certificate.specs.declared.sums.packed.PackedLine.{PackedLine}
-use Rattle.certificate.specs.declared.sums.progress.Progress.{Progress}
+use Rattle.certificate.specs.declared.Version.{Version}
+use Rattle.certificate.specs.declared.packed.PackedLine.{PackedLine}
+use Rattle.certificate.specs.declared.progress.Progress.{Progress}
 use Rattle.certificate.specs.Sums.Lines.{Line, RoutineIs, FactIs, ExitIs, CellIs, SumIs, ChainIs, End, is_end, has_details, is_routine, is_cell, is_sum, is_chain}
 use Rattle.certificate.specs.Sums.Order.{heads, details_of_last, how_many, place_of_head}
 use Rattle.certificate.specs.Sums.Reading.{After, Failed, after_line}

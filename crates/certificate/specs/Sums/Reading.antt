@@ -12,8 +12,8 @@ use Rattle.certificate.specs.declared.CertificateFault.TheVariants as faults
 use Rattle.certificate.specs.Spelling.{RoutineLine, Registers}
 use Rattle.certificate.specs.Faults.{most_bytes, pieces}
 use Rattle.certificate.specs.Sums.Certificate.{Certificate}
-use Rattle.certificate.specs.declared.sums.Version.{Version}
-use Rattle.certificate.specs.declared.sums.Version.TheVariants.{One, Two, Three}
+use Rattle.certificate.specs.declared.Version.{Version}
+use Rattle.certificate.specs.declared.Version.TheVariants.{One, Two, Three}
 use Rattle.certificate.specs.Sums.Lines.{Line, RoutineIs, FactIs, ExitIs, CellIs, SumIs, ChainIs, is_end, rules_of}
 use Rattle.certificate.specs.Sums.Spelling.{version_text}
 use Rattle.certificate.specs.Sums.LineOf.{line_of}

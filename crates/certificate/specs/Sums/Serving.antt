@@ -1,7 +1,7 @@
 -- What reading a certificate takes from a source, and when it asks for memory.
 use Rattle.std.specs.Prelude.{◌≡◌, ℕ, ◌+◌, ◌≤◌, false, List, [], ◌∷◌, ◌++◌, length, take, flat_map, Err}
 use Rattle.certificate.specs.declared.CertificateFault.{CertificateFault}
-use Rattle.certificate.specs.declared.sums.Version.{Version}
+use Rattle.certificate.specs.declared.Version.{Version}
 use Rattle.certificate.specs.Spelling.{ended}
 use Rattle.certificate.specs.Faults.{most_bytes}
 use Rattle.certificate.specs.Sums.Lines.{Line, is_end}

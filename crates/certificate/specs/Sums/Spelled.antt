@@ -1,6 +1,6 @@
 -- The text of several lines.
 use Rattle.std.specs.Prelude.{ℕ, List, flat_map}
-use Rattle.certificate.specs.declared.sums.Version.{Version}
+use Rattle.certificate.specs.declared.Version.{Version}
 use Rattle.certificate.specs.Spelling.{ended}
 use Rattle.certificate.specs.Sums.Lines.{Line}
 use Rattle.certificate.specs.Sums.Spelling.{line_text}

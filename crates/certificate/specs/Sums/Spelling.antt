@@ -7,8 +7,8 @@ use Rattle.domain.specs.Sums.Terms.{Term, Holding, Behind, Summand, Sum}
 use Rattle.domain.specs.Sums.Chains.{Step, Operates, Ands, Adds, Chain}
 use Rattle.domain.specs.Sums.Facts.{Relation}
 use Rattle.certificate.specs.Spelling.{Registers, begins, ends, digits, rank_text, set_text, name_text, offsets_text, routine_line, cell_line}
-use Rattle.certificate.specs.declared.sums.Version.{Version}
-use Rattle.certificate.specs.declared.sums.Version.TheVariants.{One, Two, Three}
+use Rattle.certificate.specs.declared.Version.{Version}
+use Rattle.certificate.specs.declared.Version.TheVariants.{One, Two, Three}
 use Rattle.certificate.specs.Sums.Lines.{Line, RoutineIs, FactIs, ExitIs, CellIs, SumIs, ChainIs, End}
 
 -- What is written at an offset, of two digits, in a set of offsets: as at a word in a set of words.

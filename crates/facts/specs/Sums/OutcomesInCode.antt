@@ -5,10 +5,10 @@ use Rattle.domain.specs.Sums.Facts.{Fact}
 use Rattle.domain.specs.Sums.Brief.{brief_words}
 use Rattle.domain.specs.Sums.FactInCode.{fact_in_code}
 use Rattle.facts.specs.Sums.Outcomes as said
-use Rattle.facts.specs.declared.sum_facts.outcomes.Kind.{Kind}
-use Rattle.facts.specs.declared.sum_facts.outcomes.Kind.TheVariants.{Nothing, Goes, Calls, Returns}
-use Rattle.facts.specs.declared.sum_facts.outcomes.Outcome.{Outcome}
-use Rattle.facts.specs.declared.sum_facts.outcomes.Outcomes.{Outcomes}
+use Rattle.facts.specs.declared.outcomes.Kind.{Kind}
+use Rattle.facts.specs.declared.outcomes.Kind.TheVariants.{Nothing, Goes, Calls, Returns}
+use Rattle.facts.specs.declared.outcomes.Outcome.{Outcome}
+use Rattle.facts.specs.declared.outcomes.Outcomes.{Outcomes}
 
 -- The outcome of a kind with these targets and this fact, or nothing.
 abbrev pub outcome_of : Kind → Words → Fact → List said.Successor

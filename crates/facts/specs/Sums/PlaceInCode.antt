@@ -5,7 +5,7 @@ use Rattle.peripherals.specs.Loading.{image_of}
 use Rattle.declaration.specs.Kept.{meaning}
 use Rattle.domain.specs.Sums.Facts as said
 use Rattle.domain.specs.Sums.FactInCode.{rules_of}
-use Rattle.facts.specs.declared.sum_facts.place.Place.{Place}
+use Rattle.facts.specs.declared.place.Place.{Place}
 
 -- The place that is meant.
 abbrev pub place_in_code : {A : Type 0} → Place A → said.Place

@@ -9,8 +9,8 @@ use Rattle.domain.specs.Sums.Adding.{with_set}
 use Rattle.domain.specs.Sums.Brief.{brief_words}
 use Rattle.domain.specs.Sums.Offsets.{offsets_in}
 use Rattle.facts.specs.Sums.Starts.{words_at_start, start_fact}
-use Rattle.facts.specs.declared.sum_facts.start_fact.StartFact.{StartFact}
-use Rattle.facts.specs.declared.sum_facts.starts.StartPart.{StartPart}
+use Rattle.facts.specs.declared.start_fact.StartFact.{StartFact}
+use Rattle.facts.specs.declared.starts.StartPart.{StartPart}
 
 -- The fact that is meant: the name has the words that are kept, and every other name those of a start.
 abbrev pub start_in_code : StartFact → said.Fact

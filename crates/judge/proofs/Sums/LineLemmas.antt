@@ -16,12 +16,12 @@ use Rattle.judge.specs.Sums.Landing.{Case, place_in, facts_in}
 use Rattle.judge.specs.Sums.Conditions.{HoldsAt, EachFact, IsPlaced, IsOfMain, IsOfRoutine, HasSites, LinesArePlaced}
 use Rattle.judge.specs.Sums.Bodies.{IsOfBody}
 use Rattle.judge.specs.Sums.Asked.{RoutinesArePlaced, HoldsBetween, FailsAtLine, IsLeastOfAll}
-use Rattle.judge.specs.declared.several.body.Body.{Body}
-use Rattle.judge.specs.declared.several.case.Case.{Case as KeptCase}
+use Rattle.judge.specs.declared.body.Body.{Body}
+use Rattle.judge.specs.declared.case.Case.{Case as KeptCase}
 use Rattle.judge.specs.Sums.Judged.{case_kept}
 use Rattle.domain.specs.declared.sum_fact.Rules.{Rules as KeptRules}
 use Rattle.domain.specs.Sums.FactInCode.{rules_of}
-use Rattle.facts.specs.declared.sum_facts.place.Place.{Place as KeptPlace}
+use Rattle.facts.specs.declared.place.Place.{Place as KeptPlace}
 use Rattle.facts.specs.Sums.PlaceInCode.{place_in_code}
 use Rattle.judge.proofs.Sums.AskedLemmas.{holds_at, none_hold}
 use Rattle.judge.proofs.Sums.OrderLemmas.{after_lines}

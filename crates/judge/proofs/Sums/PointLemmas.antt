@@ -10,9 +10,9 @@ use Rattle.facts.specs.Sums.Entailment.{Lands, IsIdle, LandsBy}
 use Rattle.domain.specs.Sums.Facts.{OfEquations, OfSums}
 use Rattle.facts.specs.Sums.Outcomes.{Successor}
 use Rattle.facts.specs.Sums.PlaceInCode.{place_in_code}
-use Rattle.facts.specs.declared.sum_facts.place.Place.{Place as KeptPlace}
+use Rattle.facts.specs.declared.place.Place.{Place as KeptPlace}
 use Rattle.certificate.specs.Sums.Certificate.{Certificate}
-use Rattle.judge.specs.declared.several.point.Point.{Point}
+use Rattle.judge.specs.declared.point.Point.{Point}
 use Rattle.judge.specs.Sums.Landing.{Case, place_in, facts_in, LandsAt, EachSuccessor}
 use Rattle.judge.specs.Sums.Points.{IsPoint, case_of}
 

@@ -6,7 +6,7 @@ use Rattle.domain.specs.Sums.Facts.{Fact, Rules}
 use Rattle.certificate.specs.Sums.Certificate.{Certificate, writes_of}
 use Rattle.judge.specs.Sums.Landing.{sites_of}
 use Rattle.judge.specs.Sums.Conditions.{IsOfMain, IsOfRoutine}
-use Rattle.judge.specs.declared.several.body.Body.{Body}
+use Rattle.judge.specs.declared.body.Body.{Body}
 
 -- The body is main's, or that of a listed routine, with the sites and the writes that are claimed of it.
 pub record Tells (c : Certificate) (b : Body) : Type 0 where

@@ -4,7 +4,7 @@ use Rattle.peripherals.specs.Loading.{image_of}
 use Rattle.declaration.specs.Kept.{Kept, meaning}
 use Rattle.certificate.specs.Sums.Certificate.{Certificate}
 use Rattle.judge.specs.Sums.Landing.{Case}
-use Rattle.judge.specs.declared.several.case.Case.{Case as KeptCase}
+use Rattle.judge.specs.declared.case.Case.{Case as KeptCase}
 
 -- The case of a tape's words, a declaration as it's kept, and what is claimed.
 abbrev pub judged : List (Option ℕ) → Kept → Certificate → Case

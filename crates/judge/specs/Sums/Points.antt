@@ -13,7 +13,7 @@ use Rattle.judge.specs.Sums.Conditions.{HoldsFor, HoldsForWords}
 use Rattle.judge.specs.Sums.Judged.{judged}
 use Rattle.judge.specs.Sums.Shapes.{IsRoomy}
 use Rattle.judge.specs.Sums.Asked.{HasFew, HoldsOfFact}
-use Rattle.judge.specs.declared.several.point.Point.{Point}
+use Rattle.judge.specs.declared.point.Point.{Point}
 
 -- What is judged there.
 abbrev pub case_of : {A C : Type 0} → (C → Certificate) → Point A C → Case

@@ -5,8 +5,8 @@ use Rattle.wordset.specs.Lanes.{words}
 use Rattle.domain.specs.Sums.Facts.{Fact, Rules, OfEquations, OfSums}
 use Rattle.certificate.specs.Sums.Certificate.{Certificate}
 use Rattle.judge.specs.Sums.Landing.{with_sites, sited}
-use Rattle.judge.specs.declared.several.sources.FactsAt.{FactsAt}
-use Rattle.judge.specs.declared.several.sources.ExitsFor.{ExitsFor}
+use Rattle.judge.specs.declared.sources.FactsAt.{FactsAt}
+use Rattle.judge.specs.declared.sources.ExitsFor.{ExitsFor}
 
 -- The fact with the sites that it has by the rules.
 abbrev pub sited_one : Rules → Words → Fact → Fact

@@ -1,6 +1,6 @@
 use Rattle.std.proofs.Common.{subst}
 use Rattle.facts.specs.Sums.OutcomesInCode.{outcome_in}
-use Rattle.facts.specs.declared.sum_facts.outcomes.Outcome.{Outcome}
+use Rattle.facts.specs.declared.outcomes.Outcome.{Outcome}
 use Rattle.judge.specs.Sums.Landing.{EachSuccessor}
 use Rattle.judge.specs.Sums.Points.{case_of}
 use Rattle.reasons.specs.Breaches.{OutcomeMisses, SomeOutcome}

@@ -1,0 +1,29 @@
+use Rattle.std.specs.Prelude.{is_ok}
+use Rattle.domain.specs.Sums.CellsInCode.{cell_sets_of}
+use Rattle.domain.specs.Sums.FactInCode.{fact_in_code}
+use Rattle.certificate.specs.Sums.Lines.{ExitIs, is_of_sums}
+use Rattle.certificate.specs.Sums.Packed.{said_lines, sites_if, registers_in_fact}
+use Rattle.certificate.specs.Sums.Made.{lines_of_exit}
+use Rattle.certificate.proofs.SumMadeLemmas.{added, all_whole, details, may_add_exit, no_end_details}
+use Rattle.certificate.proofs.Certificate.add_exit.Goals as goal
+use Rattle.certificate.proofs.Certificate.add_exit.Goals.{in-Ok, in-Err}
+
+pub keep_all-requires-clause-details : goal.keep_all-requires-clause-details
+keep_all-requires-clause-details g c =
+    details c.self.inside.version (said_lines c.self.inside.kept) (ExitIs c.args.entry c.args.offset (sites_if (is_of_sums c.self.inside.version) (fact_in_code c.args.fact.now)) (registers_in_fact (fact_in_code c.args.fact.now)))
+    c.args.fact.now (may_add_exit _ c.args.self.now c.self.view_is c.args.entry c.args.offset c.args.fact.now c.requires)
+
+pub invariant_of-self : goal.invariant_of-self
+invariant_of-self g c =
+    all_whole (is_ok c.keep_all.result) c.self.inside.version c.self.inside.kept c.keep_all.new.self (lines_of_exit c.self.inside.version c.args.entry c.args.offset c.args.fact.now)
+    c.self.invariant (no_end_details (cell_sets_of c.args.fact.now.cells) (fact_in_code c.args.fact.now).relations (fact_in_code c.args.fact.now).chains)
+    (may_add_exit _ c.args.self.now c.self.view_is c.args.entry c.args.offset c.args.fact.now c.requires) (rw (c.has_sites.ensures, ← c.self.view_is) at c.keep_all.ensures)
+
+pub returns-clause-added : goal.returns-clause-added
+returns-clause-added g c = elim c.match-keep_all.branch [
+  | in-Ok w ↦ rw (w.result-is, ← c.self.view_is)
+      (added c.self.inside.version c.self.inside.kept c.keep_all.new.self (lines_of_exit c.self.inside.version c.args.entry c.args.offset c.args.fact.now)
+      c.self.invariant (no_end_details (cell_sets_of c.args.fact.now.cells) (fact_in_code c.args.fact.now).relations (fact_in_code c.args.fact.now).chains)
+      (may_add_exit _ c.args.self.now c.self.view_is c.args.entry c.args.offset c.args.fact.now c.requires) (rw (w.in-Ok.is, c.has_sites.ensures, ← c.self.view_is) at c.keep_all.ensures)).is
+  | in-Err w ↦ rw w.result-is tt
+]

@@ -1,0 +1,34 @@
+use Rattle.std.proofs.Common.{◌≡◌, ◌+◌, ◌*◌, ℕ, true, false, sym, subst, drop, arith}
+use Rattle.certificate.specs.Sums.Packed.{said_lines}
+use Rattle.certificate.specs.Sums.Found.{begins_at}
+use Rattle.certificate.proofs.SumReaderLemmas.{no_exit_left}
+use Rattle.certificate.proofs.SumSkipLemmas.{exit_skipped, begun_within}
+use Rattle.certificate.proofs.Certificate.skip_exit.Goals as goal
+
+pub returns-then-not-is_at-clause-none : goal.returns-then-not-is_at-clause-none
+returns-then-not-is_at-clause-none g c = λ done.
+    let same : 8192 + 64 * c.index.result + c.args.offset ≡ 8192 + (64 * c.args.entry + c.args.offset) = omega (arith, c.index.ensures.same) in
+    let at : begins_at (8192 + (64 * c.args.entry + c.args.offset)) (drop c.args.line.now (said_lines c.self.inside.kept)) ≡ false =
+    subst (λ (p : ℕ). begins_at p (drop c.args.line.now (said_lines c.self.inside.kept)) ≡ false) same (sym c.if-not-is_at.ensures) in
+    rw (← c.self.view_is) (no_exit_left c.self.inside.version c.self.inside.kept c.args.line.now c.args.entry c.args.offset c.self.invariant (rw (← c.self.view_is) at c.requires.stands) at)
+
+pub returns-clause-after : goal.returns-clause-after
+returns-clause-after g c = λ done. c.behind.ensures.after (begun_within (said_lines c.self.inside.kept) c.args.line.now _ (sym c.if-not-is_at.ensures))
+
+pub returns-clause-next : goal.returns-clause-next
+returns-clause-next g c = λ done.
+    let same : 8192 + 64 * c.index.result + c.args.offset ≡ 8192 + (64 * c.args.entry + c.args.offset) = omega (arith, c.index.ensures.same) in
+    let at : begins_at (8192 + (64 * c.args.entry + c.args.offset)) (drop c.args.line.now (said_lines c.self.inside.kept)) ≡ true =
+    subst (λ (p : ℕ). begins_at p (drop c.args.line.now (said_lines c.self.inside.kept)) ≡ true) same (sym c.if-not-is_at.ensures) in
+    let n = exit_skipped c.self.inside.version c.self.inside.kept c.args.line.now c.behind.result c.args.entry c.args.offset c.self.invariant
+    (omega (arith, c.index.ensures.same, c.index.ensures.small)) c.requires.offset at c.behind.ensures.is in
+    rw (← c.self.view_is) (n.0, n.1.next)
+
+pub returns-clause-stands : goal.returns-clause-stands
+returns-clause-stands g c =
+    let same : 8192 + 64 * c.index.result + c.args.offset ≡ 8192 + (64 * c.args.entry + c.args.offset) = omega (arith, c.index.ensures.same) in
+    let at : begins_at (8192 + (64 * c.args.entry + c.args.offset)) (drop c.args.line.now (said_lines c.self.inside.kept)) ≡ true =
+    subst (λ (p : ℕ). begins_at p (drop c.args.line.now (said_lines c.self.inside.kept)) ≡ true) same (sym c.if-not-is_at.ensures) in
+    let n = exit_skipped c.self.inside.version c.self.inside.kept c.args.line.now c.behind.result c.args.entry c.args.offset c.self.invariant
+    (omega (arith, c.index.ensures.same, c.index.ensures.small)) c.requires.offset at c.behind.ensures.is in
+    rw (← c.self.view_is) n.1.stands

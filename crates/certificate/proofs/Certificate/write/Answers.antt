@@ -1,0 +1,28 @@
+use Rattle.std.proofs.Common.{◌≡◌, ◌++◌}
+use Rattle.std.specs.Prelude.{codes}
+use Rattle.certificate.specs.Spelling.{ended}
+use Rattle.certificate.specs.Sums.Spelling.{version_text}
+use Rattle.certificate.specs.Sums.Spelled.{all_ended}
+use Rattle.certificate.specs.Sums.Laws.{bytes_of}
+use Rattle.certificate.specs.Sums.Kept.{meaning}
+use Rattle.certificate.specs.Sums.Packed.{said_lines}
+use Rattle.certificate.proofs.SumReaderLemmas.{formed}
+use Rattle.certificate.proofs.SumMadeLemmas.{text_ended}
+use Rattle.certificate.proofs.Certificate.write.Goals as goal
+
+pub put_text-requires-clause-form : goal.put_text-requires-clause-form
+put_text-requires-clause-form g c = formed c.self.inside.version c.self.inside.kept c.self.invariant
+
+pub returns-in-Ok-clause-whole : goal.returns-in-Ok-clause-whole
+returns-in-Ok-clause-whole g c =
+    let e : ended (version_text c.self.inside.version) ++ all_ended c.self.inside.version (said_lines c.self.inside.kept) ++ ended (codes "end") ≡
+    bytes_of (meaning c.args.self.now) =
+    rw (← c.self.view_is) (text_ended c.self.inside.version (said_lines c.self.inside.kept)) in
+    rw e at c.in-Ok.ensures.whole
+
+pub returns-in-Err-clause-front : goal.returns-in-Err-clause-front
+returns-in-Err-clause-front g c =
+    let e : ended (version_text c.self.inside.version) ++ all_ended c.self.inside.version (said_lines c.self.inside.kept) ++ ended (codes "end") ≡
+    bytes_of (meaning c.args.self.now) =
+    rw (← c.self.view_is) (text_ended c.self.inside.version (said_lines c.self.inside.kept)) in
+    rw e at c.in-Err.ensures.front

@@ -1,0 +1,17 @@
+use Rattle.std.proofs.Common.{sym}
+use Rattle.domain.specs.Sums.Offsets.{offsets_in}
+use Rattle.certificate.proofs.OffsetTextLemmas.{mark_first, mark_last}
+use Rattle.certificate.proofs.SpelledLemmas.{joined, none}
+use Rattle.certificate.proofs.SumSpelledLemmas.{mark_none}
+use Rattle.certificate.proofs.line_text.LineText.offset_mark.Goals as goal
+
+pub returns-then-is_first : goal.returns-then-is_first
+returns-then-is_first c = rw (mark_first (offsets_in c.args.offsets) c.args.offset (sym c.if-is_first.ensures)) c.first_offset.ensures
+
+pub returns-then-not-is_last : goal.returns-then-not-is_last
+returns-then-not-is_last c =
+    rw (mark_none (offsets_in c.args.offsets) c.args.offset (sym c.if-is_first.ensures) (sym c.if-not-is_last.ensures)) (none c.args.self.now.bytes.items)
+
+pub returns : goal.returns
+returns c =
+    rw (mark_last (offsets_in c.args.offsets) c.args.offset (sym c.if-is_first.ensures) (sym c.if-not-is_last.ensures)) (joined _ _ _ _ _ c.push.ensures.adds c.rank.ensures)

@@ -1,0 +1,7 @@
+use Rattle.domain.specs.Sums.Offsets.{offsets_in}
+use Rattle.certificate.specs.Spelled.{Adds}
+use Rattle.certificate.specs.Sums.Spelling.{offset_marks}
+use Rattle.certificate.proofs.line_text.LineText.offset_set.Given as goal
+
+abbrev pub invariant-loop-offset : goal.invariant-loop-offset
+invariant-loop-offset l = Adds l.fn.self.bytes.items l.self.bytes.items (offset_marks l.offset (offsets_in l.offsets))

@@ -1,0 +1,30 @@
+use Rattle.std.proofs.Common.{◌≡◌, ◌+◌, ◌∙◌, refl, sym, arith}
+use Rattle.certificate.specs.Sums.Packed.{said_of, said_lines}
+use Rattle.certificate.proofs.SumSkipLemmas.{passed_on, stops_here, ends_here}
+use Rattle.certificate.proofs.lines.behind.Goals as goal
+
+pub returns-then-start-count-clause-is : goal.returns-then-start-count-clause-is
+returns-then-start-count-clause-is g c = ends_here (said_lines c.args.lines.now) (c.args.start + 1) c.len-count.result (omega (arith, c.len-count.ensures, c.if-start-count.true)) c.len-count.ensures
+
+pub loop-at-init : goal.loop-at-init
+loop-at-init g c = record { few = omega (arith, c.len-count.ensures, c.if-start-count.false); past = omega arith; same = refl }
+
+pub loop-at-preserved : goal.loop-at-preserved
+loop-at-preserved g c = record {
+  few = omega (arith, c.len-count.ensures, c.loop-at-test.true);
+  past = omega (arith, c.loop-at.invariant.past);
+  same = passed_on (said_lines c.args.lines.now) c.loop-at.at (said_of c.line-lent.result) c.line-lent.ensures.there
+      (sym (c.is_detail.ensures c.line-lent.result.runs.now c.line-lent.result.steps.now) ∙ c.if-not-is_detail.false) ∙ c.loop-at.invariant.same;
+}
+
+pub returns-then-not-is_detail-clause-after : goal.returns-then-not-is_detail-clause-after
+returns-then-not-is_detail-clause-after g c = λ lt. omega (arith, c.loop-at.invariant.past)
+
+pub returns-then-not-is_detail-clause-is : goal.returns-then-not-is_detail-clause-is
+returns-then-not-is_detail-clause-is g c =
+    stops_here (said_lines c.args.lines.now) c.loop-at.at (said_of c.line-lent.result) c.line-lent.ensures.there
+    (sym (c.is_detail.ensures c.line-lent.result.runs.now c.line-lent.result.steps.now) ∙ c.if-not-is_detail.true) ∙ c.loop-at.invariant.same
+
+pub returns-clause-is : goal.returns-clause-is
+returns-clause-is g c =
+    ends_here (said_lines c.args.lines.now) c.loop-at.at c.len-count.result (omega (arith, c.loop-at-test.false, c.len-count.ensures)) c.len-count.ensures ∙ c.loop-at.invariant.same

@@ -1,0 +1,16 @@
+use Rattle.std.proofs.Common.{◌∙◌, ◌++◌, ◌∷◌, [], ap}
+use Rattle.std.proofs.lemmas.Bool.{false≢true}
+use Rattle.domain.specs.Sums.Terms.{Sum}
+use Rattle.domain.specs.Sums.Brief.{brief_words}
+use Rattle.certificate.specs.Sums.Lines.{SumIs}
+use Rattle.certificate.specs.Sums.Packed.{said_lines}
+use Rattle.certificate.proofs.MakerLemmas.{on_ok}
+use Rattle.certificate.proofs.lines.push_relation.Goals as goal
+
+pub returns-in-Some-clause-added : goal.returns-in-Some-clause-added
+returns-in-Some-clause-added g c =
+    on_ok c.claim.result _ _ (λ e. e ∙ ap (λ (s : Sum). said_lines c.args.lines.now ++ SumIs (record { sum = s; set = brief_words c.args.relation.now.set }) ∷ [])
+    (c.in-Some.ensures.same c.requires)) c.claim.ensures.added
+
+pub returns-in-None-clause-added : goal.returns-in-None-clause-added
+returns-in-None-clause-added g c = absurd (false≢true (c.in-None.ensures.kept c.requires))

@@ -1,0 +1,8 @@
+use Rattle.std.proofs.Common.{◌≡◌, ◌++◌, map, take}
+use Rattle.domain.specs.Sums.RelationsInCode.{relation_of}
+use Rattle.certificate.specs.Sums.Packed.{said_lines}
+use Rattle.certificate.specs.Sums.Lines.{SumIs}
+use Rattle.certificate.proofs.lines.push_relations.Given as goal
+
+abbrev pub invariant-loop-relation : goal.invariant-loop-relation
+invariant-loop-relation g l = said_lines l.lines ≡ said_lines l.fn.lines ++ map SumIs (map relation_of (take l.relation-index l.relations))

@@ -1,7 +1,0 @@
-use Rattle.domain.specs.Sums.Offsets.{offsets_in}
-use Rattle.certificate.specs.Spelling.{digits}
-use Rattle.certificate.specs.Spelled.{Adds}
-use Rattle.certificate.proofs.spelled.LineText.offset_digits.Given as goal
-
-abbrev pub invariant-loop-offset : goal.invariant-loop-offset
-invariant-loop-offset l = Adds l.fn.self.bytes.items l.self.bytes.items (digits l.offset (offsets_in l.offsets))

@@ -1,5 +1,0 @@
-use Rattle.certificate.proofs.SpelledLemmas.{joined}
-use Rattle.certificate.proofs.spelled.LineText.rank.Goals as goal
-
-pub returns : goal.returns
-returns c = joined _ _ _ _ _ c.digit.ensures c.digit-2.ensures

@@ -1,0 +1,17 @@
+use Rattle.std.proofs.Common.{sym, ap, ◌∙◌}
+use Rattle.wordset.specs.Lanes.{words}
+use Rattle.domain.specs.Sums.Facts.{Fact, OfSums}
+use Rattle.domain.specs.Sums.Adding.{adding_all}
+use Rattle.domain.specs.Sums.InCode.{sum_of}
+use Rattle.domain.specs.Sums.FactInCode.{fact_in_code}
+use Rattle.facts.specs.Sums.Additions.{brought}
+use Rattle.facts.specs.Sums.Shaped.{term_if, told, moved_after_tad}
+use Rattle.facts.proofs.Sums.EachRelation.{adding_append}
+use Rattle.facts.proofs.additions.add_after_tad.Goals as goal
+
+pub returns-clause-fact : goal.returns-clause-fact
+returns-clause-fact g c =
+    c.add_brought.ensures.fact
+    ∙ ap (λ (h : Fact). adding_all OfSums (brought (words c.args.ac.now) (term_if c.args.term.now) (told (sum_of c.args.sum.now) (words c.args.set.now))) h) c.add_moved.ensures.fact
+    ∙ sym (adding_append OfSums (moved_after_tad (words c.args.operand.now) (told (sum_of c.args.sum.now) (words c.args.set.now)))
+    (brought (words c.args.ac.now) (term_if c.args.term.now) (told (sum_of c.args.sum.now) (words c.args.set.now))) (fact_in_code c.args.after.now))

@@ -1,0 +1,21 @@
+use Rattle.std.proofs.Common.{refl, sym, ap, ◌∙◌}
+use Rattle.wordset.specs.Words.{Words, sums}
+use Rattle.wordset.specs.Lanes.{words}
+use Rattle.domain.specs.Sums.Terms.{Sum}
+use Rattle.domain.specs.Sums.Facts.{OfSums}
+use Rattle.domain.specs.Sums.Adding.{adding}
+use Rattle.domain.specs.Sums.InCode.{term_of, sum_of}
+use Rattle.domain.specs.Sums.FactInCode.{fact_in_code}
+use Rattle.facts.specs.Sums.Additions.{ac_with_rest}
+use Rattle.facts.specs.Sums.Shaped.{told}
+use Rattle.facts.proofs.additions.add_brought_by.Goals as goal
+
+pub returns-then-not-is_sign-clause-fact : goal.returns-then-not-is_sign-clause-fact
+returns-then-not-is_sign-clause-fact g c = rw (sym c.is_sign.ensures ∙ c.if-not-is_sign.true) refl
+
+pub returns-clause-fact : goal.returns-clause-fact
+returns-clause-fact g c =
+    rw (sym c.is_sign.ensures ∙ c.if-not-is_sign.false)
+    (c.add.ensures.fact ∙ ap (λ (s : Sum). adding OfSums (told s (words c.sums-found.result.0)) (fact_in_code c.args.after.now)) c.accumulator_with_rest.ensures
+    ∙ ap (λ (w : Words). adding OfSums (told (ac_with_rest c.args.c (term_of c.args.term.now) (sum_of c.args.sum.now)) w) (fact_in_code c.args.after.now))
+    (c.sums-found.ensures.words ∙ ap (λ (s : Words). sums s (words c.args.ac.now)) c.times.ensures))

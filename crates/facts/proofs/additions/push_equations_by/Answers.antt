@@ -1,0 +1,20 @@
+use Rattle.std.proofs.Common.{◌++◌, List, map, ap, ◌∙◌}
+use Rattle.domain.specs.Facts.{Ac, same}
+use Rattle.domain.specs.Sums.Facts.{Relation}
+use Rattle.domain.specs.Sums.Moves.{free_of}
+use Rattle.domain.specs.Sums.RelationsInCode.{relation_of}
+use Rattle.domain.specs.Sums.FactInCode.{fact_in_code}
+use Rattle.facts.specs.Sums.Additions.{equations_moved}
+use Rattle.facts.proofs.additions.push_equations_by.Goals as goal
+
+pub returns-in-None-clause-fact : goal.returns-in-None-clause-fact
+returns-in-None-clause-fact g c a e =
+    rw c.in-None.is
+    (c.push_relations_free_of.ensures.fact
+    ∙ ap (λ (rs : List Relation). record (fact_in_code c.args.after.now) { relations = rs ++ free_of (λ n. same n Ac) (map relation_of c.args.relations.now) }) e)
+
+pub returns-in-Some-clause-fact : goal.returns-in-Some-clause-fact
+returns-in-Some-clause-fact g c a e =
+    rw c.in-Some.is
+    (c.push_equations_moved.ensures.fact
+    ∙ ap (λ (rs : List Relation). record (fact_in_code c.args.after.now) { relations = rs ++ equations_moved c.in-Some.word (map relation_of c.args.relations.now) }) e)

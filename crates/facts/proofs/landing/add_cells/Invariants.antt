@@ -1,0 +1,10 @@
+use Rattle.std.proofs.Common.{◌≡◌, ℕ, true, false, drop, map}
+use Rattle.wordset.specs.Lanes.{words}
+use Rattle.wordset.specs.Words.{all_words}
+use Rattle.domain.specs.Statements.{tracked}
+use Rattle.domain.specs.Sums.CellsInCode.{cell_set_of}
+use Rattle.facts.proofs.landing.add_cells.Given as goal
+
+abbrev pub invariant-loop-entry : goal.invariant-loop-entry
+invariant-loop-entry l = ((a : ℕ) → words l.fn.told a ≡ true → words l.told a ≡ true) ×
+    ((a : ℕ) → words l.told a ≡ false → tracked a (map cell_set_of (drop l.entry-index l.cells)) ≡ all_words → tracked a (map cell_set_of l.cells) ≡ all_words)

@@ -1,0 +1,15 @@
+use Rattle.std.proofs.Common.{◌∙◌, ap}
+use Rattle.wordset.specs.Words.{one, all_words}
+use Rattle.wordset.specs.Lanes.{words}
+use Rattle.domain.specs.Sums.Facts.{Fact}
+use Rattle.domain.specs.Sums.FactInCode.{fact_in_code}
+use Rattle.facts.specs.Sums.PlaceInCode.{place_in_code}
+use Rattle.domain.specs.Facts.{Ac}
+use Rattle.domain.specs.Sums.Moves.{taking}
+use Rattle.facts.specs.Sums.Outcomes.{goes}
+use Rattle.facts.proofs.place.Place.assign.Goals as goal
+
+pub returns : goal.returns
+returns g c = c.go_on.ensures (fact_in_code c.args.fact.now) c.put_words_known.ensures
+    ∙ ap (λ (x : Fact). goes (place_in_code c.args.self.now) all_words (fact_in_code c.args.fact.now) all_words (one c.increment.result) x) c.take_for_accumulator.ensures
+    ∙ ap (λ n. goes (place_in_code c.args.self.now) all_words (fact_in_code c.args.fact.now) all_words (one n) (taking Ac (words c.args.set.now) (fact_in_code c.args.fact.now))) c.increment.ensures

@@ -1,0 +1,18 @@
+use Rattle.std.proofs.Common.{◌∙◌, ap, refl}
+use Rattle.wordset.specs.Words.{Words, all_words}
+use Rattle.wordset.specs.Lanes.{words}
+use Rattle.domain.specs.Sums.Facts.{Fact}
+use Rattle.domain.specs.Sums.FactInCode.{fact_in_code}
+use Rattle.facts.specs.Sums.PlaceInCode.{place_in_code}
+use Rattle.facts.specs.Sums.Outcomes.{CallsTo, given, alive}
+use Rattle.facts.proofs.Sums.ComesLemmas.{comes_by, all_reached}
+use Rattle.facts.proofs.place.Place.call.Goals as goal
+
+pub returns : goal.returns
+returns g c =
+    let pl = (place_in_code c.args.self.now) in
+    let f : Fact = (fact_in_code c.args.fact.now) in
+    let p : Words = (words c.args.targets.now) in
+    c.call_one_of.ensures ∙ ap (λ b. given b (CallsTo p (fact_in_code c.copy_from.new.self)))
+    (comes_by pl p f all_words f (c.is_alive-comes.ensures p all_words c.has_some.ensures (all_reached refl)) c.put_words_known.ensures c.copy_from.ensures.fact)
+    ∙ ap (λ (x : Fact). given (alive pl p f all_words f) (CallsTo p x)) c.copy_from.ensures.fact

@@ -1,0 +1,10 @@
+use Rattle.std.proofs.Common.{◌≡◌}
+use Rattle.wordset.specs.Lanes.{words}
+use Rattle.domain.specs.Facts.{Cell}
+use Rattle.facts.specs.Sums.PlaceInCode.{place_in_code}
+use Rattle.facts.specs.Sums.Landing.{IsSplitBy}
+use Rattle.wordset.proofs.IterLemmas.{Passed}
+use Rattle.facts.proofs.place.Place.is_split_by_some.Given as goal
+
+abbrev pub invariant-loop-cell : goal.invariant-loop-cell
+invariant-loop-cell g l = Passed (λ a. IsSplitBy (place_in_code l.self) (Cell a) (g.P.Part.part l.fn.part) (g.F.FactSource.facts l.among) → ⊥) (words l.cells) l.cell-iterator × (g.P.Part.part l.part ≡ g.P.Part.part l.fn.part)

@@ -1,0 +1,12 @@
+use Rattle.std.proofs.Common.{◌≡◌, false}
+use Rattle.wordset.specs.Lanes.{words}
+use Rattle.wordset.proofs.IterLemmas.{Passed}
+use Rattle.domain.specs.Facts.{Cell}
+use Rattle.domain.specs.Sums.Narrowing.{words_known}
+use Rattle.domain.specs.Sums.FactInCode.{fact_in_code}
+use Rattle.facts.specs.Sums.Shaped.{has_last_or_other}
+use Rattle.facts.specs.Sums.PlaceInCode.{place_in_code}
+use Rattle.facts.proofs.place.Place.may_some_hold.Given as goal
+
+abbrev pub invariant-loop-cell : goal.invariant-loop-cell
+invariant-loop-cell g l = Passed (λ y. has_last_or_other l.last (words_known (place_in_code l.self) (fact_in_code l.fact) (Cell y)) ≡ false) (words l.cells) l.cell-iterator

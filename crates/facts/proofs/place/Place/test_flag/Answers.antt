@@ -1,0 +1,13 @@
+use Rattle.std.proofs.Common.{◌∙◌, ap}
+use Rattle.wordset.specs.Words.{one, all_words}
+use Rattle.domain.specs.Sums.FactInCode.{fact_in_code}
+use Rattle.facts.specs.Sums.PlaceInCode.{place_in_code}
+use Rattle.facts.specs.Sums.Outcomes.{goes}
+use Rattle.facts.proofs.OutcomeLemmas.{plus_two}
+use Rattle.facts.proofs.Sums.ComesLemmas.{both_are}
+use Rattle.facts.proofs.place.Place.test_flag.Goals as goal
+
+pub returns : goal.returns
+returns g c = both_are
+    (c.leave.ensures ∙ ap (λ n. goes (place_in_code c.args.self.now) all_words (fact_in_code c.args.fact.now) all_words (one n) (fact_in_code c.args.fact.now)) c.increment.ensures)
+    (c.leave-2.ensures ∙ ap (λ n. goes (place_in_code c.args.self.now) all_words (fact_in_code c.args.fact.now) all_words (one n) (fact_in_code c.args.fact.now)) (plus_two c.args.at c.increment-2.result c.increment-3.result c.increment-2.ensures c.increment-3.ensures))

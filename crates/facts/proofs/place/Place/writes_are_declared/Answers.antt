@@ -1,0 +1,11 @@
+use Rattle.std.proofs.Common.{◌≡◌, ◌⊎◌, true}
+use Rattle.domain.specs.Sums.FactInCode.{fact_in_code}
+use Rattle.facts.specs.Sums.PlaceInCode.{place_in_code}
+use Rattle.facts.proofs.AskedLemmas.{over, over_none}
+use Rattle.facts.proofs.place.Place.writes_are_declared.Goals as goal
+
+pub returns-then-not-is_writing : goal.returns-then-not-is_writing
+returns-then-not-is_writing g c = over_none _ _ (c.is_writing.ensures c.if-not-is_writing.true (fact_in_code c.args.fact.now))
+
+pub returns : goal.returns
+returns g c = over _ _ (λ a. ((place_in_code c.args.self.now).declaration.variable a ≡ true) ⊎ ((place_in_code c.args.self.now).declaration.entry a ≡ true)) c.put_writes.ensures c.are_declared.ensures

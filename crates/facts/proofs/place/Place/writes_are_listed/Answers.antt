@@ -1,0 +1,12 @@
+use Rattle.wordset.specs.Lanes.{words}
+use Rattle.domain.specs.Sums.FactInCode.{fact_in_code}
+use Rattle.facts.specs.Conditions.{MayWrite}
+use Rattle.facts.specs.Sums.PlaceInCode.{place_in_code}
+use Rattle.facts.proofs.AskedLemmas.{over, over_none}
+use Rattle.facts.proofs.place.Place.writes_are_listed.Goals as goal
+
+pub returns-then-not-is_writing : goal.returns-then-not-is_writing
+returns-then-not-is_writing g c = over_none _ _ (c.is_writing.ensures c.if-not-is_writing.true (fact_in_code c.args.fact.now))
+
+pub returns : goal.returns
+returns g c = over _ _ (λ a. MayWrite (words c.args.listed.now) (place_in_code c.args.self.now).routine a) c.put_writes.ensures c.may_write.ensures

@@ -1,9 +1,0 @@
-use Rattle.std.proofs.Common.{◌≡◌, true}
-use Rattle.wordset.specs.Lanes.{words}
-use Rattle.wordset.proofs.IterLemmas.{Passed}
-use Rattle.facts.specs.Sums.References.{is_fixed}
-use Rattle.facts.specs.Sums.PlaceInCode.{place_in_code}
-use Rattle.facts.proofs.sum_facts.place.Place.are_fixed.Given as goal
-
-abbrev pub invariant-loop-cell : goal.invariant-loop-cell
-invariant-loop-cell g l = Passed (λ a. is_fixed (place_in_code l.self).declaration a ≡ true) (words l.cells) l.cell-iterator

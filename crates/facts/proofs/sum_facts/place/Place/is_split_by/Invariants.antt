@@ -1,9 +1,0 @@
-use Rattle.std.proofs.Common.{◌≡◌, drop}
-use Rattle.wordset.specs.Lanes.{words}
-use Rattle.domain.specs.Meaning.{location_of}
-use Rattle.facts.specs.Sums.PlaceInCode.{place_in_code}
-use Rattle.facts.proofs.Sums.SplitLemmas.{TakenSoFar}
-use Rattle.facts.proofs.sum_facts.place.Place.is_split_by.Given as goal
-
-abbrev pub invariant-loop-at : goal.invariant-loop-at
-invariant-loop-at g l = TakenSoFar (place_in_code l.self) (location_of l.name) (g.P.Part.part l.fn.part) (words l.taken) (drop l.at (g.F.FactSource.facts l.among)) (g.F.FactSource.facts l.among) × (g.P.Part.part l.part ≡ g.P.Part.part l.fn.part)

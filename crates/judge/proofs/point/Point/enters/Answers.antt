@@ -1,0 +1,7 @@
+use Rattle.std.proofs.Common.{refl}
+use Rattle.judge.specs.Sums.Points.{case_of}
+use Rattle.judge.proofs.Sums.CallLemmas.{lands_equally}
+use Rattle.judge.proofs.point.Point.enters.Goals as goal
+
+pub returns : goal.returns
+returns g c = lands_equally (case_of g.C.Claims.claims c.args.self.now) _ refl c.increment.ensures c.put_called_from.ensures c.lands.ensures.lands

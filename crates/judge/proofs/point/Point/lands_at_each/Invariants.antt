@@ -1,0 +1,11 @@
+use Rattle.std.proofs.Common.{◌≡◌}
+use Rattle.wordset.specs.Lanes.{words}
+use Rattle.wordset.proofs.IterLemmas.{Passed}
+use Rattle.domain.specs.Sums.FactInCode.{fact_in_code}
+use Rattle.judge.specs.Sums.Landing.{LandsAt}
+use Rattle.judge.specs.Sums.Points.{case_of}
+use Rattle.judge.proofs.point.Point.lands_at_each.Given as goal
+
+abbrev pub invariant-loop-at : goal.invariant-loop-at
+invariant-loop-at g l =
+    Passed (λ a. LandsAt (case_of g.C.Claims.claims l.self) l.self.place.routine a (fact_in_code l.fn.known)) (words l.addresses) l.at-iterator × (fact_in_code l.known ≡ fact_in_code l.fn.known)

@@ -1,0 +1,14 @@
+use Rattle.std.specs.Prelude.{IsTrue, ◌↔◌, List}
+use Rattle.facts.specs.Sums.Outcomes.{Successor}
+use Rattle.facts.specs.Sums.Operations.{outcomes_of}
+use Rattle.facts.specs.Sums.PlaceInCode.{meaning_in}
+use Rattle.judge.specs.Sums.Landing.{EachSuccessor, SuccessorLands}
+use Rattle.std.proofs.Common.{subst}
+use Rattle.judge.specs.Sums.Points.{case_of, fact_asked}
+use Rattle.judge.proofs.Sums.PointLemmas.{meant}
+use Rattle.judge.proofs.point.Point.outcomes_land.Goals as goal
+
+pub returns : goal.returns
+returns g c =
+    meant g.C.Claims.claims c.args.self.now (λ p. IsTrue c.each_lands.result ↔ EachSuccessor (SuccessorLands (case_of g.C.Claims.claims c.args.self.now) c.args.self.now.place.routine) (outcomes_of p (fact_asked c.args.self.now) c.args.self.now.at (meaning_in p c.args.self.now.at c.args.word))) c.requires
+    (subst (λ (os : List Successor). IsTrue c.each_lands.result ↔ EachSuccessor (SuccessorLands (case_of g.C.Claims.claims c.args.self.now) c.args.self.now.place.routine) os) c.put_outcomes.ensures c.each_lands.ensures)

@@ -1,9 +1,0 @@
-use Rattle.std.specs.Prelude.{IsTrue, ◌↔◌}
-use Rattle.facts.specs.Sums.Conditions.{EntriesAreKept}
-use Rattle.facts.specs.Sums.PlaceInCode.{meaning_in}
-use Rattle.judge.specs.Sums.Points.{fact_asked}
-use Rattle.judge.proofs.Sums.PointLemmas.{meant}
-use Rattle.judge.proofs.several.point.Point.entries_are_kept.Goals as goal
-
-pub returns : goal.returns
-returns g c = meant g.C.Claims.claims c.args.self.now (λ p. IsTrue c.entries_are_kept.result ↔ EntriesAreKept p (fact_asked c.args.self.now) (meaning_in p c.args.self.now.at c.args.word)) c.requires c.entries_are_kept.ensures

@@ -1,6 +1,0 @@
-use Rattle.judge.proofs.Sums.CallLemmas.{is_called_from}
-use Rattle.judge.specs.Sums.Points.{fact_asked}
-use Rattle.judge.proofs.several.point.Point.put_called_from.Goals as goal
-
-pub returns : goal.returns
-returns g c = is_called_from c.args.self.now.at (fact_asked c.args.self.now) _ _ _ _ _ _ c.copy_from.ensures.fact c.one.ensures c.set_sites.ensures.fact c.none-offsets.ensures c.insert.ensures c.set_offsets.ensures.fact

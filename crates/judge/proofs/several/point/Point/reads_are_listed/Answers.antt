@@ -1,9 +1,0 @@
-use Rattle.std.specs.Prelude.{IsTrue, ◌↔◌}
-use Rattle.facts.specs.Sums.Conditions.{ReadsAreListed}
-use Rattle.facts.specs.Sums.PlaceInCode.{meaning_in}
-use Rattle.judge.specs.Sums.Points.{fact_asked}
-use Rattle.judge.proofs.Sums.PointLemmas.{meant}
-use Rattle.judge.proofs.several.point.Point.reads_are_listed.Goals as goal
-
-pub returns : goal.returns
-returns g c = meant g.C.Claims.claims c.args.self.now (λ p. IsTrue c.reads_are_listed.result ↔ ReadsAreListed p (fact_asked c.args.self.now) (meaning_in p c.args.self.now.at c.args.word)) c.requires c.reads_are_listed.ensures

@@ -1,0 +1,261 @@
+//! What is judged, and which condition fails first at an address.
+
+ghost use Rattle.std.specs.Prelude.{◌≡◌, ◌<◌, ◌≤◌, ◌↔◌, [], ◌∷◌, true, false, if◌then◌else◌, IsTrue, MatchResult, length};
+ghost use Rattle.peripherals.specs.Loading.{image_of};
+ghost use Rattle.domain.specs.Sums.Facts as said;
+ghost use Rattle.domain.specs.Sums.FactInCode.{fact_in_code, rules_of};
+ghost use Rattle.facts.specs.Sums.Landing.{fact_at};
+ghost use Rattle.facts.specs.declared.Condition.TheVariants.{V1};
+ghost use Rattle.certificate.specs.Sums.Certificate.{names_routine};
+ghost use Rattle.judge.specs.Sums.Landing.{asked};
+ghost use Rattle.judge.specs.Sums.Conditions.{HoldsAt, IsPlaced};
+ghost use Rattle.judge.specs.Sums.Bodies.{Tells};
+ghost use Rattle.judge.specs.Sums.Judged.{case_kept};
+ghost use Rattle.judge.specs.Sums.Shapes.{HasShape, IsRoomy};
+ghost use Rattle.judge.specs.Sums.Asked.{HoldsBetween, FailsAtLine, IsLeastOf, IsLeastOfAll, RoutinesArePlaced};
+
+use crate::body::Body;
+use crate::claims::Claims;
+use crate::point::{Others, Point, place_of};
+use crate::sited::put_sites;
+use crate::sources::FactsAt;
+use crate::words::nth;
+use bin_tape::Image;
+use declaration::{Declaration, Owner};
+use domain::Rules;
+use facts::{Condition, Fact, NarrowedFact};
+use std::alloc::{AllocError, Allocator};
+use word12::Word;
+use wordset::WordSet;
+
+/// The place of V2 among the conditions that are asked at an address.
+const OF_LINES: usize = 1;
+
+/// The place behind those of all conditions that are asked at an address.
+const PAST_ALL: usize = 15;
+
+/// What is judged: a tape's words, a declaration and what is claimed.
+///
+/// Contracts see it as `case_kept` gives it.
+#[derive(Drop)]
+pub struct Case<'a, A: Allocator, C: Claims> {
+    pub image: &'a Image,
+    pub declaration: &'a Declaration<A>,
+    pub claims: &'a C,
+}
+
+/// Room for a fact as it is claimed, for the same fact as it is asked, and for others.
+#[derive(Drop)]
+pub struct Rooms {
+    pub claimed: Fact,
+    pub fact: NarrowedFact,
+    pub others: Others,
+}
+
+impl Rooms {
+    /// Room that nothing stands in.
+    #[inline]
+    pub fn new() -> Rooms {
+        Rooms {
+            claimed: Fact::any(),
+            fact: NarrowedFact::any(),
+            others: Others::new(),
+        }
+    }
+
+    /// The same on the heap, since it takes 4 MB.
+    ///
+    /// # Errors
+    ///
+    /// `AllocError` where the room was refused.
+    #[inline(never)]
+    pub fn boxed<M: Allocator>(memory: M) -> Result<Box<Rooms, M>, AllocError> {
+        Ok(Box::new(memory, Rooms::new())?)
+    }
+}
+
+/// Lets a fact be the one of which conditions are asked: by the rules of sums narrowed, and by those of
+/// equations as it stands. Tells whether they are asked of it: by the rules of sums they are not where no
+/// state satisfies it.
+pub fn put_asked(rules: &Rules, image: &Image, claimed: &Fact, fact: &mut NarrowedFact) -> bool
+    requires { HasShape (fact_in_code claimed.now) }
+    ensures asked { asked (rules_of rules.now) (image_of image.now) (fact_in_code claimed.now ∷ []) ≡
+        (if result then fact_in_code fact.new ∷ [] else []) }
+    ensures roomy { IsRoomy fact.new }
+{
+    claimed.is_within_room();
+    match rules {
+        Rules::OfEquations => {
+            fact.copy_from(claimed);
+            true
+        }
+        Rules::OfSums => {
+            fact.narrow(image, claimed);
+            !fact.is_void()
+        }
+    }
+}
+
+impl<A: Allocator, C: Claims> Case<'_, A, C> {
+    /// Whether one of the facts at the start holds of every start.
+    pub fn starts_well(&self, rooms: &mut Rooms) -> bool
+        ensures { IsTrue result ↔
+            HoldsAt (case_kept C.claims self.now) V1 (case_kept C.claims self.now).declaration.start }
+    {
+        self.declaration.is_declared();
+        let place = place_of(self.image, self.declaration, &None, self.claims.rules());
+        let among = FactsAt {
+            claims: self.claims,
+            at: self.declaration.start(),
+            sites: &WordSet::empty(),
+            near: 0,
+        };
+        place.starts_land(&among, &mut rooms.claimed)
+    }
+
+    /// Whether facts may stand at an address: in main's body or in a listed routine's. That body then
+    /// stands in the place of the one that is lent.
+    pub fn finds_body(&self, at: Word, body: &mut Body) -> bool
+        requires { Tells (C.claims self.now.claims.now) body.old }
+        ensures found { result ≡ true →
+            (case_kept C.claims self.now).declaration.body body.new.routine at ≡ true }
+        ensures nowhere { result ≡ false → (f : said.Fact) →
+            IsPlaced (case_kept C.claims self.now) at f → ⊥ }
+        ensures tells { Tells (C.claims self.now.claims.now) body.new }
+    {
+        let Some(owner) = self.declaration.owner_of(at) else {
+            return false;
+        };
+        match owner {
+            Owner::Main => {
+                body.turn_to_main();
+                true
+            }
+            Owner::Routine(entry) => body.turn_to(self.claims, entry),
+        }
+    }
+
+    /// The first condition that fails at an address, if one does; it is told whether a routine of that
+    /// entry is named, and which line is looked at first.
+    pub fn check_at(
+        &self,
+        at: Word,
+        is_named: bool,
+        near: &mut usize,
+        body: &mut Body,
+        rooms: &mut Rooms,
+    ) -> Result<(), Condition>
+        requires named { is_named ≡ names_routine (C.claims self.now.claims.now) at }
+        requires body { Tells (C.claims self.now.claims.now) body.old }
+        ensures checked { MatchResult result
+            (λ _. HoldsBetween (case_kept C.claims self.now) 1 15 at)
+            (λ v. FailsAtLine (case_kept C.claims self.now) at v) }
+        ensures body { Tells (C.claims self.now.claims.now) body.new }
+    {
+        if is_named && !self.declaration.is_entry(at) {
+            return Err(Condition::V2);
+        }
+        let count = self.claims.count_facts(at, *near);
+        if count == 0 {
+            return Ok(());
+        }
+        if !self.finds_body(at, body) {
+            return Err(Condition::V2);
+        }
+        self.check_facts(at, count, near, body, rooms)
+    }
+
+    /// The same, where there are facts in a body, and its routine and exit lines are where they may be.
+    fn check_facts(
+        &self,
+        at: Word,
+        count: usize,
+        near: &mut usize,
+        body: &Body,
+        rooms: &mut Rooms,
+    ) -> Result<(), Condition>
+        requires placed { RoutinesArePlaced (case_kept C.claims self.now) at }
+        requires count { count ≡ length ((C.claims self.now.claims.now).facts at) }
+        requires some { 0 < count }
+        requires stands { (case_kept C.claims self.now).declaration.body body.now.routine at ≡ true }
+        requires body { Tells (C.claims self.now.claims.now) body.now }
+        ensures { MatchResult result
+            (λ _. HoldsBetween (case_kept C.claims self.now) 1 15 at)
+            (λ v. FailsAtLine (case_kept C.claims self.now) at v) }
+    {
+        self.declaration.is_declared();
+        let place = self.first_place(at, count, near, body, rooms);
+        if place == OF_LINES {
+            return Err(Condition::V2);
+        }
+        if place >= PAST_ALL {
+            return Ok(());
+        }
+        Err(nth(place))
+    }
+
+    /// The place of the first condition that fails of some fact at an address, and the one behind all if
+    /// none does.
+    fn first_place(
+        &self,
+        at: Word,
+        count: usize,
+        near: &mut usize,
+        body: &Body,
+        rooms: &mut Rooms,
+    ) -> usize
+        requires count { count ≡ length ((C.claims self.now.claims.now).facts at) }
+        requires stands { (case_kept C.claims self.now).declaration.body body.now.routine at ≡ true }
+        requires body { Tells (C.claims self.now.claims.now) body.now }
+        ensures { IsLeastOfAll (case_kept C.claims self.now) body.now.routine at result }
+    {
+        let mut limit = PAST_ALL;
+        for index in 0..count {
+            limit = self.check_fact(at, index, limit, near, body, rooms);
+            if limit == OF_LINES {
+                return OF_LINES;
+            }
+        }
+        limit
+    }
+
+    /// The place of the first condition before a limit that fails of one of the facts at an address, and
+    /// the limit if none does.
+    fn check_fact(
+        &self,
+        at: Word,
+        index: usize,
+        limit: usize,
+        near: &mut usize,
+        body: &Body,
+        rooms: &mut Rooms,
+    ) -> usize
+        requires index { index < length ((C.claims self.now.claims.now).facts at) }
+        requires low { 2 ≤ limit }
+        requires high { limit ≤ 15 }
+        requires stands { (case_kept C.claims self.now).declaration.body body.now.routine at ≡ true }
+        requires body { Tells (C.claims self.now.claims.now) body.now }
+        ensures { IsLeastOf (case_kept C.claims self.now) body.now.routine at
+            (fact_at ((C.claims self.now.claims.now).facts at) index) limit result }
+    {
+        let rules = self.claims.rules();
+        *near = self.claims.put_fact(at, *near, index, &mut rooms.claimed);
+        if !body.allows(&rules, &rooms.claimed) {
+            return OF_LINES;
+        }
+        put_sites(&rules, &body.claim.sites, &mut rooms.claimed);
+        if !put_asked(&rules, self.image, &rooms.claimed, &mut rooms.fact) {
+            return limit;
+        }
+        Point::of(
+            self.image,
+            self.declaration,
+            self.claims,
+            body,
+            at,
+            &rooms.fact,
+            *near,
+        )
+        .first_failing(limit, &mut rooms.others)
+    }
+}

@@ -1,0 +1,159 @@
+//! Where a run goes on after a word: whether what is known then lands among the facts there.
+
+ghost use Rattle.std.specs.Prelude.{ℕ, ◌≡◌, ◌<◌, ◌↔◌, true, IsTrue};
+ghost use Rattle.wordset.specs.Lanes.{words};
+ghost use Rattle.domain.specs.Sums.Brief.{brief_words};
+ghost use Rattle.domain.specs.Sums.FactInCode.{fact_in_code};
+ghost use Rattle.facts.specs.Sums.OutcomesInCode.{outcome_in, outcomes_in};
+ghost use Rattle.facts.specs.declared.Condition.TheVariants.{V4};
+ghost use Rattle.judge.specs.Sums.Landing.{LandsAt, SuccessorLands, EachSuccessor, sites_of};
+ghost use Rattle.judge.specs.Sums.Points.{IsPoint, case_of, HoldsHere};
+
+use crate::claims::Claims;
+use crate::point::{Others, Point, place_of};
+use crate::sources::FactsAt;
+use domain::BriefSet;
+use facts::{Kind, LandingRooms, NextFact, Outcome, Outcomes};
+use std::alloc::Allocator;
+use word12::Word;
+use wordset::WordSet;
+
+impl<A: Allocator, C: Claims> Point<'_, A, C> {
+    /// Whether a routine's body has an address.
+    pub fn is_inside(&self, owner: &Option<Word>, at: Word) -> bool
+        ensures { result ≡ (case_of C.claims self.now).declaration.body owner.now at }
+    {
+        match owner {
+            None => self.place.declaration.in_main(at),
+            Some(entry) => self.place.declaration.in_body(*entry, at),
+        }
+    }
+
+    /// Whether what is known lands at an address of a routine's body, with the sites of that routine. It
+    /// stays as it is.
+    pub fn lands(
+        &self,
+        owner: &Option<Word>,
+        sites: &WordSet,
+        at: Word,
+        known: &mut NextFact,
+        rooms: &mut LandingRooms,
+    ) -> bool
+        requires point { IsPoint C.claims self.now }
+        requires sites { words sites.now ≡ sites_of (case_of C.claims self.now).certificate owner.now }
+        ensures lands { IsTrue result ↔
+            LandsAt (case_of C.claims self.now) owner.now at (fact_in_code known.old) }
+        ensures kept { fact_in_code known.new ≡ fact_in_code known.old }
+    {
+        let place = place_of(
+            self.place.image,
+            self.place.declaration,
+            owner,
+            self.place.rules,
+        );
+        if !self.is_inside(owner, at) {
+            return place.is_idle(known, rooms);
+        }
+        let among = FactsAt {
+            claims: self.claims,
+            at,
+            sites,
+            near: self.near,
+        };
+        place.lands(known, &among, rooms)
+    }
+
+    /// Whether what is known lands at an address of the same body.
+    pub fn lands_here(&self, at: Word, known: &mut NextFact, rooms: &mut LandingRooms) -> bool
+        requires { IsPoint C.claims self.now }
+        ensures lands { IsTrue result ↔
+            LandsAt (case_of C.claims self.now) self.now.place.routine at (fact_in_code known.old) }
+        ensures kept { fact_in_code known.new ≡ fact_in_code known.old }
+    {
+        self.lands(
+            &self.place.routine,
+            &self.body.claim.sites,
+            at,
+            known,
+            rooms,
+        )
+    }
+
+    /// Whether what is known lands in the same body at each of some addresses.
+    fn lands_at_each(
+        &self,
+        addresses: &WordSet,
+        known: &mut NextFact,
+        rooms: &mut LandingRooms,
+    ) -> bool
+        requires { IsPoint C.claims self.now }
+        ensures { IsTrue result ↔ ((a : ℕ) → a < 4096 → words addresses.now a ≡ true →
+            LandsAt (case_of C.claims self.now) self.now.place.routine a (fact_in_code known.old)) }
+    {
+        for at in addresses.iter() {
+            if !self.lands_here(at, known, rooms) {
+                return false;
+            }
+        }
+        true
+    }
+
+    /// Whether what is known lands in the same body at each of some addresses, which stand in a brief
+    /// set.
+    fn lands_at_brief(
+        &self,
+        targets: &BriefSet,
+        known: &mut NextFact,
+        rooms: &mut LandingRooms,
+    ) -> bool
+        requires { IsPoint C.claims self.now }
+        ensures { IsTrue result ↔ ((a : ℕ) → a < 4096 → brief_words targets.now a ≡ true →
+            LandsAt (case_of C.claims self.now) self.now.place.routine a (fact_in_code known.old)) }
+    {
+        let mut addresses = WordSet::empty();
+        targets.put(&mut addresses);
+        self.lands_at_each(&addresses, known, rooms)
+    }
+
+    /// Whether an outcome lands wherever it goes, if it is there and goes on.
+    fn outcome_lands(&self, outcome: &mut Outcome, rooms: &mut LandingRooms) -> bool
+        requires { IsPoint C.claims self.now }
+        ensures { IsTrue result ↔
+            EachSuccessor (SuccessorLands (case_of C.claims self.now) self.now.place.routine)
+            (outcome_in outcome.old) }
+    {
+        match &outcome.kind {
+            Kind::Nothing | Kind::Calls | Kind::Returns => true,
+            Kind::Goes => self.lands_at_brief(&outcome.targets, &mut outcome.fact, rooms),
+        }
+    }
+
+    /// Whether each of some outcomes that goes on lands wherever it goes.
+    fn each_lands(&self, outcomes: &mut Outcomes, rooms: &mut LandingRooms) -> bool
+        requires { IsPoint C.claims self.now }
+        ensures { IsTrue result ↔
+            EachSuccessor (SuccessorLands (case_of C.claims self.now) self.now.place.routine)
+            (outcomes_in outcomes.old) }
+    {
+        if !self.outcome_lands(&mut outcomes.first, rooms) {
+            return false;
+        }
+        if !self.outcome_lands(&mut outcomes.second, rooms) {
+            return false;
+        }
+        if !self.outcome_lands(&mut outcomes.third, rooms) {
+            return false;
+        }
+        self.outcome_lands(&mut outcomes.fourth, rooms)
+    }
+
+    /// Whether each outcome of a word that goes on lands wherever it goes.
+    pub(crate) fn outcomes_land(&self, word: Word, others: &mut Others) -> bool
+        requires { IsPoint C.claims self.now }
+        ensures { IsTrue result ↔ HoldsHere C.claims self.now V4 word }
+    {
+        self.place
+            .put_outcomes(self.fact, self.at, word, &mut others.outcomes);
+        self.each_lands(&mut others.outcomes, &mut others.landing)
+    }
+}

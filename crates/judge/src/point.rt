@@ -1,0 +1,104 @@
+//! A fact of which conditions are asked at an address of a body, and room for what it is compared with.
+
+ghost use Rattle.std.specs.Prelude.{◌≡◌, true};
+ghost use Rattle.judge.specs.Sums.Bodies.{Tells};
+ghost use Rattle.judge.specs.Sums.Judged.{judged};
+ghost use Rattle.judge.specs.Sums.Shapes.{IsRoomy};
+ghost use Rattle.judge.specs.Sums.Points.{IsPoint, case_of};
+
+use crate::body::Body;
+use crate::claims::Claims;
+use bin_tape::Image;
+use declaration::Declaration;
+use domain::Rules;
+use facts::{Fact, LandingRooms, NarrowedFact, NextFact, Outcomes, Place};
+use std::alloc::Allocator;
+use word12::Word;
+
+/// Room for further facts, with which the one at an address is compared or which come of it.
+#[derive(Drop)]
+pub struct Others {
+    pub exit: Fact,
+    pub next: NextFact,
+    pub outcomes: Outcomes,
+    pub landing: LandingRooms,
+}
+
+impl Others {
+    /// Room that nothing stands in.
+    #[inline]
+    pub fn new() -> Others {
+        Others {
+            exit: Fact::any(),
+            next: NextFact::any(),
+            outcomes: Outcomes::new(),
+            landing: LandingRooms::new(),
+        }
+    }
+}
+
+/// A fact of which conditions are asked at an address of a body.
+#[derive(Drop)]
+pub struct Point<'a, A: Allocator, C: Claims> {
+    pub claims: &'a C,
+    pub place: Place<'a, A>,
+    pub body: &'a Body,
+    pub at: Word,
+    pub fact: &'a NarrowedFact,
+    /// The line at which facts at other addresses are looked for first.
+    pub near: usize,
+}
+
+/// The place of the facts in a routine's body.
+pub fn place_of<'a, A: Allocator>(
+    image: &'a Image,
+    declaration: &'a Declaration<A>,
+    routine: &Option<Word>,
+    rules: Rules,
+) -> Place<'a, A>
+    ensures image { result.image.now ≡ image.now }
+    ensures declaration { result.declaration.now ≡ declaration.now }
+    ensures routine { result.routine ≡ routine.now }
+    ensures rules { result.rules ≡ rules }
+{
+    Place {
+        image,
+        declaration,
+        routine: *routine,
+        rules,
+    }
+}
+
+impl<'a, A: Allocator, C: Claims> Point<'a, A, C> {
+    /// The fact at an address of a body.
+    pub fn of(
+        image: &'a Image,
+        declaration: &'a Declaration<A>,
+        claims: &'a C,
+        body: &'a Body,
+        at: Word,
+        fact: &'a NarrowedFact,
+        near: usize,
+    ) -> Point<'a, A, C>
+        requires stands { (judged image.now declaration.now (C.claims claims.now)).declaration.body
+            body.now.routine at ≡ true }
+        requires tells { Tells (C.claims claims.now) body.now }
+        requires roomy { IsRoomy fact.now }
+        ensures point { IsPoint C.claims result }
+        ensures case { case_of C.claims result ≡
+            judged image.now declaration.now (C.claims claims.now) }
+        ensures at { result.at ≡ at }
+        ensures routine { result.place.routine ≡ body.now.routine }
+        ensures fact { result.fact.now ≡ fact.now }
+    {
+        let place = place_of(image, declaration, &body.routine, claims.rules());
+        Point {
+            claims,
+            place,
+            body,
+            at,
+            fact,
+            near,
+        }
+    }
+}

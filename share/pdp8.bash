@@ -32,7 +32,7 @@ _pdp8() {
             ;;
         verify) options='--source --start --profile --steps --seed --save --force --why --help' ;;
         assemble) options='--output --profile --why --help' ;;
-        list) options='--profile --why --help' ;;
+        list) options='--cross --profile --why --help' ;;
         source) options='--output --start --declaration --profile --force --why --help' ;;
         dump) options='--profile --why --help' ;;
         run) options='--start --steps --trace --profile --events --reader --punch --keys --mark --teletype --switches --until --until-write --until-read --last --show --why --help' ;;

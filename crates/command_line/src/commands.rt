@@ -352,6 +352,13 @@ const LAST: Argument = Argument {
     help: "writes a line for each of the last N instructions that are executed, before the summary",
 };
 
+const CROSS: Argument = Argument {
+    name: "cross",
+    short: None,
+    form: Form::Flag,
+    help: "below the listing, writes a table of the symbols: of each where it is defined and used",
+};
+
 const READS: Argument = Argument {
     name: "reads",
     short: None,
@@ -492,7 +499,7 @@ const DUMP_ARGUMENTS: [Argument; 3] = [TAPE, PROFILE, WHY_INPUT];
 
 const ASSEMBLE_ARGUMENTS: [Argument; 5] = [TAPE_OUT, OTHER_SOURCES, OUTPUT, PROFILE, WHY_SOURCE];
 
-const LIST_ARGUMENTS: [Argument; 3] = [SOURCE, PROFILE, WHY_SOURCE];
+const LIST_ARGUMENTS: [Argument; 4] = [SOURCE, CROSS, PROFILE, WHY_SOURCE];
 
 const SOURCE_ARGUMENTS: [Argument; 8] = [
     TAPE,
@@ -630,7 +637,7 @@ const LIST: Entry = Entry {
     name: "list",
     usage: "pdp8 list [OPTIONS] <SOURCE>...",
     about: "Assembles a PAL III source and writes its listing",
-    after_help: "Example:\n  pdp8 list hello.pal",
+    after_help: "Examples:\n  pdp8 list hello.pal\n  pdp8 list --cross hello.pal",
 };
 
 const SOURCE_OF_TAPE: Entry = Entry {

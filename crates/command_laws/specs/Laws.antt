@@ -4,6 +4,7 @@ use Rattle.std.specs.Prelude.{None, ℕ, ◌≡◌, ◌<◌, ◌≤◌, Bool, tr
 use Rattle.std.specs.List.{AllByRecursion}
 use Rattle.peripherals.specs.declared.Event.{Event}
 use Rattle.peripherals.specs.declared.Event.TheVariants.{Step, Key, PrinterDone, ReaderDone, PunchDone, Switches, Continue}
+use Rattle.command_parts.specs.declared.options.SummaryForm.{SummaryForm}
 use Rattle.command_parts.specs.declared.options.RunOptions.{RunOptions}
 use Rattle.command_parts.specs.declared.status.Fault.{Fault}
 use Rattle.command_parts.specs.declared.status.Fault.TheVariants.{EmptyImage, Source, Device}
@@ -72,17 +73,17 @@ pub record CarriesAll (plan : Plan) : Type 0 where
 -- punched, and its status.
 abbrev pub SessionsEnd : Type 0
 SessionsEnd =
-    (options : RunOptions) (plan : Plan) (image : List (Option ℕ)) → CarriesAll plan →
+    (options : RunOptions) (form : SummaryForm) (plan : Plan) (image : List (Option ℕ)) → CarriesAll plan →
     (text : List ℕ) × (printed : List ℕ) × (punched : List ℕ) × (status : Status) ×
-    IsSessionOf options Whole plan image text printed punched status
+    IsSessionOf options form Whole plan image text printed punched status
 
 -- There is no other such end.
 abbrev pub SessionsAreOne : Type 0
 SessionsAreOne =
-    (options : RunOptions) (plan : Plan) (image : List (Option ℕ))
+    (options : RunOptions) (form : SummaryForm) (plan : Plan) (image : List (Option ℕ))
     (text text' printed printed' punched punched' : List ℕ) (status status' : Status) →
-    IsSessionOf options Whole plan image text printed punched status →
-    IsSessionOf options Whole plan image text' printed' punched' status' →
+    IsSessionOf options form Whole plan image text printed punched status →
+    IsSessionOf options form Whole plan image text' printed' punched' status' →
     (text ≡ text') × (printed ≡ printed') × (punched ≡ punched') × (status ≡ status')
 
 -- A session at the teletype with these frames and these bytes of keys has one end at most.
@@ -90,8 +91,8 @@ abbrev pub TypedAreOne : Type 0
 TypedAreOne =
     (options : TeletypeOptions) (frames bytes : List ℕ) (image : List (Option ℕ))
     (text text' printed printed' punched punched' : List ℕ) (status status' : Status) →
-    IsHeld (types_by options frames bytes) (run_of options) true Whole image text printed punched status →
-    IsHeld (types_by options frames bytes) (run_of options) true Whole image text' printed' punched' status' →
+    IsHeld (types_by options frames bytes) (run_of options) options.summary Whole image text printed punched status →
+    IsHeld (types_by options frames bytes) (run_of options) options.summary Whole image text' printed' punched' status' →
     (text ≡ text') × (printed ≡ printed') × (punched ≡ punched') × (status ≡ status')
 
 -- What events lead to in so many instructions, that many steps of the instruction table lead to, by some answers of the devices.

@@ -6,7 +6,7 @@ use crate::refused::{Misuse, Refused};
 use crate::shown::{is_stopped, shown_cells};
 use crate::values::{continues_of, profile_of, read_standard_input_once, run_options, start_of};
 use clap::ArgMatches;
-use command_parts::options::{Manner, SessionOptions, TeletypeOptions};
+use command_parts::options::{Manner, SessionOptions, SummaryForm, TeletypeOptions};
 use word12::Word;
 
 /// A run with an operator, as the options ask for it.
@@ -17,7 +17,7 @@ pub struct Session<'a> {
     /// What the devices are joined to.
     pub joined: Joined<'a>,
     /// How the tape is run.
-    pub options: SessionOptions,
+    pub options: SessionOptions<'a>,
 }
 
 impl<'a> Session<'a> {
@@ -45,7 +45,7 @@ pub struct WatchedSession<'a> {
     /// The name of the file of the keys.
     pub keys: Option<&'a str>,
     /// How the tape is run; the start and the machine are the declaration's.
-    pub options: SessionOptions,
+    pub options: SessionOptions<'a>,
     /// How often CONTINUE is pressed at declared pauses at most, if it may be.
     pub continues: Option<u32>,
     /// Whether it is said what violates a rule.
@@ -75,7 +75,7 @@ pub struct TeletypeSession<'a> {
     /// The name of the file that the punched bytes go to.
     pub punch: Option<&'a str>,
     /// How it is held.
-    pub options: TeletypeOptions,
+    pub options: TeletypeOptions<'a>,
 }
 
 impl<'a> TeletypeSession<'a> {
@@ -144,24 +144,34 @@ pub fn session_of<'a>(found: &ArgMatches<'a>) -> Result<Session<'a>, Refused> {
     }
     read_standard_input_once(&[tape, reader.unwrap_or(""), keys.unwrap_or("")])?;
     let punch = punch_of(found, &[tape, reader.unwrap_or("-"), keys.unwrap_or("-")])?;
+    let teletype = found.get_flag("teletype");
+    let summary = SummaryForm {
+        apart: false,
+        seen: teletype,
+        saved_in: punch,
+    };
     Ok(Session {
         tape,
         joined: Joined {
             reader,
             punch,
             keys,
-            teletype: found.get_flag("teletype"),
+            teletype,
         },
-        options: session_options(found)?,
+        options: session_options(found, summary)?,
     })
 }
 
-/// How a tape is run with an operator.
-fn session_options(found: &ArgMatches<'_>) -> Result<SessionOptions, Refused> {
+/// How a tape is run with an operator, with a summary of this form.
+fn session_options<'a>(
+    found: &ArgMatches<'a>,
+    summary: SummaryForm<'a>,
+) -> Result<SessionOptions<'a>, Refused> {
     Ok(SessionOptions {
         run: run_options(found)?,
         switches: switches_of(found)?,
         mark: found.get_flag("mark"),
+        summary,
     })
 }
 
@@ -183,7 +193,7 @@ pub fn watched_session_of<'a>(
         declaration,
         reader,
         keys,
-        options: session_options(found)?,
+        options: session_options(found, SummaryForm::WHOLE)?,
         continues: continues_of(found)?,
         explained: found.get_flag("why"),
     })
@@ -208,6 +218,11 @@ pub fn teletype_of<'a>(found: &ArgMatches<'a>) -> Result<TeletypeSession<'a>, Re
                 mark: found.get_flag("mark"),
             },
             show: shown_cells(found)?,
+            summary: SummaryForm {
+                apart: true,
+                seen: true,
+                saved_in: punch,
+            },
         },
     })
 }

@@ -32,15 +32,38 @@ pub struct Stops {
     pub read: WordSet,
 }
 
+/// What the summary of a run with an operator tells, and where it begins.
+#[derive(Clone, Copy, PartialEq, Eq, Debug)]
+pub struct SummaryForm<'n> {
+    /// It begins on a line of its own, also behind characters that leave a line open.
+    pub apart: bool,
+    /// What was printed was seen, and isn't told again.
+    pub seen: bool,
+    /// The file that what was punched goes to, if it goes to one: then the summary names it, and tells the number of
+    /// frames in place of the frames.
+    pub saved_in: Option<&'n str>,
+}
+
+impl SummaryForm<'_> {
+    /// All is told, where the summary comes.
+    pub const WHOLE: SummaryForm<'static> = SummaryForm {
+        apart: false,
+        seen: false,
+        saved_in: None,
+    };
+}
+
 /// How a tape is run with an operator.
 #[derive(Clone, Copy, PartialEq, Eq, Debug)]
-pub struct SessionOptions {
+pub struct SessionOptions<'n> {
     /// How the tape is run.
     pub run: RunOptions,
     /// What the switches are set to first, if they are.
     pub switches: Option<Word>,
     /// Each key has channel 8 set.
     pub mark: bool,
+    /// What the summary tells.
+    pub summary: SummaryForm<'n>,
 }
 
 /// What a declaration is proposed for.
@@ -88,7 +111,7 @@ pub struct Manner {
 
 /// How a session at the teletype is held.
 #[derive(Clone, Copy, PartialEq, Eq, Debug)]
-pub struct TeletypeOptions {
+pub struct TeletypeOptions<'n> {
     /// The address of the first instruction.
     pub start: Word,
     /// Whose instructions the machine has.
@@ -99,4 +122,6 @@ pub struct TeletypeOptions {
     pub manner: Manner,
     /// The cells whose words are shown when the session is over.
     pub show: WordSet,
+    /// What the summary tells.
+    pub summary: SummaryForm<'n>,
 }

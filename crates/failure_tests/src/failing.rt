@@ -11,7 +11,7 @@ use command_laws::explaining::explain;
 use command_laws::guessing::guess;
 use command_laws::migrating::migrate;
 use command_laws::running::{RunOptions, dump, run, run_events};
-use command_laws::session::{Outputs, SessionOptions, run_session};
+use command_laws::session::{Outputs, SessionOptions, SummaryForm, run_session};
 use command_laws::sourcing::{declared_source, source};
 use command_laws::status::{DeviceFault, Fault, Status};
 use command_laws::stuck::guess_or_explain;
@@ -116,11 +116,12 @@ fn options(trace: bool) -> RunOptions {
     }
 }
 
-fn session() -> SessionOptions {
+fn session() -> SessionOptions<'static> {
     SessionOptions {
         run: options(false),
         switches: None,
         mark: false,
+        summary: SummaryForm::WHOLE,
     }
 }
 

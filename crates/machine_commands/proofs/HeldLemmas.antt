@@ -66,7 +66,7 @@ session_faults {T} most tape reader keys image (Err fault) good none held = inr 
 -- what it writes
 pub session_ok : (options : SessionOptions) (tape reader keys : Option (List ℕ)) (image : List (Option ℕ)) (frames bytes : List ℕ) (o : Operator) (r : Result Status Fault) (old new : Taken) →
     HasImage tape image → AreFirst options.run.rounds reader frames → AreFirst options.run.rounds keys bytes → plan_of o ≡ plan_for options frames bytes → o.last ≡ None →
-    IfOk r (λ status. WritesAll (λ text printed punched. IsHeld (λ p w extent es. Comes operating p extent (place_of o) w es) options.run false Whole image text printed punched status) old new) →
+    IfOk r (λ status. WritesAll (λ text printed punched. IsHeld (λ p w extent es. Comes operating p extent (place_of o) w es) options.run options.summary Whole image text printed punched status) old new) →
     IfOk r (λ status. WritesAll (IsSession options Whole tape reader keys status) old new)
 session_ok options tape reader keys image frames bytes o (Ok status) old new has_image frames_are bytes_are is first writes =
     session_is options tape reader keys image frames bytes o status old new has_image frames_are bytes_are is first writes
@@ -75,6 +75,6 @@ session_ok options tape reader keys image frames bytes o (Err fault) old new has
 -- what it leaves where it has a fault
 pub session_or : (options : SessionOptions) (tape reader keys : Option (List ℕ)) (image : List (Option ℕ)) (frames bytes : List ℕ) (o : Operator) (failed : Failures) (old new : Taken) →
     HasImage tape image → AreFirst options.run.rounds reader frames → AreFirst options.run.rounds keys bytes → plan_of o ≡ plan_for options frames bytes → o.last ≡ None →
-    FrontsOf (IsPartOf (λ p w extent es. Comes operating p extent (place_of o) w es) options.run false failed.report failed.teletype false image) failed old new → NothingOrFronts options failed tape reader keys old new
+    FrontsOf (IsPartOf (λ p w extent es. Comes operating p extent (place_of o) w es) options.run options.summary failed.report failed.teletype false image) failed old new → NothingOrFronts options failed tape reader keys old new
 session_or options tape reader keys image frames bytes o failed old new has_image frames_are bytes_are is first fronts =
     inr (session_fronts options tape reader keys image frames bytes o failed old new has_image frames_are bytes_are is first fronts)

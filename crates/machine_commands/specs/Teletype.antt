@@ -26,8 +26,7 @@ abbrev pub types_by : TeletypeOptions → List ℕ → List ℕ → Profile → 
 types_by options frames bytes profile w extent events =
     Comes typing profile extent (first_sitting options.switches options.manner frames bytes) w events
 
--- The tape is good, and this is what a session with it brings, by the frames of a reader and the bytes of keys. The summary stands
--- on a line of its own.
+-- The tape is good, and this is what a session with it brings, by the frames of a reader and the bytes of keys.
 pub record IsTyped (options : TeletypeOptions) (extent : Extent) (tape reader keys : Option (List ℕ)) (status : Status) (text printed punched : List ℕ) : Type 0 where
   pub image : List (Option ℕ)
   pub has_image : HasImage tape image
@@ -35,7 +34,7 @@ pub record IsTyped (options : TeletypeOptions) (extent : Extent) (tape reader ke
   pub frames_are : AreAll reader frames
   pub bytes : List ℕ
   pub bytes_are : AreAll keys bytes
-  pub session : IsHeld (types_by options frames bytes) (run_of options) true extent image text printed punched status
+  pub session : IsHeld (types_by options frames bytes) (run_of options) options.summary extent image text printed punched status
 
 -- What a session that has a fault may be about to write, to print and to punch. The summary, which a whole session alone has, is
 -- written last. Where neither the report nor the teletype failed, the session came to where a frame or a key was read, if that read

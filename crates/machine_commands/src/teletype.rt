@@ -17,7 +17,7 @@ use std::alloc::Allocator;
 use streams::{ByteSink, ByteSource};
 
 /// How the tape of a session is run.
-fn run_of(options: TeletypeOptions) -> RunOptions
+fn run_of(options: TeletypeOptions<'_>) -> RunOptions
     ensures { result ≡ run_of options }
 {
     RunOptions {
@@ -32,7 +32,7 @@ fn run_of(options: TeletypeOptions) -> RunOptions
 /// Runs a tape with somebody at the teletype. A key is struck in a round whose instruction asked for one:
 /// a KSF that found the keyboard's flag clear. Each frame and each key is read when it is due, and what
 /// was printed until then is typed before it. What is punched is written when the session is over, also
-/// where it broke off, and then the summary, on a line of its own. The session ends early at a halt, at an
+/// where it broke off, and then the summary in the form that is asked for. The session ends early at a halt, at an
 /// unsupported word, and where a key is asked for and none is left.
 ///
 /// # Errors
@@ -50,7 +50,7 @@ pub fn teletype<
 >(
     alloc: A,
     tape: &mut R,
-    typist: &mut Typist<F, K>,
+    typist: &mut Typist<'_, F, K>,
     out: &mut Outputs<W, T, P>,
 ) -> Result<Status, Fault>
     requires readable { R.mark tape.old ≡ false }
@@ -95,7 +95,7 @@ pub fn teletype<
     ensures takes_tape { TakesTape (R.remaining tape.old) (R.remaining tape.new) }
 {
     let image = tape_from(tape)?;
-    let options = run_of(typist.options());
+    let options = typist.options();
     typist.begin();
-    attend(alloc, &image, typist, options, true, out)
+    attend(alloc, &image, typist, run_of(options), options.summary, out)
 }

@@ -6,11 +6,13 @@ use crate::files::open_input;
 use crate::replacing::ResultFile;
 use crate::tellers::{Nowhere, open_input_if, report_to, tell_to};
 use command_line::{Session, TeletypeSession};
+use command_parts::options::{SessionOptions, SummaryForm, TeletypeOptions};
 use command_parts::status::{DeviceFault, Fault, Status};
+use command_parts::visible::visible_text;
 use either::Either;
 use machine_commands::session::{Outputs, run_session};
 use machine_commands::teletype::{Typist, teletype};
-use std::alloc::Global;
+use std::alloc::{AllocError, Global};
 use std::io::{self, Printer};
 use std::rt::Files;
 use streams::ByteSink;
@@ -70,6 +72,26 @@ fn type_to<'r, R: Print>(rt: &'r R, teletype: bool) -> Writes<Either<Printer<'r,
     }
 }
 
+/// The name of the punch's file as it is shown.
+fn shown_name(alloc: Global, name: Option<&str>) -> Result<Option<String>, AllocError> {
+    match name {
+        Some(name) => Ok(Some(visible_text(alloc, name)?)),
+        None => Ok(None),
+    }
+}
+
+/// The form of a summary that tells the punch's file by this name.
+fn form_with<'n>(form: SummaryForm<'_>, name: &'n Option<String>) -> SummaryForm<'n> {
+    SummaryForm {
+        apart: form.apart,
+        seen: form.seen,
+        saved_in: match name {
+            Some(name) => Some(name.as_str()),
+            None => None,
+        },
+    }
+}
+
 /// Runs a tape with an operator. The files are opened in this order: the tape, the reader's frames
 /// and the keys, and then it is seen that the punch's can be made.
 ///
@@ -83,6 +105,13 @@ pub fn hold_session<R: Files + Input + Print + Eprint>(
     session: &Session<'_>,
 ) -> Result<Status, Fault> {
     let joined = &session.joined;
+    let name = shown_name(alloc, joined.punch)?;
+    let options = SessionOptions {
+        run: session.options.run,
+        switches: session.options.switches,
+        mark: session.options.mark,
+        summary: form_with(session.options.summary, &name),
+    };
     let mut frames = open_input(rt, session.tape)?;
     let mut reader = open_input_if(rt, joined.reader)?;
     let mut keys = open_input_if(rt, joined.keys)?;
@@ -97,7 +126,7 @@ pub fn hold_session<R: Files + Input + Print + Eprint>(
         &mut frames,
         &mut reader,
         &mut keys,
-        session.options,
+        options,
         &mut outputs,
     );
     let failed = outputs.punch.failed();
@@ -117,6 +146,11 @@ pub fn hold_teletype_session<R: Files + Input + Print + Eprint>(
     alloc: Global,
     session: &TeletypeSession<'_>,
 ) -> Result<Status, Fault> {
+    let name = shown_name(alloc, session.punch)?;
+    let options = TeletypeOptions {
+        summary: form_with(session.options.summary, &name),
+        ..session.options
+    };
     let mut frames = open_input(rt, session.tape)?;
     let reader = open_input_if(rt, session.reader)?;
     let keys = Reads::new(rt.reader());
@@ -126,7 +160,7 @@ pub fn hold_teletype_session<R: Files + Input + Print + Eprint>(
         teletype: Writes::new(io::writer(rt)),
         punch: Writes::new(&mut punch),
     };
-    let mut typist = Typist::new(reader, keys, session.options);
+    let mut typist = Typist::new(reader, keys, options);
     let answer = teletype(alloc, &mut frames, &mut typist, &mut outputs);
     let failed = outputs.punch.failed();
     finish_punch(&mut punch, failed, answer)

@@ -34,9 +34,9 @@ _pdp8() {
         assemble) options='--output --profile --why --help' ;;
         list) options='--cross --profile --why --help' ;;
         source) options='--output --start --declaration --profile --force --why --help' ;;
-        dump) options='--profile --why --help' ;;
-        run) options='--start --steps --trace --profile --events --reader --punch --keys --mark --teletype --switches --until --until-write --until-read --last --show --why --help' ;;
-        teletype) options='--start --profile --reader --punch --switches --mark --raw --show --why --help' ;;
+        dump) options='--source --profile --why --help' ;;
+        run) options='--source --start --steps --trace --profile --events --reader --punch --keys --mark --teletype --switches --until --until-write --until-read --last --show --why --help' ;;
+        teletype) options='--source --start --profile --reader --punch --switches --mark --raw --show --why --help' ;;
         watch) options='--source --reader --keys --mark --switches --steps --continue --show --why --help' ;;
         check) options='--source --why --help' ;;
         report) options='--output --source --text --why --help' ;;

@@ -127,12 +127,12 @@ sessions_are_one options form plan image text text' printed printed' punched pun
     held_one operating (first_place plan) options form image text text' printed printed' punched punched' status status' a b
 
 pub typed_are_one : TypedAreOne
-typed_are_one options frames bytes image text text' printed printed' punched punched' status status' a b =
-    held_one typing (first_sitting options.switches options.manner frames bytes) (run_of options) options.summary image text text' printed printed' punched punched' status status' a b
+typed_are_one options form frames bytes image text text' printed printed' punched punched' status status' a b =
+    held_one typing (first_sitting options.switches options.manner frames bytes) (run_of options) form image text text' printed printed' punched punched' status status' a b
 
 -- what is watched is what is run
 pub watched_as_run : TapeImageIsOne → WatchedAsRun
-watched_as_run one options tape text reader keys explained told seen written printed punched status watched run =
+watched_as_run one options form tape text reader keys explained told seen written printed punched status watched run =
     let d = watched.declaration in
     let image : run.image ≡ watched.image = one (take 65536 tape) run.image watched.image run.has_image watched.has_image in
     let frames : run.frames ≡ watched.frames = run.frames_are ∙ sym watched.frames_are in

@@ -89,10 +89,10 @@ SessionsAreOne =
 -- A session at the teletype with these frames and these bytes of keys has one end at most.
 abbrev pub TypedAreOne : Type 0
 TypedAreOne =
-    (options : TeletypeOptions) (frames bytes : List ℕ) (image : List (Option ℕ))
+    (options : TeletypeOptions) (form : SummaryForm) (frames bytes : List ℕ) (image : List (Option ℕ))
     (text text' printed printed' punched punched' : List ℕ) (status status' : Status) →
-    IsHeld (types_by options frames bytes) (run_of options) options.summary Whole image text printed punched status →
-    IsHeld (types_by options frames bytes) (run_of options) options.summary Whole image text' printed' punched' status' →
+    IsHeld (types_by options frames bytes) (run_of options) form Whole image text printed punched status →
+    IsHeld (types_by options frames bytes) (run_of options) form Whole image text' printed' punched' status' →
     (text ≡ text') × (printed ≡ printed') × (punched ≡ punched') × (status ≡ status')
 
 -- What events lead to in so many instructions, that many steps of the instruction table lead to, by some answers of the devices.
@@ -110,10 +110,10 @@ as_declared d options = record options { run = record options.run { start = d.st
 -- declared start.
 abbrev pub WatchedAsRun : Type 0
 WatchedAsRun =
-    (options : SessionOptions) (tape text reader keys : List ℕ) (explained : Bool) (told : List ℕ) (seen : Status)
+    (options : SessionOptions) (form : SummaryForm) (tape text reader keys : List ℕ) (explained : Bool) (told : List ℕ) (seen : Status)
     (written printed punched : List ℕ) (status : Status) →
     (watched : IsSessionWatchedSo options None (Some tape) (Some text) (Some reader) (Some keys) explained told seen) →
-    (run : IsSession (as_declared watched.declaration options) Whole (Some tape) (Some reader) (Some keys) status written printed punched) →
+    (run : IsSession (as_declared watched.declaration options) form Whole (Some tape) (Some reader) (Some keys) status written printed punched) →
     watched.watched.events ≡ run.session.events
 
 -- Sources that tell their bytes, which are these parts.

@@ -35,8 +35,8 @@ const DECLARATION: Argument = Argument {
 };
 
 const TAPE_BESIDE_KEYS: Argument = Argument {
-    help: "the tape; standard input is the keyboard",
-    ..TAPE
+    help: "the tape; left out with --source. Standard input is the keyboard",
+    ..TAPE_OR_SOURCE
 };
 
 const TAPE_OR_SOURCE: Argument = Argument {
@@ -321,14 +321,14 @@ const SHOW: Argument = Argument {
     name: "show",
     short: None,
     form: Form::Values("R"),
-    help: "writes these cells when the run is over, such as 0324 or 0400-0417; separate several by spaces, or repeat the option",
+    help: "writes these cells when the run is over, such as 0324 or 0400-0417; separate several by spaces, or repeat the option. With --source they may have its symbols, as COUNT or LIST+2",
 };
 
 const UNTIL: Argument = Argument {
     name: "until",
     short: None,
     form: Form::Value("PLACE"),
-    help: "stops the run before the instruction at this octal address; PLACE,N stops it when the run gets there for the N-th time",
+    help: "stops the run before the instruction at this octal address, with --source also LOOP or LOOP+2; PLACE,N stops it when the run gets there for the N-th time",
 };
 
 const UNTIL_WRITE: Argument = Argument {
@@ -461,8 +461,9 @@ const VERIFY_ARGUMENTS: [Argument; 10] = [
     WHY_VERIFY,
 ];
 
-const RUN_ARGUMENTS: [Argument; 18] = [
-    TAPE,
+const RUN_ARGUMENTS: [Argument; 19] = [
+    TAPE_OR_SOURCE,
+    PARTS,
     START,
     ROUNDS,
     EVENTS_FILE,
@@ -482,8 +483,9 @@ const RUN_ARGUMENTS: [Argument; 18] = [
     WHY_INPUT,
 ];
 
-const TELETYPE_ARGUMENTS: [Argument; 10] = [
+const TELETYPE_ARGUMENTS: [Argument; 11] = [
     TAPE_BESIDE_KEYS,
+    PARTS,
     START,
     PROFILE,
     READER_BESIDE_KEYS,
@@ -495,7 +497,7 @@ const TELETYPE_ARGUMENTS: [Argument; 10] = [
     WHY_INPUT,
 ];
 
-const DUMP_ARGUMENTS: [Argument; 3] = [TAPE, PROFILE, WHY_INPUT];
+const DUMP_ARGUMENTS: [Argument; 4] = [TAPE_OR_SOURCE, PARTS, PROFILE, WHY_INPUT];
 
 const ASSEMBLE_ARGUMENTS: [Argument; 5] = [TAPE_OUT, OTHER_SOURCES, OUTPUT, PROFILE, WHY_SOURCE];
 
@@ -609,7 +611,7 @@ const RUN: Entry = Entry {
     name: "run",
     usage: "pdp8 run [OPTIONS] <TAPE>",
     about: "Runs a tape, and writes where the run ended and what was printed and punched",
-    after_help: "Example:\n  pdp8 run hello.bin --start 200 --trace",
+    after_help: "Examples:\n  pdp8 run hello.bin --start 200 --trace\n  pdp8 run --source hello.pal --until TYPE+2 --show LEFT",
 };
 
 const SESSION: Entry = Entry {
@@ -623,7 +625,7 @@ const DUMP: Entry = Entry {
     name: "dump",
     usage: "pdp8 dump [OPTIONS] <TAPE>",
     about: "Writes the address, the word and its name for each word on a tape",
-    after_help: "Example:\n  pdp8 dump hello.bin",
+    after_help: "With --source, each line ends with what the source says about the word: the tag before it, and its line.\n\nExamples:\n  pdp8 dump hello.bin\n  pdp8 dump --source hello.pal",
 };
 
 const ASSEMBLE: Entry = Entry {

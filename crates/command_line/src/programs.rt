@@ -12,7 +12,7 @@ use crate::outputs::{
     report_of, save_of,
 };
 use crate::refused::{Misuse, Refused};
-use crate::shown::shown_cells;
+use crate::shown::{Octal, Places, shown_of};
 use crate::sources::source_names;
 use crate::values::{
     declare_options, is_start_named, operand_of, read_standard_input_once, refute_options,
@@ -33,6 +33,8 @@ pub struct ProgramRequest<'a> {
     pub declaration: Option<&'a str>,
     /// What is done.
     pub task: Task<'a>,
+    /// The cells whose words are shown when a run is over, which may have the symbols of a source.
+    pub places: Places<'a>,
     /// Whether a start or a machine is named.
     pub asked: bool,
     /// Whether more is said than the line of an answer or of a fault.
@@ -76,7 +78,7 @@ pub enum Task<'a> {
     Watch {
         /// The name of the file of events.
         events: &'a str,
-        /// The cells whose words are shown when the run is over.
+        /// The cells whose words are shown when the run of a tape is over.
         show: WordSet,
     },
     /// To watch a run with an operator.
@@ -416,10 +418,11 @@ fn session_task<'a>(
     alloc: Global,
     found: &ArgMatches<'a>,
     operands: &Operands<'a>,
+    show: WordSet,
 ) -> Result<Task<'a>, Refused> {
     let session = match operands.program.tape() {
-        Some(tape) => watched_session_of(tape, operands.declaration.unwrap_or("-"), found)?,
-        None => watched_session_of("", "", found)?,
+        Some(tape) => watched_session_of(tape, operands.declaration.unwrap_or("-"), show, found)?,
+        None => watched_session_of("", "", show, found)?,
     };
     let inputs = inputs_of(alloc, operands, &[session.reader, session.keys])?;
     read_standard_input_once(&inputs)?;
@@ -456,6 +459,7 @@ fn task_of<'a>(
     found: &ArgMatches<'a>,
     operands: &Operands<'a>,
     inputs: &[&'a str],
+    show: WordSet,
 ) -> Result<Task<'a>, Refused> {
     let last = operands.last;
     Ok(match command {
@@ -465,7 +469,7 @@ fn task_of<'a>(
         },
         "watch" => Task::Watch {
             events: last.unwrap_or("-"),
-            show: shown_cells(found)?,
+            show,
         },
         "guess" => guess_task(found, operands, inputs)?,
         "refute" => Task::Refute {
@@ -487,15 +491,25 @@ fn task_of<'a>(
     })
 }
 
+/// The cells that are shown of a run of a tape. Of a source they are not known yet.
+fn shown_on(operands: &Operands<'_>, places: &Places<'_>) -> Result<WordSet, Refused> {
+    if operands.program.tape().is_none() {
+        return Ok(WordSet::empty());
+    }
+    Ok(places.shown(&Octal)?)
+}
+
 /// What a command asks for whose operands are these.
 fn task_on<'a>(
     alloc: Global,
     command: &str,
     found: &ArgMatches<'a>,
     operands: &Operands<'a>,
+    places: &Places<'a>,
 ) -> Result<Task<'a>, Refused> {
+    let show = shown_on(operands, places)?;
     if command == "watch" && is_watched_with_operator(found) {
-        return session_task(alloc, found, operands);
+        return session_task(alloc, found, operands, show);
     }
     let input = match command {
         "check" | "report" | "watch" => operands.last,
@@ -504,7 +518,7 @@ fn task_on<'a>(
     let inputs = inputs_of(alloc, operands, &[input])?;
     read_standard_input_once(&inputs)?;
     start_once(found, operands.declaration)?;
-    task_of(command, found, operands, &inputs)
+    task_of(command, found, operands, &inputs, show)
 }
 
 /// The request of a command on a program and its declaration.
@@ -523,7 +537,8 @@ pub(crate) fn program_request<'a>(
         Some(parts) => source_operands(alloc, command, found, parts)?,
         None => tape_operands(command, found)?,
     };
-    let task = task_on(alloc, command, found, &operands)?;
+    let places = shown_of(alloc, found)?;
+    let task = task_on(alloc, command, found, &operands, &places)?;
     let Operands {
         program,
         declaration,
@@ -533,6 +548,7 @@ pub(crate) fn program_request<'a>(
         program,
         declaration,
         task,
+        places,
         asked: is_start_named(found),
         explained: found.get_flag("why"),
     })
@@ -563,6 +579,7 @@ pub(crate) fn place_request<'a>(
         program,
         declaration,
         task: Task::Place { out },
+        places: shown_of(alloc, found)?,
         asked: false,
         explained: found.get_flag("why"),
     })

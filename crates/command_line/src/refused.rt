@@ -37,6 +37,14 @@ pub enum Misuse {
     UntilWrite,
     /// The value of `--until-read` has no cell, or something else than addresses and ranges.
     UntilRead,
+    /// The value of `--show` has no cell, or something that the source of the program does not name.
+    ShowOfSource,
+    /// The value of `--until` is no address that the source of the program names, or not one and a number.
+    UntilOfSource,
+    /// The value of `--until-write` has no cell, or something that the source of the program does not name.
+    UntilWriteOfSource,
+    /// The value of `--until-read` has no cell, or something that the source of the program does not name.
+    UntilReadOfSource,
     /// The value of `--last` is not a number from 1 to 1,000,000.
     Last,
     /// The last instructions are to be shown, and all of them too.
@@ -96,6 +104,17 @@ pub enum Misuse {
 }
 
 impl Misuse {
+    /// What is wrong where a value may have the symbols of a source.
+    pub fn with_symbols(self) -> Misuse {
+        match self {
+            Misuse::Show => Misuse::ShowOfSource,
+            Misuse::Until => Misuse::UntilOfSource,
+            Misuse::UntilWrite => Misuse::UntilWriteOfSource,
+            Misuse::UntilRead => Misuse::UntilReadOfSource,
+            other => other,
+        }
+    }
+
     /// What is said about the value of an option or an argument that is not as expected.
     fn value_text(&self) -> Option<&'static str> {
         Some(match self {
@@ -109,6 +128,14 @@ impl Misuse {
                 "bad value for '--until-write': expected octal addresses and ranges, such as 0324 0400-0417",
             Misuse::UntilRead =>
                 "bad value for '--until-read': expected octal addresses and ranges, such as 0324 0400-0417",
+            Misuse::ShowOfSource =>
+                "bad value for '--show': expected addresses and ranges, in octal or by symbols that the source defines, such as COUNT LIST-LIST+17",
+            Misuse::UntilOfSource =>
+                "bad value for '--until': expected an address, in octal or by a symbol that the source defines, such as LOOP+2, or with a number from 1 to 1000000, such as LOOP+2,4",
+            Misuse::UntilWriteOfSource =>
+                "bad value for '--until-write': expected addresses and ranges, in octal or by symbols that the source defines, such as COUNT LIST-LIST+17",
+            Misuse::UntilReadOfSource =>
+                "bad value for '--until-read': expected addresses and ranges, in octal or by symbols that the source defines, such as COUNT LIST-LIST+17",
             Misuse::Last => "bad value for '--last': expected a number from 1 to 1000000",
             Misuse::Seed => "bad value for '--seed': expected a number from 0 to 99999999",
             Misuse::Continue => "bad value for '--continue': expected a number from 1 to 1000000",
@@ -197,6 +224,12 @@ impl From<Error> for Refused {
         } else {
             Refused::CommandLine(error)
         }
+    }
+}
+
+impl From<Misuse> for Refused {
+    fn from(misuse: Misuse) -> Refused {
+        Refused::Misuse(misuse)
     }
 }
 

@@ -55,15 +55,13 @@ impl SummaryForm<'_> {
 
 /// How a tape is run with an operator.
 #[derive(Clone, Copy, PartialEq, Eq, Debug)]
-pub struct SessionOptions<'n> {
+pub struct SessionOptions {
     /// How the tape is run.
     pub run: RunOptions,
     /// What the switches are set to first, if they are.
     pub switches: Option<Word>,
     /// Each key has channel 8 set.
     pub mark: bool,
-    /// What the summary tells.
-    pub summary: SummaryForm<'n>,
 }
 
 /// What a declaration is proposed for.
@@ -111,7 +109,7 @@ pub struct Manner {
 
 /// How a session at the teletype is held.
 #[derive(Clone, Copy, PartialEq, Eq, Debug)]
-pub struct TeletypeOptions<'n> {
+pub struct TeletypeOptions {
     /// The address of the first instruction.
     pub start: Word,
     /// Whose instructions the machine has.
@@ -122,6 +120,4 @@ pub struct TeletypeOptions<'n> {
     pub manner: Manner,
     /// The cells whose words are shown when the session is over.
     pub show: WordSet,
-    /// What the summary tells.
-    pub summary: SummaryForm<'n>,
 }

@@ -116,12 +116,11 @@ fn options(trace: bool) -> RunOptions {
     }
 }
 
-fn session() -> SessionOptions<'static> {
+fn session() -> SessionOptions {
     SessionOptions {
         run: options(false),
         switches: None,
         mark: false,
-        summary: SummaryForm::WHOLE,
     }
 }
 
@@ -243,6 +242,7 @@ fn operated<A: Allocator + Copy>(alloc: A, heap: Global, plan: &Plan) -> Left {
         &mut plan.source(1, b"\x00\x01"),
         &mut plan.source(2, b"A"),
         session(),
+        SummaryForm::WHOLE,
         &mut outputs,
     );
     let (report, teletype, punch) = (outputs.report, outputs.teletype, outputs.punch);

@@ -827,10 +827,10 @@ operator_comes : (plan : Plan) (o : Operator) (extent : Extent) (p : Profile) (w
 operator_comes plan o extent p w es is first comes = rw (is, first) at comes
 
 -- the inputs are good
-session_part : (options : SessionOptions) (tape reader keys : Option (List ℕ)) (image : List (Option ℕ)) (frames bytes : List ℕ) (o : Operator) (reported typed : Bool) (extent : Extent) (text printed punched : List ℕ) →
+session_part : (options : SessionOptions) (form : SummaryForm) (tape reader keys : Option (List ℕ)) (image : List (Option ℕ)) (frames bytes : List ℕ) (o : Operator) (reported typed : Bool) (extent : Extent) (text printed punched : List ℕ) →
     HasImage tape image → AreFirst options.run.rounds reader frames → AreFirst options.run.rounds keys bytes → plan_of o ≡ plan_for options frames bytes → o.last ≡ None →
-    IsPartOf (λ p w extent es. Comes operating p extent (place_of o) w es) options.run options.summary reported typed false image extent text printed punched → IsPartOfSession options reported typed tape reader keys extent text printed punched
-session_part options tape reader keys image frames bytes o reported typed extent text printed punched has_image frames_are bytes_are is first part = record {
+    IsPartOf (λ p w extent es. Comes operating p extent (place_of o) w es) options.run form reported typed false image extent text printed punched → IsPartOfSession options form reported typed tape reader keys extent text printed punched
+session_part options form tape reader keys image frames bytes o reported typed extent text printed punched has_image frames_are bytes_are is first part = record {
   summed = part.summed;
   to_output = part.to_there;
   status = part.status;
@@ -841,28 +841,28 @@ session_part options tape reader keys image frames bytes o reported typed extent
     frames_are = frames_are;
     bytes = bytes;
     bytes_are = bytes_are;
-    session = held_by (λ p w extent es. Comes operating p extent (place_of o) w es) (comes_by (plan_for options frames bytes)) options.run options.summary extent image text printed punched part.status
+    session = held_by (λ p w extent es. Comes operating p extent (place_of o) w es) (comes_by (plan_for options frames bytes)) options.run form extent image text printed punched part.status
         (λ p w es comes. operator_comes (plan_for options frames bytes) o extent p w es is first comes) part.is;
   };
 }
 
-pub session_fronts : (options : SessionOptions) (tape reader keys : Option (List ℕ)) (image : List (Option ℕ)) (frames bytes : List ℕ) (o : Operator) (failed : Failures) (old new : Taken) →
+pub session_fronts : (options : SessionOptions) (form : SummaryForm) (tape reader keys : Option (List ℕ)) (image : List (Option ℕ)) (frames bytes : List ℕ) (o : Operator) (failed : Failures) (old new : Taken) →
     HasImage tape image → AreFirst options.run.rounds reader frames → AreFirst options.run.rounds keys bytes → plan_of o ≡ plan_for options frames bytes → o.last ≡ None →
-    FrontsOf (IsPartOf (λ p w extent es. Comes operating p extent (place_of o) w es) options.run options.summary failed.report failed.teletype false image) failed old new → SessionFronts options failed tape reader keys old new
-session_fronts options tape reader keys image frames bytes o failed old new has_image frames_are bytes_are is first fronts =
-    fronts_by _ _ failed old new (λ extent text printed punched part. session_part options tape reader keys image frames bytes o failed.report failed.teletype extent text printed punched has_image frames_are bytes_are is first part) fronts
+    FrontsOf (IsPartOf (λ p w extent es. Comes operating p extent (place_of o) w es) options.run form failed.report failed.teletype false image) failed old new → SessionFronts options form failed tape reader keys old new
+session_fronts options form tape reader keys image frames bytes o failed old new has_image frames_are bytes_are is first fronts =
+    fronts_by _ _ failed old new (λ extent text printed punched part. session_part options form tape reader keys image frames bytes o failed.report failed.teletype extent text printed punched has_image frames_are bytes_are is first part) fronts
 
-pub session_is : (options : SessionOptions) (tape reader keys : Option (List ℕ)) (image : List (Option ℕ)) (frames bytes : List ℕ) (o : Operator) (status : Status) (old new : Taken) →
+pub session_is : (options : SessionOptions) (form : SummaryForm) (tape reader keys : Option (List ℕ)) (image : List (Option ℕ)) (frames bytes : List ℕ) (o : Operator) (status : Status) (old new : Taken) →
     HasImage tape image → AreFirst options.run.rounds reader frames → AreFirst options.run.rounds keys bytes → plan_of o ≡ plan_for options frames bytes → o.last ≡ None →
-    WritesAll (λ text printed punched. IsHeld (λ p w extent es. Comes operating p extent (place_of o) w es) options.run options.summary Whole image text printed punched status) old new → WritesAll (IsSession options Whole tape reader keys status) old new
-session_is options tape reader keys image frames bytes o status old new has_image frames_are bytes_are is first writes = writes_by _ _ old new (λ text printed punched held. record {
+    WritesAll (λ text printed punched. IsHeld (λ p w extent es. Comes operating p extent (place_of o) w es) options.run form Whole image text printed punched status) old new → WritesAll (IsSession options form Whole tape reader keys status) old new
+session_is options form tape reader keys image frames bytes o status old new has_image frames_are bytes_are is first writes = writes_by _ _ old new (λ text printed punched held. record {
   image = image;
   has_image = has_image;
   frames = frames;
   frames_are = frames_are;
   bytes = bytes;
   bytes_are = bytes_are;
-  session = held_by (λ p w extent es. Comes operating p extent (place_of o) w es) (comes_by (plan_for options frames bytes)) options.run options.summary Whole image text printed punched status
+  session = held_by (λ p w extent es. Comes operating p extent (place_of o) w es) (comes_by (plan_for options frames bytes)) options.run form Whole image text printed punched status
       (λ p w es comes. operator_comes (plan_for options frames bytes) o Whole p w es is first comes) held;
 }) writes
 

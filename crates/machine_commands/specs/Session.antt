@@ -131,23 +131,23 @@ plan_for options frames keys = record {
 
 -- The tape is good, and these are what a run of it brings, with the frames of a reader and the bytes of keys, as many of each
 -- as there are rounds: no more can come.
-pub record IsSession (options : SessionOptions) (extent : Extent) (tape reader keys : Option (List ℕ)) (status : Status) (text printed punched : List ℕ) : Type 0 where
+pub record IsSession (options : SessionOptions) (form : SummaryForm) (extent : Extent) (tape reader keys : Option (List ℕ)) (status : Status) (text printed punched : List ℕ) : Type 0 where
   pub image : List (Option ℕ)
   pub has_image : HasImage tape image
   pub frames : List ℕ
   pub frames_are : AreFirst options.run.rounds reader frames
   pub bytes : List ℕ
   pub bytes_are : AreFirst options.run.rounds keys bytes
-  pub session : IsSessionOf options.run options.summary extent (plan_for options frames bytes) image text printed punched status
+  pub session : IsSessionOf options.run form extent (plan_for options frames bytes) image text printed punched status
 
 -- What a run with an operator that has a fault may be about to write, to print and to punch. The summary, which a whole run
 -- alone has, is written last: after it only that write itself can fail, so it's about to be written only where the report
 -- failed. Where neither the report nor the teletype failed, the run came to its end or to an event that prints or punches.
-pub record IsPartOfSession (options : SessionOptions) (reported typed : Bool) (tape reader keys : Option (List ℕ)) (extent : Extent) (text printed punched : List ℕ) : Type 0 where
+pub record IsPartOfSession (options : SessionOptions) (form : SummaryForm) (reported typed : Bool) (tape reader keys : Option (List ℕ)) (extent : Extent) (text printed punched : List ℕ) : Type 0 where
   pub summed : extent ≡ Whole → reported ≡ true
   pub to_output : (reported || typed) ≡ false → extent ≡ UpToOutput
   pub status : Status
-  pub is : IsSession options extent tape reader keys status text printed punched
+  pub is : IsSession options form extent tape reader keys status text printed punched
 
 -- What three sinks tell: where the trace and the summary, the characters and the punched bytes go.
 pub record Taken : Type 0 where
@@ -203,10 +203,10 @@ pub record FrontsOf (P : Extent → List ℕ → List ℕ → List ℕ → Type 
   pub punched_before_summary : extent ≡ Whole → Appends old.punch new.punch punched
 
 -- Fronts went out of what a run with an operator may be about to write, where these of its sinks failed.
-abbrev pub SessionFronts : SessionOptions → Failures → Option (List ℕ) → Option (List ℕ) → Option (List ℕ) → Taken → Taken → Type 0
-SessionFronts options failed tape reader keys old new =
-    FrontsOf (IsPartOfSession options failed.report failed.teletype tape reader keys) failed old new
+abbrev pub SessionFronts : SessionOptions → SummaryForm → Failures → Option (List ℕ) → Option (List ℕ) → Option (List ℕ) → Taken → Taken → Type 0
+SessionFronts options form failed tape reader keys old new =
+    FrontsOf (IsPartOfSession options form failed.report failed.teletype tape reader keys) failed old new
 
 -- Nothing was written at all, or such fronts were.
-abbrev pub NothingOrFronts : SessionOptions → Failures → Option (List ℕ) → Option (List ℕ) → Option (List ℕ) → Taken → Taken → Type 0
-NothingOrFronts options failed tape reader keys old new = (new ≡ old) ⊎ SessionFronts options failed tape reader keys old new
+abbrev pub NothingOrFronts : SessionOptions → SummaryForm → Failures → Option (List ℕ) → Option (List ℕ) → Option (List ℕ) → Taken → Taken → Type 0
+NothingOrFronts options form failed tape reader keys old new = (new ≡ old) ⊎ SessionFronts options form failed tape reader keys old new

@@ -390,7 +390,7 @@ pub fn watch_session_message<A: Allocator + Copy, D: Allocator>(
     declaration: &Declaration<D>,
     frames: &[u8],
     keys: &[u8],
-    options: &SessionOptions<'_>,
+    options: &SessionOptions,
     continues: Option<u32>,
     explained: bool,
 ) -> Result<RunMessage<A>, Fault>

@@ -254,7 +254,8 @@ pub fn run_session<
     tape: &mut R,
     reader: &mut F,
     keys: &mut K,
-    options: SessionOptions<'_>,
+    options: SessionOptions,
+    form: SummaryForm<'_>,
     out: &mut Outputs<W, T, P>,
 ) -> Result<Status, Fault>
     requires readable { R.mark tape.old ≡ false }
@@ -265,7 +266,7 @@ pub fn run_session<
     requires punchable { P.mark out.old.punch ≡ false }
     // What is written, typed and punched is that of the run of the events that come.
     ensures run { IfOk result (λ status.
-        WritesAll (IsSession options Whole (R.remaining tape.old) (F.remaining reader.old)
+        WritesAll (IsSession options form Whole (R.remaining tape.old) (F.remaining reader.old)
         (K.remaining keys.old) status)
         (taken (W.taken out.old.report) (T.taken out.old.teletype) (P.taken out.old.punch))
         (taken (W.taken out.new.report) (T.taken out.new.teletype) (P.taken out.new.punch))) }
@@ -275,13 +276,13 @@ pub fn run_session<
         (input (K.mark keys.new) (K.remaining keys.old) (K.remaining keys.new))) }
     // After a fault fronts of what the first events leave went out, and all of it where no write
     // failed, or of the whole with its summary where the report failed; or nothing at all,
-    ensures front { OnErr result (NothingOrFronts options
+    ensures front { OnErr result (NothingOrFronts options form
         (failures (W.mark out.new.report) (T.mark out.new.teletype) (P.mark out.new.punch))
         (R.remaining tape.old) (F.remaining reader.old) (K.remaining keys.old)
         (taken (W.taken out.old.report) (T.taken out.old.teletype) (P.taken out.old.punch))
         (taken (W.taken out.new.report) (T.taken out.new.teletype) (P.taken out.new.punch))) }
     // of which the fronts are sure where a write failed,
-    ensures front_of_failure { fails_to_write result ≡ true → SessionFronts options
+    ensures front_of_failure { fails_to_write result ≡ true → SessionFronts options form
         (failures (W.mark out.new.report) (T.mark out.new.teletype) (P.mark out.new.punch))
         (R.remaining tape.old) (F.remaining reader.old) (K.remaining keys.old)
         (taken (W.taken out.old.report) (T.taken out.old.teletype) (P.taken out.old.punch))
@@ -290,7 +291,7 @@ pub fn run_session<
     ensures broke_off { result ≡ Err NoMemory →
         HasCome (input (F.mark reader.new) (F.remaining reader.old) (F.remaining reader.new))
         ⊎ (HasCome (input (K.mark keys.new) (K.remaining keys.old) (K.remaining keys.new))
-        ⊎ SessionFronts options
+        ⊎ SessionFronts options form
         (failures (W.mark out.new.report) (T.mark out.new.teletype) (P.mark out.new.punch))
         (R.remaining tape.old) (F.remaining reader.old) (K.remaining keys.old)
         (taken (W.taken out.old.report) (T.taken out.old.teletype) (P.taken out.old.punch))
@@ -332,5 +333,5 @@ pub fn run_session<
         options.mark,
     );
     are_few(options.run.rounds);
-    attend(alloc, &image, &mut operator, options.run, options.summary, out)
+    attend(alloc, &image, &mut operator, options.run, form, out)
 }

@@ -11,13 +11,13 @@ pub use crate::session::Outputs;
 use crate::session::attend;
 pub use crate::typist::{Manner, TeletypeOptions, Typist};
 use command_parts::inputs::tape_from;
-use command_parts::options::RunOptions;
+use command_parts::options::{RunOptions, SummaryForm};
 use command_parts::status::{Fault, Status};
 use std::alloc::Allocator;
 use streams::{ByteSink, ByteSource};
 
 /// How the tape of a session is run.
-fn run_of(options: TeletypeOptions<'_>) -> RunOptions
+fn run_of(options: TeletypeOptions) -> RunOptions
     ensures { result ≡ run_of options }
 {
     RunOptions {
@@ -50,7 +50,8 @@ pub fn teletype<
 >(
     alloc: A,
     tape: &mut R,
-    typist: &mut Typist<'_, F, K>,
+    typist: &mut Typist<F, K>,
+    form: SummaryForm<'_>,
     out: &mut Outputs<W, T, P>,
 ) -> Result<Status, Fault>
     requires readable { R.mark tape.old ≡ false }
@@ -61,7 +62,7 @@ pub fn teletype<
     requires punchable { P.mark out.old.punch ≡ false }
     // What is written, typed and punched is that of the run of the events that come.
     ensures run { IfOk result (λ status.
-        WritesAll (IsTyped typist.old.options Whole (R.remaining tape.old)
+        WritesAll (IsTyped typist.old.options form Whole (R.remaining tape.old)
         (F.remaining typist.old.reader) (K.remaining typist.old.keys) status)
         (taken (W.taken out.old.report) (T.taken out.old.teletype) (P.taken out.old.punch))
         (taken (W.taken out.new.report) (T.taken out.new.teletype) (P.taken out.new.punch))) }
@@ -71,7 +72,7 @@ pub fn teletype<
     // no write failed: also where a read of a frame or a key failed, what was printed before is typed, and
     // what was punched before is written.
     ensures front { IfErr result (λ fault. (is_fault_of_tape fault ≡ true) ⊎ ((R.mark tape.new ≡ true)
-        ⊎ TypedFronts typist.old.options
+        ⊎ TypedFronts typist.old.options form
         (failures (W.mark out.new.report) (T.mark out.new.teletype) (P.mark out.new.punch))
         (F.mark typist.new.reader || K.mark typist.new.keys)
         (R.remaining tape.old) (F.remaining typist.old.reader) (K.remaining typist.old.keys)
@@ -95,7 +96,7 @@ pub fn teletype<
     ensures takes_tape { TakesTape (R.remaining tape.old) (R.remaining tape.new) }
 {
     let image = tape_from(tape)?;
-    let options = typist.options();
+    let options = run_of(typist.options());
     typist.begin();
-    attend(alloc, &image, typist, run_of(options), options.summary, out)
+    attend(alloc, &image, typist, options, form, out)
 }

@@ -27,10 +27,10 @@ use word12::Word;
 /// The events come in rounds: an instruction is tried, the printer and the punch get done, the reader
 /// gets its next frame if it waits for one, and the next key is struck if the instruction asked for one.
 #[derive(Drop)]
-pub struct Typist<'n, F, K> {
+pub struct Typist<F, K> {
     reader: F,
     keys: K,
-    options: TeletypeOptions<'n>,
+    options: TeletypeOptions,
     rounds: u64,
     last: Option<Event>,
     asked: bool,
@@ -111,9 +111,9 @@ fn complete<A: Allocator>(world: &mut World<A>)
     let _punched = world.apply(Event::PunchDone);
 }
 
-impl<'n, F: ByteSource, K: ByteSource> Typist<'n, F, K> {
+impl<F: ByteSource, K: ByteSource> Typist<F, K> {
     /// A typist who has this tape in the reader and these keys to strike, before the session.
-    pub fn new(reader: F, keys: K, options: TeletypeOptions<'n>) -> Typist<'n, F, K>
+    pub fn new(reader: F, keys: K, options: TeletypeOptions) -> Typist<F, K>
         ensures reader { result.reader ≡ reader }
         ensures keys { result.keys ≡ keys }
         ensures options { result.options ≡ options }
@@ -129,7 +129,7 @@ impl<'n, F: ByteSource, K: ByteSource> Typist<'n, F, K> {
     }
 
     /// How the session is held.
-    pub fn options(&self) -> TeletypeOptions<'n>
+    pub fn options(&self) -> TeletypeOptions
         ensures { result ≡ self.now.options }
     {
         self.options
@@ -307,7 +307,7 @@ impl<'n, F: ByteSource, K: ByteSource> Typist<'n, F, K> {
     }
 }
 
-impl<'n, F: ByteSource, K: ByteSource> Scheduler for Typist<'n, F, K> {
+impl<F: ByteSource, K: ByteSource> Scheduler for Typist<F, K> {
     ghost use Rattle.std.specs.Prelude.{◌+◌, ◌*◌};
     ghost use Rattle.machine_commands.specs.SessionParts.{has_stepped, rank};
     ghost use Rattle.machine_commands.specs.TypingParts.{Types};

@@ -1,0 +1,30 @@
+-- The lines of a table, one after another.
+use Rattle.std.proofs.Common.{◌≡◌, ◌∙◌, sym, ap, subst, refl, ℕ, ◌+◌, ◌<◌, ◌≤◌, List, [], ◌∷◌, ◌++◌, append_assoc, length, get_or, drop}
+use Rattle.std.specs.Prelude.{codes}
+use Rattle.std.proofs.lemmas.List.{drop_more, drop_all, append-nil}
+use Rattle.source_commands.specs.declared.cross.Entry.{Entry}
+use Rattle.source_commands.specs.Cross.{AddsLines, AreLines, next_line, no_line, head_text}
+
+-- What was put behind a text is the lines of the entries before this one: with the lines of the others behind it, it has those of all.
+abbrev pub LinesBefore : List Entry → ℕ → List ℕ → List ℕ → Type 0
+LinesBefore entries i old text =
+    (more : List ℕ) → AreLines (drop i entries) more → (whole : List ℕ) × (AreLines entries whole × (text ++ more ≡ old ++ whole))
+
+pub lines_begin : (entries : List Entry) (old : List ℕ) → LinesBefore entries 0 old old
+lines_begin entries old = λ more are. (more, (are, refl))
+
+pub lines_on : (entries : List Entry) (i : ℕ) (d : Entry) (old text new told : List ℕ) → i < length entries → new ≡ text ++ head_text (get_or entries i d) ++ told ++ codes "\n" → LinesBefore entries i old text → LinesBefore entries (i + 1) old new
+lines_on entries i d old text new told h e before = λ more are.
+    let line : List ℕ = head_text (get_or entries i d) ++ told ++ codes "\n" in
+    let here : AreLines (get_or entries i d ∷ drop (i + 1) entries) (head_text (get_or entries i d) ++ told ++ codes "\n" ++ more) = next_line (get_or entries i d) (drop (i + 1) entries) told more are in
+    let there : AreLines (drop i entries) (head_text (get_or entries i d) ++ told ++ codes "\n" ++ more) = subst (λ (l : List Entry). AreLines l (head_text (get_or entries i d) ++ told ++ codes "\n" ++ more)) (sym (drop_more entries i d h)) here in
+    let found = before (head_text (get_or entries i d) ++ told ++ codes "\n" ++ more) there in
+    let same : line ++ more ≡ head_text (get_or entries i d) ++ told ++ codes "\n" ++ more =
+    append_assoc (head_text (get_or entries i d)) (told ++ codes "\n") more ∙ ap (λ (l : List ℕ). head_text (get_or entries i d) ++ l) (append_assoc told (codes "\n") more) in
+    (found.0, (found.1.0, ap (λ (l : List ℕ). l ++ more) e ∙ append_assoc text line more ∙ ap (λ (l : List ℕ). text ++ l) same ∙ found.1.1))
+
+pub lines_end : (entries : List Entry) (i : ℕ) (old text : List ℕ) → length entries ≤ i → LinesBefore entries i old text → AddsLines entries old text
+lines_end entries i old text h before =
+    let none : AreLines (drop i entries) [] = subst (λ (l : List Entry). AreLines l []) (sym (drop_all entries i h)) no_line in
+    let found = before [] none in
+    record { text = found.0; lines = found.1.0; added = sym (append-nil text) ∙ found.1.1 }

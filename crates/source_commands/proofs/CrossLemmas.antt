@@ -1,9 +1,11 @@
 -- The lines of a table, one after another.
 use Rattle.std.proofs.Common.{◌≡◌, ◌∙◌, sym, ap, subst, refl, ℕ, ◌+◌, ◌<◌, ◌≤◌, List, [], ◌∷◌, ◌++◌, append_assoc, length, get_or, drop}
-use Rattle.std.specs.Prelude.{codes}
+use Rattle.std.specs.Prelude.{codes, slice_get, Some}
 use Rattle.std.proofs.lemmas.List.{drop_more, drop_all, append-nil}
+use Rattle.std.proofs.lemmas.Option.{slice_get_within, slice_get-get_or}
+use Rattle.pal_text.specs.declared.names.Name.{Name}
 use Rattle.source_commands.specs.declared.cross.Entry.{Entry}
-use Rattle.source_commands.specs.Cross.{AddsLines, AreLines, next_line, no_line, head_text}
+use Rattle.source_commands.specs.Cross.{AddsLines, AreLines, entries_of, next_line, no_line, head_text}
 
 -- What was put behind a text is the lines of the entries before this one: with the lines of the others behind it, it has those of all.
 abbrev pub LinesBefore : List Entry → ℕ → List ℕ → List ℕ → Type 0
@@ -28,3 +30,16 @@ lines_end entries i old text h before =
     let none : AreLines (drop i entries) [] = subst (λ (l : List Entry). AreLines l []) (sym (drop_all entries i h)) no_line in
     let found = before [] none in
     record { text = found.0; lines = found.1.0; added = sym (append-nil text) ∙ found.1.1 }
+
+some_is : {X : Type 0} (x y : X) → Some x ≡ Some y → x ≡ y
+some_is x y e = cc
+
+-- a symbol more among the entries
+pub entry_on : (own : List (Name × ℕ)) (i : ℕ) (n : Name) (v : ℕ) (old new : List Entry) → slice_get own i ≡ Some (n, v) → new ≡ old ++ (record { name = n; value = v }) ∷ [] → new ++ entries_of (drop (i + 1) own) ≡ old ++ entries_of (drop i own)
+entry_on own i n v old new h e =
+    let below : i < length own = slice_get_within own i (n, v) h in
+    let found : Some (get_or own i (n, v)) ≡ Some (n, v) = sym (slice_get-get_or own i (n, v) below) ∙ h in
+    let is : get_or own i (n, v) ≡ (n, v) = some_is (get_or own i (n, v)) (n, v) found in
+    let rest : List Entry = entries_of (drop (i + 1) own) in
+    ap (λ (l : List Entry). l ++ rest) e ∙ append_assoc old ((record { name = n; value = v }) ∷ []) rest
+    ∙ ap (λ (l : List Entry). old ++ l) (sym (ap entries_of (drop_more own i (n, v) below) ∙ ap (λ (s : Name × ℕ). entries_of (s ∷ drop (i + 1) own)) is))

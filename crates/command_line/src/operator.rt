@@ -146,10 +146,7 @@ fn shown_on(tape: Option<&str>, places: &Places<'_>) -> Result<WordSet, Refused>
 }
 
 /// The run with an operator that the options of `run` ask for.
-pub fn session_of<'a>(
-    found: &ArgMatches<'a>,
-    places: &Places<'a>,
-) -> Result<Session<'a>, Refused> {
+pub fn session_of<'a>(found: &ArgMatches<'a>, places: &Places<'a>) -> Result<Session<'a>, Refused> {
     let tape = tape_of(found)?;
     let reader = found.get_str("reader");
     let keys = found.get_str("keys");
@@ -161,7 +158,11 @@ pub fn session_of<'a>(
     }
     let names = [tape.unwrap_or(""), reader.unwrap_or(""), keys.unwrap_or("")];
     read_standard_input_once(&names)?;
-    let inputs = [tape.unwrap_or("-"), reader.unwrap_or("-"), keys.unwrap_or("-")];
+    let inputs = [
+        tape.unwrap_or("-"),
+        reader.unwrap_or("-"),
+        keys.unwrap_or("-"),
+    ];
     let punch = punch_of(found, &inputs)?;
     let teletype = found.get_flag("teletype");
     let summary = SummaryForm {

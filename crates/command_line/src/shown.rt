@@ -259,4 +259,3 @@ pub(crate) fn is_stopped(found: &ArgMatches<'_>) -> bool {
             .iter()
             .any(|name| found.get_strs(name).is_some())
 }
-

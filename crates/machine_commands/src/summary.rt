@@ -245,7 +245,11 @@ fn push_decimal<A: Allocator>(text: &mut Vec<u8, A>, number: usize) -> Result<()
 fn frames_word(count: usize) -> &'static [u8]
     ensures { result.now ≡ frames_word count }
 {
-    if count == 1 { b" frame to " } else { b" frames to " }
+    if count == 1 {
+        b" frame to "
+    } else {
+        b" frames to "
+    }
 }
 
 /// Adds how many frames were punched into the file with this name, if any were.

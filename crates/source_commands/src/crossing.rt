@@ -53,10 +53,7 @@ impl<A: Allocator> ByteSink for TextSink<A> {
 }
 
 /// The listing of a program.
-fn listing_of<A: Allocator + Copy>(
-    alloc: A,
-    program: &Program<A>,
-) -> Result<Vec<u8, A>, AllocError>
+fn listing_of<A: Allocator + Copy>(alloc: A, program: &Program<A>) -> Result<Vec<u8, A>, AllocError>
     ensures { IfOk result (λ text. text.items ≡ listing_of program.now) }
 {
     let mut sink = TextSink {

@@ -168,8 +168,7 @@ fn is_indirect(source: &[u8], rest: &[Token]) -> bool
     ensures { result ≡ is_indirect source.now rest.now }
 {
     begins_with(INDIRECT, source, rest)
-        || (begins_with(ZERO_PAGE, source, rest)
-            && begins_with(INDIRECT, source, behind_two(rest)))
+        || (begins_with(ZERO_PAGE, source, rest) && begins_with(INDIRECT, source, behind_two(rest)))
 }
 
 /// What a reference does with the cell that it names.
@@ -178,13 +177,7 @@ fn reference_role(direct: Option<Role>, indirect: bool) -> Role
 {
     match direct {
         None => Role::Holds,
-        Some(role) => {
-            if indirect {
-                Role::Points
-            } else {
-                role
-            }
-        }
+        Some(role) => { if indirect { Role::Points } else { role } }
     }
 }
 
@@ -255,11 +248,35 @@ fn push_body<A: Allocator, S: Allocator + Copy>(
     match form {
         Form::Assign => {
             let (front, behind) = body.split_at(body.len().min(1));
-            push_uses(own, source, line, Role::Defines, Role::Computes, front, mentions)?;
-            push_uses(own, source, line, Role::Computes, Role::Computes, behind, mentions)
+            push_uses(
+                own,
+                source,
+                line,
+                Role::Defines,
+                Role::Computes,
+                front,
+                mentions,
+            )?;
+            push_uses(
+                own,
+                source,
+                line,
+                Role::Computes,
+                Role::Computes,
+                behind,
+                mentions,
+            )
         }
         Form::Origin => {
-            push_uses(own, source, line, Role::Computes, Role::Computes, body, mentions)
+            push_uses(
+                own,
+                source,
+                line,
+                Role::Computes,
+                Role::Computes,
+                body,
+                mentions,
+            )
         }
         Form::Word => {
             let role = word_role(source, body);
@@ -286,7 +303,15 @@ fn push_statement<A: Allocator, S: Allocator + Copy>(
     let count = statement.tags.saturating_mul(2).min(tokens.len());
     let (tags, body) = tokens.split_at(count);
     let line = Site::Line(standing.place);
-    push_uses(own, source, line, Role::Defines, Role::Defines, tags, mentions)?;
+    push_uses(
+        own,
+        source,
+        line,
+        Role::Defines,
+        Role::Defines,
+        tags,
+        mentions,
+    )?;
     push_body(own, source, standing, statement.form, body, mentions)
 }
 

@@ -15,8 +15,8 @@ use machine_commands::teletype::{Typist, teletype};
 use std::alloc::{AllocError, Global};
 use std::io::{self, Printer};
 use std::rt::Files;
-use streams::{ByteSink, ByteSource};
 use streams::standard::{Reads, Writes};
+use streams::{ByteSink, ByteSource};
 
 /// Where the punched bytes go: to a file, or nowhere.
 type Punch<'r, R> = Either<ResultFile<'r, R>, Nowhere>;

@@ -15,8 +15,8 @@ use source_commands::crossing::list_crossed;
 use std::alloc::Global;
 use std::io;
 use std::rt::Files;
-use streams::{ByteSink, ByteSource};
 use streams::standard::Writes;
+use streams::{ByteSink, ByteSource};
 
 /// The name of the first part of which a read failed.
 fn unread<'n, S: ByteSource>(names: &'n [&'n str], parts: &[S]) -> &'n str {

@@ -23,12 +23,7 @@ fn named_by(at: Word, word: Word) -> Word {
 }
 
 /// Adds the name of a word, in which a memory reference has its whole address.
-fn push_name(
-    text: &mut Vec<u8>,
-    at: Word,
-    word: Word,
-    profile: Profile,
-) -> Result<(), AllocError> {
+fn push_name(text: &mut Vec<u8>, at: Word, word: Word, profile: Profile) -> Result<(), AllocError> {
     let found = name(word, profile);
     let spelled = found.as_str().as_bytes();
     if word.index() >= NO_REFERENCE {

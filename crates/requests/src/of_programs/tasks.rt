@@ -1,10 +1,10 @@
 //! What is done with a program that is open. The other files of a command are opened before the program is read.
 
 use crate::files::{finish, open_input, open_output};
+use crate::of_machine::places::Symbolic;
 use crate::of_programs::open::OpenProgram;
 use crate::of_programs::searches::{declared, guessed, refuted};
 use crate::of_programs::verified::verified;
-use crate::of_machine::places::Symbolic;
 use crate::of_sources::assembled::AssembledSource;
 use crate::of_sources::source_lines::lines_of;
 use crate::tellers::open_input_if;

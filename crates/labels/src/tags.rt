@@ -17,13 +17,23 @@ pub struct Tags<A: Allocator> {
     list: Vec<Tag, A>,
 }
 
+/// Whether cells are this one alone.
+fn is_one(cells: Cells, at: Word) -> bool
+    ensures { result ≡ true → cells ≡ One at }
+{
+    match cells {
+        Cells::One(found) => found == at,
+        Cells::Range(_, _) => false,
+    }
+}
+
 /// Whether a declaration of a source with these symbols reads a word as this address.
 fn names<S: Allocator + Copy>(own: &SymbolTable<S>, piece: &[u8], at: Word) -> bool
     ensures { result ≡ true → cells_of own.now.entries piece.now ≡ Ok (One at) }
 {
     match cells_of(own, piece) {
-        Ok(Cells::One(found)) => found == at,
-        _ => false,
+        Ok(cells) => is_one(cells, at),
+        Err(_) => false,
     }
 }
 

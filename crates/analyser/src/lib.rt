@@ -15,9 +15,11 @@ ghost use Rattle.analyser.specs.Versions.{version_of};
 
 mod draft;
 mod length;
+mod sums;
 
 use crate::draft::is_draft;
 use crate::length::is_short;
+use crate::sums::found_by_sums;
 use bin_tape::Image;
 use certificate::{Certificate, Version};
 use declaration::Declaration;
@@ -127,6 +129,24 @@ fn found_within<A: Allocator + Copy, D: Allocator>(
     }
 }
 
+/// What a search found, or where it is stuck a certificate of version 3, if one is found; else the fault of the first.
+fn or_by_sums<A: Allocator + Copy, D: Allocator>(
+    alloc: A,
+    image: &Image,
+    declaration: &Declaration<D>,
+    found: Result<Certificate<A>, GuessFault>,
+    turns: &mut Turns,
+) -> Result<Certificate<A>, GuessFault> {
+    let Err(GuessFault::Stuck(at)) = &found else {
+        return found;
+    };
+    match found_by_sums(alloc, image, declaration, turns) {
+        Ok(certificate) => Ok(certificate),
+        Err(GuessFault::NoMemory) => Err(GuessFault::NoMemory),
+        Err(_) => Err(GuessFault::Stuck(*at)),
+    }
+}
+
 /// The draft of a search that found nothing, if it is stuck and there is one; else its fault.
 fn drafted_by<A: Allocator + Copy, D: Allocator>(
     search: &mut Search<A>,
@@ -181,7 +201,8 @@ pub fn guess_within<A: Allocator + Copy, D: Allocator>(
     let program = AnalysedProgram::of(image, declaration, MANY_RUNS);
     let mut search = Search::new(alloc);
     let version = version_of(declaration.profile());
-    found_within(alloc, &mut search, &program, version, turns)
+    let found = found_within(alloc, &mut search, &program, version, turns);
+    or_by_sums(alloc, image, declaration, found, turns)
 }
 
 /// Looks for a guess within 2,000,000 turns, and tells how many were taken.
@@ -258,7 +279,8 @@ pub fn guess_or_draft_within<A: Allocator + Copy, D: Allocator>(
     let program = AnalysedProgram::of(image, declaration, MANY_RUNS);
     let mut search = Search::new(alloc);
     let version = version_of(declaration.profile());
-    match found_within(alloc, &mut search, &program, version, turns) {
+    let found = found_within(alloc, &mut search, &program, version, turns);
+    match or_by_sums(alloc, image, declaration, found, turns) {
         Ok(certificate) => Ok(Attempt::Found(certificate)),
         Err(fault) => drafted_by(&mut search, &program, version, &fault),
     }

@@ -336,3 +336,69 @@ pub fn guess_or_draft<A: Allocator + Copy, D: Allocator>(
     let (attempt, _turns) = guess_or_draft_counted(alloc, image, declaration);
     attempt
 }
+
+/// Looks for a certificate of one version within 2,000,000 turns.
+///
+/// # Errors
+///
+/// As `guess_within`.
+pub fn guess_version<A: Allocator + Copy, D: Allocator>(
+    alloc: A,
+    image: &Image,
+    declaration: &Declaration<D>,
+    version: Version,
+) -> Result<Certificate<A>, GuessFault>
+    // The judge accepts it, so the program is safe.
+    ensures accepted { IfOk result (IsAccepted image.now declaration.now) }
+    ensures lines { IfOk result (λ c. AreLines (meaning c)) }
+    ensures version { IfOk result (λ c. (meaning c).version ≡ version) }
+{
+    let mut turns = Turns::new(MOST_TURNS);
+    if version == Version::Three {
+        return found_by_sums(alloc, image, declaration, &mut turns);
+    }
+    let program = AnalysedProgram::of(image, declaration, MANY_RUNS);
+    let mut search = Search::new(alloc);
+    found_within(alloc, &mut search, &program, version, &mut turns)
+}
+
+/// Looks for a certificate of one version as `guess_version` does, and gives a draft of one where it is stuck: in version 3 that
+/// of the search for a certificate in the version of the machine, if this is stuck too.
+///
+/// # Errors
+///
+/// As `guess_or_draft_within`.
+pub fn guess_version_or_draft<A: Allocator + Copy, D: Allocator>(
+    alloc: A,
+    image: &Image,
+    declaration: &Declaration<D>,
+    version: Version,
+) -> Result<Attempt<A>, GuessFault>
+    // The judge accepts what is found.
+    ensures accepted { IfOk result (IsAcceptedIfFound image.now declaration.now) }
+    // A draft's facts stand in bodies and its routine and exit lines at entries, and it has a fact
+    // where it is stuck.
+    ensures draft { IfOk result (IsDraftIfStuck (declared declaration.now)) }
+    ensures lines { IfOk result (λ a. AreLines (meaning (claimed_by a))) }
+{
+    let mut turns = Turns::new(MOST_TURNS);
+    let mut sought = version;
+    let mut stuck: Option<Word> = None;
+    if version == Version::Three {
+        match found_by_sums(alloc, image, declaration, &mut turns) {
+            Ok(certificate) => return Ok(Attempt::Found(certificate)),
+            Err(GuessFault::Stuck(at)) => stuck = Some(at),
+            Err(fault) => return Err(fault),
+        }
+        sought = version_of(declaration.profile());
+    }
+    let program = AnalysedProgram::of(image, declaration, MANY_RUNS);
+    let mut search = Search::new(alloc);
+    match found_within(alloc, &mut search, &program, sought, &mut turns) {
+        Ok(certificate) => match stuck {
+            None => Ok(Attempt::Found(certificate)),
+            Some(at) => Err(GuessFault::Stuck(at)),
+        },
+        Err(fault) => drafted_by(&mut search, &program, sought, &fault),
+    }
+}

@@ -113,6 +113,18 @@ impl<A: Allocator + Copy> SumInvariant<A> {
         }
     }
 
+    /// How many words a cell may hold.
+    pub(crate) fn count_of(&self, cell: Word) -> usize {
+        for line in &self.cells {
+            if line.told.cell == cell {
+                let mut set = WordSet::all();
+                line.told.set.put(&mut set);
+                return set.count();
+            }
+        }
+        4096
+    }
+
     /// Adds relations between tracked cells that say more than the sets.
     fn take_relations<F: KnownFact>(
         &mut self,

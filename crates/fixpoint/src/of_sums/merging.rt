@@ -115,7 +115,7 @@ fn shows<F: KnownFact>(known: &F, chain: &Chain) -> bool {
     true
 }
 
-/// Joins the words that a cell may hold to those of its line; tells whether they grew.
+/// Joins the words that a cell may hold to those of its line; tells whether they are others.
 fn grow<A: Allocator + Copy, F: KnownFact>(
     line: &mut CellInvariant,
     known: &F,
@@ -124,11 +124,11 @@ fn grow<A: Allocator + Copy, F: KnownFact>(
     let cell = line.told.cell;
     let mut set = WordSet::all();
     known.put_set_of(&Location::Cell(cell), &mut set);
-    if line.told.set.has_all(&set) {
-        return false;
-    }
     let mut old = WordSet::all();
     line.told.set.put(&mut old);
+    if set.is_subset(&old) {
+        return set != old;
+    }
     line.growths = line.growths.saturating_add(1);
     let counted = merge.limits.counted.contains(cell);
     let wide = merge.widened(&old, &old.union(&set), line.growths, counted);
@@ -238,7 +238,7 @@ impl<A: Allocator + Copy> SumInvariant<A> {
         }
     }
 
-    /// Joins the words of cells, and gives the cells with more words than before. Of those that may hold any word nothing is
+    /// Joins the words of cells, and gives the cells with other words than before. Of those that may hold any word nothing is
     /// said any more.
     fn join_cells<F: KnownFact>(
         &mut self,

@@ -15,7 +15,7 @@ use wordset::WordSet;
 /// words at which sets may end.
 #[derive(Drop)]
 pub struct SumProgram<'a, D: Allocator> {
-    pub(crate) base: AnalysedProgram<'a, D>,
+    pub base: AnalysedProgram<'a, D>,
     pub(crate) pointers: WordSet,
     pub(crate) tested: WordSet,
     pub(crate) readers: WordSet,
@@ -93,7 +93,7 @@ impl<'a, D: Allocator> SumProgram<'a, D> {
     }
 
     /// The entry of the routine whose body has an address, if it is not main's.
-    pub(crate) fn owner(&self, at: Word) -> Option<Word> {
+    pub fn owner(&self, at: Word) -> Option<Word> {
         match self.base.declaration.owner_of(at) {
             Some(Owner::Routine(entry)) => Some(entry),
             _ => None,
@@ -121,15 +121,6 @@ impl<'a, D: Allocator> SumProgram<'a, D> {
     /// The routines that look at their return word.
     pub fn readers(&self) -> &WordSet {
         &self.readers
-    }
-
-    /// The entries of all routines.
-    pub fn entries(&self) -> WordSet {
-        let mut entries = WordSet::empty();
-        for routine in self.base.declaration.routines() {
-            entries.insert(routine.entry());
-        }
-        entries
     }
 
     /// The variables that are added, masked or counted by name, but for pointers.

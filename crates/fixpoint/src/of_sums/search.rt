@@ -57,6 +57,11 @@ impl<A: Allocator + Copy> SumSearch<A> {
         }
     }
 
+    /// The allocator.
+    pub fn allocator(&self) -> A {
+        self.alloc
+    }
+
     /// Looks for facts that are told apart in one way, within so many turns of those that there are; what was found before is
     /// forgotten.
     pub fn run<D: Allocator>(

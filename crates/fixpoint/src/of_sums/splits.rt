@@ -1,7 +1,10 @@
 //! How the facts at an address are told apart.
 
+use crate::of_sums::program::SumProgram;
+use crate::of_sums::search::SumSearch;
 use domain::{Location, ReturnOffsets};
 use facts::KnownFact;
+use std::alloc::Allocator;
 use word12::{Link, Word};
 use wordset::{Links, WordSet};
 
@@ -62,6 +65,11 @@ impl Split {
             links: false,
             cell: None,
         }
+    }
+
+    /// The entries of the routines whose facts are told apart by the call.
+    pub fn called(&self) -> &WordSet {
+        &self.called
     }
 
     /// The same, and those of the routines of some entries are told apart by the call.
@@ -141,5 +149,40 @@ impl Split {
         let mut case = self.case_of(routine, known);
         case.offset = Some(offset);
         case
+    }
+}
+
+impl<A: Allocator + Copy> SumSearch<A> {
+    /// The variables by whose words facts may be told apart: those that the program tests and of which some fact says that they
+    /// hold one of few words, but more than one.
+    pub fn tellers<D: Allocator>(&self, program: &SumProgram<'_, D>) -> WordSet {
+        let mut found = WordSet::empty();
+        for cell in program.tested().iter() {
+            if self.has_few_words(cell) {
+                found.insert(cell);
+            }
+        }
+        found
+    }
+
+    /// Whether some fact says that a cell holds one of few words, but more than one.
+    fn has_few_words(&self, cell: Word) -> bool {
+        for at in self.table.facts.addresses().iter() {
+            if self.has_few_words_at(at, cell) {
+                return true;
+            }
+        }
+        false
+    }
+
+    /// Whether some fact at an address says it.
+    fn has_few_words_at(&self, at: Word, cell: Word) -> bool {
+        for kept in self.table.facts.row(at) {
+            let count = kept.count_of(cell);
+            if count > 1 && count <= MOST_VALUES {
+                return true;
+            }
+        }
+        false
     }
 }

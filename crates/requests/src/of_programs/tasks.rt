@@ -181,7 +181,11 @@ pub(crate) fn carry_out<R: Files + Input + Print + Eprint, I: Read + Drop>(
         } => reported(rt, alloc, opened, certificate, *out, report_form(*text)),
         Task::Watch { events, show } => watched(rt, alloc, opened, events, show, explained),
         Task::WatchSession(session) => session_watched(rt, alloc, opened, session),
-        Task::Guess { out, report } => guessed(rt, alloc, opened, *out, *report, explained),
+        Task::Guess {
+            out,
+            report,
+            version,
+        } => guessed(rt, alloc, opened, *out, *report, *version, explained),
         Task::Refute { out, options } => refuted(rt, alloc, opened, *out, options),
         Task::Declare { out, options } => declared(rt, alloc, opened, *out, *options),
         Task::Place { out } => placed(rt, alloc, opened.source, *out),

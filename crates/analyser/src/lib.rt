@@ -9,9 +9,9 @@ ghost use Rattle.judge.specs.Sums.Judged.{judged};
 ghost use Rattle.turns.specs.Counts.{IsSpentUp};
 ghost use Rattle.turns.specs.declared.GuessFault.TheVariants.{TurnsSpent};
 ghost use Rattle.analyser.specs.Accepted.{IsAccepted};
-ghost use Rattle.analyser.specs.Attempts.{IsAcceptedIfFound, IsDraftIfStuck, claimed_by};
+ghost use Rattle.analyser.specs.Attempts.{HasVersionFor, IsAcceptedIfFound, IsDraftIfStuck, claimed_by};
 ghost use Rattle.analyser.specs.Halts.{IsRefused};
-ghost use Rattle.analyser.specs.Versions.{version_of};
+ghost use Rattle.analyser.specs.Versions.{IsVersionFor, version_of};
 
 mod draft;
 mod length;
@@ -136,7 +136,22 @@ fn or_by_sums<A: Allocator + Copy, D: Allocator>(
     declaration: &Declaration<D>,
     found: Result<Certificate<A>, GuessFault>,
     turns: &mut Turns,
-) -> Result<Certificate<A>, GuessFault> {
+) -> Result<Certificate<A>, GuessFault>
+    requires lines { IfOk found (λ c. AreLines (meaning c)) }
+    requires version { IfOk found (λ c. (meaning c).version ≡
+        version_of (declared declaration.now).profile) }
+    requires accepted { IfOk found (IsAccepted image.now declaration.now) }
+    requires spent { IfErr found (IsSpentUp turns.old) }
+    ensures lines { IfOk result (λ c. AreLines (meaning c)) }
+    ensures version { IfOk result (λ c. IsVersionFor
+        (declared declaration.now).profile (meaning c).version) }
+    ensures accepted { IfOk result (IsAccepted image.now declaration.now) }
+    ensures limit { turns.new.limit ≡ turns.old.limit }
+    ensures rises { turns.old.spent ≤ turns.new.spent }
+    ensures within { turns.new.spent ≤ turns.new.limit }
+    ensures spent { IfErr result (IsSpentUp turns.new) }
+{
+    turns.are_within();
     let Err(GuessFault::Stuck(at)) = &found else {
         return found;
     };
@@ -173,8 +188,8 @@ fn drafted_by<A: Allocator + Copy, D: Allocator>(
 
 /// Looks for facts, exits and written sets that show a tape's words safe under a declaration. What
 /// is found is a certificate that the judge accepts, of version 1 for a PDP-8/I and of version 2 for a
-/// PDP-8/E: no run of the program breaks the declaration. That one is found is not promised. A turn is
-/// one `post`, taken right before it.
+/// PDP-8/E, or of version 3 where none of these is found: no run of the program breaks the declaration. That
+/// one is found is not promised. A turn is one `post`, taken right before it.
 ///
 /// # Errors
 ///
@@ -190,8 +205,8 @@ pub fn guess_within<A: Allocator + Copy, D: Allocator>(
     // The judge accepts it, so the program is safe.
     ensures accepted { IfOk result (IsAccepted image.now declaration.now) }
     ensures lines { IfOk result (λ c. AreLines (meaning c)) }
-    ensures version { IfOk result (λ c. (meaning c).version ≡
-        version_of (declared declaration.now).profile) }
+    ensures version { IfOk result (λ c. IsVersionFor
+        (declared declaration.now).profile (meaning c).version) }
     ensures limit { turns.new.limit ≡ turns.old.limit }
     ensures rises { turns.old.spent ≤ turns.new.spent }
     ensures within { turns.new.spent ≤ turns.new.limit }
@@ -218,8 +233,8 @@ pub fn guess_counted<A: Allocator + Copy, D: Allocator>(
     // The judge accepts it, so the program is safe.
     ensures accepted { IfOk result.0 (IsAccepted image.now declaration.now) }
     ensures lines { IfOk result.0 (λ c. AreLines (meaning c)) }
-    ensures version { IfOk result.0 (λ c. (meaning c).version ≡
-        version_of (declared declaration.now).profile) }
+    ensures version { IfOk result.0 (λ c. IsVersionFor
+        (declared declaration.now).profile (meaning c).version) }
     // There are 2,000,000 turns, and only where all are spent is it told that they are.
     ensures limit { result.1.limit ≡ 2000000 }
     ensures within { result.1.spent ≤ result.1.limit }
@@ -243,8 +258,8 @@ pub fn guess<A: Allocator + Copy, D: Allocator>(
     // The judge accepts it, so the program is safe.
     ensures accepted { IfOk result (IsAccepted image.now declaration.now) }
     ensures lines { IfOk result (λ c. AreLines (meaning c)) }
-    ensures version { IfOk result (λ c. (meaning c).version ≡
-        version_of (declared declaration.now).profile) }
+    ensures version { IfOk result (λ c. IsVersionFor
+        (declared declaration.now).profile (meaning c).version) }
 {
     let (found, _turns) = guess_counted(alloc, image, declaration);
     found
@@ -268,8 +283,8 @@ pub fn guess_or_draft_within<A: Allocator + Copy, D: Allocator>(
     // where it is stuck.
     ensures draft { IfOk result (IsDraftIfStuck (declared declaration.now)) }
     ensures lines { IfOk result (λ a. AreLines (meaning (claimed_by a))) }
-    ensures version { IfOk result (λ a. (meaning (claimed_by a)).version ≡
-        version_of (declared declaration.now).profile) }
+    ensures version { IfOk result (HasVersionFor
+        (declared declaration.now).profile) }
     ensures limit { turns.new.limit ≡ turns.old.limit }
     ensures rises { turns.old.spent ≤ turns.new.spent }
     ensures within { turns.new.spent ≤ turns.new.limit }
@@ -302,8 +317,8 @@ pub fn guess_or_draft_counted<A: Allocator + Copy, D: Allocator>(
     // where it is stuck.
     ensures draft { IfOk result.0 (IsDraftIfStuck (declared declaration.now)) }
     ensures lines { IfOk result.0 (λ a. AreLines (meaning (claimed_by a))) }
-    ensures version { IfOk result.0 (λ a. (meaning (claimed_by a)).version ≡
-        version_of (declared declaration.now).profile) }
+    ensures version { IfOk result.0 (HasVersionFor
+        (declared declaration.now).profile) }
     // There are 2,000,000 turns, and only where all are spent is it told that they are.
     ensures limit { result.1.limit ≡ 2000000 }
     ensures within { result.1.spent ≤ result.1.limit }
@@ -330,8 +345,8 @@ pub fn guess_or_draft<A: Allocator + Copy, D: Allocator>(
     // where it is stuck.
     ensures draft { IfOk result (IsDraftIfStuck (declared declaration.now)) }
     ensures lines { IfOk result (λ a. AreLines (meaning (claimed_by a))) }
-    ensures version { IfOk result (λ a. (meaning (claimed_by a)).version ≡
-        version_of (declared declaration.now).profile) }
+    ensures version { IfOk result (HasVersionFor
+        (declared declaration.now).profile) }
 {
     let (attempt, _turns) = guess_or_draft_counted(alloc, image, declaration);
     attempt

@@ -83,7 +83,7 @@ impl<A: Allocator + Copy> SumSearch<A> {
         entries: &WordSet,
         next: &mut NextFact,
         part: &mut LinkPart,
-        values: &mut ValueRooms,
+        values: &mut ValueRooms<A>,
         small: &mut SmallRooms,
     ) -> Result<(), Halt> {
         for entry in entries.iter() {
@@ -109,7 +109,7 @@ impl<A: Allocator + Copy> SumSearch<A> {
         entry: Word,
         next: &mut NextFact,
         part: &mut LinkPart,
-        values: &mut ValueRooms,
+        values: &mut ValueRooms<A>,
         small: &mut SmallRooms,
     ) -> Result<(), Halt> {
         self.claim(entry, &WordSet::one(at), &WordSet::empty())?;
@@ -149,7 +149,7 @@ impl<A: Allocator + Copy> SumSearch<A> {
         written: &WordSet,
         next: &mut NextFact,
         part: &mut LinkPart,
-        values: &mut ValueRooms,
+        values: &mut ValueRooms<A>,
         small: &mut SmallRooms,
     ) -> Result<(), Halt> {
         let Some(kept) = self.table.exits.get(entry, index) else {
@@ -187,7 +187,7 @@ impl<A: Allocator + Copy> SumSearch<A> {
         word: Word,
         next: &mut NextFact,
         part: &mut LinkPart,
-        values: &mut ValueRooms,
+        values: &mut ValueRooms<A>,
         small: &mut SmallRooms,
     ) -> Result<(), Halt> {
         let Some(entry) = place.routine else {

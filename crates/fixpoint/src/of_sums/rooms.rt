@@ -18,9 +18,9 @@ pub(crate) struct SmallRooms {
 
 /// Room for a part by a word of a cell.
 #[derive(Drop)]
-pub(crate) struct ValueRooms {
-    pub(crate) chosen: ChosenFact,
-    pub(crate) met: MetFact,
+pub(crate) struct ValueRooms<A: Allocator> {
+    pub(crate) chosen: Box<ChosenFact, A>,
+    pub(crate) met: Box<MetFact, A>,
 }
 
 /// All of it. It has several megabytes, so it lies on the heap.
@@ -29,7 +29,7 @@ pub(crate) struct SumRooms<A: Allocator> {
     pub(crate) outcomes: Box<Outcomes, A>,
     pub(crate) next: Box<NextFact, A>,
     pub(crate) part: Box<LinkPart, A>,
-    pub(crate) values: Box<ValueRooms, A>,
+    pub(crate) values: ValueRooms<A>,
     pub(crate) small: Box<SmallRooms, A>,
 }
 
@@ -60,14 +60,19 @@ fn part<A: Allocator>(alloc: A) -> Result<Box<LinkPart, A>, Halt> {
     }
 }
 
-/// Room for a part by a word of a cell.
+/// Room for a part with the set of one of its names met with one word.
 #[inline(never)]
-fn values<A: Allocator>(alloc: A) -> Result<Box<ValueRooms, A>, Halt> {
-    let rooms = ValueRooms {
-        chosen: ChosenFact::any(),
-        met: MetFact::any(),
-    };
-    match Box::new(alloc, rooms) {
+fn chosen<A: Allocator>(alloc: A) -> Result<Box<ChosenFact, A>, Halt> {
+    match Box::new(alloc, ChosenFact::any()) {
+        Ok(room) => Ok(room),
+        Err(_) => Err(Halt::NoMemory),
+    }
+}
+
+/// Room for the same, narrowed.
+#[inline(never)]
+fn met<A: Allocator>(alloc: A) -> Result<Box<MetFact, A>, Halt> {
+    match Box::new(alloc, MetFact::any()) {
         Ok(room) => Ok(room),
         Err(_) => Err(Halt::NoMemory),
     }
@@ -97,7 +102,10 @@ impl<A: Allocator + Copy> SumRooms<A> {
             outcomes: outcomes(alloc)?,
             next: next(alloc)?,
             part: part(alloc)?,
-            values: values(alloc)?,
+            values: ValueRooms {
+                chosen: chosen(alloc)?,
+                met: met(alloc)?,
+            },
             small: small(alloc)?,
         })
     }

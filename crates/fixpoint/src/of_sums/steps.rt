@@ -27,9 +27,9 @@ pub(crate) struct Goal {
 
 /// Room for the parts of what is known.
 #[derive(Drop)]
-pub(crate) struct PartRooms<'a> {
+pub(crate) struct PartRooms<'a, A: Allocator> {
     pub(crate) part: &'a mut LinkPart,
-    pub(crate) values: &'a mut ValueRooms,
+    pub(crate) values: &'a mut ValueRooms<A>,
     pub(crate) before: &'a mut Fact,
     pub(crate) after: &'a mut Fact,
 }
@@ -150,7 +150,7 @@ impl<A: Allocator + Copy> SumSearch<A> {
         program: &SumProgram<'_, D>,
         place: &Place<'_, D>,
         outcome: &mut Outcome,
-        rooms: &mut PartRooms<'_>,
+        rooms: &mut PartRooms<'_, A>,
     ) -> Result<(), Halt> {
         if outcome.kind != Kind::Goes {
             return Ok(());
@@ -176,7 +176,7 @@ impl<A: Allocator + Copy> SumSearch<A> {
         program: &SumProgram<'_, D>,
         goal: &Goal,
         fact: &mut NextFact,
-        rooms: &mut PartRooms<'_>,
+        rooms: &mut PartRooms<'_, A>,
     ) -> Result<(), Halt> {
         for link in [Link::CLEAR, Link::SET] {
             if fact.link().contains(link) {
@@ -195,7 +195,7 @@ impl<A: Allocator + Copy> SumSearch<A> {
         &mut self,
         program: &SumProgram<'_, D>,
         goal: &Goal,
-        rooms: &mut PartRooms<'_>,
+        rooms: &mut PartRooms<'_, A>,
     ) -> Result<(), Halt> {
         let PartRooms {
             part,
@@ -212,7 +212,7 @@ impl<A: Allocator + Copy> SumSearch<A> {
             if count > 1 && count <= MOST_VALUES {
                 for value in set.iter() {
                     if put_value(program, fact, &name, value, values) {
-                        self.reach(program, goal, &values.met, before, after)?;
+                        self.reach(program, goal, &*values.met, before, after)?;
                     }
                 }
                 return Ok(());
@@ -273,12 +273,12 @@ impl<A: Allocator + Copy> SumSearch<A> {
 }
 
 /// Whether something is left of a part when a name holds one word, which then stands in the lent room, narrowed.
-fn put_value<D: Allocator>(
+fn put_value<D: Allocator, A: Allocator>(
     program: &SumProgram<'_, D>,
     part: &PartFact,
     name: &Location,
     value: Word,
-    values: &mut ValueRooms,
+    values: &mut ValueRooms<A>,
 ) -> bool {
     values.chosen.copy_from(part);
     values.chosen.set_name(name, &WordSet::one(value));

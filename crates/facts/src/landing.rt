@@ -27,7 +27,7 @@ use wordset::WordSet;
 #[derive(Drop)]
 pub struct LandingRooms {
     given: Fact,
-    part: Option<LinkPart>,
+    part: LinkPart,
 }
 
 impl LandingRooms {
@@ -35,7 +35,7 @@ impl LandingRooms {
     pub fn new() -> LandingRooms {
         LandingRooms {
             given: SumFact::any(),
-            part: None,
+            part: LinkPart::new(),
         }
     }
 }
@@ -219,7 +219,6 @@ impl<A: Allocator> Place<'_, A> {
             return true;
         }
         let LandingRooms { given, part } = rooms;
-        let part = part.get_or_insert_with(LinkPart::new);
         part.take(self, fact, link);
         self.part_lands(part, among, given)
     }
@@ -256,7 +255,6 @@ impl<A: Allocator> Place<'_, A> {
             return true;
         }
         let LandingRooms { part, .. } = rooms;
-        let part = part.get_or_insert_with(LinkPart::new);
         part.take(self, fact, link);
         part.is_none()
     }

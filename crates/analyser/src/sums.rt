@@ -1,7 +1,6 @@
 //! Certificates of version 3: facts with relations of sums, told apart in one way after another.
 
-ghost use Rattle.std.specs.Prelude.{◌≡◌, ◌≢◌, ◌≤◌, IfErr, IfOk};
-ghost use Rattle.declaration.specs.Kept.{meaning as declared};
+ghost use Rattle.std.specs.Prelude.{◌≡◌, ◌≤◌, IfErr, IfOk};
 ghost use Rattle.certificate.specs.Sums.Kept.{meaning};
 ghost use Rattle.certificate.specs.Sums.Exact.{AreLines};
 ghost use Rattle.certificate.specs.declared.Version.TheVariants.{Three};

@@ -96,7 +96,11 @@ fn factor(fast: Option<Word>, slow: Option<Word>) -> Option<Word> {
         return None;
     }
     let factor = product(negated(fast), slow);
-    if is_factor(factor) { Some(factor) } else { None }
+    if is_factor(factor) {
+        Some(factor)
+    } else {
+        None
+    }
 }
 
 /// Adds what is said of the difference and of the sum of two cells that changed.

@@ -84,10 +84,7 @@ fn joined_offsets(a: ReturnOffsets, b: ReturnOffsets) -> ReturnOffsets {
 
 /// Whether two chains are one.
 fn is_same_chain(a: &Chain, b: &Chain) -> bool {
-    a.cell() == b.cell()
-        && a.more() == b.more()
-        && a.links() == b.links()
-        && a.steps() == b.steps()
+    a.cell() == b.cell() && a.more() == b.more() && a.links() == b.links() && a.steps() == b.steps()
 }
 
 /// Whether a fact shows that a chain is true.

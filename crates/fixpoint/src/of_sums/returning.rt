@@ -24,12 +24,7 @@ impl<A: Allocator + Copy> SumSearch<A> {
     }
 
     /// Claims more of a routine, and tells whether it is more.
-    fn claim(
-        &mut self,
-        entry: Word,
-        sites: &WordSet,
-        writes: &WordSet,
-    ) -> Result<bool, Halt> {
+    fn claim(&mut self, entry: Word, sites: &WordSet, writes: &WordSet) -> Result<bool, Halt> {
         let routines = if self.gathers {
             &mut self.gathered.routines
         } else {
@@ -88,10 +83,7 @@ impl<A: Allocator + Copy> SumSearch<A> {
     ) -> Result<(), Halt> {
         for entry in entries.iter() {
             if program.base.declaration.is_entry(entry)
-                && program
-                    .base
-                    .declaration
-                    .in_body(entry, entry.increment())
+                && program.base.declaration.in_body(entry, entry.increment())
                 && at.index() <= LAST_SITE
             {
                 self.call(program, place, at, entry, next, part, values, small)?;
@@ -133,7 +125,9 @@ impl<A: Allocator + Copy> SumSearch<A> {
         };
         self.land(program, &goal, next, &mut rooms)?;
         for index in 0..self.table.exits.row(entry).len() {
-            self.come_from(program, place, at, entry, index, &written, next, part, values, small)?;
+            self.come_from(
+                program, place, at, entry, index, &written, next, part, values, small,
+            )?;
         }
         Ok(())
     }

@@ -304,9 +304,7 @@ fn may_go_on<D: Allocator>(
     }
     small.clipped.copy_from(&small.claimed);
     let permitted = program.permitted(&place.routine, at, word);
-    small
-        .clipped
-        .meet_name(&Location::Cell(named), &permitted);
+    small.clipped.meet_name(&Location::Cell(named), &permitted);
     small.fact.narrow(program.base.image, &small.clipped);
     !small.fact.is_void() && program.may_access(place, &small.fact, at, word)
 }

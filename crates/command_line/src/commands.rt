@@ -95,6 +95,13 @@ const VERSION_OF_CERTIFICATE: Argument = Argument {
     help: "the version that is written, 2 or 3; 2 without it. Version 3 needs the option --declaration",
 };
 
+const VERSION_OF_GUESS: Argument = Argument {
+    name: "certificate",
+    short: None,
+    form: Form::Value("V"),
+    help: "the version of the certificate, 1, 2 or 3; without it that of the machine, and version 3 where none of that is found",
+};
+
 const DECLARATION_OF_SITES: Argument = Argument {
     name: "declaration",
     short: None,
@@ -560,12 +567,13 @@ const DECLARE_ARGUMENTS: [Argument; 9] = [
     WHY_INPUT,
 ];
 
-const GUESS_ARGUMENTS: [Argument; 7] = [
+const GUESS_ARGUMENTS: [Argument; 8] = [
     TAPE_OR_SOURCE,
     DECLARATION_OR_SOURCE,
     GUESSED_OUT,
     OUTPUT,
     PARTS,
+    VERSION_OF_GUESS,
     REPORT_STUCK,
     WHY_GUESS,
 ];

@@ -18,6 +18,7 @@ use crate::values::{
     declare_options, is_start_named, operand_of, read_standard_input_once, refute_options,
     verify_options,
 };
+use certificate::Version;
 use clap::ArgMatches;
 use command_parts::options::{DeclareOptions, RefuteOptions, VerifyOptions};
 use std::alloc::{AllocError, Global};
@@ -89,6 +90,8 @@ pub enum Task<'a> {
         out: Destination<'a>,
         /// Where the report of a search that is stuck goes.
         report: Option<&'a str>,
+        /// The version of the certificate, if one is asked for.
+        version: Option<Version>,
     },
     /// To search for a run that violates the declaration.
     Refute {
@@ -429,6 +432,17 @@ fn session_task<'a>(
     Ok(Task::WatchSession(session))
 }
 
+/// The version of the certificate for which a search is asked, if one is.
+fn guessed_version(found: &ArgMatches<'_>) -> Result<Option<Version>, Refused> {
+    match found.get_str("certificate") {
+        None => Ok(None),
+        Some("1") => Ok(Some(Version::One)),
+        Some("2") => Ok(Some(Version::Two)),
+        Some("3") => Ok(Some(Version::Three)),
+        Some(_) => Err(Refused::Misuse(Misuse::GuessedVersion)),
+    }
+}
+
 /// The search for a certificate that is asked for. Of a search on a tape with a report each input must be a file,
 /// since it is read twice.
 fn guess_task<'a>(
@@ -450,7 +464,11 @@ fn guess_task<'a>(
     if is_tape && report.is_some() && inputs.iter().any(|input| **input == *"-") {
         return Err(Refused::Misuse(Misuse::ReportOfStandardInput));
     }
-    Ok(Task::Guess { out, report })
+    Ok(Task::Guess {
+        out,
+        report,
+        version: guessed_version(found)?,
+    })
 }
 
 /// What a command asks for, whose program, declaration and last input are these inputs.

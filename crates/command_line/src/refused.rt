@@ -73,6 +73,8 @@ pub enum Misuse {
     Profile,
     /// The value of `--certificate` is neither `2` nor `3`.
     Version,
+    /// The value of `--certificate` of a search is none of `1`, `2` and `3`.
+    GuessedVersion,
     /// A certificate is to be of version 3 and there is no declaration, or there is one and it is not.
     VersionAndDeclaration,
     /// Two inputs are to come from standard input.
@@ -141,6 +143,7 @@ impl Misuse {
             Misuse::Continue => "bad value for '--continue': expected a number from 1 to 1000000",
             Misuse::Profile => "bad value for '--profile': expected 8i or 8e",
             Misuse::Version => "bad value for '--certificate': expected 2 or 3",
+            Misuse::GuessedVersion => "bad value for '--certificate': expected 1, 2 or 3",
             _ => return None,
         })
     }

@@ -14,7 +14,7 @@ use Rattle.judge.specs.Sums.Judged.{judged}
 use Rattle.declaration.specs.declared.DeclarationFault.TheVariants as declaration_fault
 use Rattle.proposer.specs.Needed.{ReadsAreNeeded}
 use Rattle.turns.specs.Counts.{Count}
-use Rattle.analyser.specs.Versions.{version_of}
+use Rattle.analyser.specs.Versions.{IsVersionFor}
 use Rattle.proposer.specs.declared.Proposal.{Proposal}
 use Rattle.proposer.specs.declared.Verdict.{Verdict}
 use Rattle.turns.specs.declared.ProposeFault.{ProposeFault}
@@ -32,7 +32,7 @@ pub record Fits {A : Type 0} (at : ℕ) (machine : Profile) (p : Proposal A) : T
 
 -- A certificate in the version of the declared machine.
 abbrev pub IsFor : Kept → Text → Type 0
-IsFor d text = AreLines text × (text.version ≡ version_of (meaning d).profile)
+IsFor d text = AreLines text × IsVersionFor (meaning d).profile text.version
 
 -- A certificate is found.
 abbrev pub is_safe : {A : Type 0} → Verdict A → Bool

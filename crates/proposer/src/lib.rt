@@ -2,7 +2,7 @@
 #![tactic(auto)]
 
 ghost use Rattle.std.specs.Prelude.{ℕ, ◌≡◌, ◌≢◌, ◌≤◌, List, Option, IfOk, IfErr, None, is_some, true};
-ghost use Rattle.analyser.specs.Versions.{version_of};
+ghost use Rattle.analyser.specs.Versions.{IsVersionFor};
 ghost use Rattle.turns.specs.declared.GuessFault.TheVariants as guess_fault;
 ghost use Rattle.certificate.specs.Sums.Kept as certified;
 ghost use Rattle.certificate.specs.Sums.Exact.{AreLines};
@@ -414,8 +414,8 @@ fn accepted<A: Allocator + Copy>(
     certificate: Certificate<A>,
 ) -> Result<Verdict<A>, ProposeFault>
     requires lines { AreLines (certified.meaning certificate) }
-    requires version { (certified.meaning certificate).version ≡
-        version_of (meaning declaration.now).profile }
+    requires version { IsVersionFor (meaning declaration.now).profile
+        (certified.meaning certificate).version }
     ensures shown { IfOk result (IsShown image.now declaration.now) }
     ensures listed { (d : Kept) → is_some (meaning d).reads ≡ true → IfOk result (IsListed d) }
     ensures needed { ReadsAreNeeded

@@ -1,6 +1,6 @@
 -- What `declare` writes.
 use Rattle.std.specs.Prelude.{ℕ, ◌≡◌, ◌⊎◌, List, Option, None, is_some, false, true}
-use Rattle.analyser.specs.Versions.{version_of}
+use Rattle.analyser.specs.Versions.{IsVersionFor}
 use Rattle.peripherals.specs.Loading.{image_of}
 use Rattle.declaration.specs.Declaration.{Declaration}
 use Rattle.declaration.specs.Text.{Declares}
@@ -32,7 +32,7 @@ IsBare options text = (is : IsDeclarationFor options text) × (is.declaration.re
 pub record ListsNeeded (image : List (Option ℕ)) (d : Declaration) : Type 0 where
   pub lines : Text
   pub lines_are : AreLines lines
-  pub version_is : lines.version ≡ version_of d.profile
+  pub version_is : IsVersionFor d.profile lines.version
   pub valid : IsValid (checked_case image d lines)
   pub needed : ReadsAreNeeded (checked_case image d lines)
 

@@ -214,7 +214,11 @@ pub(crate) fn carry_out<R: Files + Input + Print + Eprint, I: Read + Drop>(
                 Err(misuse) => Ok(tell_misuse(rt, &misuse.with_symbols())),
             }
         }
-        Task::Guess { out, report } => guessed(rt, alloc, opened, *out, *report, explained),
+        Task::Guess {
+            out,
+            report,
+            version,
+        } => guessed(rt, alloc, opened, *out, *report, *version, explained),
         Task::Refute { out, options } => refuted(rt, alloc, opened, *out, options),
         Task::Declare { out, options } => declared(rt, alloc, opened, *out, *options),
         Task::Place { out } => placed(rt, alloc, opened.source, *out),

@@ -131,6 +131,24 @@ impl<A: Allocator, C: Claims> Point<'_, A, C> {
         ensures { IsTrue result ↔ ((a : ℕ) → a < 4096 → brief_words targets.now a ≡ true →
             LandsAt (case_of C.claims self.now) self.now.place.routine a (fact_in_code known.old)) }
     {
+        match targets.only() {
+            Some(at) => self.lands_here(at, known, rooms),
+            None => self.lands_at_several(targets, known, rooms),
+        }
+    }
+
+    /// The same, where there may be several; the room for them is made here alone.
+    #[inline(never)]
+    fn lands_at_several(
+        &self,
+        targets: &BriefSet,
+        known: &mut NextFact,
+        rooms: &mut LandingRooms,
+    ) -> bool
+        requires { IsPoint C.claims self.now }
+        ensures { IsTrue result ↔ ((a : ℕ) → a < 4096 → brief_words targets.now a ≡ true →
+            LandsAt (case_of C.claims self.now) self.now.place.routine a (fact_in_code known.old)) }
+    {
         let mut addresses = WordSet::empty();
         targets.put(&mut addresses);
         self.lands_at_each(&addresses, known, rooms)
@@ -168,11 +186,15 @@ impl<A: Allocator, C: Claims> Point<'_, A, C> {
         self.outcome_lands(&mut outcomes.fourth, rooms)
     }
 
-    /// Whether each outcome of a word that goes on lands wherever it goes.
+    /// Whether each outcome of a word that goes on lands wherever it goes. Those of a call go on in the
+    /// routine, so they are not worked out.
     pub(crate) fn outcomes_land(&self, word: Word, others: &mut Others) -> bool
         requires { IsPoint C.claims self.now }
         ensures { IsTrue result ↔ HoldsHere C.claims self.now V4 word }
     {
+        if self.place.is_call(word) {
+            return true;
+        }
         self.place
             .put_outcomes(self.fact, self.at, word, &mut others.outcomes);
         self.each_lands(&mut others.outcomes, &mut others.landing)

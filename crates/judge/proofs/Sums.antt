@@ -14,5 +14,6 @@ pub mod LineLemmas
 pub mod CallLemmas
 pub mod CaseLemmas
 pub mod ClaimsLemmas
+pub mod CacheLemmas
 pub mod ReadingLemmas
 pub mod VerdictLemmas

@@ -8,6 +8,7 @@ pub mod Shapes
 pub mod Sources
 pub mod Bodies
 pub mod Asked
+pub mod Caches
 pub mod Points
 pub mod Callees
 pub mod Certifying

@@ -54,6 +54,8 @@ pub fn judge<A: Allocator, C: Claims>(
         declaration,
         claims,
     };
+    rooms.even.forget();
+    rooms.odd.forget();
     if !case.starts_well(rooms) {
         return Err(Refusal {
             condition: Condition::V1,

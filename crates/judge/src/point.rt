@@ -1,12 +1,15 @@
 //! A fact of which conditions are asked at an address of a body, and room for what it is compared with.
 
-ghost use Rattle.std.specs.Prelude.{◌≡◌, true};
+ghost use Rattle.std.specs.Prelude.{◌≡◌, true, IfSome};
+ghost use Rattle.wordset.specs.Lanes.{words};
 ghost use Rattle.judge.specs.Sums.Bodies.{Tells};
+ghost use Rattle.judge.specs.Sums.Caches.{StandsAhead};
 ghost use Rattle.judge.specs.Sums.Judged.{judged};
 ghost use Rattle.judge.specs.Sums.Shapes.{IsRoomy};
 ghost use Rattle.judge.specs.Sums.Points.{IsPoint, case_of};
 
 use crate::body::Body;
+use crate::cache::FactCache;
 use crate::claims::Claims;
 use bin_tape::Image;
 use declaration::Declaration;
@@ -45,6 +48,8 @@ pub struct Point<'a, A: Allocator, C: Claims> {
     pub body: &'a Body,
     pub at: Word,
     pub fact: &'a NarrowedFact,
+    /// What is kept of the fact at the next address, if something is.
+    pub following: Option<&'a FactCache>,
     /// The line at which facts at other addresses are looked for first.
     pub near: usize,
 }
@@ -78,12 +83,15 @@ impl<'a, A: Allocator, C: Claims> Point<'a, A, C> {
         body: &'a Body,
         at: Word,
         fact: &'a NarrowedFact,
+        following: Option<&'a FactCache>,
         near: usize,
     ) -> Point<'a, A, C>
         requires stands { (judged image.now declaration.now (C.claims claims.now)).declaration.body
             body.now.routine at ≡ true }
         requires tells { Tells (C.claims claims.now) body.now }
         requires roomy { IsRoomy fact.now }
+        requires ahead { IfSome following (λ f.
+            StandsAhead (C.claims claims.now) (words body.now.claim.sites) f.now) }
         ensures point { IsPoint C.claims result }
         ensures case { case_of C.claims result ≡
             judged image.now declaration.now (C.claims claims.now) }
@@ -98,6 +106,7 @@ impl<'a, A: Allocator, C: Claims> Point<'a, A, C> {
             body,
             at,
             fact,
+            following,
             near,
         }
     }

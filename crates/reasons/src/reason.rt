@@ -113,6 +113,7 @@ fn point_of<'a, A: Allocator, C: Claims>(
         body,
         at,
         fact,
+        following: None,
         near: 0,
     }
 }

@@ -23,7 +23,7 @@ use Rattle.judge.proofs.ReadingLemmas.{condition_at, place_of}
 use Rattle.judge.specs.Sums.Landing.{Case, place_in, with_sites, sited, sites_of, asked, asked_at}
 use Rattle.judge.specs.Sums.Conditions.{HoldsAt, HoldsFor, HoldsForWords, HoldsForEach, HasFewWords, EachFact}
 use Rattle.judge.specs.Sums.Bodies.{IsOfBody}
-use Rattle.judge.specs.Sums.Asked.{HasFew, HoldsOfFact, HoldsOfFacts, asked_of, IsLeastPlace, IsLeastOf, IsLeastOfSome}
+use Rattle.judge.specs.Sums.Asked.{HasFew, HoldsOfFact, HoldsOfFacts, asked_of, IsLeastPlace, IsLeastOf, IsLeastOfSome, IsLeastOfAll}
 
 -- ---- words
 
@@ -277,3 +277,11 @@ none_hold j v a le none =
     from_each j v a le
     (λ asks r here. subst (EachFact (HasFew j r a)) (sym (empty r)) tt)
     (λ r here. subst (EachFact (HoldsForWords j v r a)) (sym (empty r)) tt)
+
+-- where it is the only one
+pub least_alone : (j : Case) (r : Routine) (a : ℕ) (f : Fact) (place : ℕ) → j.certificate.facts a ≡ f ∷ [] → IsLeastOf j r a f 15 place → IsLeastOfAll j r a place
+least_alone j r a f place only k = subst (λ (fs : List Fact). IsLeastOfSome j r a fs place) (sym only) (go k)
+  where
+    go : IsLeastOf j r a f 15 place → IsLeastOfSome j r a (f ∷ []) place
+    go (inl n) = inl (n.0, λ e. n.1 e.0)
+    go (inr q) = inr ((q.0, tt), q.1)

@@ -66,3 +66,14 @@ is_next fs rest xs i false f lt at none next = absurd (let e : [] ≡ fact_at fs
 pub passed : (fs rest xs : List Fact) (k : ℕ) (b : Bool) → k < length fs → xs ≡ drop k fs → (b ≡ false → xs ≡ []) → (b ≡ true → Follows xs rest) → rest ≡ drop (k + 1) fs
 passed fs rest xs k true lt at none next = let n = next refl in let e : n.0 ∷ rest ≡ fact_at fs k ∷ drop (k + 1) fs = sym n.1 ∙ (at ∙ fact_dropped fs k lt) in cc
 passed fs rest xs k false lt at none next = absurd (let e : [] ≡ fact_at fs k ∷ drop (k + 1) fs = sym (none refl) ∙ (at ∙ fact_dropped fs k lt) in cc)
+
+-- whether there is one fact alone
+pub none_there : (fs xs : List Fact) → xs ≡ fs → xs ≡ [] → length fs ≡ 1 → ⊥
+none_there fs xs all none one = let zero : length fs ≡ 0 = ap length (sym all ∙ none) in omega (arith, zero, one)
+
+pub one_there : (fs xs rest : List Fact) (f : Fact) → xs ≡ fs → xs ≡ f ∷ rest → rest ≡ [] → fs ≡ f ∷ []
+one_there fs xs rest f all next none = sym all ∙ (next ∙ ap (λ (ys : List Fact). f ∷ ys) none)
+
+pub two_there : (fs xs rest further : List Fact) (f : Fact) → xs ≡ fs → xs ≡ f ∷ rest → Follows rest further → length fs ≡ 1 → ⊥
+two_there fs xs rest further f all next more one =
+    let two : length fs ≡ suc (suc (length further)) = ap length (sym all ∙ (next ∙ ap (λ (ys : List Fact). f ∷ ys) more.1)) in omega (arith, two, one)

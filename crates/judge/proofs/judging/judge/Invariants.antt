@@ -3,6 +3,7 @@ use Rattle.certificate.specs.Sums.Certificate.{claimed}
 use Rattle.judge.specs.Sums.Asked.{HoldsBetween}
 use Rattle.judge.specs.Sums.Judged.{judged}
 use Rattle.judge.specs.Sums.Bodies.{Tells}
+use Rattle.judge.specs.Sums.Caches.{Shows}
 use Rattle.judge.proofs.Sums.OrderLemmas.{NextNamed}
 use Rattle.judge.proofs.judging.judge.Given as goal
 
@@ -10,7 +11,9 @@ abbrev pub invariant-loop-address : goal.invariant-loop-address
 invariant-loop-address g l =
     ((a : ℕ) → a < l.next → claimed (g.C.Claims.claims l.claims) a ≡ true → HoldsBetween (judged l.image l.declaration (g.C.Claims.claims l.claims)) 1 15 a) ×
     Tells (g.C.Claims.claims l.claims) l.body ×
-    NextNamed (g.C.Claims.claims l.claims) l.next l.named
+    NextNamed (g.C.Claims.claims l.claims) l.next l.named ×
+    Shows (g.C.Claims.claims l.claims) l.rooms.even ×
+    Shows (g.C.Claims.claims l.claims) l.rooms.odd
 
 abbrev pub decreases-loop-address : goal.decreases-loop-address
 decreases-loop-address g l =

@@ -10,8 +10,8 @@ use Rattle.judge.specs.Sums.Judged.{case_kept}
 use Rattle.judge.proofs.Sums.LineLemmas.{start_iff, start_place}
 use Rattle.judge.proofs.case.Case.starts_well.Goals as goal
 
-pub returns : goal.returns
-returns g c =
+pub returns-clause-starts : goal.returns-clause-starts
+returns-clause-starts g c =
     let here = start_place g.C.Claims.claims c.args.self.now c.place_of-place.result _ c.place_of-place.ensures.image c.place_of-place.ensures.declaration c.place_of-place.ensures.routine c.place_of-place.ensures.rules c.rules.ensures in
     let among = ap (λ (s : Words). sited (case_kept g.C.Claims.claims c.args.self.now).certificate.rules s ((case_kept g.C.Claims.claims c.args.self.now).certificate.facts c.start.result)) c.empty.ensures in
     start_iff (case_kept g.C.Claims.claims c.args.self.now) _ c.start.result c.is_declared.ensures c.start.ensures

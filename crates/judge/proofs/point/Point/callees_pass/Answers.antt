@@ -1,6 +1,5 @@
-use Rattle.std.proofs.Common.{◌≡◌, sym, ◌∙◌}
+use Rattle.std.proofs.Common.{sym, ◌∙◌}
 use Rattle.instruct.specs.Instructions.{meaning_of}
-use Rattle.facts.specs.Conditions.{is_call}
 use Rattle.judge.specs.Sums.Callees.{HoldsOfCallee}
 use Rattle.judge.specs.Sums.Points.{case_of, fact_asked}
 use Rattle.judge.proofs.Sums.CallLemmas.{no_target}

@@ -15,12 +15,9 @@ LinesBefore entries i old text =
 pub lines_begin : (entries : List Entry) (old : List ℕ) → LinesBefore entries 0 old old
 lines_begin entries old = λ more are. (more, (are, refl))
 
-behind_three : (a h t n : List ℕ) → ((a ++ h) ++ t) ++ n ≡ a ++ h ++ t ++ n
-behind_three a h t n = append_assoc (a ++ h) t n ∙ append_assoc a h (t ++ n)
-
-before_more : (a h t n m : List ℕ) → (a ++ h ++ t ++ n) ++ m ≡ a ++ h ++ t ++ n ++ m
-before_more a h t n m =
-    append_assoc a (h ++ t ++ n) m ∙ ap (λ (l : List ℕ). a ++ l) (append_assoc h (t ++ n) m ∙ ap (λ (l : List ℕ). h ++ l) (append_assoc t n m))
+behind_all : (a h t n m : List ℕ) → (((a ++ h) ++ t) ++ n) ++ m ≡ a ++ (((h ++ t) ++ n) ++ m)
+behind_all a h t n m =
+    ap (λ (l : List ℕ). (l ++ n) ++ m) (append_assoc a h t) ∙ (ap (λ (l : List ℕ). l ++ m) (append_assoc a (h ++ t) n) ∙ append_assoc a ((h ++ t) ++ n) m)
 
 -- a line more, put there piece by piece
 pub lines_on : (entries : List Entry) (i : ℕ) (d : Entry) (old text headed told_too new told : List ℕ) → i < length entries → headed ≡ text ++ head_text (get_or entries i d) → told_too ≡ headed ++ told → new ≡ told_too ++ codes "\n" →
@@ -30,9 +27,9 @@ lines_on entries i d old text headed told_too new told h e f n before = λ more 
     let there : AreLines (drop i entries) (head_text (get_or entries i d) ++ told ++ codes "\n" ++ more) =
     subst P (sym (drop_more entries i d h)) (next_line (get_or entries i d) (drop (i + 1) entries) told more are) in
     let found = before (head_text (get_or entries i d) ++ told ++ codes "\n" ++ more) there in
-    let whole : new ≡ text ++ head_text (get_or entries i d) ++ told ++ codes "\n" =
-    n ∙ ap (λ (l : List ℕ). l ++ codes "\n") (f ∙ ap (λ (l : List ℕ). l ++ told) e) ∙ behind_three text (head_text (get_or entries i d)) told (codes "\n") in
-    (found.0, (found.1.0, ap (λ (l : List ℕ). l ++ more) whole ∙ before_more text (head_text (get_or entries i d)) told (codes "\n") more ∙ found.1.1))
+    let whole : new ≡ ((text ++ head_text (get_or entries i d)) ++ told) ++ codes "\n" =
+    n ∙ ap (λ (l : List ℕ). l ++ codes "\n") (f ∙ ap (λ (l : List ℕ). l ++ told) e) in
+    (found.0, (found.1.0, ap (λ (l : List ℕ). l ++ more) whole ∙ (behind_all text (head_text (get_or entries i d)) told (codes "\n") more ∙ found.1.1)))
 
 pub lines_end : (entries : List Entry) (i : ℕ) (old text : List ℕ) → length entries ≤ i → LinesBefore entries i old text → AddsLines entries old text
 lines_end entries i old text h before =

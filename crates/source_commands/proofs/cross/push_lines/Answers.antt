@@ -1,4 +1,4 @@
-use Rattle.std.proofs.Common.{rules, ◌≡◌, ◌++◌, List, ℕ, get_or}
+use Rattle.std.proofs.Common.{rules, ◌≡◌, ◌++◌, get_or}
 use Rattle.std.specs.Prelude.{codes}
 use Rattle.source_commands.specs.Cross.{head_text}
 use Rattle.source_commands.proofs.CrossLemmas.{lines_begin, lines_end, lines_on}

@@ -87,7 +87,11 @@ abbrev pub printed_line : Bool → List ℕ → List ℕ
 printed_line true bytes = []
 printed_line false bytes = output_line (codes "PRINTED") bytes
 
--- The summary of a run with an operator, of which some was seen or is in a file, and behind it the named cells with their words.
+-- The summary of a run with an operator, of which some was seen or is in a file.
+abbrev pub summary_as : SummaryForm → End → WorldState → ℕ → List ℕ
+summary_as form end w steps =
+    state_line end w steps ++ printed_line form.seen w.devices.printer.output ++ punched_line form.saved_in w.devices.punch.output
+
+-- That summary, and behind it the named cells with their words.
 abbrev pub closing_as : SummaryForm → (ℕ → Bool) → End → WorldState → ℕ → List ℕ
-closing_as form named end w steps =
-    (state_line end w steps ++ printed_line form.seen w.devices.printer.output ++ punched_line form.saved_in w.devices.punch.output) ++ cells_text named w
+closing_as form named end w steps = summary_as form end w steps ++ cells_text named w

@@ -8,7 +8,7 @@ ghost use Rattle.peripherals.specs.World.{view};
 ghost use Rattle.command_parts.specs.LinkText.{link_text};
 ghost use Rattle.machine_commands.specs.Schedule.{Whole};
 ghost use Rattle.machine_commands.specs.Session.{character, leaves_open, parting, summary_where};
-ghost use Rattle.machine_commands.specs.Summary.{end_text, registers_text, state_line, byte_text, bytes_text, output_line, summary, cell_line, cells_below, cells_text, closing, closing_as, frames_word, printed_line, punched_line, saved_line};
+ghost use Rattle.machine_commands.specs.Summary.{end_text, registers_text, state_line, byte_text, bytes_text, output_line, summary, cell_line, cells_below, cells_text, closing, closing_as, frames_word, printed_line, punched_line, saved_line, summary_as};
 
 use crate::follow::{End, RunOutcome};
 use command_parts::options::SummaryForm;
@@ -299,6 +299,21 @@ fn push_printed<A: Allocator>(
     }
 }
 
+/// Adds the summary of a run with an operator.
+fn push_summary_as<A: Allocator, B: Allocator>(
+    text: &mut Vec<u8, A>,
+    form: &SummaryForm<'_>,
+    outcome: &RunOutcome,
+    world: &World<B>,
+) -> Result<(), AllocError>
+    ensures { OnOk result (text.new.items ≡ text.old.items
+        ++ summary_as form.now outcome.now.end (view world.now) outcome.now.steps) }
+{
+    push_state(text, outcome, world)?;
+    push_printed(text, form.seen, world.printed())?;
+    push_punched(text, form.saved_in, world.punched())
+}
+
 /// Adds the summary of a run with an operator, and behind it the cells that are to be shown.
 fn push_closing_as<A: Allocator, B: Allocator>(
     text: &mut Vec<u8, A>,
@@ -310,9 +325,7 @@ fn push_closing_as<A: Allocator, B: Allocator>(
     ensures { OnOk result (text.new.items ≡ text.old.items ++ closing_as form.now
         (words show.now) outcome.now.end (view world.now) outcome.now.steps) }
 {
-    push_state(text, outcome, world)?;
-    push_printed(text, form.seen, world.printed())?;
-    push_punched(text, form.saved_in, world.punched())?;
+    push_summary_as(text, form, outcome, world)?;
     push_shown(text, show, world)
 }
 

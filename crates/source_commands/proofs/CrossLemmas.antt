@@ -15,19 +15,25 @@ LinesBefore entries i old text =
 pub lines_begin : (entries : List Entry) (old : List ℕ) → LinesBefore entries 0 old old
 lines_begin entries old = λ more are. (more, (are, refl))
 
-pub lines_on : (entries : List Entry) (i : ℕ) (d : Entry) (old text new told : List ℕ) → i < length entries → new ≡ text ++ head_text (get_or entries i d) ++ told ++ codes "\n" → LinesBefore entries i old text → LinesBefore entries (i + 1) old new
-lines_on entries i d old text new told h e before = λ more are.
-    let line : List ℕ = head_text (get_or entries i d) ++ told ++ codes "\n" in
-    let here : AreLines (get_or entries i d ∷ drop (i + 1) entries) (head_text (get_or entries i d) ++ told ++ codes "\n" ++ more) = next_line (get_or entries i d) (drop (i + 1) entries) told more are in
-    let there : AreLines (drop i entries) (head_text (get_or entries i d) ++ told ++ codes "\n" ++ more) = subst (λ (l : List Entry). AreLines l (head_text (get_or entries i d) ++ told ++ codes "\n" ++ more)) (sym (drop_more entries i d h)) here in
+behind_all : (a h t n m : List ℕ) → (((a ++ h) ++ t) ++ n) ++ m ≡ a ++ (((h ++ t) ++ n) ++ m)
+behind_all a h t n m =
+    ap (λ (l : List ℕ). (l ++ n) ++ m) (append_assoc a h t) ∙ (ap (λ (l : List ℕ). l ++ m) (append_assoc a (h ++ t) n) ∙ append_assoc a ((h ++ t) ++ n) m)
+
+-- a line more, put there piece by piece
+pub lines_on : (entries : List Entry) (i : ℕ) (d : Entry) (old text headed told_too new told : List ℕ) → i < length entries → headed ≡ text ++ head_text (get_or entries i d) → told_too ≡ headed ++ told → new ≡ told_too ++ codes "\n" →
+    LinesBefore entries i old text → LinesBefore entries (i + 1) old new
+lines_on entries i d old text headed told_too new told h e f n before = λ more are.
+    let P : List Entry → Type 0 = λ l. AreLines l (head_text (get_or entries i d) ++ told ++ codes "\n" ++ more) in
+    let there : AreLines (drop i entries) (head_text (get_or entries i d) ++ told ++ codes "\n" ++ more) =
+    subst P (sym (drop_more entries i d h)) (next_line (get_or entries i d) (drop (i + 1) entries) told more are) in
     let found = before (head_text (get_or entries i d) ++ told ++ codes "\n" ++ more) there in
-    let same : line ++ more ≡ head_text (get_or entries i d) ++ told ++ codes "\n" ++ more =
-    append_assoc (head_text (get_or entries i d)) (told ++ codes "\n") more ∙ ap (λ (l : List ℕ). head_text (get_or entries i d) ++ l) (append_assoc told (codes "\n") more) in
-    (found.0, (found.1.0, ap (λ (l : List ℕ). l ++ more) e ∙ append_assoc text line more ∙ ap (λ (l : List ℕ). text ++ l) same ∙ found.1.1))
+    let whole : new ≡ ((text ++ head_text (get_or entries i d)) ++ told) ++ codes "\n" =
+    n ∙ ap (λ (l : List ℕ). l ++ codes "\n") (f ∙ ap (λ (l : List ℕ). l ++ told) e) in
+    (found.0, (found.1.0, ap (λ (l : List ℕ). l ++ more) whole ∙ (behind_all text (head_text (get_or entries i d)) told (codes "\n") more ∙ found.1.1)))
 
 pub lines_end : (entries : List Entry) (i : ℕ) (old text : List ℕ) → length entries ≤ i → LinesBefore entries i old text → AddsLines entries old text
 lines_end entries i old text h before =
-    let none : AreLines (drop i entries) [] = subst (λ (l : List Entry). AreLines l []) (sym (drop_all entries i h)) no_line in
+    let none : AreLines (drop i entries) [] = subst (λ (l : List Entry). AreLines l []) (sym (drop_all i entries h)) no_line in
     let found = before [] none in
     record { text = found.0; lines = found.1.0; added = sym (append-nil text) ∙ found.1.1 }
 

@@ -1,5 +1,5 @@
 -- What the statements of a source do with its symbols.
-use Rattle.std.specs.Prelude.{ℕ, ◌+◌, Bool, true, false, ◌&&◌, ◌||◌, if◌then◌else◌, List, [], ◌∷◌, ◌++◌, codes, drop, take, Option, Some, None}
+use Rattle.std.specs.Prelude.{ℕ, Bool, true, false, ◌&&◌, ◌||◌, if◌then◌else◌, List, [], ◌∷◌, ◌++◌, codes, drop, take, Option, Some, None}
 use Rattle.std.specs.Option.{is_some}
 use Rattle.pal_text.specs.declared.tokens.Token.{Token}
 use Rattle.pal_text.specs.declared.tokens.Kind.{Kind}
@@ -15,7 +15,6 @@ use Rattle.source_commands.specs.declared.mentions.Role.{Role}
 use Rattle.source_commands.specs.declared.mentions.Role.TheVariants.{Defines, Calls, JumpsTo, Points, Sets, Counts, Reads, Holds, Computes}
 use Rattle.source_commands.specs.declared.mentions.Mention.{Mention}
 use Rattle.source_commands.specs.declared.mentions.Site.{Site}
-use Rattle.source_commands.specs.declared.mentions.Site.TheVariants.{Line, Word}
 use Rattle.source_commands.specs.declared.mentions.Standing.{Standing}
 
 -- A token of this kind is an ordinary symbol.
@@ -61,25 +60,38 @@ word_role source (first ∷ rest) =
 abbrev pub is_own : List (Name × ℕ) → List ℕ → Token → Bool
 is_own own source t = is_symbol t.kind && is_some (known [] own (name_of source t))
 
+-- What a token at this site does, if it is one of the source's own symbols.
+abbrev pub use_of : List (Name × ℕ) → List ℕ → Site → Role → Token → List Mention
+use_of own source site role t = if is_own own source t then (record { name = name_of source t; role = role; site = site }) ∷ [] else []
+
+-- What is done with the next symbol behind a token that is one of the source's own, or behind another.
+abbrev pub role_behind : Bool → Role → Role → Role
+role_behind is_own role later = if is_own then later else role
+
 -- What tokens at this site do with the source's own symbols among them: one thing with the first of these, and another with
 -- each later one.
 abbrev pub uses : List (Name × ℕ) → List ℕ → Site → Role → Role → List Token → List Mention
-uses own source site first later [] = []
-uses own source site first later (t ∷ ts) =
-    if is_own own source t
-    then (record { name = name_of source t; role = first; site = site }) ∷ uses own source site later later ts
-    else uses own source site first later ts
+uses own source site role later [] = []
+uses own source site role later (t ∷ ts) =
+    use_of own source site role t ++ uses own source site (role_behind (is_own own source t) role later) later ts
 
--- What a statement does behind its tags, by its form. An assignment defines its symbol and computes by the others, an origin
--- computes, and a word holds its symbols but for the cell that a reference names.
+-- What an assignment does: it defines its symbol, and computes by the others.
+abbrev pub assignment_uses : List (Name × ℕ) → List ℕ → Site → List Token → List Mention
+assignment_uses own source line body =
+    uses own source line Defines Computes (take 1 body) ++ uses own source line Computes Computes (drop 1 body)
+
+-- What a word does: it holds its symbols, but for the cell that a reference names.
+abbrev pub word_uses : List (Name × ℕ) → List ℕ → Site → List Token → List Mention
+word_uses own source word body = uses own source word (word_role source body) Holds body
+
+-- What a statement does behind its tags, by its form. An origin computes.
 abbrev pub body_uses : List (Name × ℕ) → List ℕ → Standing → Form → List Token → List Mention
-body_uses own source standing form.Assign body =
-    uses own source (Line standing.place) Defines Computes (take 1 body) ++ uses own source (Line standing.place) Computes Computes (drop 1 body)
-body_uses own source standing form.Origin body = uses own source (Line standing.place) Computes Computes body
-body_uses own source standing form.Word body = uses own source (Word standing.at) (word_role source body) Holds body
+body_uses own source standing form.Assign body = assignment_uses own source standing.line body
+body_uses own source standing form.Origin body = uses own source standing.line Computes Computes body
+body_uses own source standing form.Word body = word_uses own source standing.word body
 body_uses own source standing _ body = []
 
--- What a statement with so many tags does with the source's own symbols: it defines its tags.
+-- What a statement does with the source's own symbols, of whose tokens so many are its tags: it defines these.
 abbrev pub statement_uses : List (Name × ℕ) → List ℕ → Standing → ℕ → Form → List Token → List Mention
 statement_uses own source standing tags form tokens =
-    uses own source (Line standing.place) Defines Defines (take (tags + tags) tokens) ++ body_uses own source standing form (drop (tags + tags) tokens)
+    uses own source standing.line Defines Defines (take tags tokens) ++ body_uses own source standing form (drop tags tokens)

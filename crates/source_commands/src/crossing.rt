@@ -18,7 +18,7 @@ use crate::assembling::program_of;
 use crate::cross::{Places, table_of};
 use crate::mentions::mentions_of;
 use crate::sources::{lend, read_parts};
-use command_parts::status::{Fault, Status};
+use command_parts::status::{DeviceFault, Fault, Status};
 use instruct::Profile;
 use labels::Tags;
 use pal_asm::{AssembleFault, Program, SourceMap, map_source};
@@ -75,7 +75,7 @@ fn map_of<A: Allocator + Copy>(
     parts: &[&[u8]],
     profile: Profile,
 ) -> Result<SourceMap<A>, Fault>
-    ensures { IfErr result (IsAssemblyFault profile (texts parts.now)) }
+    ensures faults { IfErr result (IsAssemblyFault profile (texts parts.now)) }
 {
     match map_source(alloc, parts, profile) {
         Ok(map) => Ok(map),
@@ -105,7 +105,7 @@ fn program_table<A: Allocator + Copy>(
 }
 
 /// The listing of a program, an empty line, and the table of its symbols.
-fn crossed<A: Allocator + Copy>(
+fn with_table<A: Allocator + Copy>(
     alloc: A,
     parts: &[&[u8]],
     program: &Program<A>,
@@ -119,6 +119,24 @@ fn crossed<A: Allocator + Copy>(
     text.extend_from_slice(b"\n")?;
     text.extend_from_slice(&table)?;
     Ok(text)
+}
+
+/// What is written of a program that was assembled from these parts.
+fn crossed<A: Allocator + Copy>(
+    alloc: A,
+    parts: &[&[u8]],
+    profile: Profile,
+    program: &Program<A>,
+) -> Result<Vec<u8, A>, Fault>
+    ensures crossed { IfOk result (λ text. HasTable (symbols_of program.now)
+        (listing_of program.now) text.items) }
+    ensures faults { IfErr result (IsAssemblyFault profile (texts parts.now)) }
+{
+    let map = map_of(alloc, parts, profile)?;
+    match with_table(alloc, parts, program, &map) {
+        Ok(text) => Ok(text),
+        Err(_) => Err(Fault::NoMemory),
+    }
 }
 
 /// Assembles a source of one part or more, in order, and writes its listing, an empty line, and a table of its symbols
@@ -164,8 +182,9 @@ pub fn list_crossed<A: Allocator + Copy, R: ByteSource, W: ByteSink>(
     let parts = read_parts(alloc, sources)?;
     let slices = lend(alloc, &parts)?;
     let program = program_of(alloc, &slices, profile, names, told)?;
-    let map = map_of(alloc, &slices, profile)?;
-    let text = crossed(alloc, &slices, &program, &map)?;
-    put(out, &text)?;
-    Ok(Status::Done)
+    let text = crossed(alloc, &slices, profile, &program)?;
+    match put(out, &text) {
+        Ok(()) => Ok(Status::Done),
+        Err(_) => Err(Fault::Device(DeviceFault::Write)),
+    }
 }

@@ -1,11 +1,12 @@
 //! What the statements of a source do with its symbols.
 
-ghost use Rattle.std.specs.Prelude.{◌≡◌, ◌++◌, drop, length, OnOk};
+ghost use Rattle.std.specs.Prelude.{◌≡◌, ◌≤◌, ◌++◌, drop, length, take, IfOk, OnOk};
 ghost use Rattle.std.specs.List.{AllByRecursion};
 ghost use Rattle.pal_text.specs.Names.{IsWithin};
+ghost use Rattle.pal_text.specs.Order.{IsPlaced};
 ghost use Rattle.pal_text.specs.Tokens.{is_space};
 ghost use Rattle.pal_asm.specs.Expressions.{name_of};
-ghost use Rattle.source_commands.specs.Mentions.{is_symbol, direct_role, begins_with, is_indirect, reference_role, word_role, is_own, uses, body_uses, statement_uses};
+ghost use Rattle.source_commands.specs.Mentions.{assignment_uses, begins_with, body_uses, direct_role, is_indirect, is_own, is_symbol, reference_role, role_behind, statement_uses, use_of, uses, word_role, word_uses};
 
 use pal_acts::{Name, PlacedWord, SourcePlace, SymbolTable};
 use pal_text::{Ending, Form, Kind, Part, Statement, TextFault, Token, statements};
@@ -55,13 +56,13 @@ pub struct Mention {
     pub site: Site,
 }
 
-/// Where a statement stands, and the address of its word, if it is one.
+/// Where a statement is found: by its line, and if it is a word by the address of that.
 #[derive(Clone, Copy)]
 pub struct Standing {
-    /// Its part and its line.
-    pub place: SourcePlace,
-    /// The address of its word.
-    pub at: Word,
+    /// Its line.
+    pub line: Site,
+    /// Its word.
+    pub word: Site,
 }
 
 const AND: Name = Name {
@@ -205,12 +206,44 @@ fn is_own<S: Allocator + Copy>(own: &SymbolTable<S>, source: &[u8], token: Token
     is_symbol(token.kind) && own.get(&name_of(source, token)).is_some()
 }
 
+/// Adds what a token does with a symbol, if it is one of the source's own, and tells whether it is.
+fn push_use<A: Allocator, S: Allocator + Copy>(
+    own: &SymbolTable<S>,
+    source: &[u8],
+    site: &Site,
+    role: Role,
+    token: Token,
+    mentions: &mut Vec<Mention, A>,
+) -> Result<bool, AllocError>
+    requires { IsWithin (length source.now) token }
+    ensures own { IfOk result (λ is. is ≡ is_own own.now.entries source.now token) }
+    ensures added { OnOk result (mentions.new.items ≡ mentions.old.items ++
+        use_of own.now.entries source.now site.now role token) }
+{
+    if !is_own(own, source, token) {
+        return Ok(false);
+    }
+    mentions.push(Mention {
+        name: name_of(source, token),
+        role,
+        site: *site,
+    })?;
+    Ok(true)
+}
+
+/// What is done with the next symbol behind a token, that is one of the source's own or not.
+fn role_behind(is_own: bool, role: Role, later: Role) -> Role
+    ensures { result ≡ role_behind is_own role later }
+{
+    if is_own { later } else { role }
+}
+
 /// Adds what tokens do with the source's own symbols among them: one thing with the first of these, and another with
 /// each later one.
 fn push_uses<A: Allocator, S: Allocator + Copy>(
     own: &SymbolTable<S>,
     source: &[u8],
-    site: Site,
+    site: &Site,
     first: Role,
     later: Role,
     tokens: &[Token],
@@ -218,109 +251,198 @@ fn push_uses<A: Allocator, S: Allocator + Copy>(
 ) -> Result<(), AllocError>
     requires { AllByRecursion (IsWithin (length source.now)) tokens.now }
     ensures { OnOk result (mentions.new.items ≡ mentions.old.items ++
-        uses own.now.entries source.now site first later tokens.now) }
+        uses own.now.entries source.now site.now first later tokens.now) }
 {
     let mut role = first;
     for token in tokens {
-        if is_own(own, source, *token) {
-            let name = name_of(source, *token);
-            mentions.push(Mention { name, role, site })?;
-            role = later;
-        }
+        let is_own = push_use(own, source, site, role, *token, mentions)?;
+        role = role_behind(is_own, role, later);
     }
     Ok(())
+}
+
+/// The first of some tokens, if there is one.
+fn front_of(tokens: &[Token]) -> &[Token]
+    ensures { result.now ≡ take 1 tokens.now }
+{
+    match tokens {
+        [_, ..] => &tokens[..1],
+        _ => tokens,
+    }
+}
+
+/// The tokens behind the first one.
+fn behind_one(tokens: &[Token]) -> &[Token]
+    ensures { result.now ≡ drop 1 tokens.now }
+{
+    match tokens {
+        [_, more @ ..] => more,
+        _ => tokens,
+    }
+}
+
+/// Adds what an assignment does: it defines its symbol, and computes by the others.
+fn push_assignment<A: Allocator, S: Allocator + Copy>(
+    own: &SymbolTable<S>,
+    source: &[u8],
+    line: &Site,
+    body: &[Token],
+    mentions: &mut Vec<Mention, A>,
+) -> Result<(), AllocError>
+    requires { AllByRecursion (IsWithin (length source.now)) body.now }
+    ensures { OnOk result (mentions.new.items ≡ mentions.old.items ++
+        assignment_uses own.now.entries source.now line.now body.now) }
+{
+    let (defines, computes) = (Role::Defines, Role::Computes);
+    push_uses(
+        own,
+        source,
+        line,
+        defines,
+        computes,
+        front_of(body),
+        mentions,
+    )?;
+    push_uses(
+        own,
+        source,
+        line,
+        computes,
+        computes,
+        behind_one(body),
+        mentions,
+    )
+}
+
+/// Adds what a word does.
+fn push_word_uses<A: Allocator, S: Allocator + Copy>(
+    own: &SymbolTable<S>,
+    source: &[u8],
+    word: &Site,
+    body: &[Token],
+    mentions: &mut Vec<Mention, A>,
+) -> Result<(), AllocError>
+    requires { AllByRecursion (IsWithin (length source.now)) body.now }
+    ensures { OnOk result (mentions.new.items ≡ mentions.old.items ++
+        word_uses own.now.entries source.now word.now body.now) }
+{
+    let role = word_role(source, body);
+    push_uses(own, source, word, role, Role::Holds, body, mentions)
 }
 
 /// Adds what a statement does behind its tags.
 fn push_body<A: Allocator, S: Allocator + Copy>(
     own: &SymbolTable<S>,
     source: &[u8],
-    standing: Standing,
+    standing: &Standing,
     form: Form,
     body: &[Token],
     mentions: &mut Vec<Mention, A>,
 ) -> Result<(), AllocError>
     requires { AllByRecursion (IsWithin (length source.now)) body.now }
     ensures { OnOk result (mentions.new.items ≡ mentions.old.items ++
-        body_uses own.now.entries source.now standing form body.now) }
+        body_uses own.now.entries source.now standing.now form body.now) }
 {
-    let line = Site::Line(standing.place);
+    let computes = Role::Computes;
     match form {
-        Form::Assign => {
-            let (front, behind) = body.split_at(body.len().min(1));
-            push_uses(
-                own,
-                source,
-                line,
-                Role::Defines,
-                Role::Computes,
-                front,
-                mentions,
-            )?;
-            push_uses(
-                own,
-                source,
-                line,
-                Role::Computes,
-                Role::Computes,
-                behind,
-                mentions,
-            )
-        }
+        Form::Assign => push_assignment(own, source, &standing.line, body, mentions),
         Form::Origin => {
             push_uses(
                 own,
                 source,
-                line,
-                Role::Computes,
-                Role::Computes,
+                &standing.line,
+                computes,
+                computes,
                 body,
                 mentions,
             )
         }
-        Form::Word => {
-            let role = word_role(source, body);
-            let word = Site::Word(standing.at);
-            push_uses(own, source, word, role, Role::Holds, body, mentions)
-        }
+        Form::Word => push_word_uses(own, source, &standing.word, body, mentions),
         _ => Ok(()),
     }
 }
 
-/// Adds what a statement does with the source's own symbols.
+/// Adds what a statement with so many tags does with the source's own symbols.
 fn push_statement<A: Allocator, S: Allocator + Copy>(
     own: &SymbolTable<S>,
     source: &[u8],
-    standing: Standing,
-    statement: Statement,
+    standing: &Standing,
+    tags: usize,
+    form: Form,
     tokens: &[Token],
     mentions: &mut Vec<Mention, A>,
 ) -> Result<(), AllocError>
-    requires { AllByRecursion (IsWithin (length source.now)) tokens.now }
+    requires within { AllByRecursion (IsWithin (length source.now)) tokens.now }
+    requires tags { tags ≤ length tokens.now }
     ensures { OnOk result (mentions.new.items ≡ mentions.old.items ++
-        statement_uses own.now.entries source.now standing statement.tags statement.form tokens.now) }
+        statement_uses own.now.entries source.now standing.now tags form tokens.now) }
 {
-    let count = statement.tags.saturating_mul(2).min(tokens.len());
-    let (tags, body) = tokens.split_at(count);
-    let line = Site::Line(standing.place);
+    let defines = Role::Defines;
     push_uses(
         own,
         source,
-        line,
-        Role::Defines,
-        Role::Defines,
-        tags,
+        &standing.line,
+        defines,
+        defines,
+        &tokens[..tags],
         mentions,
     )?;
-    push_body(own, source, standing, statement.form, body, mentions)
+    push_body(own, source, standing, form, &tokens[tags..], mentions)
 }
 
-/// The address of the next word where a statement of this form is one, and the words behind it.
-fn take_word(form: Form, words: &[PlacedWord]) -> (Word, &[PlacedWord]) {
-    match (form, words) {
-        (Form::Word, [word, more @ ..]) => (word.at, more),
-        _ => (Word::ZERO, words),
+/// The address of the next word, if there is one.
+fn next_at(words: &[PlacedWord]) -> Word {
+    match words {
+        [word, ..] => word.at,
+        [] => Word::ZERO,
     }
+}
+
+/// The words behind a statement of this form: the first one is its own, if it is a word.
+fn words_behind(form: Form, words: &[PlacedWord]) -> &[PlacedWord] {
+    match (form, words) {
+        (Form::Word, [_, more @ ..]) => more,
+        _ => words,
+    }
+}
+
+/// How many of the tokens of a statement are its tags, each with a comma.
+fn tag_tokens(statement: Statement, tokens: &[Token]) -> usize
+    ensures { result ≤ length tokens.now }
+{
+    statement.tags.saturating_mul(2).min(tokens.len())
+}
+
+/// Adds what a statement does that stands on a line of the part of this number and whose word is at this address.
+fn push_placed<A: Allocator + Copy, S: Allocator + Copy>(
+    own: &SymbolTable<S>,
+    number: usize,
+    part: &Part<'_, A>,
+    statement: Statement,
+    at: Word,
+    mentions: &mut Vec<Mention, A>,
+) -> Result<(), AllocError>
+    requires tokens { AllByRecursion (IsWithin (length part.now.source.now)) part.now.tokens.items }
+    requires placed { IsPlaced part.now.tokens.items statement }
+{
+    let tokens = part.tokens_of(statement);
+    let standing = Standing {
+        line: Site::Line(SourcePlace {
+            part: number,
+            line: statement.line,
+        }),
+        word: Site::Word(at),
+    };
+    let tags = tag_tokens(statement, tokens);
+    push_statement(
+        own,
+        part.source,
+        &standing,
+        tags,
+        statement.form,
+        tokens,
+        mentions,
+    )
 }
 
 /// Adds what the statements of the part of this number do, of whose words these come next, and tells the words behind
@@ -331,21 +453,14 @@ fn push_statements<'w, A: Allocator + Copy, S: Allocator + Copy>(
     part: &Part<'_, A>,
     words: &'w [PlacedWord],
     mentions: &mut Vec<Mention, A>,
-) -> Result<&'w [PlacedWord], AllocError> {
+) -> Result<&'w [PlacedWord], AllocError>
+    requires tokens { AllByRecursion (IsWithin (length part.now.source.now)) part.now.tokens.items }
+    requires placed { AllByRecursion (IsPlaced part.now.tokens.items) part.now.statements.items }
+{
     let mut left = words;
     for statement in &part.statements {
-        let (at, more) = take_word(statement.form, left);
-        let place = SourcePlace {
-            part: number,
-            line: statement.line,
-        };
-        let tokens = part
-            .tokens
-            .get(statement.first..statement.last)
-            .unwrap_or(&[]);
-        let standing = Standing { place, at };
-        push_statement(own, part.source, standing, *statement, tokens, mentions)?;
-        left = more;
+        push_placed(own, number, part, *statement, next_at(left), mentions)?;
+        left = words_behind(statement.form, left);
     }
     Ok(left)
 }

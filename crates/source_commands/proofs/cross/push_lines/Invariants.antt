@@ -1,5 +1,3 @@
-use Rattle.std.proofs.Common.{List, ℕ, ◌++◌, drop}
-use Rattle.source_commands.specs.Cross.{AddsLines, AreLines}
 use Rattle.source_commands.proofs.CrossLemmas.{LinesBefore}
 use Rattle.source_commands.proofs.cross.push_lines.Given as goal
 

@@ -107,6 +107,7 @@ impl<A: Allocator + Copy> SumSearch<A> {
         self.claim(entry, &WordSet::one(at), &WordSet::empty())?;
         let written = self.claimed(entry).writes;
         self.write(&place.routine, &written.union(&WordSet::one(entry)))?;
+        small.fact.is_within_room();
         next.copy_from(&small.fact);
         next.set_sites(&WordSet::one(at));
         let mut offsets = ReturnOffsets::none();
@@ -152,11 +153,13 @@ impl<A: Allocator + Copy> SumSearch<A> {
         let Some(offset) = kept.case.offset else {
             return Ok(());
         };
-        let to = at.increment().add(Word::from_index(offset));
+        let to = at.increment().add(Word::from_index(offset.min(7)));
         if !kept.sites.contains(at) || !program.has(&place.routine, to) {
             return Ok(());
         }
         kept.put_written(written, &self.split.cell, &mut small.exit);
+        small.fact.is_within_room();
+        small.exit.is_within_room();
         next.take_joined(&Rules::OfSums, &small.fact, &small.exit, written);
         let goal = Goal {
             to,
@@ -195,6 +198,7 @@ impl<A: Allocator + Copy> SumSearch<A> {
             if small.fact.offsets().contains(offset)
                 && program.base.declaration.has_offset(entry, more)
             {
+                small.fact.is_within_room();
                 next.copy_from(&small.fact);
                 let goal = Goal {
                     to: at,

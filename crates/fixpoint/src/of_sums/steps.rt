@@ -1,16 +1,22 @@
 //! On from one fact by the words that are possible at its address.
 
-ghost use Rattle.std.specs.Prelude.{◌≡◌, ◌≤◌, IfErr};
+ghost use Rattle.std.specs.Prelude.{◌≡◌, ◌≤◌, IfErr, map, true};
+ghost use Rattle.domain.specs.Sums.ChainsInCode.{AreShort, chain_of};
 ghost use Rattle.turns.specs.Counts.{IsSpentUp};
 
 use crate::halt::Halt;
-use crate::of_sums::kept::SumInvariant;
+use crate::invariant::are_short;
+use crate::of_sums::kept::{SumInvariant, has_room_for_cell, narrow};
 use crate::of_sums::program::SumProgram;
 use crate::of_sums::rooms::{SmallRooms, SumRooms, ValueRooms};
 use crate::of_sums::search::{MOST_WORDS, SumSearch};
 use crate::of_sums::splits::{Case, MOST_VALUES};
-use domain::Location;
-use facts::{Fact, Kind, KnownFact, LinkPart, NextFact, Outcome, Part, PartFact, Place};
+use bin_tape::Image;
+use domain::{Chain, Location};
+use facts::{
+    ChosenFact, Fact, Kind, KnownFact, LinkPart, MetFact, NarrowedFact, NextFact, Outcome, Outcomes,
+    Part, PartFact, Place,
+};
 use instruct::{refers_indirectly, target};
 use std::alloc::Allocator;
 use turns::{GuessFault, Turns};
@@ -56,8 +62,7 @@ impl<A: Allocator + Copy> SumSearch<A> {
         kept.put(&mut room.small.claimed);
         let place = program.place(&program.owner(at));
         let SmallRooms { claimed, fact, .. } = &mut *room.small;
-        fact.narrow(program.base.image, claimed);
-        if fact.is_void() {
+        if !narrow(program.base.image, claimed, fact) || fact.is_void() {
             return Ok(());
         }
         let mut possible = WordSet::empty();
@@ -111,7 +116,9 @@ impl<A: Allocator + Copy> SumSearch<A> {
         let mut written = WordSet::empty();
         place.put_writes(&room.small.fact, at, word, &mut written);
         self.write(&place.routine, &written)?;
-        place.put_outcomes(&room.small.fact, at, word, &mut room.outcomes);
+        if !put_outcomes(place, &room.small.fact, at, word, &mut room.outcomes) {
+            return Ok(());
+        }
         let SumRooms {
             outcomes,
             next,
@@ -280,10 +287,58 @@ fn put_value<D: Allocator, A: Allocator>(
     value: Word,
     values: &mut ValueRooms<A>,
 ) -> bool {
-    values.chosen.copy_from(part);
-    values.chosen.set_name(name, &WordSet::one(value));
-    values.met.narrow(program.base.image, &values.chosen);
-    !values.met.is_void()
+    let ValueRooms { chosen, met } = values;
+    choose(program.base.image, part, name, value, chosen, met);
+    !met.is_void()
+}
+
+/// Narrows what is left of a part when a name holds one word.
+fn choose(
+    image: &Image,
+    part: &PartFact,
+    name: &Location,
+    value: Word,
+    chosen: &mut ChosenFact,
+    met: &mut MetFact,
+) {
+    part.is_within_room();
+    chosen.copy_from(part);
+    chosen.set_name(name, &WordSet::one(value));
+    chosen.is_within_room();
+    met.narrow(image, chosen);
+}
+
+/// Whether each chain has room for one step more.
+#[tactic(auto, using(crate::proofs::RoomLemmas::steps_told))]
+fn have_room(chains: &[Chain]) -> bool
+    ensures { result ≡ true → AreShort (map chain_of chains.now) }
+{
+    for chain in chains {
+        if chain.steps().len() >= 17 {
+            return false;
+        }
+    }
+    true
+}
+
+/// Puts what may come of a word into the lent room, if the fact has few enough chains and terms.
+#[tactic(auto, using(crate::proofs::RoomLemmas::chains_told))]
+fn put_outcomes<D: Allocator>(
+    place: &Place<'_, D>,
+    fact: &NarrowedFact,
+    at: Word,
+    word: Word,
+    outcomes: &mut Outcomes,
+) -> bool {
+    if fact.chains().len() > 4 {
+        return false;
+    }
+    if !are_short(fact.relations().as_slice()) || !have_room(fact.chains()) {
+        return false;
+    }
+    fact.is_within_room();
+    place.put_outcomes(fact, at, word, outcomes);
+    true
 }
 
 /// Whether a run may go on by a word where the fact in the lent room holds; where what it refers to is only permitted in part,
@@ -302,9 +357,20 @@ fn may_go_on<D: Allocator>(
     if !refers_indirectly(word) || !program.base.declaration.is_variable(named) {
         return false;
     }
-    small.clipped.copy_from(&small.claimed);
     let permitted = program.permitted(&place.routine, at, word);
-    small.clipped.meet_name(&Location::Cell(named), &permitted);
-    small.fact.narrow(program.base.image, &small.clipped);
-    !small.fact.is_void() && program.may_access(place, &small.fact, at, word)
+    let SmallRooms {
+        claimed,
+        clipped,
+        fact,
+        ..
+    } = small;
+    claimed.is_within_room();
+    clipped.copy_from(claimed);
+    if !has_room_for_cell(clipped) {
+        return false;
+    }
+    clipped.meet_name(&Location::Cell(named), &permitted);
+    narrow(program.base.image, clipped, fact)
+        && !fact.is_void()
+        && program.may_access(place, fact, at, word)
 }

@@ -20,9 +20,9 @@ use wordset::WordSet;
 /// The most turns of one try.
 const MOST_TURNS: u32 = 20_000;
 
-/// So many routines at most get their facts told apart by the call, one after another, beside those that look at their return
-/// word.
-const MOST_ROUTINES: usize = 4;
+/// So many tries at most are made with facts told apart by calls: with none, with those of routines that look at their return
+/// word, and with those of one routine more in each.
+const MOST_CALLS: usize = 6;
 
 /// By the words of so many cells at most facts are told apart, one after another.
 const MOST_CELLS: usize = 12;
@@ -88,18 +88,19 @@ fn tried_by_calls<A: Allocator + Copy, D: Allocator>(
     ensures spent { IfErr result (IsSpentUp turns.new) }
 {
     turns.are_within();
-    let mut found = tried(search, program, split, turns);
-    for _more in 0..=MOST_ROUTINES {
+    let mut stuck = program.base.declaration.start();
+    for _more in 0..MOST_CALLS {
+        let found = tried(search, program, split, turns);
         let Err(GuessFault::Stuck(at)) = &found else {
             return found;
         };
-        let Some(entries) = more_called(program, split, *at) else {
-            return found;
-        };
-        *split = split.by_calls(&entries);
-        found = tried(search, program, split, turns);
+        stuck = *at;
+        match more_called(program, split, stuck) {
+            None => return Err(GuessFault::Stuck(stuck)),
+            Some(entries) => *split = split.by_calls(&entries),
+        }
     }
-    found
+    Err(GuessFault::Stuck(stuck))
 }
 
 /// The same, with facts told apart by the words of one of some cells, one after another.

@@ -288,7 +288,7 @@ impl<A: Allocator> Invariant<A> {
 }
 
 /// Whether each relation's sum has at most three terms.
-fn are_short(relations: &[Relation]) -> bool
+pub(crate) fn are_short(relations: &[Relation]) -> bool
     ensures { result ≡ true → HaveFewTerms (map relation_of relations.now) }
 {
     for relation in relations {

@@ -12,6 +12,7 @@ mod search;
 mod splits;
 mod steps;
 mod table;
+mod text;
 mod widening;
 
 pub use program::SumProgram;

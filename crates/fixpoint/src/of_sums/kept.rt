@@ -1,13 +1,19 @@
 //! Facts as they are kept by the search by the rules of sums.
 
+ghost use Rattle.std.specs.Prelude.{◌≡◌, ◌<◌, length, true};
+ghost use Rattle.domain.specs.Sums.CellsInCode.{cell_sets_of};
+ghost use Rattle.domain.specs.Sums.FactInCode.{fact_in_code};
+ghost use Rattle.domain.specs.Sums.RelationsInCode.{relations_of};
+
 use crate::halt::Halt;
 use crate::invariant::{CellInvariant, MOST_CELLS, MOST_RELATIONS};
 use crate::known::brief;
 use crate::of_sums::merging::Merge;
 use crate::of_sums::splits::Case;
 use crate::sums::{speaks_only_of, touches};
+use bin_tape::Image;
 use domain::{CellSet, Chain, Location, Relation, ReturnOffsets, Sum};
-use facts::{Fact, KnownFact};
+use facts::{Fact, KnownFact, NarrowedFact};
 use std::alloc::Allocator;
 use word12::Word;
 use wordset::{Links, WordSet};
@@ -48,6 +54,70 @@ pub(crate) struct SumInvariant<A: Allocator> {
 fn is_short(chain: &Chain) -> bool {
     let count = chain.steps().len();
     count >= 1 && count <= MOST_STEPS
+}
+
+/// Lets a fact tell of a cell, if there is room.
+fn track_if_room(fact: &mut Fact, cell: &CellSet) {
+    if has_room_for_cell(fact) {
+        fact.track_copy(cell);
+    }
+}
+
+/// Whether a fact has room for one cell more.
+#[tactic(auto, using(crate::proofs::RoomLemmas::cells_told))]
+pub(crate) fn has_room_for_cell(fact: &Fact) -> bool
+    ensures { result ≡ true → length (cell_sets_of fact.now.cells) < 64 }
+{
+    fact.told_cells().len() < MOST_CELLS
+}
+
+/// Lets a fact tell of a relation, if there is room.
+fn relate_if_room(fact: &mut Fact, relation: &Relation) {
+    if has_room_for_relation(fact) {
+        let mut set = WordSet::all();
+        relation.set.put(&mut set);
+        fact.relate(&relation.sum, &set);
+    }
+}
+
+/// Whether a fact has room for one relation more.
+fn has_room_for_relation(fact: &Fact) -> bool
+    ensures { result ≡ true → length (relations_of fact.now.relations) < 32 }
+{
+    fact.relations().len() < MOST_RELATIONS
+}
+
+/// Lets a fact tell of some chains, if there is room.
+fn put_chains(chains: &[Chain], fact: &mut Fact) {
+    for chain in chains {
+        add_chain_if_room(fact, chain);
+    }
+}
+
+/// Lets a fact tell of a chain, if there is room.
+fn add_chain_if_room(fact: &mut Fact, chain: &Chain) {
+    if has_room_for_chain(fact) {
+        fact.add_chain(chain);
+    }
+}
+
+/// Whether a fact has room for one chain more.
+#[tactic(auto, using(crate::proofs::RoomLemmas::chains_told))]
+fn has_room_for_chain(fact: &Fact) -> bool
+    ensures { result ≡ true → length (fact_in_code fact.now).chains < 72 }
+{
+    fact.chains().len() < MOST_CHAINS
+}
+
+/// Narrows a fact into room for it, if that is enough.
+#[tactic(auto, using(crate::proofs::RoomLemmas::chains_kept))]
+pub(crate) fn narrow(image: &Image, claimed: &Fact, fact: &mut NarrowedFact) -> bool {
+    if claimed.chains().len() > MOST_CHAINS {
+        return false;
+    }
+    claimed.is_within_room();
+    fact.narrow(image, claimed);
+    true
 }
 
 impl<A: Allocator + Copy> SumInvariant<A> {
@@ -164,7 +234,7 @@ impl<A: Allocator + Copy> SumInvariant<A> {
             sum: *sum,
             set: brief(&smooth),
         };
-        after.relate(sum, &smooth);
+        relate_if_room(after, &told);
         match self.relations.push(RelationInvariant { told, growths }) {
             Ok(()) => Ok(()),
             Err(_) => Err(Halt::NoMemory),
@@ -215,16 +285,12 @@ impl<A: Allocator + Copy> SumInvariant<A> {
     pub(crate) fn put(&self, fact: &mut Fact) {
         self.put_registers(fact);
         for line in &self.cells {
-            fact.track_copy(&line.told);
+            track_if_room(fact, &line.told);
         }
         for relation in &self.relations {
-            let mut set = WordSet::all();
-            relation.told.set.put(&mut set);
-            fact.relate(&relation.told.sum, &set);
+            relate_if_room(fact, &relation.told);
         }
-        for chain in &self.chains {
-            fact.add_chain(chain);
-        }
+        put_chains(&self.chains, fact);
     }
 
     /// Lets the lent fact say what is kept of registers, sites and offsets, and nothing else.
@@ -243,18 +309,14 @@ impl<A: Allocator + Copy> SumInvariant<A> {
         self.put_registers(fact);
         for line in &self.cells {
             if written.contains(line.told.cell) || *more == Some(line.told.cell) {
-                fact.track_copy(&line.told);
+                track_if_room(fact, &line.told);
             }
         }
         for relation in &self.relations {
             if touches(written, &relation.told.sum) {
-                let mut set = WordSet::all();
-                relation.told.set.put(&mut set);
-                fact.relate(&relation.told.sum, &set);
+                relate_if_room(fact, &relation.told);
             }
         }
-        for chain in &self.chains {
-            fact.add_chain(chain);
-        }
+        put_chains(&self.chains, fact);
     }
 }

@@ -94,9 +94,10 @@ impl<'a, D: Allocator> SumProgram<'a, D> {
 
     /// The entry of the routine whose body has an address, if it is not main's.
     pub fn owner(&self, at: Word) -> Option<Word> {
-        match self.base.declaration.owner_of(at) {
-            Some(Owner::Routine(entry)) => Some(entry),
-            _ => None,
+        let owner = self.base.declaration.owner_of(at)?;
+        match owner {
+            Owner::Main => None,
+            Owner::Routine(entry) => Some(entry),
         }
     }
 

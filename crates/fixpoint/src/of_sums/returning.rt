@@ -1,15 +1,13 @@
 //! Calls and returns.
 
 use crate::halt::Halt;
-use crate::of_sums::kept::SumInvariant;
 use crate::of_sums::program::SumProgram;
-use crate::of_sums::rooms::{SmallRooms, ValueRooms};
+use crate::of_sums::rooms::SumRooms;
 use crate::of_sums::search::SumSearch;
 use crate::of_sums::splits::Case;
-use crate::of_sums::steps::{Goal, PartRooms};
+use crate::of_sums::steps::Goal;
 use certificate::RoutineClaim;
-use domain::{ReturnOffsets, Rules};
-use facts::{Fact, KnownFact, LinkPart, NextFact, Place};
+use facts::{Fact, KnownFact, Place};
 use std::alloc::Allocator;
 use word12::Word;
 use wordset::WordSet;
@@ -25,20 +23,12 @@ impl<A: Allocator + Copy> SumSearch<A> {
 
     /// Claims more of a routine, and tells whether it is more.
     fn claim(&mut self, entry: Word, sites: &WordSet, writes: &WordSet) -> Result<bool, Halt> {
-        let routines = if self.gathers {
-            &mut self.gathered.routines
+        let alloc = self.alloc;
+        if self.gathers {
+            self.gathered.claim(alloc, entry, sites, writes)
         } else {
-            &mut self.table.routines
-        };
-        routines.list(self.alloc, entry)?;
-        let mut routine = routines.routine(entry);
-        if sites.is_subset(&routine.sites) && writes.is_subset(&routine.writes) {
-            return Ok(false);
+            self.table.claim(alloc, entry, sites, writes)
         }
-        routine.sites = routine.sites.union(sites);
-        routine.writes = routine.writes.union(writes);
-        routines.set_routine(entry, routine);
-        Ok(true)
     }
 
     /// The routine of a body may write some cells, its own entry apart.
@@ -69,24 +59,19 @@ impl<A: Allocator + Copy> SumSearch<A> {
         self.waiting = self.waiting.union(addresses);
     }
 
-    /// Calls each of some entries.
+    /// Calls each of the entries that the outcome calls.
     pub(crate) fn call_each<D: Allocator>(
         &mut self,
         program: &SumProgram<'_, D>,
         place: &Place<'_, D>,
         at: Word,
-        entries: &WordSet,
-        next: &mut NextFact,
-        part: &mut LinkPart,
-        values: &mut ValueRooms<A>,
-        small: &mut SmallRooms,
+        room: &mut SumRooms<A>,
     ) -> Result<(), Halt> {
+        let mut entries = WordSet::empty();
+        room.outcomes.first.targets.put(&mut entries);
         for entry in entries.iter() {
-            if program.base.declaration.is_entry(entry)
-                && program.base.declaration.in_body(entry, entry.increment())
-                && at.index() <= LAST_SITE
-            {
-                self.call(program, place, at, entry, next, part, values, small)?;
+            if may_call(program, at, entry) {
+                self.call(program, place, at, entry, room)?;
             }
         }
         Ok(())
@@ -99,37 +84,33 @@ impl<A: Allocator + Copy> SumSearch<A> {
         place: &Place<'_, D>,
         at: Word,
         entry: Word,
-        next: &mut NextFact,
-        part: &mut LinkPart,
-        values: &mut ValueRooms<A>,
-        small: &mut SmallRooms,
+        room: &mut SumRooms<A>,
     ) -> Result<(), Halt> {
         self.claim(entry, &WordSet::one(at), &WordSet::empty())?;
         let written = self.claimed(entry).writes;
         self.write(&place.routine, &written.union(&WordSet::one(entry)))?;
-        next.copy_from(&small.fact);
-        next.set_sites(&WordSet::one(at));
-        let mut offsets = ReturnOffsets::none();
-        offsets.insert(0);
-        next.set_offsets(offsets);
+        room.calls.put_called_from(at);
         let goal = Goal {
             to: entry.increment(),
             routine: Some(entry),
             exit: None,
         };
-        let mut rooms = PartRooms {
-            part,
-            values,
-            before: &mut small.before,
-            after: &mut small.after,
-        };
-        self.land(program, &goal, next, &mut rooms)?;
+        self.land_next(program, &goal, room)?;
         for index in 0..self.table.exits.row(entry).len() {
-            self.come_from(
-                program, place, at, entry, index, &written, next, part, values, small,
-            )?;
+            self.come_from(program, place, at, entry, index, room)?;
         }
         Ok(())
+    }
+
+    /// Lets what comes next be known where it goes.
+    fn land_next<D: Allocator>(
+        &mut self,
+        program: &SumProgram<'_, D>,
+        goal: &Goal,
+        room: &mut SumRooms<A>,
+    ) -> Result<(), Halt> {
+        let SumRooms { calls, parts, .. } = room;
+        self.land(program, goal, &mut calls.next, parts)
     }
 
     /// Goes on after a call by one of the exits of the entry.
@@ -140,11 +121,7 @@ impl<A: Allocator + Copy> SumSearch<A> {
         at: Word,
         entry: Word,
         index: usize,
-        written: &WordSet,
-        next: &mut NextFact,
-        part: &mut LinkPart,
-        values: &mut ValueRooms<A>,
-        small: &mut SmallRooms,
+        room: &mut SumRooms<A>,
     ) -> Result<(), Halt> {
         let Some(kept) = self.table.exits.get(entry, index) else {
             return Ok(());
@@ -152,24 +129,19 @@ impl<A: Allocator + Copy> SumSearch<A> {
         let Some(offset) = kept.case.offset else {
             return Ok(());
         };
-        let to = at.increment().add(Word::from_index(offset));
+        let to = at.increment().add(Word::from_index(offset.min(7)));
         if !kept.sites.contains(at) || !program.has(&place.routine, to) {
             return Ok(());
         }
-        kept.put_written(written, &self.split.cell, &mut small.exit);
-        next.take_joined(&Rules::OfSums, &small.fact, &small.exit, written);
+        let written = self.claimed(entry).writes;
+        kept.put_written(&written, &self.split.cell, &mut room.calls.exit);
+        room.calls.put_joined(&written);
         let goal = Goal {
             to,
             routine: place.routine,
             exit: None,
         };
-        let mut rooms = PartRooms {
-            part,
-            values,
-            before: &mut small.before,
-            after: &mut small.after,
-        };
-        self.land(program, &goal, next, &mut rooms)
+        self.land_next(program, &goal, room)
     }
 
     /// Returns by a word, if it is a return of the routine whose body it stands in, by offsets that are declared.
@@ -179,10 +151,7 @@ impl<A: Allocator + Copy> SumSearch<A> {
         place: &Place<'_, D>,
         at: Word,
         word: Word,
-        next: &mut NextFact,
-        part: &mut LinkPart,
-        values: &mut ValueRooms<A>,
-        small: &mut SmallRooms,
+        room: &mut SumRooms<A>,
     ) -> Result<(), Halt> {
         let Some(entry) = place.routine else {
             return Ok(());
@@ -192,22 +161,16 @@ impl<A: Allocator + Copy> SumSearch<A> {
         }
         for offset in 0..8usize {
             let more = Word::from_index(offset);
-            if small.fact.offsets().contains(offset)
+            if room.calls.fact.offsets().contains(offset)
                 && program.base.declaration.has_offset(entry, more)
             {
-                next.copy_from(&small.fact);
+                room.calls.put_next();
                 let goal = Goal {
                     to: at,
                     routine: Some(entry),
                     exit: Some(offset),
                 };
-                let mut rooms = PartRooms {
-                    part,
-                    values,
-                    before: &mut small.before,
-                    after: &mut small.after,
-                };
-                self.land(program, &goal, next, &mut rooms)?;
+                self.land_next(program, &goal, room)?;
             }
         }
         Ok(())
@@ -226,23 +189,30 @@ impl<A: Allocator + Copy> SumSearch<A> {
         let Some(entry) = goal.routine else {
             return Ok(());
         };
+        let at = goal.to;
         let merge = self.merge_at(program, entry);
-        let (exits, wanted) = if self.gathers {
-            (&mut self.gathered.exits, self.table.exits.find(entry, case))
+        let is_less = if self.gathers {
+            let wanted = self.table.exits.find(entry, case);
+            self.gathered
+                .exits
+                .reach(entry, at, case, known, wanted, &merge, before, after)?
         } else {
-            (&mut self.table.exits, None)
+            self.table
+                .exits
+                .reach(entry, at, case, known, None, &merge, before, after)?
         };
-        match exits.join(entry, case, known, wanted, &merge, before, after)? {
-            Some(false) => return Ok(()),
-            Some(true) => {}
-            None => {
-                let mut kept = SumInvariant::of(goal.to, *case, known, &merge, after)?;
-                kept.offsets = ReturnOffsets::all();
-                exits.keep(self.alloc, entry, kept)?;
-            }
+        if is_less {
+            let sites = self.claimed(entry).sites;
+            self.visit_again(&sites);
         }
-        let sites = self.claimed(entry).sites;
-        self.visit_again(&sites);
         Ok(())
     }
+}
+
+/// Whether an entry may be called from an address: it is one, and its body has the address behind it.
+fn may_call<D: Allocator>(program: &SumProgram<'_, D>, at: Word, entry: Word) -> bool {
+    let declaration = program.base.declaration;
+    declaration.is_entry(entry)
+        && declaration.in_body(entry, entry.increment())
+        && at.index() <= LAST_SITE
 }

@@ -99,9 +99,8 @@ impl<A: Allocator + Copy> SumSearch<A> {
         self.tracked = program.base.named;
         self.needs = Some(Needs::of(self.alloc, &program.base)?);
         self.waiting = WordSet::empty();
-        let mut room = SumRooms::new(self.alloc)?;
-        self.start(program, &mut room)?;
-        Ok(room)
+        self.start(program)?;
+        SumRooms::new(self.alloc)
     }
 
     /// The cells that facts at an address speak of, and exits at their entry.
@@ -135,17 +134,12 @@ impl<A: Allocator + Copy> SumSearch<A> {
     }
 
     /// Keeps what is known at the start: the tracked cells hold the tape's words.
-    fn start<D: Allocator>(
-        &mut self,
-        program: &SumProgram<'_, D>,
-        room: &mut SumRooms<A>,
-    ) -> Result<(), Halt> {
+    fn start<D: Allocator>(&mut self, program: &SumProgram<'_, D>) -> Result<(), Halt> {
         let at = program.base.declaration.start();
         let tracked = self.tracked_at(at);
-        let fact = &mut room.small.exit;
-        *fact = Fact::any();
-        let case = self.split.case_of(&program.owner(at), fact);
-        let mut kept = SumInvariant::bare(self.alloc, at, case, fact);
+        let fact = Fact::any();
+        let case = self.split.case_of(&program.owner(at), &fact);
+        let mut kept = SumInvariant::bare(self.alloc, at, case, &fact);
         for cell in tracked.iter() {
             if let Some(word) = program.base.image.get(cell) {
                 kept.track(cell, &WordSet::one(word))?;
@@ -268,7 +262,7 @@ impl<A: Allocator + Copy> SumSearch<A> {
     {
         turns.are_within();
         self.gathered.forget();
-        if let Err(halt) = self.start(program, room) {
+        if let Err(halt) = self.start(program) {
             return Err(halt.fault());
         }
         for at in self.table.facts.addresses().iter() {

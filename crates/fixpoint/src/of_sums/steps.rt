@@ -1,16 +1,17 @@
 //! On from one fact by the words that are possible at its address.
 
-ghost use Rattle.std.specs.Prelude.{◌≡◌, ◌≤◌, IfErr};
+ghost use Rattle.std.specs.Prelude.{◌≡◌, ◌≤◌, IfErr, map, true};
+ghost use Rattle.domain.specs.Sums.ChainsInCode.{AreShort, chain_of};
 ghost use Rattle.turns.specs.Counts.{IsSpentUp};
 
 use crate::halt::Halt;
-use crate::of_sums::kept::SumInvariant;
+use crate::invariant::are_short;
 use crate::of_sums::program::SumProgram;
-use crate::of_sums::rooms::{SmallRooms, SumRooms, ValueRooms};
+use crate::of_sums::rooms::{CallRooms, PartRooms, SumRooms};
 use crate::of_sums::search::{MOST_WORDS, SumSearch};
 use crate::of_sums::splits::{Case, MOST_VALUES};
-use domain::Location;
-use facts::{Fact, Kind, KnownFact, LinkPart, NextFact, Outcome, Part, PartFact, Place};
+use domain::{Chain, Location};
+use facts::{Fact, Kind, KnownFact, NarrowedFact, NextFact, Outcome, Outcomes, Part, Place};
 use instruct::{refers_indirectly, target};
 use std::alloc::Allocator;
 use turns::{GuessFault, Turns};
@@ -23,15 +24,6 @@ pub(crate) struct Goal {
     pub(crate) to: Word,
     pub(crate) routine: Option<Word>,
     pub(crate) exit: Option<usize>,
-}
-
-/// Room for the parts of what is known.
-#[derive(Drop)]
-pub(crate) struct PartRooms<'a, A: Allocator> {
-    pub(crate) part: &'a mut LinkPart,
-    pub(crate) values: &'a mut ValueRooms<A>,
-    pub(crate) before: &'a mut Fact,
-    pub(crate) after: &'a mut Fact,
 }
 
 impl<A: Allocator + Copy> SumSearch<A> {
@@ -53,15 +45,13 @@ impl<A: Allocator + Copy> SumSearch<A> {
         let Some(kept) = self.table.facts.get(at, index) else {
             return Ok(());
         };
-        kept.put(&mut room.small.claimed);
-        let place = program.place(&program.owner(at));
-        let SmallRooms { claimed, fact, .. } = &mut *room.small;
-        fact.narrow(program.base.image, claimed);
-        if fact.is_void() {
+        kept.put(&mut room.calls.claimed);
+        if !room.calls.narrow(program.base.image) {
             return Ok(());
         }
+        let place = program.place(&program.owner(at));
         let mut possible = WordSet::empty();
-        place.put_possible(fact, at, &mut possible);
+        place.put_possible(&room.calls.fact, at, &mut possible);
         if possible.count() > MOST_WORDS {
             return Ok(());
         }
@@ -90,7 +80,7 @@ impl<A: Allocator + Copy> SumSearch<A> {
         if !program.may_be_met(place, at, word) {
             return Ok(());
         }
-        if !may_go_on(program, place, at, word, &mut room.small) {
+        if !may_go_on(program, place, at, word, &mut room.calls) {
             return Ok(());
         }
         match self.step(program, place, at, word, room) {
@@ -109,39 +99,35 @@ impl<A: Allocator + Copy> SumSearch<A> {
         room: &mut SumRooms<A>,
     ) -> Result<(), Halt> {
         let mut written = WordSet::empty();
-        place.put_writes(&room.small.fact, at, word, &mut written);
+        place.put_writes(&room.calls.fact, at, word, &mut written);
         self.write(&place.routine, &written)?;
-        place.put_outcomes(&room.small.fact, at, word, &mut room.outcomes);
+        if !put_outcomes(place, &room.calls.fact, at, word, &mut room.outcomes) {
+            return Ok(());
+        }
+        let kind = room.outcomes.first.kind;
+        match kind {
+            Kind::Calls => self.call_each(program, place, at, room),
+            Kind::Returns => self.come_back(program, place, at, word, room),
+            Kind::Goes | Kind::Nothing => self.follow_all(program, place, room),
+        }
+    }
+
+    /// Goes on where all outcomes lead that go on in the same body.
+    fn follow_all<D: Allocator>(
+        &mut self,
+        program: &SumProgram<'_, D>,
+        place: &Place<'_, D>,
+        room: &mut SumRooms<A>,
+    ) -> Result<(), Halt> {
         let SumRooms {
             outcomes,
-            next,
-            part,
-            values,
-            small,
+            parts,
+            ..
         } = room;
-        let first = &mut outcomes.first;
-        match first.kind {
-            Kind::Calls => {
-                let mut entries = WordSet::empty();
-                first.targets.put(&mut entries);
-                return self.call_each(program, place, at, &entries, next, part, values, small);
-            }
-            Kind::Returns => {
-                return self.come_back(program, place, at, word, next, part, values, small);
-            }
-            _ => {}
-        }
-        let SmallRooms { before, after, .. } = &mut **small;
-        let mut rooms = PartRooms {
-            part,
-            values,
-            before,
-            after,
-        };
-        self.follow(program, place, first, &mut rooms)?;
-        self.follow(program, place, &mut outcomes.second, &mut rooms)?;
-        self.follow(program, place, &mut outcomes.third, &mut rooms)?;
-        self.follow(program, place, &mut outcomes.fourth, &mut rooms)
+        self.follow(program, place, &mut outcomes.first, parts)?;
+        self.follow(program, place, &mut outcomes.second, parts)?;
+        self.follow(program, place, &mut outcomes.third, parts)?;
+        self.follow(program, place, &mut outcomes.fourth, parts)
     }
 
     /// Goes on at each address of the same body where an outcome leads, if it leads anywhere.
@@ -150,7 +136,7 @@ impl<A: Allocator + Copy> SumSearch<A> {
         program: &SumProgram<'_, D>,
         place: &Place<'_, D>,
         outcome: &mut Outcome,
-        rooms: &mut PartRooms<'_, A>,
+        rooms: &mut PartRooms<A>,
     ) -> Result<(), Halt> {
         if outcome.kind != Kind::Goes {
             return Ok(());
@@ -176,7 +162,7 @@ impl<A: Allocator + Copy> SumSearch<A> {
         program: &SumProgram<'_, D>,
         goal: &Goal,
         fact: &mut NextFact,
-        rooms: &mut PartRooms<'_, A>,
+        rooms: &mut PartRooms<A>,
     ) -> Result<(), Halt> {
         for link in [Link::CLEAR, Link::SET] {
             if fact.link().contains(link) {
@@ -195,30 +181,46 @@ impl<A: Allocator + Copy> SumSearch<A> {
         &mut self,
         program: &SumProgram<'_, D>,
         goal: &Goal,
-        rooms: &mut PartRooms<'_, A>,
+        rooms: &mut PartRooms<A>,
     ) -> Result<(), Halt> {
-        let PartRooms {
-            part,
-            values,
-            before,
-            after,
-        } = rooms;
-        let fact = part.fact();
         if let Some(cell) = self.split.cell {
             let name = Location::Cell(cell);
             let mut set = WordSet::all();
-            fact.put_set_of(&name, &mut set);
-            let count = set.count();
-            if count > 1 && count <= MOST_VALUES {
-                for value in set.iter() {
-                    if put_value(program, fact, &name, value, values) {
-                        self.reach(program, goal, &*values.met, before, after)?;
-                    }
-                }
-                return Ok(());
+            rooms.part.put_set_of(&name, &mut set);
+            if has_few_words(&set) {
+                return self.reach_values(program, goal, &name, &set, rooms);
             }
         }
-        self.reach(program, goal, fact, before, after)
+        self.reach(
+            program,
+            goal,
+            rooms.part.fact(),
+            &mut rooms.before,
+            &mut rooms.after,
+        )
+    }
+
+    /// Lets a part be known where it goes, each word of a name for itself.
+    fn reach_values<D: Allocator>(
+        &mut self,
+        program: &SumProgram<'_, D>,
+        goal: &Goal,
+        name: &Location,
+        values: &WordSet,
+        rooms: &mut PartRooms<A>,
+    ) -> Result<(), Halt> {
+        for value in values.iter() {
+            if rooms.has_value(program.base.image, name, value) {
+                self.reach(
+                    program,
+                    goal,
+                    &*rooms.met,
+                    &mut rooms.before,
+                    &mut rooms.after,
+                )?;
+            }
+        }
+        Ok(())
     }
 
     /// A run may come to where a part goes, and know this.
@@ -254,36 +256,60 @@ impl<A: Allocator + Copy> SumSearch<A> {
     ) -> Result<(), Halt> {
         let at = goal.to;
         let merge = self.merge_at(program, at);
-        let (facts, wanted) = if self.gathers {
-            (&mut self.gathered.facts, self.table.facts.find(at, case))
+        let is_less = if self.gathers {
+            let wanted = self.table.facts.find(at, case);
+            self.gathered
+                .facts
+                .reach(at, at, case, known, wanted, &merge, before, after)?
         } else {
-            (&mut self.table.facts, None)
+            self.table
+                .facts
+                .reach(at, at, case, known, None, &merge, before, after)?
         };
-        match facts.join(at, case, known, wanted, &merge, before, after)? {
-            Some(false) => return Ok(()),
-            Some(true) => {}
-            None => {
-                let kept = SumInvariant::of(at, *case, known, &merge, after)?;
-                facts.keep(self.alloc, at, kept)?;
-            }
+        if is_less {
+            self.waiting.insert(at);
         }
-        self.waiting.insert(at);
         Ok(())
     }
 }
 
-/// Whether something is left of a part when a name holds one word, which then stands in the lent room, narrowed.
-fn put_value<D: Allocator, A: Allocator>(
-    program: &SumProgram<'_, D>,
-    part: &PartFact,
-    name: &Location,
-    value: Word,
-    values: &mut ValueRooms<A>,
+/// Whether a set has more than one word, and few.
+fn has_few_words(set: &WordSet) -> bool {
+    let count = set.count();
+    count > 1 && count <= MOST_VALUES
+}
+
+/// Whether each chain has room for one step more.
+#[tactic(auto, using(crate::proofs::RoomLemmas::steps_told))]
+fn have_room(chains: &[Chain]) -> bool
+    ensures { result ≡ true → AreShort (map chain_of chains.now) }
+{
+    for chain in chains {
+        if chain.steps().len() >= 17 {
+            return false;
+        }
+    }
+    true
+}
+
+/// Puts what may come of a word into the lent room, if the fact has few enough chains and terms.
+#[tactic(auto, using(crate::proofs::RoomLemmas::chains_told))]
+fn put_outcomes<D: Allocator>(
+    place: &Place<'_, D>,
+    fact: &NarrowedFact,
+    at: Word,
+    word: Word,
+    outcomes: &mut Outcomes,
 ) -> bool {
-    values.chosen.copy_from(part);
-    values.chosen.set_name(name, &WordSet::one(value));
-    values.met.narrow(program.base.image, &values.chosen);
-    !values.met.is_void()
+    if fact.chains().len() > 4 {
+        return false;
+    }
+    if !are_short(fact.relations().as_slice()) || !have_room(fact.chains()) {
+        return false;
+    }
+    fact.is_within_room();
+    place.put_outcomes(fact, at, word, outcomes);
+    true
 }
 
 /// Whether a run may go on by a word where the fact in the lent room holds; where what it refers to is only permitted in part,
@@ -293,18 +319,16 @@ fn may_go_on<D: Allocator>(
     place: &Place<'_, D>,
     at: Word,
     word: Word,
-    small: &mut SmallRooms,
+    calls: &mut CallRooms,
 ) -> bool {
-    if program.may_access(place, &small.fact, at, word) {
+    if program.may_access(place, &calls.fact, at, word) {
         return true;
     }
     let named = target(word, at);
     if !refers_indirectly(word) || !program.base.declaration.is_variable(named) {
         return false;
     }
-    small.clipped.copy_from(&small.claimed);
     let permitted = program.permitted(&place.routine, at, word);
-    small.clipped.meet_name(&Location::Cell(named), &permitted);
-    small.fact.narrow(program.base.image, &small.clipped);
-    !small.fact.is_void() && program.may_access(place, &small.fact, at, word)
+    calls.clip(program.base.image, named, &permitted)
+        && program.may_access(place, &calls.fact, at, word)
 }

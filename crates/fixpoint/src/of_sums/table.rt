@@ -63,9 +63,30 @@ impl<A: Allocator + Copy> Kept<A> {
         }
     }
 
+    /// Lets something be known at an address in a case, or by an exit of an entry, of which it is told where it holds. Tells
+    /// whether less is said there than before, or something for the first time.
+    pub(crate) fn reach<F: KnownFact>(
+        &mut self,
+        key: Word,
+        at: Word,
+        case: &Case,
+        known: &F,
+        wanted: Option<&SumInvariant<A>>,
+        merge: &Merge<'_, A>,
+        before: &mut Fact,
+        after: &mut Fact,
+    ) -> Result<bool, Halt> {
+        if self.find(key, case).is_some() {
+            return self.join(key, case, known, wanted, merge, before, after);
+        }
+        let kept = SumInvariant::of(at, *case, known, merge, after)?;
+        self.keep(merge.alloc, key, kept)?;
+        Ok(true)
+    }
+
     /// Joins what is known to what is kept at an address in the same case, if there is something, which then waits if less is
-    /// said than before. Tells whether there is, and whether less is said.
-    pub(crate) fn join<F: KnownFact>(
+    /// said than before. Tells whether less is said.
+    fn join<F: KnownFact>(
         &mut self,
         at: Word,
         case: &Case,
@@ -74,18 +95,18 @@ impl<A: Allocator + Copy> Kept<A> {
         merge: &Merge<'_, A>,
         before: &mut Fact,
         after: &mut Fact,
-    ) -> Result<Option<bool>, Halt> {
+    ) -> Result<bool, Halt> {
         let Some(kept) = self.find_mut(at, case) else {
-            return Ok(None);
+            return Ok(false);
         };
         if kept.covers(known, merge) {
-            return Ok(Some(false));
+            return Ok(false);
         }
         kept.put(before);
         let mut sides = Sides { before, after };
         kept.join(known, wanted, merge, &mut sides)?;
         kept.waits = true;
-        Ok(Some(true))
+        Ok(true)
     }
 }
 
@@ -113,17 +134,25 @@ impl<A: Allocator> Kept<A> {
         None
     }
 
-    /// The same, to be changed.
-    fn find_mut(&mut self, at: Word, case: &Case) -> Option<&mut SumInvariant<A>> {
-        let row = self.rows.get_mut(&at.index())?;
+    /// The place of what is kept at an address in a case.
+    fn place_of(&self, at: Word, case: &Case) -> Option<usize> {
         let mut index = 0usize;
-        for kept in row.as_slice() {
+        for kept in self.row(at) {
             if kept.case == *case {
-                break;
+                return Some(index);
             }
             index = index.saturating_add(1);
         }
-        row.get_mut(index)
+        None
+    }
+
+    /// The same, to be changed.
+    fn find_mut(&mut self, at: Word, case: &Case) -> Option<&mut SumInvariant<A>> {
+        let index = self.place_of(at, case)?;
+        match self.rows.get_mut(&at.index()) {
+            None => None,
+            Some(row) => row.get_mut(index),
+        }
     }
 
     /// Whether something at an address waits at a place; it does not wait any more then.
@@ -160,6 +189,27 @@ impl<A: Allocator> Kept<A> {
     /// Forgets all.
     pub(crate) fn forget(&mut self) {
         self.rows.clear();
+    }
+}
+
+impl<A: Allocator + Copy> Table<A> {
+    /// Claims more of a routine, and tells whether it is more.
+    pub(crate) fn claim(
+        &mut self,
+        alloc: A,
+        entry: Word,
+        sites: &WordSet,
+        writes: &WordSet,
+    ) -> Result<bool, Halt> {
+        self.routines.list(alloc, entry)?;
+        let mut routine = self.routines.routine(entry);
+        if sites.is_subset(&routine.sites) && writes.is_subset(&routine.writes) {
+            return Ok(false);
+        }
+        routine.sites = routine.sites.union(sites);
+        routine.writes = routine.writes.union(writes);
+        self.routines.set_routine(entry, routine);
+        Ok(true)
     }
 }
 

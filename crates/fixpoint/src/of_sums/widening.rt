@@ -42,7 +42,7 @@ fn behind_longest_gap(set: &WordSet) -> Word {
     let mut start = first;
     let mut before = last;
     for (low, high) in set.ranges() {
-        if low > before {
+        if low.index() > before.index() {
             let gap = low.index() - before.index();
             if gap > longest {
                 longest = gap;
@@ -78,14 +78,9 @@ fn above(word: Word) -> WordSet {
     WordSet::all().minus(&WordSet::range(Word::ZERO, word))
 }
 
-/// The half of a number.
-fn half(number: usize) -> usize {
-    number / 2
-}
-
 /// A set that grew out of one that begins with 0, where it went on upwards or came from above.
 fn beyond(top: Word, grown: &WordSet, new: &WordSet, thresholds: &WordSet) -> WordSet {
-    let middle = Word::from_index(half(top.index() + 4095));
+    let middle = Word::from_index(((top.index() + 4095) / 2).min(4095));
     let mut set = *grown;
     let up = new.minus(&above(middle));
     let down = new.meet(&above(middle));

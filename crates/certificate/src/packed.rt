@@ -807,7 +807,7 @@ pub fn routine_of(lent: &LentLine<'_>) -> Option<RoutineClaim>
     }
 }
 
-/// Adds runs and steps behind others; where that is refused, some of them.
+/// Adds runs and steps behind others; where that is refused, some of them. Only a chain has steps.
 fn lay_all<A: Allocator>(
     runs: &mut Vec<Run, A>,
     steps: &mut Vec<Step, A>,
@@ -820,6 +820,9 @@ fn lay_all<A: Allocator>(
         (steps.new.items ≡ steps.old.items ++ further.now)) }
 {
     runs.extend_from_slice(more)?;
+    if further.is_empty() {
+        return Ok(());
+    }
     steps.extend_from_slice(further)
 }
 

@@ -16,7 +16,7 @@ ghost use Rattle.facts.specs.Sums.PlaceInCode.{place_in_code};
 
 use crate::instructions::steps_pointer;
 use crate::place::Place;
-use crate::sets::word_of;
+use crate::sets::{put_one, word_of};
 use domain::{Location, SumFact, Term};
 use std::alloc::Allocator;
 use word12::Word;
@@ -28,7 +28,7 @@ fn put_tape_word(word: Option<Word>, place: &mut WordSet)
 {
     match word {
         None => *place = WordSet::all(),
-        Some(word) => *place = WordSet::one(word),
+        Some(word) => put_one(word, place),
     }
 }
 
@@ -121,7 +121,7 @@ impl<A: Allocator> Place<'_, A> {
             self.put_words_in(fact, named, place);
             return;
         }
-        *place = WordSet::one(named);
+        put_one(named, place);
     }
 
     /// Puts the words that some cells may hold, of which the one is given that has no other beside it, into a place for them.

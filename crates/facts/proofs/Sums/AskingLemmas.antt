@@ -8,7 +8,7 @@ use Rattle.instruct.specs.declared.Operation.{Operation}
 use Rattle.instruct.specs.declared.Operation.TheVariants as operation
 use Rattle.instruct.specs.Bits.{is_indirect, named_cell}
 use Rattle.instruct.specs.Instructions.{Meaning, kind_of, operation_of, reference}
-use Rattle.wordset.specs.Words.{Words, only, union}
+use Rattle.wordset.specs.Words.{Words, one, only, union}
 use Rattle.wordset.proofs.LaneBits.{or_false}
 use Rattle.processor.specs.Machine.{steps_pointer}
 use Rattle.declaration.specs.Declaration.{IsListed}
@@ -70,6 +70,12 @@ writes_both s p t pl f o n i j r er has ej hs hp ht =
     let es : stores o ≡ true = sym er ∙ has in
     fun_ext (λ v. ap (λ (x : Words). x v) hs ∙ ap (λ b. b || t v) (hp v ∙ ap (λ b. b && (v == n)) ej) ∙ ap (λ (x : Words). (steps_pointer i n && (v == n)) || x v) ht
     ∙ ap (λ b. (steps_pointer i n && (v == n)) || (b && targets pl i n f v)) (sym es) ∙ written_by pl f o i n v)
+
+-- the one cell in which a word stores without a pointer
+pub stores_one : (pl : Place) (f : Fact) (o : Operation) (n : ℕ) (i r : Bool) → r ≡ stores o → r ≡ true → i ≡ false → may_write pl f (reference o i n) ≡ one n
+stores_one pl f o n i r er has direct =
+    let es : stores o ≡ true = sym er ∙ has in
+    fun_ext (λ a. sym (written_by pl f o i n a) ∙ rw (direct, es) refl)
 
 -- the cells called
 pub calls_nothing : (pl : Place) (f : Fact) (m : Meaning) → (kind_of m ≡ Memory → ⊥) → (a : ℕ) → called pl f m a ≡ false

@@ -17,4 +17,4 @@ pub returns-then-indirect : goal.returns-then-indirect
 returns-then-indirect g c = rw (sym c.steps_pointer.ensures ∙ c.if-steps_pointer.false, c.if-indirect.true) c.put_words_in.ensures
 
 pub returns : goal.returns
-returns g c = rw (sym c.steps_pointer.ensures ∙ c.if-steps_pointer.false, c.if-indirect.false) c.one.ensures
+returns g c = rw (sym c.steps_pointer.ensures ∙ c.if-steps_pointer.false, c.if-indirect.false) c.put_one.ensures

@@ -19,14 +19,14 @@ ghost use Rattle.judge.specs.Sums.Asked.{HoldsBetween, FailsAtLine, IsLeastOf, I
 use crate::body::Body;
 use crate::cache::FactCache;
 use crate::claims::Claims;
-use crate::point::{Others, Point, place_of};
+use crate::point::{Others, Point, boxed_landing, boxed_outcomes, place_of};
 use crate::sited::put_sites;
 use crate::sources::FactsAt;
 use crate::words::nth;
 use bin_tape::Image;
 use declaration::{Declaration, Owner};
 use domain::Rules;
-use facts::{Condition, Fact, NarrowedFact};
+use facts::{Condition, Fact, NarrowedFact, NextFact};
 use std::alloc::{AllocError, Allocator};
 use word12::Word;
 use wordset::WordSet;
@@ -49,44 +49,48 @@ pub struct Case<'a, A: Allocator, C: Claims> {
 
 /// Room for a fact as it is claimed, for the same fact as it is asked, and for others.
 #[derive(Drop)]
-pub(crate) struct CheckRooms {
+pub(crate) struct CheckRooms<M: Allocator> {
     claimed: Fact,
     fact: NarrowedFact,
-    others: Others,
+    others: Others<M>,
 }
 
 /// Room for all that is judged: for a fact of which conditions are asked and what it is compared with, and for the only facts at
 /// even and at odd addresses.
 #[derive(Drop)]
-pub struct Rooms {
-    pub(crate) checks: CheckRooms,
+pub struct Rooms<M: Allocator> {
+    pub(crate) checks: CheckRooms<M>,
     pub(crate) even: FactCache,
     pub(crate) odd: FactCache,
 }
 
-impl Rooms {
-    /// Room that nothing stands in.
-    #[inline]
-    pub fn new() -> Rooms {
-        Rooms {
-            checks: CheckRooms {
-                claimed: Fact::any(),
-                fact: NarrowedFact::any(),
-                others: Others::new(),
-            },
-            even: FactCache::new(),
-            odd: FactCache::new(),
-        }
-    }
-
-    /// The same on the heap, since it takes 4 MB.
+impl<M: Allocator + Copy> Rooms<M> {
+    /// Room that nothing stands in, in memory that an allocator gives, since it takes 4 MB.
     ///
     /// # Errors
     ///
     /// `AllocError` where the room was refused.
     #[inline(never)]
-    pub fn boxed<M: Allocator>(memory: M) -> Result<Box<Rooms, M>, AllocError> {
-        Ok(Box::new(memory, Rooms::new())?)
+    pub fn boxed(memory: M) -> Result<Box<Rooms<M>, M>, AllocError> {
+        let outcomes = boxed_outcomes(memory)?;
+        let landing = boxed_landing(memory)?;
+        Ok(Box::new(
+            memory,
+            Rooms {
+                checks: CheckRooms {
+                    claimed: Fact::any(),
+                    fact: NarrowedFact::any(),
+                    others: Others {
+                        exit: Fact::any(),
+                        next: NextFact::any(),
+                        outcomes,
+                        landing,
+                    },
+                },
+                even: FactCache::new(),
+                odd: FactCache::new(),
+            },
+        )?)
     }
 }
 
@@ -114,7 +118,7 @@ pub fn put_asked(rules: &Rules, image: &Image, claimed: &Fact, fact: &mut Narrow
 
 impl<A: Allocator, C: Claims> Case<'_, A, C> {
     /// Whether one of the facts at the start holds of every start.
-    pub fn starts_well(&self, rooms: &mut Rooms) -> bool
+    pub fn starts_well<M: Allocator>(&self, rooms: &mut Rooms<M>) -> bool
         ensures starts { IsTrue result ↔
             HoldsAt (case_kept C.claims self.now) V1 (case_kept C.claims self.now).declaration.start }
         ensures even { rooms.new.even ≡ rooms.old.even }
@@ -155,13 +159,13 @@ impl<A: Allocator, C: Claims> Case<'_, A, C> {
 
     /// The first condition that fails at an address, if one does; it is told whether a routine of that
     /// entry is named, and which line is looked at first.
-    pub fn check_at(
+    pub fn check_at<M: Allocator>(
         &self,
         at: Word,
         is_named: bool,
         near: &mut usize,
         body: &mut Body,
-        rooms: &mut Rooms,
+        rooms: &mut Rooms<M>,
     ) -> Result<(), Condition>
         requires named { is_named ≡ names_routine (C.claims self.now.claims.now) at }
         requires body { Tells (C.claims self.now.claims.now) body.old }
@@ -186,14 +190,14 @@ impl<A: Allocator, C: Claims> Case<'_, A, C> {
 
     /// The same, where its routine and exit lines are where they may be, with what is kept for the address
     /// and for the next one.
-    fn check_here(
+    fn check_here<M: Allocator>(
         &self,
         at: Word,
         near: &mut usize,
         body: &mut Body,
         here: &mut FactCache,
         following: &mut FactCache,
-        rooms: &mut CheckRooms,
+        rooms: &mut CheckRooms<M>,
     ) -> Result<(), Condition>
         requires placed { RoutinesArePlaced (case_kept C.claims self.now) at }
         requires body { Tells (C.claims self.now.claims.now) body.old }
@@ -217,13 +221,13 @@ impl<A: Allocator, C: Claims> Case<'_, A, C> {
     }
 
     /// The same, where there is one fact alone in a body, which stands here.
-    fn check_alone(
+    fn check_alone<M: Allocator>(
         &self,
         at: Word,
         body: &Body,
         here: &mut FactCache,
         following: &mut FactCache,
-        rooms: &mut CheckRooms,
+        rooms: &mut CheckRooms<M>,
     ) -> Result<(), Condition>
         requires placed { RoutinesArePlaced (case_kept C.claims self.now) at }
         requires alone { (C.claims self.now.claims.now).facts at ≡ fact_in_code here.old.fact ∷ [] }
@@ -255,12 +259,12 @@ impl<A: Allocator, C: Claims> Case<'_, A, C> {
     }
 
     /// The same, where there may be several facts.
-    fn check_several(
+    fn check_several<M: Allocator>(
         &self,
         at: Word,
         near: &mut usize,
         body: &mut Body,
-        rooms: &mut CheckRooms,
+        rooms: &mut CheckRooms<M>,
     ) -> Result<(), Condition>
         requires placed { RoutinesArePlaced (case_kept C.claims self.now) at }
         requires body { Tells (C.claims self.now.claims.now) body.old }
@@ -304,13 +308,13 @@ impl<A: Allocator, C: Claims> Case<'_, A, C> {
 
     /// The place of the first condition that fails of some fact at an address, and the one behind all if
     /// none does.
-    fn first_place(
+    fn first_place<M: Allocator>(
         &self,
         at: Word,
         count: usize,
         near: &mut usize,
         body: &Body,
-        rooms: &mut CheckRooms,
+        rooms: &mut CheckRooms<M>,
     ) -> usize
         requires count { count ≡ length ((C.claims self.now.claims.now).facts at) }
         requires stands { (case_kept C.claims self.now).declaration.body body.now.routine at ≡ true }
@@ -329,14 +333,14 @@ impl<A: Allocator, C: Claims> Case<'_, A, C> {
 
     /// The place of the first condition before a limit that fails of one of the facts at an address, and
     /// the limit if none does.
-    fn check_fact(
+    fn check_fact<M: Allocator>(
         &self,
         at: Word,
         index: usize,
         limit: usize,
         near: &mut usize,
         body: &Body,
-        rooms: &mut CheckRooms,
+        rooms: &mut CheckRooms<M>,
     ) -> usize
         requires index { index < length ((C.claims self.now.claims.now).facts at) }
         requires low { 2 ≤ limit }
@@ -357,7 +361,7 @@ impl<A: Allocator, C: Claims> Case<'_, A, C> {
 
     /// The place of the first condition before a limit that fails of a claimed fact, which gets the sites of
     /// the body by the rules of equations, and the limit if none does.
-    fn check_claimed(
+    fn check_claimed<M: Allocator>(
         &self,
         at: Word,
         limit: usize,
@@ -366,7 +370,7 @@ impl<A: Allocator, C: Claims> Case<'_, A, C> {
         following: Option<&FactCache>,
         claimed: &mut Fact,
         fact: &mut NarrowedFact,
-        others: &mut Others,
+        others: &mut Others<M>,
     ) -> usize
         requires shape { HasShape (fact_in_code claimed.old) }
         requires low { 2 ≤ limit }

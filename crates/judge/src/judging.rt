@@ -38,11 +38,11 @@ pub struct Refusal {
 /// says that the claims do not show the program safe, not that it is unsafe.
 ///
 /// Facts are put into the rooms that are lent, whatever stands there. No memory is taken, so none can be refused.
-pub fn judge<A: Allocator, C: Claims>(
+pub fn judge<A: Allocator, C: Claims, M: Allocator>(
     image: &Image,
     declaration: &Declaration<A>,
     claims: &C,
-    rooms: &mut Rooms,
+    rooms: &mut Rooms<M>,
 ) -> Result<(), Refusal>
     ensures exact { let j = judged image.now declaration.now (C.claims claims.now) in
         MatchResult result (λ _. IsValid j) (λ r. IsFirst j r.condition r.address) }

@@ -188,15 +188,15 @@ impl<A: Allocator, C: Claims> Point<'_, A, C> {
 
     /// Whether each outcome of a word that goes on lands wherever it goes. Those of a call go on in the
     /// routine, so they are not worked out.
-    pub(crate) fn outcomes_land(&self, word: Word, others: &mut Others) -> bool
+    pub(crate) fn outcomes_land<M: Allocator>(&self, word: Word, others: &mut Others<M>) -> bool
         requires { IsPoint C.claims self.now }
         ensures { IsTrue result ↔ HoldsHere C.claims self.now V4 word }
     {
         if self.place.is_call(word) {
             return true;
         }
-        self.place
-            .put_outcomes(self.fact, self.at, word, &mut others.outcomes);
-        self.each_lands(&mut others.outcomes, &mut others.landing)
+        let outcomes = others.outcomes.as_mut();
+        self.place.put_outcomes(self.fact, self.at, word, outcomes);
+        self.each_lands(outcomes, &mut others.landing)
     }
 }

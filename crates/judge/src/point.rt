@@ -15,29 +15,37 @@ use bin_tape::Image;
 use declaration::Declaration;
 use domain::Rules;
 use facts::{Fact, LandingRooms, NarrowedFact, NextFact, Outcomes, Place};
-use std::alloc::Allocator;
+use std::alloc::{AllocError, Allocator};
 use word12::Word;
 
-/// Room for further facts, with which the one at an address is compared or which come of it.
+/// Room for further facts, with which the one at an address is compared or which come of it. The large ones have memory of
+/// their own: they are made there, and not on the stack first.
 #[derive(Drop)]
-pub struct Others {
+pub struct Others<M: Allocator> {
     pub exit: Fact,
     pub next: NextFact,
-    pub outcomes: Outcomes,
-    pub landing: LandingRooms,
+    pub outcomes: Box<Outcomes, M>,
+    pub landing: Box<LandingRooms, M>,
 }
 
-impl Others {
-    /// Room that nothing stands in.
-    #[inline]
-    pub fn new() -> Others {
-        Others {
-            exit: Fact::any(),
-            next: NextFact::any(),
-            outcomes: Outcomes::new(),
-            landing: LandingRooms::new(),
-        }
-    }
+/// Room for outcomes, in memory that an allocator gives.
+///
+/// # Errors
+///
+/// `AllocError` where it was refused.
+#[inline(never)]
+pub(crate) fn boxed_outcomes<M: Allocator>(memory: M) -> Result<Box<Outcomes, M>, AllocError> {
+    Ok(Box::new(memory, Outcomes::new())?)
+}
+
+/// Room for asking where a fact lands, in memory that an allocator gives.
+///
+/// # Errors
+///
+/// `AllocError` where it was refused.
+#[inline(never)]
+pub(crate) fn boxed_landing<M: Allocator>(memory: M) -> Result<Box<LandingRooms, M>, AllocError> {
+    Ok(Box::new(memory, LandingRooms::new())?)
 }
 
 /// A fact of which conditions are asked at an address of a body.

@@ -8,7 +8,7 @@ use Rattle.declaration.specs.Text.{Declares, Fails, ListsRoutines}
 use Rattle.declaration.specs.Declaration.{Declaration}
 use Rattle.declaration.specs.declared.DeclarationFault.TheVariants as declaration
 use Rattle.certificate.specs.Sums.Kept as certified
-use Rattle.certificate.specs.Sums.Reading.{reading}
+use Rattle.certificate.specs.Sums.Reading.{Text, reading}
 use Rattle.certificate.specs.Sums.Serving.{AsksForMemory}
 use Rattle.processor.specs.Runs.{Image}
 use Rattle.judge.specs.Sums.Landing.{Case}
@@ -55,6 +55,10 @@ IsSomeTape tape = (image : List (Option ℕ)) × IsTapeOf tape image
 abbrev pub DeclaresSomething : List ℕ → Type 0
 DeclaresSomething text = (d : Declaration) × Declares text d
 
+-- The text is read as a certificate, whichever it is.
+abbrev pub IsSomeCertificate : List ℕ → Type 0
+IsSomeCertificate bytes = (text : Text) × (reading bytes ≡ Ok text)
+
 -- The bytes are read as parts of which every condition holds.
 abbrev pub AreValid : (tape declaration certificate : List ℕ) → Type 0
 AreValid t d c = (p : Parts) × AreRead t d c p × IsValid (case_of p)
@@ -64,14 +68,14 @@ abbrev pub FailFirst : (tape declaration certificate : List ℕ) → Refusal →
 FailFirst t d c r = (p : Parts) × AreRead t d c p × IsFirst (case_of p) r.condition r.address
 
 -- The parts are looked at in the order tape, declaration, certificate, conditions; the first that isn't good refuses, with
--- its fault. Memory may be wanting for the declaration's list of routines, and for the certificate where it has a line that
--- is kept.
+-- its fault. Memory may be wanting for the declaration's list of routines, for the certificate where it has a line that is
+-- kept, and for the rooms of the judgement where all three are good.
 abbrev pub IsRefused : (tape declaration certificate : List ℕ) → CertifyFault → Type 0
 IsRefused t d c (fault.Tape f) = Refuses 65536 t f
 IsRefused t d c (fault.Declaration f) = IsSomeTape t × Fails d f × (f ≢ declaration.NoMemory)
 IsRefused t d c (fault.Certificate f) = IsSomeTape t × DeclaresSomething d × (reading c ≡ Err f)
 IsRefused t d c (fault.Refused r) = FailFirst t d c r
-IsRefused t d c fault.NoMemory = IsSomeTape t × (Fails d declaration.NoMemory ⊎ (DeclaresSomething d × AsksForMemory c))
+IsRefused t d c fault.NoMemory = IsSomeTape t × (Fails d declaration.NoMemory ⊎ (DeclaresSomething d × (AsksForMemory c ⊎ IsSomeCertificate c)))
 
 -- The fault is that a condition fails, and not one of the tape, of a text or of memory.
 abbrev pub IsRefusal : CertifyFault → Type 0

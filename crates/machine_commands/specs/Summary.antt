@@ -1,5 +1,5 @@
 -- The summary of a run.
-use Rattle.std.specs.Prelude.{ℕ, Bool, true, false, ◌+◌, ◌/◌, ◌%◌, List, [], ◌∷◌, ◌++◌, codes, decimal, length, Option, Some, None}
+use Rattle.std.specs.Prelude.{ℕ, Bool, true, false, ◌+◌, ◌/◌, ◌%◌, ◌==◌, if◌then◌else◌, List, [], ◌∷◌, ◌++◌, codes, decimal, length, Option, Some, None}
 use Rattle.std.specs.Borrow.{Bor}
 use Rattle.std.proofs.Common.{zero, suc}
 use Rattle.word12.specs.Words.{octal_text}
@@ -69,8 +69,7 @@ closing named end w steps = summary end w steps ++ cells_text named w
 
 -- The word for so many frames.
 abbrev pub frames_word : ℕ → List ℕ
-frames_word 1 = codes " frame to "
-frames_word n = codes " frames to "
+frames_word n = if n == 1 then codes " frame to " else codes " frames to "
 
 -- What was punched into the file with this name: the number of frames; nothing where nothing was punched.
 abbrev pub saved_line : List ℕ → List ℕ → List ℕ

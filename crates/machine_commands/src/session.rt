@@ -195,11 +195,11 @@ pub(crate) fn attend<A: Allocator + Copy, S: Scheduler, W: ByteSink, T: ByteSink
     requires few { S.steps_to_come schedule.old < 18446744073709551616 }
     ensures run { IfOk result (λ status.
         WritesAll (λ text printed punched.
-        IsHeld (S.brings schedule.old) options form Whole image.now text printed punched status)
+        IsHeld (S.brings schedule.old) options form.entry Whole image.now text printed punched status)
         (taken (W.taken out.old.report) (T.taken out.old.teletype) (P.taken out.old.punch))
         (taken (W.taken out.new.report) (T.taken out.new.teletype) (P.taken out.new.punch))) }
     ensures front { OnErr result (FrontsOf
-        (IsPartOf (S.brings schedule.old) options form (W.mark out.new.report)
+        (IsPartOf (S.brings schedule.old) options form.entry (W.mark out.new.report)
         (T.mark out.new.teletype) (S.unread schedule.new) image.now)
         (failures (W.mark out.new.report) (T.mark out.new.teletype) (P.mark out.new.punch))
         (taken (W.taken out.old.report) (T.taken out.old.teletype) (P.taken out.old.punch))
@@ -266,7 +266,7 @@ pub fn run_session<
     requires punchable { P.mark out.old.punch ≡ false }
     // What is written, typed and punched is that of the run of the events that come.
     ensures run { IfOk result (λ status.
-        WritesAll (IsSession options form Whole (R.remaining tape.old) (F.remaining reader.old)
+        WritesAll (IsSession options form.entry Whole (R.remaining tape.old) (F.remaining reader.old)
         (K.remaining keys.old) status)
         (taken (W.taken out.old.report) (T.taken out.old.teletype) (P.taken out.old.punch))
         (taken (W.taken out.new.report) (T.taken out.new.teletype) (P.taken out.new.punch))) }
@@ -276,13 +276,13 @@ pub fn run_session<
         (input (K.mark keys.new) (K.remaining keys.old) (K.remaining keys.new))) }
     // After a fault fronts of what the first events leave went out, and all of it where no write
     // failed, or of the whole with its summary where the report failed; or nothing at all,
-    ensures front { OnErr result (NothingOrFronts options form
+    ensures front { OnErr result (NothingOrFronts options form.entry
         (failures (W.mark out.new.report) (T.mark out.new.teletype) (P.mark out.new.punch))
         (R.remaining tape.old) (F.remaining reader.old) (K.remaining keys.old)
         (taken (W.taken out.old.report) (T.taken out.old.teletype) (P.taken out.old.punch))
         (taken (W.taken out.new.report) (T.taken out.new.teletype) (P.taken out.new.punch))) }
     // of which the fronts are sure where a write failed,
-    ensures front_of_failure { fails_to_write result ≡ true → SessionFronts options form
+    ensures front_of_failure { fails_to_write result ≡ true → SessionFronts options form.entry
         (failures (W.mark out.new.report) (T.mark out.new.teletype) (P.mark out.new.punch))
         (R.remaining tape.old) (F.remaining reader.old) (K.remaining keys.old)
         (taken (W.taken out.old.report) (T.taken out.old.teletype) (P.taken out.old.punch))
@@ -291,7 +291,7 @@ pub fn run_session<
     ensures broke_off { result ≡ Err NoMemory →
         HasCome (input (F.mark reader.new) (F.remaining reader.old) (F.remaining reader.new))
         ⊎ (HasCome (input (K.mark keys.new) (K.remaining keys.old) (K.remaining keys.new))
-        ⊎ SessionFronts options form
+        ⊎ SessionFronts options form.entry
         (failures (W.mark out.new.report) (T.mark out.new.teletype) (P.mark out.new.punch))
         (R.remaining tape.old) (F.remaining reader.old) (K.remaining keys.old)
         (taken (W.taken out.old.report) (T.taken out.old.teletype) (P.taken out.old.punch))

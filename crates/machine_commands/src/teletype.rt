@@ -62,7 +62,7 @@ pub fn teletype<
     requires punchable { P.mark out.old.punch ≡ false }
     // What is written, typed and punched is that of the run of the events that come.
     ensures run { IfOk result (λ status.
-        WritesAll (IsTyped typist.old.options form Whole (R.remaining tape.old)
+        WritesAll (IsTyped typist.old.options form.entry Whole (R.remaining tape.old)
         (F.remaining typist.old.reader) (K.remaining typist.old.keys) status)
         (taken (W.taken out.old.report) (T.taken out.old.teletype) (P.taken out.old.punch))
         (taken (W.taken out.new.report) (T.taken out.new.teletype) (P.taken out.new.punch))) }
@@ -72,7 +72,7 @@ pub fn teletype<
     // no write failed: also where a read of a frame or a key failed, what was printed before is typed, and
     // what was punched before is written.
     ensures front { IfErr result (λ fault. (is_fault_of_tape fault ≡ true) ⊎ ((R.mark tape.new ≡ true)
-        ⊎ TypedFronts typist.old.options form
+        ⊎ TypedFronts typist.old.options form.entry
         (failures (W.mark out.new.report) (T.mark out.new.teletype) (P.mark out.new.punch))
         (F.mark typist.new.reader || K.mark typist.new.keys)
         (R.remaining tape.old) (F.remaining typist.old.reader) (K.remaining typist.old.keys)

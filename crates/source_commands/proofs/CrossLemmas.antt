@@ -1,9 +1,15 @@
--- The lines of a table, one after another.
+-- The lines of a table, one after another, and why there is none.
 use Rattle.std.proofs.Common.{◌≡◌, ◌∙◌, sym, ap, subst, refl, ℕ, ◌+◌, ◌<◌, ◌≤◌, List, [], ◌∷◌, ◌++◌, append_assoc, length, get_or, drop}
-use Rattle.std.specs.Prelude.{codes, slice_get, Some}
+use Rattle.std.specs.Prelude.{codes, slice_get, Bool, false, Option, Some}
 use Rattle.std.proofs.lemmas.List.{drop_more, drop_all, append-nil}
 use Rattle.std.proofs.lemmas.Option.{slice_get_within, slice_get-get_or}
 use Rattle.pal_text.specs.declared.names.Name.{Name}
+use Rattle.instruct.specs.declared.Profile.{Profile}
+use Rattle.command_parts.specs.declared.status.Fault.{Fault}
+use Rattle.command_parts.specs.declared.status.Fault.TheVariants.{Tape, EmptyImage, Source, Declared, Certificate, Events, Guess, Declare, Device}
+use Rattle.command_parts.specs.declared.status.Fault.TheVariants as fault
+use Rattle.source_commands.specs.AssembleText.{IsAssemblyFault, IsListFault}
+use Rattle.source_commands.specs.SourceTexts.{AreRead, is_bad_number}
 use Rattle.source_commands.specs.declared.cross.Entry.{Entry}
 use Rattle.source_commands.specs.Cross.{AddsLines, AreLines, entries_of, next_line, no_line, head_text}
 
@@ -49,3 +55,17 @@ entry_on own i n v old new h e =
     let rest : List Entry = entries_of (drop (i + 1) own) in
     ap (λ (l : List Entry). l ++ rest) e ∙ append_assoc old ((record { name = n; value = v }) ∷ []) rest
     ∙ ap (λ (l : List Entry). old ++ l) (sym (ap entries_of (drop_more own i (n, v) below) ∙ ap (λ (s : Name × ℕ). entries_of (s ∷ drop (i + 1) own)) is))
+
+-- why the parts of sources aren't assembled is why the sources have no listing
+pub not_listed : (profile : Profile) (marks : List Bool) (sources left : List (Option (List ℕ))) (parts : List (List ℕ)) (fault : Fault) →
+    is_bad_number (length sources) ≡ false → AreRead sources parts → IsAssemblyFault profile parts fault → IsListFault profile marks sources left fault
+not_listed profile marks sources left parts (Source fault) number read is = record { parts = parts; read = read; is = is }
+not_listed profile marks sources left parts fault.NoMemory number read is = number
+not_listed profile marks sources left parts (Tape fault) number read is = absurd is
+not_listed profile marks sources left parts EmptyImage number read is = absurd is
+not_listed profile marks sources left parts (Declared fault) number read is = absurd is
+not_listed profile marks sources left parts (Certificate fault) number read is = absurd is
+not_listed profile marks sources left parts (Events fault) number read is = absurd is
+not_listed profile marks sources left parts (Guess fault) number read is = absurd is
+not_listed profile marks sources left parts (Declare fault) number read is = absurd is
+not_listed profile marks sources left parts (Device fault) number read is = absurd is

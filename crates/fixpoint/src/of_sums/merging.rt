@@ -134,12 +134,12 @@ fn grow<A: Allocator + Copy, F: KnownFact>(
 }
 
 impl<A: Allocator + Copy> SumInvariant<A> {
-    /// Joins something else that is known: what both say is left. The first of the lent rooms has what is kept. Sums of another
-    /// fact may be given that are wanted too.
+    /// Joins something else that is known: what both say is left. The first of the lent rooms has what is kept. Relations may
+    /// be given whose sums are wanted too.
     pub(crate) fn join<F: KnownFact>(
         &mut self,
         known: &F,
-        wanted: Option<&SumInvariant<A>>,
+        wanted: &[RelationInvariant],
         merge: &Merge<'_, A>,
         sides: &mut Sides<'_>,
     ) -> Result<(), Halt> {
@@ -154,10 +154,8 @@ impl<A: Allocator + Copy> SumInvariant<A> {
         for relation in known.relations() {
             self.add_sum(&relation.sum, known, merge, sides)?;
         }
-        if let Some(other) = wanted {
-            for relation in &other.relations {
-                self.add_sum(&relation.told.sum, known, merge, sides)?;
-            }
+        for relation in wanted {
+            self.add_sum(&relation.told.sum, known, merge, sides)?;
         }
         add_pairs(self, &changed, known, merge, sides)?;
         self.keep_chains(&chains, known, merge, sides.before)

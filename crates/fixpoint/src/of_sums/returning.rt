@@ -123,6 +123,8 @@ impl<A: Allocator + Copy> SumSearch<A> {
         index: usize,
         room: &mut SumRooms<A>,
     ) -> Result<(), Halt> {
+        let written = self.claimed(entry).writes;
+        let more = self.split.cell;
         let Some(kept) = self.table.exits.get(entry, index) else {
             return Ok(());
         };
@@ -133,8 +135,7 @@ impl<A: Allocator + Copy> SumSearch<A> {
         if !kept.sites.contains(at) || !program.has(&place.routine, to) {
             return Ok(());
         }
-        let written = self.claimed(entry).writes;
-        kept.put_written(&written, &self.split.cell, &mut room.calls.exit);
+        kept.put_written(&written, &more, &mut room.calls.exit);
         room.calls.put_joined(&written);
         let goal = Goal {
             to,
@@ -192,14 +193,14 @@ impl<A: Allocator + Copy> SumSearch<A> {
         let at = goal.to;
         let merge = self.merge_at(program, entry);
         let is_less = if self.gathers {
-            let wanted = self.table.exits.find(entry, case);
+            let wanted = self.table.exits.relations_in(entry, case);
             self.gathered
                 .exits
                 .reach(entry, at, case, known, wanted, &merge, before, after)?
         } else {
             self.table
                 .exits
-                .reach(entry, at, case, known, None, &merge, before, after)?
+                .reach(entry, at, case, known, &[], &merge, before, after)?
         };
         if is_less {
             let sites = self.claimed(entry).sites;

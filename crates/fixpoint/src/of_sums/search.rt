@@ -23,11 +23,14 @@ use wordset::WordSet;
 /// How many sweeps go back at most.
 const MOST_SWEEPS: usize = 4;
 
+/// The most turns of all tries together.
+const MOST_TURNS: u32 = 100_000;
+
 /// The most words that may be possible at one address.
 pub(crate) const MOST_WORDS: usize = 64;
 
 /// What is known, what is gathered in a sweep back and whether one goes on, how facts are told apart, which cells they speak of,
-/// the addresses from which to go on, and how many turns this try may take yet.
+/// the addresses from which to go on, and how many turns this try may take yet, and all tries together.
 #[derive(Drop)]
 pub struct SumSearch<A: Allocator> {
     pub(crate) alloc: A,
@@ -39,6 +42,7 @@ pub struct SumSearch<A: Allocator> {
     pub(crate) needs: Option<Needs<A>>,
     pub(crate) waiting: WordSet,
     left: u32,
+    left_in_all: u32,
 }
 
 impl<A: Allocator + Copy> SumSearch<A> {
@@ -54,6 +58,7 @@ impl<A: Allocator + Copy> SumSearch<A> {
             needs: None,
             waiting: WordSet::empty(),
             left: 0,
+            left_in_all: MOST_TURNS,
         }
     }
 
@@ -300,10 +305,11 @@ impl<A: Allocator + Copy> SumSearch<A> {
         ensures spent { IfErr result (IsSpentUp turns.new) }
     {
         turns.are_within();
-        if self.left == 0 {
+        if self.left == 0 || self.left_in_all == 0 {
             return Err(GuessFault::Stuck(at));
         }
         self.left -= 1;
+        self.left_in_all -= 1;
         turns.take()
     }
 }

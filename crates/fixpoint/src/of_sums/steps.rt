@@ -257,14 +257,14 @@ impl<A: Allocator + Copy> SumSearch<A> {
         let at = goal.to;
         let merge = self.merge_at(program, at);
         let is_less = if self.gathers {
-            let wanted = self.table.facts.find(at, case);
+            let wanted = self.table.facts.relations_in(at, case);
             self.gathered
                 .facts
                 .reach(at, at, case, known, wanted, &merge, before, after)?
         } else {
             self.table
                 .facts
-                .reach(at, at, case, known, None, &merge, before, after)?
+                .reach(at, at, case, known, &[], &merge, before, after)?
         };
         if is_less {
             self.waiting.insert(at);

@@ -1,7 +1,7 @@
 //! What is known at addresses and at returns, and what is claimed of routines.
 
 use crate::halt::Halt;
-use crate::of_sums::kept::SumInvariant;
+use crate::of_sums::kept::{RelationInvariant, SumInvariant};
 use crate::of_sums::merging::{Merge, Sides};
 use crate::of_sums::splits::Case;
 use crate::table::Candidate;
@@ -71,7 +71,7 @@ impl<A: Allocator + Copy> Kept<A> {
         at: Word,
         case: &Case,
         known: &F,
-        wanted: Option<&SumInvariant<A>>,
+        wanted: &[RelationInvariant],
         merge: &Merge<'_, A>,
         before: &mut Fact,
         after: &mut Fact,
@@ -91,7 +91,7 @@ impl<A: Allocator + Copy> Kept<A> {
         at: Word,
         case: &Case,
         known: &F,
-        wanted: Option<&SumInvariant<A>>,
+        wanted: &[RelationInvariant],
         merge: &Merge<'_, A>,
         before: &mut Fact,
         after: &mut Fact,
@@ -124,8 +124,16 @@ impl<A: Allocator> Kept<A> {
         self.row(at).get(index)
     }
 
+    /// The relations of what is kept at an address in a case.
+    pub(crate) fn relations_in(&self, at: Word, case: &Case) -> &[RelationInvariant] {
+        match self.find(at, case) {
+            None => &[],
+            Some(kept) => kept.relations.as_slice(),
+        }
+    }
+
     /// What is kept at an address in a case.
-    pub(crate) fn find(&self, at: Word, case: &Case) -> Option<&SumInvariant<A>> {
+    fn find(&self, at: Word, case: &Case) -> Option<&SumInvariant<A>> {
         for kept in self.row(at) {
             if kept.case == *case {
                 return Some(kept);

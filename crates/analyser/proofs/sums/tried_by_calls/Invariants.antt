@@ -1,8 +1,8 @@
 use Rattle.std.proofs.Common.{◌≡◌, ◌≤◌}
 use Rattle.analyser.proofs.sums.tried_by_calls.Given as goal
 
-abbrev pub invariant-loop-_more : goal.invariant-loop-_more
-invariant-loop-_more g l = record {
+abbrev pub invariant-loop-more : goal.invariant-loop-more
+invariant-loop-more g l = record {
   limit : l.turns.limit ≡ l.initial.turns.limit;
   rises : l.initial.turns.spent ≤ l.turns.spent;
   within : l.turns.spent ≤ l.turns.limit;

@@ -1,5 +1,5 @@
 use Rattle.std.proofs.Common.{◌≡◌, ◌≤◌}
-use Rattle.fixpoint.proofs.of_sums.steps.SumSearch.visit.Given as goal
+use Rattle.fixpoint.proofs.of_sums.search.SumSearch.visit.Given as goal
 
 abbrev pub invariant-loop-word : goal.invariant-loop-word
 invariant-loop-word g l = record {

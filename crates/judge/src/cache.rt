@@ -8,7 +8,7 @@ ghost use Rattle.judge.specs.Sums.Shapes.{HasShape};
 ghost use Rattle.judge.specs.Sums.Caches.{Shows, StandsAhead};
 
 use crate::claims::Claims;
-use domain::Rules;
+use domain::{BriefSet, Rules};
 use facts::Fact;
 use word12::Word;
 use wordset::WordSet;
@@ -19,7 +19,7 @@ use wordset::WordSet;
 pub struct FactCache {
     pub(crate) fact: Fact,
     /// Its sites as they are claimed, since others may be given to it.
-    sites: WordSet,
+    sites: BriefSet,
     address: Option<Word>,
     end: usize,
 }
@@ -32,7 +32,7 @@ impl FactCache {
     {
         FactCache {
             fact: Fact::any(),
-            sites: WordSet::empty(),
+            sites: BriefSet::none(),
             address: None,
             end: 0,
         }
@@ -82,7 +82,7 @@ impl FactCache {
         ensures shows { Shows (C.claims claims.now) self.new }
     {
         if self.is_of(at) {
-            self.fact.set_sites(&self.sites);
+            self.fact.copy_sites(&self.sites);
             return true;
         }
         self.read(claims, at, near)
@@ -101,7 +101,7 @@ impl FactCache {
         match claims.put_only_fact(at, near, &mut self.fact) {
             None => false,
             Some(end) => {
-                self.fact.sites().put(&mut self.sites);
+                self.sites.copy_from(self.fact.sites());
                 self.end = end;
                 self.address = Some(at);
                 true

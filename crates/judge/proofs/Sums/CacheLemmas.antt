@@ -1,7 +1,7 @@
 -- Facts that are kept with their addresses.
 use Rattle.std.proofs.Common.{◌≡◌, ℕ, Some, None, List, [], ◌∷◌, sym, ap, ◌∙◌, subst}
 use Rattle.wordset.specs.Words.{Words}
-use Rattle.wordset.specs.Lanes.{words}
+use Rattle.domain.specs.Sums.Brief.{brief_words}
 use Rattle.domain.specs.Sums.Facts.{Fact, OfEquations}
 use Rattle.domain.specs.Sums.FactInCode.{fact_in_code}
 use Rattle.certificate.specs.Sums.Certificate.{Certificate}
@@ -24,9 +24,9 @@ pub nothing_ahead : (c : Certificate) (sites : Words) (s : FactCache) → s.addr
 nothing_ahead c sites s none a there = absurd (none_some (sym none ∙ there))
 
 -- a fact that was read, with its own sites beside it
-pub shows_read : (c : Certificate) (s : FactCache) (a : ℕ) (f : Fact) → c.facts a ≡ f ∷ [] → HasShape f → fact_in_code s.fact ≡ f → words s.sites ≡ f.sites → s.address ≡ Some a → Shows c s
+pub shows_read : (c : Certificate) (s : FactCache) (a : ℕ) (f : Fact) → c.facts a ≡ f ∷ [] → HasShape f → fact_in_code s.fact ≡ f → brief_words s.sites ≡ f.sites → s.address ≡ Some a → Shows c s
 shows_read c s a f only shape is own there b here =
-    let as_read : with_sites (words s.sites) (fact_in_code s.fact) ≡ f = ap (λ (w : Words). with_sites w (fact_in_code s.fact)) own ∙ ap (λ (g : Fact). with_sites f.sites g) is in
+    let as_read : with_sites (brief_words s.sites) (fact_in_code s.fact) ≡ f = ap (λ (w : Words). with_sites w (fact_in_code s.fact)) own ∙ ap (λ (g : Fact). with_sites f.sites g) is in
     subst (λ (x : ℕ). IsOnlyAt c s x) (some_same (sym there ∙ here)) (record {
       only = only ∙ ap (λ (g : Fact). g ∷ []) (sym as_read);
       shape = subst HasShape (sym is) shape;
@@ -36,8 +36,8 @@ shows_read c s a f only shape is own there b here =
 pub shows_sited : (c : Certificate) (s t : FactCache) (w : Words) → Shows c s → fact_in_code t.fact ≡ with_sites w (fact_in_code s.fact) → t.sites ≡ s.sites → t.address ≡ s.address → Shows c t
 shows_sited c s t w shows is own same a there =
     let before : IsOnlyAt c s a = shows a (sym same ∙ there) in
-    let also : with_sites (words t.sites) (fact_in_code t.fact) ≡ with_sites (words s.sites) (fact_in_code s.fact) =
-    ap (λ (b : _). with_sites (words b) (fact_in_code t.fact)) own ∙ ap (λ (g : Fact). with_sites (words s.sites) g) is in
+    let also : with_sites (brief_words t.sites) (fact_in_code t.fact) ≡ with_sites (brief_words s.sites) (fact_in_code s.fact) =
+    ap (λ (b : _). with_sites (brief_words b) (fact_in_code t.fact)) own ∙ ap (λ (g : Fact). with_sites (brief_words s.sites) g) is in
     let shape : HasShape (fact_in_code s.fact) = before.shape in
     record {
       only = before.only ∙ ap (λ (g : Fact). g ∷ []) (sym also);
@@ -45,10 +45,10 @@ shows_sited c s t w shows is own same a there =
     }
 
 -- with its own sites it is what is claimed
-pub as_claimed : (c : Certificate) (s : FactCache) (a : ℕ) (f : Fact) → Shows c s → s.address ≡ Some a → f ≡ with_sites (words s.sites) (fact_in_code s.fact) → c.facts a ≡ f ∷ []
+pub as_claimed : (c : Certificate) (s : FactCache) (a : ℕ) (f : Fact) → Shows c s → s.address ≡ Some a → f ≡ with_sites (brief_words s.sites) (fact_in_code s.fact) → c.facts a ≡ f ∷ []
 as_claimed c s a f shows there is = (shows a there).only ∙ ap (λ (g : Fact). g ∷ []) (sym is)
 
-pub shape_claimed : (c : Certificate) (s : FactCache) (a : ℕ) (f : Fact) → Shows c s → s.address ≡ Some a → f ≡ with_sites (words s.sites) (fact_in_code s.fact) → HasShape f
+pub shape_claimed : (c : Certificate) (s : FactCache) (a : ℕ) (f : Fact) → Shows c s → s.address ≡ Some a → f ≡ with_sites (brief_words s.sites) (fact_in_code s.fact) → HasShape f
 shape_claimed c s a f shows there is =
     let shape : HasShape (fact_in_code s.fact) = (shows a there).shape in
     subst HasShape (sym is) (record { terms = shape.terms; short = shape.short; few = shape.few })

@@ -1,7 +1,7 @@
 -- Facts that are kept with their addresses, so that the one at the next address is read once.
 use Rattle.std.specs.Prelude.{◌≡◌, ℕ, Some, [], ◌∷◌}
 use Rattle.wordset.specs.Words.{Words}
-use Rattle.wordset.specs.Lanes.{words}
+use Rattle.domain.specs.Sums.Brief.{brief_words}
 use Rattle.domain.specs.Sums.Facts.{OfEquations}
 use Rattle.domain.specs.Sums.FactInCode.{fact_in_code}
 use Rattle.certificate.specs.Sums.Certificate.{Certificate}
@@ -12,7 +12,7 @@ use Rattle.judge.specs.declared.cache.FactCache.{FactCache}
 -- What is kept of the fact at an address: with the sites that are kept beside it, it is the only one there, and it has a claimed
 -- fact's shape.
 pub record IsOnlyAt (c : Certificate) (s : FactCache) (a : ℕ) : Type 0 where
-  pub only : c.facts a ≡ with_sites (words s.sites) (fact_in_code s.fact) ∷ []
+  pub only : c.facts a ≡ with_sites (brief_words s.sites) (fact_in_code s.fact) ∷ []
   pub shape : HasShape (fact_in_code s.fact)
 
 -- So it is of the fact that is kept, if one is.

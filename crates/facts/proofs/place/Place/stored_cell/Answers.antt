@@ -1,4 +1,4 @@
-use Rattle.std.proofs.Common.{◌≡◌, ◌∙◌, sym, subst}
+use Rattle.std.proofs.Common.{◌≡◌, subst}
 use Rattle.wordset.specs.Words.{one}
 use Rattle.instruct.specs.Instructions.{operation_of}
 use Rattle.facts.specs.Sums.Conditions.{may_write}

@@ -26,7 +26,7 @@ use crate::words::nth;
 use bin_tape::Image;
 use declaration::{Declaration, Owner};
 use domain::Rules;
-use facts::{Condition, Fact, NarrowedFact, NextFact};
+use facts::{Condition, Fact, LandingRooms, NarrowedFact, NextFact, Outcomes};
 use std::alloc::{AllocError, Allocator};
 use word12::Word;
 use wordset::WordSet;
@@ -74,6 +74,16 @@ impl<M: Allocator + Copy> Rooms<M> {
     pub fn boxed(memory: M) -> Result<Box<Rooms<M>, M>, AllocError> {
         let outcomes = boxed_outcomes(memory)?;
         let landing = boxed_landing(memory)?;
+        Rooms::boxed_around(memory, outcomes, landing)
+    }
+
+    /// The same around its largest parts.
+    #[inline(never)]
+    fn boxed_around(
+        memory: M,
+        outcomes: Box<Outcomes, M>,
+        landing: Box<LandingRooms, M>,
+    ) -> Result<Box<Rooms<M>, M>, AllocError> {
         Ok(Box::new(
             memory,
             Rooms {

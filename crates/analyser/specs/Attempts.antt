@@ -2,8 +2,8 @@
 use Rattle.std.specs.Prelude.{◌≡◌, ◌<◌, ℕ, ⊤, true, List, Option}
 use Rattle.declaration.specs.Declaration.{Declaration, Routine}
 use Rattle.declaration.specs.Kept as declared
-use Rattle.certificate.specs.Sums.Certificate.{Certificate, has_any, has_exits}
-use Rattle.certificate.specs.Sums.Kept.{Kept, claims, meaning}
+use Rattle.certificate.specs.Certificate.{Certificate, has_any, has_exits}
+use Rattle.certificate.specs.Kept.{Kept, claims, meaning}
 use Rattle.instruct.specs.declared.Profile.{Profile}
 use Rattle.analyser.specs.Accepted.{IsAccepted}
 use Rattle.analyser.specs.Versions.{version_of, IsVersionFor}

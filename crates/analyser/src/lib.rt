@@ -3,9 +3,9 @@
 
 ghost use Rattle.std.specs.Prelude.{◌≡◌, ◌≢◌, ◌≤◌, IfErr, IfOk};
 ghost use Rattle.declaration.specs.Kept.{meaning as declared};
-ghost use Rattle.certificate.specs.Sums.Kept.{claims, meaning};
-ghost use Rattle.certificate.specs.Sums.Exact.{AreLines};
-ghost use Rattle.judge.specs.Sums.Judged.{judged};
+ghost use Rattle.certificate.specs.Kept.{claims, meaning};
+ghost use Rattle.certificate.specs.Exact.{AreLines};
+ghost use Rattle.judge.specs.Judged.{judged};
 ghost use Rattle.turns.specs.Counts.{IsSpentUp};
 ghost use Rattle.turns.specs.declared.GuessFault.TheVariants.{TurnsSpent};
 ghost use Rattle.analyser.specs.Accepted.{IsAccepted};

@@ -4,8 +4,8 @@ ghost use Rattle.std.specs.Prelude.{◌≡◌, ◌+◌, ◌<◌, ◌≤◌, leng
 ghost use Rattle.wordset.specs.Words.{between, union};
 ghost use Rattle.wordset.specs.Lanes.{words};
 ghost use Rattle.certificate.specs.declared.runs.Run.{Run};
-ghost use Rattle.certificate.specs.Spelled.{IsLastOf};
-ghost use Rattle.certificate.specs.Packed.{Begins, set_of_runs, added, set_at, StandApart, AreLaid};
+ghost use Rattle.certificate.specs.LineText.{IsLastOf};
+ghost use Rattle.certificate.specs.Runs.{Begins, set_of_runs, added, set_at, StandApart, AreLaid};
 
 use arrayvec::ArrayVec;
 use std::alloc::{AllocError, Allocator};

@@ -89,7 +89,7 @@ fn keep_row(set: &mut WordSet, first: Word, last: Word)
 }
 
 impl BriefSet {
-    ghost use Rattle.domain.specs.Sums.Brief.{brief_words};
+    ghost use Rattle.domain.specs.Brief.{brief_words};
 
     /// The set with no word.
     #[tactic(auto, using(crate::proofs::BriefLemmas::empty_row))]

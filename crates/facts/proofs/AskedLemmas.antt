@@ -12,9 +12,9 @@ use Rattle.instruct.proofs.KindLemmas.{reference_meaning, group2_meaning}
 use Rattle.wordset.specs.Words.{Words, IsWithin, nothing, one}
 use Rattle.wordset.proofs.Tests.{or_left, or_right}
 use Rattle.declaration.specs.Declaration.{Declaration}
-use Rattle.domain.specs.Sums.Facts.{Place}
-use Rattle.facts.specs.Conditions.{calls, jumps, is_call, calls_through_index, returned_through, MayWrite}
-use Rattle.facts.specs.Sums.PlaceInCode.{meaning_in}
+use Rattle.domain.specs.Facts.{Place}
+use Rattle.facts.specs.Instructions.{calls, jumps, is_call, calls_through_index, returned_through, MayWrite}
+use Rattle.facts.specs.PlaceInCode.{meaning_in}
 use Rattle.policy.specs.Rules.{HaltsDeclared}
 use Rattle.std.proofs.Math.Path.{fun_ext}
 

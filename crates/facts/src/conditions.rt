@@ -4,13 +4,13 @@ ghost use Rattle.std.specs.Prelude.{ℕ, ◌≡◌, ◌<◌, ◌≤◌, ◌==◌
 ghost use Rattle.wordset.specs.Words.{one};
 ghost use Rattle.wordset.specs.Lanes.{words};
 ghost use Rattle.declaration.specs.Declaration.{IsListed};
-ghost use Rattle.domain.specs.Facts.{is_routine};
-ghost use Rattle.domain.specs.Sums.Facts as said;
-ghost use Rattle.domain.specs.Sums.FactInCode.{fact_in_code, rules_of};
-ghost use Rattle.domain.specs.Sums.Offsets.{offsets_in};
-ghost use Rattle.facts.specs.Conditions.{MayWrite};
-ghost use Rattle.facts.specs.Sums.Conditions.{may_read, may_write, called, WritesAreDeclared, EntriesAreKept, WritesAreListed, ReadsAreListed, MayCount, CountsItsReturn};
-ghost use Rattle.facts.specs.Sums.PlaceInCode.{place_in_code, meaning_in};
+ghost use Rattle.domain.specs.Locations.{is_routine};
+ghost use Rattle.domain.specs.Facts as said;
+ghost use Rattle.domain.specs.FactInCode.{fact_in_code, rules_of};
+ghost use Rattle.domain.specs.Offsets.{offsets_in};
+ghost use Rattle.facts.specs.Instructions.{MayWrite};
+ghost use Rattle.facts.specs.Conditions.{may_read, may_write, called, WritesAreDeclared, EntriesAreKept, WritesAreListed, ReadsAreListed, MayCount, CountsItsReturn};
+ghost use Rattle.facts.specs.PlaceInCode.{place_in_code, meaning_in};
 
 use crate::instructions::{counts, is_jms, reads_operand, steps_pointer, stores};
 use crate::place::Place;

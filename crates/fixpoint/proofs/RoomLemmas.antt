@@ -5,10 +5,10 @@ use Rattle.domain.specs.declared.cell_sets.CellSet.{CellSet}
 use Rattle.domain.specs.declared.chains.Chain.{Chain}
 use Rattle.domain.specs.declared.chains.Step.{Step}
 use Rattle.domain.specs.declared.sum_fact.SumFact.{SumFact}
-use Rattle.domain.specs.Statements.{TrackedCell}
-use Rattle.domain.specs.Sums.CellsInCode.{cell_set_of}
-use Rattle.domain.specs.Sums.ChainsInCode.{chain_of, step_of}
-use Rattle.domain.specs.Sums.FactInCode.{fact_in_code}
+use Rattle.domain.specs.TrackedCells.{TrackedCell}
+use Rattle.domain.specs.CellsInCode.{cell_set_of}
+use Rattle.domain.specs.ChainsInCode.{chain_of, step_of}
+use Rattle.domain.specs.FactInCode.{fact_in_code}
 
 -- As many cells as are lent.
 pub cells_told : (lent : List CellSet) (told : List TrackedCell) → map cell_set_of lent ≡ told → length told ≡ length lent

@@ -2,10 +2,10 @@
 
 ghost use Rattle.std.specs.Prelude.{◌≡◌, None, Some, [], ◌∷◌, true, false, IsTrue};
 ghost use Rattle.wordset.specs.Lanes.{words};
-ghost use Rattle.domain.specs.Sums.FactInCode.{fact_in_code};
-ghost use Rattle.certificate.specs.Sums.Certificate as said;
-ghost use Rattle.judge.specs.Sums.Shapes.{HasShape};
-ghost use Rattle.judge.specs.Sums.Caches.{Shows, StandsAhead};
+ghost use Rattle.domain.specs.FactInCode.{fact_in_code};
+ghost use Rattle.certificate.specs.Certificate as said;
+ghost use Rattle.judge.specs.Shapes.{HasShape};
+ghost use Rattle.judge.specs.Caches.{Shows, StandsAhead};
 
 use crate::claims::Claims;
 use domain::{BriefSet, Rules};

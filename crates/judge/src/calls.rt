@@ -3,13 +3,13 @@
 ghost use Rattle.std.specs.Prelude.{◌≡◌, ◌<◌, ◌↔◌, Some, true, IsTrue};
 ghost use Rattle.wordset.specs.Lanes.{words};
 ghost use Rattle.instruct.specs.Instructions.{meaning_of};
-ghost use Rattle.domain.specs.Sums.Facts.{last_site};
-ghost use Rattle.domain.specs.Sums.FactInCode.{fact_in_code, rules_of};
+ghost use Rattle.domain.specs.Facts.{last_site};
+ghost use Rattle.domain.specs.FactInCode.{fact_in_code, rules_of};
 ghost use Rattle.facts.specs.declared.Condition.TheVariants.{V7, V8, V9, V10, V11, V12};
-ghost use Rattle.judge.specs.Sums.Landing.{called_from, LandsAfter};
-ghost use Rattle.judge.specs.Sums.Conditions.{EachTarget, MayCall, CoversCallee, MayReturn};
-ghost use Rattle.judge.specs.Sums.Callees.{HoldsOfCallee, IsBelow, LandsBy, LandsWith, ReturnsBy, ReturnsThrough};
-ghost use Rattle.judge.specs.Sums.Points.{IsPoint, HoldsHere, case_of, fact_asked};
+ghost use Rattle.judge.specs.Landing.{called_from, LandsAfter};
+ghost use Rattle.judge.specs.Conditions.{EachTarget, MayCall, CoversCallee, MayReturn};
+ghost use Rattle.judge.specs.Callees.{HoldsOfCallee, IsBelow, LandsBy, LandsWith, ReturnsBy, ReturnsThrough};
+ghost use Rattle.judge.specs.Points.{IsPoint, HoldsHere, case_of, fact_asked};
 
 use crate::claims::Claims;
 use crate::point::{Others, Point};

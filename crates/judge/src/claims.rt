@@ -3,12 +3,12 @@
 ghost use Rattle.std.specs.Prelude.{◌≡◌, ◌<◌, [], ◌∷◌, is_some, length, IfSome, IfNone, MatchOption};
 ghost use Rattle.wordset.specs.Words.{nothing, HasNoneFrom, IsFirstFrom};
 ghost use Rattle.wordset.specs.Lanes.{words};
-ghost use Rattle.domain.specs.Sums.FactInCode.{fact_in_code, rules_of};
-ghost use Rattle.facts.specs.Sums.Landing.{fact_at};
-ghost use Rattle.certificate.specs.Sums.Certificate as said;
-ghost use Rattle.certificate.specs.Sums.Certificate.{names_routine, claimed, has_any};
-ghost use Rattle.certificate.specs.Sums.Kept.{claims};
-ghost use Rattle.judge.specs.Sums.Shapes.{HasShape};
+ghost use Rattle.domain.specs.FactInCode.{fact_in_code, rules_of};
+ghost use Rattle.facts.specs.Landing.{fact_at};
+ghost use Rattle.certificate.specs.Certificate as said;
+ghost use Rattle.certificate.specs.Certificate.{names_routine, claimed, has_any};
+ghost use Rattle.certificate.specs.Kept.{claims};
+ghost use Rattle.judge.specs.Shapes.{HasShape};
 
 use certificate::{Certificate, RoutineClaim, Version};
 use domain::Rules;

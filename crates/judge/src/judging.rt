@@ -4,8 +4,8 @@ ghost use Rattle.std.specs.Prelude.{◌≡◌, ◌↔◌, Some, IsTrue, MatchRes
 ghost use Rattle.peripherals.specs.Loading.{image_of};
 ghost use Rattle.declaration.specs.Kept.{meaning};
 ghost use Rattle.policy.specs.Runs.{IsSafe};
-ghost use Rattle.judge.specs.Sums.Conditions.{IsValid, IsFirst};
-ghost use Rattle.judge.specs.Sums.Judged.{judged};
+ghost use Rattle.judge.specs.Conditions.{IsValid, IsFirst};
+ghost use Rattle.judge.specs.Judged.{judged};
 
 use crate::body::Body;
 use crate::case::{Case, Rooms};

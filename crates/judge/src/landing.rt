@@ -2,13 +2,13 @@
 
 ghost use Rattle.std.specs.Prelude.{ℕ, ◌≡◌, ◌<◌, ◌↔◌, true, Some, IsTrue};
 ghost use Rattle.wordset.specs.Lanes.{words};
-ghost use Rattle.domain.specs.Sums.Brief.{brief_words};
-ghost use Rattle.domain.specs.Sums.FactInCode.{fact_in_code};
-ghost use Rattle.facts.specs.Sums.OutcomesInCode.{outcome_in, outcomes_in};
+ghost use Rattle.domain.specs.Brief.{brief_words};
+ghost use Rattle.domain.specs.FactInCode.{fact_in_code};
+ghost use Rattle.facts.specs.OutcomesInCode.{outcome_in, outcomes_in};
 ghost use Rattle.facts.specs.declared.Condition.TheVariants.{V4};
-ghost use Rattle.judge.specs.Sums.Landing.{LandsAt, SuccessorLands, EachSuccessor, sites_of};
-ghost use Rattle.judge.specs.Sums.Caches.{StandsAhead};
-ghost use Rattle.judge.specs.Sums.Points.{IsPoint, case_of, HoldsHere};
+ghost use Rattle.judge.specs.Landing.{LandsAt, SuccessorLands, EachSuccessor, sites_of};
+ghost use Rattle.judge.specs.Caches.{StandsAhead};
+ghost use Rattle.judge.specs.Points.{IsPoint, case_of, HoldsHere};
 
 use crate::cache::FactCache;
 use crate::claims::Claims;

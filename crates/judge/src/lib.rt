@@ -1,7 +1,7 @@
 //! The conditions on a certificate, and the theorem that they make a program safe.
 #![tactic(auto)]
 
-ghost use Rattle.judge.specs.Sums.Headline.{ProgramsAreSafe, UnlistedReadsAreFree};
+ghost use Rattle.judge.specs.Headline.{ProgramsAreSafe, UnlistedReadsAreFree};
 
 mod body;
 mod cache;

@@ -2,11 +2,11 @@
 
 ghost use Rattle.std.specs.Prelude.{◌≡◌, true, IfSome};
 ghost use Rattle.wordset.specs.Lanes.{words};
-ghost use Rattle.judge.specs.Sums.Bodies.{Tells};
-ghost use Rattle.judge.specs.Sums.Caches.{StandsAhead};
-ghost use Rattle.judge.specs.Sums.Judged.{judged};
-ghost use Rattle.judge.specs.Sums.Shapes.{IsRoomy};
-ghost use Rattle.judge.specs.Sums.Points.{IsPoint, case_of};
+ghost use Rattle.judge.specs.Bodies.{Tells};
+ghost use Rattle.judge.specs.Caches.{StandsAhead};
+ghost use Rattle.judge.specs.Judged.{judged};
+ghost use Rattle.judge.specs.Shapes.{IsRoomy};
+ghost use Rattle.judge.specs.Points.{IsPoint, case_of};
 
 use crate::body::Body;
 use crate::cache::FactCache;

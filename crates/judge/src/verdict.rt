@@ -7,14 +7,14 @@ ghost use Rattle.declaration.specs.Text.{Fails};
 ghost use Rattle.declaration.specs.declared.DeclarationFault.{DeclarationFault as DeclarationsFault};
 ghost use Rattle.declaration.specs.declared.DeclarationFault.TheVariants as declaration_fault;
 ghost use Rattle.certificate.specs.declared.CertificateFault.{CertificateFault as CertificatesFault};
-ghost use Rattle.certificate.specs.Sums.Reading.{Text, reading};
+ghost use Rattle.certificate.specs.Reading.{Text, reading};
 ghost use Rattle.judge.specs.declared.judging.Refusal.{Refusal as Refusals};
 ghost use Rattle.judge.specs.declared.verdict.CertifyFault.TheVariants as fault;
 ghost use Rattle.peripherals.specs.World.{view, profile_of};
 ghost use Rattle.policy.specs.Runs.{IsSafe};
 ghost use Rattle.policy.specs.Watching.{IsClean, LeadsTo, StepPutsOut, begun};
-ghost use Rattle.judge.specs.Sums.Conditions.{IsValid};
-ghost use Rattle.judge.specs.Sums.Certifying.{AreRead, AreValid, FailFirst, IsRefused, IsRefusal, IsSomeTape, DeclaresSomething, case_of, declaration_of, words_of};
+ghost use Rattle.judge.specs.Conditions.{IsValid};
+ghost use Rattle.judge.specs.Certifying.{AreRead, AreValid, FailFirst, IsRefused, IsRefusal, IsSomeTape, DeclaresSomething, case_of, declaration_of, words_of};
 
 use crate::case::Rooms;
 use crate::judging::{Refusal, judge};
@@ -58,8 +58,8 @@ pub struct Certified<A: Allocator> {
 }
 
 impl<A: Allocator> Model for Certified<A> {
-    ghost use Rattle.judge.specs.Sums.Conditions.{IsValid};
-    ghost use Rattle.judge.specs.Sums.Certifying.{Parts, case_of};
+    ghost use Rattle.judge.specs.Conditions.{IsValid};
+    ghost use Rattle.judge.specs.Certifying.{Parts, case_of};
 
     ghost Value = { Parts };
 

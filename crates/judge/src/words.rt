@@ -5,10 +5,10 @@ ghost use Rattle.peripherals.specs.Loading.{image_of};
 ghost use Rattle.wordset.specs.Words.{one};
 ghost use Rattle.wordset.specs.Lanes.{words};
 ghost use Rattle.facts.specs.declared.Condition.TheVariants.{V3, V5, V6, V13, V14, V15};
-ghost use Rattle.judge.specs.Conditions.{place_among};
-ghost use Rattle.judge.specs.Asked.{asks_few};
-ghost use Rattle.judge.specs.Sums.Asked.{IsLeastPlace};
-ghost use Rattle.judge.specs.Sums.Points.{IsPoint, HoldsHere, HoldsForAllWords, HoldsOfPoint, HasFewHere, possible_at};
+ghost use Rattle.judge.specs.ConditionOrder.{place_among};
+ghost use Rattle.judge.specs.FewWords.{asks_few};
+ghost use Rattle.judge.specs.Asked.{IsLeastPlace};
+ghost use Rattle.judge.specs.Points.{IsPoint, HoldsHere, HoldsForAllWords, HoldsOfPoint, HasFewHere, possible_at};
 
 use crate::claims::Claims;
 use crate::point::{Others, Point};

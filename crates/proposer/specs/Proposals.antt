@@ -6,11 +6,11 @@ use Rattle.declaration.specs.Declaration.{IsDeclared}
 use Rattle.declaration.specs.Kept.{Kept, meaning, routines_of}
 use Rattle.declaration.specs.Text.{Declares, ListsRoutines}
 use Rattle.policy.specs.Runs.{IsSafe}
-use Rattle.certificate.specs.Sums.Kept as certified
-use Rattle.certificate.specs.Sums.Reading.{Text}
-use Rattle.certificate.specs.Sums.Exact.{AreLines}
-use Rattle.judge.specs.Sums.Conditions.{IsValid}
-use Rattle.judge.specs.Sums.Judged.{judged}
+use Rattle.certificate.specs.Kept as certified
+use Rattle.certificate.specs.Reading.{Text}
+use Rattle.certificate.specs.Exact.{AreLines}
+use Rattle.judge.specs.Conditions.{IsValid}
+use Rattle.judge.specs.Judged.{judged}
 use Rattle.declaration.specs.declared.DeclarationFault.TheVariants as declaration_fault
 use Rattle.proposer.specs.Needed.{ReadsAreNeeded}
 use Rattle.turns.specs.Counts.{Count}

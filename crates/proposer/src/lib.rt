@@ -4,11 +4,11 @@
 ghost use Rattle.std.specs.Prelude.{ℕ, ◌≡◌, ◌≢◌, ◌≤◌, List, Option, IfOk, IfErr, None, is_some, true};
 ghost use Rattle.analyser.specs.Versions.{IsVersionFor};
 ghost use Rattle.turns.specs.declared.GuessFault.TheVariants as guess_fault;
-ghost use Rattle.certificate.specs.Sums.Kept as certified;
-ghost use Rattle.certificate.specs.Sums.Exact.{AreLines};
+ghost use Rattle.certificate.specs.Kept as certified;
+ghost use Rattle.certificate.specs.Exact.{AreLines};
 ghost use Rattle.declaration.specs.Kept.{Kept, meaning, routines_of};
 ghost use Rattle.declaration.specs.Text.{Declares, ListsRoutines};
-ghost use Rattle.judge.specs.Sums.Judged.{judged};
+ghost use Rattle.judge.specs.Judged.{judged};
 ghost use Rattle.proposer.specs.Needed.{ReadsAreNeeded};
 ghost use Rattle.proposer.specs.declared.Verdict.TheVariants.{TurnsSpent};
 ghost use Rattle.proposer.specs.Proposals.{AreNeeded, Fits, IsListed, IsShown, IsSpentUp, IsTold, is_safe};

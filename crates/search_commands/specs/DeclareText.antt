@@ -5,9 +5,9 @@ use Rattle.peripherals.specs.Loading.{image_of}
 use Rattle.declaration.specs.Declaration.{Declaration}
 use Rattle.declaration.specs.Text.{Declares}
 use Rattle.policy.specs.Runs.{IsSafe}
-use Rattle.certificate.specs.Sums.Exact.{AreLines}
-use Rattle.certificate.specs.Sums.Reading.{Text, certificate_of}
-use Rattle.judge.specs.Sums.Conditions.{IsValid}
+use Rattle.certificate.specs.Exact.{AreLines}
+use Rattle.certificate.specs.Reading.{Text, certificate_of}
+use Rattle.judge.specs.Conditions.{IsValid}
 use Rattle.proposer.specs.Needed.{ReadsAreNeeded}
 use Rattle.diagnostics.specs.CheckText.{checked_case}
 use Rattle.command_parts.specs.declared.options.DeclareOptions.{DeclareOptions}

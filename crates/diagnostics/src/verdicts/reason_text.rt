@@ -3,8 +3,8 @@
 ghost use Rattle.std.specs.Prelude.{◌≡◌, ◌++◌, codes, decimal, if◌then◌else◌, [], map, OnOk};
 ghost use Rattle.word12.specs.Words.{octal_text};
 ghost use Rattle.wordset.specs.Words.{minus};
-ghost use Rattle.domain.specs.Meaning.{location_of};
-ghost use Rattle.domain.specs.Sums.InCode.{sum_of, summand_of, term_of};
+ghost use Rattle.domain.specs.LocationsInCode.{location_of};
+ghost use Rattle.domain.specs.InCode.{sum_of, summand_of, term_of};
 ghost use Rattle.command_parts.specs.Dumping.{dump_line};
 ghost use Rattle.command_parts.specs.LinkText.{link_text};
 ghost use Rattle.diagnostics.specs.CheckText.{condition_text};

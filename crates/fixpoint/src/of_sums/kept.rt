@@ -1,9 +1,9 @@
 //! Facts as they are kept by the search by the rules of sums.
 
 ghost use Rattle.std.specs.Prelude.{◌≡◌, ◌<◌, length, true};
-ghost use Rattle.domain.specs.Sums.CellsInCode.{cell_sets_of};
-ghost use Rattle.domain.specs.Sums.FactInCode.{fact_in_code};
-ghost use Rattle.domain.specs.Sums.RelationsInCode.{relations_of};
+ghost use Rattle.domain.specs.CellsInCode.{cell_sets_of};
+ghost use Rattle.domain.specs.FactInCode.{fact_in_code};
+ghost use Rattle.domain.specs.RelationsInCode.{relations_of};
 
 use crate::halt::Halt;
 use crate::invariant::{CellInvariant, MOST_CELLS, MOST_RELATIONS};

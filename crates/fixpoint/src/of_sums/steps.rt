@@ -1,7 +1,7 @@
 //! On from one fact by the words that are possible at its address.
 
 ghost use Rattle.std.specs.Prelude.{◌≡◌, ◌≤◌, IfErr, map, true};
-ghost use Rattle.domain.specs.Sums.ChainsInCode.{AreShort, chain_of};
+ghost use Rattle.domain.specs.ChainsInCode.{AreShort, chain_of};
 ghost use Rattle.turns.specs.Counts.{IsSpentUp};
 
 use crate::halt::Halt;

@@ -1,15 +1,15 @@
 use Rattle.std.proofs.Common.{◌≡◌, ◌∙◌, sym, subst}
 use Rattle.std.proofs.lemmas.Bool.{true≢false}
-use Rattle.judge.specs.Sums.Landing.{Case}
-use Rattle.judge.specs.Sums.Conditions.{IsFirst, IsValid}
-use Rattle.judge.specs.Sums.Asked.{HoldsBetween}
-use Rattle.judge.specs.Sums.Judged.{judged}
+use Rattle.judge.specs.Landing.{Case}
+use Rattle.judge.specs.Conditions.{IsFirst, IsValid}
+use Rattle.judge.specs.Asked.{HoldsBetween}
+use Rattle.judge.specs.Judged.{judged}
 use Rattle.facts.specs.declared.Condition.TheVariants.{V1}
-use Rattle.certificate.specs.Sums.Certificate.{claimed, names_routine}
+use Rattle.certificate.specs.Certificate.{claimed, names_routine}
 use Rattle.facts.proofs.EachLemmas.{one_more}
-use Rattle.judge.proofs.Sums.OrderLemmas.{is_valid, first_at, first_at_start, before, all_hold, is_named, named_later}
-use Rattle.judge.proofs.Sums.Legal.{runs_are_safe}
-use Rattle.judge.proofs.Sums.Worlds.{events_are_safe}
+use Rattle.judge.proofs.OrderLemmas.{is_valid, first_at, first_at_start, before, all_hold, is_named, named_later}
+use Rattle.judge.proofs.Legal.{runs_are_safe}
+use Rattle.judge.proofs.Worlds.{events_are_safe}
 use Rattle.judge.proofs.judging.judge.Goals as goal
 
 pub returns-then-not-starts_well-clause-exact : goal.returns-then-not-starts_well-clause-exact

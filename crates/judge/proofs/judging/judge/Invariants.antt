@@ -1,10 +1,10 @@
 use Rattle.std.proofs.Common.{◌≡◌, ◌<◌, ◌-◌, ℕ, true}
-use Rattle.certificate.specs.Sums.Certificate.{claimed}
-use Rattle.judge.specs.Sums.Asked.{HoldsBetween}
-use Rattle.judge.specs.Sums.Judged.{judged}
-use Rattle.judge.specs.Sums.Bodies.{Tells}
-use Rattle.judge.specs.Sums.Caches.{Shows}
-use Rattle.judge.proofs.Sums.OrderLemmas.{NextNamed}
+use Rattle.certificate.specs.Certificate.{claimed}
+use Rattle.judge.specs.Asked.{HoldsBetween}
+use Rattle.judge.specs.Judged.{judged}
+use Rattle.judge.specs.Bodies.{Tells}
+use Rattle.judge.specs.Caches.{Shows}
+use Rattle.judge.proofs.OrderLemmas.{NextNamed}
 use Rattle.judge.proofs.judging.judge.Given as goal
 
 abbrev pub invariant-loop-address : goal.invariant-loop-address

@@ -1,5 +1,5 @@
 use Rattle.std.proofs.Common.{◌≡◌, ◌++◌, map, take}
-use Rattle.domain.specs.Sums.InCode.{summand_of}
+use Rattle.domain.specs.InCode.{summand_of}
 use Rattle.diagnostics.specs.WhyText.{further_text}
 use Rattle.diagnostics.proofs.verdicts.reason_text.push_further.Given as goal
 

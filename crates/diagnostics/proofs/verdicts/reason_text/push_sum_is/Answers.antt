@@ -1,6 +1,6 @@
 use Rattle.std.proofs.Common.{◌≡◌, length, refl, arith}
 use Rattle.std.proofs.lemmas.Result.{on_ok_weaker}
-use Rattle.domain.specs.Sums.InCode.{sum_of}
+use Rattle.domain.specs.InCode.{sum_of}
 use Rattle.diagnostics.proofs.ReasonLemmas.{has_two, is_equation, is_other_word, joined}
 use Rattle.diagnostics.proofs.verdicts.reason_text.push_sum_is.Goals as goal
 

@@ -1,6 +1,6 @@
 use Rattle.std.proofs.Common.{◌≡◌, length, refl, arith}
 use Rattle.std.proofs.lemmas.Result.{on_ok_weaker}
-use Rattle.domain.specs.Sums.InCode.{sum_of}
+use Rattle.domain.specs.InCode.{sum_of}
 use Rattle.diagnostics.proofs.ReasonLemmas.{has_two, is_difference, is_other, joined}
 use Rattle.diagnostics.proofs.verdicts.reason_text.push_sum_may_be.Goals as goal
 

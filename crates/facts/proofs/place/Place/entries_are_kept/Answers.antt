@@ -2,7 +2,7 @@ use Rattle.std.proofs.Common.{arith, ◌∙◌, refl, sym, ap}
 use Rattle.std.proofs.lemmas.Bool.{true≢false}
 use Rattle.wordset.specs.Words.{Words}
 use Rattle.wordset.proofs.IterLemmas.{of_set, one_more, one_fails, all_pass}
-use Rattle.domain.specs.Sums.FactInCode.{fact_in_code}
+use Rattle.domain.specs.FactInCode.{fact_in_code}
 use Rattle.facts.proofs.AskedLemmas.{over, over_none, over_one}
 use Rattle.facts.proofs.place.Place.entries_are_kept.Goals as goal
 

@@ -1,10 +1,10 @@
 use Rattle.std.proofs.Common.{◌∙◌, ap, sym}
 use Rattle.wordset.specs.Words.{Words, shifted}
-use Rattle.domain.specs.Facts.{Cell}
-use Rattle.domain.specs.Sums.FactInCode.{fact_in_code}
-use Rattle.domain.specs.Sums.Narrowing.{words_known}
-use Rattle.facts.specs.Sums.PlaceInCode.{place_in_code}
-use Rattle.facts.proofs.Sums.OperandLemmas.{counted_here}
+use Rattle.domain.specs.Locations.{Cell}
+use Rattle.domain.specs.FactInCode.{fact_in_code}
+use Rattle.domain.specs.Narrowing.{words_known}
+use Rattle.facts.specs.PlaceInCode.{place_in_code}
+use Rattle.facts.proofs.OperandLemmas.{counted_here}
 use Rattle.facts.proofs.place.Place.put_targets.Goals as goal
 
 pub returns-then-steps_pointer : goal.returns-then-steps_pointer

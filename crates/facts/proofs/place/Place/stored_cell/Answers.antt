@@ -1,9 +1,9 @@
 use Rattle.std.proofs.Common.{◌≡◌, subst}
 use Rattle.wordset.specs.Words.{one}
 use Rattle.instruct.specs.Instructions.{operation_of}
-use Rattle.facts.specs.Sums.Conditions.{may_write}
-use Rattle.facts.specs.Sums.PlaceInCode.{place_in_code}
-use Rattle.facts.proofs.Sums.AskingLemmas.{refers_in, stores_one}
+use Rattle.facts.specs.Conditions.{may_write}
+use Rattle.facts.specs.PlaceInCode.{place_in_code}
+use Rattle.facts.proofs.AskingLemmas.{refers_in, stores_one}
 use Rattle.facts.proofs.place.Place.stored_cell.Goals as goal
 
 pub returns : goal.returns

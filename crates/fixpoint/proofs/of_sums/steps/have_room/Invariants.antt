@@ -1,5 +1,5 @@
 use Rattle.std.proofs.Common.{drop, map}
-use Rattle.domain.specs.Sums.ChainsInCode.{AreShort, chain_of}
+use Rattle.domain.specs.ChainsInCode.{AreShort, chain_of}
 use Rattle.fixpoint.proofs.of_sums.steps.have_room.Given as goal
 
 abbrev pub invariant-loop-chain : goal.invariant-loop-chain

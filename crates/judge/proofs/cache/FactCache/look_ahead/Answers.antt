@@ -1,7 +1,7 @@
 use Rattle.std.proofs.Common.{refl, sym, ap, ◌∙◌}
 use Rattle.wordset.specs.Lanes.{words}
-use Rattle.domain.specs.Sums.FactInCode.{fact_in_code, rules_of}
-use Rattle.judge.proofs.Sums.CacheLemmas.{sited_ahead, shows_sited}
+use Rattle.domain.specs.FactInCode.{fact_in_code, rules_of}
+use Rattle.judge.proofs.CacheLemmas.{sited_ahead, shows_sited}
 use Rattle.judge.proofs.cache.FactCache.look_ahead.Goals as goal
 
 pub returns-then-turn_to-clause-ahead : goal.returns-then-turn_to-clause-ahead

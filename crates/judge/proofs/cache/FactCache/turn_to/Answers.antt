@@ -1,6 +1,6 @@
 use Rattle.std.proofs.Common.{refl}
-use Rattle.domain.specs.Sums.Brief.{brief_words}
-use Rattle.judge.proofs.Sums.CacheLemmas.{as_claimed, shape_claimed, shows_sited}
+use Rattle.domain.specs.Brief.{brief_words}
+use Rattle.judge.proofs.CacheLemmas.{as_claimed, shape_claimed, shows_sited}
 use Rattle.judge.proofs.cache.FactCache.turn_to.Goals as goal
 
 pub returns-then-is_of-clause-alone : goal.returns-then-is_of-clause-alone

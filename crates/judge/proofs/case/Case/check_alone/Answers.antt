@@ -1,9 +1,9 @@
 use Rattle.std.proofs.Common.{ap, length, subst, arith}
-use Rattle.domain.specs.Sums.FactInCode.{fact_in_code}
+use Rattle.domain.specs.FactInCode.{fact_in_code}
 use Rattle.domain.specs.declared.sum_fact.SumFact.{SumFact}
-use Rattle.judge.specs.Sums.Asked.{IsLeastOf}
-use Rattle.judge.specs.Sums.Judged.{case_kept}
-use Rattle.judge.proofs.Sums.AskedLemmas.{least_alone}
+use Rattle.judge.specs.Asked.{IsLeastOf}
+use Rattle.judge.specs.Judged.{case_kept}
+use Rattle.judge.proofs.AskedLemmas.{least_alone}
 use Rattle.judge.proofs.case.Case.check_alone.Goals as goal
 
 pub tell-requires-clause-some : goal.tell-requires-clause-some

@@ -1,10 +1,10 @@
 use Rattle.std.proofs.Common.{refl, ap}
 use Rattle.wordset.specs.Lanes.{words}
-use Rattle.domain.specs.Sums.FactInCode.{fact_in_code, rules_of}
-use Rattle.judge.specs.Sums.Judged.{case_kept}
-use Rattle.judge.specs.Sums.Points.{case_of}
-use Rattle.judge.proofs.Sums.SourceLemmas.{sited_from}
-use Rattle.judge.proofs.Sums.CaseLemmas.{not_asked, is_asked, same_point}
+use Rattle.domain.specs.FactInCode.{fact_in_code, rules_of}
+use Rattle.judge.specs.Judged.{case_kept}
+use Rattle.judge.specs.Points.{case_of}
+use Rattle.judge.proofs.SourceLemmas.{sited_from}
+use Rattle.judge.proofs.CaseLemmas.{not_asked, is_asked, same_point}
 use Rattle.judge.proofs.case.Case.check_claimed.Goals as goal
 
 pub put_asked-requires : goal.put_asked-requires

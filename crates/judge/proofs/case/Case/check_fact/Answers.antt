@@ -1,7 +1,7 @@
 use Rattle.std.proofs.Common.{subst}
-use Rattle.domain.specs.Sums.Facts.{Fact}
-use Rattle.judge.specs.Sums.Asked.{IsLeastOf}
-use Rattle.judge.specs.Sums.Judged.{case_kept}
+use Rattle.domain.specs.Facts.{Fact}
+use Rattle.judge.specs.Asked.{IsLeastOf}
+use Rattle.judge.specs.Judged.{case_kept}
 use Rattle.judge.proofs.case.Case.check_fact.Goals as goal
 
 pub returns : goal.returns

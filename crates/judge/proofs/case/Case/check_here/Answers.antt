@@ -1,6 +1,6 @@
 use Rattle.std.proofs.Common.{ap, length, arith}
-use Rattle.judge.specs.Sums.Judged.{case_kept}
-use Rattle.judge.proofs.Sums.LineLemmas.{no_body}
+use Rattle.judge.specs.Judged.{case_kept}
+use Rattle.judge.proofs.LineLemmas.{no_body}
 use Rattle.judge.proofs.case.Case.check_here.Goals as goal
 
 pub returns-then-not-finds_body-clause-checked : goal.returns-then-not-finds_body-clause-checked

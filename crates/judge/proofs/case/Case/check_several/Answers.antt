@@ -1,6 +1,6 @@
 use Rattle.std.proofs.Common.{arith}
-use Rattle.judge.specs.Sums.Judged.{case_kept}
-use Rattle.judge.proofs.Sums.LineLemmas.{no_body}
+use Rattle.judge.specs.Judged.{case_kept}
+use Rattle.judge.proofs.LineLemmas.{no_body}
 use Rattle.judge.proofs.case.Case.check_several.Goals as goal
 
 pub returns-then-not-finds_body-clause-checked : goal.returns-then-not-finds_body-clause-checked

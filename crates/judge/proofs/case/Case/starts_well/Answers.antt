@@ -1,13 +1,13 @@
 use Rattle.std.specs.Prelude.{IsTrue, ◌↔◌, List}
 use Rattle.std.proofs.Common.{None, ap, subst}
-use Rattle.domain.specs.Sums.Facts.{Place, Fact}
-use Rattle.facts.specs.Sums.Entailment.{Lands}
-use Rattle.facts.specs.Sums.Starts.{start_fact}
+use Rattle.domain.specs.Facts.{Place, Fact}
+use Rattle.facts.specs.Entailment.{Lands}
+use Rattle.facts.specs.Starts.{start_fact}
 use Rattle.wordset.specs.Words.{Words}
 use Rattle.wordset.specs.Lanes.{words}
-use Rattle.judge.specs.Sums.Landing.{place_in, sited}
-use Rattle.judge.specs.Sums.Judged.{case_kept}
-use Rattle.judge.proofs.Sums.LineLemmas.{start_iff, start_place}
+use Rattle.judge.specs.Landing.{place_in, sited}
+use Rattle.judge.specs.Judged.{case_kept}
+use Rattle.judge.proofs.LineLemmas.{start_iff, start_place}
 use Rattle.judge.proofs.case.Case.starts_well.Goals as goal
 
 pub returns-clause-starts : goal.returns-clause-starts

@@ -1,6 +1,6 @@
 use Rattle.std.proofs.Common.{arith}
-use Rattle.judge.specs.Sums.Judged.{case_kept}
-use Rattle.judge.proofs.Sums.LineLemmas.{some_not_placed, all_hold_here, one_fails_here}
+use Rattle.judge.specs.Judged.{case_kept}
+use Rattle.judge.proofs.LineLemmas.{some_not_placed, all_hold_here, one_fails_here}
 use Rattle.judge.proofs.case.Case.tell.Goals as goal
 
 pub returns-then-place-eq-OF_LINES : goal.returns-then-place-eq-OF_LINES

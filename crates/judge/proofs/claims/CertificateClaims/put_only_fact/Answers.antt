@@ -1,4 +1,4 @@
-use Rattle.judge.proofs.Sums.ClaimsLemmas.{none_there, one_there, two_there, has_shape_too}
+use Rattle.judge.proofs.ClaimsLemmas.{none_there, one_there, two_there, has_shape_too}
 use Rattle.judge.proofs.claims.CertificateClaims.put_only_fact.Goals as goal
 
 pub returns-then-not-next_fact : goal.returns-then-not-next_fact

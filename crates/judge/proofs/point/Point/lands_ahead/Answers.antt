@@ -1,13 +1,13 @@
 use Rattle.std.proofs.Common.{subst}
 use Rattle.std.specs.Prelude.{IsTrue, ◌↔◌}
 use Rattle.wordset.specs.Lanes.{words}
-use Rattle.domain.specs.Sums.Facts.{Place}
-use Rattle.domain.specs.Sums.FactInCode.{fact_in_code}
+use Rattle.domain.specs.Facts.{Place}
+use Rattle.domain.specs.FactInCode.{fact_in_code}
 use Rattle.domain.specs.declared.sum_fact.SumFact.{SumFact}
-use Rattle.facts.specs.Sums.PlaceInCode.{place_in_code}
-use Rattle.facts.specs.Sums.Entailment.{Entails}
-use Rattle.judge.specs.Sums.Points.{case_of}
-use Rattle.judge.proofs.Sums.PointLemmas.{same_place, lands_alone, lands_nowhere}
+use Rattle.facts.specs.PlaceInCode.{place_in_code}
+use Rattle.facts.specs.Entailment.{Entails}
+use Rattle.judge.specs.Points.{case_of}
+use Rattle.judge.proofs.PointLemmas.{same_place, lands_alone, lands_nowhere}
 use Rattle.judge.proofs.point.Point.lands_ahead.Goals as goal
 
 pub returns-then-not-is_inside : goal.returns-then-not-is_inside

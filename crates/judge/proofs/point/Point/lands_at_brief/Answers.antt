@@ -1,8 +1,8 @@
-use Rattle.domain.specs.Sums.Brief.{brief_words}
-use Rattle.domain.specs.Sums.FactInCode.{fact_in_code}
+use Rattle.domain.specs.Brief.{brief_words}
+use Rattle.domain.specs.FactInCode.{fact_in_code}
 use Rattle.std.proofs.Common.{◌∙◌, sym}
-use Rattle.judge.specs.Sums.Points.{case_of}
-use Rattle.judge.proofs.Sums.PointLemmas.{lands_at_one}
+use Rattle.judge.specs.Points.{case_of}
+use Rattle.judge.proofs.PointLemmas.{lands_at_one}
 use Rattle.judge.proofs.point.Point.lands_at_brief.Goals as goal
 
 pub returns-in-Some : goal.returns-in-Some

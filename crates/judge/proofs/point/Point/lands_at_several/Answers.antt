@@ -1,9 +1,9 @@
 use Rattle.std.proofs.Common.{ℕ, ◌≡◌, ◌<◌, true, subst}
 use Rattle.std.specs.Prelude.{IsTrue, ◌↔◌}
 use Rattle.wordset.specs.Words.{Words}
-use Rattle.domain.specs.Sums.FactInCode.{fact_in_code}
-use Rattle.judge.specs.Sums.Landing.{LandsAt}
-use Rattle.judge.specs.Sums.Points.{case_of}
+use Rattle.domain.specs.FactInCode.{fact_in_code}
+use Rattle.judge.specs.Landing.{LandsAt}
+use Rattle.judge.specs.Points.{case_of}
 use Rattle.judge.proofs.point.Point.lands_at_several.Goals as goal
 
 pub returns : goal.returns

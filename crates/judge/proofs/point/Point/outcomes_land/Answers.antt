@@ -1,12 +1,12 @@
 use Rattle.std.specs.Prelude.{IsTrue, ◌↔◌, List}
-use Rattle.facts.specs.Sums.Outcomes.{Successor}
-use Rattle.facts.specs.Sums.Operations.{outcomes_of}
-use Rattle.facts.specs.Sums.PlaceInCode.{meaning_in}
-use Rattle.judge.specs.Sums.Landing.{EachSuccessor, SuccessorLands}
+use Rattle.facts.specs.Outcomes.{Successor}
+use Rattle.facts.specs.Operations.{outcomes_of}
+use Rattle.facts.specs.PlaceInCode.{meaning_in}
+use Rattle.judge.specs.Landing.{EachSuccessor, SuccessorLands}
 use Rattle.std.proofs.Common.{sym, ◌∙◌, subst}
 use Rattle.instruct.specs.Instructions.{meaning_of}
-use Rattle.judge.specs.Sums.Points.{case_of, fact_asked}
-use Rattle.judge.proofs.Sums.PointLemmas.{meant, calls_land}
+use Rattle.judge.specs.Points.{case_of, fact_asked}
+use Rattle.judge.proofs.PointLemmas.{meant, calls_land}
 use Rattle.judge.proofs.point.Point.outcomes_land.Goals as goal
 
 pub returns-then-is_call : goal.returns-then-is_call

@@ -18,7 +18,9 @@ _pdp8() {
             return
             ;;
         --certificate)
-            COMPREPLY=($(compgen -W '2 3' -- "$word"))
+            local versions='1 2 3'
+            [ "${COMP_WORDS[1]}" = migrate ] && versions='2 3'
+            COMPREPLY=($(compgen -W "$versions" -- "$word"))
             return
             ;;
         --start | --steps | --continue | --seed | --save | --switches | --show | --until | --until-write | --until-read | --last)
@@ -32,15 +34,15 @@ _pdp8() {
             ;;
         verify) options='--source --start --profile --steps --seed --save --force --why --help' ;;
         assemble) options='--output --profile --why --help' ;;
-        list) options='--profile --why --help' ;;
+        list) options='--cross --profile --why --help' ;;
         source) options='--output --start --declaration --profile --force --why --help' ;;
-        dump) options='--profile --why --help' ;;
-        run) options='--start --steps --trace --profile --events --reader --punch --keys --mark --teletype --switches --until --until-write --until-read --last --show --why --help' ;;
-        teletype) options='--start --profile --reader --punch --switches --mark --raw --show --why --help' ;;
+        dump) options='--source --profile --why --help' ;;
+        run) options='--source --start --steps --trace --profile --events --reader --punch --keys --mark --teletype --switches --until --until-write --until-read --last --show --why --help' ;;
+        teletype) options='--source --start --profile --reader --punch --switches --mark --raw --show --why --help' ;;
         watch) options='--source --reader --keys --mark --switches --steps --continue --show --why --help' ;;
         check) options='--source --why --help' ;;
         report) options='--output --source --text --why --help' ;;
-        guess) options='--output --source --report --why --help' ;;
+        guess) options='--output --source --certificate --report --why --help' ;;
         refute) options='--output --source --steps --seed --why --help' ;;
         declare) options='--output --source --from --start --reads --profile --why --help' ;;
         place) options='--output --declaration --why --help' ;;

@@ -1,10 +1,10 @@
 -- A draft's lines, address by address.
 use Rattle.std.proofs.Common.{◌≡◌, ℕ, ◌<◌, ◌+◌, Bool, true, false, List, [], inl, inr, refl, ap, sym, ◌∙◌, subst, arith}
 use Rattle.std.proofs.lemmas.Bool.{cases_eq}
-use Rattle.domain.specs.Sums.Facts.{Fact}
+use Rattle.domain.specs.Facts.{Fact}
 use Rattle.declaration.specs.Declaration.{Declaration}
-use Rattle.certificate.specs.Sums.Certificate.{Certificate, has_any}
-use Rattle.certificate.specs.Sums.Kept.{Follows}
+use Rattle.certificate.specs.Certificate.{Certificate, has_any}
+use Rattle.certificate.specs.Kept.{Follows}
 use Rattle.analyser.specs.Attempts.{IsInSomeBody, StandsRight}
 
 -- What holds below a number and at it holds below the next.

@@ -3,9 +3,9 @@ use Rattle.std.specs.Prelude.{ℕ, List, Option}
 use Rattle.peripherals.specs.Loading.{image_of}
 use Rattle.declaration.specs.Kept as declared
 use Rattle.policy.specs.Runs.{IsSafe}
-use Rattle.certificate.specs.Sums.Kept as certified
-use Rattle.judge.specs.Sums.Conditions.{IsValid}
-use Rattle.judge.specs.Sums.Judged.{judged}
+use Rattle.certificate.specs.Kept as certified
+use Rattle.judge.specs.Conditions.{IsValid}
+use Rattle.judge.specs.Judged.{judged}
 
 -- The judge accepts the certificate, for a tape's words and a declaration: every condition holds of it, and so the program
 -- is safe.

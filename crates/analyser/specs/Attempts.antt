@@ -2,9 +2,11 @@
 use Rattle.std.specs.Prelude.{◌≡◌, ◌<◌, ℕ, ⊤, true, List, Option}
 use Rattle.declaration.specs.Declaration.{Declaration, Routine}
 use Rattle.declaration.specs.Kept as declared
-use Rattle.certificate.specs.Sums.Certificate.{Certificate, has_any, has_exits}
-use Rattle.certificate.specs.Sums.Kept.{Kept, claims}
+use Rattle.certificate.specs.Certificate.{Certificate, has_any, has_exits}
+use Rattle.certificate.specs.Kept.{Kept, claims, meaning}
+use Rattle.instruct.specs.declared.Profile.{Profile}
 use Rattle.analyser.specs.Accepted.{IsAccepted}
+use Rattle.analyser.specs.Versions.{version_of, IsVersionFor}
 use Rattle.analyser.specs.declared.Attempt.{Attempt}
 use Rattle.analyser.specs.declared.Attempt.TheVariants.{Found, Stuck}
 
@@ -37,3 +39,8 @@ pub record IsDraft (d : Declaration) (at : ℕ) (c : Certificate) : Type 0 where
 abbrev pub IsDraftIfStuck : {A : Type 0} → Declaration → Attempt A → Type 0
 IsDraftIfStuck d (Found c) = ⊤
 IsDraftIfStuck d (Stuck at c) = IsDraft d at (claims c)
+
+-- What was found is of the version of the machine or of version 3, and a draft is of the former.
+abbrev pub HasVersionFor : {A : Type 0} → Profile → Attempt A → Type 0
+HasVersionFor p (Found c) = IsVersionFor p (meaning c).version
+HasVersionFor p (Stuck at c) = (meaning c).version ≡ version_of p

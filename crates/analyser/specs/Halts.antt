@@ -1,8 +1,8 @@
 -- What is told where the judge does not accept what was found; it serves private contracts.
 use Rattle.std.specs.Prelude.{ℕ}
 use Rattle.facts.specs.declared.Condition.{Condition}
-use Rattle.judge.specs.Sums.Landing.{Case}
-use Rattle.judge.specs.Sums.Conditions.{IsFirst}
+use Rattle.judge.specs.Landing.{Case}
+use Rattle.judge.specs.Conditions.{IsFirst}
 use Rattle.turns.specs.declared.GuessFault.{GuessFault}
 use Rattle.turns.specs.declared.GuessFault.TheVariants as fault
 

@@ -3,21 +3,23 @@
 
 ghost use Rattle.std.specs.Prelude.{◌≡◌, ◌≢◌, ◌≤◌, IfErr, IfOk};
 ghost use Rattle.declaration.specs.Kept.{meaning as declared};
-ghost use Rattle.certificate.specs.Sums.Kept.{claims, meaning};
-ghost use Rattle.certificate.specs.Sums.Exact.{AreLines};
-ghost use Rattle.judge.specs.Sums.Judged.{judged};
+ghost use Rattle.certificate.specs.Kept.{claims, meaning};
+ghost use Rattle.certificate.specs.Exact.{AreLines};
+ghost use Rattle.judge.specs.Judged.{judged};
 ghost use Rattle.turns.specs.Counts.{IsSpentUp};
 ghost use Rattle.turns.specs.declared.GuessFault.TheVariants.{TurnsSpent};
 ghost use Rattle.analyser.specs.Accepted.{IsAccepted};
-ghost use Rattle.analyser.specs.Attempts.{IsAcceptedIfFound, IsDraftIfStuck, claimed_by};
+ghost use Rattle.analyser.specs.Attempts.{HasVersionFor, IsAcceptedIfFound, IsDraftIfStuck, claimed_by};
 ghost use Rattle.analyser.specs.Halts.{IsRefused};
-ghost use Rattle.analyser.specs.Versions.{version_of};
+ghost use Rattle.analyser.specs.Versions.{IsVersionFor, version_of};
 
 mod draft;
 mod length;
+mod sums;
 
 use crate::draft::is_draft;
 use crate::length::is_short;
+use crate::sums::found_by_sums;
 use bin_tape::Image;
 use certificate::{Certificate, Version};
 use declaration::Declaration;
@@ -39,6 +41,13 @@ pub enum Attempt<A: Allocator> {
     /// At this address an instruction was met that the judge would refuse. The draft has what was
     /// found until then, and lacks what was not come to.
     Stuck(Word, Certificate<A>),
+}
+
+impl<A: Allocator> Attempt<A> {
+    /// Whether a certificate is found.
+    fn is_found(&self) -> bool {
+        matches!(self, Attempt::Found(_))
+    }
 }
 
 /// The version of the certificates for a machine.
@@ -127,6 +136,39 @@ fn found_within<A: Allocator + Copy, D: Allocator>(
     }
 }
 
+/// What a search found, or where it is stuck a certificate of version 3, if one is found; else the fault of the first.
+fn or_by_sums<A: Allocator + Copy, D: Allocator>(
+    alloc: A,
+    image: &Image,
+    declaration: &Declaration<D>,
+    found: Result<Certificate<A>, GuessFault>,
+    turns: &mut Turns,
+) -> Result<Certificate<A>, GuessFault>
+    requires lines { IfOk found (λ c. AreLines (meaning c)) }
+    requires version { IfOk found (λ c. (meaning c).version ≡
+        version_of (declared declaration.now).profile) }
+    requires accepted { IfOk found (IsAccepted image.now declaration.now) }
+    requires spent { IfErr found (IsSpentUp turns.old) }
+    ensures lines { IfOk result (λ c. AreLines (meaning c)) }
+    ensures version { IfOk result (λ c. IsVersionFor
+        (declared declaration.now).profile (meaning c).version) }
+    ensures accepted { IfOk result (IsAccepted image.now declaration.now) }
+    ensures limit { turns.new.limit ≡ turns.old.limit }
+    ensures rises { turns.old.spent ≤ turns.new.spent }
+    ensures within { turns.new.spent ≤ turns.new.limit }
+    ensures spent { IfErr result (IsSpentUp turns.new) }
+{
+    turns.are_within();
+    let Err(GuessFault::Stuck(at)) = &found else {
+        return found;
+    };
+    match found_by_sums(alloc, image, declaration, turns) {
+        Ok(certificate) => Ok(certificate),
+        Err(GuessFault::NoMemory) => Err(GuessFault::NoMemory),
+        Err(_) => Err(GuessFault::Stuck(*at)),
+    }
+}
+
 /// The draft of a search that found nothing, if it is stuck and there is one; else its fault.
 fn drafted_by<A: Allocator + Copy, D: Allocator>(
     search: &mut Search<A>,
@@ -153,8 +195,8 @@ fn drafted_by<A: Allocator + Copy, D: Allocator>(
 
 /// Looks for facts, exits and written sets that show a tape's words safe under a declaration. What
 /// is found is a certificate that the judge accepts, of version 1 for a PDP-8/I and of version 2 for a
-/// PDP-8/E: no run of the program breaks the declaration. That one is found is not promised. A turn is
-/// one `post`, taken right before it.
+/// PDP-8/E, or of version 3 where none of these is found: no run of the program breaks the declaration. That
+/// one is found is not promised. A turn is one `post`, taken right before it.
 ///
 /// # Errors
 ///
@@ -170,8 +212,8 @@ pub fn guess_within<A: Allocator + Copy, D: Allocator>(
     // The judge accepts it, so the program is safe.
     ensures accepted { IfOk result (IsAccepted image.now declaration.now) }
     ensures lines { IfOk result (λ c. AreLines (meaning c)) }
-    ensures version { IfOk result (λ c. (meaning c).version ≡
-        version_of (declared declaration.now).profile) }
+    ensures version { IfOk result (λ c. IsVersionFor
+        (declared declaration.now).profile (meaning c).version) }
     ensures limit { turns.new.limit ≡ turns.old.limit }
     ensures rises { turns.old.spent ≤ turns.new.spent }
     ensures within { turns.new.spent ≤ turns.new.limit }
@@ -181,7 +223,8 @@ pub fn guess_within<A: Allocator + Copy, D: Allocator>(
     let program = AnalysedProgram::of(image, declaration, MANY_RUNS);
     let mut search = Search::new(alloc);
     let version = version_of(declaration.profile());
-    found_within(alloc, &mut search, &program, version, turns)
+    let found = found_within(alloc, &mut search, &program, version, turns);
+    or_by_sums(alloc, image, declaration, found, turns)
 }
 
 /// Looks for a guess within 2,000,000 turns, and tells how many were taken.
@@ -197,8 +240,8 @@ pub fn guess_counted<A: Allocator + Copy, D: Allocator>(
     // The judge accepts it, so the program is safe.
     ensures accepted { IfOk result.0 (IsAccepted image.now declaration.now) }
     ensures lines { IfOk result.0 (λ c. AreLines (meaning c)) }
-    ensures version { IfOk result.0 (λ c. (meaning c).version ≡
-        version_of (declared declaration.now).profile) }
+    ensures version { IfOk result.0 (λ c. IsVersionFor
+        (declared declaration.now).profile (meaning c).version) }
     // There are 2,000,000 turns, and only where all are spent is it told that they are.
     ensures limit { result.1.limit ≡ 2000000 }
     ensures within { result.1.spent ≤ result.1.limit }
@@ -222,8 +265,8 @@ pub fn guess<A: Allocator + Copy, D: Allocator>(
     // The judge accepts it, so the program is safe.
     ensures accepted { IfOk result (IsAccepted image.now declaration.now) }
     ensures lines { IfOk result (λ c. AreLines (meaning c)) }
-    ensures version { IfOk result (λ c. (meaning c).version ≡
-        version_of (declared declaration.now).profile) }
+    ensures version { IfOk result (λ c. IsVersionFor
+        (declared declaration.now).profile (meaning c).version) }
 {
     let (found, _turns) = guess_counted(alloc, image, declaration);
     found
@@ -247,8 +290,8 @@ pub fn guess_or_draft_within<A: Allocator + Copy, D: Allocator>(
     // where it is stuck.
     ensures draft { IfOk result (IsDraftIfStuck (declared declaration.now)) }
     ensures lines { IfOk result (λ a. AreLines (meaning (claimed_by a))) }
-    ensures version { IfOk result (λ a. (meaning (claimed_by a)).version ≡
-        version_of (declared declaration.now).profile) }
+    ensures version { IfOk result (HasVersionFor
+        (declared declaration.now).profile) }
     ensures limit { turns.new.limit ≡ turns.old.limit }
     ensures rises { turns.old.spent ≤ turns.new.spent }
     ensures within { turns.new.spent ≤ turns.new.limit }
@@ -258,7 +301,8 @@ pub fn guess_or_draft_within<A: Allocator + Copy, D: Allocator>(
     let program = AnalysedProgram::of(image, declaration, MANY_RUNS);
     let mut search = Search::new(alloc);
     let version = version_of(declaration.profile());
-    match found_within(alloc, &mut search, &program, version, turns) {
+    let found = found_within(alloc, &mut search, &program, version, turns);
+    match or_by_sums(alloc, image, declaration, found, turns) {
         Ok(certificate) => Ok(Attempt::Found(certificate)),
         Err(fault) => drafted_by(&mut search, &program, version, &fault),
     }
@@ -280,8 +324,8 @@ pub fn guess_or_draft_counted<A: Allocator + Copy, D: Allocator>(
     // where it is stuck.
     ensures draft { IfOk result.0 (IsDraftIfStuck (declared declaration.now)) }
     ensures lines { IfOk result.0 (λ a. AreLines (meaning (claimed_by a))) }
-    ensures version { IfOk result.0 (λ a. (meaning (claimed_by a)).version ≡
-        version_of (declared declaration.now).profile) }
+    ensures version { IfOk result.0 (HasVersionFor
+        (declared declaration.now).profile) }
     // There are 2,000,000 turns, and only where all are spent is it told that they are.
     ensures limit { result.1.limit ≡ 2000000 }
     ensures within { result.1.spent ≤ result.1.limit }
@@ -308,9 +352,108 @@ pub fn guess_or_draft<A: Allocator + Copy, D: Allocator>(
     // where it is stuck.
     ensures draft { IfOk result (IsDraftIfStuck (declared declaration.now)) }
     ensures lines { IfOk result (λ a. AreLines (meaning (claimed_by a))) }
-    ensures version { IfOk result (λ a. (meaning (claimed_by a)).version ≡
-        version_of (declared declaration.now).profile) }
+    ensures version { IfOk result (HasVersionFor
+        (declared declaration.now).profile) }
 {
     let (attempt, _turns) = guess_or_draft_counted(alloc, image, declaration);
     attempt
+}
+
+/// Looks for a certificate of one version within 2,000,000 turns.
+///
+/// # Errors
+///
+/// As `guess_within`.
+pub fn guess_version<A: Allocator + Copy, D: Allocator>(
+    alloc: A,
+    image: &Image,
+    declaration: &Declaration<D>,
+    version: Version,
+) -> Result<Certificate<A>, GuessFault>
+    // The judge accepts it, so the program is safe.
+    ensures accepted { IfOk result (IsAccepted image.now declaration.now) }
+    ensures lines { IfOk result (λ c. AreLines (meaning c)) }
+    ensures version { IfOk result (λ c. (meaning c).version ≡ version) }
+{
+    let mut turns = Turns::new(MOST_TURNS);
+    if version == Version::Three {
+        return found_by_sums(alloc, image, declaration, &mut turns);
+    }
+    let program = AnalysedProgram::of(image, declaration, MANY_RUNS);
+    let mut search = Search::new(alloc);
+    found_within(alloc, &mut search, &program, version, &mut turns)
+}
+
+/// Looks for a certificate of version 1 or 2, or for the draft of one where the search is stuck.
+fn found_or_drafted<A: Allocator + Copy, D: Allocator>(
+    alloc: A,
+    image: &Image,
+    declaration: &Declaration<D>,
+    version: Version,
+    turns: &mut Turns,
+) -> Result<Attempt<A>, GuessFault>
+    ensures accepted { IfOk result (IsAcceptedIfFound image.now declaration.now) }
+    ensures draft { IfOk result (IsDraftIfStuck (declared declaration.now)) }
+    ensures lines { IfOk result (λ a. AreLines (meaning (claimed_by a))) }
+    ensures version { IfOk result (λ a. (meaning (claimed_by a)).version ≡ version) }
+{
+    let program = AnalysedProgram::of(image, declaration, MANY_RUNS);
+    let mut search = Search::new(alloc);
+    match found_within(alloc, &mut search, &program, version, turns) {
+        Ok(certificate) => Ok(Attempt::Found(certificate)),
+        Err(fault) => drafted_by(&mut search, &program, version, &fault),
+    }
+}
+
+/// The draft of the search for a certificate in the version of the machine, where a search for one of version 3 is stuck. Where
+/// the former finds a certificate, and for any other fault of the latter, this fault is told.
+fn drafted<A: Allocator + Copy, D: Allocator>(
+    alloc: A,
+    image: &Image,
+    declaration: &Declaration<D>,
+    fault: &GuessFault,
+    turns: &mut Turns,
+) -> Result<Attempt<A>, GuessFault>
+    ensures accepted { IfOk result (IsAcceptedIfFound image.now declaration.now) }
+    ensures draft { IfOk result (IsDraftIfStuck (declared declaration.now)) }
+    ensures lines { IfOk result (λ a. AreLines (meaning (claimed_by a))) }
+{
+    let GuessFault::Stuck(_) = fault else {
+        return Err(*fault);
+    };
+    let version = version_of(declaration.profile());
+    let attempt = found_or_drafted(alloc, image, declaration, version, turns)?;
+    if attempt.is_found() {
+        return Err(*fault);
+    }
+    Ok(attempt)
+}
+
+/// Looks for a certificate of one version as `guess_version` does, and gives a draft of one where it is stuck: in version 3 that
+/// of the search for a certificate in the version of the machine, if this is stuck too.
+///
+/// # Errors
+///
+/// As `guess_or_draft_within`.
+pub fn guess_version_or_draft<A: Allocator + Copy, D: Allocator>(
+    alloc: A,
+    image: &Image,
+    declaration: &Declaration<D>,
+    version: Version,
+) -> Result<Attempt<A>, GuessFault>
+    // The judge accepts what is found.
+    ensures accepted { IfOk result (IsAcceptedIfFound image.now declaration.now) }
+    // A draft's facts stand in bodies and its routine and exit lines at entries, and it has a fact
+    // where it is stuck.
+    ensures draft { IfOk result (IsDraftIfStuck (declared declaration.now)) }
+    ensures lines { IfOk result (λ a. AreLines (meaning (claimed_by a))) }
+{
+    let mut turns = Turns::new(MOST_TURNS);
+    if version != Version::Three {
+        return found_or_drafted(alloc, image, declaration, version, &mut turns);
+    }
+    match found_by_sums(alloc, image, declaration, &mut turns) {
+        Ok(certificate) => Ok(Attempt::Found(certificate)),
+        Err(fault) => drafted(alloc, image, declaration, &fault, &mut turns),
+    }
 }

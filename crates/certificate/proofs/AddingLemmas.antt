@@ -2,7 +2,7 @@
 use Rattle.std.proofs.Common.{◌≡◌, ℕ, ◌+◌, ◌≤◌, List, [], ◌∷◌, length, get_or, refl, ap, ◌∙◌, arith}
 use Rattle.wordset.specs.Words.{between}
 use Rattle.certificate.specs.declared.runs.Run.{Run}
-use Rattle.certificate.specs.Packed.{set_of_runs}
+use Rattle.certificate.specs.Runs.{set_of_runs}
 use Rattle.std.specs.Prelude.{◌<◌, ◌-◌, take, slice_range}
 use Rattle.std.proofs.lemmas.List.{drop_more}
 use Rattle.certificate.proofs.PackedLemmas.{one_run}

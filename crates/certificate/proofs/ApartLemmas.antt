@@ -7,9 +7,9 @@ use Rattle.std.proofs.Math.Bool.{or-false, or_assoc}
 use Rattle.wordset.specs.Words.{Words, nothing, between, union, difference, all_words, IsFirstFrom, HasNoneFrom}
 use Rattle.wordset.specs.Lanes.{words}
 use Rattle.certificate.specs.declared.runs.Run.{Run}
-use Rattle.certificate.specs.Fields.{run_text}
-use Rattle.certificate.specs.Spelled.{IsLastOf}
-use Rattle.certificate.specs.Packed.{joined, set_of_runs, added, StandApart}
+use Rattle.certificate.specs.FieldsLeft.{run_text}
+use Rattle.certificate.specs.LineText.{IsLastOf}
+use Rattle.certificate.specs.Runs.{joined, set_of_runs, added, StandApart}
 use Rattle.certificate.proofs.PackedLemmas.{joined_more, or_with, in_between, below_between, above_between, still_in, set_is}
 
 -- The text of runs: each one after the first has a comma before it.

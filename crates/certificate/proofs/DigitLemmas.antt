@@ -6,9 +6,9 @@ use Rattle.std.proofs.lemmas.Bool.{true≢false, false≢true, eq-eqb, ne_eqb, c
 use Rattle.std.proofs.Math.Bool.{and-true, and-false, or-false}
 use Rattle.wordset.specs.Words.{Words, nothing, some_below}
 use Rattle.wordset.proofs.Tests.{some_none_of, none_of_some}
-use Rattle.certificate.specs.Reading.{EndsBefore}
-use Rattle.certificate.specs.Spelling.{digits, offsets_text}
-use Rattle.certificate.specs.Fields.{EndsField}
+use Rattle.certificate.specs.RisingLists.{EndsBefore}
+use Rattle.certificate.specs.FieldSpelling.{digits, offsets_text}
+use Rattle.certificate.specs.FieldsLeft.{EndsField}
 
 -- What is written at one number, and at k numbers from n on.
 abbrev pub digit_at : Words → ℕ → List ℕ

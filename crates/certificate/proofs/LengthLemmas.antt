@@ -4,12 +4,12 @@ use Rattle.std.specs.Prelude.{if◌then◌else◌, codes}
 use Rattle.std.proofs.lemmas.Bool.{false≢true, eq-eqb, ne_eqb, cases_lt, cases_Bool}
 use Rattle.word12.specs.Words.{octal_text}
 use Rattle.wordset.specs.Words.{Words}
-use Rattle.domain.specs.Facts.{Location, Ac, Cell}
+use Rattle.domain.specs.Locations.{Location, Ac, Cell}
 use Rattle.certificate.specs.declared.runs.Run.{Run}
-use Rattle.certificate.specs.Spelling.{digits, set_text, name_text, rank_text}
-use Rattle.certificate.specs.Fields.{run_text}
-use Rattle.certificate.specs.Parser.{NoFeed}
-use Rattle.certificate.specs.Packed.{StandApart}
+use Rattle.certificate.specs.FieldSpelling.{digits, set_text, name_text, rank_text}
+use Rattle.certificate.specs.FieldsLeft.{run_text}
+use Rattle.certificate.specs.LineFeeds.{NoFeed}
+use Rattle.certificate.specs.Runs.{StandApart}
 use Rattle.certificate.proofs.ApartLemmas.{more_text}
 use Rattle.certificate.proofs.SetLemmas.{by_words, empty_text}
 

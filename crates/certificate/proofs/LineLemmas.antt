@@ -2,8 +2,8 @@
 use Rattle.std.proofs.Common.{◌≡◌, ◌≢◌, ℕ, ◌+◌, Bool, true, false, List, [], ◌++◌, ap, ◌∙◌, sym, append_assoc, append-nil}
 use Rattle.std.specs.Prelude.{if◌then◌else◌, codes, Option, Some, None, IfSome}
 use Rattle.word12.specs.Words.{octal_text}
-use Rattle.domain.specs.Statements.{TrackedCell}
-use Rattle.certificate.specs.Spelling.{RoutineLine, set_text, rank_text, routine_line, cell_line}
+use Rattle.domain.specs.TrackedCells.{TrackedCell}
+use Rattle.certificate.specs.FieldSpelling.{RoutineLine, set_text, rank_text, routine_line, cell_line}
 
 pub routine_fields : (r : RoutineLine) → routine_line r ≡
     codes "routine " ++ (octal_text r.entry ++ (codes " rank " ++ (rank_text r.rank ++ (codes " sites " ++ (set_text r.sites ++

@@ -13,13 +13,13 @@ use Rattle.std.proofs.lemmas.Slice.Eq.{bytes_eq-Decides}
 use Rattle.word12.specs.Words.{octal_text}
 use Rattle.word12.specs.Octal.{octal_value}
 use Rattle.wordset.specs.Words.{Words, nothing, between, some_below}
-use Rattle.domain.specs.Facts.{Location, Ac, Cell}
+use Rattle.domain.specs.Locations.{Location, Ac, Cell}
 use Rattle.certificate.specs.declared.runs.Run.{Run}
-use Rattle.certificate.specs.Spelling.{Registers, digits, set_text, offsets_text, name_text, rank_text}
-use Rattle.certificate.specs.Reading.{Each, EndsBefore, IsOfLinks}
-use Rattle.certificate.specs.Fields.{run_text}
-use Rattle.certificate.specs.Packed.{joined, StandApart}
-use Rattle.certificate.specs.LineOf.{run_of, in_runs, set_of, has_digit, offsets_in, links_in}
+use Rattle.certificate.specs.FieldSpelling.{Registers, digits, set_text, offsets_text, name_text, rank_text}
+use Rattle.certificate.specs.RisingLists.{Each, EndsBefore, IsOfLinks}
+use Rattle.certificate.specs.FieldsLeft.{run_text}
+use Rattle.certificate.specs.Runs.{joined, StandApart}
+use Rattle.certificate.specs.LineWords.{run_of, in_runs, set_of, has_digit, offsets_in, links_in}
 use Rattle.certificate.proofs.ApartLemmas.{more_text, runs_text, first_or}
 use Rattle.certificate.proofs.PackedLemmas.{runs_within, or_with}
 use Rattle.certificate.proofs.SetLemmas.{Full, by_words, empty_text}

@@ -5,14 +5,14 @@ use Rattle.std.specs.Option.{IsSomeAnd}
 use Rattle.std.proofs.lemmas.Bool.{true≢false, false≢true, cases_lt, cases_Bool, le-ltb}
 use Rattle.wordset.specs.Words.{Words, nothing, some_below}
 use Rattle.wordset.proofs.Tests.{some_from, some_none_of}
-use Rattle.domain.specs.Sums.Offsets.{offsets_in}
+use Rattle.domain.specs.Offsets.{offsets_in}
 use Rattle.domain.specs.declared.return_offsets.ReturnOffsets.{ReturnOffsets}
-use Rattle.certificate.specs.Reading.{EndsBefore}
-use Rattle.certificate.specs.Fields.{NoDash, EndsField}
+use Rattle.certificate.specs.RisingLists.{EndsBefore}
+use Rattle.certificate.specs.FieldsLeft.{NoDash, EndsField}
 use Rattle.certificate.specs.declared.runs.Run.{Run}
-use Rattle.certificate.specs.Packed.{joined, StandApart}
-use Rattle.certificate.specs.Sums.Fields.{offset_run_text, offset_set_text, with_run}
-use Rattle.certificate.specs.Sums.Spelling.{offset_marks}
+use Rattle.certificate.specs.Runs.{joined, StandApart}
+use Rattle.certificate.specs.Fields.{offset_run_text, offset_set_text, with_run}
+use Rattle.certificate.specs.Spelling.{offset_marks}
 use Rattle.certificate.proofs.PackedLemmas.{joined_more}
 use Rattle.certificate.proofs.DigitLemmas.{at_some}
 use Rattle.certificate.proofs.ApartLemmas.{run_is, in_first}

@@ -6,11 +6,11 @@ use Rattle.std.proofs.Math.Bool.{and-false, or-true}
 use Rattle.wordset.specs.Words.{Words, nothing, some_below}
 use Rattle.wordset.proofs.Tests.{some_from, some_none_of}
 use Rattle.certificate.specs.declared.runs.Run.{Run}
-use Rattle.certificate.specs.Reading.{EndsBefore}
-use Rattle.certificate.specs.Spelling.{begins, ends, rank_text}
-use Rattle.certificate.specs.Packed.{joined, StandApart}
-use Rattle.certificate.specs.Sums.Spelling.{offset_mark, offset_marks}
-use Rattle.certificate.specs.Sums.Fields.{offset_run_text, offset_set_text}
+use Rattle.certificate.specs.RisingLists.{EndsBefore}
+use Rattle.certificate.specs.FieldSpelling.{begins, ends, rank_text}
+use Rattle.certificate.specs.Runs.{joined, StandApart}
+use Rattle.certificate.specs.Spelling.{offset_mark, offset_marks}
+use Rattle.certificate.specs.Fields.{offset_run_text, offset_set_text}
 use Rattle.certificate.proofs.ApartLemmas.{in_first, past_first, before_all, later}
 use Rattle.certificate.proofs.SetLemmas.{set_runs}
 

@@ -12,7 +12,7 @@ use Rattle.wordset.proofs.RangeLemmas.{all_between}
 use Rattle.certificate.specs.declared.runs.Run.{Run}
 use Rattle.certificate.specs.declared.runs.Counts.{Counts}
 use Rattle.certificate.specs.declared.runs.PackedRegisters.{PackedRegisters}
-use Rattle.certificate.specs.Packed.{Begins, joined, set_of_runs, added, set_at, one_at, other_at, registers_at, AreWithin, AreLaid}
+use Rattle.certificate.specs.Runs.{Begins, joined, set_of_runs, added, set_at, one_at, other_at, registers_at, AreWithin, AreLaid}
 
 -- A run more.
 pub joined_more : (t : Words) (rs : List Run) (r : Run) → joined t (rs ++ r ∷ []) ≡ union (joined t rs) (between r.first r.last)

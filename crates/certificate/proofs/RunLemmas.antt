@@ -5,10 +5,10 @@ use Rattle.std.specs.Prelude.{IfSome}
 use Rattle.std.specs.Option.{IsSomeAnd}
 use Rattle.std.proofs.lemmas.Bool.{false≢true}
 use Rattle.wordset.specs.Words.{Words, has_some}
-use Rattle.certificate.specs.Spelling.{marks, set_text}
-use Rattle.certificate.specs.Fields.{run_text, NoDash, EndsField}
+use Rattle.certificate.specs.FieldSpelling.{marks, set_text}
+use Rattle.certificate.specs.FieldsLeft.{run_text, NoDash, EndsField}
 use Rattle.certificate.specs.declared.runs.Run.{Run}
-use Rattle.certificate.specs.Packed.{Begins, set_of_runs, added, StandApart}
+use Rattle.certificate.specs.Runs.{Begins, set_of_runs, added, StandApart}
 use Rattle.certificate.proofs.PackedLemmas.{no_run}
 use Rattle.certificate.proofs.DigitLemmas.{at_some}
 use Rattle.certificate.proofs.ApartLemmas.{more_text, runs_text, few_apart, run_is}

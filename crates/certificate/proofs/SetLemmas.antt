@@ -7,9 +7,9 @@ use Rattle.word12.specs.Words.{octal_text}
 use Rattle.wordset.specs.Words.{Words, SameWords, nothing, some_below, has_some}
 use Rattle.wordset.proofs.Tests.{some_from, some_none_of, none_of_some}
 use Rattle.certificate.specs.declared.runs.Run.{Run}
-use Rattle.certificate.specs.Spelling.{begins, ends, mark, marks, set_text}
-use Rattle.certificate.specs.Fields.{run_text}
-use Rattle.certificate.specs.Packed.{joined, set_of_runs, StandApart}
+use Rattle.certificate.specs.FieldSpelling.{begins, ends, mark, marks, set_text}
+use Rattle.certificate.specs.FieldsLeft.{run_text}
+use Rattle.certificate.specs.Runs.{joined, set_of_runs, StandApart}
 use Rattle.certificate.proofs.PackedLemmas.{runs_within}
 use Rattle.certificate.proofs.ApartLemmas.{more_text, runs_text, in_first, past_first, before_all, later}
 

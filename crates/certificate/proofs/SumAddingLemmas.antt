@@ -4,18 +4,18 @@ use Rattle.std.proofs.lemmas.Bool.Decides.{nat_tests}
 use Rattle.std.proofs.lemmas.List.{map_push, take_more, take_all, drop_at, length-take-le, length-map}
 use Rattle.std.proofs.Math.Path.{fun_ext}
 use Rattle.wordset.specs.Words.{Words, nothing, between, one}
-use Rattle.domain.specs.Facts.{Location, Ac, Cell}
-use Rattle.domain.specs.Statements.{TrackedCell}
-use Rattle.domain.specs.Sums.Chains.{Chain, Step as SaidStep, longer}
-use Rattle.domain.specs.Sums.Facts.{Fact}
-use Rattle.domain.specs.Sums.ChainsInCode.{step_of}
-use Rattle.domain.specs.Sums.FactInCode.{names_words}
+use Rattle.domain.specs.Locations.{Location, Ac, Cell}
+use Rattle.domain.specs.TrackedCells.{TrackedCell}
+use Rattle.domain.specs.Chains.{Chain, Step as SaidStep, longer}
+use Rattle.domain.specs.Facts.{Fact}
+use Rattle.domain.specs.ChainsInCode.{step_of}
+use Rattle.domain.specs.FactInCode.{names_words}
 use Rattle.domain.specs.declared.chains.Step.{Step}
 use Rattle.certificate.specs.declared.runs.Run.{Run}
 use Rattle.certificate.specs.declared.runs.PackedRegisters.{PackedRegisters}
 use Rattle.wordset.specs.Links.{links_of}
-use Rattle.certificate.specs.Packed.{set_of_runs, added, set_at, registers_at}
-use Rattle.certificate.specs.Sums.Reading.{sets_of, fact_said}
+use Rattle.certificate.specs.Runs.{set_of_runs, added, set_at, registers_at}
+use Rattle.certificate.specs.Reading.{sets_of, fact_said}
 use Rattle.certificate.proofs.PackedLemmas.{no_run, one_run}
 use Rattle.certificate.proofs.SumPackedLemmas.{set_behind}
 

@@ -10,17 +10,17 @@ use Rattle.certificate.specs.declared.Version.{Version}
 use Rattle.certificate.specs.declared.Version.TheVariants.{One, Two, Three}
 use Rattle.certificate.specs.declared.CertificateFault.{CertificateFault}
 use Rattle.certificate.specs.declared.CertificateFault.TheVariants as faults
-use Rattle.certificate.specs.Spelling.{ended}
-use Rattle.certificate.specs.Faults.{most_bytes, pieces}
-use Rattle.certificate.specs.Serving.{is_of_bytes}
-use Rattle.certificate.specs.Parser.{NoFeed}
-use Rattle.certificate.specs.Sums.Lines.{Line, is_end}
-use Rattle.certificate.specs.Sums.Spelling.{line_text, version_text}
-use Rattle.certificate.specs.Sums.LineOf.{line_of}
-use Rattle.certificate.specs.Sums.Order.{may_stand, comes_in_order, has_room, oldest}
-use Rattle.certificate.specs.Sums.Reading.{Text, Progress, Start, After, Failed, begun, with_line, after_line, at_last, answer_from, reading}
-use Rattle.certificate.specs.Sums.Found.{AreInOrder, newest_first}
-use Rattle.certificate.specs.Sums.Serving.{Settles, AsksForMemory, after_lines, front}
+use Rattle.certificate.specs.FieldSpelling.{ended}
+use Rattle.certificate.specs.Pieces.{most_bytes, pieces}
+use Rattle.certificate.specs.ReadFaults.{is_of_bytes}
+use Rattle.certificate.specs.LineFeeds.{NoFeed}
+use Rattle.certificate.specs.Lines.{Line, is_end}
+use Rattle.certificate.specs.Spelling.{line_text, version_text}
+use Rattle.certificate.specs.LineOf.{line_of}
+use Rattle.certificate.specs.Order.{may_stand, comes_in_order, has_room, oldest}
+use Rattle.certificate.specs.Reading.{Text, Progress, Start, After, Failed, begun, with_line, after_line, at_last, answer_from, reading}
+use Rattle.certificate.specs.Found.{AreInOrder, newest_first}
+use Rattle.certificate.specs.Serving.{Settles, AsksForMemory, after_lines, front}
 use Rattle.certificate.proofs.TextLemmas.{seam}
 use Rattle.certificate.proofs.SumLengthLemmas.{line_feed, version_feed}
 use Rattle.certificate.proofs.SumTextLemmas.{line_on, failed, line_taken, version_taken}

@@ -3,20 +3,20 @@ use Rattle.std.proofs.Common.{◌≡◌, ℕ, ◌+◌, ◌<◌, ◌≤◌, true,
 use Rattle.std.proofs.lemmas.Bool.{true≢false, false≢true}
 use Rattle.std.proofs.lemmas.List.{take_all, drop_all, drop_more}
 use Rattle.std.specs.Prelude.{slice_range, if◌then◌else◌}
-use Rattle.domain.specs.Facts.{Location, Ac}
-use Rattle.domain.specs.Statements.{TrackedCell}
-use Rattle.domain.specs.Sums.Chains.{Chain}
-use Rattle.domain.specs.Sums.Facts.{Fact, Relation}
-use Rattle.domain.specs.Sums.CellsInCode.{cell_sets_of}
-use Rattle.domain.specs.Sums.FactInCode.{fact_in_code, names_words}
+use Rattle.domain.specs.Locations.{Location, Ac}
+use Rattle.domain.specs.TrackedCells.{TrackedCell}
+use Rattle.domain.specs.Chains.{Chain}
+use Rattle.domain.specs.Facts.{Fact, Relation}
+use Rattle.domain.specs.CellsInCode.{cell_sets_of}
+use Rattle.domain.specs.FactInCode.{fact_in_code, names_words}
 use Rattle.domain.specs.declared.sum_fact.SumFact.{SumFact}
 use Rattle.wordset.specs.Words.{Words}
-use Rattle.certificate.specs.Reading.{Each}
-use Rattle.certificate.specs.Sums.Lines.{Line, RoutineIs, FactIs, ExitIs, CellIs, SumIs, ChainIs, End, is_detail}
-use Rattle.certificate.specs.Sums.Order.{details_of_last}
-use Rattle.certificate.specs.Sums.Reading.{sets_of, cells_under, relations_under, chains_under, all_offsets}
-use Rattle.certificate.specs.Sums.Found.{first_with_details, behind_details, FitUnder, IsSaid}
-use Rattle.certificate.specs.Sums.Adding.{Adds, AddsAll, HasRoomFor, HasRoomUnder}
+use Rattle.certificate.specs.RisingLists.{Each}
+use Rattle.certificate.specs.Lines.{Line, RoutineIs, FactIs, ExitIs, CellIs, SumIs, ChainIs, End, is_detail}
+use Rattle.certificate.specs.Order.{details_of_last}
+use Rattle.certificate.specs.Reading.{sets_of, cells_under, relations_under, chains_under, all_offsets}
+use Rattle.certificate.specs.Found.{first_with_details, behind_details, FitUnder, IsSaid}
+use Rattle.certificate.specs.Adding.{Adds, AddsAll, HasRoomFor, HasRoomUnder}
 use Rattle.certificate.proofs.SumAddingLemmas.{sets_are}
 
 -- The place i of a detail, or of the first line after the details.

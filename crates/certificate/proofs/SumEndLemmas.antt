@@ -4,13 +4,13 @@ use Rattle.std.specs.Prelude.{nat_lt}
 use Rattle.std.specs.List.{list_any}
 use Rattle.std.proofs.lemmas.Bool.{true≢false, false≢true, cases_Bool, and_parts, ltb-true, lt-ltb}
 use Rattle.certificate.specs.declared.Version.{Version}
-use Rattle.certificate.specs.Spelling.{RoutineLine}
-use Rattle.certificate.specs.Sums.Lines.{Line, RoutineIs, FactIs, ExitIs, CellIs, SumIs, ChainIs, End, is_end, is_detail}
-use Rattle.certificate.specs.Sums.LineOf.{has_form, most_offsets}
-use Rattle.certificate.specs.Sums.Order.{heads, follows_newest, place_of_head}
-use Rattle.certificate.specs.Sums.Packed.{Packed, said_lines}
-use Rattle.certificate.specs.Sums.Found.{newest_first, AreInOrder, IsNext, Follow, IsWhole}
-use Rattle.certificate.specs.Sums.Exact.{AreLines}
+use Rattle.certificate.specs.FieldSpelling.{RoutineLine}
+use Rattle.certificate.specs.Lines.{Line, RoutineIs, FactIs, ExitIs, CellIs, SumIs, ChainIs, End, is_end, is_detail}
+use Rattle.certificate.specs.LineOf.{has_form, most_offsets}
+use Rattle.certificate.specs.Order.{heads, follows_newest, place_of_head}
+use Rattle.certificate.specs.Packed.{Packed, said_lines}
+use Rattle.certificate.specs.Found.{newest_first, AreInOrder, IsNext, Follow, IsWhole}
+use Rattle.certificate.specs.Exact.{AreLines}
 use Rattle.certificate.proofs.SumWholeLemmas.{follows}
 use Rattle.certificate.proofs.SumReaderLemmas.{most_few}
 

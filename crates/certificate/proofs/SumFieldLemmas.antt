@@ -10,20 +10,20 @@ use Rattle.std.proofs.lemmas.Bool.Decides.{eqb_tells, nat_tests}
 use Rattle.std.proofs.lemmas.List.Concat.{flat_map-append}
 use Rattle.word12.specs.Words.{octal_text}
 use Rattle.wordset.specs.Words.{Words, nothing, minus}
-use Rattle.domain.specs.Facts.{Location, Ac, Cell}
-use Rattle.domain.specs.Sums.Shapes.{has_shape, is_triple, is_cell}
-use Rattle.domain.specs.Sums.Terms.{Term, Holding, Behind, Summand, Sum, arranged, same_sum, name_of_term}
-use Rattle.domain.specs.Sums.InCode.{summand_at}
+use Rattle.domain.specs.Locations.{Location, Ac, Cell}
+use Rattle.domain.specs.Shapes.{has_shape, is_triple, is_cell}
+use Rattle.domain.specs.Terms.{Term, Holding, Behind, Summand, Sum, arranged, same_sum, name_of_term}
+use Rattle.domain.specs.InCode.{summand_at}
 use Rattle.std.proofs.lemmas.List.{length-map}
 use Rattle.domain.specs.declared.chains.Step.{Step as KeptStep}
-use Rattle.domain.specs.Sums.ChainsInCode.{step_of}
-use Rattle.domain.specs.Sums.Chains.{Step, Operates, Ands, Adds}
-use Rattle.certificate.specs.Spelling.{name_text}
-use Rattle.certificate.specs.Reading.{EndsBefore, place_of_name}
-use Rattle.certificate.specs.Sums.Spelling.{coefficient_text, further_text, term_text, sum_text, step_text}
-use Rattle.certificate.specs.Sums.LineOf.{is_term, is_summand, is_relation, is_step}
-use Rattle.certificate.specs.Sums.Fields.{third_text, step_rest}
-use Rattle.certificate.specs.Sums.Packed.{third_terms}
+use Rattle.domain.specs.ChainsInCode.{step_of}
+use Rattle.domain.specs.Chains.{Step, Operates, Ands, Adds}
+use Rattle.certificate.specs.FieldSpelling.{name_text}
+use Rattle.certificate.specs.RisingLists.{EndsBefore, place_of_name}
+use Rattle.certificate.specs.Spelling.{coefficient_text, further_text, term_text, sum_text, step_text}
+use Rattle.certificate.specs.LineOf.{is_term, is_summand, is_relation, is_step}
+use Rattle.certificate.specs.Fields.{third_text, step_rest}
+use Rattle.certificate.specs.Packed.{third_terms}
 use Rattle.certificate.proofs.DigitLemmas.{at_some}
 use Rattle.certificate.proofs.RunLemmas.{how_long}
 

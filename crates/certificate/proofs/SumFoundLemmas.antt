@@ -10,11 +10,11 @@ use Rattle.certificate.specs.declared.runs.Run.{Run}
 use Rattle.certificate.specs.declared.packed.PackedLine.{PackedLine}
 use Rattle.certificate.specs.declared.packed.PackedLine.TheVariants as packed
 use Rattle.certificate.specs.declared.packed.KeptLine.{KeptLine}
-use Rattle.certificate.specs.Packed.{Begins}
-use Rattle.certificate.specs.Sums.Lines.{Line, is_detail}
-use Rattle.certificate.specs.Sums.Order.{place_of_head}
-use Rattle.certificate.specs.Sums.Packed.{said_at, kept_at, IsPacked}
-use Rattle.certificate.specs.Sums.Found.{from_place, past, AreRising, last_past, ArePast, AreKept, begins_at, least_place}
+use Rattle.certificate.specs.Runs.{Begins}
+use Rattle.certificate.specs.Lines.{Line, is_detail}
+use Rattle.certificate.specs.Order.{place_of_head}
+use Rattle.certificate.specs.Packed.{said_at, kept_at, IsPacked}
+use Rattle.certificate.specs.Found.{from_place, past, AreRising, last_past, ArePast, AreKept, begins_at, least_place}
 use Rattle.certificate.proofs.SumPackedLemmas.{all_within, still_within}
 
 -- The place after a line is no matter of its runs and steps.

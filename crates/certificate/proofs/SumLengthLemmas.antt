@@ -3,17 +3,17 @@ use Rattle.std.proofs.Common.{◌≡◌, ℕ, zero, suc, ◌+◌, ◌*◌, ◌�
 use Rattle.std.specs.Prelude.{codes, flat_map, nat_lt, nat_le}
 use Rattle.std.proofs.lemmas.Bool.{false≢true, and_parts, leb-true}
 use Rattle.wordset.specs.Words.{Words, some_below, only}
-use Rattle.domain.specs.Sums.Terms.{Term, Holding, Behind, Summand, Sum}
-use Rattle.domain.specs.Sums.Shapes.{has_shape}
-use Rattle.domain.specs.Sums.Chains.{Step, Operates, Ands, Adds, Chain}
-use Rattle.domain.specs.Sums.Facts.{Relation}
+use Rattle.domain.specs.Terms.{Term, Holding, Behind, Summand, Sum}
+use Rattle.domain.specs.Shapes.{has_shape}
+use Rattle.domain.specs.Chains.{Step, Operates, Ands, Adds, Chain}
+use Rattle.domain.specs.Facts.{Relation}
 use Rattle.certificate.specs.declared.Version.{Version}
 use Rattle.certificate.specs.declared.Version.TheVariants.{One, Two, Three}
-use Rattle.certificate.specs.Spelling.{Registers, begins, ends}
-use Rattle.certificate.specs.Parser.{NoFeed}
-use Rattle.certificate.specs.Sums.Lines.{Line, RoutineIs, FactIs, ExitIs, CellIs, SumIs, ChainIs, End}
-use Rattle.certificate.specs.Sums.Spelling.{offset_mark, offset_marks, offsets_line, offset_text, sites_text, mq_text, words_text, term_text, coefficient_text, further_text, sum_text, names_text, word_text, equation_line, relation_line, step_text, line_text, version_text}
-use Rattle.certificate.specs.Sums.LineOf.{has_form}
+use Rattle.certificate.specs.FieldSpelling.{Registers, begins, ends}
+use Rattle.certificate.specs.LineFeeds.{NoFeed}
+use Rattle.certificate.specs.Lines.{Line, RoutineIs, FactIs, ExitIs, CellIs, SumIs, ChainIs, End}
+use Rattle.certificate.specs.Spelling.{offset_mark, offset_marks, offsets_line, offset_text, sites_text, mq_text, words_text, term_text, coefficient_text, further_text, sum_text, names_text, word_text, equation_line, relation_line, step_text, line_text, version_text}
+use Rattle.certificate.specs.LineOf.{has_form}
 use Rattle.certificate.proofs.LengthLemmas.{Part, feedless, no_feeds, both, most, choice, none, as_is, digit, word, set, digits_of, name, rank}
 use Rattle.certificate.proofs.SumFieldLemmas.{shape_of}
 

@@ -11,24 +11,24 @@ use Rattle.word12.specs.Words.{octal_text}
 use Rattle.wordset.specs.Words.{Words, nothing, between, one, only, some_below, has_some}
 use Rattle.wordset.proofs.Firsts.{only_next}
 use Rattle.wordset.proofs.Tests.{some_none_of, none_of_some}
-use Rattle.domain.specs.Sums.Shapes.{has_shape}
-use Rattle.domain.specs.Facts.{Location, Ac, Cell}
-use Rattle.domain.specs.Statements.{TrackedCell}
-use Rattle.domain.specs.Sums.Terms.{Term, Holding, Behind, Summand, Sum, difference_of}
-use Rattle.domain.specs.Sums.Chains.{Step, Operates, Ands, Adds, Chain}
-use Rattle.domain.specs.Sums.Facts.{Relation}
+use Rattle.domain.specs.Shapes.{has_shape}
+use Rattle.domain.specs.Locations.{Location, Ac, Cell}
+use Rattle.domain.specs.TrackedCells.{TrackedCell}
+use Rattle.domain.specs.Terms.{Term, Holding, Behind, Summand, Sum, difference_of}
+use Rattle.domain.specs.Chains.{Step, Operates, Ands, Adds, Chain}
+use Rattle.domain.specs.Facts.{Relation}
 use Rattle.certificate.specs.declared.Version.{Version}
 use Rattle.certificate.specs.declared.Version.TheVariants.{One, Two, Three}
 use Rattle.certificate.specs.declared.runs.Run.{Run}
-use Rattle.certificate.specs.Spelling.{RoutineLine, Registers, digits, set_text, offsets_text, name_text, rank_text, routine_line, cell_line}
-use Rattle.certificate.specs.Reading.{Each, EndsBefore}
-use Rattle.certificate.specs.LineOf.{words_in, word_at, set_of, name_of}
-use Rattle.certificate.specs.Packed.{joined, StandApart}
-use Rattle.certificate.specs.Sums.Lines.{Line, RoutineIs, FactIs, ExitIs, CellIs, SumIs, ChainIs, End, is_of_sums}
-use Rattle.certificate.specs.Sums.Spelling.{offsets_line, offset_text, term_text, coefficient_text, further_text, word_text, equation_line, relation_line, step_text, chain_line, line_text}
-use Rattle.certificate.specs.Sums.LineOf.{reads, offset_run_of, offset_set_of, offsets_of, registers_in, term_of, coefficient_of, further_in, steps_in, said_by, is_term, is_summand, is_relation, is_step, most_offsets, has_form, line_if, line_of}
-use Rattle.certificate.specs.Sums.Fields.{offset_run_text, offset_set_text}
-use Rattle.certificate.specs.Sums.Laws.{SitesFit, RegistersFit, IsEquation, LineFits, SpelledIsRead}
+use Rattle.certificate.specs.FieldSpelling.{RoutineLine, Registers, digits, set_text, offsets_text, name_text, rank_text, routine_line, cell_line}
+use Rattle.certificate.specs.RisingLists.{Each, EndsBefore}
+use Rattle.certificate.specs.LineWords.{words_in, word_at, set_of, name_of}
+use Rattle.certificate.specs.Runs.{joined, StandApart}
+use Rattle.certificate.specs.Lines.{Line, RoutineIs, FactIs, ExitIs, CellIs, SumIs, ChainIs, End, is_of_sums}
+use Rattle.certificate.specs.Spelling.{offsets_line, offset_text, term_text, coefficient_text, further_text, word_text, equation_line, relation_line, step_text, chain_line, line_text}
+use Rattle.certificate.specs.LineOf.{reads, offset_run_of, offset_set_of, offsets_of, registers_in, term_of, coefficient_of, further_in, steps_in, said_by, is_term, is_summand, is_relation, is_step, most_offsets, has_form, line_if, line_of}
+use Rattle.certificate.specs.Fields.{offset_run_text, offset_set_text}
+use Rattle.certificate.specs.Laws.{SitesFit, RegistersFit, IsEquation, LineFits, SpelledIsRead}
 use Rattle.certificate.proofs.ApartLemmas.{first_or}
 use Rattle.certificate.proofs.PackedLemmas.{or_with}
 use Rattle.certificate.proofs.TextLemmas.{each_append}

@@ -4,26 +4,26 @@ use Rattle.std.specs.Prelude.{if◌then◌else◌, codes, map, nat_lt, nat_le, O
 use Rattle.std.specs.List.{list_any}
 use Rattle.std.proofs.lemmas.Bool.{true≢false, cases_Bool, and_parts, ltb-true, leb-true, le-ltb}
 use Rattle.wordset.specs.Words.{Words, all_words, some_below}
-use Rattle.domain.specs.Statements.{TrackedCell}
-use Rattle.domain.specs.Sums.Chains.{Chain}
-use Rattle.domain.specs.Sums.Facts.{Relation}
-use Rattle.domain.specs.Sums.CellsInCode.{cell_sets_of}
-use Rattle.domain.specs.Sums.FactInCode.{fact_in_code}
+use Rattle.domain.specs.TrackedCells.{TrackedCell}
+use Rattle.domain.specs.Chains.{Chain}
+use Rattle.domain.specs.Facts.{Relation}
+use Rattle.domain.specs.CellsInCode.{cell_sets_of}
+use Rattle.domain.specs.FactInCode.{fact_in_code}
 use Rattle.domain.specs.declared.sum_fact.SumFact.{SumFact}
 use Rattle.certificate.specs.declared.Version.{Version}
 use Rattle.certificate.specs.declared.Version.TheVariants.{One, Two, Three}
-use Rattle.certificate.specs.Spelling.{RoutineLine, Registers, ended}
-use Rattle.certificate.specs.Reading.{Each, EndsBefore}
-use Rattle.certificate.specs.Sums.Lines.{Line, RoutineIs, FactIs, ExitIs, CellIs, SumIs, ChainIs, End, is_end, is_of_sums}
-use Rattle.certificate.specs.Sums.Spelling.{version_text}
-use Rattle.certificate.specs.Sums.LineOf.{is_relation, has_form}
-use Rattle.certificate.specs.Sums.Reading.{Text}
-use Rattle.certificate.specs.Sums.Laws.{bytes_of}
-use Rattle.certificate.specs.Sums.Found.{IsLine, AreInOrder, Follow, newest_first, unended, IsWhole}
-use Rattle.certificate.specs.Sums.Packed.{Packed, said_lines}
-use Rattle.certificate.specs.Sums.Spelled.{all_ended}
-use Rattle.certificate.specs.Sums.Kept.{Kept, meaning}
-use Rattle.certificate.specs.Sums.Made.{details_of, lines_of_fact, lines_of_exit, before_end, with_lines, MayAdd, AreDetails}
+use Rattle.certificate.specs.FieldSpelling.{RoutineLine, Registers, ended}
+use Rattle.certificate.specs.RisingLists.{Each, EndsBefore}
+use Rattle.certificate.specs.Lines.{Line, RoutineIs, FactIs, ExitIs, CellIs, SumIs, ChainIs, End, is_end, is_of_sums}
+use Rattle.certificate.specs.Spelling.{version_text}
+use Rattle.certificate.specs.LineOf.{is_relation, has_form}
+use Rattle.certificate.specs.Reading.{Text}
+use Rattle.certificate.specs.Laws.{bytes_of}
+use Rattle.certificate.specs.Found.{IsLine, AreInOrder, Follow, newest_first, unended, IsWhole}
+use Rattle.certificate.specs.Packed.{Packed, said_lines}
+use Rattle.certificate.specs.Spelled.{all_ended}
+use Rattle.certificate.specs.Kept.{Kept, meaning}
+use Rattle.certificate.specs.Made.{details_of, lines_of_fact, lines_of_exit, before_end, with_lines, MayAdd, AreDetails}
 use Rattle.certificate.proofs.SumTextLemmas.{both_ended}
 use Rattle.certificate.proofs.SumWholeLemmas.{newest_both, followed, whole}
 use Rattle.certificate.proofs.SumReaderLemmas.{has_place}

@@ -13,10 +13,10 @@ use Rattle.certificate.specs.declared.runs.PackedRegisters.{PackedRegisters}
 use Rattle.certificate.specs.declared.packed.PackedLine.{PackedLine}
 use Rattle.certificate.specs.declared.packed.PackedLine.TheVariants as packed
 use Rattle.certificate.specs.declared.packed.KeptLine.{KeptLine}
-use Rattle.certificate.specs.Spelling.{Registers}
-use Rattle.certificate.specs.Packed.{Begins, set_of_runs, added, set_at, registers_at, AreWithin}
-use Rattle.certificate.specs.Sums.Lines.{Line, is_chain}
-use Rattle.certificate.specs.Sums.Packed.{said_at, kept_at, LieWithin, LiesWithin, IsKept, IsPacked, run_count, step_count}
+use Rattle.certificate.specs.FieldSpelling.{Registers}
+use Rattle.certificate.specs.Runs.{Begins, set_of_runs, added, set_at, registers_at, AreWithin}
+use Rattle.certificate.specs.Lines.{Line, is_chain}
+use Rattle.certificate.specs.Packed.{said_at, kept_at, LieWithin, LiesWithin, IsKept, IsPacked, run_count, step_count}
 use Rattle.certificate.proofs.PackedLemmas.{set_kept, one_kept, other_kept, registers_kept, longer, front_of, no_run}
 
 -- What is left of two lists behind a place.

@@ -9,18 +9,18 @@ use Rattle.certificate.specs.declared.CertificateFault.{CertificateFault}
 use Rattle.certificate.specs.declared.CertificateFault.TheVariants as faults
 use Rattle.certificate.specs.declared.progress.Progress.{Progress}
 use Rattle.certificate.specs.declared.parser.Parser.{Parser}
-use Rattle.certificate.specs.Faults.{most_bytes, pieces}
-use Rattle.certificate.specs.Sums.Lines.{Line, End, is_end}
-use Rattle.certificate.specs.Sums.Spelling.{version_text, line_text}
-use Rattle.certificate.specs.Sums.LineOf.{line_of}
-use Rattle.certificate.specs.Sums.Order.{may_stand, oldest}
-use Rattle.certificate.specs.Sums.Progress.{Tracks, Continues}
-use Rattle.certificate.specs.Sums.Packed.{Packed, said_lines}
-use Rattle.certificate.specs.Sums.Found.{AreInOrder, Keeps, IsWhole, unended}
-use Rattle.certificate.specs.Sums.Reading.{Text, Progress as ReadingProgress, Start, After, Failed, after_line, at_last, answer_from, reading}
-use Rattle.certificate.specs.Sums.Serving.{Settles, AsksForMemory, front}
-use Rattle.certificate.specs.Sums.Kept.{Kept as KeptCertificate}
-use Rattle.certificate.specs.Sums.Parser.{NoFeed, Reached, HasRead, WasRead, Parts, Seen, Refuses, IsParsed}
+use Rattle.certificate.specs.Pieces.{most_bytes, pieces}
+use Rattle.certificate.specs.Lines.{Line, End, is_end}
+use Rattle.certificate.specs.Spelling.{version_text, line_text}
+use Rattle.certificate.specs.LineOf.{line_of}
+use Rattle.certificate.specs.Order.{may_stand, oldest}
+use Rattle.certificate.specs.Progress.{Tracks, Continues}
+use Rattle.certificate.specs.Packed.{Packed, said_lines}
+use Rattle.certificate.specs.Found.{AreInOrder, Keeps, IsWhole, unended}
+use Rattle.certificate.specs.Reading.{Text, Progress as ReadingProgress, Start, After, Failed, after_line, at_last, answer_from, reading}
+use Rattle.certificate.specs.Serving.{Settles, AsksForMemory, front}
+use Rattle.certificate.specs.Kept.{Kept as KeptCertificate}
+use Rattle.certificate.specs.Parser.{NoFeed, Reached, HasRead, WasRead, Parts, Seen, Refuses, IsParsed}
 use Rattle.certificate.proofs.LengthLemmas.{no_feed_both}
 use Rattle.certificate.proofs.SumLengthLemmas.{line_short}
 use Rattle.certificate.proofs.SumTextLemmas.{no_line_of, bad_line, no_version, end_on, few_read}

@@ -6,26 +6,26 @@ use Rattle.std.proofs.lemmas.Bool.Decides.{eqb_tells}
 use Rattle.std.proofs.lemmas.List.{take_all}
 use Rattle.word12.specs.Words.{octal_text}
 use Rattle.wordset.specs.Words.{Words, all_words, one, has_some, some_below}
-use Rattle.domain.specs.Facts.{Location, Ac, Cell}
-use Rattle.domain.specs.Sums.Terms.{Sum, difference_of, arranged, same_sum}
-use Rattle.domain.specs.Sums.Shapes.{has_shape}
-use Rattle.domain.specs.Sums.Chains.{Chain, Step, Operates, Ands, Adds}
-use Rattle.domain.specs.Sums.Facts.{Relation}
+use Rattle.domain.specs.Locations.{Location, Ac, Cell}
+use Rattle.domain.specs.Terms.{Sum, difference_of, arranged, same_sum}
+use Rattle.domain.specs.Shapes.{has_shape}
+use Rattle.domain.specs.Chains.{Chain, Step, Operates, Ands, Adds}
+use Rattle.domain.specs.Facts.{Relation}
 use Rattle.certificate.specs.declared.Version.{Version}
 use Rattle.certificate.specs.declared.Version.TheVariants.{One, Two, Three}
 use Rattle.certificate.specs.declared.runs.Run.{Run}
-use Rattle.certificate.specs.Spelling.{Registers, set_text, name_text, digits}
-use Rattle.certificate.specs.Reading.{EndsBefore, IsOfLinks, place_of_name}
-use Rattle.certificate.specs.Fields.{EndsField}
-use Rattle.certificate.specs.Packed.{added, set_of_runs, set_at}
-use Rattle.certificate.specs.Sums.Lines.{is_of_sums, FactIs, ExitIs, CellIs, SumIs, ChainIs}
-use Rattle.certificate.specs.Sums.Spelling.{sites_text, mq_text, words_text, offset_text, offsets_line, sum_text, word_text, equation_line, relation_line, step_text, chain_line, line_text}
-use Rattle.certificate.specs.Sums.LineOf.{has_registers, is_summand, is_relation, is_step, most_offsets}
-use Rattle.certificate.specs.Sums.Fields.{AreSteps}
+use Rattle.certificate.specs.FieldSpelling.{Registers, set_text, name_text, digits}
+use Rattle.certificate.specs.RisingLists.{EndsBefore, IsOfLinks, place_of_name}
+use Rattle.certificate.specs.FieldsLeft.{EndsField}
+use Rattle.certificate.specs.Runs.{added, set_of_runs, set_at}
+use Rattle.certificate.specs.Lines.{is_of_sums, FactIs, ExitIs, CellIs, SumIs, ChainIs}
+use Rattle.certificate.specs.Spelling.{sites_text, mq_text, words_text, offset_text, offsets_line, sum_text, word_text, equation_line, relation_line, step_text, chain_line, line_text}
+use Rattle.certificate.specs.LineOf.{has_registers, is_summand, is_relation, is_step, most_offsets}
+use Rattle.certificate.specs.Fields.{AreSteps}
 use Rattle.std.specs.List.{list_all}
 use Rattle.wordset.proofs.Tests.{some_from, some_none_of}
-use Rattle.certificate.specs.Sums.Line.{Spells}
-use Rattle.certificate.specs.Sums.Laws.{SitesFit, MqFits, RegistersFit, IsEquation, RelationFits}
+use Rattle.certificate.specs.Line.{Spells}
+use Rattle.certificate.specs.Laws.{SitesFit, MqFits, RegistersFit, IsEquation, RelationFits}
 use Rattle.certificate.specs.declared.runs.PackedRegisters.{PackedRegisters}
 use Rattle.certificate.proofs.PackedLemmas.{runs_past}
 use Rattle.certificate.proofs.SumPackedLemmas.{AreSited}

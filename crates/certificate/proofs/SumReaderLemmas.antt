@@ -5,18 +5,18 @@ use Rattle.std.proofs.lemmas.Bool.{true≢false, false≢true, cases_Bool, and_p
 use Rattle.std.proofs.lemmas.Bool.Decides.{nat_tests}
 use Rattle.std.proofs.lemmas.List.{drop_all}
 use Rattle.wordset.specs.Words.{Words}
-use Rattle.domain.specs.Sums.Facts.{Fact}
+use Rattle.domain.specs.Facts.{Fact}
 use Rattle.certificate.specs.declared.Version.{Version}
-use Rattle.certificate.specs.Reading.{Each}
-use Rattle.certificate.specs.Spelling.{Registers}
-use Rattle.certificate.specs.Sums.Lines.{Line, RoutineIs, FactIs, ExitIs, CellIs, SumIs, ChainIs, End, is_detail, has_details, is_cell, is_sum, is_chain}
-use Rattle.certificate.specs.Sums.Order.{place_of_head, details_of_last, how_many}
-use Rattle.certificate.specs.Sums.Reading.{cells_under, relations_under, chains_under, fact_said, all_offsets, facts_at, exits_at}
-use Rattle.certificate.specs.Sums.LineOf.{has_form, most_offsets}
+use Rattle.certificate.specs.RisingLists.{Each}
+use Rattle.certificate.specs.FieldSpelling.{Registers}
+use Rattle.certificate.specs.Lines.{Line, RoutineIs, FactIs, ExitIs, CellIs, SumIs, ChainIs, End, is_detail, has_details, is_cell, is_sum, is_chain}
+use Rattle.certificate.specs.Order.{place_of_head, details_of_last, how_many}
+use Rattle.certificate.specs.Reading.{cells_under, relations_under, chains_under, fact_said, all_offsets, facts_at, exits_at}
+use Rattle.certificate.specs.LineOf.{has_form, most_offsets}
 use Rattle.certificate.specs.declared.Version.TheVariants.{One, Two, Three}
-use Rattle.certificate.specs.Sums.Packed.{Packed, said_lines}
-use Rattle.certificate.specs.Sums.Kept.{BeginAt}
-use Rattle.certificate.specs.Sums.Found.{IsLine, Follow, IsWhole, AreRising, past, from_place, begins_at, begins, behind_details, FitUnder, IsSaid}
+use Rattle.certificate.specs.Packed.{Packed, said_lines}
+use Rattle.certificate.specs.Kept.{BeginAt}
+use Rattle.certificate.specs.Found.{IsLine, Follow, IsWhole, AreRising, past, from_place, begins_at, begins, behind_details, FitUnder, IsSaid}
 use Rattle.certificate.proofs.SumPackedLemmas.{drop_both}
 use Rattle.certificate.proofs.SumWholeLemmas.{follows}
 

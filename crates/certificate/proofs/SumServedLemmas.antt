@@ -12,16 +12,16 @@ use Rattle.certificate.specs.declared.CertificateFault.{CertificateFault}
 use Rattle.certificate.specs.declared.CertificateFault.TheVariants as faults
 use Rattle.certificate.specs.declared.progress.Progress.{Progress}
 use Rattle.certificate.specs.declared.parser.Parser.{Parser}
-use Rattle.certificate.specs.Spelling.{ended}
-use Rattle.certificate.specs.Faults.{most_bytes}
-use Rattle.certificate.specs.Serving.{is_read_fault, failed_to_read}
-use Rattle.certificate.specs.Sums.Lines.{is_end}
-use Rattle.certificate.specs.Sums.Packed.{Packed}
-use Rattle.certificate.specs.Sums.Order.{oldest}
-use Rattle.certificate.specs.Sums.Reading.{Text, at_last, reading}
-use Rattle.certificate.specs.Sums.Kept.{Kept}
-use Rattle.certificate.specs.Sums.Parser.{NoFeed, HasRead, CameTo, Told, IsAnswered, Serves, Parts, Seen, IsSmall, Refuses, IsParsed}
-use Rattle.certificate.specs.Sums.Serving.{Settles, IsUnanswered, AsksForMemory}
+use Rattle.certificate.specs.FieldSpelling.{ended}
+use Rattle.certificate.specs.Pieces.{most_bytes}
+use Rattle.certificate.specs.ReadFaults.{is_read_fault, failed_to_read}
+use Rattle.certificate.specs.Lines.{is_end}
+use Rattle.certificate.specs.Packed.{Packed}
+use Rattle.certificate.specs.Order.{oldest}
+use Rattle.certificate.specs.Reading.{Text, at_last, reading}
+use Rattle.certificate.specs.Kept.{Kept}
+use Rattle.certificate.specs.Parser.{NoFeed, HasRead, CameTo, Told, IsAnswered, Serves, Parts, Seen, IsSmall, Refuses, IsParsed}
+use Rattle.certificate.specs.Serving.{Settles, IsUnanswered, AsksForMemory}
 use Rattle.certificate.proofs.LengthLemmas.{feed_taken}
 use Rattle.certificate.proofs.SumAnswerLemmas.{fault_of_bytes}
 use Rattle.certificate.proofs.SumParserLemmas.{place_at, seen_answer, seen_read}

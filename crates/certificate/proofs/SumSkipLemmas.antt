@@ -4,16 +4,16 @@ use Rattle.std.specs.Prelude.{nat_le, nat_lt}
 use Rattle.std.specs.List.{list_all}
 use Rattle.std.proofs.lemmas.Bool.{true≢false, false≢true, cases_Bool, cases_lt, and_parts, leb-true}
 use Rattle.std.proofs.lemmas.List.{drop_all}
-use Rattle.domain.specs.Sums.Facts.{Fact}
+use Rattle.domain.specs.Facts.{Fact}
 use Rattle.certificate.specs.declared.Version.{Version}
-use Rattle.certificate.specs.Reading.{Each}
-use Rattle.certificate.specs.Sums.Lines.{Line, RoutineIs, FactIs, ExitIs, CellIs, SumIs, ChainIs, End, is_detail, has_details}
-use Rattle.certificate.specs.Sums.LineOf.{is_relation, is_step}
+use Rattle.certificate.specs.RisingLists.{Each}
+use Rattle.certificate.specs.Lines.{Line, RoutineIs, FactIs, ExitIs, CellIs, SumIs, ChainIs, End, is_detail, has_details}
+use Rattle.certificate.specs.LineOf.{is_relation, is_step}
 use Rattle.wordset.specs.Words.{some_below}
-use Rattle.certificate.specs.Sums.Reading.{relations_under, chains_under, fact_said, all_offsets}
-use Rattle.certificate.specs.Sums.Packed.{Packed, said_lines}
-use Rattle.certificate.specs.Sums.Kept.{HasShape}
-use Rattle.certificate.specs.Sums.Found.{Follow, IsWhole, begins_at, begins, behind_details, FitUnder, IsSaid}
+use Rattle.certificate.specs.Reading.{relations_under, chains_under, fact_said, all_offsets}
+use Rattle.certificate.specs.Packed.{Packed, said_lines}
+use Rattle.certificate.specs.Kept.{HasShape}
+use Rattle.certificate.specs.Found.{Follow, IsWhole, begins_at, begins, behind_details, FitUnder, IsSaid}
 use Rattle.certificate.proofs.SumWholeLemmas.{follows}
 use Rattle.certificate.proofs.SumReaderLemmas.{follow_from, next_line, fit_next, fact_next, FactNext, exit_next, ExitNext, has_said}
 

@@ -7,19 +7,19 @@ use Rattle.std.proofs.lemmas.List.Concat.{flat_map-append}
 use Rattle.word12.specs.Words.{octal_text}
 use Rattle.wordset.specs.Words.{Words, some_below, minus}
 use Rattle.wordset.proofs.Tests.{some_none_of, none_of_some}
-use Rattle.domain.specs.Sums.ChainsInCode.{step_of}
+use Rattle.domain.specs.ChainsInCode.{step_of}
 use Rattle.domain.specs.declared.chains.Step.{Step}
 use Rattle.std.specs.Io.KnownBytes.{Appends}
 use Rattle.streams.specs.Bytes.{AppendsFront}
 use Rattle.streams.proofs.BytesLemmas.{front_after}
 use Rattle.certificate.specs.declared.Version.{Version}
-use Rattle.certificate.specs.Reading.{Each}
-use Rattle.certificate.specs.Spelling.{begins, ends, digits, offsets_text, ended}
-use Rattle.certificate.specs.Sums.Lines.{Line}
-use Rattle.certificate.specs.Sums.Spelled.{all_ended}
-use Rattle.certificate.specs.Spelled.{Adds}
-use Rattle.certificate.specs.Sums.Spelling.{offset_mark, offset_marks, coefficient_text, step_text, line_text}
-use Rattle.certificate.specs.Sums.Fields.{offset_set_text, third_text}
+use Rattle.certificate.specs.RisingLists.{Each}
+use Rattle.certificate.specs.FieldSpelling.{begins, ends, digits, offsets_text, ended}
+use Rattle.certificate.specs.Lines.{Line}
+use Rattle.certificate.specs.Spelled.{all_ended}
+use Rattle.certificate.specs.LineText.{Adds}
+use Rattle.certificate.specs.Spelling.{offset_mark, offset_marks, coefficient_text, step_text, line_text}
+use Rattle.certificate.specs.Fields.{offset_set_text, third_text}
 use Rattle.certificate.proofs.SpelledLemmas.{joined, none, front_more}
 use Rattle.certificate.proofs.OffsetTextLemmas.{marks_more}
 

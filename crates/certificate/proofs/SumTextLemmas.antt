@@ -12,23 +12,23 @@ use Rattle.certificate.specs.declared.Version.{Version}
 use Rattle.certificate.specs.declared.Version.TheVariants.{One, Two, Three}
 use Rattle.certificate.specs.declared.CertificateFault.{CertificateFault}
 use Rattle.certificate.specs.declared.CertificateFault.TheVariants as faults
-use Rattle.certificate.specs.Spelling.{ended}
+use Rattle.certificate.specs.FieldSpelling.{ended}
 use Rattle.word12.specs.Octal.{octal_value}
-use Rattle.certificate.specs.Reading.{Each, EndsBefore}
-use Rattle.certificate.specs.Faults.{most_bytes, pieces}
-use Rattle.certificate.specs.Serving.{is_of_bytes}
-use Rattle.certificate.specs.Parser.{NoFeed}
-use Rattle.certificate.specs.LineOf.{words_in, word_at}
-use Rattle.certificate.specs.Sums.Lines.{Line, FactIs, ExitIs, is_end}
-use Rattle.certificate.specs.Sums.Spelling.{line_text, version_text}
-use Rattle.certificate.specs.Sums.LineOf.{reads, registers_in, sites_in, site_words, register_words, offsets_of, most_offsets, detail_by, said_by, has_form, line_if, line_of}
-use Rattle.certificate.specs.Sums.Order.{may_stand, comes_in_order, has_room, oldest}
-use Rattle.certificate.specs.Sums.Reading.{Text, Progress, Start, After, Failed, begun, with_line, after_line, at_last, answer_from, reading}
-use Rattle.certificate.specs.Sums.Laws.{RegistersFit, LineFits, bytes_of, ReadAreBytes}
-use Rattle.certificate.specs.Sums.Line.{Spells}
-use Rattle.certificate.specs.Sums.Found.{IsNext, AreInOrder}
-use Rattle.certificate.specs.Sums.Spelled.{all_ended}
-use Rattle.certificate.specs.Sums.Serving.{front}
+use Rattle.certificate.specs.RisingLists.{Each, EndsBefore}
+use Rattle.certificate.specs.Pieces.{most_bytes, pieces}
+use Rattle.certificate.specs.ReadFaults.{is_of_bytes}
+use Rattle.certificate.specs.LineFeeds.{NoFeed}
+use Rattle.certificate.specs.LineWords.{words_in, word_at}
+use Rattle.certificate.specs.Lines.{Line, FactIs, ExitIs, is_end}
+use Rattle.certificate.specs.Spelling.{line_text, version_text}
+use Rattle.certificate.specs.LineOf.{reads, registers_in, sites_in, site_words, register_words, offsets_of, most_offsets, detail_by, said_by, has_form, line_if, line_of}
+use Rattle.certificate.specs.Order.{may_stand, comes_in_order, has_room, oldest}
+use Rattle.certificate.specs.Reading.{Text, Progress, Start, After, Failed, begun, with_line, after_line, at_last, answer_from, reading}
+use Rattle.certificate.specs.Laws.{RegistersFit, LineFits, bytes_of, ReadAreBytes}
+use Rattle.certificate.specs.Line.{Spells}
+use Rattle.certificate.specs.Found.{IsNext, AreInOrder}
+use Rattle.certificate.specs.Spelled.{all_ended}
+use Rattle.certificate.specs.Serving.{front}
 use Rattle.certificate.proofs.TextLemmas.{seam}
 use Rattle.certificate.proofs.TextAnswerLemmas.{last_piece}
 use Rattle.certificate.proofs.LineOfLemmas.{split_at, other_text, set_ends}

@@ -4,11 +4,11 @@ use Rattle.std.specs.Prelude.{nat_lt}
 use Rattle.std.specs.List.{list_any}
 use Rattle.std.proofs.lemmas.Bool.{false≢true, cases_Bool, ltb-true, eqb-true}
 use Rattle.certificate.specs.declared.Version.{Version}
-use Rattle.certificate.specs.Sums.Lines.{Line, End, is_end, is_detail}
-use Rattle.certificate.specs.Sums.Order.{heads, may_be_level, follows_newest, place_of_head}
-use Rattle.certificate.specs.Sums.Packed.{Packed, said_lines}
-use Rattle.certificate.specs.Sums.Progress.{next_place}
-use Rattle.certificate.specs.Sums.Found.{newest_first, AreRising, AreInOrder, Follow, Keeps, IsWhole, unended}
+use Rattle.certificate.specs.Lines.{Line, End, is_end, is_detail}
+use Rattle.certificate.specs.Order.{heads, may_be_level, follows_newest, place_of_head}
+use Rattle.certificate.specs.Packed.{Packed, said_lines}
+use Rattle.certificate.specs.Progress.{next_place}
+use Rattle.certificate.specs.Found.{newest_first, AreRising, AreInOrder, Follow, Keeps, IsWhole, unended}
 
 -- The end is known without being kept.
 pub end_known : (l : Line) (before : List Line) → is_end l ≡ true → unended (l ∷ before) ≡ before

@@ -5,14 +5,14 @@ use Rattle.std.proofs.lemmas.Bool.{true≢false, false≢true, cases_Bool, and_p
 use Rattle.std.proofs.lemmas.Bool.Decides.{nat_tests}
 use Rattle.std.proofs.lemmas.List.{drop_all, length-drop, get_or_past}
 use Rattle.certificate.specs.declared.Version.{Version}
-use Rattle.certificate.specs.Sums.Lines.{Line, RoutineIs, FactIs, ExitIs, CellIs, SumIs, ChainIs, End, is_detail}
-use Rattle.certificate.specs.Sums.Order.{place_of_head, details_of_last}
-use Rattle.certificate.specs.Sums.Reading.{facts_at}
-use Rattle.certificate.specs.Sums.LineOf.{has_form}
-use Rattle.certificate.specs.Sums.Packed.{Packed, said_lines}
-use Rattle.certificate.specs.Sums.Kept.{BeginAt}
-use Rattle.certificate.specs.Sums.Found.{IsWhole, AreRising, past, from_place, begins_at, behind_details, first_with_details}
-use Rattle.certificate.specs.Sums.Written.{facts_lines}
+use Rattle.certificate.specs.Lines.{Line, RoutineIs, FactIs, ExitIs, CellIs, SumIs, ChainIs, End, is_detail}
+use Rattle.certificate.specs.Order.{place_of_head, details_of_last}
+use Rattle.certificate.specs.Reading.{facts_at}
+use Rattle.certificate.specs.LineOf.{has_form}
+use Rattle.certificate.specs.Packed.{Packed, said_lines}
+use Rattle.certificate.specs.Kept.{BeginAt}
+use Rattle.certificate.specs.Found.{IsWhole, AreRising, past, from_place, begins_at, behind_details, first_with_details}
+use Rattle.certificate.specs.Written.{facts_lines}
 use Rattle.certificate.proofs.SumReaderLemmas.{begin_found, begin_behind, rising_from, no_facts, next_line, line_formed}
 
 -- The end adds no line to a fact.

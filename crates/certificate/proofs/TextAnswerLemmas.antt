@@ -1,9 +1,9 @@
 -- What a text is read as, line by line.
 use Rattle.std.proofs.Common.{◌≡◌, ℕ, ◌==◌, false, List, [], ◌∷◌}
 use Rattle.std.proofs.lemmas.Bool.{ne_eqb}
-use Rattle.certificate.specs.Reading.{Each}
-use Rattle.certificate.specs.Faults.{pieces}
-use Rattle.certificate.specs.Parser.{NoFeed}
+use Rattle.certificate.specs.RisingLists.{Each}
+use Rattle.certificate.specs.Pieces.{pieces}
+use Rattle.certificate.specs.LineFeeds.{NoFeed}
 use Rattle.certificate.proofs.LineOfLemmas.{split_none}
 
 -- The pieces of a text.

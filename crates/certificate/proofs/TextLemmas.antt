@@ -1,7 +1,7 @@
 -- Texts of lines, and lines in the other order.
 use Rattle.std.proofs.Common.{◌≡◌, ℕ, List, [], ◌∷◌, ◌++◌, sym, append_assoc}
-use Rattle.certificate.specs.Spelling.{ended}
-use Rattle.certificate.specs.Reading.{Each}
+use Rattle.certificate.specs.FieldSpelling.{ended}
+use Rattle.certificate.specs.RisingLists.{Each}
 
 pub seam : (a b : List ℕ) → a ++ 10 ∷ b ≡ ended a ++ b
 seam a b = sym (append_assoc a (10 ∷ []) b)

@@ -1,26 +1,38 @@
--- What the reader of a line's fields has left; it serves private contracts.
-use Rattle.std.specs.Prelude.{◌≡◌, ◌≢◌, ℕ, ◌==◌, List, [], ◌∷◌, ◌++◌, codes, Option, Some, None, IfSome, if◌then◌else◌}
+-- The texts of the fields that version 3 adds; for private contracts.
+use Rattle.std.specs.Prelude.{◌≡◌, ℕ, ◌≤◌, ◌==◌, true, ◌&&◌, ◌||◌, nat_le, Option, List, [], ◌++◌, length, codes, flat_map, if◌then◌else◌}
+use Rattle.std.specs.List.{list_all}
 use Rattle.word12.specs.Words.{octal_text}
-use Rattle.certificate.specs.declared.fields.Fields.{Fields}
+use Rattle.wordset.specs.Words.{Words, some_below}
+use Rattle.domain.specs.Chains.{Step, Operates, Ands, Adds}
+use Rattle.certificate.specs.FieldSpelling.{rank_text}
+use Rattle.certificate.specs.Spelling.{offset_marks, further_text}
+use Rattle.certificate.specs.LineOf.{is_step}
+use Rattle.certificate.specs.Packed.{third_terms}
 
--- The bytes that are still to be read, unless something didn't read.
-abbrev pub left : Fields → Option (List ℕ)
-left f = if f.reads then Some f.rest.now else None
+-- The text of a run of offsets: its first one, and its last one after a dash where that is another.
+abbrev pub offset_run_text : ℕ → ℕ → List ℕ
+offset_run_text low high = rank_text low ++ (if low == high then [] else codes "-" ++ rank_text high)
 
--- A field of this text was at the front, and what is left came after it; or the field didn't read.
-abbrev pub WasFirst : Fields → Fields → List ℕ → Type 0
-WasFirst before after text = IfSome (left after) (λ rest. left before ≡ Some (text ++ rest))
+-- The text of a set of offsets as version 3 has it.
+abbrev pub offset_set_text : Words → List ℕ
+offset_set_text s = if some_below 64 s then offset_marks 64 s else codes "-"
 
--- The text of a run: its first word, and its last word after a dash where that is another.
-abbrev pub run_text : ℕ → ℕ → List ℕ
-run_text low high = octal_text low ++ (if low == high then [] else codes "-" ++ octal_text high)
+-- The set with the numbers from one to another, both of them.
+abbrev pub with_run : ℕ → ℕ → Words → Words
+with_run low high s v = s v || (nat_le low v && nat_le v high)
 
--- No dash is next.
-abbrev pub NoDash : List ℕ → Type 0
-NoDash [] = Unit {0}
-NoDash (c ∷ cs) = c ≢ 45
+-- The text of the terms behind the second one, whose coefficient is this.
+abbrev pub third_text : ℕ → Option ℕ → List ℕ
+third_text c cell = flat_map further_text (third_terms c cell)
 
--- A field ends with its line, or before a space.
-abbrev pub EndsField : List ℕ → Type 0
-EndsField [] = Unit {0}
-EndsField (c ∷ cs) = c ≡ 32
+-- The text of a step without the space before it.
+abbrev pub step_rest : Step → List ℕ
+step_rest (Operates w) = octal_text w
+step_rest (Ands w) = codes "AND " ++ octal_text w
+step_rest (Adds w) = codes "TAD " ++ octal_text w
+
+-- There are 1 to 16 steps, each of its form.
+pub record AreSteps (ps : List Step) : Type 0 where
+  pub some : 1 ≤ length ps
+  pub few : length ps ≤ 16
+  pub form : list_all is_step ps ≡ true

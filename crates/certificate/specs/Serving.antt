@@ -1,27 +1,43 @@
--- Which faults are of the bytes of a text, and which of a read.
-use Rattle.std.specs.Prelude.{Result, Ok, Err, Bool, true, false}
+-- What reading a certificate takes from a source, and when it asks for memory.
+use Rattle.std.specs.Prelude.{◌≡◌, ℕ, ◌+◌, ◌≤◌, false, List, [], ◌∷◌, ◌++◌, length, take, flat_map, Err}
 use Rattle.certificate.specs.declared.CertificateFault.{CertificateFault}
-use Rattle.certificate.specs.declared.CertificateFault.TheVariants as faults
+use Rattle.certificate.specs.declared.Version.{Version}
+use Rattle.certificate.specs.FieldSpelling.{ended}
+use Rattle.certificate.specs.Pieces.{most_bytes}
+use Rattle.certificate.specs.Lines.{Line, is_end}
+use Rattle.certificate.specs.Spelling.{line_text, version_text}
+use Rattle.certificate.specs.Reading.{Progress, Start, After, after_line, reading}
 
--- This fault is that of a read that failed.
-abbrev pub is_read_fault : CertificateFault → Bool
-is_read_fault faults.ReadFault = true
-is_read_fault faults.Version = false
-is_read_fault (faults.BadLine n) = false
-is_read_fault (faults.Order n) = false
-is_read_fault faults.TooMany = false
-is_read_fault faults.NoMemory = false
+-- The bytes bring the answer that their text has this fault: whatever follows them, it has.
+abbrev pub Settles : List ℕ → CertificateFault → Type 0
+Settles bytes fault = (rest : List ℕ) → reading (bytes ++ rest) ≡ Err fault
 
--- This fault is one of the text's bytes: it isn't that memory was refused or that a read failed.
-abbrev pub is_of_bytes : CertificateFault → Bool
-is_of_bytes faults.ReadFault = false
-is_of_bytes faults.NoMemory = false
-is_of_bytes faults.Version = true
-is_of_bytes (faults.BadLine n) = true
-is_of_bytes (faults.Order n) = true
-is_of_bytes faults.TooMany = true
+-- The bytes bring no answer. That a text is a certificate is never known of its front, since nothing may follow.
+abbrev pub IsUnanswered : List ℕ → Type 0
+IsUnanswered bytes = (fault : CertificateFault) → Settles bytes fault → ⊥
 
--- The answer to reading a certificate is that a read of the source failed, and no other fault.
-abbrev pub failed_to_read : {T : Type 0} → Result T CertificateFault → Bool
-failed_to_read (Ok _) = false
-failed_to_read (Err fault) = is_read_fault fault
+-- At most so many bytes lie past the one that brings the answer: all fronts that leave more bring none.
+abbrev pub IsPrompt : ℕ → List ℕ → Type 0
+IsPrompt past given = (n : ℕ) → n + (past + 1) ≤ length given → IsUnanswered (take n given)
+
+-- Where reading stands after these lines more.
+abbrev pub after_lines : Progress → List (List ℕ) → Progress
+after_lines p [] = p
+after_lines p (line ∷ lines) = after_lines (after_line p line) lines
+
+-- The bytes begin with lines of which the last is taken and is not the end. It is kept, so there memory may be refused.
+pub record AsksForMemory (bytes : List ℕ) : Type 0 where
+  pub lines : List (List ℕ)
+  pub rest : List ℕ
+  pub split : bytes ≡ flat_map ended lines ++ rest
+  pub few : length (flat_map ended lines) ≤ most_bytes
+  pub version : Version
+  pub line : Line
+  pub before : List Line
+  pub reached : after_lines Start lines ≡ After version (line ∷ before)
+  pub grows : is_end line ≡ false
+
+-- The text of a version's line and of lines, of which the newest is the first.
+abbrev pub front : Version → List Line → List ℕ
+front v [] = ended (version_text v)
+front v (l ∷ ls) = front v ls ++ ended (line_text v l)

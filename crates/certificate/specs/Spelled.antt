@@ -1,14 +1,10 @@
--- The text of a line while it's written; it serves private contracts.
-use Rattle.std.specs.Prelude.{◌≡◌, ◌⊎◌, ℕ, ◌+◌, ◌<◌, ◌≤◌, true, false, List, ◌++◌, take}
-use Rattle.wordset.specs.Words.{Words}
+-- The text of several lines.
+use Rattle.std.specs.Prelude.{ℕ, List, flat_map}
+use Rattle.certificate.specs.declared.Version.{Version}
+use Rattle.certificate.specs.FieldSpelling.{ended}
+use Rattle.certificate.specs.Lines.{Line}
+use Rattle.certificate.specs.Spelling.{line_text}
 
--- A text was added to bytes, of which those past the length of the longest line aren't kept.
-pub record Adds (old new text : List ℕ) : Type 0 where
-  pub is : take 49153 new ≡ take 49153 (old ++ text)
-
--- From one word to another no word is in a set, and after the other one is, unless it's the last word that there is.
-pub record IsLastOf (others : Words) (low high : ℕ) : Type 0 where
-  pub order : low ≤ high
-  pub small : high < 4096
-  pub inside : (v : ℕ) → low ≤ v → v ≤ high → others v ≡ false
-  pub stops : (high ≡ 4095) ⊎ (others (high + 1) ≡ true)
+-- Lines with their line feeds.
+abbrev pub all_ended : Version → List Line → List ℕ
+all_ended v lines = flat_map (λ l. ended (line_text v l)) lines

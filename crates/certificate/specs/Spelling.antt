@@ -1,77 +1,120 @@
--- The one spelling of sets, names, registers, routines and cells in the text of a certificate.
-use Rattle.std.specs.Prelude.{ℕ, ◌+◌, ◌-◌, ◌/◌, ◌%◌, ◌==◌, Bool, not, ◌&&◌, ◌||◌, if◌then◌else◌, List, [], ◌∷◌, ◌++◌, codes}
+-- The one spelling of each line of a certificate's text, without its line feed.
+use Rattle.std.specs.Prelude.{ℕ, ◌+◌, ◌==◌, not, ◌&&◌, if◌then◌else◌, Option, Some, None, List, [], ◌∷◌, ◌++◌, codes, flat_map}
 use Rattle.std.proofs.Common.{zero, suc}
 use Rattle.word12.specs.Words.{octal_text}
-use Rattle.wordset.specs.Words.{Words, some_below, has_some}
-use Rattle.domain.specs.Facts.{Location, Ac, Cell}
-use Rattle.domain.specs.Statements.{TrackedCell}
+use Rattle.wordset.specs.Words.{Words, some_below, only}
+use Rattle.domain.specs.Terms.{Term, Holding, Behind, Summand, Sum}
+use Rattle.domain.specs.Chains.{Step, Operates, Ands, Adds, Chain}
+use Rattle.domain.specs.Facts.{Relation}
+use Rattle.certificate.specs.FieldSpelling.{Registers, begins, ends, digits, rank_text, set_text, name_text, offsets_text, routine_line, cell_line}
+use Rattle.certificate.specs.declared.Version.{Version}
+use Rattle.certificate.specs.declared.Version.TheVariants.{One, Two, Three}
+use Rattle.certificate.specs.Lines.{Line, RoutineIs, FactIs, ExitIs, CellIs, SumIs, ChainIs, End}
 
--- A routine: its entry, its rank, where it is called and what it may write.
-pub record RoutineLine : Type 0 where
-  pub entry : ℕ
-  pub rank : ℕ
-  pub sites : Words
-  pub writes : Words
+-- What is written at an offset, of two digits, in a set of offsets: as at a word in a set of words.
+abbrev pub offset_mark : Words → ℕ → List ℕ
+offset_mark set o =
+    (if begins set o then (if some_below o set then codes "," else []) ++ rank_text o else []) ++
+    (if ends set o && not (begins set o) then codes "-" ++ rank_text o else [])
 
--- A maximal run of a set's words begins.
-abbrev pub begins : Words → ℕ → Bool
-begins set a = set a && (a == 0 || not (set (a - 1)))
+-- What is written at the offsets below n, in rising order.
+unfoldable pub offset_marks : ℕ → Words → List ℕ
+offset_marks zero set = []
+offset_marks (suc n) set = offset_marks n set ++ offset_mark set n
 
--- A maximal run of a set's words ends.
-abbrev pub ends : Words → ℕ → Bool
-ends set a = set a && (a == 4095 || not (set (a + 1)))
+-- Offsets: in versions 1 and 2 their digits, in version 3 their runs with commas between them; - where there are none.
+abbrev pub offsets_line : Version → Words → List ℕ
+offsets_line One offsets = offsets_text offsets
+offsets_line Two offsets = offsets_text offsets
+offsets_line Three offsets = if some_below 64 offsets then offset_marks 64 offsets else codes "-"
 
--- What is written at a word: where a run begins its first word, after a comma if another came before; where one ends that has
--- more words its last word, after a dash.
-abbrev pub mark : Words → ℕ → List ℕ
-mark set a =
-    (if begins set a then (if some_below a set then codes "," else []) ++ octal_text a else []) ++
-    (if ends set a && not (begins set a) then codes "-" ++ octal_text a else [])
+-- The offset of an exit: one digit in versions 1 and 2, and two in version 3.
+abbrev pub offset_text : Version → ℕ → List ℕ
+offset_text One o = (48 + o) ∷ []
+offset_text Two o = (48 + o) ∷ []
+offset_text Three o = rank_text o
 
--- What is written at the words below n, in rising order.
-unfoldable pub marks : ℕ → Words → List ℕ
-marks zero set = []
-marks (suc n) set = marks n set ++ mark set n
+-- The sites of a fact or an exit, of which versions 1 and 2 say nothing.
+abbrev pub sites_text : Version → Words → List ℕ
+sites_text One sites = []
+sites_text Two sites = []
+sites_text Three sites = codes " sites " ++ set_text sites
 
--- A set of words, - for the empty one.
-abbrev pub set_text : Words → List ℕ
-set_text set = if has_some set then marks 4096 set else codes "-"
+-- The words of MQ, of which version 1 says nothing.
+abbrev pub mq_text : Version → Words → List ℕ
+mq_text One mq = []
+mq_text Two mq = codes " mq " ++ set_text mq
+mq_text Three mq = codes " mq " ++ set_text mq
 
--- The digits below n that are in a set, in rising order.
-unfoldable pub digits : ℕ → Words → List ℕ
-digits zero set = []
-digits (suc n) set = digits n set ++ (if set n then (48 + n) ∷ [] else [])
+-- What a line says of the registers.
+abbrev pub words_text : Version → Registers → List ℕ
+words_text v r = codes " ac " ++ set_text r.ac ++ mq_text v r.mq ++ codes " link " ++ digits 2 r.link
 
--- Offsets, - where there are none.
-abbrev pub offsets_text : Words → List ℕ
-offsets_text offsets = if some_below 8 offsets then digits 8 offsets else codes "-"
+-- A term: AC, a cell, or [X+K].
+abbrev pub term_text : Term → List ℕ
+term_text (Holding n) = name_text n
+term_text (Behind x k) = codes "[" ++ octal_text x ++ codes "+" ++ octal_text k ++ codes "]"
 
--- A name: AC or a cell.
-abbrev pub name_text : Location → List ℕ
-name_text Ac = codes "AC"
-name_text (Cell a) = octal_text a
+-- A coefficient: + for 1, - for minus one, else its four digits.
+abbrev pub coefficient_text : ℕ → List ℕ
+coefficient_text c = if c == 1 then codes "+" else (if c == 4095 then codes "-" else octal_text c)
 
--- The words of the accumulator and of MQ, and the links.
-pub record Registers : Type 0 where
-  pub ac : Words
-  pub mq : Words
-  pub link : Words
+-- A term behind the first one, with its coefficient, each after a space.
+abbrev pub further_text : Summand → List ℕ
+further_text s = codes " " ++ coefficient_text s.coefficient ++ codes " " ++ term_text s.term
 
--- The two octal digits of a rank.
-abbrev pub rank_text : ℕ → List ℕ
-rank_text n = (48 + n / 8) ∷ (48 + n % 8) ∷ []
+-- A sum: its first term, and then the others with their coefficients.
+abbrev pub sum_text : Sum → List ℕ
+sum_text [] = []
+sum_text (s ∷ ss) = term_text s.term ++ flat_map further_text ss
 
--- The spelling of a routine's line, without its line feed: the entry, the rank in two octal digits, the sites, and the
--- cells that may be written.
-abbrev pub routine_line : RoutineLine → List ℕ
-routine_line r =
-    codes "routine " ++ octal_text r.entry ++ codes " rank " ++ rank_text r.rank ++ codes " sites " ++ set_text r.sites ++
-    codes " writes " ++ set_text r.writes
+-- The two terms of a difference x - y.
+abbrev pub names_text : Sum → List ℕ
+names_text [] = []
+names_text (s ∷ []) = []
+names_text (s ∷ t ∷ ts) = term_text s.term ++ codes " " ++ term_text t.term
 
--- The spelling of a tracked cell's line, without its line feed: the address, and the words that the cell may hold.
-abbrev pub cell_line : TrackedCell → List ℕ
-cell_line c = codes "cell " ++ octal_text c.address ++ codes " " ++ set_text c.set
+-- The digits of a word, if there is one.
+abbrev pub word_text : Option ℕ → List ℕ
+word_text None = []
+word_text (Some w) = octal_text w
 
--- A line with its line feed, which is 10.
-abbrev pub ended : List ℕ → List ℕ
-ended bytes = bytes ++ 10 ∷ []
+-- The line that says x - y is k as versions 1 and 2 have it: the two names and the one word.
+abbrev pub equation_line : Relation → List ℕ
+equation_line r = codes "equal " ++ names_text r.sum ++ codes " " ++ word_text (only r.set)
+
+-- The line of a relation: in versions 1 and 2 an equation's, in version 3 that of a sum and its set.
+abbrev pub relation_line : Version → Relation → List ℕ
+relation_line One r = equation_line r
+relation_line Two r = equation_line r
+relation_line Three r = codes "sum " ++ sum_text r.sum ++ codes " in " ++ set_text r.set
+
+-- A step after a space.
+abbrev pub step_text : Step → List ℕ
+step_text (Operates w) = codes " " ++ octal_text w
+step_text (Ands w) = codes " AND " ++ octal_text w
+step_text (Adds w) = codes " TAD " ++ octal_text w
+
+-- The line of a chain: its cell, the number that is added, the links with which it begins, and its steps.
+abbrev pub chain_line : Chain → List ℕ
+chain_line c =
+    codes "func " ++ octal_text c.cell ++ codes " " ++ octal_text c.more ++ codes " link " ++ digits 2 c.link ++
+    flat_map step_text c.steps
+
+-- The one spelling of a line, without its line feed.
+abbrev pub line_text : Version → Line → List ℕ
+line_text v (RoutineIs r) = routine_line r
+line_text v (FactIs a s r o) =
+    codes "fact " ++ octal_text a ++ sites_text v s ++ words_text v r ++ codes " offsets " ++ offsets_line v o
+line_text v (ExitIs e o s r) =
+    codes "exit " ++ octal_text e ++ codes " " ++ offset_text v o ++ sites_text v s ++ words_text v r
+line_text v (CellIs c) = cell_line c
+line_text v (SumIs r) = relation_line v r
+line_text v (ChainIs c) = chain_line c
+line_text v End = codes "end"
+
+-- The first line of a certificate's text: a name and the version.
+abbrev pub version_text : Version → List ℕ
+version_text One = codes "PDP8-CERTIFICATE 1"
+version_text Two = codes "PDP8-CERTIFICATE 2"
+version_text Three = codes "PDP8-CERTIFICATE 3"

@@ -7,15 +7,15 @@ ghost use Rattle.streams.specs.Bytes.{AppendsFront};
 ghost use Rattle.certificate.specs.declared.CertificateFault.TheVariants as faults;
 ghost use Rattle.wordset.specs.Words.{HasNoneFrom, IsFirstFrom};
 ghost use Rattle.wordset.specs.Lanes.{words};
-ghost use Rattle.domain.specs.Sums.FactInCode.{fact_in_code};
-ghost use Rattle.certificate.specs.Sums.Certificate.{names_routine, claimed, has_any};
-ghost use Rattle.certificate.specs.Sums.Reading.{reading};
-ghost use Rattle.certificate.specs.Sums.Laws.{bytes_of};
-ghost use Rattle.certificate.specs.Sums.Made.{SitesAreAdded};
-ghost use Rattle.certificate.specs.Sums.Serving.{AsksForMemory};
-ghost use Rattle.certificate.specs.Sums.Kept.{meaning, claims, facts_from, exits_from, IsBeforeFacts, IsBeforeExits, HasShape, Follows};
-ghost use Rattle.certificate.specs.Sums.Exact.{AreLines, SpellingLaw, ReadingLaw};
-ghost use Rattle.certificate.specs.Sums.Written.{fact_text_at};
+ghost use Rattle.domain.specs.FactInCode.{fact_in_code};
+ghost use Rattle.certificate.specs.Certificate.{names_routine, claimed, has_any};
+ghost use Rattle.certificate.specs.Reading.{reading};
+ghost use Rattle.certificate.specs.Laws.{bytes_of};
+ghost use Rattle.certificate.specs.Made.{SitesAreAdded};
+ghost use Rattle.certificate.specs.Serving.{AsksForMemory};
+ghost use Rattle.certificate.specs.Kept.{meaning, claims, facts_from, exits_from, IsBeforeFacts, IsBeforeExits, HasShape, Follows};
+ghost use Rattle.certificate.specs.Exact.{AreLines, SpellingLaw, ReadingLaw};
+ghost use Rattle.certificate.specs.Written.{fact_text_at};
 
 use crate::lines::{behind, end_of, fact_line, first_routine, first_said};
 use crate::packed::{CertifiedFact, PackedLines};
@@ -110,8 +110,8 @@ pub struct Certificate<A: Allocator> {
 }
 
 impl<A: Allocator> Model for Certificate<A> {
-    ghost use Rattle.certificate.specs.Sums.Kept.{Kept};
-    ghost use Rattle.certificate.specs.Sums.Found.{IsWhole};
+    ghost use Rattle.certificate.specs.Kept.{Kept};
+    ghost use Rattle.certificate.specs.Found.{IsWhole};
 
     ghost Value = { Kept };
 

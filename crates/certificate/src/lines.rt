@@ -1,22 +1,22 @@
 //! The lines of a certificate as they are kept, and what is found in them.
 
 ghost use Rattle.std.specs.Prelude.{◌≡◌, ◌+◌, ◌<◌, ◌≤◌, List, [], ◌∷◌, ◌++◌, length, map, drop, get_or, slice_range, true, false, is_some, is_ok, Some, None, IfSome, OnOk, OnErr, if◌then◌else◌};
-ghost use Rattle.domain.specs.Sums.InCode.{sum_of};
-ghost use Rattle.domain.specs.Sums.ChainsInCode.{chain_of};
-ghost use Rattle.domain.specs.Sums.CellsInCode.{cell_set_of};
-ghost use Rattle.domain.specs.Sums.RelationsInCode.{relation_of};
-ghost use Rattle.domain.specs.Sums.FactInCode.{fact_in_code};
-ghost use Rattle.certificate.specs.Packed.{Begins};
-ghost use Rattle.certificate.specs.Reading.{Each};
-ghost use Rattle.certificate.specs.Sums.LineOf.{is_relation};
-ghost use Rattle.certificate.specs.Sums.Lines.{Line as SaidLine, CellIs, SumIs, ChainIs, is_end, is_routine, has_details};
-ghost use Rattle.certificate.specs.Sums.Reading.{cells_under, relations_under, chains_under};
-ghost use Rattle.certificate.specs.Sums.Packed.{said_at, said_lines, LiesWithin, IsNumbered, HasForm, claimed_line};
-ghost use Rattle.certificate.specs.Sums.Adding.{AddsAll, HasRoomUnder};
+ghost use Rattle.domain.specs.InCode.{sum_of};
+ghost use Rattle.domain.specs.ChainsInCode.{chain_of};
+ghost use Rattle.domain.specs.CellsInCode.{cell_set_of};
+ghost use Rattle.domain.specs.RelationsInCode.{relation_of};
+ghost use Rattle.domain.specs.FactInCode.{fact_in_code};
+ghost use Rattle.certificate.specs.Runs.{Begins};
+ghost use Rattle.certificate.specs.RisingLists.{Each};
+ghost use Rattle.certificate.specs.LineOf.{is_relation};
+ghost use Rattle.certificate.specs.Lines.{Line as SaidLine, CellIs, SumIs, ChainIs, is_end, is_routine, has_details};
+ghost use Rattle.certificate.specs.Reading.{cells_under, relations_under, chains_under};
+ghost use Rattle.certificate.specs.Packed.{said_at, said_lines, LiesWithin, IsNumbered, HasForm, claimed_line};
+ghost use Rattle.certificate.specs.Adding.{AddsAll, HasRoomUnder};
 ghost use Rattle.certificate.specs.declared.Version.{Version as Spelled};
-ghost use Rattle.certificate.specs.Sums.Found.{Keeps, unended, FitUnder, first_with_details, behind_details, begins, IsSaid, BeginsRoutine, IsWhole};
-ghost use Rattle.certificate.specs.Sums.Written.{facts_lines};
-ghost use Rattle.certificate.specs.Sums.Made.{details_of, AreDetails};
+ghost use Rattle.certificate.specs.Found.{Keeps, unended, FitUnder, first_with_details, behind_details, begins, IsSaid, BeginsRoutine, IsWhole};
+ghost use Rattle.certificate.specs.Written.{facts_lines};
+ghost use Rattle.certificate.specs.Made.{details_of, AreDetails};
 
 use crate::RoutineClaim;
 use crate::packed::{

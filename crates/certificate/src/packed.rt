@@ -4,28 +4,28 @@ ghost use Rattle.std.specs.Prelude.{ℕ, ◌≡◌, ◌+◌, ◌<◌, ◌≤◌,
 ghost use Rattle.wordset.specs.Words.{nothing};
 ghost use Rattle.wordset.specs.Lanes.{words};
 ghost use Rattle.wordset.specs.Links.{links_of};
-ghost use Rattle.domain.specs.Facts.{Ac, Cell as SaidCell};
-ghost use Rattle.domain.specs.Meaning.{location_of};
-ghost use Rattle.domain.specs.Sums.Terms.{difference_of, Holding};
+ghost use Rattle.domain.specs.Locations.{Ac, Cell as SaidCell};
+ghost use Rattle.domain.specs.LocationsInCode.{location_of};
+ghost use Rattle.domain.specs.Terms.{difference_of, Holding};
 ghost use Rattle.std.specs.List.{list_all};
-ghost use Rattle.domain.specs.Sums.Chains.{Operates};
-ghost use Rattle.domain.specs.Sums.InCode.{summand_of, sum_of};
-ghost use Rattle.domain.specs.Sums.ChainsInCode.{step_of, chain_of};
-ghost use Rattle.domain.specs.Sums.Offsets.{offsets_in};
-ghost use Rattle.domain.specs.Sums.Brief.{brief_words};
-ghost use Rattle.domain.specs.Sums.CellsInCode.{cell_sets_of};
-ghost use Rattle.domain.specs.Sums.FactInCode.{fact_in_code, names_words};
+ghost use Rattle.domain.specs.Chains.{Operates};
+ghost use Rattle.domain.specs.InCode.{summand_of, sum_of};
+ghost use Rattle.domain.specs.ChainsInCode.{step_of, chain_of};
+ghost use Rattle.domain.specs.Offsets.{offsets_in};
+ghost use Rattle.domain.specs.Brief.{brief_words};
+ghost use Rattle.domain.specs.CellsInCode.{cell_sets_of};
+ghost use Rattle.domain.specs.FactInCode.{fact_in_code, names_words};
 ghost use Rattle.certificate.specs.declared.runs.Run.{Run};
 ghost use Rattle.domain.specs.declared.chains.Step.{Step};
-ghost use Rattle.certificate.specs.Packed.{Begins, added, set_at, registers_at, AreWithin};
+ghost use Rattle.certificate.specs.Runs.{Begins, added, set_at, registers_at, AreWithin};
 ghost use Rattle.certificate.specs.declared.packed.PackedLine.TheVariants as packed;
-ghost use Rattle.certificate.specs.Sums.Lines.{ChainIs, is_detail, is_end, is_chain, has_details, is_routine};
-ghost use Rattle.certificate.specs.Sums.LineOf.{is_term, is_summand, is_relation, is_step};
-ghost use Rattle.certificate.specs.Sums.Order.{sum_is_before, detail_is_before};
-ghost use Rattle.certificate.specs.Sums.Reading.{fact_said};
-ghost use Rattle.certificate.specs.Sums.Packed.{third_terms, packed_sum_of, said_at, said_lines, said_of, LiesWithin, LieWithin, IsNumbered, HasForm, run_count, step_count, claimed_line, sited_line, sites_if, registers_in_fact, IsPacked};
-ghost use Rattle.certificate.specs.Sums.Adding.{Adds, HasRoomFor};
-ghost use Rattle.certificate.specs.Sums.Found.{past, last_past, AreRising, from_place, begins_at, least_place, IsSaid, IsRoutineLine};
+ghost use Rattle.certificate.specs.Lines.{ChainIs, is_detail, is_end, is_chain, has_details, is_routine};
+ghost use Rattle.certificate.specs.LineOf.{is_term, is_summand, is_relation, is_step};
+ghost use Rattle.certificate.specs.Order.{sum_is_before, detail_is_before};
+ghost use Rattle.certificate.specs.Reading.{fact_said};
+ghost use Rattle.certificate.specs.Packed.{third_terms, packed_sum_of, said_at, said_lines, said_of, LiesWithin, LieWithin, IsNumbered, HasForm, run_count, step_count, claimed_line, sited_line, sites_if, registers_in_fact, IsPacked};
+ghost use Rattle.certificate.specs.Adding.{Adds, HasRoomFor};
+ghost use Rattle.certificate.specs.Found.{past, last_past, AreRising, from_place, begins_at, least_place, IsSaid, IsRoutineLine};
 
 use crate::RoutineClaim;
 use crate::progress::{LAST_PLACE, place_of};
@@ -388,8 +388,8 @@ pub struct PackedLines<A: Allocator> {
 }
 
 impl<A: Allocator> Model for PackedLines<A> {
-    ghost use Rattle.certificate.specs.Sums.Packed.{Packed};
-    ghost use Rattle.certificate.specs.Sums.Found.{AreKept};
+    ghost use Rattle.certificate.specs.Packed.{Packed};
+    ghost use Rattle.certificate.specs.Found.{AreKept};
 
     ghost Value = { Packed };
 
@@ -807,7 +807,7 @@ pub fn routine_of(lent: &LentLine<'_>) -> Option<RoutineClaim>
     }
 }
 
-/// Adds runs and steps behind others; where that is refused, some of them.
+/// Adds runs and steps behind others; where that is refused, some of them. Only a chain has steps.
 fn lay_all<A: Allocator>(
     runs: &mut Vec<Run, A>,
     steps: &mut Vec<Step, A>,
@@ -820,6 +820,9 @@ fn lay_all<A: Allocator>(
         (steps.new.items ≡ steps.old.items ++ further.now)) }
 {
     runs.extend_from_slice(more)?;
+    if further.is_empty() {
+        return Ok(());
+    }
     steps.extend_from_slice(further)
 }
 

@@ -3,11 +3,11 @@
 ghost use Rattle.std.specs.Prelude.{ℕ, ◌≡◌, ◌+◌, ◌<◌, ◌≤◌, ◌^◌, List, [], ◌∷◌, ◌++◌, length, take, get_or, IfOk, MatchResult, Some, None, Err};
 ghost use Rattle.std.specs.Prelude.{IfSome, false, true};
 ghost use Rattle.certificate.specs.declared.Version.{Version as Spelled};
-ghost use Rattle.certificate.specs.Sums.Spelling.{version_text};
-ghost use Rattle.certificate.specs.Faults.{most_bytes};
-ghost use Rattle.certificate.specs.Sums.Reading.{reading};
-ghost use Rattle.certificate.specs.Sums.Packed.{Packed};
-ghost use Rattle.certificate.specs.Sums.Parser.{NoFeed, WasRead, Parts, Seen, IsSmall, Refuses, IsParsed};
+ghost use Rattle.certificate.specs.Spelling.{version_text};
+ghost use Rattle.certificate.specs.Pieces.{most_bytes};
+ghost use Rattle.certificate.specs.Reading.{reading};
+ghost use Rattle.certificate.specs.Packed.{Packed};
+ghost use Rattle.certificate.specs.Parser.{NoFeed, WasRead, Parts, Seen, IsSmall, Refuses, IsParsed};
 
 use crate::packed::{PackedLines, Steps};
 use crate::progress::Progress;

@@ -3,11 +3,11 @@
 ghost use Rattle.std.specs.Prelude.{◌≡◌, ◌⊎◌, ◌≤◌, Ok, Err, IfErr, IfOk, IfSome, false, length};
 ghost use Rattle.streams.specs.Bytes.{Gave};
 ghost use Rattle.certificate.specs.declared.CertificateFault.TheVariants.{NoMemory, ReadFault};
-ghost use Rattle.certificate.specs.Sums.Reading.{reading};
-ghost use Rattle.certificate.specs.Sums.Kept.{meaning};
-ghost use Rattle.certificate.specs.Serving.{failed_to_read};
-ghost use Rattle.certificate.specs.Sums.Serving.{IsPrompt, IsUnanswered, AsksForMemory};
-ghost use Rattle.certificate.specs.Sums.Parser.{Serves};
+ghost use Rattle.certificate.specs.Reading.{reading};
+ghost use Rattle.certificate.specs.Kept.{meaning};
+ghost use Rattle.certificate.specs.ReadFaults.{failed_to_read};
+ghost use Rattle.certificate.specs.Serving.{IsPrompt, IsUnanswered, AsksForMemory};
+ghost use Rattle.certificate.specs.Parser.{Serves};
 
 use crate::parser::Parser;
 use crate::{Certificate, CertificateFault};

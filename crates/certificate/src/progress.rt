@@ -3,10 +3,10 @@
 ghost use Rattle.std.specs.Prelude.{◌≡◌, ◌+◌, ◌<◌, ◌≤◌, ◌^◌, List, [], ◌∷◌, length, true, false, IfOk};
 ghost use Rattle.certificate.specs.declared.runs.Run.{Run};
 ghost use Rattle.domain.specs.declared.chains.Step.{Step};
-ghost use Rattle.certificate.specs.Sums.Lines.{Line as SaidLine, is_detail};
-ghost use Rattle.certificate.specs.Sums.Order.{may_stand, place_of_head, comes_in_order, has_room, may_be_level, heads, follows_newest};
-ghost use Rattle.certificate.specs.Sums.Progress.{Tracks, TracksOthers, Fits, Takes};
-ghost use Rattle.certificate.specs.Sums.Packed.{said_at, LiesWithin, IsNumbered};
+ghost use Rattle.certificate.specs.Lines.{Line as SaidLine, is_detail};
+ghost use Rattle.certificate.specs.Order.{may_stand, place_of_head, comes_in_order, has_room, may_be_level, heads, follows_newest};
+ghost use Rattle.certificate.specs.Progress.{Tracks, TracksOthers, Fits, Takes};
+ghost use Rattle.certificate.specs.Packed.{said_at, LiesWithin, IsNumbered};
 
 use crate::line::read_line;
 use crate::packed::{PackedLine, Steps};

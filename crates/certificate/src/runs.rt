@@ -1,10 +1,11 @@
 //! Sets of words packed: each by its runs, and the runs of all sets in one list.
 
 ghost use Rattle.std.specs.Prelude.{◌≡◌, ◌+◌, ◌<◌, ◌≤◌, length, drop, true, false, IfOk, OnOk};
+ghost use Rattle.wordset.specs.Words.{between, union};
 ghost use Rattle.wordset.specs.Lanes.{words};
 ghost use Rattle.certificate.specs.declared.runs.Run.{Run};
-ghost use Rattle.certificate.specs.Spelled.{IsLastOf};
-ghost use Rattle.certificate.specs.Packed.{Begins, set_of_runs, added, set_at, StandApart, AreLaid};
+ghost use Rattle.certificate.specs.LineText.{IsLastOf};
+ghost use Rattle.certificate.specs.Runs.{Begins, set_of_runs, added, set_at, StandApart, AreLaid};
 
 use arrayvec::ArrayVec;
 use std::alloc::{AllocError, Allocator};
@@ -139,6 +140,17 @@ pub fn set_of(runs: &[Run]) -> WordSet
     set
 }
 
+/// Adds the words of a run to a set: quick for one word.
+fn insert_run(run: &Run, place: &mut WordSet)
+    ensures { words place.new ≡ union (words place.old) (between run.now.first run.now.last) }
+{
+    if run.first == run.last {
+        place.insert(run.first);
+        return;
+    }
+    place.insert_range(run.first, run.last);
+}
+
 /// Puts the set of which these are runs into its place, of any count of runs.
 #[inline(never)]
 pub fn put_runs(runs: &[Run], place: &mut WordSet)
@@ -146,7 +158,7 @@ pub fn put_runs(runs: &[Run], place: &mut WordSet)
 {
     *place = WordSet::empty();
     for run in runs {
-        place.insert_range(run.first, run.last);
+        insert_run(run, place);
     }
 }
 

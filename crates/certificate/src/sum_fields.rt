@@ -3,17 +3,17 @@
 ghost use Rattle.std.specs.Prelude.{ℕ, ◌≡◌, ◌<◌, ◌≤◌, ◌==◌, List, [], ◌∷◌, ◌++◌, length, map, take, flat_map, Option, codes, true, false, Some, None, IfSome};
 ghost use Rattle.std.specs.Option.{IsSomeAnd};
 ghost use Rattle.wordset.specs.Words.{Words, some_below};
-ghost use Rattle.domain.specs.Sums.InCode.{term_of, summand_of};
-ghost use Rattle.domain.specs.Sums.ChainsInCode.{step_of};
-ghost use Rattle.domain.specs.Sums.Offsets.{offsets_in};
-ghost use Rattle.domain.specs.Sums.Terms as said;
-ghost use Rattle.domain.specs.Sums.Chains.{Step as SaidStep};
-ghost use Rattle.certificate.specs.Reading.{EndsBefore};
-ghost use Rattle.certificate.specs.Fields.{left, WasFirst, NoDash, EndsField};
-ghost use Rattle.certificate.specs.Sums.Fields.{offset_run_text, offset_set_text, with_run, third_text, step_rest, AreSteps};
-ghost use Rattle.certificate.specs.Sums.Spelling.{offset_marks, term_text, coefficient_text, further_text, sum_text, step_text};
-ghost use Rattle.certificate.specs.Sums.LineOf.{is_term, is_relation, is_step};
-ghost use Rattle.certificate.specs.Sums.Packed.{third_terms, packed_sum_of};
+ghost use Rattle.domain.specs.InCode.{term_of, summand_of};
+ghost use Rattle.domain.specs.ChainsInCode.{step_of};
+ghost use Rattle.domain.specs.Offsets.{offsets_in};
+ghost use Rattle.domain.specs.Terms as said;
+ghost use Rattle.domain.specs.Chains.{Step as SaidStep};
+ghost use Rattle.certificate.specs.RisingLists.{EndsBefore};
+ghost use Rattle.certificate.specs.FieldsLeft.{left, WasFirst, NoDash, EndsField};
+ghost use Rattle.certificate.specs.Fields.{offset_run_text, offset_set_text, with_run, third_text, step_rest, AreSteps};
+ghost use Rattle.certificate.specs.Spelling.{offset_marks, term_text, coefficient_text, further_text, sum_text, step_text};
+ghost use Rattle.certificate.specs.LineOf.{is_term, is_relation, is_step};
+ghost use Rattle.certificate.specs.Packed.{third_terms, packed_sum_of};
 
 use crate::fields::Fields;
 use crate::packed::{PackedSum, Steps, is_relation, is_step};

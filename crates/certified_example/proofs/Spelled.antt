@@ -5,13 +5,13 @@ use Rattle.wordset.specs.Words.{Words, nothing, all_words, all_links, one, some_
 use Rattle.wordset.proofs.LinkLemmas.{two_are}
 use Rattle.wordset.proofs.SetLemmas.{all_past}
 use Rattle.certificate.specs.declared.Version.TheVariants.{One}
-use Rattle.certificate.specs.Faults.{most_bytes}
-use Rattle.certificate.specs.Spelling.{marks, digits}
-use Rattle.certificate.specs.Reading.{EndsBefore}
-use Rattle.certificate.specs.Sums.Exact.{AreLines}
-use Rattle.certificate.specs.Sums.Found.{IsLine}
-use Rattle.certificate.specs.Sums.Laws.{RegistersFit, bytes_of}
-use Rattle.certificate.specs.Sums.Reading.{reading}
+use Rattle.certificate.specs.Pieces.{most_bytes}
+use Rattle.certificate.specs.FieldSpelling.{marks, digits}
+use Rattle.certificate.specs.RisingLists.{EndsBefore}
+use Rattle.certificate.specs.Exact.{AreLines}
+use Rattle.certificate.specs.Found.{IsLine}
+use Rattle.certificate.specs.Laws.{RegistersFit, bytes_of}
+use Rattle.certificate.specs.Reading.{reading}
 use Rattle.certificate.proofs.SumExactLemmas.{reading_law}
 use Rattle.certified_example.specs.Example.{in_main, lines, with_ac}
 use Rattle.certified_example.specs.Written.{IsWritten, certificate_text}

@@ -6,22 +6,22 @@ use Rattle.instruct.specs.Instructions.{meaning_of}
 use Rattle.wordset.specs.Words.{Words, plus, nothing, all_words, all_links, one, some_below, how_many, IsWithin}
 use Rattle.wordset.proofs.Tests.{some_from}
 use Rattle.declaration.specs.Declaration.{Routine, IsDeclared}
-use Rattle.domain.specs.Facts.{Location, Ac, Cell}
-use Rattle.domain.specs.Statements.{TrackedCell}
-use Rattle.domain.specs.Sums.Facts.{Fact, Place, OfEquations}
-use Rattle.domain.specs.Sums.Narrowing.{narrowed, words_known}
-use Rattle.domain.specs.Sums.Moves.{joined}
+use Rattle.domain.specs.Locations.{Location, Ac, Cell}
+use Rattle.domain.specs.TrackedCells.{TrackedCell}
+use Rattle.domain.specs.Facts.{Fact, Place, OfEquations}
+use Rattle.domain.specs.Narrowing.{narrowed, words_known}
+use Rattle.domain.specs.Moves.{joined}
 use Rattle.facts.specs.declared.Condition.TheVariants.{V1, V2, V3, V4, V5, V6, V7, V8, V9, V10, V11, V12, V13, V14, V15}
-use Rattle.facts.specs.Sums.References.{possible}
-use Rattle.facts.specs.Sums.Outcomes.{Successor, Goes, given, dca_case, stored_by}
-use Rattle.facts.specs.Sums.Operations.{operated2, part2}
-use Rattle.facts.specs.Sums.Entailment.{Entails}
-use Rattle.facts.specs.Sums.Starts.{start_fact}
-use Rattle.certificate.specs.Sums.Certificate.{has_exits}
-use Rattle.certificate.specs.Sums.Reading.{all_offsets, sets_of}
-use Rattle.judge.specs.Sums.Landing.{place_in, sited, asked, asked_at, called_from, LandsAt, EachLandsAfter, EachSuccessor, SuccessorLands}
-use Rattle.judge.specs.Sums.Conditions.{EachFact, HoldsForWords, IsPlaced, IsValid, MayReturn}
-use Rattle.judge.proofs.Sums.Fine.{Fine}
+use Rattle.facts.specs.References.{possible}
+use Rattle.facts.specs.Outcomes.{Successor, Goes, given, dca_case, stored_by}
+use Rattle.facts.specs.Operations.{operated2, part2}
+use Rattle.facts.specs.Entailment.{Entails}
+use Rattle.facts.specs.Starts.{start_fact}
+use Rattle.certificate.specs.Certificate.{has_exits}
+use Rattle.certificate.specs.Reading.{all_offsets, sets_of}
+use Rattle.judge.specs.Landing.{place_in, sited, asked, asked_at, called_from, LandsAt, EachLandsAfter, EachSuccessor, SuccessorLands}
+use Rattle.judge.specs.Conditions.{EachFact, HoldsForWords, IsPlaced, IsValid, MayReturn}
+use Rattle.judge.proofs.Fine.{Fine}
 use Rattle.certified_example.specs.Example.{main_cells, body, declaration, image, certificate, example}
 use Rattle.certified_example.proofs.Sets.{and_false, none_in, few, only_one}
 

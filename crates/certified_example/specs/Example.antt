@@ -4,12 +4,12 @@ use Rattle.instruct.specs.declared.Profile.TheVariants.{Pdp8I}
 use Rattle.wordset.specs.Words.{Words, nothing, all_words, all_links, one}
 use Rattle.processor.specs.Runs.{Image}
 use Rattle.declaration.specs.Declaration.{Routine, Declaration}
-use Rattle.certificate.specs.Spelling.{Registers}
+use Rattle.certificate.specs.FieldSpelling.{Registers}
 use Rattle.certificate.specs.declared.Version.TheVariants.{One}
-use Rattle.certificate.specs.Sums.Certificate.{Certificate}
-use Rattle.certificate.specs.Sums.Lines.{Line, RoutineIs, FactIs, ExitIs, CellIs, End}
-use Rattle.certificate.specs.Sums.Reading.{Text, certificate_of}
-use Rattle.judge.specs.Sums.Landing.{Case}
+use Rattle.certificate.specs.Certificate.{Certificate}
+use Rattle.certificate.specs.Lines.{Line, RoutineIs, FactIs, ExitIs, CellIs, End}
+use Rattle.certificate.specs.Reading.{Text, certificate_of}
+use Rattle.judge.specs.Landing.{Case}
 
 -- 0200: DCA 0202, which clears the accumulator; 0201: DCA 0202, which makes the next word AND 0000; 0202: NOP on the tape;
 -- 0203: JMS 0210; 0204: TAD I 10, which steps the pointer in 0010; 0205: HLT, a pause; 0206: JMP 0200.

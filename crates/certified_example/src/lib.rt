@@ -8,7 +8,7 @@ ghost use Rattle.wordset.specs.Words.{Words, nothing};
 ghost use Rattle.declaration.specs.Declaration.{IsDeclared};
 ghost use Rattle.policy.specs.Runs.{IsSafe};
 ghost use Rattle.policy.specs.declared.rules.Rule.TheVariants as rule;
-ghost use Rattle.judge.specs.Sums.Conditions.{IsValid};
+ghost use Rattle.judge.specs.Conditions.{IsValid};
 ghost use Rattle.certified_example.specs.Example.{image, declaration, example};
 ghost use Rattle.certified_example.specs.Broken.{IsUnsafe, bare, image_with};
 ghost use Rattle.certified_example.specs.Forbidden.{BreaksAlone, changing, two_cells};

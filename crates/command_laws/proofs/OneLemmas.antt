@@ -11,6 +11,7 @@ use Rattle.peripherals.proofs.OneLemmas.{one_world}
 use Rattle.machine_commands.specs.declared.follow.End.{End}
 use Rattle.machine_commands.specs.declared.follow.End.TheVariants.{Unsupported}
 use Rattle.wordset.specs.Lanes.{words}
+use Rattle.command_parts.specs.declared.options.SummaryForm.{SummaryForm}
 use Rattle.command_parts.specs.declared.options.RunOptions.{RunOptions}
 use Rattle.machine_commands.specs.Follows.{Follows, Ended, Stuck, Stopped, Went, end_of, goes_on, counted}
 use Rattle.bin_tape.specs.Laws.{TapeImageIsOne}
@@ -106,32 +107,32 @@ comes_one schedule p s w es fs (Then _ _ m e more is on a f) (Then _ _ m' d more
     ap (λ (l : List Event). e ∷ l) rest ∙ ap (λ (x : Event). x ∷ more') (sym same)
 
 -- what is held by one schedule is one
-held_one : {S : Type 0} (schedule : Schedule S) (s : S) (options : RunOptions) (apart : Bool) (image : List (Option ℕ)) (text text' printed printed' punched punched' : List ℕ) (status status' : Status) →
-    IsHeld (λ p w extent es. Comes schedule p extent s w es) options apart Whole image text printed punched status → IsHeld (λ p w extent es. Comes schedule p extent s w es) options apart Whole image text' printed' punched' status' →
+held_one : {S : Type 0} (schedule : Schedule S) (s : S) (options : RunOptions) (form : SummaryForm) (image : List (Option ℕ)) (text text' printed printed' punched punched' : List ℕ) (status status' : Status) →
+    IsHeld (λ p w extent es. Comes schedule p extent s w es) options form Whole image text printed punched status → IsHeld (λ p w extent es. Comes schedule p extent s w es) options form Whole image text' printed' punched' status' →
     (text ≡ text') × (printed ≡ printed') × (punched ≡ punched') × (status ≡ status')
-held_one schedule s options apart image text text' printed printed' punched punched' status status' a b =
+held_one schedule s options form image text text' printed printed' punched punched' status status' a b =
     let come : b.events ≡ a.events = comes_one schedule options.profile s (fresh image options.start) b.events a.events b.come a.come in
     let follows : Follows options.profile true a.events (fresh image options.start) b.lines b.steps b.end b.final =
     subst (λ (es : List Event). Follows options.profile true es (fresh image options.start) b.lines b.steps b.end b.final) come b.follows in
     let one = follows_one options.profile true a.events (fresh image options.start) a.lines b.lines a.steps b.steps a.end b.end a.final b.final a.follows follows in (
-      a.text_is ∙ (ap (λ (l : List ℕ). traced options.trace l ++ summary_where (words options.show) apart Whole a.end a.final a.steps) one.same_lines ∙ (ap (λ (e : End). traced options.trace b.lines ++ summary_where (words options.show) apart Whole e a.final a.steps) one.same_end
-          ∙ (ap (λ (x : WorldState). traced options.trace b.lines ++ summary_where (words options.show) apart Whole b.end x a.steps) one.same_final ∙ (ap (λ (n : ℕ). traced options.trace b.lines ++ summary_where (words options.show) apart Whole b.end b.final n) one.same_steps ∙ sym b.text_is)))),
+      a.text_is ∙ (ap (λ (l : List ℕ). traced options.trace l ++ summary_where (words options.show) form Whole a.end a.final a.steps) one.same_lines ∙ (ap (λ (e : End). traced options.trace b.lines ++ summary_where (words options.show) form Whole e a.final a.steps) one.same_end
+          ∙ (ap (λ (x : WorldState). traced options.trace b.lines ++ summary_where (words options.show) form Whole b.end x a.steps) one.same_final ∙ (ap (λ (n : ℕ). traced options.trace b.lines ++ summary_where (words options.show) form Whole b.end b.final n) one.same_steps ∙ sym b.text_is)))),
       a.printed_is ∙ (ap (λ (x : WorldState). printed_in x) one.same_final ∙ sym b.printed_is),
       a.punched_is ∙ (ap (λ (x : WorldState). x.devices.punch.output) one.same_final ∙ sym b.punched_is),
       a.status_is ∙ (ap status_of one.same_end ∙ sym b.status_is),
     )
 
 pub sessions_are_one : SessionsAreOne
-sessions_are_one options plan image text text' printed printed' punched punched' status status' a b =
-    held_one operating (first_place plan) options false image text text' printed printed' punched punched' status status' a b
+sessions_are_one options form plan image text text' printed printed' punched punched' status status' a b =
+    held_one operating (first_place plan) options form image text text' printed printed' punched punched' status status' a b
 
 pub typed_are_one : TypedAreOne
-typed_are_one options frames bytes image text text' printed printed' punched punched' status status' a b =
-    held_one typing (first_sitting options.switches options.manner frames bytes) (run_of options) true image text text' printed printed' punched punched' status status' a b
+typed_are_one options form frames bytes image text text' printed printed' punched punched' status status' a b =
+    held_one typing (first_sitting options.switches options.manner frames bytes) (run_of options) form image text text' printed printed' punched punched' status status' a b
 
 -- what is watched is what is run
 pub watched_as_run : TapeImageIsOne → WatchedAsRun
-watched_as_run one options tape text reader keys explained told seen written printed punched status watched run =
+watched_as_run one options form tape text reader keys explained told seen written printed punched status watched run =
     let d = watched.declaration in
     let image : run.image ≡ watched.image = one (take 65536 tape) run.image watched.image run.has_image watched.has_image in
     let frames : run.frames ≡ watched.frames = run.frames_are ∙ sym watched.frames_are in

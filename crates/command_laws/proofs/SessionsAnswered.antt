@@ -184,12 +184,12 @@ runs (suc fuel) p plan last w (Some e) is small all tells =
     (runs fuel p (left_after e plan) (Some e) next.0 (due (left_after e plan) next.0 (Some e)) refl (omega (arith, less plan w last e is)) (all_left plan e all) next.2)
 
 pub sessions_end : SessionsEnd
-sessions_end options plan image all =
+sessions_end options form plan image all =
     let w = fresh image options.start in
     let idles : Tells w.devices = record { key = omega arith; frame = omega arith; switches = omega arith } in
     let run : Run options.profile plan None w = runs (left plan None + 1) options.profile plan None w (due plan w None) refl (omega arith) all idles in
     let r = run.ends in (
-      traced options.trace r.0 ++ summary_where (words options.show) false Whole r.2 r.3 r.1,
+      traced options.trace r.0 ++ summary_where (words options.show) form Whole r.2 r.3 r.1,
       printed_in r.3,
       r.3.devices.punch.output,
       status_of r.2,

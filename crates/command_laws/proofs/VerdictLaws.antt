@@ -5,23 +5,23 @@ use Rattle.bin_tape.proofs.OneAnswer.{one_tape}
 use Rattle.peripherals.specs.Loading.{image_of}
 use Rattle.declaration.specs.Declaration.{Declaration}
 use Rattle.declaration.proofs.AnswerLemmas.{one_declaration}
-use Rattle.domain.specs.Sums.Facts.{Rules}
+use Rattle.domain.specs.Facts.{Rules}
 use Rattle.certificate.specs.declared.Version.{Version}
 use Rattle.certificate.specs.declared.Version.TheVariants.{One, Two, Three}
-use Rattle.certificate.specs.Faults.{most_bytes}
-use Rattle.certificate.specs.Sums.Certificate.{Certificate}
-use Rattle.certificate.specs.Sums.Exact.{AreLines}
-use Rattle.certificate.specs.Sums.Found.{Follow}
-use Rattle.certificate.specs.Sums.Laws.{bytes_of}
-use Rattle.certificate.specs.Sums.Lines.{Line, rules_of}
-use Rattle.certificate.specs.Sums.Made.{migrated, with_mq}
-use Rattle.certificate.specs.Sums.Reading.{Text, certificate_of}
+use Rattle.certificate.specs.Pieces.{most_bytes}
+use Rattle.certificate.specs.Certificate.{Certificate}
+use Rattle.certificate.specs.Exact.{AreLines}
+use Rattle.certificate.specs.Found.{Follow}
+use Rattle.certificate.specs.Laws.{bytes_of}
+use Rattle.certificate.specs.Lines.{Line, rules_of}
+use Rattle.certificate.specs.Made.{migrated, with_mq}
+use Rattle.certificate.specs.Reading.{Text, certificate_of}
 use Rattle.certificate.proofs.SumExactLemmas.{spelling_law}
 use Rattle.certificate.proofs.SumMadeLemmas.{line_two}
-use Rattle.judge.specs.Sums.Landing.{Case}
+use Rattle.judge.specs.Landing.{Case}
 use Rattle.judge.specs.declared.judging.Refusal.{Refusal}
-use Rattle.judge.proofs.Sums.FirstLemmas.{one_first}
-use Rattle.judge.proofs.Sums.ReadingLemmas.{none_fails}
+use Rattle.judge.proofs.FirstLemmas.{one_first}
+use Rattle.judge.proofs.ReadingLemmas.{none_fails}
 use Rattle.facts.specs.declared.Condition.{Condition}
 use Rattle.search_commands.specs.GuessText.{IsGuess}
 use Rattle.diagnostics.specs.CheckText.{IsCheckedSo, IsVerdict, checked_case, verdict_status, verdict_text, yes_text}

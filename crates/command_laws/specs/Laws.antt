@@ -4,6 +4,7 @@ use Rattle.std.specs.Prelude.{None, ℕ, ◌≡◌, ◌<◌, ◌≤◌, Bool, tr
 use Rattle.std.specs.List.{AllByRecursion}
 use Rattle.peripherals.specs.declared.Event.{Event}
 use Rattle.peripherals.specs.declared.Event.TheVariants.{Step, Key, PrinterDone, ReaderDone, PunchDone, Switches, Continue}
+use Rattle.command_parts.specs.declared.options.SummaryForm.{SummaryForm}
 use Rattle.command_parts.specs.declared.options.RunOptions.{RunOptions}
 use Rattle.command_parts.specs.declared.status.Fault.{Fault}
 use Rattle.command_parts.specs.declared.status.Fault.TheVariants.{EmptyImage, Source, Device}
@@ -16,7 +17,7 @@ use Rattle.pal_text.specs.declared.names.Name.{Name}
 use Rattle.pal_acts.specs.Permanent.{permanent_symbols}
 use Rattle.pal_asm.specs.Sources.{Means, IsFault}
 use Rattle.pal_asm.specs.declared.fault.PalFault.{PalFault}
-use Rattle.certificate.specs.Faults.{most_bytes}
+use Rattle.certificate.specs.Pieces.{most_bytes}
 use Rattle.search_commands.specs.GuessText.{IsGuess}
 use Rattle.search_commands.specs.MigrateText.{IsMigrated}
 use Rattle.diagnostics.specs.CheckText.{IsCheckedSo}
@@ -72,26 +73,26 @@ pub record CarriesAll (plan : Plan) : Type 0 where
 -- punched, and its status.
 abbrev pub SessionsEnd : Type 0
 SessionsEnd =
-    (options : RunOptions) (plan : Plan) (image : List (Option ℕ)) → CarriesAll plan →
+    (options : RunOptions) (form : SummaryForm) (plan : Plan) (image : List (Option ℕ)) → CarriesAll plan →
     (text : List ℕ) × (printed : List ℕ) × (punched : List ℕ) × (status : Status) ×
-    IsSessionOf options Whole plan image text printed punched status
+    IsSessionOf options form Whole plan image text printed punched status
 
 -- There is no other such end.
 abbrev pub SessionsAreOne : Type 0
 SessionsAreOne =
-    (options : RunOptions) (plan : Plan) (image : List (Option ℕ))
+    (options : RunOptions) (form : SummaryForm) (plan : Plan) (image : List (Option ℕ))
     (text text' printed printed' punched punched' : List ℕ) (status status' : Status) →
-    IsSessionOf options Whole plan image text printed punched status →
-    IsSessionOf options Whole plan image text' printed' punched' status' →
+    IsSessionOf options form Whole plan image text printed punched status →
+    IsSessionOf options form Whole plan image text' printed' punched' status' →
     (text ≡ text') × (printed ≡ printed') × (punched ≡ punched') × (status ≡ status')
 
 -- A session at the teletype with these frames and these bytes of keys has one end at most.
 abbrev pub TypedAreOne : Type 0
 TypedAreOne =
-    (options : TeletypeOptions) (frames bytes : List ℕ) (image : List (Option ℕ))
+    (options : TeletypeOptions) (form : SummaryForm) (frames bytes : List ℕ) (image : List (Option ℕ))
     (text text' printed printed' punched punched' : List ℕ) (status status' : Status) →
-    IsHeld (types_by options frames bytes) (run_of options) true Whole image text printed punched status →
-    IsHeld (types_by options frames bytes) (run_of options) true Whole image text' printed' punched' status' →
+    IsHeld (types_by options frames bytes) (run_of options) form Whole image text printed punched status →
+    IsHeld (types_by options frames bytes) (run_of options) form Whole image text' printed' punched' status' →
     (text ≡ text') × (printed ≡ printed') × (punched ≡ punched') × (status ≡ status')
 
 -- What events lead to in so many instructions, that many steps of the instruction table lead to, by some answers of the devices.
@@ -109,10 +110,10 @@ as_declared d options = record options { run = record options.run { start = d.st
 -- declared start.
 abbrev pub WatchedAsRun : Type 0
 WatchedAsRun =
-    (options : SessionOptions) (tape text reader keys : List ℕ) (explained : Bool) (told : List ℕ) (seen : Status)
+    (options : SessionOptions) (form : SummaryForm) (tape text reader keys : List ℕ) (explained : Bool) (told : List ℕ) (seen : Status)
     (written printed punched : List ℕ) (status : Status) →
     (watched : IsSessionWatchedSo options None (Some tape) (Some text) (Some reader) (Some keys) explained told seen) →
-    (run : IsSession (as_declared watched.declaration options) Whole (Some tape) (Some reader) (Some keys) status written printed punched) →
+    (run : IsSession (as_declared watched.declaration options) form Whole (Some tape) (Some reader) (Some keys) status written printed punched) →
     watched.watched.events ≡ run.session.events
 
 -- Sources that tell their bytes, which are these parts.

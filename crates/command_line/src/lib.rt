@@ -10,6 +10,7 @@ mod programs;
 mod refused;
 mod requests;
 mod shown;
+mod sourced;
 mod sources;
 mod table;
 mod tapes;
@@ -24,6 +25,7 @@ pub use outputs::{
 pub use programs::{ProgramNames, ProgramRequest, Task};
 pub use refused::{Misuse, Refused};
 pub use requests::{CommandLine, Request, parse_arguments};
-pub use shown::Stopping;
+pub use shown::{Places, ReadCells, Stopping};
+pub use sourced::{MachineTask, SourcedRequest};
 pub use sources::{AssembleRequest, ListRequest};
 pub use tapes::{DumpRequest, MigrateRequest, RunRequest, SourceRequest};

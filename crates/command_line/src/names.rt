@@ -57,6 +57,7 @@ impl<'a> Request<'a> {
             Request::Run(_) | Request::Session(_) => "run",
             Request::Teletype(_) => "teletype",
             Request::Dump(_) => "dump",
+            Request::Sourced(asked) => asked.task.command(),
             Request::Assemble(_) => "assemble",
             Request::Source(_) => "source",
             Request::List(_) => "list",
@@ -71,6 +72,7 @@ impl<'a> Request<'a> {
         match self {
             Request::Assemble(asked) => &asked.sources,
             Request::List(asked) => &asked.sources,
+            Request::Sourced(asked) => &asked.parts,
             Request::Program(asked) => asked.program.parts(),
             _ => &[],
         }
@@ -83,6 +85,7 @@ impl<'a> Request<'a> {
             Request::Session(session) => session.names(),
             Request::Teletype(session) => session.names(),
             Request::Dump(dump) => dump.names(),
+            Request::Sourced(asked) => asked.task.names(),
             Request::Assemble(assemble) => assemble.names(),
             Request::Source(source) => source.names(),
             Request::List(_) | Request::Explain { .. } => FileNames {

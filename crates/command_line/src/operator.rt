@@ -3,27 +3,31 @@
 use crate::names::FileNames;
 use crate::outputs::punch_of;
 use crate::refused::{Misuse, Refused};
-use crate::shown::{is_stopped, shown_cells};
+use crate::shown::{Octal, Places, is_stopped};
+use crate::tapes::tape_of;
 use crate::values::{continues_of, profile_of, read_standard_input_once, run_options, start_of};
 use clap::ArgMatches;
-use command_parts::options::{Manner, SessionOptions, TeletypeOptions};
+use command_parts::options::{Manner, SessionOptions, SummaryForm, TeletypeOptions};
 use word12::Word;
+use wordset::WordSet;
 
 /// A run with an operator, as the options ask for it.
 #[derive(Clone, Copy)]
 pub struct Session<'a> {
-    /// The name of the tape's file.
-    pub tape: &'a str,
+    /// The name of the tape's file, unless a source takes its place.
+    pub tape: Option<&'a str>,
     /// What the devices are joined to.
     pub joined: Joined<'a>,
     /// How the tape is run.
     pub options: SessionOptions,
+    /// What the summary tells.
+    pub summary: SummaryForm<'a>,
 }
 
 impl<'a> Session<'a> {
     pub(crate) fn names(&self) -> FileNames<'a> {
         FileNames {
-            tape: Some(self.tape),
+            tape: self.tape,
             reader: self.joined.reader,
             keys: self.joined.keys,
             output: Some("-"),
@@ -68,20 +72,22 @@ impl<'a> WatchedSession<'a> {
 /// A session at the teletype, as the options ask for it. The keys come from standard input.
 #[derive(Clone, Copy)]
 pub struct TeletypeSession<'a> {
-    /// The name of the tape's file.
-    pub tape: &'a str,
+    /// The name of the tape's file, unless a source takes its place.
+    pub tape: Option<&'a str>,
     /// The name of the file whose frames are in the reader.
     pub reader: Option<&'a str>,
     /// The name of the file that the punched bytes go to.
     pub punch: Option<&'a str>,
     /// How it is held.
     pub options: TeletypeOptions,
+    /// What the summary tells.
+    pub summary: SummaryForm<'a>,
 }
 
 impl<'a> TeletypeSession<'a> {
     pub(crate) fn names(&self) -> FileNames<'a> {
         FileNames {
-            tape: Some(self.tape),
+            tape: self.tape,
             reader: self.reader,
             output: Some("-"),
             second_output: self.punch,
@@ -131,9 +137,17 @@ fn switches_of(found: &ArgMatches<'_>) -> Result<Option<Word>, Refused> {
     }
 }
 
+/// The cells that are shown of the run of a tape. Of a source they are not known yet.
+fn shown_on(tape: Option<&str>, places: &Places<'_>) -> Result<WordSet, Refused> {
+    if tape.is_none() {
+        return Ok(WordSet::empty());
+    }
+    Ok(places.shown(&Octal)?)
+}
+
 /// The run with an operator that the options of `run` ask for.
-pub fn session_of<'a>(found: &ArgMatches<'a>) -> Result<Session<'a>, Refused> {
-    let tape = found.get_str("TAPE").unwrap_or("-");
+pub fn session_of<'a>(found: &ArgMatches<'a>, places: &Places<'a>) -> Result<Session<'a>, Refused> {
+    let tape = tape_of(found)?;
     let reader = found.get_str("reader");
     let keys = found.get_str("keys");
     if found.get_str("events").is_some() {
@@ -142,24 +156,37 @@ pub fn session_of<'a>(found: &ArgMatches<'a>) -> Result<Session<'a>, Refused> {
     if is_stopped(found) {
         return Err(Refused::Misuse(Misuse::StopsAndOperator));
     }
-    read_standard_input_once(&[tape, reader.unwrap_or(""), keys.unwrap_or("")])?;
-    let punch = punch_of(found, &[tape, reader.unwrap_or("-"), keys.unwrap_or("-")])?;
+    let names = [tape.unwrap_or(""), reader.unwrap_or(""), keys.unwrap_or("")];
+    read_standard_input_once(&names)?;
+    let inputs = [
+        tape.unwrap_or("-"),
+        reader.unwrap_or("-"),
+        keys.unwrap_or("-"),
+    ];
+    let punch = punch_of(found, &inputs)?;
+    let teletype = found.get_flag("teletype");
+    let summary = SummaryForm {
+        apart: false,
+        seen: teletype,
+        saved_in: punch,
+    };
     Ok(Session {
         tape,
         joined: Joined {
             reader,
             punch,
             keys,
-            teletype: found.get_flag("teletype"),
+            teletype,
         },
-        options: session_options(found)?,
+        options: session_options(found, shown_on(tape, places)?)?,
+        summary,
     })
 }
 
-/// How a tape is run with an operator.
-fn session_options(found: &ArgMatches<'_>) -> Result<SessionOptions, Refused> {
+/// How a tape is run with an operator, with these cells shown.
+fn session_options(found: &ArgMatches<'_>, show: WordSet) -> Result<SessionOptions, Refused> {
     Ok(SessionOptions {
-        run: run_options(found)?,
+        run: run_options(found, show)?,
         switches: switches_of(found)?,
         mark: found.get_flag("mark"),
     })
@@ -169,6 +196,7 @@ fn session_options(found: &ArgMatches<'_>) -> Result<SessionOptions, Refused> {
 pub fn watched_session_of<'a>(
     tape: &'a str,
     declaration: &'a str,
+    show: WordSet,
     found: &ArgMatches<'a>,
 ) -> Result<WatchedSession<'a>, Refused> {
     let reader = found.get_str("reader");
@@ -183,18 +211,21 @@ pub fn watched_session_of<'a>(
         declaration,
         reader,
         keys,
-        options: session_options(found)?,
+        options: session_options(found, show)?,
         continues: continues_of(found)?,
         explained: found.get_flag("why"),
     })
 }
 
 /// The session at the teletype that the options of `teletype` ask for.
-pub fn teletype_of<'a>(found: &ArgMatches<'a>) -> Result<TeletypeSession<'a>, Refused> {
-    let tape = found.get_str("TAPE").unwrap_or("-");
+pub fn teletype_of<'a>(
+    found: &ArgMatches<'a>,
+    places: &Places<'a>,
+) -> Result<TeletypeSession<'a>, Refused> {
+    let tape = tape_of(found)?;
     let reader = found.get_str("reader");
-    read_standard_input_once(&[tape, reader.unwrap_or(""), "-"])?;
-    let punch = punch_of(found, &[tape, reader.unwrap_or("-")])?;
+    read_standard_input_once(&[tape.unwrap_or(""), reader.unwrap_or(""), "-"])?;
+    let punch = punch_of(found, &[tape.unwrap_or("-"), reader.unwrap_or("-")])?;
     Ok(TeletypeSession {
         tape,
         reader,
@@ -207,7 +238,12 @@ pub fn teletype_of<'a>(found: &ArgMatches<'a>) -> Result<TeletypeSession<'a>, Re
                 raw: found.get_flag("raw"),
                 mark: found.get_flag("mark"),
             },
-            show: shown_cells(found)?,
+            show: shown_on(tape, places)?,
+        },
+        summary: SummaryForm {
+            apart: true,
+            seen: true,
+            saved_in: punch,
         },
     })
 }

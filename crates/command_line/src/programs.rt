@@ -12,12 +12,13 @@ use crate::outputs::{
     report_of, save_of,
 };
 use crate::refused::{Misuse, Refused};
-use crate::shown::shown_cells;
+use crate::shown::{Octal, Places, shown_of};
 use crate::sources::source_names;
 use crate::values::{
     declare_options, is_start_named, operand_of, read_standard_input_once, refute_options,
     verify_options,
 };
+use certificate::Version;
 use clap::ArgMatches;
 use command_parts::options::{DeclareOptions, RefuteOptions, VerifyOptions};
 use std::alloc::{AllocError, Global};
@@ -33,6 +34,8 @@ pub struct ProgramRequest<'a> {
     pub declaration: Option<&'a str>,
     /// What is done.
     pub task: Task<'a>,
+    /// The cells whose words are shown when a run is over, which may have the symbols of a source.
+    pub places: Places<'a>,
     /// Whether a start or a machine is named.
     pub asked: bool,
     /// Whether more is said than the line of an answer or of a fault.
@@ -76,7 +79,7 @@ pub enum Task<'a> {
     Watch {
         /// The name of the file of events.
         events: &'a str,
-        /// The cells whose words are shown when the run is over.
+        /// The cells whose words are shown when the run of a tape is over.
         show: WordSet,
     },
     /// To watch a run with an operator.
@@ -87,6 +90,8 @@ pub enum Task<'a> {
         out: Destination<'a>,
         /// Where the report of a search that is stuck goes.
         report: Option<&'a str>,
+        /// The version of the certificate, if one is asked for.
+        version: Option<Version>,
     },
     /// To search for a run that violates the declaration.
     Refute {
@@ -416,14 +421,26 @@ fn session_task<'a>(
     alloc: Global,
     found: &ArgMatches<'a>,
     operands: &Operands<'a>,
+    show: WordSet,
 ) -> Result<Task<'a>, Refused> {
     let session = match operands.program.tape() {
-        Some(tape) => watched_session_of(tape, operands.declaration.unwrap_or("-"), found)?,
-        None => watched_session_of("", "", found)?,
+        Some(tape) => watched_session_of(tape, operands.declaration.unwrap_or("-"), show, found)?,
+        None => watched_session_of("", "", show, found)?,
     };
     let inputs = inputs_of(alloc, operands, &[session.reader, session.keys])?;
     read_standard_input_once(&inputs)?;
     Ok(Task::WatchSession(session))
+}
+
+/// The version of the certificate for which a search is asked, if one is.
+fn guessed_version(found: &ArgMatches<'_>) -> Result<Option<Version>, Refused> {
+    match found.get_str("certificate") {
+        None => Ok(None),
+        Some("1") => Ok(Some(Version::One)),
+        Some("2") => Ok(Some(Version::Two)),
+        Some("3") => Ok(Some(Version::Three)),
+        Some(_) => Err(Refused::Misuse(Misuse::GuessedVersion)),
+    }
 }
 
 /// The search for a certificate that is asked for. Of a search on a tape with a report each input must be a file,
@@ -447,7 +464,11 @@ fn guess_task<'a>(
     if is_tape && report.is_some() && inputs.iter().any(|input| **input == *"-") {
         return Err(Refused::Misuse(Misuse::ReportOfStandardInput));
     }
-    Ok(Task::Guess { out, report })
+    Ok(Task::Guess {
+        out,
+        report,
+        version: guessed_version(found)?,
+    })
 }
 
 /// What a command asks for, whose program, declaration and last input are these inputs.
@@ -456,6 +477,7 @@ fn task_of<'a>(
     found: &ArgMatches<'a>,
     operands: &Operands<'a>,
     inputs: &[&'a str],
+    show: WordSet,
 ) -> Result<Task<'a>, Refused> {
     let last = operands.last;
     Ok(match command {
@@ -465,7 +487,7 @@ fn task_of<'a>(
         },
         "watch" => Task::Watch {
             events: last.unwrap_or("-"),
-            show: shown_cells(found)?,
+            show,
         },
         "guess" => guess_task(found, operands, inputs)?,
         "refute" => Task::Refute {
@@ -487,15 +509,25 @@ fn task_of<'a>(
     })
 }
 
+/// The cells that are shown of a run of a tape. Of a source they are not known yet.
+fn shown_on(operands: &Operands<'_>, places: &Places<'_>) -> Result<WordSet, Refused> {
+    if operands.program.tape().is_none() {
+        return Ok(WordSet::empty());
+    }
+    Ok(places.shown(&Octal)?)
+}
+
 /// What a command asks for whose operands are these.
 fn task_on<'a>(
     alloc: Global,
     command: &str,
     found: &ArgMatches<'a>,
     operands: &Operands<'a>,
+    places: &Places<'a>,
 ) -> Result<Task<'a>, Refused> {
+    let show = shown_on(operands, places)?;
     if command == "watch" && is_watched_with_operator(found) {
-        return session_task(alloc, found, operands);
+        return session_task(alloc, found, operands, show);
     }
     let input = match command {
         "check" | "report" | "watch" => operands.last,
@@ -504,7 +536,7 @@ fn task_on<'a>(
     let inputs = inputs_of(alloc, operands, &[input])?;
     read_standard_input_once(&inputs)?;
     start_once(found, operands.declaration)?;
-    task_of(command, found, operands, &inputs)
+    task_of(command, found, operands, &inputs, show)
 }
 
 /// The request of a command on a program and its declaration.
@@ -523,7 +555,8 @@ pub(crate) fn program_request<'a>(
         Some(parts) => source_operands(alloc, command, found, parts)?,
         None => tape_operands(command, found)?,
     };
-    let task = task_on(alloc, command, found, &operands)?;
+    let places = shown_of(alloc, found)?;
+    let task = task_on(alloc, command, found, &operands, &places)?;
     let Operands {
         program,
         declaration,
@@ -533,6 +566,7 @@ pub(crate) fn program_request<'a>(
         program,
         declaration,
         task,
+        places,
         asked: is_start_named(found),
         explained: found.get_flag("why"),
     })
@@ -563,6 +597,7 @@ pub(crate) fn place_request<'a>(
         program,
         declaration,
         task: Task::Place { out },
+        places: shown_of(alloc, found)?,
         asked: false,
         explained: found.get_flag("why"),
     })

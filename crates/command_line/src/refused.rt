@@ -37,6 +37,14 @@ pub enum Misuse {
     UntilWrite,
     /// The value of `--until-read` has no cell, or something else than addresses and ranges.
     UntilRead,
+    /// The value of `--show` has no cell, or something that the source of the program does not name.
+    ShowOfSource,
+    /// The value of `--until` is no address that the source of the program names, or not one and a number.
+    UntilOfSource,
+    /// The value of `--until-write` has no cell, or something that the source of the program does not name.
+    UntilWriteOfSource,
+    /// The value of `--until-read` has no cell, or something that the source of the program does not name.
+    UntilReadOfSource,
     /// The value of `--last` is not a number from 1 to 1,000,000.
     Last,
     /// The last instructions are to be shown, and all of them too.
@@ -65,6 +73,8 @@ pub enum Misuse {
     Profile,
     /// The value of `--certificate` is neither `2` nor `3`.
     Version,
+    /// The value of `--certificate` of a search is none of `1`, `2` and `3`.
+    GuessedVersion,
     /// A certificate is to be of version 3 and there is no declaration, or there is one and it is not.
     VersionAndDeclaration,
     /// Two inputs are to come from standard input.
@@ -96,6 +106,17 @@ pub enum Misuse {
 }
 
 impl Misuse {
+    /// What is wrong where a value may have the symbols of a source.
+    pub fn with_symbols(self) -> Misuse {
+        match self {
+            Misuse::Show => Misuse::ShowOfSource,
+            Misuse::Until => Misuse::UntilOfSource,
+            Misuse::UntilWrite => Misuse::UntilWriteOfSource,
+            Misuse::UntilRead => Misuse::UntilReadOfSource,
+            other => other,
+        }
+    }
+
     /// What is said about the value of an option or an argument that is not as expected.
     fn value_text(&self) -> Option<&'static str> {
         Some(match self {
@@ -109,11 +130,20 @@ impl Misuse {
                 "bad value for '--until-write': expected octal addresses and ranges, such as 0324 0400-0417",
             Misuse::UntilRead =>
                 "bad value for '--until-read': expected octal addresses and ranges, such as 0324 0400-0417",
+            Misuse::ShowOfSource =>
+                "bad value for '--show': expected addresses and ranges, in octal or by symbols that the source defines, such as COUNT LIST-LIST+17",
+            Misuse::UntilOfSource =>
+                "bad value for '--until': expected an address, in octal or by a symbol that the source defines, such as LOOP+2, or with a number from 1 to 1000000, such as LOOP+2,4",
+            Misuse::UntilWriteOfSource =>
+                "bad value for '--until-write': expected addresses and ranges, in octal or by symbols that the source defines, such as COUNT LIST-LIST+17",
+            Misuse::UntilReadOfSource =>
+                "bad value for '--until-read': expected addresses and ranges, in octal or by symbols that the source defines, such as COUNT LIST-LIST+17",
             Misuse::Last => "bad value for '--last': expected a number from 1 to 1000000",
             Misuse::Seed => "bad value for '--seed': expected a number from 0 to 99999999",
             Misuse::Continue => "bad value for '--continue': expected a number from 1 to 1000000",
             Misuse::Profile => "bad value for '--profile': expected 8i or 8e",
             Misuse::Version => "bad value for '--certificate': expected 2 or 3",
+            Misuse::GuessedVersion => "bad value for '--certificate': expected 1, 2 or 3",
             _ => return None,
         })
     }
@@ -197,6 +227,12 @@ impl From<Error> for Refused {
         } else {
             Refused::CommandLine(error)
         }
+    }
+}
+
+impl From<Misuse> for Refused {
+    fn from(misuse: Misuse) -> Refused {
+        Refused::Misuse(misuse)
     }
 }
 

@@ -1,13 +1,13 @@
 //! What the command line asks for.
 
 use crate::commands::command;
-use crate::operator::{Session, TeletypeSession, has_operator, session_of, teletype_of};
+use crate::operator::{Session, TeletypeSession};
 use crate::programs::{ProgramRequest, place_request, program_request};
 use crate::refused::Refused;
+use crate::sourced::{SourcedRequest, machine_request};
 use crate::sources::{AssembleRequest, ListRequest, assemble_request, list_request};
 use crate::tapes::{
-    DumpRequest, MigrateRequest, RunRequest, SourceRequest, dump_request, migrate_request,
-    run_request, source_request,
+    DumpRequest, MigrateRequest, RunRequest, SourceRequest, migrate_request, source_request,
 };
 use clap::ArgMatches;
 use std::alloc::Global;
@@ -24,6 +24,8 @@ pub enum Request<'a> {
     Teletype(TeletypeSession<'a>),
     /// To list the words of a tape.
     Dump(DumpRequest<'a>),
+    /// To do one of these with the program of a source.
+    Sourced(SourcedRequest<'a>),
     /// To assemble a source.
     Assemble(AssembleRequest<'a>),
     /// To write a source of a tape.
@@ -50,14 +52,6 @@ pub struct CommandLine<'a> {
     pub explained: bool,
 }
 
-/// What `run` asks for.
-fn run_or_session<'a>(found: &ArgMatches<'a>) -> Result<Request<'a>, Refused> {
-    if has_operator(found) {
-        return Ok(Request::Session(session_of(found)?));
-    }
-    Ok(Request::Run(run_request(found)?))
-}
-
 /// What a command asks for, with what was found after it.
 fn request_of<'a>(
     alloc: Global,
@@ -65,8 +59,7 @@ fn request_of<'a>(
     found: &ArgMatches<'a>,
 ) -> Result<Request<'a>, Refused> {
     match command {
-        "dump" => Ok(Request::Dump(dump_request(found)?)),
-        "teletype" => Ok(Request::Teletype(teletype_of(found)?)),
+        "run" | "teletype" | "dump" => machine_request(alloc, command, found),
         "assemble" => Ok(Request::Assemble(assemble_request(alloc, found)?)),
         "list" => Ok(Request::List(list_request(alloc, found)?)),
         "source" => Ok(Request::Source(source_request(found)?)),
@@ -75,7 +68,6 @@ fn request_of<'a>(
         "explain" => Ok(Request::Explain {
             code: found.get_str("CODE"),
         }),
-        "run" => run_or_session(found),
         _ => Ok(Request::Program(program_request(alloc, command, found)?)),
     }
 }

@@ -6,6 +6,7 @@ ghost use Rattle.std.specs.List.{position};
 use crate::refused::{Misuse, Refused};
 use clap::ArgMatches;
 use command_parts::options::Stops;
+use std::alloc::{AllocError, Global};
 use streams::text::{Words, decimal_between, octal_word};
 use word12::Word;
 use wordset::WordSet;
@@ -42,27 +43,160 @@ fn range(word: &[u8]) -> Option<WordSet> {
     }
 }
 
+/// What reads the words by which options name cells and places.
+pub trait ReadCells {
+    /// The cells of an address or a range; none where a word is neither.
+    fn cells(&self, word: &[u8]) -> Option<WordSet>;
+
+    /// The address that a word is; none where it is none.
+    fn place(&self, word: &[u8]) -> Option<Word>;
+}
+
+/// Reads addresses in octal digits.
+#[derive(Clone, Copy)]
+pub struct Octal;
+
+impl ReadCells for Octal {
+    fn cells(&self, word: &[u8]) -> Option<WordSet> {
+        range(word)
+    }
+
+    fn place(&self, word: &[u8]) -> Option<Word> {
+        octal_word(word)
+    }
+}
+
 /// The cells of addresses and ranges, one or more, as a line of a declaration spells them.
-fn cells(text: &[u8]) -> Option<WordSet> {
+fn cells<C: ReadCells>(reader: &C, text: &[u8]) -> Option<WordSet> {
     let mut set = WordSet::empty();
     for word in Words::of(text) {
-        set = set.union(&range(word)?);
+        set = set.union(&reader.cells(word)?);
     }
     if set.is_empty() { None } else { Some(set) }
 }
 
-/// The cells that an option names each time that it is given.
-fn named_cells(found: &ArgMatches<'_>, option: &str, misuse: Misuse) -> Result<WordSet, Refused> {
+/// The cells that an option names each time that it is given, or what is wrong with it.
+fn named_cells<C: ReadCells>(
+    reader: &C,
+    texts: &[&str],
+    misuse: Misuse,
+) -> Result<WordSet, Misuse> {
     let mut set = WordSet::empty();
-    for text in found.get_strs(option).unwrap_or(&[]) {
-        set = set.union(&cells(text.as_bytes()).ok_or(Refused::Misuse(misuse))?);
+    for text in texts {
+        set = set.union(&cells(reader, text.as_bytes()).ok_or(misuse)?);
     }
     Ok(set)
 }
 
-/// The cells whose words are shown when a run is over: those of each `--show`.
-pub(crate) fn shown_cells(found: &ArgMatches<'_>) -> Result<WordSet, Refused> {
-    named_cells(found, "show", Misuse::Show)
+/// The cells and the places that options name, as they are given.
+#[derive(Drop)]
+pub struct Places<'a> {
+    /// The values of `--show`.
+    show: Vec<&'a str>,
+    /// The value of `--until`.
+    until: Option<&'a str>,
+    /// The values of `--until-write`.
+    written: Vec<&'a str>,
+    /// The values of `--until-read`.
+    read: Vec<&'a str>,
+}
+
+/// The values of an option that may be given several times.
+fn values_of<'a>(
+    alloc: Global,
+    found: &ArgMatches<'a>,
+    option: &str,
+) -> Result<Vec<&'a str>, AllocError> {
+    let mut values = Vec::new(alloc);
+    values.extend_from_slice(found.get_strs(option).unwrap_or(&[]))?;
+    Ok(values)
+}
+
+/// The cells and the places that options of `run` name.
+pub(crate) fn places_of<'a>(
+    alloc: Global,
+    found: &ArgMatches<'a>,
+) -> Result<Places<'a>, AllocError> {
+    Ok(Places {
+        show: values_of(alloc, found, "show")?,
+        until: found.get_str("until"),
+        written: values_of(alloc, found, "until-write")?,
+        read: values_of(alloc, found, "until-read")?,
+    })
+}
+
+/// The cells that options of another command name.
+pub(crate) fn shown_of<'a>(
+    alloc: Global,
+    found: &ArgMatches<'a>,
+) -> Result<Places<'a>, AllocError> {
+    Ok(Places {
+        show: values_of(alloc, found, "show")?,
+        until: None,
+        written: Vec::new(alloc),
+        read: Vec::new(alloc),
+    })
+}
+
+impl Places<'_> {
+    /// The cells whose words are shown when a run is over: those of each `--show`.
+    ///
+    /// # Errors
+    ///
+    /// What is wrong with a value.
+    pub fn shown<C: ReadCells>(&self, reader: &C) -> Result<WordSet, Misuse> {
+        named_cells(reader, &self.show, Misuse::Show)
+    }
+
+    /// Where a run is stopped.
+    ///
+    /// # Errors
+    ///
+    /// What is wrong with a value.
+    pub fn stops<C: ReadCells>(&self, reader: &C) -> Result<Stops, Misuse> {
+        let stops = Stops {
+            place: None,
+            times: 1,
+            written: named_cells(reader, &self.written, Misuse::UntilWrite)?,
+            read: named_cells(reader, &self.read, Misuse::UntilRead)?,
+        };
+        let Some(text) = self.until else {
+            return Ok(stops);
+        };
+        let Some(visits) = visits_of(reader, text.as_bytes()) else {
+            return Err(Misuse::Until);
+        };
+        Ok(Stops {
+            place: Some(visits.place),
+            times: visits.times,
+            ..stops
+        })
+    }
+
+    /// How a run is followed of which so many last instructions are shown, if it may be stopped or these are asked
+    /// for.
+    ///
+    /// # Errors
+    ///
+    /// What is wrong with a value.
+    pub fn stopping<C: ReadCells>(
+        &self,
+        reader: &C,
+        last: Option<u32>,
+    ) -> Result<Option<Stopping>, Misuse> {
+        if last.is_none() && !self.has_stops() {
+            return Ok(None);
+        }
+        Ok(Some(Stopping {
+            stops: self.stops(reader)?,
+            last,
+        }))
+    }
+
+    /// Whether a run may be stopped.
+    fn has_stops(&self) -> bool {
+        self.until.is_some() || !self.written.is_empty() || !self.read.is_empty()
+    }
 }
 
 /// An address, and how many steps come to it.
@@ -80,14 +214,14 @@ fn place_of_comma(word: &[u8]) -> Option<usize>
 }
 
 /// The address and the number of a `PLACE` or a `PLACE,N`.
-fn visits_of(text: &[u8]) -> Option<Visits> {
+fn visits_of<C: ReadCells>(reader: &C, text: &[u8]) -> Option<Visits> {
     match place_of_comma(text) {
         None => Some(Visits {
-            place: octal_word(text)?,
+            place: reader.place(text)?,
             times: 1,
         }),
         Some(at) => Some(Visits {
-            place: octal_word(&text[..at])?,
+            place: reader.place(&text[..at])?,
             times: decimal_between(1, MOST_VISITS, &text[at + 1..])?,
         }),
     }
@@ -102,31 +236,8 @@ pub struct Stopping {
     pub last: Option<u32>,
 }
 
-/// Where a run is stopped.
-fn stops_of(found: &ArgMatches<'_>) -> Result<Stops, Refused> {
-    let written = named_cells(found, "until-write", Misuse::UntilWrite)?;
-    let read = named_cells(found, "until-read", Misuse::UntilRead)?;
-    let Some(text) = found.get_str("until") else {
-        return Ok(Stops {
-            place: None,
-            times: 1,
-            written,
-            read,
-        });
-    };
-    match visits_of(text.as_bytes()) {
-        Some(Visits { place, times }) => Ok(Stops {
-            place: Some(place),
-            times,
-            written,
-            read,
-        }),
-        None => Err(Refused::Misuse(Misuse::Until)),
-    }
-}
-
 /// How many of the last instructions are shown, if that is asked for.
-fn last_of(found: &ArgMatches<'_>) -> Result<Option<u32>, Refused> {
+pub(crate) fn last_of(found: &ArgMatches<'_>) -> Result<Option<u32>, Refused> {
     let Some(text) = found.get_str("last") else {
         return Ok(None);
     };
@@ -147,15 +258,4 @@ pub(crate) fn is_stopped(found: &ArgMatches<'_>) -> bool {
         || ["until-write", "until-read"]
             .iter()
             .any(|name| found.get_strs(name).is_some())
-}
-
-/// How a run is followed, if it may be stopped or its last instructions are shown.
-pub(crate) fn stopping_of(found: &ArgMatches<'_>) -> Result<Option<Stopping>, Refused> {
-    if !is_stopped(found) {
-        return Ok(None);
-    }
-    Ok(Some(Stopping {
-        stops: stops_of(found)?,
-        last: last_of(found)?,
-    }))
 }

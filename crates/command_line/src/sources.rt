@@ -39,6 +39,8 @@ pub struct ListRequest<'a> {
     pub profile: Profile,
     /// Whether it is said what is wrong with a source that is refused.
     pub explained: bool,
+    /// Whether a table of the symbols is written below the listing.
+    pub crossed: bool,
 }
 
 /// The names of a source's parts, of which there is one at least.
@@ -87,5 +89,6 @@ pub(crate) fn list_request<'a>(
         sources: source_names(alloc, found)?,
         profile: profile_of(found)?,
         explained: found.get_flag("why"),
+        crossed: found.get_flag("cross"),
     })
 }

@@ -3,30 +3,33 @@
 use crate::names::FileNames;
 use crate::outputs::{Destination, emptied_destination, kept_destination, no_input, no_source};
 use crate::refused::{Misuse, Refused};
-use crate::shown::{Stopping, stopping_of};
+use crate::shown::{Octal, Places, Stopping, last_of};
 use crate::values::{is_start_named, profile_of, read_standard_input_once, run_options, start_of};
 use clap::ArgMatches;
 use command_parts::options::RunOptions;
 use instruct::Profile;
 use word12::Word;
+use wordset::WordSet;
 
 /// To run a tape.
 #[derive(Clone, Copy)]
 pub struct RunRequest<'a> {
-    /// The name of the tape's file.
-    pub tape: &'a str,
+    /// The name of the tape's file, unless a source takes its place.
+    pub tape: Option<&'a str>,
     /// The name of the file of events that stand in place of rounds.
     pub events: Option<&'a str>,
     /// How it is run.
     pub options: RunOptions,
     /// How it is followed, if it may be stopped.
     pub stopping: Option<Stopping>,
+    /// How many of its last instructions are shown, if that is asked for.
+    pub last: Option<u32>,
 }
 
 impl<'a> RunRequest<'a> {
     pub(crate) fn names(&self) -> FileNames<'a> {
         FileNames {
-            tape: Some(self.tape),
+            tape: self.tape,
             events: self.events,
             output: Some("-"),
             ..FileNames::NONE
@@ -34,24 +37,48 @@ impl<'a> RunRequest<'a> {
     }
 }
 
-/// The run of a tape without an operator.
-pub(crate) fn run_request<'a>(found: &ArgMatches<'a>) -> Result<RunRequest<'a>, Refused> {
-    let tape = found.get_str("TAPE").unwrap_or("-");
+/// The name of the tape's file, unless a source takes its place.
+pub(crate) fn tape_of<'a>(found: &ArgMatches<'a>) -> Result<Option<&'a str>, Refused> {
+    let tape = found.get_str("TAPE");
+    match found.get_strs("source") {
+        None => Ok(Some(tape.unwrap_or("-"))),
+        Some(_) if tape.is_some() => Err(Refused::Misuse(Misuse::TapeAndSource)),
+        Some(_) => Ok(None),
+    }
+}
+
+/// The run of a tape without an operator. Of a source the cells that are shown and the stops are not known yet.
+pub(crate) fn run_request<'a>(
+    found: &ArgMatches<'a>,
+    places: &Places<'a>,
+) -> Result<RunRequest<'a>, Refused> {
+    let tape = tape_of(found)?;
     let events = found.get_str("events");
-    read_standard_input_once(&[tape, events.unwrap_or("")])?;
+    read_standard_input_once(&[tape.unwrap_or(""), events.unwrap_or("")])?;
+    let last = last_of(found)?;
+    if tape.is_none() {
+        return Ok(RunRequest {
+            tape,
+            events,
+            options: run_options(found, WordSet::empty())?,
+            stopping: None,
+            last,
+        });
+    }
     Ok(RunRequest {
         tape,
         events,
-        options: run_options(found)?,
-        stopping: stopping_of(found)?,
+        options: run_options(found, places.shown(&Octal)?)?,
+        stopping: places.stopping(&Octal, last)?,
+        last,
     })
 }
 
 /// To list the words of a tape.
 #[derive(Clone, Copy)]
 pub struct DumpRequest<'a> {
-    /// The name of the tape's file.
-    pub tape: &'a str,
+    /// The name of the tape's file, unless a source takes its place.
+    pub tape: Option<&'a str>,
     /// Whose names the words have.
     pub profile: Profile,
 }
@@ -59,7 +86,7 @@ pub struct DumpRequest<'a> {
 impl<'a> DumpRequest<'a> {
     pub(crate) fn names(&self) -> FileNames<'a> {
         FileNames {
-            tape: Some(self.tape),
+            tape: self.tape,
             output: Some("-"),
             ..FileNames::NONE
         }
@@ -69,7 +96,7 @@ impl<'a> DumpRequest<'a> {
 /// The list of words that is asked for.
 pub(crate) fn dump_request<'a>(found: &ArgMatches<'a>) -> Result<DumpRequest<'a>, Refused> {
     Ok(DumpRequest {
-        tape: found.get_str("TAPE").unwrap_or("-"),
+        tape: tape_of(found)?,
         profile: profile_of(found)?,
     })
 }

@@ -4,12 +4,12 @@ ghost use Rattle.std.specs.Prelude.{◌≡◌};
 ghost use Rattle.command_line.specs.Requested.{operand};
 
 use crate::refused::{Misuse, Refused};
-use crate::shown::shown_cells;
 use clap::ArgMatches;
 use command_parts::options::{DeclareOptions, RefuteOptions, RunOptions, VerifyOptions};
 use instruct::Profile;
 use streams::text::decimal_between;
 use word12::Word;
+use wordset::WordSet;
 
 /// How many rounds are made without `--steps`.
 const ROUNDS: u32 = 100_000;
@@ -82,14 +82,14 @@ pub(crate) fn continues_of(found: &ArgMatches<'_>) -> Result<Option<u32>, Refuse
     }
 }
 
-/// How a tape is run.
-pub(crate) fn run_options(found: &ArgMatches<'_>) -> Result<RunOptions, Refused> {
+/// How a tape is run whose run shows these cells.
+pub(crate) fn run_options(found: &ArgMatches<'_>, show: WordSet) -> Result<RunOptions, Refused> {
     Ok(RunOptions {
         start: start_of(found)?,
         rounds: rounds_of(found)?,
         trace: found.get_flag("trace"),
         profile: profile_of(found)?,
-        show: shown_cells(found)?,
+        show,
     })
 }
 

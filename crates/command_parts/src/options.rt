@@ -32,6 +32,27 @@ pub struct Stops {
     pub read: WordSet,
 }
 
+/// What the summary of a run with an operator tells, and where it begins.
+#[derive(Clone, Copy, PartialEq, Eq, Debug)]
+pub struct SummaryForm<'n> {
+    /// It begins on a line of its own, also behind characters that leave a line open.
+    pub apart: bool,
+    /// What was printed was seen, and isn't told again.
+    pub seen: bool,
+    /// The file that what was punched goes to, if it goes to one: then the summary names it, and tells the number of
+    /// frames in place of the frames.
+    pub saved_in: Option<&'n str>,
+}
+
+impl SummaryForm<'_> {
+    /// All is told, where the summary comes.
+    pub const WHOLE: SummaryForm<'static> = SummaryForm {
+        apart: false,
+        seen: false,
+        saved_in: None,
+    };
+}
+
 /// How a tape is run with an operator.
 #[derive(Clone, Copy, PartialEq, Eq, Debug)]
 pub struct SessionOptions {

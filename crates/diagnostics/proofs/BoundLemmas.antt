@@ -1,10 +1,10 @@
 -- A fact with a relation of two terms more.
 use Rattle.std.proofs.Common.{ℕ, ◌≡◌, ◌≤◌, List, [], ◌∷◌, ◌++◌, length, refl, sym, subst, arith}
-use Rattle.domain.specs.Facts.{Location}
-use Rattle.domain.specs.Sums.Terms.{Sum, difference_of}
-use Rattle.domain.specs.Sums.Facts.{Fact, Relation}
-use Rattle.facts.specs.Sums.Shaped.{HaveFewTerms}
-use Rattle.judge.specs.Sums.Shapes.{HasShape}
+use Rattle.domain.specs.Locations.{Location}
+use Rattle.domain.specs.Terms.{Sum, difference_of}
+use Rattle.domain.specs.Facts.{Fact, Relation}
+use Rattle.facts.specs.Shaped.{HaveFewTerms}
+use Rattle.judge.specs.Shapes.{HasShape}
 
 few_more : (rs : List Relation) (r : Relation) → length r.sum ≤ 3 → HaveFewTerms rs → HaveFewTerms (rs ++ r ∷ [])
 few_more [] r few h = (few, tt)

@@ -5,8 +5,8 @@ use Rattle.std.specs.List.{list_any}
 use Rattle.std.proofs.lemmas.Bool.{true≢false, eq-eqb}
 use Rattle.wordset.specs.Words.{Words, SameWords, some_below}
 use Rattle.policy.specs.Runs.{IsSafe}
-use Rattle.judge.specs.Sums.Landing.{Case}
-use Rattle.judge.specs.Sums.Conditions.{IsValid, IsFirst}
+use Rattle.judge.specs.Landing.{Case}
+use Rattle.judge.specs.Conditions.{IsValid, IsFirst}
 use Rattle.judge.specs.declared.judging.Refusal.{Refusal}
 use Rattle.diagnostics.specs.CheckText.{counted, IsVerdict}
 use Rattle.wordset.specs.Lanes.{words}
@@ -16,9 +16,9 @@ use Rattle.declaration.specs.declared.Routine.{Routine}
 use Rattle.declaration.specs.Kept.{bodies, entries}
 use Rattle.certificate.specs.declared.CertificateFault.{CertificateFault}
 use Rattle.certificate.specs.declared.CertificateFault.TheVariants as faults
-use Rattle.certificate.specs.Sums.Kept.{Kept, meaning}
-use Rattle.certificate.specs.Sums.Reading.{reading}
-use Rattle.certificate.specs.Sums.Serving.{AsksForMemory}
+use Rattle.certificate.specs.Kept.{Kept, meaning}
+use Rattle.certificate.specs.Reading.{reading}
+use Rattle.certificate.specs.Serving.{AsksForMemory}
 use Rattle.certificate.proofs.SumExactLemmas.{reading_law}
 use Rattle.streams.specs.Bytes.{Gave}
 use Rattle.diagnostics.specs.CertificateFaults.{IsCertificateInputFault}

@@ -4,8 +4,8 @@ use Rattle.std.specs.Prelude.{flat_map, false}
 use Rattle.std.proofs.lemmas.List.{take_all, take_more, map_push}
 use Rattle.std.proofs.lemmas.List.Concat.{flat_map-append}
 use Rattle.std.proofs.lemmas.Bool.{eqb-true, true≢false}
-use Rattle.domain.specs.Sums.Terms as said
-use Rattle.domain.specs.Sums.InCode.{summand_at, summand_of, term_of}
+use Rattle.domain.specs.Terms as said
+use Rattle.domain.specs.InCode.{summand_at, summand_of, term_of}
 use Rattle.domain.specs.declared.terms.Summand.{Summand}
 use Rattle.diagnostics.specs.WhyText.{difference_may_be, equation_text, further_text, is_minus, sum_is, sum_may_be, summand_text}
 

@@ -2,8 +2,8 @@
 use Rattle.std.proofs.Common.{ℕ, ◌≡◌, ◌<◌, ◌+◌, ◌&&◌, ◌||◌, ◌∙◌, Bool, true, false, not, List, [], ◌∷◌, zero, suc, length, refl, sym, ap, subst, arith}
 use Rattle.std.specs.List.{list_any}
 use Rattle.std.proofs.lemmas.Bool.{true≢false}
-use Rattle.domain.specs.Sums.Facts.{Fact}
-use Rattle.facts.specs.Sums.Landing.{fact_at}
+use Rattle.domain.specs.Facts.{Fact}
+use Rattle.facts.specs.Landing.{fact_at}
 use Rattle.diagnostics.specs.Telling.{has_mark}
 use Rattle.diagnostics.specs.declared.verdicts.telling.Mark.{Mark}
 

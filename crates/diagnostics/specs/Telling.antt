@@ -2,11 +2,11 @@
 use Rattle.std.specs.Prelude.{ℕ, ◌≡◌, ◌==◌, Bool, true, false, not, ◌&&◌, List, [], ◌∷◌, length, Option, Some, None, IfSome, Result, Ok, Err}
 use Rattle.std.specs.List.{list_any}
 use Rattle.wordset.specs.Words.{only}
-use Rattle.domain.specs.Facts.{Ac, Cell}
-use Rattle.domain.specs.Sums.Facts.{Fact}
-use Rattle.domain.specs.Sums.FactInCode.{rules_of}
-use Rattle.facts.specs.Sums.Landing.{fact_at}
-use Rattle.certificate.specs.Sums.Certificate.{Certificate}
+use Rattle.domain.specs.Locations.{Ac, Cell}
+use Rattle.domain.specs.Facts.{Fact}
+use Rattle.domain.specs.FactInCode.{rules_of}
+use Rattle.facts.specs.Landing.{fact_at}
+use Rattle.certificate.specs.Certificate.{Certificate}
 use Rattle.judge.specs.declared.judging.Refusal.{Refusal}
 use Rattle.reasons.specs.declared.reason.Reason.{Reason}
 use Rattle.reasons.specs.declared.reason.Reason.TheVariants as reason

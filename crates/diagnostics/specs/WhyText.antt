@@ -8,15 +8,15 @@ use Rattle.bin_tape.specs.Image.{word_at}
 use Rattle.declaration.specs.Declaration.{Declaration}
 use Rattle.facts.specs.declared.Condition.{Condition}
 use Rattle.facts.specs.declared.Condition.TheVariants as condition
-use Rattle.domain.specs.Facts.{Location, Ac, Cell}
-use Rattle.domain.specs.Meaning.{location_of}
-use Rattle.domain.specs.Sums.Terms.{Term, Holding, Behind, Summand, Sum}
-use Rattle.domain.specs.Sums.InCode.{sum_of, summand_at}
+use Rattle.domain.specs.Locations.{Location, Ac, Cell}
+use Rattle.domain.specs.LocationsInCode.{location_of}
+use Rattle.domain.specs.Terms.{Term, Holding, Behind, Summand, Sum}
+use Rattle.domain.specs.InCode.{sum_of, summand_at}
 use Rattle.domain.specs.declared.sum_fact.Rules.{Rules}
 use Rattle.domain.specs.declared.sum_fact.Rules.TheVariants.{OfEquations, OfSums}
-use Rattle.certificate.specs.Sums.Reading.{Text, certificate_of}
-use Rattle.judge.specs.Sums.Landing.{Case}
-use Rattle.judge.specs.Sums.Conditions.{IsFirst}
+use Rattle.certificate.specs.Reading.{Text, certificate_of}
+use Rattle.judge.specs.Landing.{Case}
+use Rattle.judge.specs.Conditions.{IsFirst}
 use Rattle.judge.specs.declared.judging.Refusal.{Refusal}
 use Rattle.reasons.specs.Reasons.{Explains}
 use Rattle.reasons.specs.declared.counterexample.Counterexample.{Counterexample}
@@ -35,7 +35,7 @@ use Rattle.command_parts.specs.declared.status.Status.{Status}
 use Rattle.command_parts.specs.Dumping.{dump_line}
 use Rattle.command_parts.specs.LinkText.{link_text}
 use Rattle.diagnostics.specs.CheckText.{IsVerdict, checked_case, condition_text, verdict_status, verdict_text}
-use Rattle.certificate.specs.Sums.Written.{fact_text_at}
+use Rattle.certificate.specs.Written.{fact_text_at}
 use Rattle.diagnostics.specs.Telling.{IsTellingOf, place_of_reason}
 use Rattle.diagnostics.specs.declared.verdicts.telling.Mark.{Mark}
 use Rattle.diagnostics.specs.declared.verdicts.telling.Mark.TheVariants as mark

@@ -3,8 +3,8 @@ use Rattle.std.proofs.Common.{◌≡◌, ℕ, ◌+◌, ◌<◌, ◌≤◌, ◌==
 use Rattle.std.specs.Prelude.{nat_lt, not, Some, None}
 use Rattle.std.proofs.Math.Path.{fun_ext}
 use Rattle.std.proofs.lemmas.Bool.Decides.{nat_tests}
-use Rattle.std.proofs.lemmas.Bool.{cases_lt}
-use Rattle.wordset.specs.Words.{Words, between, one, nothing, meet, has_some, only, IsWithin, IsFirstFrom}
+use Rattle.std.proofs.lemmas.Bool.{cases_eq, cases_lt, eq-eqb, ne_eqb}
+use Rattle.wordset.specs.Words.{Words, between, one, nothing, with_word, meet, has_some, only, IsWithin, IsFirstFrom}
 use Rattle.wordset.proofs.Tests.{some_from, some_none_of}
 use Rattle.wordset.proofs.Firsts.{only_next, only_two, only_nothing}
 
@@ -46,6 +46,23 @@ meet_swap a b = fun_ext (λ v. swap (a v) (b v))
     swap true false = refl
     swap false true = refl
     swap false false = refl
+
+-- one word of a set, if the set has it
+and_none : (b : Bool) → (b && false) ≡ false
+and_none true = refl
+and_none false = refl
+
+pub keep_there : (a s : Words) (w : ℕ) → a w ≡ true → s ≡ with_word w nothing → s ≡ meet a (one w)
+keep_there a s w has is = is ∙ fun_ext (λ v. elim (cases_eq v w) [
+  | inl e ↦ (let same : (v == w) ≡ true = eq-eqb v w e in let there : a v ≡ true = ap a e ∙ has in rw (same, there) refl)
+  | inr ne ↦ (let other : (v == w) ≡ false = ne_eqb v w ne in rw other (sym (and_none (a v))))
+])
+
+pub keep_nowhere : (a s : Words) (w : ℕ) → a w ≡ false → s ≡ nothing → s ≡ meet a (one w)
+keep_nowhere a s w lacks is = is ∙ fun_ext (λ v. elim (cases_eq v w) [
+  | inl e ↦ (let not_there : a v ≡ false = ap a e ∙ lacks in rw not_there refl)
+  | inr ne ↦ (let other : (v == w) ≡ false = ne_eqb v w ne in rw other (sym (and_none (a v))))
+])
 
 first_of_row : (a b : ℕ) → a ≤ b → b < 4096 → IsFirstFrom 0 (between a b) a
 first_of_row a b h s = record {

@@ -11,8 +11,8 @@ use Rattle.wordset.specs.Words.{Words, all_words, between, meet}
 use Rattle.wordset.specs.Lanes.{words}
 use Rattle.wordset.proofs.SetLemmas.{lt_to, words_past}
 use Rattle.domain.proofs.RelationLemmas.{all_taken}
-use Rattle.domain.specs.Statements.{TrackedCell, tracked, cell_at}
-use Rattle.domain.specs.Sums.CellsInCode.{words_in_cells, with_cell, freed, IsCellAt}
+use Rattle.domain.specs.TrackedCells.{TrackedCell, tracked, cell_at}
+use Rattle.domain.specs.CellsInCode.{words_in_cells, with_cell, freed, IsCellAt}
 
 -- The words of a cell, entry by entry: none of them is past the last word.
 pub tracked_words : (a : ℕ) (cells : List TrackedCell) (v : ℕ) → (all_words v && tracked a cells v) ≡ tracked a cells v

@@ -8,12 +8,12 @@ use Rattle.wordset.proofs.Tests.{some_from, some_to, IsSome, both_ways, and_both
 use Rattle.wordset.proofs.Firsts.{IsOnly, only_word}
 use Rattle.wordset.proofs.SetLemmas.{closed_at}
 use Rattle.processor.specs.Runs.{Image}
-use Rattle.domain.specs.Facts.{Location, same}
-use Rattle.domain.specs.Sums.Terms.{sum_of_name, difference_of}
-use Rattle.domain.specs.Sums.Facts.{Fact, OfSums}
-use Rattle.domain.specs.Sums.Adding.{times, differences, adding, adding_all}
-use Rattle.domain.specs.Sums.Knowing.{said_of}
-use Rattle.domain.specs.Sums.Narrowing.{parts_of}
+use Rattle.domain.specs.Locations.{Location, same}
+use Rattle.domain.specs.Terms.{sum_of_name, difference_of}
+use Rattle.domain.specs.Facts.{Fact, OfSums}
+use Rattle.domain.specs.Adding.{times, differences, adding, adding_all}
+use Rattle.domain.specs.Knowing.{said_of}
+use Rattle.domain.specs.Narrowing.{parts_of}
 use Rattle.domain.proofs.NameAskedLemmas.{told_here, told_of_other, meet_below}
 
 -- A sum of one word and a word of a set.

@@ -3,15 +3,15 @@ use Rattle.std.proofs.Common.{◌≡◌, ℕ, ◌<◌, true, false, List, [], �
 use Rattle.std.specs.Prelude.{Option, Some, None}
 use Rattle.std.proofs.Math.Path.{fun_ext}
 use Rattle.wordset.specs.Words.{Words, all_words}
-use Rattle.domain.specs.Facts.{Location, Ac, Cell}
-use Rattle.domain.specs.Statements.{TrackedCell}
-use Rattle.domain.specs.Sums.Terms.{Sum}
-use Rattle.domain.specs.Sums.Shapes.{Spelled, spelled}
-use Rattle.domain.specs.Sums.Facts.{Fact, Rules}
-use Rattle.domain.specs.Sums.Adding.{with_set, adding, with_spelled_in, with_shape_in, with_term_in, with_relation, is_kept, times, set_of_sum, set_if_spelled, set_of_shape, set_of_term, set_among}
-use Rattle.domain.specs.Sums.InCode.{summand_at}
-use Rattle.domain.specs.Sums.CellsInCode.{words_in_cells, with_cell}
-use Rattle.domain.specs.Sums.FactInCode.{names_words}
+use Rattle.domain.specs.Locations.{Location, Ac, Cell}
+use Rattle.domain.specs.TrackedCells.{TrackedCell}
+use Rattle.domain.specs.Terms.{Sum}
+use Rattle.domain.specs.Shapes.{Spelled, spelled}
+use Rattle.domain.specs.Facts.{Fact, Rules}
+use Rattle.domain.specs.Adding.{with_set, adding, with_spelled_in, with_shape_in, with_term_in, with_relation, is_kept, times, set_of_sum, set_if_spelled, set_of_shape, set_of_term, set_among}
+use Rattle.domain.specs.InCode.{summand_at}
+use Rattle.domain.specs.CellsInCode.{words_in_cells, with_cell}
+use Rattle.domain.specs.FactInCode.{names_words}
 
 -- The words of each name where those of one cell are others.
 pub cell_replaced : (ac : Words) (new cells : List TrackedCell) (cell : ℕ) (s : Words) → words_in_cells new ≡ with_cell cell s (words_in_cells cells) →

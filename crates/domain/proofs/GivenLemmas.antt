@@ -12,12 +12,12 @@ use Rattle.wordset.specs.Links.{links_of}
 use Rattle.wordset.specs.declared.links.Links.{Links}
 use Rattle.wordset.proofs.SetLemmas.{lt_to, all_past}
 use Rattle.wordset.proofs.Tests.{some_from, some_to, IsSome, both_ways, and_both, and_first, and_second, some_none_of, some_of_two, true_false}
-use Rattle.domain.specs.Facts.{Cell, Ac}
-use Rattle.domain.specs.Sums.Facts.{Fact}
-use Rattle.domain.specs.Sums.Chains.{Chain, after_steps, is_pair_of}
-use Rattle.domain.specs.Sums.ChainsInCode.{gives_from}
-use Rattle.domain.specs.Sums.Narrowing.{may_give, links_of_chain}
-use Rattle.domain.specs.Sums.Given.{IsEmpty, is_allowed_pair, gives_allowed_from, gives_allowed, cells_given, accumulators_given, differences_given, links_given, AddsGiven, AddsAllGiven}
+use Rattle.domain.specs.Locations.{Cell, Ac}
+use Rattle.domain.specs.Facts.{Fact}
+use Rattle.domain.specs.Chains.{Chain, after_steps, is_pair_of}
+use Rattle.domain.specs.ChainsInCode.{gives_from}
+use Rattle.domain.specs.Narrowing.{may_give, links_of_chain}
+use Rattle.domain.specs.Given.{IsEmpty, is_allowed_pair, gives_allowed_from, gives_allowed, cells_given, accumulators_given, differences_given, links_given, AddsGiven, AddsAllGiven}
 use Rattle.domain.specs.declared.narrowing.ChainWords.{ChainWords}
 
 -- ---- tests

@@ -7,18 +7,18 @@ use Rattle.std.proofs.lemmas.Bool.{cases_Bool, eqb-true}
 use Rattle.std.proofs.lemmas.List.{at_drop_more}
 use Rattle.wordset.specs.Words.{Words, all_words}
 use Rattle.wordset.specs.Lanes.{words}
-use Rattle.domain.specs.Facts.{Location, Ac, Cell, has_cell, is_outside}
-use Rattle.domain.specs.Statements.{TrackedCell, tracked}
-use Rattle.domain.specs.Sums.Terms.{Term, Holding, Behind, Sum, speaks_of}
-use Rattle.domain.specs.Sums.Chains.{Chain}
-use Rattle.domain.specs.Sums.Laws.{SameButSets}
-use Rattle.domain.specs.Sums.Facts.{Fact, Relation, OfEquations, OfSums}
-use Rattle.domain.specs.Sums.Adding.{with_relation, with_term_in, with_shape_in, adding, adding_all}
-use Rattle.domain.specs.Sums.Moves.{outside, words_outside, joined}
-use Rattle.domain.specs.Sums.CellsInCode.{cells_outside, cells_within}
-use Rattle.domain.specs.Sums.FactInCode.{names_words}
+use Rattle.domain.specs.Locations.{Location, Ac, Cell, has_cell, is_outside}
+use Rattle.domain.specs.TrackedCells.{TrackedCell, tracked}
+use Rattle.domain.specs.Terms.{Term, Holding, Behind, Sum, speaks_of}
+use Rattle.domain.specs.Chains.{Chain}
+use Rattle.domain.specs.Laws.{SameButSets}
+use Rattle.domain.specs.Facts.{Fact, Relation, OfEquations, OfSums}
+use Rattle.domain.specs.Adding.{with_relation, with_term_in, with_shape_in, adding, adding_all}
+use Rattle.domain.specs.Moves.{outside, words_outside, joined}
+use Rattle.domain.specs.CellsInCode.{cells_outside, cells_within}
+use Rattle.domain.specs.FactInCode.{names_words}
 use Rattle.wordset.proofs.Tests.{true_false}
-use Rattle.domain.proofs.Sums.AddingLemmas.{adding_keeps}
+use Rattle.domain.proofs.AddingLemmas.{adding_keeps}
 use Rattle.domain.proofs.NameLemmas.{has_cell_words}
 use Rattle.domain.proofs.CellLemmas.{tracked_words}
 use Rattle.domain.proofs.PartLemmas.{added_both}

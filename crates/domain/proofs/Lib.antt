@@ -18,4 +18,9 @@ pub mod EquationLemmas
 pub mod TakenLemmas
 pub mod JoinedLemmas
 pub mod GivenLemmas
-pub mod Sums
+pub mod Numbers
+pub mod SumLemmas
+pub mod AddingLemmas
+pub mod KnowingLemmas
+pub mod NarrowingLemmas
+pub mod MoveLemmas

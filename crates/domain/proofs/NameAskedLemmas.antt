@@ -8,16 +8,16 @@ use Rattle.wordset.specs.Words.{Words, some_below, plus, meet}
 use Rattle.wordset.specs.Lanes.{words}
 use Rattle.wordset.proofs.SetLemmas.{words_past}
 use Rattle.processor.specs.Runs.{Image}
-use Rattle.domain.specs.Facts.{Location, Ac, Cell, same, tape_word}
-use Rattle.domain.specs.Sums.Terms.{Term, Holding, Behind, Sum, sum_of_name, name_of_term}
-use Rattle.domain.specs.Sums.Facts.{Fact, Relation, OfSums}
-use Rattle.domain.specs.Sums.Adding.{with_name, with_term_in, with_shape_in, adding, adding_all}
-use Rattle.domain.specs.Sums.Narrowing.{of_term, of_part, may_give, parts_of_chain}
-use Rattle.domain.specs.Sums.Chains.{Chain}
-use Rattle.domain.specs.Sums.ChainsInCode.{met_with_found}
-use Rattle.domain.specs.Sums.InCode.{summand_at}
+use Rattle.domain.specs.Locations.{Location, Ac, Cell, same, tape_word}
+use Rattle.domain.specs.Terms.{Term, Holding, Behind, Sum, sum_of_name, name_of_term}
+use Rattle.domain.specs.Facts.{Fact, Relation, OfSums}
+use Rattle.domain.specs.Adding.{with_name, with_term_in, with_shape_in, adding, adding_all}
+use Rattle.domain.specs.Narrowing.{of_term, of_part, may_give, parts_of_chain}
+use Rattle.domain.specs.Chains.{Chain}
+use Rattle.domain.specs.ChainsInCode.{met_with_found}
+use Rattle.domain.specs.InCode.{summand_at}
 use Rattle.domain.proofs.PartLemmas.{name_added, part_one}
-use Rattle.domain.proofs.Sums.SumLemmas.{same_name}
+use Rattle.domain.proofs.SumLemmas.{same_name}
 
 same_once : (n : Location) → same n n ≡ true
 same_once Ac = refl

@@ -2,7 +2,7 @@
 use Rattle.std.proofs.Common.{◌≡◌, ℕ, Bool, true, false, ◌&&◌, List, refl}
 use Rattle.std.specs.Prelude.{nat_lt}
 use Rattle.wordset.specs.Lanes.{words}
-use Rattle.domain.specs.Facts.{has_cell}
+use Rattle.domain.specs.Locations.{has_cell}
 
 pub has_cell_words : (lanes : List ℕ) (a : ℕ) → has_cell (words lanes) a ≡ words lanes a
 unfolding words

@@ -8,8 +8,8 @@ use Rattle.std.proofs.lemmas.Bool.Decides.{nat_tests}
 use Rattle.std.proofs.lemmas.Nat.Bits.{bit_at-zero, bit_at_ones, bit_at_set_same, bit_at_set_other, shr_and_one, bit_at-lt, same_from_bits_below, bit_at-suc, bit_at_lowest, bit_at_cat_low}
 use Rattle.wordset.specs.Words.{Words, nothing, with_word}
 use Rattle.wordset.proofs.LaneBits.{and_bit, not_bit, or_false}
-use Rattle.domain.specs.Sums.Moves.{counted_up}
-use Rattle.domain.specs.Sums.Offsets.{every_offset}
+use Rattle.domain.specs.Moves.{counted_up}
+use Rattle.domain.specs.Offsets.{every_offset}
 
 -- The offsets of a number's bits.
 abbrev pub of_bits : ℕ → Words

@@ -10,18 +10,18 @@ use Rattle.wordset.specs.Words.{Words, some_below, meet}
 use Rattle.wordset.proofs.Tests.{some_from, some_to, IsSome, both_ways, and_both, and_first, and_second}
 use Rattle.wordset.specs.Lanes.{words}
 use Rattle.wordset.proofs.SetLemmas.{words_past, all_past}
-use Rattle.domain.specs.Facts.{Location, Ac, Cell}
-use Rattle.domain.specs.Statements.{TrackedCell, tracked}
+use Rattle.domain.specs.Locations.{Location, Ac, Cell}
+use Rattle.domain.specs.TrackedCells.{TrackedCell, tracked}
 use Rattle.processor.specs.Runs.{Image}
-use Rattle.domain.specs.Sums.Terms.{Sum, Holding, sum_of_name, difference_of}
-use Rattle.domain.specs.Sums.Shapes.{Spelled, spelled}
-use Rattle.domain.specs.Sums.Knowing.{said_of}
-use Rattle.domain.specs.Sums.Narrowing.{of_term, of_part, parts_of}
-use Rattle.domain.specs.Sums.InCode.{summand_at}
-use Rattle.domain.specs.Sums.Facts.{Fact, OfSums}
-use Rattle.domain.specs.Sums.Adding.{times, differences, with_name, with_term_in, with_shape_in, with_spelled_in, adding, adding_all}
-use Rattle.domain.specs.Sums.Facts.{Relation}
-use Rattle.domain.specs.Sums.FactInCode.{names_words}
+use Rattle.domain.specs.Terms.{Sum, Holding, sum_of_name, difference_of}
+use Rattle.domain.specs.Shapes.{Spelled, spelled}
+use Rattle.domain.specs.Knowing.{said_of}
+use Rattle.domain.specs.Narrowing.{of_term, of_part, parts_of}
+use Rattle.domain.specs.InCode.{summand_at}
+use Rattle.domain.specs.Facts.{Fact, OfSums}
+use Rattle.domain.specs.Adding.{times, differences, with_name, with_term_in, with_shape_in, with_spelled_in, adding, adding_all}
+use Rattle.domain.specs.Facts.{Relation}
+use Rattle.domain.specs.FactInCode.{names_words}
 
 and_past : (x y : Bool) → y ≡ false → (x && y) ≡ false
 and_past true y e = e

@@ -8,11 +8,11 @@ use Rattle.std.proofs.lemmas.Bool.{cases_lt}
 use Rattle.wordset.specs.Words.{Words, meet, nothing, all_words, one, only}
 use Rattle.wordset.proofs.SetLemmas.{lt_to, words_past}
 use Rattle.wordset.specs.Lanes.{words}
-use Rattle.domain.specs.Sums.Terms.{Sum, same_sum}
-use Rattle.domain.specs.Sums.Facts.{Relation}
-use Rattle.domain.specs.Sums.Adding.{with_relation, set_among}
-use Rattle.domain.specs.Sums.Moves.{moved_relation, moved_relations}
-use Rattle.domain.specs.Sums.RelationsInCode.{relation_at, IsFoundAt}
+use Rattle.domain.specs.Terms.{Sum, same_sum}
+use Rattle.domain.specs.Facts.{Relation}
+use Rattle.domain.specs.Adding.{with_relation, set_among}
+use Rattle.domain.specs.Moves.{moved_relation, moved_relations}
+use Rattle.domain.specs.RelationsInCode.{relation_at, IsFoundAt}
 
 -- A list with another element at a place.
 pub split : {A : Type 0} (xs : List A) (i : ℕ) (v : A) → i < length xs → slice_set xs i v ≡ take i xs ++ v ∷ drop (suc i) xs

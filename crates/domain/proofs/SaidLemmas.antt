@@ -4,11 +4,11 @@ use Rattle.std.proofs.Math.ListN.{drop_of_length-le}
 use Rattle.std.proofs.lemmas.List.{drop_more}
 use Rattle.wordset.specs.Words.{one, meet, sums}
 use Rattle.processor.specs.Runs.{Image}
-use Rattle.domain.specs.Sums.Terms.{Sum, Summand}
-use Rattle.domain.specs.Sums.Facts.{Fact}
-use Rattle.domain.specs.Sums.Adding.{times, set_of_sum}
-use Rattle.domain.specs.Sums.Knowing.{words_of_term, said_of}
-use Rattle.domain.specs.Sums.InCode.{summand_at}
+use Rattle.domain.specs.Terms.{Sum, Summand}
+use Rattle.domain.specs.Facts.{Fact}
+use Rattle.domain.specs.Adding.{times, set_of_sum}
+use Rattle.domain.specs.Knowing.{words_of_term, said_of}
+use Rattle.domain.specs.InCode.{summand_at}
 
 none_said : (image : Image) (f : Fact) (xs : Sum) → xs ≡ [] → one 0 ≡ said_of image f xs
 unfolding said_of

@@ -7,8 +7,8 @@ use Rattle.wordset.specs.Words.{Words, all_words, some_below, meet, minus, shift
 use Rattle.wordset.specs.Lanes.{words}
 use Rattle.wordset.proofs.Tests.{some_from, some_to, IsSome, some_none_of, both_ways, and_both, and_first, and_second}
 use Rattle.wordset.proofs.SetLemmas.{lt_to, words_past, closed_at, closed_past}
-use Rattle.domain.specs.Facts.{tape_word}
-use Rattle.domain.specs.Sums.Adding.{times}
+use Rattle.domain.specs.Locations.{tape_word}
+use Rattle.domain.specs.Adding.{times}
 
 -- The words that are kept of a set, one by one.
 pub kept_one : (set : Words) (test : ℕ → Bool) (v : ℕ) → v < 4096 → some_below 4096 (λ x. set x && ((v == x) && test x)) ≡ (set v && test v)

@@ -7,7 +7,7 @@ use Rattle.wordset.specs.Words.{mirrored, Words, some_below, shifted, sums, one,
 use Rattle.wordset.proofs.Tests.{some_from, some_to, IsSome, both_ways, and_both, and_first, and_second}
 use Rattle.wordset.proofs.Firsts.{IsOnly, only_word}
 use Rattle.wordset.proofs.SetLemmas.{closed_at, closed_past}
-use Rattle.domain.specs.Sums.Adding.{times}
+use Rattle.domain.specs.Adding.{times}
 
 one_back : (a : Words) (c d m v : ℕ) → d < 4096 → m ≡ (c * d) % 4096 → v < 4096 → a (minus v m) ≡ true → some_below 4096 (λ x. a x && times c (one d) (minus v x)) ≡ true
 one_back a c d m v h e l t =

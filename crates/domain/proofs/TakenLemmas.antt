@@ -5,15 +5,15 @@ use Rattle.std.proofs.Math.Path.{fun_ext}
 use Rattle.std.proofs.lemmas.Bool.{cases_Bool, cases_lt, eqb-true}
 use Rattle.wordset.specs.Words.{Words, all_words, union, one}
 use Rattle.wordset.proofs.SetLemmas.{all_past, words_past}
-use Rattle.domain.specs.Facts.{Location, Ac, Cell, same, has_cell, is_outside}
-use Rattle.domain.specs.Statements.{TrackedCell, tracked}
-use Rattle.domain.specs.Sums.Moves.{weakly_updated_sets, moved_relation, moved_relations, cells_of, free_of}
-use Rattle.domain.specs.Sums.Taken.{changed, changed_among}
+use Rattle.domain.specs.Locations.{Location, Ac, Cell, same, has_cell, is_outside}
+use Rattle.domain.specs.TrackedCells.{TrackedCell, tracked}
+use Rattle.domain.specs.Moves.{weakly_updated_sets, moved_relation, moved_relations, cells_of, free_of}
+use Rattle.domain.specs.Taken.{changed, changed_among}
 use Rattle.domain.specs.declared.taking.Change.{Change}
 use Rattle.domain.specs.declared.taking.Change.TheVariants.{CountsUp, Takes}
-use Rattle.domain.specs.Sums.FactInCode.{names_words}
-use Rattle.domain.specs.Sums.Terms.{Sum, name_of_term, speaks_of}
-use Rattle.domain.specs.Sums.Facts.{Relation}
+use Rattle.domain.specs.FactInCode.{names_words}
+use Rattle.domain.specs.Terms.{Sum, name_of_term, speaks_of}
+use Rattle.domain.specs.Facts.{Relation}
 use Rattle.domain.proofs.PartLemmas.{tracked_past}
 use Rattle.domain.proofs.BriefLemmas.{only_of_one}
 

@@ -3,10 +3,10 @@ use Rattle.std.proofs.Common.{◌≡◌, ℕ, suc, ◌+◌, ◌%◌, ◌<◌, �
 use Rattle.std.specs.Prelude.{if◌then◌else◌, not, filter}
 use Rattle.std.proofs.Math.ListN.{drop_of_length-le}
 use Rattle.std.proofs.lemmas.List.{at_drop_more, drop_more, length-map, length-take}
-use Rattle.domain.specs.Sums.Terms.{Term, Summand, with_coefficient, with_summand, same_term, term_is_before, same_sum}
-use Rattle.domain.specs.Sums.Terms as said
+use Rattle.domain.specs.Terms.{Term, Summand, with_coefficient, with_summand, same_term, term_is_before, same_sum}
+use Rattle.domain.specs.Terms as said
 use Rattle.domain.specs.declared.terms.Sum.{Sum}
-use Rattle.domain.specs.Sums.InCode.{summand_of, sum_of}
+use Rattle.domain.specs.InCode.{summand_of, sum_of}
 
 -- There is room for one more of what is left.
 pub room_left : {A : Type 0} (made rest begun gone : List A) → made ++ rest ≡ begun ++ gone → length begun + length gone ≤ 4 → 0 < length rest → length made < 4

@@ -5,8 +5,8 @@ use Rattle.std.proofs.lemmas.Bool.{cases_eq, cases_lt, ne_eqb}
 use Rattle.std.proofs.lemmas.List.{get_or-map, length-map}
 use Rattle.wordset.specs.Words.{Words, all_words, some_below}
 use Rattle.wordset.proofs.Tests.{some_from, some_none_of}
-use Rattle.domain.specs.Statements.{TrackedCell, tracked, cell_at}
-use Rattle.domain.specs.Sums.Adding.{lacks_all}
+use Rattle.domain.specs.TrackedCells.{TrackedCell, tracked, cell_at}
+use Rattle.domain.specs.Adding.{lacks_all}
 
 -- The entry of a cell.
 record Entry (a : ℕ) (cells : List TrackedCell) : Type 0 where

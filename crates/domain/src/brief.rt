@@ -64,17 +64,32 @@ fn is_within_row(set: &WordSet, low: Word, high: Word) -> bool
     set.is_subset(&row)
 }
 
-/// Keeps those words of a set that a row has.
+/// Keeps one word of a set, if the set has it.
+fn keep_one(set: &mut WordSet, word: Word)
+    ensures { words set.new ≡ meet (words set.old) (one word) }
+{
+    let has = set.contains(word);
+    *set = WordSet::empty();
+    if has {
+        set.insert(word);
+    }
+}
+
+/// Keeps those words of a set that a row has: quick for one word.
 fn keep_row(set: &mut WordSet, first: Word, last: Word)
     ensures { words set.new ≡ meet (words set.old) (between first last) }
 {
+    if first == last {
+        keep_one(set, first);
+        return;
+    }
     let mut row = WordSet::empty();
     put_row(&mut row, first, last);
     *set = set.meet(&row);
 }
 
 impl BriefSet {
-    ghost use Rattle.domain.specs.Sums.Brief.{brief_words};
+    ghost use Rattle.domain.specs.Brief.{brief_words};
 
     /// The set with no word.
     #[tactic(auto, using(crate::proofs::BriefLemmas::empty_row))]

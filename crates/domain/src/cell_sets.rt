@@ -3,7 +3,7 @@
 ghost use Rattle.std.specs.Prelude.{◌≡◌, ◌<◌, ◌≤◌, ◌+◌, ◌++◌, ◌∷◌, ◌↔◌, [], IsTrue, IfSome, length, map, slice_set};
 ghost use Rattle.wordset.specs.Words.{all_words, between, meet};
 ghost use Rattle.wordset.specs.Lanes.{words};
-ghost use Rattle.domain.specs.Statements.{tracked, cell_at};
+ghost use Rattle.domain.specs.TrackedCells.{tracked, cell_at};
 
 use crate::brief::BriefSet;
 use word12::Word;
@@ -32,7 +32,7 @@ pub struct CellSets<const CAP: usize> {
 }
 
 impl CellSet {
-    ghost use Rattle.domain.specs.Sums.CellsInCode.{cell_set_of};
+    ghost use Rattle.domain.specs.CellsInCode.{cell_set_of};
 
     /// Keeps those words of a set that all of some entries of a cell allow.
     fn keep_among(entries: &[CellSet], cell: Word, place: &mut WordSet)
@@ -47,8 +47,8 @@ impl CellSet {
 }
 
 impl<const CAP: usize> CellSets<CAP> {
-    ghost use Rattle.domain.specs.Sums.Brief.{brief_words};
-    ghost use Rattle.domain.specs.Sums.CellsInCode.{cell_set_of, cell_sets_of, words_in_cells, with_cell, freed, cells_outside, cells_within, IsCellAt};
+    ghost use Rattle.domain.specs.Brief.{brief_words};
+    ghost use Rattle.domain.specs.CellsInCode.{cell_set_of, cell_sets_of, words_in_cells, with_cell, freed, cells_outside, cells_within, IsCellAt};
 
     /// No cell.
     pub fn new() -> CellSets<CAP>

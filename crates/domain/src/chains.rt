@@ -2,8 +2,8 @@
 
 ghost use Rattle.std.specs.Prelude.{◌≡◌, ◌<◌, ◌≤◌, ◌↔◌, ◌++◌, ◌∷◌, [], IsTrue, length, map, take, ℕ};
 ghost use Rattle.wordset.specs.Links.{links_of};
-ghost use Rattle.domain.specs.Sums.Chains as said;
-ghost use Rattle.domain.specs.Sums.Chains.{after_step, after_steps, gives, longer, after_count};
+ghost use Rattle.domain.specs.Chains as said;
+ghost use Rattle.domain.specs.Chains.{after_step, after_steps, gives, longer, after_count};
 
 use crate::location::negated;
 use instruct::operate1;
@@ -74,7 +74,7 @@ fn added(ac: Word, link: Link, word: Word) -> (Word, Link)
 }
 
 impl Step {
-    ghost use Rattle.domain.specs.Sums.ChainsInCode.{step_of};
+    ghost use Rattle.domain.specs.ChainsInCode.{step_of};
 
     /// What the step makes of the accumulator and the link.
     pub fn after(&self, ac: Word, link: Link) -> (Word, Link)
@@ -89,7 +89,7 @@ impl Step {
 }
 
 impl Chain {
-    ghost use Rattle.domain.specs.Sums.ChainsInCode.{step_of, chain_of, gives_from};
+    ghost use Rattle.domain.specs.ChainsInCode.{step_of, chain_of, gives_from};
 
     /// A chain of no steps.
     pub fn begun(cell: Word, more: Word, links: Links) -> Chain

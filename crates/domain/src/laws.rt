@@ -1,6 +1,6 @@
 //! Laws over the definitions alone. Each is the contract of a function that does nothing.
 
-ghost use Rattle.domain.specs.Sums.Laws.{AddedIsSo, AddingKeeps, AllAddedIsSo, AllMovedIsSo, AskedHolds, ChainsAreCounted, CountedHolds, CountedUpIsSo, FreeStaysTrue, GivenIsSo, JoinedFactHolds, JoinedKeeps, KnownIsSo, LongerIsSo, MovedIsSo, NarrowedHolds, NarrowedIsSo, SaidIsSo, SpelledIsSo, SumsAreKept, TakingHolds, VoidNeverHolds, WeaklyUpdatedHolds};
+ghost use Rattle.domain.specs.Laws.{AddedIsSo, AddingKeeps, AllAddedIsSo, AllMovedIsSo, AskedHolds, ChainsAreCounted, CountedHolds, CountedUpIsSo, FreeStaysTrue, GivenIsSo, JoinedFactHolds, JoinedKeeps, KnownIsSo, LongerIsSo, MovedIsSo, NarrowedHolds, NarrowedIsSo, SaidIsSo, SpelledIsSo, SumsAreKept, TakingHolds, VoidNeverHolds, WeaklyUpdatedHolds};
 
 /// A sum keeps its word, however it is collected, arranged and spelled.
 pub fn sums_are_kept()

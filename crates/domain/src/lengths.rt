@@ -1,8 +1,8 @@
 //! How many cells, relations and chains a fact tells of.
 
 ghost use Rattle.std.specs.Prelude.{◌≤◌, length};
-ghost use Rattle.domain.specs.Sums.CellsInCode.{cell_sets_of};
-ghost use Rattle.domain.specs.Sums.RelationsInCode.{relations_of};
+ghost use Rattle.domain.specs.CellsInCode.{cell_sets_of};
+ghost use Rattle.domain.specs.RelationsInCode.{relations_of};
 
 use crate::sum_fact::SumFact;
 

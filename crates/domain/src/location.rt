@@ -2,8 +2,8 @@
 
 ghost use Rattle.std.specs.Prelude.{◌≡◌};
 ghost use Rattle.wordset.specs.Words.{minus};
-ghost use Rattle.domain.specs.Facts.{same};
-ghost use Rattle.domain.specs.Meaning.{location_of};
+ghost use Rattle.domain.specs.Locations.{same};
+ghost use Rattle.domain.specs.LocationsInCode.{location_of};
 
 use word12::Word;
 

@@ -2,9 +2,9 @@
 
 ghost use Rattle.std.specs.Prelude.{◌≡◌, not};
 ghost use Rattle.wordset.specs.Lanes.{words};
-ghost use Rattle.domain.specs.Facts.{has_cell, is_outside};
-ghost use Rattle.domain.specs.Meaning.{location_of};
-ghost use Rattle.domain.specs.Sums.Moves.{cells_of};
+ghost use Rattle.domain.specs.Locations.{has_cell, is_outside};
+ghost use Rattle.domain.specs.LocationsInCode.{location_of};
+ghost use Rattle.domain.specs.Moves.{cells_of};
 
 use crate::location::{Location, is_same_location};
 use word12::Word;
@@ -52,7 +52,7 @@ fn is_changing(cells: &WordSet, name: &Location) -> bool
 }
 
 impl Names<'_> {
-    ghost use Rattle.domain.specs.Sums.Naming.{names_of};
+    ghost use Rattle.domain.specs.Naming.{names_of};
 
     /// Whether a name is one of them.
     pub fn contains(&self, name: &Location) -> bool

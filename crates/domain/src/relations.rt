@@ -4,14 +4,14 @@ ghost use Rattle.std.specs.Prelude.{◌≡◌, ◌<◌, ◌≤◌, ◌+◌, ◌+
 ghost use Rattle.std.specs.List.{list_any};
 ghost use Rattle.wordset.specs.Words.{Words, meet, one, sums};
 ghost use Rattle.wordset.specs.Lanes.{words};
-ghost use Rattle.domain.specs.Facts.{Cell};
-ghost use Rattle.domain.specs.Sums.Terms.{coefficient_in};
-ghost use Rattle.domain.specs.Sums.Terms as said;
-ghost use Rattle.domain.specs.Sums.Brief.{brief_words};
-ghost use Rattle.domain.specs.Sums.Adding.{times, with_relation, with_shape_in, adding, adding_all, set_among, lacks_all};
-ghost use Rattle.domain.specs.Sums.Facts as facts;
-ghost use Rattle.domain.specs.Sums.Facts.{OfSums};
-ghost use Rattle.domain.specs.Sums.Moves.{free_of, outside, counted_term, counted_sum, is_behind, has_behind, moved_relation, moved_relations};
+ghost use Rattle.domain.specs.Locations.{Cell};
+ghost use Rattle.domain.specs.Terms.{coefficient_in};
+ghost use Rattle.domain.specs.Terms as said;
+ghost use Rattle.domain.specs.Brief.{brief_words};
+ghost use Rattle.domain.specs.Adding.{times, with_relation, with_shape_in, adding, adding_all, set_among, lacks_all};
+ghost use Rattle.domain.specs.Facts as facts;
+ghost use Rattle.domain.specs.Facts.{OfSums};
+ghost use Rattle.domain.specs.Moves.{free_of, outside, counted_term, counted_sum, is_behind, has_behind, moved_relation, moved_relations};
 
 use crate::brief::BriefSet;
 use crate::location::{Location, negated};
@@ -72,8 +72,8 @@ fn add_times_each(c: Word, by: &WordSet, set: &mut BriefSet)
 }
 
 impl Relation {
-    ghost use Rattle.domain.specs.Sums.InCode.{sum_of};
-    ghost use Rattle.domain.specs.Sums.RelationsInCode.{relation_of};
+    ghost use Rattle.domain.specs.InCode.{sum_of};
+    ghost use Rattle.domain.specs.RelationsInCode.{relation_of};
 
     /// Keeps those words of a set that all of some relations of a sum allow.
     fn keep_among(relations: &[Relation], sum: &Sum, place: &mut WordSet)
@@ -100,7 +100,7 @@ impl Relation {
 }
 
 impl Term {
-    ghost use Rattle.domain.specs.Sums.InCode.{term_of};
+    ghost use Rattle.domain.specs.InCode.{term_of};
 
     /// The same word's term after a number was added to a cell's word: what stands behind the cell is behind it by so much less.
     pub fn counted(&self, cell: Word, by: Word) -> Term
@@ -136,7 +136,7 @@ impl Term {
 }
 
 impl Sum {
-    ghost use Rattle.domain.specs.Sums.InCode.{sum_of};
+    ghost use Rattle.domain.specs.InCode.{sum_of};
 
     /// The sum's terms after a number was added to a cell's word.
     pub fn counted(&self, cell: Word, by: Word) -> Sum
@@ -174,9 +174,9 @@ impl Sum {
 }
 
 impl<const CAP: usize> Relations<CAP> {
-    ghost use Rattle.domain.specs.Sums.InCode.{sum_of};
-    ghost use Rattle.domain.specs.Sums.Naming.{names_of};
-    ghost use Rattle.domain.specs.Sums.RelationsInCode.{relation_of, relations_of, relation_at, IsFoundAt};
+    ghost use Rattle.domain.specs.InCode.{sum_of};
+    ghost use Rattle.domain.specs.Naming.{names_of};
+    ghost use Rattle.domain.specs.RelationsInCode.{relation_of, relations_of, relation_at, IsFoundAt};
 
     /// No relation.
     pub fn new() -> Relations<CAP>

@@ -2,7 +2,7 @@
 
 ghost use Rattle.std.specs.Prelude.{◌≡◌, ◌<◌, ◌↔◌, ℕ, IsTrue, true, false};
 ghost use Rattle.wordset.specs.Words.{nothing, with_word};
-ghost use Rattle.domain.specs.Sums.Moves.{counted_up};
+ghost use Rattle.domain.specs.Moves.{counted_up};
 
 /// Some of the offsets 0 to 77, by which a routine's return word may have been counted up.
 ///
@@ -14,7 +14,7 @@ pub struct ReturnOffsets {
 }
 
 impl ReturnOffsets {
-    ghost use Rattle.domain.specs.Sums.Offsets.{offsets_in, every_offset};
+    ghost use Rattle.domain.specs.Offsets.{offsets_in, every_offset};
 
     /// No offset.
     pub fn none() -> ReturnOffsets

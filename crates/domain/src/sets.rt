@@ -4,9 +4,9 @@ ghost use Rattle.std.specs.Prelude.{◌≡◌, ◌*◌, ◌%◌, ◌&&◌, ◌||
 ghost use Rattle.wordset.specs.Words.{meet, plus, some_below};
 ghost use Rattle.wordset.specs.Lanes.{words};
 ghost use Rattle.peripherals.specs.Loading.{image_of};
-ghost use Rattle.domain.specs.Facts.{tape_word};
-ghost use Rattle.domain.specs.Sums.Adding.{times, differences};
-ghost use Rattle.domain.specs.Sums.Knowing.{at_start};
+ghost use Rattle.domain.specs.Locations.{tape_word};
+ghost use Rattle.domain.specs.Adding.{times, differences};
+ghost use Rattle.domain.specs.Knowing.{at_start};
 
 use crate::terms::product;
 use bin_tape::Image;

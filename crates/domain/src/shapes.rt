@@ -1,12 +1,12 @@
 //! The sums of which relations may speak, and how any sum is spelled as one of them.
 
 ghost use Rattle.std.specs.Prelude.{◌≡◌, ◌∷◌, []};
-ghost use Rattle.domain.specs.Facts.{Ac};
-ghost use Rattle.domain.specs.Meaning.{location_of};
-ghost use Rattle.domain.specs.Sums.Terms as said;
-ghost use Rattle.domain.specs.Sums.Shapes.{is_cell, is_name, may_be_second, is_pair, is_triple, has_shape, spelled};
-ghost use Rattle.domain.specs.Sums.InCode.{term_of, summand_of, sum_of};
-ghost use Rattle.domain.specs.Sums.Spelling.{spelled_of};
+ghost use Rattle.domain.specs.Locations.{Ac};
+ghost use Rattle.domain.specs.LocationsInCode.{location_of};
+ghost use Rattle.domain.specs.Terms as said;
+ghost use Rattle.domain.specs.Shapes.{is_cell, is_name, may_be_second, is_pair, is_triple, has_shape, spelled};
+ghost use Rattle.domain.specs.InCode.{term_of, summand_of, sum_of};
+ghost use Rattle.domain.specs.Spelling.{spelled_of};
 
 use crate::location::{Location, is_same_location};
 use crate::terms::{Sum, Summand, Term, is_sign};

@@ -3,16 +3,16 @@
 ghost use Rattle.std.specs.Prelude.{◌≡◌, ◌<◌, ◌≤◌, ◌+◌, ◌*◌, ◌++◌, [], length, map};
 ghost use Rattle.wordset.specs.Words.{one};
 ghost use Rattle.wordset.specs.Lanes.{words};
-ghost use Rattle.domain.specs.Facts.{Cell};
-ghost use Rattle.domain.specs.Sums.Adding.{with_set};
-ghost use Rattle.domain.specs.Sums.Facts.{OfEquations, OfSums};
-ghost use Rattle.domain.specs.Sums.Chains.{all_longer, after_count};
-ghost use Rattle.domain.specs.Sums.Moves.{moved_relations, chains_free_of, without_relations, joined};
-ghost use Rattle.domain.specs.Sums.CellsInCode.{cell_sets_of};
-ghost use Rattle.domain.specs.Sums.RelationsInCode.{relations_of};
-ghost use Rattle.domain.specs.Sums.ChainsInCode.{step_of, chain_of, AreShort};
-ghost use Rattle.domain.specs.Sums.Naming.{names_of};
-ghost use Rattle.domain.specs.Sums.FactInCode.{fact_in_code, names_words, rules_of};
+ghost use Rattle.domain.specs.Locations.{Cell};
+ghost use Rattle.domain.specs.Adding.{with_set};
+ghost use Rattle.domain.specs.Facts.{OfEquations, OfSums};
+ghost use Rattle.domain.specs.Chains.{all_longer, after_count};
+ghost use Rattle.domain.specs.Moves.{moved_relations, chains_free_of, without_relations, joined};
+ghost use Rattle.domain.specs.CellsInCode.{cell_sets_of};
+ghost use Rattle.domain.specs.RelationsInCode.{relations_of};
+ghost use Rattle.domain.specs.ChainsInCode.{step_of, chain_of, AreShort};
+ghost use Rattle.domain.specs.Naming.{names_of};
+ghost use Rattle.domain.specs.FactInCode.{fact_in_code, names_words, rules_of};
 
 use crate::chains::{Chain, Step};
 use crate::location::Location;

@@ -3,14 +3,14 @@
 ghost use Rattle.std.specs.Prelude.{◌≡◌, ◌<◌, ◌≤◌, ◌+◌, ◌++◌, ◌∷◌, [], length, map};
 ghost use Rattle.wordset.specs.Words.{one, shifted, mirrored};
 ghost use Rattle.wordset.specs.Lanes.{words};
-ghost use Rattle.domain.specs.Sums.Adding.{is_equation, is_kept};
-ghost use Rattle.domain.specs.Sums.Moves.{free_of};
-ghost use Rattle.domain.specs.Sums.InCode.{sum_of};
-ghost use Rattle.domain.specs.Sums.Brief.{brief_words};
-ghost use Rattle.domain.specs.Sums.RelationsInCode.{relations_of, relation_of};
-ghost use Rattle.domain.specs.Sums.ChainsInCode.{chain_of};
-ghost use Rattle.domain.specs.Sums.Naming.{names_of};
-ghost use Rattle.domain.specs.Sums.FactInCode.{fact_in_code, rules_of};
+ghost use Rattle.domain.specs.Adding.{is_equation, is_kept};
+ghost use Rattle.domain.specs.Moves.{free_of};
+ghost use Rattle.domain.specs.InCode.{sum_of};
+ghost use Rattle.domain.specs.Brief.{brief_words};
+ghost use Rattle.domain.specs.RelationsInCode.{relations_of, relation_of};
+ghost use Rattle.domain.specs.ChainsInCode.{chain_of};
+ghost use Rattle.domain.specs.Naming.{names_of};
+ghost use Rattle.domain.specs.FactInCode.{fact_in_code, rules_of};
 
 use crate::brief::BriefSet;
 use crate::chains::Chain;

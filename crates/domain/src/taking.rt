@@ -4,13 +4,13 @@
 ghost use Rattle.std.specs.Prelude.{◌≡◌, ◌≤◌, ◌<◌, ◌+◌, ◌++◌, ◌∷◌, [], length, map};
 ghost use Rattle.wordset.specs.Words.{shifted, union, one};
 ghost use Rattle.wordset.specs.Lanes.{words};
-ghost use Rattle.domain.specs.Facts.{Ac, Cell};
-ghost use Rattle.domain.specs.Sums.Moves.{taking, weakly_updated, weakly_updated_sets, without_relations};
-ghost use Rattle.domain.specs.Sums.Naming.{names_of};
-ghost use Rattle.domain.specs.Sums.CellsInCode.{cell_sets_of, cell_set_of};
-ghost use Rattle.domain.specs.Sums.RelationsInCode.{relations_of};
-ghost use Rattle.domain.specs.Sums.Taken.{changed, changed_among};
-ghost use Rattle.domain.specs.Sums.FactInCode.{fact_in_code};
+ghost use Rattle.domain.specs.Locations.{Ac, Cell};
+ghost use Rattle.domain.specs.Moves.{taking, weakly_updated, weakly_updated_sets, without_relations};
+ghost use Rattle.domain.specs.Naming.{names_of};
+ghost use Rattle.domain.specs.CellsInCode.{cell_sets_of, cell_set_of};
+ghost use Rattle.domain.specs.RelationsInCode.{relations_of};
+ghost use Rattle.domain.specs.Taken.{changed, changed_among};
+ghost use Rattle.domain.specs.FactInCode.{fact_in_code};
 
 use crate::cell_sets::{CellSet, CellSets};
 use crate::location::Location;

@@ -1,8 +1,8 @@
 //! Terms and sums of them: what relations speak of.
 
 ghost use Rattle.std.specs.Prelude.{◌≡◌, ◌<◌, ◌≤◌, ◌+◌, ◌*◌, ◌%◌, ◌==◌, ◌++◌, [], ◌∷◌, length, map, drop, filter, not, ℕ};
-ghost use Rattle.domain.specs.Sums.Terms.{same_term, term_is_before, name_is_before, name_of_term, is_sign, same_sum};
-ghost use Rattle.domain.specs.Meaning.{location_of};
+ghost use Rattle.domain.specs.Terms.{same_term, term_is_before, name_is_before, name_of_term, is_sign, same_sum};
+ghost use Rattle.domain.specs.LocationsInCode.{location_of};
 
 use crate::location::{Location, is_same_location};
 use crate::names::Names;
@@ -94,7 +94,7 @@ fn is_name_before(a: &Location, b: &Location) -> bool
 }
 
 impl Term {
-    ghost use Rattle.domain.specs.Sums.InCode.{term_of};
+    ghost use Rattle.domain.specs.InCode.{term_of};
 
     /// The name of which the term speaks: that which holds its word, or the cell that holds the address of its word.
     pub fn name(&self) -> Location
@@ -143,9 +143,9 @@ impl Term {
 }
 
 impl Sum {
-    ghost use Rattle.domain.specs.Sums.InCode.{term_of, summand_of, summand_at, same_summand, sum_of};
-    ghost use Rattle.domain.specs.Sums.Naming.{names_of};
-    ghost use Rattle.domain.specs.Sums.Terms.{with_coefficient, with_summand, collected, arranged, multiplied, without_term, coefficient_in, sum_of_name, difference_of, speaks_of};
+    ghost use Rattle.domain.specs.InCode.{term_of, summand_of, summand_at, same_summand, sum_of};
+    ghost use Rattle.domain.specs.Naming.{names_of};
+    ghost use Rattle.domain.specs.Terms.{with_coefficient, with_summand, collected, arranged, multiplied, without_term, coefficient_in, sum_of_name, difference_of, speaks_of};
 
     /// The sum of no terms.
     pub fn zero() -> Sum

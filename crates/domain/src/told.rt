@@ -4,14 +4,16 @@ ghost use Rattle.std.specs.Prelude.{◌≡◌, ◌<◌, ◌≤◌, ◌+◌, ◌+
 ghost use Rattle.wordset.specs.Words.{nothing, between, one};
 ghost use Rattle.wordset.specs.Lanes.{words};
 ghost use Rattle.wordset.specs.Links.{links_of};
-ghost use Rattle.domain.specs.Facts.{Ac};
-ghost use Rattle.domain.specs.Sums.InCode.{sum_of};
-ghost use Rattle.domain.specs.Sums.CellsInCode.{cell_set_of, cell_sets_of};
-ghost use Rattle.domain.specs.Sums.RelationsInCode.{relation_of, relations_of};
-ghost use Rattle.domain.specs.Sums.ChainsInCode.{chain_of};
-ghost use Rattle.domain.specs.Sums.Offsets.{offsets_in};
-ghost use Rattle.domain.specs.Sums.FactInCode.{fact_in_code, names_words};
+ghost use Rattle.domain.specs.Locations.{Ac};
+ghost use Rattle.domain.specs.InCode.{sum_of};
+ghost use Rattle.domain.specs.Brief.{brief_words};
+ghost use Rattle.domain.specs.CellsInCode.{cell_set_of, cell_sets_of};
+ghost use Rattle.domain.specs.RelationsInCode.{relation_of, relations_of};
+ghost use Rattle.domain.specs.ChainsInCode.{chain_of};
+ghost use Rattle.domain.specs.Offsets.{offsets_in};
+ghost use Rattle.domain.specs.FactInCode.{fact_in_code, names_words};
 
+use crate::brief::BriefSet;
 use crate::cell_sets::CellSet;
 use crate::chains::Chain;
 use crate::relations::Relation;
@@ -98,6 +100,14 @@ impl<const C: usize, const R: usize> SumFact<C, R> {
         ensures cells { cell_sets_of self.new.cells ≡ cell_sets_of self.old.cells }
     {
         self.sites.set(set);
+    }
+
+    /// Lets it have been called from one of the sites of a brief set.
+    pub fn copy_sites(&mut self, sites: &BriefSet)
+        ensures fact { fact_in_code self.new ≡ record (fact_in_code self.old) { sites = brief_words sites.now } }
+        ensures cells { cell_sets_of self.new.cells ≡ cell_sets_of self.old.cells }
+    {
+        self.sites.copy_from(sites);
     }
 
     /// Lets it have been called from one of the sites from one to another, both of them; none where the second is the lesser.

@@ -9,12 +9,12 @@ use Rattle.instruct.specs.Operates.{is_halt, MqOperate}
 use Rattle.instruct.specs.Bits.{is_indirect, named_cell}
 use Rattle.instruct.specs.Instructions.{Meaning, Group1, Group2, Group3, Device, DeviceAction, Undefined, Jms, kind_of, operation_of, reference}
 use Rattle.instruct.proofs.KindLemmas.{reference_meaning, group2_meaning}
-use Rattle.wordset.specs.Words.{Words, IsWithin, nothing}
+use Rattle.wordset.specs.Words.{Words, IsWithin, nothing, one}
 use Rattle.wordset.proofs.Tests.{or_left, or_right}
 use Rattle.declaration.specs.Declaration.{Declaration}
-use Rattle.domain.specs.Sums.Facts.{Place}
-use Rattle.facts.specs.Conditions.{calls, jumps, is_call, calls_through_index, returned_through, MayWrite}
-use Rattle.facts.specs.Sums.PlaceInCode.{meaning_in}
+use Rattle.domain.specs.Facts.{Place}
+use Rattle.facts.specs.Instructions.{calls, jumps, is_call, calls_through_index, returned_through, MayWrite}
+use Rattle.facts.specs.PlaceInCode.{meaning_in}
 use Rattle.policy.specs.Rules.{HaltsDeclared}
 use Rattle.std.proofs.Math.Path.{fun_ext}
 
@@ -63,6 +63,13 @@ over {r} s t P e h = subst (λ (x : Words). IsTrue r ↔ ((a : ℕ) → a < 4096
 
 pub over_none : (t : Words) (P : ℕ → Type 0) → ((a : ℕ) → t a ≡ false) → IsTrue true ↔ ((a : ℕ) → a < 4096 → t a ≡ true → P a)
 over_none t P h = (λ q a lt w. absurd (false≢true (sym (h a) ∙ w)), λ q. refl)
+
+-- of one cell alone
+pub over_one : {r : Bool} (t : Words) (c : ℕ) (P : ℕ → Type 0) → t ≡ one c → c < 4096 → (IsTrue r ↔ P c) → IsTrue r ↔ ((a : ℕ) → a < 4096 → t a ≡ true → P a)
+over_one {r} t c P is small told = (
+  λ q a lt has. subst P (sym (eqb-true a c (ap (λ (x : Words). x a) (sym is) ∙ has))) (told.0 q),
+  λ all. told.1 (all c small (ap (λ (x : Words). x c) is ∙ eq-eqb c c refl)),
+)
 
 -- a declared halt
 pub halts_nowhere : (pl : Place) (at w : ℕ) → (kind_of (meaning_in pl at w) ≡ Operate2 → ⊥) → IsTrue true ↔ HaltsDeclared pl.declaration (meaning_in pl at w) at

@@ -1,56 +1,67 @@
--- What a word does as an instruction, and which cells a routine may write.
-use Rattle.std.specs.Prelude.{◌≡◌, ℕ, Bool, true, false, ◌&&◌, ◌⊎◌, if◌then◌else◌, Option, Some, None}
-use Rattle.instruct.specs.declared.Operation.{Operation}
-use Rattle.instruct.specs.declared.Operation.TheVariants as operation
-use Rattle.instruct.specs.Instructions.{Meaning, Jms, Jmp}
-use Rattle.wordset.specs.Words.{Words}
-use Rattle.processor.specs.Machine.{steps_pointer}
-use Rattle.declaration.specs.Declaration.{Routine, Declaration}
+-- What is asked of one word at the address of a fact before its outcomes are looked at.
+use Rattle.std.specs.Prelude.{◌≡◌, ℕ, ◌<◌, ◌≤◌, ◌==◌, true, false, ◌&&◌, ◌||◌, ◌⊎◌, Some}
+use Rattle.instruct.specs.Instructions.{Meaning, And, Tad, Isz, Dca, Jms, Jmp}
+use Rattle.wordset.specs.Words.{Words, only}
+use Rattle.declaration.specs.Declaration.{IsListed}
+use Rattle.policy.specs.Rules.{pointer_of}
+use Rattle.domain.specs.Facts.{Fact, Place, Rules, OfEquations, OfSums}
+use Rattle.facts.specs.Instructions.{MayWrite}
+use Rattle.facts.specs.References.{targets, own_words}
 
--- AND, TAD and ISZ read their operand.
-abbrev pub reads_operand : Operation → Bool
-reads_operand operation.And = true
-reads_operand operation.Tad = true
-reads_operand operation.Isz = true
-reads_operand _ = false
+-- The cells in which ISZ or DCA may store.
+abbrev pub may_store : Place → Fact → Meaning → Words
+may_store pl f (Isz i c) a = targets pl i c f a
+may_store pl f (Dca i c) a = targets pl i c f a
+may_store pl f _ a = false
 
--- ISZ and DCA store where they refer to.
-abbrev pub stores : Operation → Bool
-stores operation.Isz = true
-stores operation.Dca = true
-stores _ = false
+-- The cells that a word may write, a stepped pointer among them; save the one that a JMS itself writes.
+abbrev pub may_write : Place → Fact → Meaning → Words
+may_write pl f m a = pointer_of m a || may_store pl f m a
 
--- ISZ counts up.
-abbrev pub counts : Operation → Bool
-counts operation.Isz = true
-counts _ = false
+-- The cells that a word may read: an indirect reference's pointer, and the operands of AND, TAD and ISZ.
+abbrev pub may_read : Place → Fact → Meaning → Words
+may_read pl f (And i c) a = (i && (a == c)) || targets pl i c f a
+may_read pl f (Tad i c) a = (i && (a == c)) || targets pl i c f a
+may_read pl f (Isz i c) a = (i && (a == c)) || targets pl i c f a
+may_read pl f (Dca i c) a = i && (a == c)
+may_read pl f (Jms i c) a = i && (a == c)
+may_read pl f (Jmp i c) a = i && (a == c)
+may_read pl f _ a = false
 
--- JMS calls.
-abbrev pub calls : Operation → Bool
-calls operation.Jms = true
-calls _ = false
+-- The cells that a JMS may call.
+abbrev pub called : Place → Fact → Meaning → Words
+called pl f (Jms i c) a = targets pl i c f a
+called pl f _ a = false
 
--- JMP jumps.
-abbrev pub jumps : Operation → Bool
-jumps operation.Jmp = true
-jumps _ = false
+-- Each cell that the word may write is a variable or an entry.
+abbrev pub WritesAreDeclared : Place → Fact → Meaning → Type 0
+WritesAreDeclared pl f m =
+    (a : ℕ) → a < 4096 → may_write pl f m a ≡ true →
+    (pl.declaration.variable a ≡ true) ⊎ (pl.declaration.entry a ≡ true)
 
--- The word is a JMS.
-abbrev pub is_call : Meaning → Bool
-is_call (Jms i c) = true
-is_call _ = false
+-- The return word may be counted up once more. By the rules of equations it is not seven up already, or more. By those of sums it
+-- is not 77 up already, and it is not 7777, so that the ISZ does not skip.
+abbrev pub MayCount : Rules → Fact → Type 0
+MayCount OfEquations f = (o : ℕ) → 7 ≤ o → o < 64 → f.offsets o ≡ false
+MayCount OfSums f = (f.offsets 63 ≡ false) × (own_words f 4095 ≡ false)
 
--- A JMS through an auto-index cell, which it steps first.
-abbrev pub calls_through_index : Meaning → Bool
-calls_through_index (Jms i c) = steps_pointer i c
-calls_through_index _ = false
+-- ISZ of the running routine's own entry alone, which may be counted up once more.
+abbrev pub CountsItsReturn : Place → Fact → Meaning → ℕ → Type 0
+CountsItsReturn pl f (Isz i c) a =
+    (pl.routine ≡ Some a) × (only (targets pl i c f) ≡ Some a) × MayCount pl.rules f
+CountsItsReturn pl f _ a = ⊥
 
--- The entry through which a JMP I returns.
-abbrev pub returned_through : Declaration → Meaning → Option ℕ
-returned_through d (Jmp i c) = if i && d.entry c then Some c else None
-returned_through d _ = None
+-- No cell that the word may write is an entry, save under such an ISZ.
+abbrev pub EntriesAreKept : Place → Fact → Meaning → Type 0
+EntriesAreKept pl f m =
+    (a : ℕ) → a < 4096 → may_write pl f m a ≡ true → pl.declaration.entry a ≡ true → CountsItsReturn pl f m a
 
--- In a routine a cell may be written where it is in the routine's written set or is its own entry; in main always.
-abbrev pub MayWrite : Words → Routine → ℕ → Type 0
-MayWrite writes None a = Unit {0}
-MayWrite writes (Some e) a = (writes a ≡ true) ⊎ (a ≡ e)
+-- Each cell that the word may write is one that the routine may write.
+abbrev pub WritesAreListed : Place → Words → Fact → Meaning → Type 0
+WritesAreListed pl writes f m =
+    (a : ℕ) → a < 4096 → may_write pl f m a ≡ true → MayWrite writes pl.routine a
+
+-- Each cell that the word may read is on the list of reads, if there is one, or is the routine's own entry.
+abbrev pub ReadsAreListed : Place → Fact → Meaning → Type 0
+ReadsAreListed pl f m =
+    (a : ℕ) → a < 4096 → may_read pl f m a ≡ true → IsListed pl.declaration.reads a ⊎ (pl.routine ≡ Some a)

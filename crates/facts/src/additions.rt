@@ -6,18 +6,18 @@
 ghost use Rattle.std.specs.Prelude.{◌≡◌, ◌<◌, ◌≤◌, ◌+◌, ◌*◌, ◌++◌, ◌∷◌, [], Some, None, Option, length, map, flat_map, ℕ};
 ghost use Rattle.wordset.specs.Words.{only};
 ghost use Rattle.wordset.specs.Lanes.{words};
-ghost use Rattle.domain.specs.Facts.{Ac};
-ghost use Rattle.domain.specs.Meaning.{location_of};
-ghost use Rattle.domain.specs.Sums.Facts.{OfSums};
-ghost use Rattle.domain.specs.Sums.Adding.{with_name, adding_all};
-ghost use Rattle.domain.specs.Sums.InCode.{term_of, summand_of, sum_of};
-ghost use Rattle.domain.specs.Sums.CellsInCode.{cell_sets_of};
-ghost use Rattle.domain.specs.Sums.RelationsInCode.{relation_of, relations_of};
-ghost use Rattle.domain.specs.Sums.ChainsInCode.{AreShort};
-ghost use Rattle.domain.specs.Sums.FactInCode.{fact_in_code};
-ghost use Rattle.facts.specs.Sums.Additions.{names, has_ac, less, ac_with_rest, brought_by, brought, after_tad, summed, ac_is, equations_moved, equations_after_tad, chains_after_tad};
-ghost use Rattle.facts.specs.Sums.Outcomes.{added_under, added};
-ghost use Rattle.facts.specs.Sums.Shaped.{HaveFewTerms, term_if, told, moved_after_tad};
+ghost use Rattle.domain.specs.Locations.{Ac};
+ghost use Rattle.domain.specs.LocationsInCode.{location_of};
+ghost use Rattle.domain.specs.Facts.{OfSums};
+ghost use Rattle.domain.specs.Adding.{with_name, adding_all};
+ghost use Rattle.domain.specs.InCode.{term_of, summand_of, sum_of};
+ghost use Rattle.domain.specs.CellsInCode.{cell_sets_of};
+ghost use Rattle.domain.specs.RelationsInCode.{relation_of, relations_of};
+ghost use Rattle.domain.specs.ChainsInCode.{AreShort};
+ghost use Rattle.domain.specs.FactInCode.{fact_in_code};
+ghost use Rattle.facts.specs.Additions.{names, has_ac, less, ac_with_rest, brought_by, brought, after_tad, summed, ac_is, equations_moved, equations_after_tad, chains_after_tad};
+ghost use Rattle.facts.specs.Outcomes.{added_under, added};
+ghost use Rattle.facts.specs.Shaped.{HaveFewTerms, term_if, told, moved_after_tad};
 
 use crate::carrying::sums_under;
 use domain::{

@@ -4,8 +4,8 @@ ghost use Rattle.std.specs.Prelude.{ℕ, ◌≡◌, ◌↔◌, IsTrue};
 ghost use Rattle.instruct.specs.declared.Instruction.TheVariants.{Memory, Operate2};
 ghost use Rattle.instruct.specs.Instructions.{kind_of};
 ghost use Rattle.policy.specs.Rules.{IsSupported, HaltsDeclared};
-ghost use Rattle.facts.specs.Conditions.{is_call, calls_through_index, returned_through};
-ghost use Rattle.facts.specs.Sums.PlaceInCode.{place_in_code, meaning_in};
+ghost use Rattle.facts.specs.Instructions.{is_call, calls_through_index, returned_through};
+ghost use Rattle.facts.specs.PlaceInCode.{place_in_code, meaning_in};
 
 use crate::instructions::{is_jmp, is_jms, steps_pointer};
 use crate::place::Place;

@@ -4,8 +4,8 @@ ghost use Rattle.std.specs.Prelude.{◌≡◌, ◌&&◌, ℕ};
 ghost use Rattle.wordset.specs.Words.{all_words, union};
 ghost use Rattle.wordset.specs.Lanes.{words};
 ghost use Rattle.wordset.specs.Links.{links_of};
-ghost use Rattle.facts.specs.Sums.Additions.{sums_carrying, sums_under};
-ghost use Rattle.facts.specs.Sums.Shaped.{sums_with};
+ghost use Rattle.facts.specs.Additions.{sums_carrying, sums_under};
+ghost use Rattle.facts.specs.Shaped.{sums_with};
 
 use word12::{Link, Word};
 use wordset::{Links, WordSet};

@@ -1,15 +1,16 @@
 //! The cells that one word at the address of a fact may read, write or call, and what is asked of them.
 
-ghost use Rattle.std.specs.Prelude.{ℕ, ◌≡◌, ◌<◌, ◌≤◌, ◌==◌, ◌&&◌, ◌||◌, ◌↔◌, ◌⊎◌, IsTrue, Some, true, false};
+ghost use Rattle.std.specs.Prelude.{ℕ, ◌≡◌, ◌<◌, ◌≤◌, ◌==◌, ◌&&◌, ◌||◌, ◌↔◌, ◌⊎◌, IsTrue, IfSome, Some, true, false};
+ghost use Rattle.wordset.specs.Words.{one};
 ghost use Rattle.wordset.specs.Lanes.{words};
 ghost use Rattle.declaration.specs.Declaration.{IsListed};
-ghost use Rattle.domain.specs.Facts.{is_routine};
-ghost use Rattle.domain.specs.Sums.Facts as said;
-ghost use Rattle.domain.specs.Sums.FactInCode.{fact_in_code, rules_of};
-ghost use Rattle.domain.specs.Sums.Offsets.{offsets_in};
-ghost use Rattle.facts.specs.Conditions.{MayWrite};
-ghost use Rattle.facts.specs.Sums.Conditions.{may_read, may_write, called, WritesAreDeclared, EntriesAreKept, WritesAreListed, ReadsAreListed, MayCount, CountsItsReturn};
-ghost use Rattle.facts.specs.Sums.PlaceInCode.{place_in_code, meaning_in};
+ghost use Rattle.domain.specs.Locations.{is_routine};
+ghost use Rattle.domain.specs.Facts as said;
+ghost use Rattle.domain.specs.FactInCode.{fact_in_code, rules_of};
+ghost use Rattle.domain.specs.Offsets.{offsets_in};
+ghost use Rattle.facts.specs.Instructions.{MayWrite};
+ghost use Rattle.facts.specs.Conditions.{may_read, may_write, called, WritesAreDeclared, EntriesAreKept, WritesAreListed, ReadsAreListed, MayCount, CountsItsReturn};
+ghost use Rattle.facts.specs.PlaceInCode.{place_in_code, meaning_in};
 
 use crate::instructions::{counts, is_jms, reads_operand, steps_pointer, stores};
 use crate::place::Place;
@@ -68,6 +69,23 @@ impl<A: Allocator> Place<'_, A> {
             return false;
         }
         stores(word) || steps_pointer(refers_indirectly(word), target(word, at))
+    }
+
+    /// The cell in which a word stores without a pointer, the one that it writes then: the named cell of ISZ or DCA.
+    fn stored_cell(&self, at: Word, word: Word) -> Option<Word>
+        ensures { IfSome result (λ c. (f : said.Fact) →
+            may_write (place_in_code self.now) f (meaning_in (place_in_code self.now) at word) ≡ one c) }
+    {
+        if !self.is_reference(word) {
+            return None;
+        }
+        if refers_indirectly(word) {
+            return None;
+        }
+        if !stores(word) {
+            return None;
+        }
+        Some(target(word, at))
     }
 
     /// Puts the cells that a word at the address of a fact may read, wherever the fact holds, into a place for them: an
@@ -183,6 +201,10 @@ impl<A: Allocator> Place<'_, A> {
         ensures { IsTrue result ↔ WritesAreDeclared (place_in_code self.now) (fact_in_code fact.now)
             (meaning_in (place_in_code self.now) at word) }
     {
+        if let Some(cell) = self.stored_cell(at, word) {
+            let _index = cell.index();
+            return self.is_declared(cell);
+        }
         if !self.is_writing(at, word) {
             return true;
         }
@@ -252,6 +274,10 @@ impl<A: Allocator> Place<'_, A> {
         ensures { IsTrue result ↔ EntriesAreKept (place_in_code self.now) (fact_in_code fact.now)
             (meaning_in (place_in_code self.now) at word) }
     {
+        if let Some(cell) = self.stored_cell(at, word) {
+            let _index = cell.index();
+            return self.keeps_entry(fact, at, word, cell);
+        }
         if !self.is_writing(at, word) {
             return true;
         }
@@ -291,6 +317,16 @@ impl<A: Allocator> Place<'_, A> {
         }
     }
 
+    /// Whether the running routine may write a cell.
+    fn may_write_cell(&self, listed: &WordSet, cell: Word) -> bool
+        ensures { IsTrue result ↔ MayWrite (words listed.now) (place_in_code self.now).routine cell }
+    {
+        match self.routine {
+            None => true,
+            Some(entry) => listed.contains(cell) || cell == entry,
+        }
+    }
+
     /// Whether each cell that a word may write is one that the running routine may write: one of its written set, which is
     /// given, or its own entry; in main any.
     pub fn writes_are_listed<const C: usize, const R: usize>(
@@ -303,6 +339,10 @@ impl<A: Allocator> Place<'_, A> {
         ensures { IsTrue result ↔ WritesAreListed (place_in_code self.now) (words listed.now) (fact_in_code fact.now)
             (meaning_in (place_in_code self.now) at word) }
     {
+        if let Some(cell) = self.stored_cell(at, word) {
+            let _index = cell.index();
+            return self.may_write_cell(listed, cell);
+        }
         if !self.is_writing(at, word) {
             return true;
         }

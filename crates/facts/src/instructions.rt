@@ -3,7 +3,7 @@
 ghost use Rattle.std.specs.Prelude.{◌≡◌};
 ghost use Rattle.instruct.specs.Instructions.{operation_of};
 ghost use Rattle.processor.specs.Machine.{steps_pointer};
-ghost use Rattle.facts.specs.Conditions.{reads_operand, stores, counts, calls, jumps};
+ghost use Rattle.facts.specs.Instructions.{reads_operand, stores, counts, calls, jumps};
 
 use instruct::Operation;
 use processor::is_auto_index;

@@ -3,15 +3,15 @@
 ghost use Rattle.std.specs.Prelude.{ℕ, ◌≡◌, ◌<◌, ◌↔◌, ◌⊎◌, IsTrue, true, false, map};
 ghost use Rattle.wordset.specs.Words.{all_words};
 ghost use Rattle.wordset.specs.Lanes.{words};
-ghost use Rattle.domain.specs.Facts.{Ac, Cell};
-ghost use Rattle.domain.specs.Meaning.{location_of};
-ghost use Rattle.domain.specs.Statements.{tracked};
-ghost use Rattle.domain.specs.Sums.Adding.{is_void};
-ghost use Rattle.domain.specs.Sums.CellsInCode.{cell_set_of};
-ghost use Rattle.domain.specs.Sums.FactInCode.{fact_in_code};
-ghost use Rattle.facts.specs.Sums.Entailment.{EntailsOne, IsSplit, PartLands, Lands, IsIdle};
-ghost use Rattle.facts.specs.Sums.Landing.{TakesAt, IsSplitBy, AllowAll, LandsUnder, IsIdleUnder};
-ghost use Rattle.facts.specs.Sums.PlaceInCode.{place_in_code};
+ghost use Rattle.domain.specs.Locations.{Ac, Cell};
+ghost use Rattle.domain.specs.LocationsInCode.{location_of};
+ghost use Rattle.domain.specs.TrackedCells.{tracked};
+ghost use Rattle.domain.specs.Adding.{is_void};
+ghost use Rattle.domain.specs.CellsInCode.{cell_set_of};
+ghost use Rattle.domain.specs.FactInCode.{fact_in_code};
+ghost use Rattle.facts.specs.Entailment.{EntailsOne, IsSplit, PartLands, Lands, IsIdle};
+ghost use Rattle.facts.specs.Landing.{TakesAt, IsSplitBy, AllowAll, LandsUnder, IsIdleUnder};
+ghost use Rattle.facts.specs.PlaceInCode.{place_in_code};
 
 use crate::known::KnownFact;
 use crate::parts::{LinkPart, Part};

@@ -1,10 +1,10 @@
 //! Facts about a running program, and what each instruction makes of them.
 #![tactic(auto)]
 
-ghost use Rattle.facts.specs.Sums.Access.{CallsAreForeseen, ReadsAreForeseen, WordsAreForeseen, WritesAreForeseen};
-ghost use Rattle.facts.specs.Sums.Laws.{EntailedFactsHold, IdleNeverHolds, JoinedHolds, OneLandedHolds, StepLaw};
-ghost use Rattle.facts.specs.Sums.Shaped.{NarrowingKeepsShape};
-ghost use Rattle.facts.specs.Sums.Starts.{StartFactHolds, StartsAreExact, StartsLand};
+ghost use Rattle.facts.specs.Access.{CallsAreForeseen, ReadsAreForeseen, WordsAreForeseen, WritesAreForeseen};
+ghost use Rattle.facts.specs.Laws.{EntailedFactsHold, IdleNeverHolds, JoinedHolds, OneLandedHolds, StepLaw};
+ghost use Rattle.facts.specs.Shaped.{NarrowingKeepsShape};
+ghost use Rattle.facts.specs.Starts.{StartFactHolds, StartsAreExact, StartsLand};
 
 mod additions;
 mod asked;

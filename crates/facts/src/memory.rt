@@ -3,17 +3,17 @@
 ghost use Rattle.std.specs.Prelude.{◌≡◌, ◌≤◌, ◌+◌, ◌++◌, ◌&&◌, true, false, length, Some, None};
 ghost use Rattle.wordset.specs.Words.{only, some_below};
 ghost use Rattle.wordset.specs.Lanes.{words};
-ghost use Rattle.domain.specs.Facts.{Cell, is_routine};
-ghost use Rattle.domain.specs.Sums.Narrowing.{words_known};
-ghost use Rattle.domain.specs.Sums.CellsInCode.{cell_sets_of};
-ghost use Rattle.domain.specs.Sums.RelationsInCode.{relations_of};
-ghost use Rattle.domain.specs.Sums.ChainsInCode.{AreShort};
-ghost use Rattle.domain.specs.Sums.FactInCode.{fact_in_code, rules_of};
-ghost use Rattle.facts.specs.Sums.Shaped.{has_last_or_other};
-ghost use Rattle.facts.specs.Sums.Outcomes.{anded, chains_after_and, tad, isz_case, dca_case, stored_by, jmp, call};
-ghost use Rattle.facts.specs.Sums.Shaped.{HaveFewTerms};
-ghost use Rattle.facts.specs.Sums.PlaceInCode.{place_in_code};
-ghost use Rattle.facts.specs.Sums.OutcomesInCode.{outcome_in};
+ghost use Rattle.domain.specs.Locations.{Cell, is_routine};
+ghost use Rattle.domain.specs.Narrowing.{words_known};
+ghost use Rattle.domain.specs.CellsInCode.{cell_sets_of};
+ghost use Rattle.domain.specs.RelationsInCode.{relations_of};
+ghost use Rattle.domain.specs.ChainsInCode.{AreShort};
+ghost use Rattle.domain.specs.FactInCode.{fact_in_code, rules_of};
+ghost use Rattle.facts.specs.Shaped.{has_last_or_other};
+ghost use Rattle.facts.specs.Outcomes.{anded, chains_after_and, tad, isz_case, dca_case, stored_by, jmp, call};
+ghost use Rattle.facts.specs.Shaped.{HaveFewTerms};
+ghost use Rattle.facts.specs.PlaceInCode.{place_in_code};
+ghost use Rattle.facts.specs.OutcomesInCode.{outcome_in};
 
 use crate::additions::{put_added, put_added_under};
 use crate::outcomes::{Outcome, is_alive};

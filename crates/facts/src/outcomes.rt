@@ -4,10 +4,10 @@ ghost use Rattle.std.specs.Prelude.{◌≡◌, ◌&&◌, []};
 ghost use Rattle.wordset.specs.Words.{Words, has_some, has_link, one};
 ghost use Rattle.wordset.specs.Lanes.{words};
 ghost use Rattle.wordset.specs.Links.{links_of};
-ghost use Rattle.domain.specs.Sums.FactInCode.{fact_in_code, rules_of};
-ghost use Rattle.facts.specs.Sums.Outcomes.{given, is_alive};
-ghost use Rattle.facts.specs.Sums.Outcomes as said;
-ghost use Rattle.facts.specs.Sums.OutcomesInCode.{outcome_in, outcomes_in};
+ghost use Rattle.domain.specs.FactInCode.{fact_in_code, rules_of};
+ghost use Rattle.facts.specs.Outcomes.{given, is_alive};
+ghost use Rattle.facts.specs.Outcomes as said;
+ghost use Rattle.facts.specs.OutcomesInCode.{outcome_in, outcomes_in};
 
 use crate::rooms::{NextFact, SteppedFact, TestedFact};
 use crate::sets::has_some;

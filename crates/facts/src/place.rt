@@ -2,11 +2,11 @@
 
 ghost use Rattle.std.specs.Prelude.{◌≡◌};
 ghost use Rattle.wordset.specs.Lanes.{words};
-ghost use Rattle.domain.specs.Facts.{is_routine};
-ghost use Rattle.domain.specs.Meaning.{location_of};
-ghost use Rattle.domain.specs.Sums.FactInCode.{fact_in_code};
-ghost use Rattle.domain.specs.Sums.Narrowing.{words_known};
-ghost use Rattle.facts.specs.Sums.PlaceInCode.{place_in_code};
+ghost use Rattle.domain.specs.Locations.{is_routine};
+ghost use Rattle.domain.specs.LocationsInCode.{location_of};
+ghost use Rattle.domain.specs.FactInCode.{fact_in_code};
+ghost use Rattle.domain.specs.Narrowing.{words_known};
+ghost use Rattle.facts.specs.PlaceInCode.{place_in_code};
 
 use bin_tape::Image;
 use declaration::Declaration;

@@ -5,18 +5,18 @@
 ghost use Rattle.std.specs.Prelude.{◌≡◌, ◌<◌, ◌≤◌, ◌+◌, ◌||◌, ◌&&◌, ℕ, length};
 ghost use Rattle.wordset.specs.Words.{only, shifted};
 ghost use Rattle.wordset.specs.Lanes.{words};
-ghost use Rattle.domain.specs.Facts.{tape_word};
-ghost use Rattle.domain.specs.Sums.CellsInCode.{cell_sets_of};
-ghost use Rattle.domain.specs.Sums.RelationsInCode.{relations_of};
-ghost use Rattle.domain.specs.Sums.FactInCode.{fact_in_code};
-ghost use Rattle.domain.specs.Sums.Moves.{counted};
-ghost use Rattle.facts.specs.Sums.References.{own_words, words_in, possible, targets, words_at, is_fixed, are_fixed, one_target, operand_term};
-ghost use Rattle.facts.specs.Sums.Shaped.{term_if};
-ghost use Rattle.facts.specs.Sums.PlaceInCode.{place_in_code};
+ghost use Rattle.domain.specs.Locations.{tape_word};
+ghost use Rattle.domain.specs.CellsInCode.{cell_sets_of};
+ghost use Rattle.domain.specs.RelationsInCode.{relations_of};
+ghost use Rattle.domain.specs.FactInCode.{fact_in_code};
+ghost use Rattle.domain.specs.Moves.{counted};
+ghost use Rattle.facts.specs.References.{own_words, words_in, possible, targets, words_at, is_fixed, are_fixed, one_target, operand_term};
+ghost use Rattle.facts.specs.Shaped.{term_if};
+ghost use Rattle.facts.specs.PlaceInCode.{place_in_code};
 
 use crate::instructions::steps_pointer;
 use crate::place::Place;
-use crate::sets::word_of;
+use crate::sets::{put_one, word_of};
 use domain::{Location, SumFact, Term};
 use std::alloc::Allocator;
 use word12::Word;
@@ -28,7 +28,7 @@ fn put_tape_word(word: Option<Word>, place: &mut WordSet)
 {
     match word {
         None => *place = WordSet::all(),
-        Some(word) => *place = WordSet::one(word),
+        Some(word) => put_one(word, place),
     }
 }
 
@@ -121,7 +121,7 @@ impl<A: Allocator> Place<'_, A> {
             self.put_words_in(fact, named, place);
             return;
         }
-        *place = WordSet::one(named);
+        put_one(named, place);
     }
 
     /// Puts the words that some cells may hold, of which the one is given that has no other beside it, into a place for them.

@@ -17,6 +17,14 @@ pub(crate) fn has_some(set: &WordSet) -> bool
     !set.is_empty()
 }
 
+/// Puts one word into a place for a set.
+pub(crate) fn put_one(word: Word, place: &mut WordSet)
+    ensures { words place.new ≡ one word }
+{
+    *place = WordSet::empty();
+    place.insert(word);
+}
+
 /// The words of a set, and those of another where it is chosen.
 pub(crate) fn union_if(chosen: bool, set: &WordSet, more: &WordSet) -> WordSet
     ensures { (v : ℕ) → words result v ≡ (words set.now v || (chosen && words more.now v)) }

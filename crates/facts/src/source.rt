@@ -1,9 +1,9 @@
 //! Facts that are given one after another.
 
 ghost use Rattle.std.specs.Prelude.{◌≡◌, ◌<◌, List, length};
-ghost use Rattle.domain.specs.Sums.Facts as said;
-ghost use Rattle.domain.specs.Sums.FactInCode.{fact_in_code};
-ghost use Rattle.facts.specs.Sums.Landing.{fact_at};
+ghost use Rattle.domain.specs.Facts as said;
+ghost use Rattle.domain.specs.FactInCode.{fact_in_code};
+ghost use Rattle.facts.specs.Landing.{fact_at};
 
 use crate::rooms::Fact;
 

@@ -4,17 +4,17 @@ ghost use Rattle.std.specs.Prelude.{◌≡◌, ◌<◌, ◌≤◌, ◌+◌, ◌*
 ghost use Rattle.wordset.specs.Words.{Words, only};
 ghost use Rattle.wordset.specs.Lanes.{words};
 ghost use Rattle.wordset.specs.Links.{links_of};
-ghost use Rattle.domain.specs.Sums.Facts.{OfSums, OfEquations};
-ghost use Rattle.domain.specs.Sums.Adding.{adding_all};
-ghost use Rattle.domain.specs.Sums.Moves.{moved_relation};
-ghost use Rattle.domain.specs.Sums.InCode.{sum_of};
-ghost use Rattle.domain.specs.Sums.CellsInCode.{cell_sets_of};
-ghost use Rattle.domain.specs.Sums.RelationsInCode.{relation_of, relations_of};
-ghost use Rattle.domain.specs.Sums.Chains.{all_longer};
-ghost use Rattle.domain.specs.Sums.ChainsInCode.{step_of, chain_of, AreShort};
-ghost use Rattle.domain.specs.Sums.FactInCode.{fact_in_code, rules_of};
-ghost use Rattle.facts.specs.Sums.Stores.{with_cell_for_ac, after_store, stored, copied_for, copied, begun_by, has_chain_on, all_begun, with_begun};
-ghost use Rattle.facts.specs.Sums.Shaped.{HaveFewTerms, told, besides_store, begun_beside, begun_at};
+ghost use Rattle.domain.specs.Facts.{OfSums, OfEquations};
+ghost use Rattle.domain.specs.Adding.{adding_all};
+ghost use Rattle.domain.specs.Moves.{moved_relation};
+ghost use Rattle.domain.specs.InCode.{sum_of};
+ghost use Rattle.domain.specs.CellsInCode.{cell_sets_of};
+ghost use Rattle.domain.specs.RelationsInCode.{relation_of, relations_of};
+ghost use Rattle.domain.specs.Chains.{all_longer};
+ghost use Rattle.domain.specs.ChainsInCode.{step_of, chain_of, AreShort};
+ghost use Rattle.domain.specs.FactInCode.{fact_in_code, rules_of};
+ghost use Rattle.facts.specs.Stores.{with_cell_for_ac, after_store, stored, copied_for, copied, begun_by, has_chain_on, all_begun, with_begun};
+ghost use Rattle.facts.specs.Shaped.{HaveFewTerms, told, besides_store, begun_beside, begun_at};
 
 use crate::additions::{has_accumulator, names};
 use domain::{Chain, Location, Names, Relation, Rules, Step, Sum, SumFact, Term, times};

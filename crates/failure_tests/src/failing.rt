@@ -11,7 +11,7 @@ use command_laws::explaining::explain;
 use command_laws::guessing::guess;
 use command_laws::migrating::migrate;
 use command_laws::running::{RunOptions, dump, run, run_events};
-use command_laws::session::{Outputs, SessionOptions, run_session};
+use command_laws::session::{Outputs, SessionOptions, SummaryForm, run_session};
 use command_laws::sourcing::{declared_source, source};
 use command_laws::status::{DeviceFault, Fault, Status};
 use command_laws::stuck::guess_or_explain;
@@ -242,6 +242,7 @@ fn operated<A: Allocator + Copy>(alloc: A, heap: Global, plan: &Plan) -> Left {
         &mut plan.source(1, b"\x00\x01"),
         &mut plan.source(2, b"A"),
         session(),
+        SummaryForm::WHOLE,
         &mut outputs,
     );
     let (report, teletype, punch) = (outputs.report, outputs.teletype, outputs.punch);

@@ -2,11 +2,11 @@
 use Rattle.std.proofs.Common.{◌≡◌, length, ap, sym, ◌∙◌, subst}
 use Rattle.std.proofs.lemmas.List.{length-map}
 use Rattle.wordset.specs.Words.{Words}
-use Rattle.domain.specs.Sums.Facts.{Fact}
-use Rattle.domain.specs.Sums.ChainsInCode.{chain_of, AreShort}
-use Rattle.domain.specs.Sums.FactInCode.{fact_in_code}
+use Rattle.domain.specs.Facts.{Fact}
+use Rattle.domain.specs.ChainsInCode.{chain_of, AreShort}
+use Rattle.domain.specs.FactInCode.{fact_in_code}
 use Rattle.domain.specs.declared.sum_fact.SumFact.{SumFact}
-use Rattle.facts.specs.Sums.Shaped.{HaveFewTerms}
+use Rattle.facts.specs.Shaped.{HaveFewTerms}
 use Rattle.fixpoint.specs.Asked.{MayBeAsked}
 
 pub few_chains : (f : SumFact 64 32) → MayBeAsked f → length f.chains.items ≡ 0

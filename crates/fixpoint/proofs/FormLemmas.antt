@@ -9,13 +9,13 @@ use Rattle.wordset.proofs.Firsts.{only_word}
 use Rattle.wordset.proofs.SetLemmas.{words_are, words_past}
 use Rattle.wordset.proofs.SumLemmas.{has_some_from}
 use Rattle.wordset.proofs.Tests.{some_from}
-use Rattle.domain.specs.Facts.{Location, Ac, Cell}
-use Rattle.domain.specs.Statements.{TrackedCell}
-use Rattle.domain.specs.Sums.Terms.{Term, Holding, name_of_term}
-use Rattle.domain.specs.Sums.Facts.{Relation}
+use Rattle.domain.specs.Locations.{Location, Ac, Cell}
+use Rattle.domain.specs.TrackedCells.{TrackedCell}
+use Rattle.domain.specs.Terms.{Term, Holding, name_of_term}
+use Rattle.domain.specs.Facts.{Relation}
 use Rattle.certificate.specs.declared.Version.TheVariants.{One, Two}
-use Rattle.certificate.specs.Reading.{EndsBefore}
-use Rattle.certificate.specs.Sums.LineOf.{is_relation}
+use Rattle.certificate.specs.RisingLists.{EndsBefore}
+use Rattle.certificate.specs.LineOf.{is_relation}
 use Rattle.certificate.proofs.SumReadLemmas.{difference_formed}
 use Rattle.fixpoint.specs.Form.{IsBehind, IsCellBehind, IsCellLine, IsDifference, IsName, HasOneWord, IsEquationLine, IsInForm}
 

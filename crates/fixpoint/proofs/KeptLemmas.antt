@@ -5,12 +5,12 @@ use Rattle.std.proofs.lemmas.List.{map_push, take_more}
 use Rattle.wordset.specs.Words.{Words, nothing}
 use Rattle.wordset.specs.Lanes.{words}
 use Rattle.wordset.specs.Links.{links_of}
-use Rattle.domain.specs.Facts.{Location, Ac}
-use Rattle.domain.specs.Statements.{TrackedCell}
-use Rattle.domain.specs.Sums.Facts.{Fact, Relation}
-use Rattle.domain.specs.Sums.Offsets.{offsets_in}
-use Rattle.domain.specs.Sums.RelationsInCode.{relation_of}
-use Rattle.domain.specs.Sums.FactInCode.{names_words}
+use Rattle.domain.specs.Locations.{Location, Ac}
+use Rattle.domain.specs.TrackedCells.{TrackedCell}
+use Rattle.domain.specs.Facts.{Fact, Relation}
+use Rattle.domain.specs.Offsets.{offsets_in}
+use Rattle.domain.specs.RelationsInCode.{relation_of}
+use Rattle.domain.specs.FactInCode.{names_words}
 use Rattle.fixpoint.specs.declared.invariant.CellInvariant.{CellInvariant}
 use Rattle.fixpoint.specs.declared.invariant.Invariant.{Invariant}
 use Rattle.fixpoint.specs.Claimed.{cell_of, cells_of, said_of, said_in}

@@ -4,3 +4,4 @@ pub mod SumOrderLemmas
 pub mod FormLemmas
 pub mod FollowLemmas
 pub mod MadeLemmas
+pub mod RoomLemmas

@@ -5,14 +5,14 @@ use Rattle.std.specs.BTreeMap.{get}
 use Rattle.wordset.specs.Words.{nothing}
 use Rattle.wordset.specs.Lanes.{words}
 use Rattle.wordset.specs.Links.{links_of}
-use Rattle.domain.specs.Facts.{Ac}
-use Rattle.domain.specs.Statements.{TrackedCell}
-use Rattle.domain.specs.Sums.Terms.{Summand, term_is_before, same_term}
-use Rattle.domain.specs.Sums.Facts as said
-use Rattle.domain.specs.Sums.CellsInCode.{cell_set_of}
-use Rattle.domain.specs.Sums.RelationsInCode.{relation_of}
-use Rattle.domain.specs.Sums.Offsets.{offsets_in}
-use Rattle.domain.specs.Sums.FactInCode.{names_words}
+use Rattle.domain.specs.Locations.{Ac}
+use Rattle.domain.specs.TrackedCells.{TrackedCell}
+use Rattle.domain.specs.Terms.{Summand, term_is_before, same_term}
+use Rattle.domain.specs.Facts as said
+use Rattle.domain.specs.CellsInCode.{cell_set_of}
+use Rattle.domain.specs.RelationsInCode.{relation_of}
+use Rattle.domain.specs.Offsets.{offsets_in}
+use Rattle.domain.specs.FactInCode.{names_words}
 use Rattle.fixpoint.specs.declared.invariant.CellInvariant.{CellInvariant}
 use Rattle.fixpoint.specs.declared.invariant.Invariant.{Invariant}
 use Rattle.fixpoint.specs.declared.table.Summary.{Summary}

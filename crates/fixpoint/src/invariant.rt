@@ -1,10 +1,10 @@
 //! Facts as they are kept: only as long as what they say.
 
 ghost use Rattle.std.specs.Prelude.{◌≡◌, ◌≤◌, ◌+◌, ◌++◌, [], length, map, true};
-ghost use Rattle.domain.specs.Sums.CellsInCode.{cell_sets_of};
-ghost use Rattle.domain.specs.Sums.RelationsInCode.{relation_of, relations_of};
-ghost use Rattle.domain.specs.Sums.FactInCode.{fact_in_code};
-ghost use Rattle.facts.specs.Sums.Shaped.{HaveFewTerms};
+ghost use Rattle.domain.specs.CellsInCode.{cell_sets_of};
+ghost use Rattle.domain.specs.RelationsInCode.{relation_of, relations_of};
+ghost use Rattle.domain.specs.FactInCode.{fact_in_code};
+ghost use Rattle.facts.specs.Shaped.{HaveFewTerms};
 ghost use Rattle.fixpoint.specs.Asked.{MayBeAsked};
 ghost use Rattle.fixpoint.specs.Claimed.{cell_of, cells_of, said_of, said_in};
 
@@ -288,7 +288,7 @@ impl<A: Allocator> Invariant<A> {
 }
 
 /// Whether each relation's sum has at most three terms.
-fn are_short(relations: &[Relation]) -> bool
+pub(crate) fn are_short(relations: &[Relation]) -> bool
     ensures { result ≡ true → HaveFewTerms (map relation_of relations.now) }
 {
     for relation in relations {

@@ -2,8 +2,8 @@
 
 ghost use Rattle.std.specs.Prelude.{◌≡◌};
 ghost use Rattle.wordset.specs.Lanes.{words};
-ghost use Rattle.domain.specs.Meaning.{location_of};
-ghost use Rattle.domain.specs.Sums.Brief.{brief_words};
+ghost use Rattle.domain.specs.LocationsInCode.{location_of};
+ghost use Rattle.domain.specs.Brief.{brief_words};
 
 use domain::{
     BriefSet, Location, Relation, ReturnOffsets, Rules, Sum, Term, is_same_location, negated,

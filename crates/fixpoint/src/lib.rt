@@ -10,6 +10,7 @@ mod joining;
 mod known;
 mod making;
 mod needs;
+mod of_sums;
 mod program;
 mod ranks;
 mod rooms;
@@ -19,6 +20,7 @@ mod table;
 mod widening;
 
 pub use halt::Halt;
+pub use of_sums::{Split, SumProgram, SumSearch};
 pub use program::AnalysedProgram;
 pub use search::Search;
 pub use widening::{MANY_RUNS, ONE_RUN};

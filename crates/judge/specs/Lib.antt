@@ -1,3 +1,15 @@
-pub mod Asked
+pub mod FewWords
+pub mod ConditionOrder
+pub mod Landing
 pub mod Conditions
-pub mod Sums
+pub mod Laws
+pub mod Headline
+pub mod Judged
+pub mod Shapes
+pub mod Sources
+pub mod Bodies
+pub mod Asked
+pub mod Caches
+pub mod Points
+pub mod Callees
+pub mod Certifying

@@ -1,10 +1,10 @@
 //! The body that has an address, and what is claimed of it.
 
 ghost use Rattle.std.specs.Prelude.{◌≡◌, ◌↔◌, None, Some, true, IsTrue};
-ghost use Rattle.domain.specs.Sums.FactInCode.{fact_in_code, rules_of};
-ghost use Rattle.certificate.specs.Sums.Certificate as said;
-ghost use Rattle.judge.specs.Sums.Conditions.{IsOfMain, IsOfRoutine};
-ghost use Rattle.judge.specs.Sums.Bodies.{Tells, IsOfBody};
+ghost use Rattle.domain.specs.FactInCode.{fact_in_code, rules_of};
+ghost use Rattle.certificate.specs.Certificate as said;
+ghost use Rattle.judge.specs.Conditions.{IsOfMain, IsOfRoutine};
+ghost use Rattle.judge.specs.Bodies.{Tells, IsOfBody};
 
 use crate::claims::Claims;
 use certificate::RoutineClaim;

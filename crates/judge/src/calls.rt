@@ -3,13 +3,13 @@
 ghost use Rattle.std.specs.Prelude.{◌≡◌, ◌<◌, ◌↔◌, Some, true, IsTrue};
 ghost use Rattle.wordset.specs.Lanes.{words};
 ghost use Rattle.instruct.specs.Instructions.{meaning_of};
-ghost use Rattle.domain.specs.Sums.Facts.{last_site};
-ghost use Rattle.domain.specs.Sums.FactInCode.{fact_in_code, rules_of};
+ghost use Rattle.domain.specs.Facts.{last_site};
+ghost use Rattle.domain.specs.FactInCode.{fact_in_code, rules_of};
 ghost use Rattle.facts.specs.declared.Condition.TheVariants.{V7, V8, V9, V10, V11, V12};
-ghost use Rattle.judge.specs.Sums.Landing.{called_from, LandsAfter};
-ghost use Rattle.judge.specs.Sums.Conditions.{EachTarget, MayCall, CoversCallee, MayReturn};
-ghost use Rattle.judge.specs.Sums.Callees.{HoldsOfCallee, IsBelow, LandsBy, LandsWith, ReturnsBy, ReturnsThrough};
-ghost use Rattle.judge.specs.Sums.Points.{IsPoint, HoldsHere, case_of, fact_asked};
+ghost use Rattle.judge.specs.Landing.{called_from, LandsAfter};
+ghost use Rattle.judge.specs.Conditions.{EachTarget, MayCall, CoversCallee, MayReturn};
+ghost use Rattle.judge.specs.Callees.{HoldsOfCallee, IsBelow, LandsBy, LandsWith, ReturnsBy, ReturnsThrough};
+ghost use Rattle.judge.specs.Points.{IsPoint, HoldsHere, case_of, fact_asked};
 
 use crate::claims::Claims;
 use crate::point::{Others, Point};
@@ -33,7 +33,7 @@ fn last_site(rules: &Rules) -> usize
 
 impl<A: Allocator, C: Claims> Point<'_, A, C> {
     /// Whether a word calls listed entries of lower rank alone, and not through an auto-index cell.
-    pub(crate) fn may_call(&self, word: Word, others: &mut Others) -> bool
+    pub(crate) fn may_call<M: Allocator>(&self, word: Word, others: &mut Others<M>) -> bool
         requires { IsPoint C.claims self.now }
         ensures { IsTrue result ↔ HoldsHere C.claims self.now V7 word }
     {
@@ -44,7 +44,7 @@ impl<A: Allocator, C: Claims> Point<'_, A, C> {
     }
 
     /// Whether the routine, if it is not main, covers all that a word calls.
-    pub(crate) fn covers_callees(&self, word: Word, others: &mut Others) -> bool
+    pub(crate) fn covers_callees<M: Allocator>(&self, word: Word, others: &mut Others<M>) -> bool
         requires { IsPoint C.claims self.now }
         ensures { IsTrue result ↔ HoldsHere C.claims self.now V8 word }
     {
@@ -52,7 +52,7 @@ impl<A: Allocator, C: Claims> Point<'_, A, C> {
     }
 
     /// Whether the address is a site of all that a word calls.
-    pub(crate) fn calls_from_sites(&self, word: Word, others: &mut Others) -> bool
+    pub(crate) fn calls_from_sites<M: Allocator>(&self, word: Word, others: &mut Others<M>) -> bool
         requires { IsPoint C.claims self.now }
         ensures { IsTrue result ↔ HoldsHere C.claims self.now V9 word }
     {
@@ -60,7 +60,7 @@ impl<A: Allocator, C: Claims> Point<'_, A, C> {
     }
 
     /// Whether the fact lands at the first address of all that a word calls.
-    pub(crate) fn enters_callees(&self, word: Word, others: &mut Others) -> bool
+    pub(crate) fn enters_callees<M: Allocator>(&self, word: Word, others: &mut Others<M>) -> bool
         requires { IsPoint C.claims self.now }
         ensures { IsTrue result ↔ HoldsHere C.claims self.now V10 word }
     {
@@ -68,7 +68,7 @@ impl<A: Allocator, C: Claims> Point<'_, A, C> {
     }
 
     /// Whether the run lands after each return of all that a word calls.
-    pub(crate) fn lands_after_calls(&self, word: Word, others: &mut Others) -> bool
+    pub(crate) fn lands_after_calls<M: Allocator>(&self, word: Word, others: &mut Others<M>) -> bool
         requires { IsPoint C.claims self.now }
         ensures { IsTrue result ↔ HoldsHere C.claims self.now V11 word }
     {
@@ -77,7 +77,7 @@ impl<A: Allocator, C: Claims> Point<'_, A, C> {
 
     /// Whether a word that returns does so from its own routine, at declared offsets among whose exits the
     /// fact lands.
-    pub(crate) fn returns_well(&self, word: Word, others: &mut Others) -> bool
+    pub(crate) fn returns_well<M: Allocator>(&self, word: Word, others: &mut Others<M>) -> bool
         requires { IsPoint C.claims self.now }
         ensures { IsTrue result ↔ HoldsHere C.claims self.now V12 word }
     {
@@ -88,7 +88,12 @@ impl<A: Allocator, C: Claims> Point<'_, A, C> {
     }
 
     /// Whether a condition on calls holds of each callee of a word.
-    fn callees_pass(&self, condition: Condition, word: Word, others: &mut Others) -> bool
+    fn callees_pass<M: Allocator>(
+        &self,
+        condition: Condition,
+        word: Word,
+        others: &mut Others<M>,
+    ) -> bool
         requires { IsPoint C.claims self.now }
         ensures { IsTrue result ↔
             EachTarget (case_of C.claims self.now) self.now.place.routine (fact_asked self.now)
@@ -105,7 +110,12 @@ impl<A: Allocator, C: Claims> Point<'_, A, C> {
     /// Whether a condition on calls holds of each callee of a word; the room for them is made here
     /// alone.
     #[inline(never)]
-    fn each_callee_passes(&self, condition: Condition, word: Word, others: &mut Others) -> bool
+    fn each_callee_passes<M: Allocator>(
+        &self,
+        condition: Condition,
+        word: Word,
+        others: &mut Others<M>,
+    ) -> bool
         requires { IsPoint C.claims self.now }
         ensures { IsTrue result ↔
             EachTarget (case_of C.claims self.now) self.now.place.routine (fact_asked self.now)
@@ -125,7 +135,12 @@ impl<A: Allocator, C: Claims> Point<'_, A, C> {
     }
 
     /// Whether a condition on calls holds of a callee.
-    pub fn callee_passes(&self, condition: Condition, entry: Word, others: &mut Others) -> bool
+    pub fn callee_passes<M: Allocator>(
+        &self,
+        condition: Condition,
+        entry: Word,
+        others: &mut Others<M>,
+    ) -> bool
         requires { IsPoint C.claims self.now }
         ensures { IsTrue result ↔
             HoldsOfCallee (case_of C.claims self.now) condition self.now.place.routine self.now.at
@@ -234,7 +249,7 @@ impl<A: Allocator, C: Claims> Point<'_, A, C> {
     /// Whether the fact lands at the first address after an entry, with the return word not counted
     /// up, and this address as the only site.
     #[inline(never)]
-    fn enters(&self, entry: Word, others: &mut Others) -> bool
+    fn enters<M: Allocator>(&self, entry: Word, others: &mut Others<M>) -> bool
         requires { IsPoint C.claims self.now }
         ensures { IsTrue result ↔
             HoldsOfCallee (case_of C.claims self.now) V10 self.now.place.routine self.now.at
@@ -252,7 +267,7 @@ impl<A: Allocator, C: Claims> Point<'_, A, C> {
     }
 
     /// Whether the run lands after each return that is claimed of an entry.
-    fn lands_after(&self, entry: Word, others: &mut Others) -> bool
+    fn lands_after<M: Allocator>(&self, entry: Word, others: &mut Others<M>) -> bool
         requires { IsPoint C.claims self.now }
         ensures { IsTrue result ↔
             LandsAfter (case_of C.claims self.now) self.now.place.routine self.now.at entry
@@ -270,12 +285,12 @@ impl<A: Allocator, C: Claims> Point<'_, A, C> {
     }
 
     /// Whether the run lands after a return by an offset with each exit that is claimed for it.
-    pub fn lands_by(
+    pub fn lands_by<M: Allocator>(
         &self,
         entry: Word,
         offset: usize,
         callee: &RoutineClaim,
-        others: &mut Others,
+        others: &mut Others<M>,
     ) -> bool
         requires point { IsPoint C.claims self.now }
         requires offset { offset < 64 }
@@ -305,7 +320,12 @@ impl<A: Allocator, C: Claims> Point<'_, A, C> {
     /// Whether the run lands after a return by an offset with what the exit at hand says, if the address
     /// is one of its sites.
     #[inline(never)]
-    pub fn lands_with(&self, offset: usize, written: &WordSet, others: &mut Others) -> bool
+    pub fn lands_with<M: Allocator>(
+        &self,
+        offset: usize,
+        written: &WordSet,
+        others: &mut Others<M>,
+    ) -> bool
         requires point { IsPoint C.claims self.now }
         requires offset { offset < 64 }
         ensures { IsTrue result ↔
@@ -327,7 +347,7 @@ impl<A: Allocator, C: Claims> Point<'_, A, C> {
     }
 
     /// Whether a return through an entry is the routine's own, and each offset of the fact passes.
-    fn returns_through(&self, entry: Word, others: &mut Others) -> bool
+    fn returns_through<M: Allocator>(&self, entry: Word, others: &mut Others<M>) -> bool
         requires { IsPoint C.claims self.now }
         ensures { IsTrue result ↔
             ReturnsThrough (case_of C.claims self.now) self.now.place.routine entry
@@ -355,7 +375,7 @@ impl<A: Allocator, C: Claims> Point<'_, A, C> {
     }
 
     /// Whether the routine may return by an offset, if the fact has that.
-    fn returns_by(&self, entry: Word, offset: usize, others: &mut Others) -> bool
+    fn returns_by<M: Allocator>(&self, entry: Word, offset: usize, others: &mut Others<M>) -> bool
         requires point { IsPoint C.claims self.now }
         requires own { self.now.place.routine ≡ Some entry }
         requires offset { offset < 64 }
@@ -369,7 +389,12 @@ impl<A: Allocator, C: Claims> Point<'_, A, C> {
     }
 
     /// Whether the routine may return by an offset with what the fact says.
-    pub fn may_return(&self, entry: Word, offset: usize, others: &mut Others) -> bool
+    pub fn may_return<M: Allocator>(
+        &self,
+        entry: Word,
+        offset: usize,
+        others: &mut Others<M>,
+    ) -> bool
         requires point { IsPoint C.claims self.now }
         requires own { self.now.place.routine ≡ Some entry }
         requires offset { offset < 64 }

@@ -1,29 +1,32 @@
 //! What is judged, and which condition fails first at an address.
 
-ghost use Rattle.std.specs.Prelude.{◌≡◌, ◌<◌, ◌≤◌, ◌↔◌, [], ◌∷◌, true, false, if◌then◌else◌, IsTrue, MatchResult, length};
+ghost use Rattle.std.specs.Prelude.{◌≡◌, ◌<◌, ◌≤◌, ◌↔◌, [], ◌∷◌, None, true, false, if◌then◌else◌, IsTrue, IfSome, MatchResult, length};
 ghost use Rattle.peripherals.specs.Loading.{image_of};
-ghost use Rattle.domain.specs.Sums.Facts as said;
-ghost use Rattle.domain.specs.Sums.FactInCode.{fact_in_code, rules_of};
-ghost use Rattle.facts.specs.Sums.Landing.{fact_at};
+ghost use Rattle.wordset.specs.Lanes.{words};
+ghost use Rattle.domain.specs.Facts as said;
+ghost use Rattle.domain.specs.FactInCode.{fact_in_code, rules_of};
+ghost use Rattle.facts.specs.Landing.{fact_at};
 ghost use Rattle.facts.specs.declared.Condition.TheVariants.{V1};
-ghost use Rattle.certificate.specs.Sums.Certificate.{names_routine};
-ghost use Rattle.judge.specs.Sums.Landing.{asked};
-ghost use Rattle.judge.specs.Sums.Conditions.{HoldsAt, IsPlaced};
-ghost use Rattle.judge.specs.Sums.Bodies.{Tells};
-ghost use Rattle.judge.specs.Sums.Judged.{case_kept};
-ghost use Rattle.judge.specs.Sums.Shapes.{HasShape, IsRoomy};
-ghost use Rattle.judge.specs.Sums.Asked.{HoldsBetween, FailsAtLine, IsLeastOf, IsLeastOfAll, RoutinesArePlaced};
+ghost use Rattle.certificate.specs.Certificate.{names_routine};
+ghost use Rattle.judge.specs.Landing.{asked};
+ghost use Rattle.judge.specs.Conditions.{HoldsAt, IsPlaced};
+ghost use Rattle.judge.specs.Bodies.{Tells};
+ghost use Rattle.judge.specs.Judged.{case_kept};
+ghost use Rattle.judge.specs.Caches.{Shows, StandsAhead};
+ghost use Rattle.judge.specs.Shapes.{HasShape, IsRoomy};
+ghost use Rattle.judge.specs.Asked.{HoldsBetween, FailsAtLine, IsLeastOf, IsLeastOfAll, RoutinesArePlaced};
 
 use crate::body::Body;
+use crate::cache::FactCache;
 use crate::claims::Claims;
-use crate::point::{Others, Point, place_of};
+use crate::point::{Others, Point, boxed_landing, boxed_outcomes, place_of};
 use crate::sited::put_sites;
 use crate::sources::FactsAt;
 use crate::words::nth;
 use bin_tape::Image;
 use declaration::{Declaration, Owner};
 use domain::Rules;
-use facts::{Condition, Fact, NarrowedFact};
+use facts::{Condition, Fact, LandingRooms, NarrowedFact, NextFact, Outcomes};
 use std::alloc::{AllocError, Allocator};
 use word12::Word;
 use wordset::WordSet;
@@ -46,31 +49,58 @@ pub struct Case<'a, A: Allocator, C: Claims> {
 
 /// Room for a fact as it is claimed, for the same fact as it is asked, and for others.
 #[derive(Drop)]
-pub struct Rooms {
-    pub claimed: Fact,
-    pub fact: NarrowedFact,
-    pub others: Others,
+pub(crate) struct CheckRooms<M: Allocator> {
+    claimed: Fact,
+    fact: NarrowedFact,
+    others: Others<M>,
 }
 
-impl Rooms {
-    /// Room that nothing stands in.
-    #[inline]
-    pub fn new() -> Rooms {
-        Rooms {
-            claimed: Fact::any(),
-            fact: NarrowedFact::any(),
-            others: Others::new(),
-        }
-    }
+/// Room for all that is judged: for a fact of which conditions are asked and what it is compared with, and for the only facts at
+/// even and at odd addresses.
+#[derive(Drop)]
+pub struct Rooms<M: Allocator> {
+    pub(crate) checks: CheckRooms<M>,
+    pub(crate) even: FactCache,
+    pub(crate) odd: FactCache,
+}
 
-    /// The same on the heap, since it takes 4 MB.
+impl<M: Allocator + Copy> Rooms<M> {
+    /// Room that nothing stands in, in memory that an allocator gives, since it takes 4 MB.
     ///
     /// # Errors
     ///
     /// `AllocError` where the room was refused.
     #[inline(never)]
-    pub fn boxed<M: Allocator>(memory: M) -> Result<Box<Rooms, M>, AllocError> {
-        Ok(Box::new(memory, Rooms::new())?)
+    pub fn boxed(memory: M) -> Result<Box<Rooms<M>, M>, AllocError> {
+        let outcomes = boxed_outcomes(memory)?;
+        let landing = boxed_landing(memory)?;
+        Rooms::boxed_around(memory, outcomes, landing)
+    }
+
+    /// The same around its largest parts.
+    #[inline(never)]
+    fn boxed_around(
+        memory: M,
+        outcomes: Box<Outcomes, M>,
+        landing: Box<LandingRooms, M>,
+    ) -> Result<Box<Rooms<M>, M>, AllocError> {
+        Ok(Box::new(
+            memory,
+            Rooms {
+                checks: CheckRooms {
+                    claimed: Fact::any(),
+                    fact: NarrowedFact::any(),
+                    others: Others {
+                        exit: Fact::any(),
+                        next: NextFact::any(),
+                        outcomes,
+                        landing,
+                    },
+                },
+                even: FactCache::new(),
+                odd: FactCache::new(),
+            },
+        )?)
     }
 }
 
@@ -98,9 +128,11 @@ pub fn put_asked(rules: &Rules, image: &Image, claimed: &Fact, fact: &mut Narrow
 
 impl<A: Allocator, C: Claims> Case<'_, A, C> {
     /// Whether one of the facts at the start holds of every start.
-    pub fn starts_well(&self, rooms: &mut Rooms) -> bool
-        ensures { IsTrue result ↔
+    pub fn starts_well<M: Allocator>(&self, rooms: &mut Rooms<M>) -> bool
+        ensures starts { IsTrue result ↔
             HoldsAt (case_kept C.claims self.now) V1 (case_kept C.claims self.now).declaration.start }
+        ensures even { rooms.new.even ≡ rooms.old.even }
+        ensures odd { rooms.new.odd ≡ rooms.old.odd }
     {
         self.declaration.is_declared();
         let place = place_of(self.image, self.declaration, &None, self.claims.rules());
@@ -110,7 +142,7 @@ impl<A: Allocator, C: Claims> Case<'_, A, C> {
             sites: &WordSet::empty(),
             near: 0,
         };
-        place.starts_land(&among, &mut rooms.claimed)
+        place.starts_land(&among, &mut rooms.checks.claimed)
     }
 
     /// Whether facts may stand at an address: in main's body or in a listed routine's. That body then
@@ -137,24 +169,120 @@ impl<A: Allocator, C: Claims> Case<'_, A, C> {
 
     /// The first condition that fails at an address, if one does; it is told whether a routine of that
     /// entry is named, and which line is looked at first.
-    pub fn check_at(
+    pub fn check_at<M: Allocator>(
         &self,
         at: Word,
         is_named: bool,
         near: &mut usize,
         body: &mut Body,
-        rooms: &mut Rooms,
+        rooms: &mut Rooms<M>,
     ) -> Result<(), Condition>
         requires named { is_named ≡ names_routine (C.claims self.now.claims.now) at }
+        requires body { Tells (C.claims self.now.claims.now) body.old }
+        requires even { Shows (C.claims self.now.claims.now) rooms.old.even }
+        requires odd { Shows (C.claims self.now.claims.now) rooms.old.odd }
+        ensures checked { MatchResult result
+            (λ _. HoldsBetween (case_kept C.claims self.now) 1 15 at)
+            (λ v. FailsAtLine (case_kept C.claims self.now) at v) }
+        ensures body { Tells (C.claims self.now.claims.now) body.new }
+        ensures even { Shows (C.claims self.now.claims.now) rooms.new.even }
+        ensures odd { Shows (C.claims self.now.claims.now) rooms.new.odd }
+    {
+        if is_named && !self.declaration.is_entry(at) {
+            return Err(Condition::V2);
+        }
+        let Rooms { checks, even, odd } = rooms;
+        if at.index() % 2 == 0 {
+            return self.check_here(at, near, body, even, odd, checks);
+        }
+        self.check_here(at, near, body, odd, even, checks)
+    }
+
+    /// The same, where its routine and exit lines are where they may be, with what is kept for the address
+    /// and for the next one.
+    fn check_here<M: Allocator>(
+        &self,
+        at: Word,
+        near: &mut usize,
+        body: &mut Body,
+        here: &mut FactCache,
+        following: &mut FactCache,
+        rooms: &mut CheckRooms<M>,
+    ) -> Result<(), Condition>
+        requires placed { RoutinesArePlaced (case_kept C.claims self.now) at }
+        requires body { Tells (C.claims self.now.claims.now) body.old }
+        requires here { Shows (C.claims self.now.claims.now) here.old }
+        requires following { Shows (C.claims self.now.claims.now) following.old }
+        ensures checked { MatchResult result
+            (λ _. HoldsBetween (case_kept C.claims self.now) 1 15 at)
+            (λ v. FailsAtLine (case_kept C.claims self.now) at v) }
+        ensures body { Tells (C.claims self.now.claims.now) body.new }
+        ensures here { Shows (C.claims self.now.claims.now) here.new }
+        ensures following { Shows (C.claims self.now.claims.now) following.new }
+    {
+        if !here.turn_to(self.claims, at, *near) {
+            return self.check_several(at, near, body, rooms);
+        }
+        *near = here.end();
+        if !self.finds_body(at, body) {
+            return Err(Condition::V2);
+        }
+        self.check_alone(at, body, here, following, rooms)
+    }
+
+    /// The same, where there is one fact alone in a body, which stands here.
+    fn check_alone<M: Allocator>(
+        &self,
+        at: Word,
+        body: &Body,
+        here: &mut FactCache,
+        following: &mut FactCache,
+        rooms: &mut CheckRooms<M>,
+    ) -> Result<(), Condition>
+        requires placed { RoutinesArePlaced (case_kept C.claims self.now) at }
+        requires alone { (C.claims self.now.claims.now).facts at ≡ fact_in_code here.old.fact ∷ [] }
+        requires shape { HasShape (fact_in_code here.old.fact) }
+        requires stands { (case_kept C.claims self.now).declaration.body body.now.routine at ≡ true }
+        requires body { Tells (C.claims self.now.claims.now) body.now }
+        requires following { Shows (C.claims self.now.claims.now) following.old }
+        ensures checked { MatchResult result
+            (λ _. HoldsBetween (case_kept C.claims self.now) 1 15 at)
+            (λ v. FailsAtLine (case_kept C.claims self.now) at v) }
+        ensures here { Shows (C.claims self.now.claims.now) here.new }
+        ensures following { Shows (C.claims self.now.claims.now) following.new }
+    {
+        let near = here.end();
+        here.forget();
+        following.look_ahead(self.claims, at.increment(), near, &body.claim.sites);
+        let CheckRooms { fact, others, .. } = rooms;
+        let place = self.check_claimed(
+            at,
+            PAST_ALL,
+            near,
+            body,
+            Some(&*following),
+            &mut here.fact,
+            fact,
+            others,
+        );
+        self.tell(at, place, body)
+    }
+
+    /// The same, where there may be several facts.
+    fn check_several<M: Allocator>(
+        &self,
+        at: Word,
+        near: &mut usize,
+        body: &mut Body,
+        rooms: &mut CheckRooms<M>,
+    ) -> Result<(), Condition>
+        requires placed { RoutinesArePlaced (case_kept C.claims self.now) at }
         requires body { Tells (C.claims self.now.claims.now) body.old }
         ensures checked { MatchResult result
             (λ _. HoldsBetween (case_kept C.claims self.now) 1 15 at)
             (λ v. FailsAtLine (case_kept C.claims self.now) at v) }
         ensures body { Tells (C.claims self.now.claims.now) body.new }
     {
-        if is_named && !self.declaration.is_entry(at) {
-            return Err(Condition::V2);
-        }
         let count = self.claims.count_facts(at, *near);
         if count == 0 {
             return Ok(());
@@ -162,29 +290,23 @@ impl<A: Allocator, C: Claims> Case<'_, A, C> {
         if !self.finds_body(at, body) {
             return Err(Condition::V2);
         }
-        self.check_facts(at, count, near, body, rooms)
+        let place = self.first_place(at, count, near, body, rooms);
+        self.tell(at, place, body)
     }
 
-    /// The same, where there are facts in a body, and its routine and exit lines are where they may be.
-    fn check_facts(
-        &self,
-        at: Word,
-        count: usize,
-        near: &mut usize,
-        body: &Body,
-        rooms: &mut Rooms,
-    ) -> Result<(), Condition>
+    /// The condition at the place of the first one that fails of some fact at an address of a body, if one
+    /// does.
+    fn tell(&self, at: Word, place: usize, body: &Body) -> Result<(), Condition>
         requires placed { RoutinesArePlaced (case_kept C.claims self.now) at }
-        requires count { count ≡ length ((C.claims self.now.claims.now).facts at) }
-        requires some { 0 < count }
+        requires some { 0 < length ((C.claims self.now.claims.now).facts at) }
         requires stands { (case_kept C.claims self.now).declaration.body body.now.routine at ≡ true }
         requires body { Tells (C.claims self.now.claims.now) body.now }
+        requires least { IsLeastOfAll (case_kept C.claims self.now) body.now.routine at place }
         ensures { MatchResult result
             (λ _. HoldsBetween (case_kept C.claims self.now) 1 15 at)
             (λ v. FailsAtLine (case_kept C.claims self.now) at v) }
     {
         self.declaration.is_declared();
-        let place = self.first_place(at, count, near, body, rooms);
         if place == OF_LINES {
             return Err(Condition::V2);
         }
@@ -196,13 +318,13 @@ impl<A: Allocator, C: Claims> Case<'_, A, C> {
 
     /// The place of the first condition that fails of some fact at an address, and the one behind all if
     /// none does.
-    fn first_place(
+    fn first_place<M: Allocator>(
         &self,
         at: Word,
         count: usize,
         near: &mut usize,
         body: &Body,
-        rooms: &mut Rooms,
+        rooms: &mut CheckRooms<M>,
     ) -> usize
         requires count { count ≡ length ((C.claims self.now.claims.now).facts at) }
         requires stands { (case_kept C.claims self.now).declaration.body body.now.routine at ≡ true }
@@ -221,14 +343,14 @@ impl<A: Allocator, C: Claims> Case<'_, A, C> {
 
     /// The place of the first condition before a limit that fails of one of the facts at an address, and
     /// the limit if none does.
-    fn check_fact(
+    fn check_fact<M: Allocator>(
         &self,
         at: Word,
         index: usize,
         limit: usize,
         near: &mut usize,
         body: &Body,
-        rooms: &mut Rooms,
+        rooms: &mut CheckRooms<M>,
     ) -> usize
         requires index { index < length ((C.claims self.now.claims.now).facts at) }
         requires low { 2 ≤ limit }
@@ -238,13 +360,44 @@ impl<A: Allocator, C: Claims> Case<'_, A, C> {
         ensures { IsLeastOf (case_kept C.claims self.now) body.now.routine at
             (fact_at ((C.claims self.now.claims.now).facts at) index) limit result }
     {
+        let CheckRooms {
+            claimed,
+            fact,
+            others,
+        } = rooms;
+        *near = self.claims.put_fact(at, *near, index, claimed);
+        self.check_claimed(at, limit, *near, body, None, claimed, fact, others)
+    }
+
+    /// The place of the first condition before a limit that fails of a claimed fact, which gets the sites of
+    /// the body by the rules of equations, and the limit if none does.
+    fn check_claimed<M: Allocator>(
+        &self,
+        at: Word,
+        limit: usize,
+        near: usize,
+        body: &Body,
+        following: Option<&FactCache>,
+        claimed: &mut Fact,
+        fact: &mut NarrowedFact,
+        others: &mut Others<M>,
+    ) -> usize
+        requires shape { HasShape (fact_in_code claimed.old) }
+        requires low { 2 ≤ limit }
+        requires high { limit ≤ 15 }
+        requires stands { (case_kept C.claims self.now).declaration.body body.now.routine at ≡ true }
+        requires body { Tells (C.claims self.now.claims.now) body.now }
+        requires ahead { IfSome following (λ f.
+            StandsAhead (C.claims self.now.claims.now) (words body.now.claim.sites) f.now) }
+        ensures { IsLeastOf (case_kept C.claims self.now) body.now.routine at
+            (fact_in_code claimed.old) limit result }
+    {
         let rules = self.claims.rules();
-        *near = self.claims.put_fact(at, *near, index, &mut rooms.claimed);
-        if !body.allows(&rules, &rooms.claimed) {
+        if !body.allows(&rules, claimed) {
             return OF_LINES;
         }
-        put_sites(&rules, &body.claim.sites, &mut rooms.claimed);
-        if !put_asked(&rules, self.image, &rooms.claimed, &mut rooms.fact) {
+        put_sites(&rules, &body.claim.sites, claimed);
+        if !put_asked(&rules, self.image, claimed, fact) {
             return limit;
         }
         Point::of(
@@ -253,9 +406,10 @@ impl<A: Allocator, C: Claims> Case<'_, A, C> {
             self.claims,
             body,
             at,
-            &rooms.fact,
-            *near,
+            fact,
+            following,
+            near,
         )
-        .first_failing(limit, &mut rooms.others)
+        .first_failing(limit, others)
     }
 }

@@ -1,14 +1,14 @@
 //! What the checker asks of a certificate whose facts have sums.
 
-ghost use Rattle.std.specs.Prelude.{◌≡◌, ◌<◌, is_some, length, IfSome, IfNone, MatchOption};
+ghost use Rattle.std.specs.Prelude.{◌≡◌, ◌<◌, [], ◌∷◌, is_some, length, IfSome, IfNone, MatchOption};
 ghost use Rattle.wordset.specs.Words.{nothing, HasNoneFrom, IsFirstFrom};
 ghost use Rattle.wordset.specs.Lanes.{words};
-ghost use Rattle.domain.specs.Sums.FactInCode.{fact_in_code, rules_of};
-ghost use Rattle.facts.specs.Sums.Landing.{fact_at};
-ghost use Rattle.certificate.specs.Sums.Certificate as said;
-ghost use Rattle.certificate.specs.Sums.Certificate.{names_routine, claimed, has_any};
-ghost use Rattle.certificate.specs.Sums.Kept.{claims};
-ghost use Rattle.judge.specs.Sums.Shapes.{HasShape};
+ghost use Rattle.domain.specs.FactInCode.{fact_in_code, rules_of};
+ghost use Rattle.facts.specs.Landing.{fact_at};
+ghost use Rattle.certificate.specs.Certificate as said;
+ghost use Rattle.certificate.specs.Certificate.{names_routine, claimed, has_any};
+ghost use Rattle.certificate.specs.Kept.{claims};
+ghost use Rattle.judge.specs.Shapes.{HasShape};
 
 use certificate::{Certificate, RoutineClaim, Version};
 use domain::Rules;
@@ -65,6 +65,14 @@ pub trait Claims {
         requires { index < length ((claims self.now).facts at) }
         ensures fact { fact_in_code fact.new ≡ fact_at ((claims self.now).facts at) index }
         ensures shape { HasShape (fact_in_code fact.new) };
+
+    /// The line behind the fact at an address, if there is one fact alone, which the lent one then says. It is looked first at
+    /// one line.
+    fn put_only_fact(&self, at: Word, near: usize, fact: &mut Fact) -> Option<usize>
+        ensures { MatchOption result
+            (length ((claims self.now).facts at) ≡ 1 → ⊥)
+            (λ line. ((claims self.now).facts at ≡ fact_in_code fact.new ∷ []) ×
+            HasShape (fact_in_code fact.new)) };
 
     /// How many exits a routine has for an offset.
     fn count_exits(&self, entry: Word, offset: usize) -> usize
@@ -126,6 +134,18 @@ impl<A: Allocator> Claims for Certificate<A> {
         }
         let _is_there = self.next_fact(at, &mut line, fact);
         line
+    }
+
+    fn put_only_fact(&self, at: Word, near: usize, fact: &mut Fact) -> Option<usize> {
+        let mut line = self.facts_from(at, near);
+        if !self.next_fact(at, &mut line, fact) {
+            return None;
+        }
+        let mut further = line;
+        if self.skip_fact(at, &mut further) {
+            return None;
+        }
+        Some(line)
     }
 
     fn count_exits(&self, entry: Word, offset: usize) -> usize {

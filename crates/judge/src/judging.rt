@@ -4,8 +4,8 @@ ghost use Rattle.std.specs.Prelude.{◌≡◌, ◌↔◌, Some, IsTrue, MatchRes
 ghost use Rattle.peripherals.specs.Loading.{image_of};
 ghost use Rattle.declaration.specs.Kept.{meaning};
 ghost use Rattle.policy.specs.Runs.{IsSafe};
-ghost use Rattle.judge.specs.Sums.Conditions.{IsValid, IsFirst};
-ghost use Rattle.judge.specs.Sums.Judged.{judged};
+ghost use Rattle.judge.specs.Conditions.{IsValid, IsFirst};
+ghost use Rattle.judge.specs.Judged.{judged};
 
 use crate::body::Body;
 use crate::case::{Case, Rooms};
@@ -38,11 +38,11 @@ pub struct Refusal {
 /// says that the claims do not show the program safe, not that it is unsafe.
 ///
 /// Facts are put into the rooms that are lent, whatever stands there. No memory is taken, so none can be refused.
-pub fn judge<A: Allocator, C: Claims>(
+pub fn judge<A: Allocator, C: Claims, M: Allocator>(
     image: &Image,
     declaration: &Declaration<A>,
     claims: &C,
-    rooms: &mut Rooms,
+    rooms: &mut Rooms<M>,
 ) -> Result<(), Refusal>
     ensures exact { let j = judged image.now declaration.now (C.claims claims.now) in
         MatchResult result (λ _. IsValid j) (λ r. IsFirst j r.condition r.address) }
@@ -54,6 +54,8 @@ pub fn judge<A: Allocator, C: Claims>(
         declaration,
         claims,
     };
+    rooms.even.forget();
+    rooms.odd.forget();
     if !case.starts_well(rooms) {
         return Err(Refusal {
             condition: Condition::V1,

@@ -1,14 +1,16 @@
 //! Where a run goes on after a word: whether what is known then lands among the facts there.
 
-ghost use Rattle.std.specs.Prelude.{ℕ, ◌≡◌, ◌<◌, ◌↔◌, true, IsTrue};
+ghost use Rattle.std.specs.Prelude.{ℕ, ◌≡◌, ◌<◌, ◌↔◌, true, Some, IsTrue};
 ghost use Rattle.wordset.specs.Lanes.{words};
-ghost use Rattle.domain.specs.Sums.Brief.{brief_words};
-ghost use Rattle.domain.specs.Sums.FactInCode.{fact_in_code};
-ghost use Rattle.facts.specs.Sums.OutcomesInCode.{outcome_in, outcomes_in};
+ghost use Rattle.domain.specs.Brief.{brief_words};
+ghost use Rattle.domain.specs.FactInCode.{fact_in_code};
+ghost use Rattle.facts.specs.OutcomesInCode.{outcome_in, outcomes_in};
 ghost use Rattle.facts.specs.declared.Condition.TheVariants.{V4};
-ghost use Rattle.judge.specs.Sums.Landing.{LandsAt, SuccessorLands, EachSuccessor, sites_of};
-ghost use Rattle.judge.specs.Sums.Points.{IsPoint, case_of, HoldsHere};
+ghost use Rattle.judge.specs.Landing.{LandsAt, SuccessorLands, EachSuccessor, sites_of};
+ghost use Rattle.judge.specs.Caches.{StandsAhead};
+ghost use Rattle.judge.specs.Points.{IsPoint, case_of, HoldsHere};
 
+use crate::cache::FactCache;
 use crate::claims::Claims;
 use crate::point::{Others, Point, place_of};
 use crate::sources::FactsAt;
@@ -63,6 +65,20 @@ impl<A: Allocator, C: Claims> Point<'_, A, C> {
         place.lands(known, &among, rooms)
     }
 
+    /// The same at the address of a fact that is kept, in the same body.
+    fn lands_ahead(&self, at: Word, kept: &FactCache, known: &NextFact) -> bool
+        requires point { IsPoint C.claims self.now }
+        requires ahead { StandsAhead (C.claims self.now.claims.now) (words self.now.body.now.claim.sites) kept.now }
+        requires there { kept.now.address ≡ Some at }
+        ensures { IsTrue result ↔
+            LandsAt (case_of C.claims self.now) self.now.place.routine at (fact_in_code known.now) }
+    {
+        if !self.is_inside(&self.place.routine, at) {
+            return false;
+        }
+        self.place.entails(known, kept.fact())
+    }
+
     /// Whether what is known lands at an address of the same body.
     pub fn lands_here(&self, at: Word, known: &mut NextFact, rooms: &mut LandingRooms) -> bool
         requires { IsPoint C.claims self.now }
@@ -70,6 +86,11 @@ impl<A: Allocator, C: Claims> Point<'_, A, C> {
             LandsAt (case_of C.claims self.now) self.now.place.routine at (fact_in_code known.old) }
         ensures kept { fact_in_code known.new ≡ fact_in_code known.old }
     {
+        if let Some(kept) = self.following {
+            if kept.is_of(at) {
+                return self.lands_ahead(at, kept, known);
+            }
+        }
         self.lands(
             &self.place.routine,
             &self.body.claim.sites,
@@ -101,6 +122,24 @@ impl<A: Allocator, C: Claims> Point<'_, A, C> {
     /// Whether what is known lands in the same body at each of some addresses, which stand in a brief
     /// set.
     fn lands_at_brief(
+        &self,
+        targets: &BriefSet,
+        known: &mut NextFact,
+        rooms: &mut LandingRooms,
+    ) -> bool
+        requires { IsPoint C.claims self.now }
+        ensures { IsTrue result ↔ ((a : ℕ) → a < 4096 → brief_words targets.now a ≡ true →
+            LandsAt (case_of C.claims self.now) self.now.place.routine a (fact_in_code known.old)) }
+    {
+        match targets.only() {
+            Some(at) => self.lands_here(at, known, rooms),
+            None => self.lands_at_several(targets, known, rooms),
+        }
+    }
+
+    /// The same, where there may be several; the room for them is made here alone.
+    #[inline(never)]
+    fn lands_at_several(
         &self,
         targets: &BriefSet,
         known: &mut NextFact,
@@ -147,13 +186,17 @@ impl<A: Allocator, C: Claims> Point<'_, A, C> {
         self.outcome_lands(&mut outcomes.fourth, rooms)
     }
 
-    /// Whether each outcome of a word that goes on lands wherever it goes.
-    pub(crate) fn outcomes_land(&self, word: Word, others: &mut Others) -> bool
+    /// Whether each outcome of a word that goes on lands wherever it goes. Those of a call go on in the
+    /// routine, so they are not worked out.
+    pub(crate) fn outcomes_land<M: Allocator>(&self, word: Word, others: &mut Others<M>) -> bool
         requires { IsPoint C.claims self.now }
         ensures { IsTrue result ↔ HoldsHere C.claims self.now V4 word }
     {
-        self.place
-            .put_outcomes(self.fact, self.at, word, &mut others.outcomes);
-        self.each_lands(&mut others.outcomes, &mut others.landing)
+        if self.place.is_call(word) {
+            return true;
+        }
+        let outcomes = others.outcomes.as_mut();
+        self.place.put_outcomes(self.fact, self.at, word, outcomes);
+        self.each_lands(outcomes, &mut others.landing)
     }
 }

@@ -1,6 +1,6 @@
 //! Laws over the definitions alone. Each is the contract of a function that does nothing.
 
-ghost use Rattle.judge.specs.Sums.Laws.{FactsHoldInEvents, FactsHoldInRuns, FirstIsOne, TextsMakeOneCase};
+ghost use Rattle.judge.specs.Laws.{FactsHoldInEvents, FactsHoldInRuns, FirstIsOne, TextsMakeOneCase};
 
 /// The facts of a valid certificate are true: wherever a declared run may go on, one of the facts
 /// there holds.

@@ -1,9 +1,10 @@
 //! The conditions on a certificate, and the theorem that they make a program safe.
 #![tactic(auto)]
 
-ghost use Rattle.judge.specs.Sums.Headline.{ProgramsAreSafe, UnlistedReadsAreFree};
+ghost use Rattle.judge.specs.Headline.{ProgramsAreSafe, UnlistedReadsAreFree};
 
 mod body;
+mod cache;
 mod calls;
 mod case;
 mod claims;
@@ -17,6 +18,7 @@ mod verdict;
 mod words;
 
 pub use body::Body;
+pub use cache::FactCache;
 pub use case::{Case, Rooms, put_asked};
 pub use certificate::RoutineClaim;
 pub use claims::Claims;

@@ -1,40 +1,51 @@
 //! A fact of which conditions are asked at an address of a body, and room for what it is compared with.
 
-ghost use Rattle.std.specs.Prelude.{◌≡◌, true};
-ghost use Rattle.judge.specs.Sums.Bodies.{Tells};
-ghost use Rattle.judge.specs.Sums.Judged.{judged};
-ghost use Rattle.judge.specs.Sums.Shapes.{IsRoomy};
-ghost use Rattle.judge.specs.Sums.Points.{IsPoint, case_of};
+ghost use Rattle.std.specs.Prelude.{◌≡◌, true, IfSome};
+ghost use Rattle.wordset.specs.Lanes.{words};
+ghost use Rattle.judge.specs.Bodies.{Tells};
+ghost use Rattle.judge.specs.Caches.{StandsAhead};
+ghost use Rattle.judge.specs.Judged.{judged};
+ghost use Rattle.judge.specs.Shapes.{IsRoomy};
+ghost use Rattle.judge.specs.Points.{IsPoint, case_of};
 
 use crate::body::Body;
+use crate::cache::FactCache;
 use crate::claims::Claims;
 use bin_tape::Image;
 use declaration::Declaration;
 use domain::Rules;
 use facts::{Fact, LandingRooms, NarrowedFact, NextFact, Outcomes, Place};
-use std::alloc::Allocator;
+use std::alloc::{AllocError, Allocator};
 use word12::Word;
 
-/// Room for further facts, with which the one at an address is compared or which come of it.
+/// Room for further facts, with which the one at an address is compared or which come of it. The large ones have memory of
+/// their own: they are made there, and not on the stack first.
 #[derive(Drop)]
-pub struct Others {
+pub struct Others<M: Allocator> {
     pub exit: Fact,
     pub next: NextFact,
-    pub outcomes: Outcomes,
-    pub landing: LandingRooms,
+    pub outcomes: Box<Outcomes, M>,
+    pub landing: Box<LandingRooms, M>,
 }
 
-impl Others {
-    /// Room that nothing stands in.
-    #[inline]
-    pub fn new() -> Others {
-        Others {
-            exit: Fact::any(),
-            next: NextFact::any(),
-            outcomes: Outcomes::new(),
-            landing: LandingRooms::new(),
-        }
-    }
+/// Room for outcomes, in memory that an allocator gives.
+///
+/// # Errors
+///
+/// `AllocError` where it was refused.
+#[inline(never)]
+pub(crate) fn boxed_outcomes<M: Allocator>(memory: M) -> Result<Box<Outcomes, M>, AllocError> {
+    Ok(Box::new(memory, Outcomes::new())?)
+}
+
+/// Room for asking where a fact lands, in memory that an allocator gives.
+///
+/// # Errors
+///
+/// `AllocError` where it was refused.
+#[inline(never)]
+pub(crate) fn boxed_landing<M: Allocator>(memory: M) -> Result<Box<LandingRooms, M>, AllocError> {
+    Ok(Box::new(memory, LandingRooms::new())?)
 }
 
 /// A fact of which conditions are asked at an address of a body.
@@ -45,6 +56,8 @@ pub struct Point<'a, A: Allocator, C: Claims> {
     pub body: &'a Body,
     pub at: Word,
     pub fact: &'a NarrowedFact,
+    /// What is kept of the fact at the next address, if something is.
+    pub following: Option<&'a FactCache>,
     /// The line at which facts at other addresses are looked for first.
     pub near: usize,
 }
@@ -78,12 +91,15 @@ impl<'a, A: Allocator, C: Claims> Point<'a, A, C> {
         body: &'a Body,
         at: Word,
         fact: &'a NarrowedFact,
+        following: Option<&'a FactCache>,
         near: usize,
     ) -> Point<'a, A, C>
         requires stands { (judged image.now declaration.now (C.claims claims.now)).declaration.body
             body.now.routine at ≡ true }
         requires tells { Tells (C.claims claims.now) body.now }
         requires roomy { IsRoomy fact.now }
+        requires ahead { IfSome following (λ f.
+            StandsAhead (C.claims claims.now) (words body.now.claim.sites) f.now) }
         ensures point { IsPoint C.claims result }
         ensures case { case_of C.claims result ≡
             judged image.now declaration.now (C.claims claims.now) }
@@ -98,6 +114,7 @@ impl<'a, A: Allocator, C: Claims> Point<'a, A, C> {
             body,
             at,
             fact,
+            following,
             near,
         }
     }

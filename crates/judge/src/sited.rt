@@ -2,8 +2,8 @@
 
 ghost use Rattle.std.specs.Prelude.{◌≡◌};
 ghost use Rattle.wordset.specs.Lanes.{words};
-ghost use Rattle.domain.specs.Sums.FactInCode.{fact_in_code, rules_of};
-ghost use Rattle.judge.specs.Sums.Sources.{sited_one, facts_of, exits_for};
+ghost use Rattle.domain.specs.FactInCode.{fact_in_code, rules_of};
+ghost use Rattle.judge.specs.Sources.{sited_one, facts_of, exits_for};
 
 use crate::claims::Claims;
 use crate::sources::{ExitsFor, FactsAt};

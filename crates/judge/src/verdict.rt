@@ -7,14 +7,14 @@ ghost use Rattle.declaration.specs.Text.{Fails};
 ghost use Rattle.declaration.specs.declared.DeclarationFault.{DeclarationFault as DeclarationsFault};
 ghost use Rattle.declaration.specs.declared.DeclarationFault.TheVariants as declaration_fault;
 ghost use Rattle.certificate.specs.declared.CertificateFault.{CertificateFault as CertificatesFault};
-ghost use Rattle.certificate.specs.Sums.Reading.{Text, reading};
+ghost use Rattle.certificate.specs.Reading.{Text, reading};
 ghost use Rattle.judge.specs.declared.judging.Refusal.{Refusal as Refusals};
 ghost use Rattle.judge.specs.declared.verdict.CertifyFault.TheVariants as fault;
 ghost use Rattle.peripherals.specs.World.{view, profile_of};
 ghost use Rattle.policy.specs.Runs.{IsSafe};
 ghost use Rattle.policy.specs.Watching.{IsClean, LeadsTo, StepPutsOut, begun};
-ghost use Rattle.judge.specs.Sums.Conditions.{IsValid};
-ghost use Rattle.judge.specs.Sums.Certifying.{AreRead, AreValid, FailFirst, IsRefused, IsRefusal, IsSomeTape, DeclaresSomething, case_of, declaration_of, words_of};
+ghost use Rattle.judge.specs.Conditions.{IsValid};
+ghost use Rattle.judge.specs.Certifying.{AreRead, AreValid, FailFirst, IsRefused, IsRefusal, IsSomeTape, DeclaresSomething, case_of, declaration_of, words_of};
 
 use crate::case::Rooms;
 use crate::judging::{Refusal, judge};
@@ -58,8 +58,8 @@ pub struct Certified<A: Allocator> {
 }
 
 impl<A: Allocator> Model for Certified<A> {
-    ghost use Rattle.judge.specs.Sums.Conditions.{IsValid};
-    ghost use Rattle.judge.specs.Sums.Certifying.{Parts, case_of};
+    ghost use Rattle.judge.specs.Conditions.{IsValid};
+    ghost use Rattle.judge.specs.Certifying.{Parts, case_of};
 
     ghost Value = { Parts };
 
@@ -145,13 +145,11 @@ impl<A: Allocator> Certified<A> {
 /// The bytes alone decide: a yes comes exactly where every condition holds of what they say, and
 /// each fault exactly where it is the first that there is, unless memory is refused.
 ///
-/// It needs 5 MB of stack, on which the rooms of the judgement stand. A caller with less lends [`judge`] rooms on the heap.
-///
 /// # Errors
 ///
 /// The first part that is not good, in the order tape, declaration, certificate and conditions, with
-/// its fault; `NoMemory` where a growth was refused while the declaration or the certificate was
-/// read.
+/// its fault; `NoMemory` where memory was refused, while the declaration or the certificate was read, or
+/// for the rooms of the judgement.
 pub fn certify<A: Allocator + Copy>(
     alloc: A,
     tape: &[u8],
@@ -200,7 +198,11 @@ pub fn certify<A: Allocator + Copy>(
         Err(CertificateFault::NoMemory) => return Err(CertifyFault::NoMemory),
         Err(fault) => return Err(CertifyFault::Certificate(fault)),
     };
-    match judge(&image, &declaration, &certificate, &mut Rooms::new()) {
+    let mut rooms = match Rooms::boxed(alloc) {
+        Ok(rooms) => rooms,
+        Err(_) => return Err(CertifyFault::NoMemory),
+    };
+    match judge(&image, &declaration, &certificate, &mut rooms) {
         Ok(()) => Ok(Certified {
             image,
             declaration,

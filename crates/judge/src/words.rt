@@ -5,10 +5,10 @@ ghost use Rattle.peripherals.specs.Loading.{image_of};
 ghost use Rattle.wordset.specs.Words.{one};
 ghost use Rattle.wordset.specs.Lanes.{words};
 ghost use Rattle.facts.specs.declared.Condition.TheVariants.{V3, V5, V6, V13, V14, V15};
-ghost use Rattle.judge.specs.Conditions.{place_among};
-ghost use Rattle.judge.specs.Asked.{asks_few};
-ghost use Rattle.judge.specs.Sums.Asked.{IsLeastPlace};
-ghost use Rattle.judge.specs.Sums.Points.{IsPoint, HoldsHere, HoldsForAllWords, HoldsOfPoint, HasFewHere, possible_at};
+ghost use Rattle.judge.specs.ConditionOrder.{place_among};
+ghost use Rattle.judge.specs.FewWords.{asks_few};
+ghost use Rattle.judge.specs.Asked.{IsLeastPlace};
+ghost use Rattle.judge.specs.Points.{IsPoint, HoldsHere, HoldsForAllWords, HoldsOfPoint, HasFewHere, possible_at};
 
 use crate::claims::Claims;
 use crate::point::{Others, Point};
@@ -61,7 +61,7 @@ pub(crate) fn word_of(image: &Image, at: Word) -> Option<Word>
 impl<A: Allocator, C: Claims> Point<'_, A, C> {
     /// The place of the first condition on words before a limit that fails of the fact, and the limit if
     /// none does.
-    pub(crate) fn first_failing(&self, limit: usize, others: &mut Others) -> usize
+    pub(crate) fn first_failing<M: Allocator>(&self, limit: usize, others: &mut Others<M>) -> usize
         requires point { IsPoint C.claims self.now }
         requires low { 2 ≤ limit }
         requires high { limit ≤ 15 }
@@ -84,7 +84,7 @@ impl<A: Allocator, C: Claims> Point<'_, A, C> {
     }
 
     /// The same, where a word is the only one that is possible.
-    fn check_word(&self, word: Word, limit: usize, others: &mut Others) -> usize
+    fn check_word<M: Allocator>(&self, word: Word, limit: usize, others: &mut Others<M>) -> usize
         requires point { IsPoint C.claims self.now }
         requires only { possible_at C.claims self.now ≡ one word }
         requires low { 2 ≤ limit }
@@ -100,7 +100,12 @@ impl<A: Allocator, C: Claims> Point<'_, A, C> {
     }
 
     /// Whether a condition holds here, where a word is the only one that is possible.
-    fn holds_for_only(&self, condition: Condition, word: Word, others: &mut Others) -> bool
+    fn holds_for_only<M: Allocator>(
+        &self,
+        condition: Condition,
+        word: Word,
+        others: &mut Others<M>,
+    ) -> bool
         requires point { IsPoint C.claims self.now }
         requires only { possible_at C.claims self.now ≡ one word }
         ensures { IsTrue result ↔ HoldsOfPoint C.claims self.now condition }
@@ -111,7 +116,7 @@ impl<A: Allocator, C: Claims> Point<'_, A, C> {
 
     /// The same, whichever words are possible; the room for them is made here alone.
     #[inline(never)]
-    fn check_words(&self, limit: usize, others: &mut Others) -> usize
+    fn check_words<M: Allocator>(&self, limit: usize, others: &mut Others<M>) -> usize
         requires point { IsPoint C.claims self.now }
         requires low { 2 ≤ limit }
         requires high { limit ≤ 15 }
@@ -137,7 +142,12 @@ impl<A: Allocator, C: Claims> Point<'_, A, C> {
     }
 
     /// Whether a condition holds here.
-    fn holds(&self, condition: Condition, possible: &WordSet, others: &mut Others) -> bool
+    fn holds<M: Allocator>(
+        &self,
+        condition: Condition,
+        possible: &WordSet,
+        others: &mut Others<M>,
+    ) -> bool
         requires point { IsPoint C.claims self.now }
         requires possible { words possible.now ≡ possible_at C.claims self.now }
         ensures { IsTrue result ↔ HoldsOfPoint C.claims self.now condition }
@@ -160,7 +170,12 @@ impl<A: Allocator, C: Claims> Point<'_, A, C> {
     }
 
     /// Whether a condition holds of each word that is possible here.
-    fn holds_for_each(&self, condition: Condition, possible: &WordSet, others: &mut Others) -> bool
+    fn holds_for_each<M: Allocator>(
+        &self,
+        condition: Condition,
+        possible: &WordSet,
+        others: &mut Others<M>,
+    ) -> bool
         requires point { IsPoint C.claims self.now }
         requires possible { words possible.now ≡ possible_at C.claims self.now }
         ensures { IsTrue result ↔ HoldsForAllWords C.claims self.now condition }
@@ -174,7 +189,12 @@ impl<A: Allocator, C: Claims> Point<'_, A, C> {
     }
 
     /// Whether a condition holds of a word here.
-    pub fn holds_for(&self, condition: Condition, word: Word, others: &mut Others) -> bool
+    pub fn holds_for<M: Allocator>(
+        &self,
+        condition: Condition,
+        word: Word,
+        others: &mut Others<M>,
+    ) -> bool
         requires { IsPoint C.claims self.now }
         ensures { IsTrue result ↔ HoldsHere C.claims self.now condition word }
     {

@@ -2,4 +2,5 @@ pub mod Addresses
 pub mod Lines
 pub mod Names
 pub mod Programs
+pub mod Tagged
 pub mod Within

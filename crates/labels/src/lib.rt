@@ -8,10 +8,12 @@ pub mod laws;
 pub mod naming;
 pub mod placing;
 pub mod program;
+pub mod tags;
 pub mod within;
 
 pub use fault::PlaceFault;
 pub use naming::name_declaration;
 pub use placing::place;
 pub use program::{Numbered, NumberingFault, number};
+pub use tags::Tags;
 pub use within::{declared_lines, machine_of};

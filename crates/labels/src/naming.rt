@@ -24,14 +24,14 @@ const REACH: usize = 0o77;
 
 /// A tag of a source, and its address.
 #[derive(Clone, Copy)]
-struct Tag {
+pub(crate) struct Tag {
     name: Name,
     at: usize,
 }
 
 /// A symbol, and how many cells behind its value an address is.
 #[derive(Clone, Copy)]
-struct Spelling {
+pub(crate) struct Spelling {
     name: Name,
     behind: usize,
 }
@@ -92,7 +92,7 @@ fn push_part_tags<A: Allocator + Copy, S: Allocator + Copy>(
 }
 
 /// The tags of a source, in their order.
-fn tags_of<A: Allocator + Copy, S: Allocator + Copy>(
+pub(crate) fn tags_of<A: Allocator + Copy, S: Allocator + Copy>(
     alloc: A,
     own: &SymbolTable<S>,
     parts: &[&[u8]],
@@ -108,7 +108,7 @@ fn tags_of<A: Allocator + Copy, S: Allocator + Copy>(
 }
 
 /// An address by the last tag at it or before it, of several there the first, if one is near enough.
-fn by_tag(tags: &[Tag], at: usize) -> Option<Spelling> {
+pub(crate) fn by_tag(tags: &[Tag], at: usize) -> Option<Spelling> {
     let mut found = None;
     let mut least = REACH.saturating_add(1);
     for tag in tags {
@@ -164,7 +164,7 @@ fn push_behind<A: Allocator>(behind: usize, text: &mut Vec<u8, A>) -> Result<(),
 }
 
 /// Adds a symbol and how far behind it an address is, also where it is the symbol's own if that is asked.
-fn push_spelling<A: Allocator>(
+pub(crate) fn push_spelling<A: Allocator>(
     spelling: &Spelling,
     with_zero: bool,
     text: &mut Vec<u8, A>,

@@ -4,6 +4,7 @@ use Rattle.std.specs.Prelude.{IfErr}
 use Rattle.peripherals.specs.declared.operator.Operator.{Operator}
 use Rattle.peripherals.specs.Operator.{plan_of}
 use Rattle.command_parts.specs.declared.options.SessionOptions.{SessionOptions}
+use Rattle.command_parts.specs.declared.options.SummaryForm.{SummaryForm}
 use Rattle.command_parts.specs.declared.status.DeviceFault.TheVariants.{Read, Write}
 use Rattle.command_parts.specs.declared.status.Fault.{Fault}
 use Rattle.command_parts.specs.declared.status.Fault.TheVariants.{Tape, EmptyImage, Source, Declared, Certificate, Events, Guess, Declare, Device, NoMemory}
@@ -64,17 +65,17 @@ session_faults {T} most tape reader keys image (Ok v) good none held = tt
 session_faults {T} most tape reader keys image (Err fault) good none held = inr (record { image = image; tape = good }, inr (inr (held_run {T = T} (Err fault) none held)))
 
 -- what it writes
-pub session_ok : (options : SessionOptions) (tape reader keys : Option (List ℕ)) (image : List (Option ℕ)) (frames bytes : List ℕ) (o : Operator) (r : Result Status Fault) (old new : Taken) →
+pub session_ok : (options : SessionOptions) (form : SummaryForm) (tape reader keys : Option (List ℕ)) (image : List (Option ℕ)) (frames bytes : List ℕ) (o : Operator) (r : Result Status Fault) (old new : Taken) →
     HasImage tape image → AreFirst options.run.rounds reader frames → AreFirst options.run.rounds keys bytes → plan_of o ≡ plan_for options frames bytes → o.last ≡ None →
-    IfOk r (λ status. WritesAll (λ text printed punched. IsHeld (λ p w extent es. Comes operating p extent (place_of o) w es) options.run false Whole image text printed punched status) old new) →
-    IfOk r (λ status. WritesAll (IsSession options Whole tape reader keys status) old new)
-session_ok options tape reader keys image frames bytes o (Ok status) old new has_image frames_are bytes_are is first writes =
-    session_is options tape reader keys image frames bytes o status old new has_image frames_are bytes_are is first writes
-session_ok options tape reader keys image frames bytes o (Err fault) old new has_image frames_are bytes_are is first writes = tt
+    IfOk r (λ status. WritesAll (λ text printed punched. IsHeld (λ p w extent es. Comes operating p extent (place_of o) w es) options.run form Whole image text printed punched status) old new) →
+    IfOk r (λ status. WritesAll (IsSession options form Whole tape reader keys status) old new)
+session_ok options form tape reader keys image frames bytes o (Ok status) old new has_image frames_are bytes_are is first writes =
+    session_is options form tape reader keys image frames bytes o status old new has_image frames_are bytes_are is first writes
+session_ok options form tape reader keys image frames bytes o (Err fault) old new has_image frames_are bytes_are is first writes = tt
 
 -- what it leaves where it has a fault
-pub session_or : (options : SessionOptions) (tape reader keys : Option (List ℕ)) (image : List (Option ℕ)) (frames bytes : List ℕ) (o : Operator) (failed : Failures) (old new : Taken) →
+pub session_or : (options : SessionOptions) (form : SummaryForm) (tape reader keys : Option (List ℕ)) (image : List (Option ℕ)) (frames bytes : List ℕ) (o : Operator) (failed : Failures) (old new : Taken) →
     HasImage tape image → AreFirst options.run.rounds reader frames → AreFirst options.run.rounds keys bytes → plan_of o ≡ plan_for options frames bytes → o.last ≡ None →
-    FrontsOf (IsPartOf (λ p w extent es. Comes operating p extent (place_of o) w es) options.run false failed.report failed.teletype false image) failed old new → NothingOrFronts options failed tape reader keys old new
-session_or options tape reader keys image frames bytes o failed old new has_image frames_are bytes_are is first fronts =
-    inr (session_fronts options tape reader keys image frames bytes o failed old new has_image frames_are bytes_are is first fronts)
+    FrontsOf (IsPartOf (λ p w extent es. Comes operating p extent (place_of o) w es) options.run form failed.report failed.teletype false image) failed old new → NothingOrFronts options form failed tape reader keys old new
+session_or options form tape reader keys image frames bytes o failed old new has_image frames_are bytes_are is first fronts =
+    inr (session_fronts options form tape reader keys image frames bytes o failed old new has_image frames_are bytes_are is first fronts)

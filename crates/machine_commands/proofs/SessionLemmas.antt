@@ -27,6 +27,7 @@ use Rattle.machine_commands.specs.Follows.{Follows, Ended, Stuck, Stopped, end_o
 use Rattle.wordset.specs.Lanes.{words}
 use Rattle.command_parts.specs.declared.options.RunOptions.{RunOptions}
 use Rattle.command_parts.specs.declared.options.SessionOptions.{SessionOptions}
+use Rattle.command_parts.specs.declared.options.SummaryForm.{SummaryForm}
 use Rattle.command_parts.specs.declared.status.Fault.{Fault}
 use Rattle.command_parts.specs.declared.status.Fault.TheVariants.{NoMemory}
 use Rattle.command_parts.specs.declared.status.Status.{Status}
@@ -644,10 +645,10 @@ typed_front told now new bytes from index byte typed within is front =
     rw (← typed_rest bytes typed.sent from index within typed.rest) (cut_of_more told new (typed.sent ++ (get_or bytes index 0 % 128) ∷ []) (map character (drop (suc index) bytes)) cut)
 
 -- What a run that came to its end leaves.
-held_whole : (comes : Profile → WorldState → Extent → List Event → Type 0) (options : RunOptions) (apart : Bool) (image : List (Option ℕ)) (p : Profile) (w x : WorldState) (outcome : RunOutcome) (status : Status) (old mid told tells : Option (List ℕ)) →
+held_whole : (comes : Profile → WorldState → Extent → List Event → Type 0) (options : RunOptions) (form : SummaryForm) (image : List (Option ℕ)) (p : Profile) (w x : WorldState) (outcome : RunOutcome) (status : Status) (old mid told tells : Option (List ℕ)) →
     p ≡ options.profile → w ≡ fresh image options.start → (done : Operated (comes p w) p options.trace w outcome x old mid told tells) → status ≡ status_of outcome.end →
-    IsHeld comes options apart Whole image (traced options.trace done.ran.lines ++ summary_where (words options.show) apart Whole outcome.end x outcome.steps) (printed_in x) x.devices.punch.output status
-held_whole comes options apart image p w x outcome status old mid told tells profile begins done is = record {
+    IsHeld comes options form Whole image (traced options.trace done.ran.lines ++ summary_where (words options.show) form Whole outcome.end x outcome.steps) (printed_in x) x.devices.punch.output status
+held_whole comes options form image p w x outcome status old mid told tells profile begins done is = record {
   events = done.events;
   come = let come : comes p w Whole done.events = done.come Whole in rw (profile, begins) at come;
   lines = done.ran.lines;
@@ -661,39 +662,39 @@ held_whole comes options apart image p w x outcome status old mid told tells pro
   status_is = is;
 }
 
-pub attended : (comes : Profile → WorldState → Extent → List Event → Type 0) (options : RunOptions) (apart : Bool) (image : List (Option ℕ)) (p : Profile) (w x : WorldState) (outcome : RunOutcome) (status : Status) (old mid new told tells held holds : Option (List ℕ)) →
+pub attended : (comes : Profile → WorldState → Extent → List Event → Type 0) (options : RunOptions) (form : SummaryForm) (image : List (Option ℕ)) (p : Profile) (w x : WorldState) (outcome : RunOutcome) (status : Status) (old mid new told tells held holds : Option (List ℕ)) →
     p ≡ options.profile → w ≡ fresh image options.start → Operated (comes p w) p options.trace w outcome x old mid told tells → Appends held holds x.devices.punch.output →
-    Appends mid new (summary_where (words options.show) apart Whole outcome.end x outcome.steps) → status ≡ status_of outcome.end →
-    WritesAll (λ text printed punched. IsHeld comes options apart Whole image text printed punched status) (taken old told held) (taken new tells holds)
-attended comes options apart image p w x outcome status old mid new told tells held holds profile begins done punched wrote is = record {
-  text = traced options.trace done.ran.lines ++ summary_where (words options.show) apart Whole outcome.end x outcome.steps;
+    Appends mid new (summary_where (words options.show) form Whole outcome.end x outcome.steps) → status ≡ status_of outcome.end →
+    WritesAll (λ text printed punched. IsHeld comes options form Whole image text printed punched status) (taken old told held) (taken new tells holds)
+attended comes options form image p w x outcome status old mid new told tells held holds profile begins done punched wrote is = record {
+  text = traced options.trace done.ran.lines ++ summary_where (words options.show) form Whole outcome.end x outcome.steps;
   printed = printed_in x;
   punched = x.devices.punch.output;
-  is = held_whole comes options apart image p w x outcome status old mid told tells profile begins done is;
-  to_report = Appends-trans old mid new (traced options.trace done.ran.lines) (summary_where (words options.show) apart Whole outcome.end x outcome.steps) done.ran.wrote wrote;
+  is = held_whole comes options form image p w x outcome status old mid told tells profile begins done is;
+  to_report = Appends-trans old mid new (traced options.trace done.ran.lines) (summary_where (words options.show) form Whole outcome.end x outcome.steps) done.ran.wrote wrote;
   to_teletype = done.printed;
   to_punch = punched;
 }
 
 -- the summary failed
-pub attended_front : (comes : Profile → WorldState → Extent → List Event → Type 0) (options : RunOptions) (apart : Bool) (image : List (Option ℕ)) (p : Profile) (w x : WorldState) (outcome : RunOutcome) (reported typed unread unpunched : Bool) (old mid new told tells held holds : Option (List ℕ)) →
+pub attended_front : (comes : Profile → WorldState → Extent → List Event → Type 0) (options : RunOptions) (form : SummaryForm) (image : List (Option ℕ)) (p : Profile) (w x : WorldState) (outcome : RunOutcome) (reported typed unread unpunched : Bool) (old mid new told tells held holds : Option (List ℕ)) →
     p ≡ options.profile → w ≡ fresh image options.start → Operated (comes p w) p options.trace w outcome x old mid told tells → Appends held holds x.devices.punch.output →
-    AppendsFront mid new (summary_where (words options.show) apart Whole outcome.end x outcome.steps) → reported ≡ true → typed ≡ false → unpunched ≡ false →
-    FrontsOf (IsPartOf comes options apart reported typed unread image) (failures reported typed unpunched) (taken old told held) (taken new tells holds)
+    AppendsFront mid new (summary_where (words options.show) form Whole outcome.end x outcome.steps) → reported ≡ true → typed ≡ false → unpunched ≡ false →
+    FrontsOf (IsPartOf comes options form reported typed unread image) (failures reported typed unpunched) (taken old told held) (taken new tells holds)
 unfolding whole_front
-attended_front comes options apart image p w x outcome reported typed unread unpunched old mid new told tells held holds profile begins done punched front failed untyped is_punched = record {
+attended_front comes options form image p w x outcome reported typed unread unpunched old mid new told tells held holds profile begins done punched front failed untyped is_punched = record {
   extent = Whole;
-  text = traced options.trace done.ran.lines ++ summary_where (words options.show) apart Whole outcome.end x outcome.steps;
+  text = traced options.trace done.ran.lines ++ summary_where (words options.show) form Whole outcome.end x outcome.steps;
   printed = printed_in x;
   punched = x.devices.punch.output;
-  is = record { summed = λ all. failed; to_there = λ no. absurd (true≢false (sym failed ∙ or_left reported typed no)); status = status_of outcome.end; is = held_whole comes options apart image p w x outcome (status_of outcome.end) old mid told tells profile begins done refl };
-  to_report = some_of old new (traced options.trace done.ran.lines ++ summary_where (words options.show) apart Whole outcome.end x outcome.steps) (front_after old mid new (traced options.trace done.ran.lines) (summary_where (words options.show) apart Whole outcome.end x outcome.steps) done.ran.wrote front);
+  is = record { summed = λ all. failed; to_there = λ no. absurd (true≢false (sym failed ∙ or_left reported typed no)); status = status_of outcome.end; is = held_whole comes options form image p w x outcome (status_of outcome.end) old mid told tells profile begins done refl };
+  to_report = some_of old new (traced options.trace done.ran.lines ++ summary_where (words options.show) form Whole outcome.end x outcome.steps) (front_after old mid new (traced options.trace done.ran.lines) (summary_where (words options.show) form Whole outcome.end x outcome.steps) done.ran.wrote front);
   to_teletype = whole_front told tells (printed_in x) done.printed;
   to_punch = whole_front held holds x.devices.punch.output punched;
   report_whole = λ no. absurd (true≢false (sym failed ∙ no));
   teletype_whole = λ no. done.printed;
   punch_whole = λ no. punched;
-  report_front = λ yes. front_after old mid new (traced options.trace done.ran.lines) (summary_where (words options.show) apart Whole outcome.end x outcome.steps) done.ran.wrote front;
+  report_front = λ yes. front_after old mid new (traced options.trace done.ran.lines) (summary_where (words options.show) form Whole outcome.end x outcome.steps) done.ran.wrote front;
   teletype_front = λ yes. absurd (true≢false (sym yes ∙ untyped));
   punch_front = λ yes. absurd (true≢false (sym yes ∙ is_punched));
   typed_nearly = one_over (length (printed_in x));
@@ -706,16 +707,16 @@ not_whole true unread is = let e : UpToAny ≡ Whole = is in cc
 not_whole false true is = let e : UpToRead ≡ Whole = is in cc
 not_whole false false is = let e : UpToOutput ≡ Whole = is in cc
 
-no_summary : (named : ℕ → Bool) (apart failed unread : Bool) (end : End) (x : WorldState) (steps : ℕ) → summary_where named apart (extent_after failed unread) end x steps ≡ []
-no_summary named apart true unread end x steps = refl
-no_summary named apart false true end x steps = refl
-no_summary named apart false false end x steps = refl
+no_summary : (named : ℕ → Bool) (form : SummaryForm) (failed unread : Bool) (end : End) (x : WorldState) (steps : ℕ) → summary_where named form (extent_after failed unread) end x steps ≡ []
+no_summary named form true unread end x steps = refl
+no_summary named form false true end x steps = refl
+no_summary named form false false end x steps = refl
 
-pub broke_front : (comes : Profile → WorldState → Extent → List Event → Type 0) (options : RunOptions) (apart : Bool) (image : List (Option ℕ)) (p : Profile) (w x : WorldState) (reported typed unread unpunched : Bool) (old new told tells held holds : Option (List ℕ)) →
+pub broke_front : (comes : Profile → WorldState → Extent → List Event → Type 0) (options : RunOptions) (form : SummaryForm) (image : List (Option ℕ)) (p : Profile) (w x : WorldState) (reported typed unread unpunched : Bool) (old new told tells held holds : Option (List ℕ)) →
     p ≡ options.profile → w ≡ fresh image options.start → BrokeOff (comes p w) p options.trace w x reported typed unread old new told tells → AppendsSome held holds x.devices.punch.output →
     (unpunched ≡ false → Appends held holds x.devices.punch.output) → (unpunched ≡ true → AppendsFront held holds x.devices.punch.output) →
-    FrontsOf (IsPartOf comes options apart reported typed unread image) (failures reported typed unpunched) (taken old told held) (taken new tells holds)
-broke_front comes options apart image p w x reported typed unread unpunched old new told tells held holds profile begins broke punched whole cut = record {
+    FrontsOf (IsPartOf comes options form reported typed unread image) (failures reported typed unpunched) (taken old told held) (taken new tells holds)
+broke_front comes options form image p w x reported typed unread unpunched old new told tells held holds profile begins broke punched whole cut = record {
   extent = extent_after (reported || typed) unread;
   text = traced options.trace broke.lines ++ [];
   printed = printed_in x;
@@ -732,7 +733,7 @@ broke_front comes options apart image p w x reported typed unread unpunched old 
       end = broke.end;
       final = x;
       follows = let follows : Follows p true broke.events w broke.lines broke.steps broke.end x = broke.follows in rw (profile, begins) at follows;
-      text_is = ap (λ (l : List ℕ). traced options.trace broke.lines ++ l) (sym (no_summary (words options.show) apart (reported || typed) unread broke.end x broke.steps));
+      text_is = ap (λ (l : List ℕ). traced options.trace broke.lines ++ l) (sym (no_summary (words options.show) form (reported || typed) unread broke.end x broke.steps));
       printed_is = refl;
       punched_is = refl;
       status_is = refl;
@@ -753,22 +754,22 @@ broke_front comes options apart image p w x reported typed unread unpunched old 
 }
 
 -- memory was refused for the summary
-pub summary_wanting : (comes : Profile → WorldState → Extent → List Event → Type 0) (options : RunOptions) (apart : Bool) (image : List (Option ℕ)) (p : Profile) (w x : WorldState) (outcome : RunOutcome) (reported typed unread unpunched : Bool) (old new told tells held holds : Option (List ℕ)) →
+pub summary_wanting : (comes : Profile → WorldState → Extent → List Event → Type 0) (options : RunOptions) (form : SummaryForm) (image : List (Option ℕ)) (p : Profile) (w x : WorldState) (outcome : RunOutcome) (reported typed unread unpunched : Bool) (old new told tells held holds : Option (List ℕ)) →
     p ≡ options.profile → w ≡ fresh image options.start → Operated (comes p w) p options.trace w outcome x old new told tells → Appends held holds x.devices.punch.output → (reported || typed) ≡ false → unpunched ≡ false →
-    FrontsOf (IsPartOf comes options apart reported typed unread image) (failures reported typed unpunched) (taken old told held) (taken new tells holds)
-summary_wanting comes options apart image p w x outcome reported typed unread unpunched old new told tells held holds profile begins done punched unfailed is_punched =
-    broke_front comes options apart image p w x reported typed unread unpunched old new told tells held holds profile begins (operated_broke (comes p w) p options.trace w outcome x reported typed unread old new told tells done unfailed)
+    FrontsOf (IsPartOf comes options form reported typed unread image) (failures reported typed unpunched) (taken old told held) (taken new tells holds)
+summary_wanting comes options form image p w x outcome reported typed unread unpunched old new told tells held holds profile begins done punched unfailed is_punched =
+    broke_front comes options form image p w x reported typed unread unpunched old new told tells held holds profile begins (operated_broke (comes p w) p options.trace w outcome x reported typed unread old new told tells done unfailed)
     (whole_front held holds x.devices.punch.output punched) (λ no. punched) (λ yes. absurd (true≢false (sym yes ∙ is_punched)))
 
 -- the punch failed, whatever the run brought
-pub failed_punch : (comes : Profile → WorldState → Extent → List Event → Type 0) (options : RunOptions) (apart : Bool) (image : List (Option ℕ)) (p : Profile) (w x : WorldState) (ran : Result RunOutcome Fault) (reported typed unread unpunched : Bool) (old new told tells held holds : Option (List ℕ)) →
+pub failed_punch : (comes : Profile → WorldState → Extent → List Event → Type 0) (options : RunOptions) (form : SummaryForm) (image : List (Option ℕ)) (p : Profile) (w x : WorldState) (ran : Result RunOutcome Fault) (reported typed unread unpunched : Bool) (old new told tells held holds : Option (List ℕ)) →
     p ≡ options.profile → w ≡ fresh image options.start → IfOk ran (λ outcome. Operated (comes p w) p options.trace w outcome x old new told tells) → OnErr ran (BrokeOff (comes p w) p options.trace w x reported typed unread old new told tells) →
-    (reported || typed) ≡ fails_to_write ran → AppendsFront held holds x.devices.punch.output → unpunched ≡ true → FrontsOf (IsPartOf comes options apart reported typed unread image) (failures reported typed unpunched) (taken old told held) (taken new tells holds)
-failed_punch comes options apart image p w x (Ok outcome) reported typed unread unpunched old new told tells held holds profile begins done broke marks punched failed =
-    broke_front comes options apart image p w x reported typed unread unpunched old new told tells held holds profile begins (operated_broke (comes p w) p options.trace w outcome x reported typed unread old new told tells done marks)
+    (reported || typed) ≡ fails_to_write ran → AppendsFront held holds x.devices.punch.output → unpunched ≡ true → FrontsOf (IsPartOf comes options form reported typed unread image) (failures reported typed unpunched) (taken old told held) (taken new tells holds)
+failed_punch comes options form image p w x (Ok outcome) reported typed unread unpunched old new told tells held holds profile begins done broke marks punched failed =
+    broke_front comes options form image p w x reported typed unread unpunched old new told tells held holds profile begins (operated_broke (comes p w) p options.trace w outcome x reported typed unread old new told tells done marks)
     (some_of held holds x.devices.punch.output punched) (λ no. absurd (true≢false (sym failed ∙ no))) (λ yes. punched)
-failed_punch comes options apart image p w x (Err fault) reported typed unread unpunched old new told tells held holds profile begins done broke marks punched failed =
-    broke_front comes options apart image p w x reported typed unread unpunched old new told tells held holds profile begins broke (some_of held holds x.devices.punch.output punched) (λ no. absurd (true≢false (sym failed ∙ no))) (λ yes. punched)
+failed_punch comes options form image p w x (Err fault) reported typed unread unpunched old new told tells held holds profile begins done broke marks punched failed =
+    broke_front comes options form image p w x reported typed unread unpunched old new told tells held holds profile begins broke (some_of held holds x.devices.punch.output punched) (λ no. absurd (true≢false (sym failed ∙ no))) (λ yes. punched)
 
 -- fronts of what one schedule brings, by another that brings the same
 pub fronts_by : (P Q : Extent → List ℕ → List ℕ → List ℕ → Type 0) (failed : Failures) (old new : Taken) → ((extent : Extent) (text printed punched : List ℕ) → P extent text printed punched → Q extent text printed punched) → FrontsOf P failed old new → FrontsOf Q failed old new
@@ -805,9 +806,9 @@ writes_by P Q old new by writes = record {
 }
 
 -- what is held by what comes, by what comes otherwise too
-pub held_by : (comes brings : Profile → WorldState → Extent → List Event → Type 0) (options : RunOptions) (apart : Bool) (extent : Extent) (image : List (Option ℕ)) (text printed punched : List ℕ) (status : Status) →
-    ((p : Profile) (w : WorldState) (es : List Event) → comes p w extent es → brings p w extent es) → IsHeld comes options apart extent image text printed punched status → IsHeld brings options apart extent image text printed punched status
-held_by comes brings options apart extent image text printed punched status by held = record {
+pub held_by : (comes brings : Profile → WorldState → Extent → List Event → Type 0) (options : RunOptions) (form : SummaryForm) (extent : Extent) (image : List (Option ℕ)) (text printed punched : List ℕ) (status : Status) →
+    ((p : Profile) (w : WorldState) (es : List Event) → comes p w extent es → brings p w extent es) → IsHeld comes options form extent image text printed punched status → IsHeld brings options form extent image text printed punched status
+held_by comes brings options form extent image text printed punched status by held = record {
   events = held.events;
   come = by options.profile (fresh image options.start) held.events held.come;
   lines = held.lines;
@@ -826,10 +827,10 @@ operator_comes : (plan : Plan) (o : Operator) (extent : Extent) (p : Profile) (w
 operator_comes plan o extent p w es is first comes = rw (is, first) at comes
 
 -- the inputs are good
-session_part : (options : SessionOptions) (tape reader keys : Option (List ℕ)) (image : List (Option ℕ)) (frames bytes : List ℕ) (o : Operator) (reported typed : Bool) (extent : Extent) (text printed punched : List ℕ) →
+session_part : (options : SessionOptions) (form : SummaryForm) (tape reader keys : Option (List ℕ)) (image : List (Option ℕ)) (frames bytes : List ℕ) (o : Operator) (reported typed : Bool) (extent : Extent) (text printed punched : List ℕ) →
     HasImage tape image → AreFirst options.run.rounds reader frames → AreFirst options.run.rounds keys bytes → plan_of o ≡ plan_for options frames bytes → o.last ≡ None →
-    IsPartOf (λ p w extent es. Comes operating p extent (place_of o) w es) options.run false reported typed false image extent text printed punched → IsPartOfSession options reported typed tape reader keys extent text printed punched
-session_part options tape reader keys image frames bytes o reported typed extent text printed punched has_image frames_are bytes_are is first part = record {
+    IsPartOf (λ p w extent es. Comes operating p extent (place_of o) w es) options.run form reported typed false image extent text printed punched → IsPartOfSession options form reported typed tape reader keys extent text printed punched
+session_part options form tape reader keys image frames bytes o reported typed extent text printed punched has_image frames_are bytes_are is first part = record {
   summed = part.summed;
   to_output = part.to_there;
   status = part.status;
@@ -840,28 +841,28 @@ session_part options tape reader keys image frames bytes o reported typed extent
     frames_are = frames_are;
     bytes = bytes;
     bytes_are = bytes_are;
-    session = held_by (λ p w extent es. Comes operating p extent (place_of o) w es) (comes_by (plan_for options frames bytes)) options.run false extent image text printed punched part.status
+    session = held_by (λ p w extent es. Comes operating p extent (place_of o) w es) (comes_by (plan_for options frames bytes)) options.run form extent image text printed punched part.status
         (λ p w es comes. operator_comes (plan_for options frames bytes) o extent p w es is first comes) part.is;
   };
 }
 
-pub session_fronts : (options : SessionOptions) (tape reader keys : Option (List ℕ)) (image : List (Option ℕ)) (frames bytes : List ℕ) (o : Operator) (failed : Failures) (old new : Taken) →
+pub session_fronts : (options : SessionOptions) (form : SummaryForm) (tape reader keys : Option (List ℕ)) (image : List (Option ℕ)) (frames bytes : List ℕ) (o : Operator) (failed : Failures) (old new : Taken) →
     HasImage tape image → AreFirst options.run.rounds reader frames → AreFirst options.run.rounds keys bytes → plan_of o ≡ plan_for options frames bytes → o.last ≡ None →
-    FrontsOf (IsPartOf (λ p w extent es. Comes operating p extent (place_of o) w es) options.run false failed.report failed.teletype false image) failed old new → SessionFronts options failed tape reader keys old new
-session_fronts options tape reader keys image frames bytes o failed old new has_image frames_are bytes_are is first fronts =
-    fronts_by _ _ failed old new (λ extent text printed punched part. session_part options tape reader keys image frames bytes o failed.report failed.teletype extent text printed punched has_image frames_are bytes_are is first part) fronts
+    FrontsOf (IsPartOf (λ p w extent es. Comes operating p extent (place_of o) w es) options.run form failed.report failed.teletype false image) failed old new → SessionFronts options form failed tape reader keys old new
+session_fronts options form tape reader keys image frames bytes o failed old new has_image frames_are bytes_are is first fronts =
+    fronts_by _ _ failed old new (λ extent text printed punched part. session_part options form tape reader keys image frames bytes o failed.report failed.teletype extent text printed punched has_image frames_are bytes_are is first part) fronts
 
-pub session_is : (options : SessionOptions) (tape reader keys : Option (List ℕ)) (image : List (Option ℕ)) (frames bytes : List ℕ) (o : Operator) (status : Status) (old new : Taken) →
+pub session_is : (options : SessionOptions) (form : SummaryForm) (tape reader keys : Option (List ℕ)) (image : List (Option ℕ)) (frames bytes : List ℕ) (o : Operator) (status : Status) (old new : Taken) →
     HasImage tape image → AreFirst options.run.rounds reader frames → AreFirst options.run.rounds keys bytes → plan_of o ≡ plan_for options frames bytes → o.last ≡ None →
-    WritesAll (λ text printed punched. IsHeld (λ p w extent es. Comes operating p extent (place_of o) w es) options.run false Whole image text printed punched status) old new → WritesAll (IsSession options Whole tape reader keys status) old new
-session_is options tape reader keys image frames bytes o status old new has_image frames_are bytes_are is first writes = writes_by _ _ old new (λ text printed punched held. record {
+    WritesAll (λ text printed punched. IsHeld (λ p w extent es. Comes operating p extent (place_of o) w es) options.run form Whole image text printed punched status) old new → WritesAll (IsSession options form Whole tape reader keys status) old new
+session_is options form tape reader keys image frames bytes o status old new has_image frames_are bytes_are is first writes = writes_by _ _ old new (λ text printed punched held. record {
   image = image;
   has_image = has_image;
   frames = frames;
   frames_are = frames_are;
   bytes = bytes;
   bytes_are = bytes_are;
-  session = held_by (λ p w extent es. Comes operating p extent (place_of o) w es) (comes_by (plan_for options frames bytes)) options.run false Whole image text printed punched status
+  session = held_by (λ p w extent es. Comes operating p extent (place_of o) w es) (comes_by (plan_for options frames bytes)) options.run form Whole image text printed punched status
       (λ p w es comes. operator_comes (plan_for options frames bytes) o Whole p w es is first comes) held;
 }) writes
 

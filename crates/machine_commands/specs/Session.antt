@@ -11,6 +11,7 @@ use Rattle.machine_commands.specs.declared.follow.RunOutcome.{RunOutcome}
 use Rattle.wordset.specs.Lanes.{words}
 use Rattle.command_parts.specs.declared.options.RunOptions.{RunOptions}
 use Rattle.command_parts.specs.declared.options.SessionOptions.{SessionOptions}
+use Rattle.command_parts.specs.declared.options.SummaryForm.{SummaryForm}
 use Rattle.command_parts.specs.declared.status.Fault.{Fault}
 use Rattle.command_parts.specs.declared.status.Fault.TheVariants.{Device}
 use Rattle.command_parts.specs.declared.status.DeviceFault.TheVariants.{Read}
@@ -21,7 +22,7 @@ use Rattle.machine_commands.specs.Follows.{Follows}
 use Rattle.command_parts.specs.Inputs.{AreFirst, HasImage}
 use Rattle.machine_commands.specs.Running.{fresh, status_of}
 use Rattle.machine_commands.specs.Schedule.{Comes, Extent, Whole, UpToOutput, UpToRead, UpToAny, first_place, operating}
-use Rattle.machine_commands.specs.Summary.{closing}
+use Rattle.machine_commands.specs.Summary.{closing_as}
 use Rattle.machine_commands.specs.Trace.{traced}
 
 -- The character of a byte on the teletype: channel 8 is dropped.
@@ -89,15 +90,15 @@ abbrev pub parting : Bool → List ℕ → List ℕ
 parting apart printed = if apart && leaves_open printed then 10 ∷ [] else []
 
 -- The summary and the cells to be shown stand after a whole run, behind the end of an open line where that is wanted.
-abbrev pub summary_where : (ℕ → Bool) → Bool → Extent → End → WorldState → ℕ → List ℕ
-summary_where named apart Whole end w steps = parting apart (printed_in w) ++ closing named end w steps
-summary_where named apart UpToOutput end w steps = []
-summary_where named apart UpToRead end w steps = []
-summary_where named apart UpToAny end w steps = []
+abbrev pub summary_where : (ℕ → Bool) → SummaryForm → Extent → End → WorldState → ℕ → List ℕ
+summary_where named form Whole end w steps = parting form.apart (printed_in w) ++ closing_as form named end w steps
+summary_where named form UpToOutput end w steps = []
+summary_where named form UpToRead end w steps = []
+summary_where named form UpToAny end w steps = []
 
 -- From an image the events that come lead to an end. The text is the trace, if one is asked for, the summary, and the cells to be
 -- shown, each with its word in the world in which the run ended; and these are the characters printed and the bytes punched. Where the run isn't whole, this is what its first events leave.
-pub record IsHeld (comes : Profile → WorldState → Extent → List Event → Type 0) (options : RunOptions) (apart : Bool) (extent : Extent) (image : List (Option ℕ)) (text printed punched : List ℕ) (status : Status) : Type 0 where
+pub record IsHeld (comes : Profile → WorldState → Extent → List Event → Type 0) (options : RunOptions) (form : SummaryForm) (extent : Extent) (image : List (Option ℕ)) (text printed punched : List ℕ) (status : Status) : Type 0 where
   pub events : List Event
   pub come : comes options.profile (fresh image options.start) extent events
   pub lines : List ℕ
@@ -105,7 +106,7 @@ pub record IsHeld (comes : Profile → WorldState → Extent → List Event → 
   pub end : End
   pub final : WorldState
   pub follows : Follows options.profile true events (fresh image options.start) lines steps end final
-  pub text_is : text ≡ traced options.trace lines ++ summary_where (words options.show) apart extent end final steps
+  pub text_is : text ≡ traced options.trace lines ++ summary_where (words options.show) form extent end final steps
   pub printed_is : printed ≡ printed_in final
   pub punched_is : punched ≡ final.devices.punch.output
   pub status_is : status ≡ status_of end
@@ -115,9 +116,9 @@ abbrev pub comes_by : Plan → Profile → WorldState → Extent → List Event 
 comes_by plan profile w extent events = Comes operating profile extent (first_place plan) w events
 
 -- From an image the events of this plan lead to an end, with this text, these characters and bytes, and this status.
-abbrev pub IsSessionOf : RunOptions → Extent → Plan → List (Option ℕ) → List ℕ → List ℕ → List ℕ → Status → Type 0
-IsSessionOf options extent plan image text printed punched status =
-    IsHeld (comes_by plan) options false extent image text printed punched status
+abbrev pub IsSessionOf : RunOptions → SummaryForm → Extent → Plan → List (Option ℕ) → List ℕ → List ℕ → List ℕ → Status → Type 0
+IsSessionOf options form extent plan image text printed punched status =
+    IsHeld (comes_by plan) options form extent image text printed punched status
 
 -- The plan for these frames and keys.
 abbrev pub plan_for : SessionOptions → List ℕ → List ℕ → Plan
@@ -130,23 +131,23 @@ plan_for options frames keys = record {
 
 -- The tape is good, and these are what a run of it brings, with the frames of a reader and the bytes of keys, as many of each
 -- as there are rounds: no more can come.
-pub record IsSession (options : SessionOptions) (extent : Extent) (tape reader keys : Option (List ℕ)) (status : Status) (text printed punched : List ℕ) : Type 0 where
+pub record IsSession (options : SessionOptions) (form : SummaryForm) (extent : Extent) (tape reader keys : Option (List ℕ)) (status : Status) (text printed punched : List ℕ) : Type 0 where
   pub image : List (Option ℕ)
   pub has_image : HasImage tape image
   pub frames : List ℕ
   pub frames_are : AreFirst options.run.rounds reader frames
   pub bytes : List ℕ
   pub bytes_are : AreFirst options.run.rounds keys bytes
-  pub session : IsSessionOf options.run extent (plan_for options frames bytes) image text printed punched status
+  pub session : IsSessionOf options.run form extent (plan_for options frames bytes) image text printed punched status
 
 -- What a run with an operator that has a fault may be about to write, to print and to punch. The summary, which a whole run
 -- alone has, is written last: after it only that write itself can fail, so it's about to be written only where the report
 -- failed. Where neither the report nor the teletype failed, the run came to its end or to an event that prints or punches.
-pub record IsPartOfSession (options : SessionOptions) (reported typed : Bool) (tape reader keys : Option (List ℕ)) (extent : Extent) (text printed punched : List ℕ) : Type 0 where
+pub record IsPartOfSession (options : SessionOptions) (form : SummaryForm) (reported typed : Bool) (tape reader keys : Option (List ℕ)) (extent : Extent) (text printed punched : List ℕ) : Type 0 where
   pub summed : extent ≡ Whole → reported ≡ true
   pub to_output : (reported || typed) ≡ false → extent ≡ UpToOutput
   pub status : Status
-  pub is : IsSession options extent tape reader keys status text printed punched
+  pub is : IsSession options form extent tape reader keys status text printed punched
 
 -- What three sinks tell: where the trace and the summary, the characters and the punched bytes go.
 pub record Taken : Type 0 where
@@ -202,10 +203,10 @@ pub record FrontsOf (P : Extent → List ℕ → List ℕ → List ℕ → Type 
   pub punched_before_summary : extent ≡ Whole → Appends old.punch new.punch punched
 
 -- Fronts went out of what a run with an operator may be about to write, where these of its sinks failed.
-abbrev pub SessionFronts : SessionOptions → Failures → Option (List ℕ) → Option (List ℕ) → Option (List ℕ) → Taken → Taken → Type 0
-SessionFronts options failed tape reader keys old new =
-    FrontsOf (IsPartOfSession options failed.report failed.teletype tape reader keys) failed old new
+abbrev pub SessionFronts : SessionOptions → SummaryForm → Failures → Option (List ℕ) → Option (List ℕ) → Option (List ℕ) → Taken → Taken → Type 0
+SessionFronts options form failed tape reader keys old new =
+    FrontsOf (IsPartOfSession options form failed.report failed.teletype tape reader keys) failed old new
 
 -- Nothing was written at all, or such fronts were.
-abbrev pub NothingOrFronts : SessionOptions → Failures → Option (List ℕ) → Option (List ℕ) → Option (List ℕ) → Taken → Taken → Type 0
-NothingOrFronts options failed tape reader keys old new = (new ≡ old) ⊎ SessionFronts options failed tape reader keys old new
+abbrev pub NothingOrFronts : SessionOptions → SummaryForm → Failures → Option (List ℕ) → Option (List ℕ) → Option (List ℕ) → Taken → Taken → Type 0
+NothingOrFronts options form failed tape reader keys old new = (new ≡ old) ⊎ SessionFronts options form failed tape reader keys old new

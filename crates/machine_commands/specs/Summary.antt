@@ -1,8 +1,10 @@
 -- The summary of a run.
-use Rattle.std.specs.Prelude.{ℕ, Bool, true, false, ◌+◌, ◌/◌, ◌%◌, List, [], ◌∷◌, ◌++◌, codes, decimal}
+use Rattle.std.specs.Prelude.{ℕ, Bool, true, false, ◌+◌, ◌/◌, ◌%◌, ◌==◌, if◌then◌else◌, List, [], ◌∷◌, ◌++◌, codes, decimal, length, Option, Some, None}
+use Rattle.std.specs.Borrow.{Bor}
 use Rattle.std.proofs.Common.{zero, suc}
 use Rattle.word12.specs.Words.{octal_text}
 use Rattle.command_parts.specs.LinkText.{link_text}
+use Rattle.command_parts.specs.declared.options.SummaryForm.{SummaryForm}
 use Rattle.processor.specs.Cells.{Cells}
 use Rattle.processor.specs.Machine.{State}
 use Rattle.peripherals.specs.Devices.{WorldState}
@@ -64,3 +66,31 @@ cells_text named w = cells_below named w.state.memory 4096
 -- What stands at the end of a run that ended so in this world: the summary, and behind it the named cells with their words.
 abbrev pub closing : (ℕ → Bool) → End → WorldState → ℕ → List ℕ
 closing named end w steps = summary end w steps ++ cells_text named w
+
+-- The word for so many frames.
+abbrev pub frames_word : ℕ → List ℕ
+frames_word n = if n == 1 then codes " frame to " else codes " frames to "
+
+-- What was punched into the file with this name: the number of frames; nothing where nothing was punched.
+abbrev pub saved_line : List ℕ → List ℕ → List ℕ
+saved_line name [] = []
+saved_line name (b ∷ bs) = codes "PUNCHED " ++ decimal (length (b ∷ bs)) ++ frames_word (length (b ∷ bs)) ++ name ++ codes "\n"
+
+-- The line of what was punched: the bytes, or their number where they go to a file.
+abbrev pub punched_line : Option (Bor (List ℕ)) → List ℕ → List ℕ
+punched_line None bytes = output_line (codes "PUNCHED") bytes
+punched_line (Some name) bytes = saved_line name.now bytes
+
+-- The line of what was printed; nothing where that was seen.
+abbrev pub printed_line : Bool → List ℕ → List ℕ
+printed_line true bytes = []
+printed_line false bytes = output_line (codes "PRINTED") bytes
+
+-- The summary of a run with an operator, of which some was seen or is in a file.
+abbrev pub summary_as : SummaryForm → End → WorldState → ℕ → List ℕ
+summary_as form end w steps =
+    state_line end w steps ++ printed_line form.seen w.devices.printer.output ++ punched_line form.saved_in w.devices.punch.output
+
+-- That summary, and behind it the named cells with their words.
+abbrev pub closing_as : SummaryForm → (ℕ → Bool) → End → WorldState → ℕ → List ℕ
+closing_as form named end w steps = summary_as form end w steps ++ cells_text named w

@@ -18,7 +18,7 @@ use crate::summary::closing_of;
 use bin_tape::Image;
 use command_parts::inputs::{bytes_from, tape_from};
 use command_parts::options::RunOptions;
-pub use command_parts::options::SessionOptions;
+pub use command_parts::options::{SessionOptions, SummaryForm};
 use command_parts::status::{Fault, Status};
 use peripherals::{Event, Operator, Seen, Start, World};
 use std::alloc::Allocator;
@@ -179,13 +179,13 @@ pub(crate) fn operate<A: Allocator, S: Scheduler, W: ByteSink, T: ByteSink>(
 }
 
 /// Runs an image by a schedule, and writes what was punched in the end, also where the run broke
-/// off, and the summary, on a line of its own where it is to stand apart.
+/// off, and the summary in this form.
 pub(crate) fn attend<A: Allocator + Copy, S: Scheduler, W: ByteSink, T: ByteSink, P: ByteSink>(
     alloc: A,
     image: &Image,
     schedule: &mut S,
     options: RunOptions,
-    apart: bool,
+    form: SummaryForm<'_>,
     out: &mut Outputs<W, T, P>,
 ) -> Result<Status, Fault>
     requires writable { W.mark out.old.report ≡ false }
@@ -195,11 +195,11 @@ pub(crate) fn attend<A: Allocator + Copy, S: Scheduler, W: ByteSink, T: ByteSink
     requires few { S.steps_to_come schedule.old < 18446744073709551616 }
     ensures run { IfOk result (λ status.
         WritesAll (λ text printed punched.
-        IsHeld (S.brings schedule.old) options apart Whole image.now text printed punched status)
+        IsHeld (S.brings schedule.old) options form.entry Whole image.now text printed punched status)
         (taken (W.taken out.old.report) (T.taken out.old.teletype) (P.taken out.old.punch))
         (taken (W.taken out.new.report) (T.taken out.new.teletype) (P.taken out.new.punch))) }
     ensures front { OnErr result (FrontsOf
-        (IsPartOf (S.brings schedule.old) options apart (W.mark out.new.report)
+        (IsPartOf (S.brings schedule.old) options form.entry (W.mark out.new.report)
         (T.mark out.new.teletype) (S.unread schedule.new) image.now)
         (failures (W.mark out.new.report) (T.mark out.new.teletype) (P.mark out.new.punch))
         (taken (W.taken out.old.report) (T.taken out.old.teletype) (P.taken out.old.punch))
@@ -220,7 +220,7 @@ pub(crate) fn attend<A: Allocator + Copy, S: Scheduler, W: ByteSink, T: ByteSink
     let ran = operate(&mut world, schedule, options.trace, report, teletype);
     put(punch, world.punched())?;
     let outcome = ran?;
-    let text = closing_of(alloc, &outcome, &world, apart, &options.show)?;
+    let text = closing_of(alloc, &outcome, &world, &form, &options.show)?;
     put(report, &text)?;
     Ok(status_of(outcome.end))
 }
@@ -232,7 +232,8 @@ fn are_few(rounds: u32)
 
 /// Runs a tape with an operator: the frames of one source are in the reader, the bytes of another
 /// are the keys, and both are read before the run, as many bytes as there are rounds. What is
-/// printed is typed as characters, what is punched is written as it is, and the trace, if it is asked for, and the summary are the report. The run ends early as that of
+/// printed is typed as characters, what is punched is written as it is, and the trace, if it is asked
+/// for, and the summary, in the form that is asked for, are the report. The run ends early as that of
 /// `run`.
 ///
 /// # Errors
@@ -254,6 +255,7 @@ pub fn run_session<
     reader: &mut F,
     keys: &mut K,
     options: SessionOptions,
+    form: SummaryForm<'_>,
     out: &mut Outputs<W, T, P>,
 ) -> Result<Status, Fault>
     requires readable { R.mark tape.old ≡ false }
@@ -264,7 +266,7 @@ pub fn run_session<
     requires punchable { P.mark out.old.punch ≡ false }
     // What is written, typed and punched is that of the run of the events that come.
     ensures run { IfOk result (λ status.
-        WritesAll (IsSession options Whole (R.remaining tape.old) (F.remaining reader.old)
+        WritesAll (IsSession options form.entry Whole (R.remaining tape.old) (F.remaining reader.old)
         (K.remaining keys.old) status)
         (taken (W.taken out.old.report) (T.taken out.old.teletype) (P.taken out.old.punch))
         (taken (W.taken out.new.report) (T.taken out.new.teletype) (P.taken out.new.punch))) }
@@ -274,13 +276,13 @@ pub fn run_session<
         (input (K.mark keys.new) (K.remaining keys.old) (K.remaining keys.new))) }
     // After a fault fronts of what the first events leave went out, and all of it where no write
     // failed, or of the whole with its summary where the report failed; or nothing at all,
-    ensures front { OnErr result (NothingOrFronts options
+    ensures front { OnErr result (NothingOrFronts options form.entry
         (failures (W.mark out.new.report) (T.mark out.new.teletype) (P.mark out.new.punch))
         (R.remaining tape.old) (F.remaining reader.old) (K.remaining keys.old)
         (taken (W.taken out.old.report) (T.taken out.old.teletype) (P.taken out.old.punch))
         (taken (W.taken out.new.report) (T.taken out.new.teletype) (P.taken out.new.punch))) }
     // of which the fronts are sure where a write failed,
-    ensures front_of_failure { fails_to_write result ≡ true → SessionFronts options
+    ensures front_of_failure { fails_to_write result ≡ true → SessionFronts options form.entry
         (failures (W.mark out.new.report) (T.mark out.new.teletype) (P.mark out.new.punch))
         (R.remaining tape.old) (F.remaining reader.old) (K.remaining keys.old)
         (taken (W.taken out.old.report) (T.taken out.old.teletype) (P.taken out.old.punch))
@@ -289,7 +291,7 @@ pub fn run_session<
     ensures broke_off { result ≡ Err NoMemory →
         HasCome (input (F.mark reader.new) (F.remaining reader.old) (F.remaining reader.new))
         ⊎ (HasCome (input (K.mark keys.new) (K.remaining keys.old) (K.remaining keys.new))
-        ⊎ SessionFronts options
+        ⊎ SessionFronts options form.entry
         (failures (W.mark out.new.report) (T.mark out.new.teletype) (P.mark out.new.punch))
         (R.remaining tape.old) (F.remaining reader.old) (K.remaining keys.old)
         (taken (W.taken out.old.report) (T.taken out.old.teletype) (P.taken out.old.punch))
@@ -331,5 +333,5 @@ pub fn run_session<
         options.mark,
     );
     are_few(options.run.rounds);
-    attend(alloc, &image, &mut operator, options.run, false, out)
+    attend(alloc, &image, &mut operator, options.run, form, out)
 }

@@ -8,9 +8,10 @@ ghost use Rattle.peripherals.specs.World.{view};
 ghost use Rattle.command_parts.specs.LinkText.{link_text};
 ghost use Rattle.machine_commands.specs.Schedule.{Whole};
 ghost use Rattle.machine_commands.specs.Session.{character, leaves_open, parting, summary_where};
-ghost use Rattle.machine_commands.specs.Summary.{end_text, registers_text, state_line, byte_text, bytes_text, output_line, summary, cell_line, cells_below, cells_text, closing};
+ghost use Rattle.machine_commands.specs.Summary.{end_text, registers_text, state_line, byte_text, bytes_text, output_line, summary, cell_line, cells_below, cells_text, closing, closing_as, frames_word, printed_line, punched_line, saved_line, summary_as};
 
 use crate::follow::{End, RunOutcome};
+use command_parts::options::SummaryForm;
 use command_parts::text::{push_place, push_word};
 use itoa::Buffer;
 use peripherals::World;
@@ -232,20 +233,116 @@ fn parting(apart: bool, printed: &[u8]) -> &'static [u8]
     if leaves_open(printed) { b"\n" } else { b"" }
 }
 
+/// Adds a number in decimal digits.
+fn push_decimal<A: Allocator>(text: &mut Vec<u8, A>, number: usize) -> Result<(), AllocError>
+    ensures { OnOk result (text.new.items ≡ text.old.items ++ decimal number) }
+{
+    let mut digits = Buffer::new();
+    text.extend_from_slice(digits.format(number).as_bytes())
+}
+
+/// The word for so many frames.
+fn frames_word(count: usize) -> &'static [u8]
+    ensures { result.now ≡ frames_word count }
+{
+    if count == 1 {
+        b" frame to "
+    } else {
+        b" frames to "
+    }
+}
+
+/// Adds how many frames were punched into the file with this name, if any were.
+fn push_saved<A: Allocator>(
+    text: &mut Vec<u8, A>,
+    name: &str,
+    bytes: &[u8],
+) -> Result<(), AllocError>
+    ensures { OnOk result (text.new.items ≡ text.old.items ++ saved_line name.now bytes.now) }
+{
+    if bytes.is_empty() {
+        return Ok(());
+    }
+    text.extend_from_slice(b"PUNCHED ")?;
+    push_decimal(text, bytes.len())?;
+    text.extend_from_slice(frames_word(bytes.len()))?;
+    text.extend_from_slice(name.as_bytes())?;
+    text.extend_from_slice(b"\n")
+}
+
+/// Adds the line of what was punched, into a file or not.
+fn push_punched<A: Allocator>(
+    text: &mut Vec<u8, A>,
+    saved_in: Option<&str>,
+    bytes: &[u8],
+) -> Result<(), AllocError>
+    ensures { OnOk result (text.new.items ≡ text.old.items ++ punched_line saved_in.entry bytes.now) }
+{
+    match saved_in {
+        None => push_output(text, b"PUNCHED", bytes),
+        Some(name) => push_saved(text, name, bytes),
+    }
+}
+
+/// Adds the line of what was printed, unless it was seen.
+fn push_printed<A: Allocator>(
+    text: &mut Vec<u8, A>,
+    seen: bool,
+    bytes: &[u8],
+) -> Result<(), AllocError>
+    ensures { OnOk result (text.new.items ≡ text.old.items ++ printed_line seen bytes.now) }
+{
+    if seen {
+        Ok(())
+    } else {
+        push_output(text, b"PRINTED", bytes)
+    }
+}
+
+/// Adds the summary of a run with an operator.
+fn push_summary_as<A: Allocator, B: Allocator>(
+    text: &mut Vec<u8, A>,
+    form: &SummaryForm<'_>,
+    outcome: &RunOutcome,
+    world: &World<B>,
+) -> Result<(), AllocError>
+    ensures { OnOk result (text.new.items ≡ text.old.items
+        ++ summary_as form.now outcome.now.end (view world.now) outcome.now.steps) }
+{
+    push_state(text, outcome, world)?;
+    push_printed(text, form.seen, world.printed())?;
+    push_punched(text, form.saved_in, world.punched())
+}
+
+/// Adds the summary of a run with an operator, and behind it the cells that are to be shown.
+fn push_closing_as<A: Allocator, B: Allocator>(
+    text: &mut Vec<u8, A>,
+    form: &SummaryForm<'_>,
+    outcome: &RunOutcome,
+    world: &World<B>,
+    show: &WordSet,
+) -> Result<(), AllocError>
+    ensures { OnOk result (text.new.items ≡ text.old.items ++ closing_as form.now
+        (words show.now) outcome.now.end (view world.now) outcome.now.steps) }
+{
+    push_summary_as(text, form, outcome, world)?;
+    push_shown(text, show, world)
+}
+
 /// The end of a report: the summary, on a line of its own where it is to stand apart, and the cells that
 /// are to be shown.
 pub(crate) fn closing_of<A: Allocator, B: Allocator>(
     alloc: A,
     outcome: &RunOutcome,
     world: &World<B>,
-    apart: bool,
+    form: &SummaryForm<'_>,
     show: &WordSet,
 ) -> Result<Vec<u8, A>, AllocError>
-    ensures { IfOk result (λ text. text.items ≡ summary_where (words show.now) apart Whole
+    ensures { IfOk result (λ text. text.items ≡ summary_where (words show.now) form.now Whole
         outcome.now.end (view world.now) outcome.now.steps) }
 {
     let mut text = Vec::new(alloc);
-    text.extend_from_slice(parting(apart, world.printed()))?;
-    push_closing(&mut text, outcome, world, show)?;
+    text.extend_from_slice(parting(form.apart, world.printed()))?;
+    push_closing_as(&mut text, form, outcome, world, show)?;
     Ok(text)
 }

@@ -11,7 +11,7 @@ pub use crate::session::Outputs;
 use crate::session::attend;
 pub use crate::typist::{Manner, TeletypeOptions, Typist};
 use command_parts::inputs::tape_from;
-use command_parts::options::RunOptions;
+use command_parts::options::{RunOptions, SummaryForm};
 use command_parts::status::{Fault, Status};
 use std::alloc::Allocator;
 use streams::{ByteSink, ByteSource};
@@ -32,7 +32,7 @@ fn run_of(options: TeletypeOptions) -> RunOptions
 /// Runs a tape with somebody at the teletype. A key is struck in a round whose instruction asked for one:
 /// a KSF that found the keyboard's flag clear. Each frame and each key is read when it is due, and what
 /// was printed until then is typed before it. What is punched is written when the session is over, also
-/// where it broke off, and then the summary, on a line of its own. The session ends early at a halt, at an
+/// where it broke off, and then the summary in the form that is asked for. The session ends early at a halt, at an
 /// unsupported word, and where a key is asked for and none is left.
 ///
 /// # Errors
@@ -51,6 +51,7 @@ pub fn teletype<
     alloc: A,
     tape: &mut R,
     typist: &mut Typist<F, K>,
+    form: SummaryForm<'_>,
     out: &mut Outputs<W, T, P>,
 ) -> Result<Status, Fault>
     requires readable { R.mark tape.old ≡ false }
@@ -61,7 +62,7 @@ pub fn teletype<
     requires punchable { P.mark out.old.punch ≡ false }
     // What is written, typed and punched is that of the run of the events that come.
     ensures run { IfOk result (λ status.
-        WritesAll (IsTyped typist.old.options Whole (R.remaining tape.old)
+        WritesAll (IsTyped typist.old.options form.entry Whole (R.remaining tape.old)
         (F.remaining typist.old.reader) (K.remaining typist.old.keys) status)
         (taken (W.taken out.old.report) (T.taken out.old.teletype) (P.taken out.old.punch))
         (taken (W.taken out.new.report) (T.taken out.new.teletype) (P.taken out.new.punch))) }
@@ -71,7 +72,7 @@ pub fn teletype<
     // no write failed: also where a read of a frame or a key failed, what was printed before is typed, and
     // what was punched before is written.
     ensures front { IfErr result (λ fault. (is_fault_of_tape fault ≡ true) ⊎ ((R.mark tape.new ≡ true)
-        ⊎ TypedFronts typist.old.options
+        ⊎ TypedFronts typist.old.options form.entry
         (failures (W.mark out.new.report) (T.mark out.new.teletype) (P.mark out.new.punch))
         (F.mark typist.new.reader || K.mark typist.new.keys)
         (R.remaining tape.old) (F.remaining typist.old.reader) (K.remaining typist.old.keys)
@@ -97,5 +98,5 @@ pub fn teletype<
     let image = tape_from(tape)?;
     let options = run_of(typist.options());
     typist.begin();
-    attend(alloc, &image, typist, options, true, out)
+    attend(alloc, &image, typist, options, form, out)
 }

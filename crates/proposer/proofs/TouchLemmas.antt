@@ -10,17 +10,17 @@ use Rattle.wordset.specs.declared.iter.Iter.{Iter}
 use Rattle.wordset.proofs.IterLemmas.{Gathered, all_gathered}
 use Rattle.wordset.proofs.Tests.{IsSome, and_both, and_first, and_second, some_from, some_none_of, some_to}
 use Rattle.declaration.specs.Declaration.{IsDeclared, Routine}
-use Rattle.domain.specs.Sums.Facts.{Fact, Place, Rules, OfEquations, OfSums}
-use Rattle.domain.specs.Sums.FactInCode.{nothing_known}
-use Rattle.facts.specs.Sums.Landing.{fact_at}
-use Rattle.facts.specs.Sums.PlaceInCode.{meaning_in}
-use Rattle.facts.specs.Sums.References.{possible}
-use Rattle.facts.proofs.Sums.SplitLemmas.{fact_dropped}
-use Rattle.certificate.specs.Sums.Certificate.{Certificate}
-use Rattle.judge.specs.Sums.Asked.{asked_of}
-use Rattle.judge.specs.Sums.Conditions.{HasSites, IsPlaced}
-use Rattle.judge.specs.Sums.Landing.{Case, place_in, sites_of}
-use Rattle.judge.proofs.Sums.AskedLemmas.{asked_of_first, nothing_asked}
+use Rattle.domain.specs.Facts.{Fact, Place, Rules, OfEquations, OfSums}
+use Rattle.domain.specs.FactInCode.{nothing_known}
+use Rattle.facts.specs.Landing.{fact_at}
+use Rattle.facts.specs.PlaceInCode.{meaning_in}
+use Rattle.facts.specs.References.{possible}
+use Rattle.facts.proofs.SplitLemmas.{fact_dropped}
+use Rattle.certificate.specs.Certificate.{Certificate}
+use Rattle.judge.specs.Asked.{asked_of}
+use Rattle.judge.specs.Conditions.{HasSites, IsPlaced}
+use Rattle.judge.specs.Landing.{Case, place_in, sites_of}
+use Rattle.judge.proofs.AskedLemmas.{asked_of_first, nothing_asked}
 use Rattle.proposer.specs.Needed.{IsReadBy, IsReadSomewhere, SomeFact}
 use Rattle.proposer.specs.Touched.{IsTouched, IsTouchedAt, IsTouchedBy, IsTouchedBySome, IsTouchedFrom, has_line, is_own, touches}
 use Rattle.proposer.specs.declared.variables.Access.{Access}

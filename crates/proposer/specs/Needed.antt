@@ -2,11 +2,11 @@
 use Rattle.std.specs.Prelude.{ℕ, ◌≡◌, ◌<◌, ◌⊎◌, true, Some, List, [], ◌∷◌}
 use Rattle.wordset.specs.Words.{Words}
 use Rattle.declaration.specs.Declaration.{Routine}
-use Rattle.domain.specs.Sums.Facts.{Fact, Place}
-use Rattle.facts.specs.Sums.Conditions.{may_read}
-use Rattle.facts.specs.Sums.PlaceInCode.{meaning_in}
-use Rattle.facts.specs.Sums.References.{possible}
-use Rattle.judge.specs.Sums.Landing.{Case, asked_at, place_in}
+use Rattle.domain.specs.Facts.{Fact, Place}
+use Rattle.facts.specs.Conditions.{may_read}
+use Rattle.facts.specs.PlaceInCode.{meaning_in}
+use Rattle.facts.specs.References.{possible}
+use Rattle.judge.specs.Landing.{Case, asked_at, place_in}
 
 -- Some fact of the list has the property.
 abbrev pub SomeFact : (Fact → Type 0) → List Fact → Type 0

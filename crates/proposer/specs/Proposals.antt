@@ -6,15 +6,15 @@ use Rattle.declaration.specs.Declaration.{IsDeclared}
 use Rattle.declaration.specs.Kept.{Kept, meaning, routines_of}
 use Rattle.declaration.specs.Text.{Declares, ListsRoutines}
 use Rattle.policy.specs.Runs.{IsSafe}
-use Rattle.certificate.specs.Sums.Kept as certified
-use Rattle.certificate.specs.Sums.Reading.{Text}
-use Rattle.certificate.specs.Sums.Exact.{AreLines}
-use Rattle.judge.specs.Sums.Conditions.{IsValid}
-use Rattle.judge.specs.Sums.Judged.{judged}
+use Rattle.certificate.specs.Kept as certified
+use Rattle.certificate.specs.Reading.{Text}
+use Rattle.certificate.specs.Exact.{AreLines}
+use Rattle.judge.specs.Conditions.{IsValid}
+use Rattle.judge.specs.Judged.{judged}
 use Rattle.declaration.specs.declared.DeclarationFault.TheVariants as declaration_fault
 use Rattle.proposer.specs.Needed.{ReadsAreNeeded}
 use Rattle.turns.specs.Counts.{Count}
-use Rattle.analyser.specs.Versions.{version_of}
+use Rattle.analyser.specs.Versions.{IsVersionFor}
 use Rattle.proposer.specs.declared.Proposal.{Proposal}
 use Rattle.proposer.specs.declared.Verdict.{Verdict}
 use Rattle.turns.specs.declared.ProposeFault.{ProposeFault}
@@ -30,9 +30,9 @@ pub record Fits {A : Type 0} (at : ℕ) (machine : Profile) (p : Proposal A) : T
   pub text : Declares p.text.items (meaning p.declaration)
   pub routines : ListsRoutines p.text.items (routines_of p.declaration)
 
--- A certificate in the version of the declared machine.
+-- A certificate in the version of the declared machine, or in version 3.
 abbrev pub IsFor : Kept → Text → Type 0
-IsFor d text = AreLines text × (text.version ≡ version_of (meaning d).profile)
+IsFor d text = AreLines text × IsVersionFor (meaning d).profile text.version
 
 -- A certificate is found.
 abbrev pub is_safe : {A : Type 0} → Verdict A → Bool

@@ -3,14 +3,14 @@ use Rattle.std.specs.Prelude.{ℕ, ◌≡◌, ◌<◌, ◌==◌, Bool, true, fal
 use Rattle.instruct.specs.Instructions.{Meaning}
 use Rattle.wordset.specs.Words.{Words}
 use Rattle.declaration.specs.Declaration.{Routine}
-use Rattle.domain.specs.Sums.Facts.{Fact, Place}
-use Rattle.facts.specs.Sums.Conditions.{may_read, may_write}
-use Rattle.facts.specs.Sums.Landing.{fact_at}
-use Rattle.facts.specs.Sums.PlaceInCode.{meaning_in}
-use Rattle.facts.specs.Sums.References.{possible}
-use Rattle.certificate.specs.Sums.Certificate.{Certificate}
-use Rattle.judge.specs.Sums.Asked.{asked_of}
-use Rattle.judge.specs.Sums.Landing.{Case, asked_at, place_in}
+use Rattle.domain.specs.Facts.{Fact, Place}
+use Rattle.facts.specs.Conditions.{may_read, may_write}
+use Rattle.facts.specs.Landing.{fact_at}
+use Rattle.facts.specs.PlaceInCode.{meaning_in}
+use Rattle.facts.specs.References.{possible}
+use Rattle.certificate.specs.Certificate.{Certificate}
+use Rattle.judge.specs.Asked.{asked_of}
+use Rattle.judge.specs.Landing.{Case, asked_at, place_in}
 use Rattle.proposer.specs.Needed.{SomeFact}
 use Rattle.proposer.specs.declared.variables.Access.{Access}
 use Rattle.proposer.specs.declared.variables.Access.TheVariants.{Write, Read}

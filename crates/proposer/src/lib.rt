@@ -2,13 +2,13 @@
 #![tactic(auto)]
 
 ghost use Rattle.std.specs.Prelude.{ℕ, ◌≡◌, ◌≢◌, ◌≤◌, List, Option, IfOk, IfErr, None, is_some, true};
-ghost use Rattle.analyser.specs.Versions.{version_of};
+ghost use Rattle.analyser.specs.Versions.{IsVersionFor};
 ghost use Rattle.turns.specs.declared.GuessFault.TheVariants as guess_fault;
-ghost use Rattle.certificate.specs.Sums.Kept as certified;
-ghost use Rattle.certificate.specs.Sums.Exact.{AreLines};
+ghost use Rattle.certificate.specs.Kept as certified;
+ghost use Rattle.certificate.specs.Exact.{AreLines};
 ghost use Rattle.declaration.specs.Kept.{Kept, meaning, routines_of};
 ghost use Rattle.declaration.specs.Text.{Declares, ListsRoutines};
-ghost use Rattle.judge.specs.Sums.Judged.{judged};
+ghost use Rattle.judge.specs.Judged.{judged};
 ghost use Rattle.proposer.specs.Needed.{ReadsAreNeeded};
 ghost use Rattle.proposer.specs.declared.Verdict.TheVariants.{TurnsSpent};
 ghost use Rattle.proposer.specs.Proposals.{AreNeeded, Fits, IsListed, IsShown, IsSpentUp, IsTold, is_safe};
@@ -414,8 +414,8 @@ fn accepted<A: Allocator + Copy>(
     certificate: Certificate<A>,
 ) -> Result<Verdict<A>, ProposeFault>
     requires lines { AreLines (certified.meaning certificate) }
-    requires version { (certified.meaning certificate).version ≡
-        version_of (meaning declaration.now).profile }
+    requires version { IsVersionFor (meaning declaration.now).profile
+        (certified.meaning certificate).version }
     ensures shown { IfOk result (IsShown image.now declaration.now) }
     ensures listed { (d : Kept) → is_some (meaning d).reads ≡ true → IfOk result (IsListed d) }
     ensures needed { ReadsAreNeeded

@@ -2,11 +2,11 @@
 
 ghost use Rattle.std.specs.Prelude.{ℕ, ◌≡◌, ◌<◌, ◌↔◌, ◌&&◌, not, true, length};
 ghost use Rattle.wordset.specs.Lanes.{words};
-ghost use Rattle.domain.specs.Sums.FactInCode.{fact_in_code};
-ghost use Rattle.facts.specs.Sums.PlaceInCode.{meaning_in, place_in_code};
-ghost use Rattle.certificate.specs.Sums.Kept.{claims};
-ghost use Rattle.judge.specs.Sums.Bodies.{Tells};
-ghost use Rattle.judge.specs.Sums.Judged.{case_kept, judged};
+ghost use Rattle.domain.specs.FactInCode.{fact_in_code};
+ghost use Rattle.facts.specs.PlaceInCode.{meaning_in, place_in_code};
+ghost use Rattle.certificate.specs.Kept.{claims};
+ghost use Rattle.judge.specs.Bodies.{Tells};
+ghost use Rattle.judge.specs.Judged.{case_kept, judged};
 ghost use Rattle.proposer.specs.Needed.{ReadsAreNeeded};
 ghost use Rattle.proposer.specs.Touched.{IsTouched, IsTouchedAt, IsTouchedBy, IsTouchedBySome, IsTouchedFrom, is_own, touches};
 ghost use Rattle.proposer.specs.declared.variables.Access.TheVariants.{Read};

@@ -4,17 +4,17 @@ use Rattle.std.proofs.lemmas.Bool.{cases_lt, false≢true, true≢false}
 use Rattle.instruct.specs.Instructions.{Meaning, meaning_of}
 use Rattle.wordset.specs.Words.{how_many}
 use Rattle.declaration.specs.Declaration.{Routine, IsDeclared}
-use Rattle.domain.specs.Sums.Facts.{Fact, last_site}
-use Rattle.facts.specs.Sums.Conditions.{called}
-use Rattle.facts.specs.Sums.Landing.{fact_at}
-use Rattle.facts.specs.Sums.Operations.{outcomes_of}
-use Rattle.facts.specs.Sums.Outcomes.{Successor, Goes, CallsTo, Returns}
-use Rattle.facts.specs.Sums.References.{possible}
+use Rattle.domain.specs.Facts.{Fact, last_site}
+use Rattle.facts.specs.Conditions.{called}
+use Rattle.facts.specs.Landing.{fact_at}
+use Rattle.facts.specs.Operations.{outcomes_of}
+use Rattle.facts.specs.Outcomes.{Successor, Goes, CallsTo, Returns}
+use Rattle.facts.specs.References.{possible}
 use Rattle.facts.specs.declared.Condition.{Condition}
 use Rattle.facts.specs.declared.Condition.TheVariants.{V1, V2, V3, V6, V8}
-use Rattle.certificate.specs.Sums.Certificate.{Certificate}
-use Rattle.judge.specs.Sums.Conditions.{EachFact}
-use Rattle.judge.specs.Sums.Landing.{Case, EachSuccessor, exits_of, place_in}
+use Rattle.certificate.specs.Certificate.{Certificate}
+use Rattle.judge.specs.Conditions.{EachFact}
+use Rattle.judge.specs.Landing.{Case, EachSuccessor, exits_of, place_in}
 use Rattle.reasons.specs.Breaches.{Breaks, CallBreaks, MissesAfter, OutcomeMisses, ReturnBreaks, SomeOutcome, condition_of, condition_of_call}
 use Rattle.reasons.specs.Keeping.{Arrives, ArrivesWith, EachArrivesWith, FactsKeep, IsLowerIfListed, Keeps, KeepsCall, KeptOrUnowned, OutcomeArrives, ReturnsAsDeclared, ReturnsThrough, WordsKeep}
 use Rattle.reasons.specs.Landing.{Misses}

@@ -5,21 +5,21 @@ use Rattle.std.proofs.lemmas.Bool.{true≢false}
 use Rattle.instruct.specs.Instructions.{Meaning, Jms, Jmp, meaning_of}
 use Rattle.wordset.specs.Words.{Words}
 use Rattle.declaration.specs.Declaration.{Routine, IsDeclared, IsListed}
-use Rattle.domain.specs.Sums.Facts.{Fact}
-use Rattle.facts.specs.Conditions.{calls_through_index, returned_through}
-use Rattle.facts.specs.Sums.Conditions.{called}
-use Rattle.facts.specs.Sums.Operations.{outcomes_of}
-use Rattle.facts.specs.Sums.Outcomes.{Successor, Goes, CallsTo, Returns}
+use Rattle.domain.specs.Facts.{Fact}
+use Rattle.facts.specs.Instructions.{calls_through_index, returned_through}
+use Rattle.facts.specs.Conditions.{called}
+use Rattle.facts.specs.Operations.{outcomes_of}
+use Rattle.facts.specs.Outcomes.{Successor, Goes, CallsTo, Returns}
 use Rattle.facts.specs.declared.Condition.{Condition}
 use Rattle.facts.specs.declared.Condition.TheVariants.{V1, V2, V3, V4, V5, V6, V7, V8, V9, V10, V11, V12, V13, V14, V15}
-use Rattle.certificate.specs.Sums.Certificate.{Certificate}
-use Rattle.judge.specs.Asked.{asks_few}
-use Rattle.judge.specs.Conditions.{order, place_among}
-use Rattle.judge.specs.Sums.Asked.{HoldsOfFact, asked_of}
-use Rattle.judge.specs.Sums.Conditions.{EachFact, EachTarget, HoldsAt, HoldsFor, IsAskedAs, IsFirst, IsLower, IsPlaced, KeepsPointer, LinesArePlaced, ReturnsWell}
-use Rattle.judge.specs.Sums.Landing.{Case, EachLandsAfter, EachSuccessor, SuccessorLands, exits_of, place_in}
-use Rattle.judge.proofs.Sums.AskedLemmas.{holds_at, none_hold}
-use Rattle.judge.proofs.Sums.OrderLemmas.{IsLater, order_of, start_or_later}
+use Rattle.certificate.specs.Certificate.{Certificate}
+use Rattle.judge.specs.FewWords.{asks_few}
+use Rattle.judge.specs.ConditionOrder.{order, place_among}
+use Rattle.judge.specs.Asked.{HoldsOfFact, asked_of}
+use Rattle.judge.specs.Conditions.{EachFact, EachTarget, HoldsAt, HoldsFor, IsAskedAs, IsFirst, IsLower, IsPlaced, KeepsPointer, LinesArePlaced, ReturnsWell}
+use Rattle.judge.specs.Landing.{Case, EachLandsAfter, EachSuccessor, SuccessorLands, exits_of, place_in}
+use Rattle.judge.proofs.AskedLemmas.{holds_at, none_hold}
+use Rattle.judge.proofs.OrderLemmas.{IsLater, order_of, start_or_later}
 use Rattle.reasons.specs.Keeping.{EachArrivesWith, FactsKeep, IsLowerIfListed, Keeps, KeptOrUnowned, OutcomeArrives, ReturnsThrough, WordsKeep}
 use Rattle.reasons.specs.declared.reason.Reason.{Reason}
 

@@ -4,19 +4,19 @@ use Rattle.std.specs.Prelude.{◌↔◌, if◌then◌else◌, ◌==◌}
 use Rattle.std.proofs.Math.ListN.{drop_of_length-le}
 use Rattle.std.proofs.lemmas.Bool.{and_parts}
 use Rattle.wordset.specs.Words.{Words, IsWithin, IsLinkWithin}
-use Rattle.domain.specs.Facts.{Ac, Cell}
-use Rattle.domain.specs.Statements.{TrackedCell, tracked}
-use Rattle.domain.specs.Sums.CellsInCode.{cell_set_of}
-use Rattle.domain.specs.Sums.Chains.{Chain}
-use Rattle.domain.specs.Sums.ChainsInCode.{chain_of}
-use Rattle.domain.specs.Sums.FactInCode.{names_words}
-use Rattle.domain.specs.Sums.Facts.{Fact, Place}
-use Rattle.domain.specs.Sums.Narrowing.{words_known}
+use Rattle.domain.specs.Locations.{Ac, Cell}
+use Rattle.domain.specs.TrackedCells.{TrackedCell, tracked}
+use Rattle.domain.specs.CellsInCode.{cell_set_of}
+use Rattle.domain.specs.Chains.{Chain}
+use Rattle.domain.specs.ChainsInCode.{chain_of}
+use Rattle.domain.specs.FactInCode.{names_words}
+use Rattle.domain.specs.Facts.{Fact, Place}
+use Rattle.domain.specs.Narrowing.{words_known}
 use Rattle.domain.specs.declared.cell_sets.CellSet.{CellSet}
 use Rattle.domain.specs.declared.chains.Chain.{Chain as CodeChain}
-use Rattle.facts.specs.Sums.Entailing.{EachWithin, EntailsRegisters, GivesAllowed}
-use Rattle.facts.specs.Sums.Entailment.{Entails, KnowsAll, ShowsChain, ShowsChains}
-use Rattle.facts.proofs.Sums.ShowingLemmas.{entails_iff, entry_here}
+use Rattle.facts.specs.Entailing.{EachWithin, EntailsRegisters, GivesAllowed}
+use Rattle.facts.specs.Entailment.{Entails, KnowsAll, ShowsChain, ShowsChains}
+use Rattle.facts.proofs.ShowingLemmas.{entails_iff, entry_here}
 use Rattle.reasons.specs.Gaps.{IsLinkBeyond}
 
 pub link_gap : {s t u v : Words} {l : ℕ} → s ≡ u → t ≡ v → IsLinkBeyond s t l → IsLinkBeyond u v l

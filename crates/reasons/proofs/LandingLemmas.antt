@@ -1,17 +1,17 @@
 -- Where a fact lands, and why it does not.
 use Rattle.std.proofs.Common.{◌≡◌, ℕ, ◌+◌, ◌<◌, arith, Bool, true, false, Option, Some, None, List, [], ◌∷◌, ◌++◌, length, inl, inr, sym, ap, ◌∙◌, subst}
 use Rattle.std.specs.Prelude.{IfSome, IsTrue, ◌↔◌}
-use Rattle.judge.proofs.Sums.LineLemmas.{start_iff}
+use Rattle.judge.proofs.LineLemmas.{start_iff}
 use Rattle.std.proofs.lemmas.Bool.{cases_eq, cases_lt, true≢false}
 use Rattle.declaration.specs.Declaration.{IsDeclared, Routine}
-use Rattle.facts.specs.Sums.Starts.{start_fact}
+use Rattle.facts.specs.Starts.{start_fact}
 use Rattle.reasons.proofs.ReasonLemmas.{left_here}
-use Rattle.domain.specs.Sums.Facts.{Fact, Place}
-use Rattle.facts.specs.Sums.Entailment.{Entails, EntailsOne, IsIdle, Lands}
-use Rattle.facts.specs.Sums.Landing.{fact_at}
-use Rattle.facts.specs.Sums.Outcomes.{Successor}
-use Rattle.judge.specs.Sums.Landing.{Case, EachSuccessor, LandsAt, exits_of, facts_in, place_in}
-use Rattle.domain.specs.Sums.Moves.{joined}
+use Rattle.domain.specs.Facts.{Fact, Place}
+use Rattle.facts.specs.Entailment.{Entails, EntailsOne, IsIdle, Lands}
+use Rattle.facts.specs.Landing.{fact_at}
+use Rattle.facts.specs.Outcomes.{Successor}
+use Rattle.judge.specs.Landing.{Case, EachSuccessor, LandsAt, exits_of, facts_in, place_in}
+use Rattle.domain.specs.Moves.{joined}
 use Rattle.wordset.specs.Words.{Words, plus}
 use Rattle.reasons.specs.Breaches.{MissesAfter, SomeOutcome}
 use Rattle.reasons.specs.Keeping.{Arrives}

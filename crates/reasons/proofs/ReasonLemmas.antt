@@ -7,24 +7,24 @@ use Rattle.std.proofs.lemmas.Bool.{true≢false, eqb-true, eq-eqb}
 use Rattle.wordset.specs.Words.{Words, some_below}
 use Rattle.wordset.proofs.Tests.{none_of_some}
 use Rattle.declaration.specs.Declaration.{Routine}
-use Rattle.domain.specs.Facts.{Location, Ac, Cell}
-use Rattle.domain.specs.Sums.Chains.{Chain, gives}
-use Rattle.domain.specs.Sums.ChainsInCode.{chain_of}
+use Rattle.domain.specs.Locations.{Location, Ac, Cell}
+use Rattle.domain.specs.Chains.{Chain, gives}
+use Rattle.domain.specs.ChainsInCode.{chain_of}
 use Rattle.domain.specs.declared.chains.Chain.{Chain as CodeChain}
-use Rattle.domain.specs.Sums.Narrowing.{words_known}
-use Rattle.facts.specs.Sums.Entailing.{GivesIfAllowed}
-use Rattle.domain.specs.Sums.Facts.{Relation, Fact, Place}
-use Rattle.domain.specs.Sums.RelationsInCode.{relation_of}
+use Rattle.domain.specs.Narrowing.{words_known}
+use Rattle.facts.specs.Entailing.{GivesIfAllowed}
+use Rattle.domain.specs.Facts.{Relation, Fact, Place}
+use Rattle.domain.specs.RelationsInCode.{relation_of}
 use Rattle.domain.specs.declared.relations.Relation.{Relation as CodeRelation}
-use Rattle.facts.specs.Conditions.{MayWrite}
-use Rattle.facts.specs.Sums.Entailment.{EachGives, KnowsAll, TakesWord}
+use Rattle.facts.specs.Instructions.{MayWrite}
+use Rattle.facts.specs.Entailment.{EachGives, KnowsAll, TakesWord}
 use Rattle.facts.proofs.EntailLemmas.{drop_item}
-use Rattle.facts.specs.Sums.Landing.{fact_at}
-use Rattle.facts.proofs.Sums.SplitLemmas.{TakenSoFar, fact_dropped}
-use Rattle.certificate.specs.Sums.Certificate.{Certificate, writes_of}
-use Rattle.judge.specs.Sums.Conditions.{Covers, CoversCallee, EachFact, IsPlaced}
-use Rattle.judge.specs.Sums.Landing.{Case, facts_in, place_in}
-use Rattle.judge.specs.Sums.Bodies.{IsOfBody}
+use Rattle.facts.specs.Landing.{fact_at}
+use Rattle.facts.proofs.SplitLemmas.{TakenSoFar, fact_dropped}
+use Rattle.certificate.specs.Certificate.{Certificate, writes_of}
+use Rattle.judge.specs.Conditions.{Covers, CoversCallee, EachFact, IsPlaced}
+use Rattle.judge.specs.Landing.{Case, facts_in, place_in}
+use Rattle.judge.specs.Bodies.{IsOfBody}
 use Rattle.reasons.specs.Landing.{ExcludesOne, IsLeft, IsLeftAt}
 use Rattle.reasons.specs.declared.breach.Landing.{Landing}
 use Rattle.reasons.specs.declared.breach.Landing.TheVariants.{NoFact, OtherBody, Excluded, ExcludedUnder, NotTaken, NotEntailed}

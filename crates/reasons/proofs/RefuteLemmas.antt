@@ -6,20 +6,20 @@ use Rattle.wordset.specs.Words.{Words, how_many, plus, some_below, has_some}
 use Rattle.wordset.proofs.Tests.{none_of_some}
 use Rattle.processor.specs.Runs.{Image}
 use Rattle.declaration.specs.Declaration.{Routine, IsDeclared}
-use Rattle.domain.specs.Sums.Facts.{Fact, Rules, OfEquations, OfSums, last_site}
-use Rattle.domain.specs.Sums.Adding.{is_void}
-use Rattle.domain.specs.Sums.Narrowing.{narrowed}
-use Rattle.facts.specs.Conditions.{calls_through_index, returned_through}
-use Rattle.facts.specs.Sums.Conditions.{called}
-use Rattle.facts.specs.Sums.Landing.{fact_at}
-use Rattle.facts.specs.Sums.Operations.{outcomes_of}
-use Rattle.facts.specs.Sums.Outcomes.{Successor, Goes, CallsTo, Returns}
-use Rattle.facts.specs.Sums.References.{possible}
+use Rattle.domain.specs.Facts.{Fact, Rules, OfEquations, OfSums, last_site}
+use Rattle.domain.specs.Adding.{is_void}
+use Rattle.domain.specs.Narrowing.{narrowed}
+use Rattle.facts.specs.Instructions.{calls_through_index, returned_through}
+use Rattle.facts.specs.Conditions.{called}
+use Rattle.facts.specs.Landing.{fact_at}
+use Rattle.facts.specs.Operations.{outcomes_of}
+use Rattle.facts.specs.Outcomes.{Successor, Goes, CallsTo, Returns}
+use Rattle.facts.specs.References.{possible}
 use Rattle.facts.specs.declared.Condition.{Condition}
 use Rattle.facts.specs.declared.Condition.TheVariants.{V1, V2, V3, V4, V5, V6, V7, V8, V9, V10, V11, V12, V13, V14, V15}
-use Rattle.certificate.specs.Sums.Certificate.{Certificate, has_exits}
-use Rattle.judge.specs.Sums.Landing.{Case, place_in, sited, with_sites, sites_of, asked, asked_at, LandsAt, SuccessorLands, EachSuccessor, EachLandsAfter, exits_of, called_from, LandsAfter}
-use Rattle.judge.specs.Sums.Conditions.{EachFact, IsPlaced, IsOfMain, HasSites, LinesArePlaced, EachTarget, KeepsPointer, IsLower, MayCall, Covers, CoversCallee, IsSite, MayReturn, ReturnsWell, HoldsFor, HoldsForWords, HoldsAt}
+use Rattle.certificate.specs.Certificate.{Certificate, has_exits}
+use Rattle.judge.specs.Landing.{Case, place_in, sited, with_sites, sites_of, asked, asked_at, LandsAt, SuccessorLands, EachSuccessor, EachLandsAfter, exits_of, called_from, LandsAfter}
+use Rattle.judge.specs.Conditions.{EachFact, IsPlaced, IsOfMain, HasSites, LinesArePlaced, EachTarget, KeepsPointer, IsLower, MayCall, Covers, CoversCallee, IsSite, MayReturn, ReturnsWell, HoldsFor, HoldsForWords, HoldsAt}
 use Rattle.reasons.specs.Breaches.{Breaks, CallBreaks, MissesAfter, OutcomeMisses, ReturnBreaks, SomeOutcome, condition_of, condition_of_call}
 use Rattle.reasons.specs.Reasons.{IsAskedFact, IsMisplaced, IsWrongStart, IsWrongWord, claimed_at}
 use Rattle.reasons.specs.Laws.{ExplainedFails}

@@ -3,14 +3,14 @@ use Rattle.std.proofs.Common.{◌≡◌, ℕ, ◌+◌, ◌<◌, ◌≤◌, Bool,
 use Rattle.std.specs.Prelude.{if◌then◌else◌}
 use Rattle.std.proofs.Math.ListN.{drop_of_length-le}
 use Rattle.declaration.specs.Declaration.{Routine}
-use Rattle.domain.specs.Sums.Facts.{Fact}
-use Rattle.facts.specs.Sums.Landing.{fact_at}
+use Rattle.domain.specs.Facts.{Fact}
+use Rattle.facts.specs.Landing.{fact_at}
 use Rattle.facts.specs.declared.Condition.{Condition}
-use Rattle.facts.proofs.Sums.SplitLemmas.{fact_dropped}
-use Rattle.judge.specs.Sums.Asked.{asked_of}
-use Rattle.judge.specs.Sums.Conditions.{EachFact}
-use Rattle.judge.specs.Sums.Landing.{Case, sites_of}
-use Rattle.judge.proofs.Sums.AskedLemmas.{asked_of_first, each_both, nothing_asked}
+use Rattle.facts.proofs.SplitLemmas.{fact_dropped}
+use Rattle.judge.specs.Asked.{asked_of}
+use Rattle.judge.specs.Conditions.{EachFact}
+use Rattle.judge.specs.Landing.{Case, sites_of}
+use Rattle.judge.proofs.AskedLemmas.{asked_of_first, each_both, nothing_asked}
 use Rattle.reasons.specs.Keeping.{FactsKeep, WordsKeep}
 use Rattle.reasons.specs.Reasons.{HasWrongWord, IsAskedFact, IsWrongWord}
 use Rattle.reasons.specs.declared.reason.Reason.{Reason}

@@ -4,17 +4,17 @@ use Rattle.wordset.specs.Words.{plus}
 use Rattle.instruct.specs.Instructions.{Meaning}
 use Rattle.declaration.specs.Declaration.{Routine, IsListed}
 use Rattle.policy.specs.Rules.{IsSupported, HaltsDeclared}
-use Rattle.domain.specs.Sums.Facts.{Fact, last_site}
-use Rattle.domain.specs.Sums.Moves.{joined}
-use Rattle.facts.specs.Conditions.{MayWrite, calls_through_index, returned_through}
-use Rattle.facts.specs.Sums.Outcomes.{Successor, Goes, CallsTo, Returns}
-use Rattle.facts.specs.Sums.Operations.{outcomes_of}
-use Rattle.facts.specs.Sums.Landing.{fact_at}
-use Rattle.facts.specs.Sums.Conditions.{EntriesAreKept, may_write, may_read, called}
+use Rattle.domain.specs.Facts.{Fact, last_site}
+use Rattle.domain.specs.Moves.{joined}
+use Rattle.facts.specs.Instructions.{MayWrite, calls_through_index, returned_through}
+use Rattle.facts.specs.Outcomes.{Successor, Goes, CallsTo, Returns}
+use Rattle.facts.specs.Operations.{outcomes_of}
+use Rattle.facts.specs.Landing.{fact_at}
+use Rattle.facts.specs.Conditions.{EntriesAreKept, may_write, may_read, called}
 use Rattle.facts.specs.declared.Condition.{Condition}
 use Rattle.facts.specs.declared.Condition.TheVariants.{V3, V4, V5, V6, V7, V8, V9, V10, V11, V12, V13, V14, V15}
-use Rattle.certificate.specs.Sums.Certificate.{writes_of}
-use Rattle.judge.specs.Sums.Landing.{Case, place_in, exits_of, called_from}
+use Rattle.certificate.specs.Certificate.{writes_of}
+use Rattle.judge.specs.Landing.{Case, place_in, exits_of, called_from}
 use Rattle.reasons.specs.Landing.{Misses, MissesExit}
 use Rattle.reasons.specs.declared.breach.Landing.{Landing}
 use Rattle.reasons.specs.declared.breach.CallBreach.{CallBreach}

@@ -1,14 +1,14 @@
 -- What one fact leaves possible and another excludes, where both may have sums and chains.
 use Rattle.std.specs.Prelude.{◌≡◌, ℕ, ◌<◌, true, false, ◌⊎◌, Option, List, [], ◌∷◌}
 use Rattle.wordset.specs.Words.{Words, only}
-use Rattle.domain.specs.Facts.{Ac, Cell}
-use Rattle.domain.specs.Sums.Terms.{Sum}
-use Rattle.domain.specs.Sums.Chains.{Chain, gives}
-use Rattle.domain.specs.Sums.Facts.{Relation, Fact, Place, OfEquations, OfSums}
-use Rattle.domain.specs.Sums.InCode.{sum_of}
-use Rattle.domain.specs.Sums.Knowing.{said_of}
-use Rattle.domain.specs.Sums.Narrowing.{words_known}
-use Rattle.facts.specs.Sums.Entailment.{EachGives, KnowsBy}
+use Rattle.domain.specs.Locations.{Ac, Cell}
+use Rattle.domain.specs.Terms.{Sum}
+use Rattle.domain.specs.Chains.{Chain, gives}
+use Rattle.domain.specs.Facts.{Relation, Fact, Place, OfEquations, OfSums}
+use Rattle.domain.specs.InCode.{sum_of}
+use Rattle.domain.specs.Knowing.{said_of}
+use Rattle.domain.specs.Narrowing.{words_known}
+use Rattle.facts.specs.Entailment.{EachGives, KnowsBy}
 use Rattle.reasons.specs.declared.counterexample.Counterexample.{Counterexample}
 use Rattle.reasons.specs.declared.counterexample.Counterexample.TheVariants as gap
 

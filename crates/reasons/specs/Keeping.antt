@@ -6,21 +6,21 @@ use Rattle.wordset.specs.Words.{Words, how_many, plus}
 use Rattle.wordset.specs.Lanes.{words}
 use Rattle.declaration.specs.Declaration.{Routine}
 use Rattle.policy.specs.Rules.{IsSupported, HaltsDeclared}
-use Rattle.domain.specs.Sums.Facts.{Fact, last_site}
-use Rattle.domain.specs.Sums.Moves.{joined}
-use Rattle.facts.specs.Conditions.{calls_through_index, returned_through}
-use Rattle.facts.specs.Sums.Conditions.{WritesAreDeclared, WritesAreListed, EntriesAreKept, ReadsAreListed, called}
-use Rattle.facts.specs.Sums.Entailment.{IsIdle}
-use Rattle.facts.specs.Sums.Operations.{outcomes_of}
-use Rattle.facts.specs.Sums.Outcomes.{Successor, Goes, CallsTo, Returns}
-use Rattle.facts.specs.Sums.References.{possible}
+use Rattle.domain.specs.Facts.{Fact, last_site}
+use Rattle.domain.specs.Moves.{joined}
+use Rattle.facts.specs.Instructions.{calls_through_index, returned_through}
+use Rattle.facts.specs.Conditions.{WritesAreDeclared, WritesAreListed, EntriesAreKept, ReadsAreListed, called}
+use Rattle.facts.specs.Entailment.{IsIdle}
+use Rattle.facts.specs.Operations.{outcomes_of}
+use Rattle.facts.specs.Outcomes.{Successor, Goes, CallsTo, Returns}
+use Rattle.facts.specs.References.{possible}
 use Rattle.facts.specs.declared.Condition.{Condition}
 use Rattle.facts.specs.declared.Condition.TheVariants.{V3, V4, V5, V6, V7, V8, V9, V10, V11, V12, V13, V14, V15}
-use Rattle.certificate.specs.Sums.Certificate.{Certificate, writes_of}
-use Rattle.judge.specs.Sums.Asked.{asked_of}
-use Rattle.judge.specs.Sums.Conditions.{CoversCallee, EachFact}
-use Rattle.judge.specs.Sums.Landing.{Case, place_in, exits_of, sites_of, called_from, LandsAt, LandsAtExit, EachSuccessor}
-use Rattle.judge.specs.Sums.Points.{case_of, fact_asked}
+use Rattle.certificate.specs.Certificate.{Certificate, writes_of}
+use Rattle.judge.specs.Asked.{asked_of}
+use Rattle.judge.specs.Conditions.{CoversCallee, EachFact}
+use Rattle.judge.specs.Landing.{Case, place_in, exits_of, sites_of, called_from, LandsAt, LandsAtExit, EachSuccessor}
+use Rattle.judge.specs.Points.{case_of, fact_asked}
 use Rattle.judge.specs.declared.body.Body.{Body}
 use Rattle.judge.specs.declared.point.Point.{Point}
 

@@ -1,11 +1,11 @@
 -- Why a fact does not land among others.
 use Rattle.std.specs.Prelude.{◌≡◌, ℕ, ◌<◌, true, false, Some, List, [], ◌∷◌, length}
 use Rattle.declaration.specs.Declaration.{Routine}
-use Rattle.domain.specs.Facts.{Location}
-use Rattle.domain.specs.Meaning.{location_of}
-use Rattle.domain.specs.Sums.Facts.{Fact, Place}
-use Rattle.facts.specs.Sums.Entailment.{PartLands, TakesWord, with_one_link}
-use Rattle.judge.specs.Sums.Landing.{Case, place_in, facts_in, exits_of, LandsAt, LandsAtExit}
+use Rattle.domain.specs.Locations.{Location}
+use Rattle.domain.specs.LocationsInCode.{location_of}
+use Rattle.domain.specs.Facts.{Fact, Place}
+use Rattle.facts.specs.Entailment.{PartLands, TakesWord, with_one_link}
+use Rattle.judge.specs.Landing.{Case, place_in, facts_in, exits_of, LandsAt, LandsAtExit}
 use Rattle.reasons.specs.Gaps.{IsCounterexample}
 use Rattle.reasons.specs.declared.breach.Landing.{Landing}
 use Rattle.reasons.specs.declared.breach.Landing.TheVariants.{NoFact, OtherBody, Excluded, ExcludedUnder, NotTaken, NotEntailed}

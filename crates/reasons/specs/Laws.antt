@@ -2,8 +2,8 @@
 use Rattle.std.specs.Prelude.{ℕ}
 use Rattle.declaration.specs.Declaration.{IsDeclared}
 use Rattle.facts.specs.declared.Condition.{Condition}
-use Rattle.judge.specs.Sums.Landing.{Case}
-use Rattle.judge.specs.Sums.Conditions.{HoldsAt}
+use Rattle.judge.specs.Landing.{Case}
+use Rattle.judge.specs.Conditions.{HoldsAt}
 use Rattle.reasons.specs.Reasons.{Explains}
 use Rattle.reasons.specs.declared.reason.Reason.{Reason}
 

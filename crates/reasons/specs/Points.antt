@@ -2,11 +2,11 @@
 use Rattle.std.specs.Prelude.{◌≡◌, ℕ, Bool, true, false}
 use Rattle.instruct.specs.Instructions.{Meaning, meaning_of}
 use Rattle.facts.specs.declared.Condition.{Condition}
-use Rattle.certificate.specs.Sums.Certificate.{Certificate}
+use Rattle.certificate.specs.Certificate.{Certificate}
 use Rattle.declaration.specs.Declaration.{Routine}
-use Rattle.domain.specs.Sums.Facts.{Fact}
-use Rattle.judge.specs.Sums.Landing.{Case}
-use Rattle.judge.specs.Sums.Points.{case_of, fact_asked}
+use Rattle.domain.specs.Facts.{Fact}
+use Rattle.judge.specs.Landing.{Case}
+use Rattle.judge.specs.Points.{case_of, fact_asked}
 use Rattle.judge.specs.declared.point.Point.{Point}
 use Rattle.reasons.specs.Breaches.{Breaks, CallBreaks, ReturnBreaks, condition_of, condition_of_call}
 use Rattle.reasons.specs.Landing.{Misses}

@@ -3,14 +3,14 @@ use Rattle.std.specs.Prelude.{◌≡◌, ℕ, ◌<◌, true, false, ◌⊎◌, N
 use Rattle.wordset.specs.Words.{has_some, how_many, some_below}
 use Rattle.instruct.specs.Instructions.{meaning_of}
 use Rattle.declaration.specs.Declaration.{Routine}
-use Rattle.domain.specs.Sums.Facts.{Fact, OfSums}
-use Rattle.facts.specs.Sums.Landing.{fact_at}
-use Rattle.facts.specs.Sums.References.{possible}
-use Rattle.facts.specs.Sums.Starts.{start_fact}
+use Rattle.domain.specs.Facts.{Fact, OfSums}
+use Rattle.facts.specs.Landing.{fact_at}
+use Rattle.facts.specs.References.{possible}
+use Rattle.facts.specs.Starts.{start_fact}
 use Rattle.facts.specs.declared.Condition.{Condition}
 use Rattle.facts.specs.declared.Condition.TheVariants.{V1, V2, V3}
-use Rattle.certificate.specs.Sums.Certificate.{names_routine}
-use Rattle.judge.specs.Sums.Landing.{Case, place_in, sited, sites_of, asked}
+use Rattle.certificate.specs.Certificate.{names_routine}
+use Rattle.judge.specs.Landing.{Case, place_in, sited, sites_of, asked}
 use Rattle.reasons.specs.Landing.{Misses}
 use Rattle.reasons.specs.Breaches.{Breaks, condition_of}
 use Rattle.reasons.specs.declared.reason.Reason.{Reason}

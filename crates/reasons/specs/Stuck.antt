@@ -2,7 +2,7 @@
 use Rattle.std.specs.Prelude.{◌≡◌, ◌<◌, ℕ, Bool, true, false}
 use Rattle.facts.specs.declared.Condition.{Condition}
 use Rattle.facts.specs.declared.Condition.TheVariants.{V3, V4, V5, V7, V9, V10, V11, V12, V13, V14, V15}
-use Rattle.judge.specs.Sums.Landing.{Case}
+use Rattle.judge.specs.Landing.{Case}
 use Rattle.judge.specs.declared.judging.Refusal.{Refusal}
 use Rattle.reasons.specs.Reasons.{Explains}
 use Rattle.reasons.specs.declared.breach.Landing.{Landing}

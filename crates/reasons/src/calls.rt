@@ -3,11 +3,11 @@
 ghost use Rattle.std.specs.Prelude.{◌≡◌, ◌<◌, ◌+◌, false, true, IfNone, IfSome};
 ghost use Rattle.wordset.specs.Lanes.{words};
 ghost use Rattle.wordset.specs.Words.{plus};
-ghost use Rattle.domain.specs.Sums.FactInCode.{fact_in_code, rules_of};
-ghost use Rattle.domain.specs.Sums.Facts.{last_site};
-ghost use Rattle.domain.specs.Sums.Moves.{joined};
+ghost use Rattle.domain.specs.FactInCode.{fact_in_code, rules_of};
+ghost use Rattle.domain.specs.Facts.{last_site};
+ghost use Rattle.domain.specs.Moves.{joined};
 ghost use Rattle.facts.specs.declared.Condition.TheVariants.{V7, V8, V9, V10, V11};
-ghost use Rattle.judge.specs.Sums.Points.{IsPoint, case_of, fact_asked};
+ghost use Rattle.judge.specs.Points.{IsPoint, case_of, fact_asked};
 ghost use Rattle.reasons.specs.Keeping.{ArrivesBy, ArrivesWith, IsLowerIfListed, KeepsCallHere, KeepsCallsHere, KeepsHere};
 ghost use Rattle.reasons.specs.Points.{BreaksAs, CallBreaksAs, MissesAs, counts_lines};
 

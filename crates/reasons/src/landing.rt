@@ -2,12 +2,12 @@
 
 ghost use Rattle.std.specs.Prelude.{ℕ, ◌≡◌, ◌<◌, ◌↔◌, true, length, IfNone, IfSome};
 ghost use Rattle.wordset.specs.Lanes.{words};
-ghost use Rattle.domain.specs.Meaning.{location_of};
-ghost use Rattle.domain.specs.Sums.FactInCode.{fact_in_code};
-ghost use Rattle.domain.specs.Sums.Facts as said;
-ghost use Rattle.facts.specs.Sums.Entailment.{EntailsOne, Lands, LandsBy, PartLands, TakesWord, with_one_link};
-ghost use Rattle.facts.specs.Sums.PartInCode.{part_in_code};
-ghost use Rattle.facts.specs.Sums.PlaceInCode.{place_in_code};
+ghost use Rattle.domain.specs.LocationsInCode.{location_of};
+ghost use Rattle.domain.specs.FactInCode.{fact_in_code};
+ghost use Rattle.domain.specs.Facts as said;
+ghost use Rattle.facts.specs.Entailment.{EntailsOne, Lands, LandsBy, PartLands, TakesWord, with_one_link};
+ghost use Rattle.facts.specs.PartInCode.{part_in_code};
+ghost use Rattle.facts.specs.PlaceInCode.{place_in_code};
 ghost use Rattle.reasons.specs.Gaps.{IsCounterexample};
 ghost use Rattle.reasons.specs.Landing.{ExcludesOne, IsLeft, IsNotTaken};
 

@@ -2,14 +2,14 @@
 
 ghost use Rattle.std.specs.Prelude.{ℕ, ◌≡◌, ◌<◌, true, false, length, IfNone, IfSome, None, Some};
 ghost use Rattle.wordset.specs.Words.{some_below};
-ghost use Rattle.certificate.specs.Sums.Certificate.{names_routine};
+ghost use Rattle.certificate.specs.Certificate.{names_routine};
 ghost use Rattle.declaration.specs.Kept.{routine_of};
-ghost use Rattle.domain.specs.Sums.FactInCode.{fact_in_code};
-ghost use Rattle.domain.specs.Sums.Offsets.{offsets_in};
-ghost use Rattle.facts.specs.Sums.Landing.{fact_at};
-ghost use Rattle.judge.specs.Sums.Bodies.{IsOfBody};
-ghost use Rattle.judge.specs.Sums.Conditions.{EachFact, HasSites, IsOfMain, IsOfRoutine, IsPlaced, LinesArePlaced};
-ghost use Rattle.judge.specs.Sums.Judged.{case_kept};
+ghost use Rattle.domain.specs.FactInCode.{fact_in_code};
+ghost use Rattle.domain.specs.Offsets.{offsets_in};
+ghost use Rattle.facts.specs.Landing.{fact_at};
+ghost use Rattle.judge.specs.Bodies.{IsOfBody};
+ghost use Rattle.judge.specs.Conditions.{EachFact, HasSites, IsOfMain, IsOfRoutine, IsPlaced, LinesArePlaced};
+ghost use Rattle.judge.specs.Judged.{case_kept};
 ghost use Rattle.reasons.specs.Reasons.{IsMisplaced};
 
 use crate::reason::Reason;

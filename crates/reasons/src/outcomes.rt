@@ -2,13 +2,13 @@
 
 ghost use Rattle.std.specs.Prelude.{ℕ, ◌≡◌, ◌<◌, ◌++◌, false, true, IfNone, IfSome};
 ghost use Rattle.wordset.specs.Lanes.{words};
-ghost use Rattle.domain.specs.Sums.Brief.{brief_words};
-ghost use Rattle.domain.specs.Sums.FactInCode.{fact_in_code};
-ghost use Rattle.facts.specs.Sums.Entailment.{IsIdle};
-ghost use Rattle.facts.specs.Sums.OutcomesInCode.{outcome_in, outcomes_in};
+ghost use Rattle.domain.specs.Brief.{brief_words};
+ghost use Rattle.domain.specs.FactInCode.{fact_in_code};
+ghost use Rattle.facts.specs.Entailment.{IsIdle};
+ghost use Rattle.facts.specs.OutcomesInCode.{outcome_in, outcomes_in};
 ghost use Rattle.facts.specs.declared.Condition.TheVariants.{V4};
-ghost use Rattle.judge.specs.Sums.Landing.{EachSuccessor, LandsAt, place_in, sites_of};
-ghost use Rattle.judge.specs.Sums.Points.{IsPoint, case_of};
+ghost use Rattle.judge.specs.Landing.{EachSuccessor, LandsAt, place_in, sites_of};
+ghost use Rattle.judge.specs.Points.{IsPoint, case_of};
 ghost use Rattle.reasons.specs.Breaches.{OutcomeMisses, SomeOutcome};
 ghost use Rattle.reasons.specs.Keeping.{Arrives, KeepsHere, OutcomeArrives};
 ghost use Rattle.reasons.specs.Landing.{Misses};

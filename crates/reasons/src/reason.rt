@@ -3,12 +3,12 @@
 ghost use Rattle.std.specs.Prelude.{◌≡◌, ◌<◌, ◌∷◌, [], true, false, is_some, length, IfNone, IfSome};
 ghost use Rattle.wordset.specs.Lanes.{words};
 ghost use Rattle.declaration.specs.Declaration.{Routine};
-ghost use Rattle.facts.specs.Sums.Landing.{fact_at};
+ghost use Rattle.facts.specs.Landing.{fact_at};
 ghost use Rattle.facts.specs.declared.Condition.TheVariants.{V1};
-ghost use Rattle.judge.specs.Sums.Conditions.{HoldsAt, IsFirst};
-ghost use Rattle.judge.specs.Sums.Judged.{case_kept, judged};
-ghost use Rattle.judge.specs.Sums.Points.{IsPoint, case_of};
-ghost use Rattle.judge.specs.Sums.Shapes.{IsRoomy};
+ghost use Rattle.judge.specs.Conditions.{HoldsAt, IsFirst};
+ghost use Rattle.judge.specs.Judged.{case_kept, judged};
+ghost use Rattle.judge.specs.Points.{IsPoint, case_of};
+ghost use Rattle.judge.specs.Shapes.{IsRoomy};
 ghost use Rattle.reasons.specs.Keeping.{FactsKeep, IsClaimedOf, KeptOrUnowned};
 ghost use Rattle.reasons.specs.Points.{IsSought, counts_lines};
 ghost use Rattle.reasons.specs.Reasons.{Explains, HasWrongWord};
@@ -113,6 +113,7 @@ fn point_of<'a, A: Allocator, C: Claims>(
         body,
         at,
         fact,
+        following: None,
         near: 0,
     }
 }

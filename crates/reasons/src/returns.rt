@@ -2,8 +2,8 @@
 
 ghost use Rattle.std.specs.Prelude.{◌≡◌, ◌<◌, IfNone, IfSome, Some};
 ghost use Rattle.facts.specs.declared.Condition.TheVariants.{V12};
-ghost use Rattle.judge.specs.Sums.Landing.{LandsAtExit};
-ghost use Rattle.judge.specs.Sums.Points.{IsPoint, case_of, fact_asked};
+ghost use Rattle.judge.specs.Landing.{LandsAtExit};
+ghost use Rattle.judge.specs.Points.{IsPoint, case_of, fact_asked};
 ghost use Rattle.reasons.specs.Keeping.{KeepsHere, ReturnsBy, ReturnsThrough};
 ghost use Rattle.reasons.specs.Landing.{MissesExit};
 ghost use Rattle.reasons.specs.Points.{BreaksAs, ReturnBreaksAs, counts_lines};

@@ -1,13 +1,13 @@
 //! Why the fact of all starts does not land at the start.
 
 ghost use Rattle.std.specs.Prelude.{◌<◌, length, IfNone, IfSome};
-ghost use Rattle.domain.specs.Sums.Facts as said;
-ghost use Rattle.facts.specs.Sums.Entailment.{Lands, LandsBy, PartLands, with_one_link};
-ghost use Rattle.facts.specs.Sums.PlaceInCode.{place_in_code};
-ghost use Rattle.facts.specs.Sums.Starts.{start_fact};
+ghost use Rattle.domain.specs.Facts as said;
+ghost use Rattle.facts.specs.Entailment.{Lands, LandsBy, PartLands, with_one_link};
+ghost use Rattle.facts.specs.PlaceInCode.{place_in_code};
+ghost use Rattle.facts.specs.Starts.{start_fact};
 ghost use Rattle.facts.specs.declared.Condition.TheVariants.{V1};
-ghost use Rattle.judge.specs.Sums.Conditions.{HoldsAt};
-ghost use Rattle.judge.specs.Sums.Judged.{case_kept};
+ghost use Rattle.judge.specs.Conditions.{HoldsAt};
+ghost use Rattle.judge.specs.Judged.{case_kept};
 ghost use Rattle.reasons.specs.Landing.{IsLeft};
 ghost use Rattle.reasons.specs.Reasons.{IsWrongStart};
 

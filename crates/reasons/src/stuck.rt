@@ -1,7 +1,7 @@
 //! Why a search for a certificate is stuck at an address, by a draft of what it found until then.
 
 ghost use Rattle.std.specs.Prelude.{◌≡◌, false, IfNone, IfSome};
-ghost use Rattle.judge.specs.Sums.Judged.{case_kept, judged};
+ghost use Rattle.judge.specs.Judged.{case_kept, judged};
 ghost use Rattle.reasons.specs.Reasons.{Explains};
 ghost use Rattle.reasons.specs.Stuck.{EachFailsByLinesAlone, FailsByLinesAlone, IsToldOf, NoneFailsBefore, is_of_lines};
 

@@ -3,9 +3,9 @@
 ghost use Rattle.std.specs.Prelude.{ℕ, ◌≡◌, ◌<◌, true, false, IfNone, IfSome};
 ghost use Rattle.wordset.specs.Lanes.{words};
 ghost use Rattle.facts.specs.declared.Condition.TheVariants.{V3, V5, V6, V13, V14, V15};
-ghost use Rattle.facts.specs.Sums.Conditions.{may_write};
-ghost use Rattle.judge.specs.Sums.Landing.{place_in};
-ghost use Rattle.judge.specs.Sums.Points.{HoldsHere, IsPoint, case_of, fact_asked, possible_at};
+ghost use Rattle.facts.specs.Conditions.{may_write};
+ghost use Rattle.judge.specs.Landing.{place_in};
+ghost use Rattle.judge.specs.Points.{HoldsHere, IsPoint, case_of, fact_asked, possible_at};
 ghost use Rattle.reasons.specs.Keeping.{EachKeepsHere, KeepsHere, WordsKeepHere};
 ghost use Rattle.reasons.specs.Points.{BreaksAs, BreaksHere, IsWrongAs, counts_lines, meaning_here};
 ghost use Rattle.reasons.specs.Stuck.{is_word_of_lines};

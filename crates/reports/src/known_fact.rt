@@ -1,9 +1,9 @@
 //! A fact as a report shows it.
 
 ghost use Rattle.std.specs.Prelude.{◌<◌, length};
-ghost use Rattle.domain.specs.Sums.FactInCode.{fact_in_code};
-ghost use Rattle.certificate.specs.Sums.Kept.{claims};
-ghost use Rattle.judge.specs.Sums.Shapes.{HasShape};
+ghost use Rattle.domain.specs.FactInCode.{fact_in_code};
+ghost use Rattle.certificate.specs.Kept.{claims};
+ghost use Rattle.judge.specs.Shapes.{HasShape};
 
 use bin_tape::Image;
 use certificate::Certificate;

@@ -1,7 +1,7 @@
 //! The listing: a line for each address at which something stands, with what is known there.
 
 ghost use Rattle.std.specs.Prelude.{◌≡◌, length};
-ghost use Rattle.certificate.specs.Sums.Kept.{claims};
+ghost use Rattle.certificate.specs.Kept.{claims};
 
 use crate::access::{write_access, write_direct};
 use crate::cases::Apart;

@@ -213,8 +213,8 @@ pub fn fault_lines<R: Files + Input>(
 /// What is said below the answer of a command that is refused without a fault, where the command itself does not say
 /// why: of a run that ends at a word that the machine does not have.
 pub fn refusal_lines(request: &Request<'_>) -> &'static str {
-    match request {
-        Request::Run(_) | Request::Session(_) | Request::Teletype(_) => UNSUPPORTED,
+    match request.command() {
+        "run" | "teletype" => UNSUPPORTED,
         _ => "",
     }
 }

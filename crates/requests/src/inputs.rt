@@ -39,6 +39,7 @@ fn names_file<R: Files>(rt: &R, names: &[&str], file: Identity) -> bool {
 fn is_part<R: Files>(rt: &R, request: &Request<'_>, file: Identity) -> bool {
     match request {
         Request::Assemble(asked) => names_file(rt, &asked.sources, file),
+        Request::Sourced(asked) => names_file(rt, &asked.parts, file),
         Request::Program(asked) => names_file(rt, asked.program.parts(), file),
         _ => false,
     }
@@ -46,7 +47,12 @@ fn is_part<R: Files>(rt: &R, request: &Request<'_>, file: Identity) -> bool {
 
 /// Whether a request reads keys from standard input, though that is not among its names.
 fn reads_keys(request: &Request<'_>) -> bool {
-    matches!(request, Request::Teletype(_))
+    request.command() == "teletype"
+}
+
+/// Whether the second output of a request is the file of what is punched.
+fn is_punched(request: &Request<'_>) -> bool {
+    matches!(request.command(), "run" | "teletype")
 }
 
 /// Whether a name that no stream has is that of one of the request's inputs.
@@ -78,7 +84,7 @@ fn misused_output<R: Files>(rt: &R, request: &Request<'_>) -> Option<Misuse> {
     if second == "-" {
         return None;
     }
-    let is_punch = matches!(request, Request::Session(_) | Request::Teletype(_));
+    let is_punch = is_punched(request);
     if is_input(rt, request, second) {
         return Some(if is_punch {
             Misuse::PunchIsTaken

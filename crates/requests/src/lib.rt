@@ -7,6 +7,7 @@ pub mod faults;
 pub mod files;
 pub mod inputs;
 pub mod of_files;
+pub mod of_machine;
 pub mod of_programs;
 mod of_sources;
 pub mod recognised;

@@ -111,7 +111,12 @@ impl Asked<'_> {
     /// Adds the operands behind the tape.
     fn push_operands(&self, text: &mut String) {
         let names = &self.names;
-        for name in [names.declaration, names.certificate, names.events] {
+        let events = if self.command == "watch" {
+            names.events
+        } else {
+            None
+        };
+        for name in [names.declaration, names.certificate, events] {
             if let Some(name) = name {
                 let _ = write!(text, " {name}");
             }
@@ -227,7 +232,7 @@ impl Asked<'_> {
 
 /// Whether a request has a source in place of a tape.
 fn is_sourced(request: &Request<'_>) -> bool {
-    matches!(request, Request::Program(_)) && !request.parts().is_empty()
+    matches!(request, Request::Program(_) | Request::Sourced(_)) && !request.parts().is_empty()
 }
 
 /// What is known of a request.
@@ -236,7 +241,8 @@ fn asked_of<'a>(request: &Request<'a>) -> Asked<'a> {
     Asked {
         command,
         takes_source: [
-            "verify", "check", "report", "declare", "guess", "refute", "watch",
+            "verify", "check", "report", "declare", "guess", "refute", "watch", "run", "teletype",
+            "dump",
         ]
         .iter()
         .any(|name| *name == command),

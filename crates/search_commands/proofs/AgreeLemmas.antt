@@ -1,17 +1,17 @@
 -- A no and a yes never stand on the same bytes, and `certify` says yes exactly where `check` does.
 use Rattle.std.proofs.Common.{ℕ, ◌≡◌, Bool, List, Option, Some, Result, Ok, Err, refl, sym, ap, ◌∙◌, subst, take}
 use Rattle.bin_tape.proofs.OneAnswer.{one_tape, no_fault}
-use Rattle.certificate.specs.Sums.Kept as certified
-use Rattle.certificate.specs.Sums.Reading.{Text, reading}
+use Rattle.certificate.specs.Kept as certified
+use Rattle.certificate.specs.Reading.{Text, reading}
 use Rattle.certificate.proofs.SumExactLemmas.{reading_law}
 use Rattle.declaration.proofs.AnswerLemmas.{one_declaration, no_fault as no_declaration_fault}
 use Rattle.declaration.specs.Declaration.{Declaration}
-use Rattle.judge.specs.Sums.Certifying.{AreRead, IsRefused, Parts, case_of, declaration_of, words_of}
-use Rattle.judge.specs.Sums.Conditions.{IsFirst, IsValid}
-use Rattle.judge.specs.Sums.Landing.{Case}
+use Rattle.judge.specs.Certifying.{AreRead, IsRefused, Parts, case_of, declaration_of, words_of}
+use Rattle.judge.specs.Conditions.{IsFirst, IsValid}
+use Rattle.judge.specs.Landing.{Case}
 use Rattle.judge.specs.declared.verdict.CertifyFault.{CertifyFault}
 use Rattle.judge.specs.declared.verdict.CertifyFault.TheVariants as fault
-use Rattle.judge.proofs.Sums.ReadingLemmas.{none_fails, not_both}
+use Rattle.judge.proofs.ReadingLemmas.{none_fails, not_both}
 use Rattle.judge.specs.declared.judging.Refusal.{Refusal}
 use Rattle.peripherals.specs.Loading.{image_of}
 use Rattle.policy.specs.Runs.{IsSafe}

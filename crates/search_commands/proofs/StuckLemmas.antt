@@ -1,8 +1,8 @@
 -- What is reported of a search that is stuck.
 use Rattle.std.proofs.Common.{ℕ, ◌≡◌, List, Option}
 use Rattle.analyser.specs.Versions.{version_of}
-use Rattle.certificate.specs.Sums.Exact.{AreLines}
-use Rattle.certificate.specs.Sums.Reading.{Text}
+use Rattle.certificate.specs.Exact.{AreLines}
+use Rattle.certificate.specs.Reading.{Text}
 use Rattle.declaration.specs.Declaration.{Declaration}
 use Rattle.command_parts.specs.Inputs.{HasDeclaration, HasImage}
 use Rattle.search_commands.specs.StuckText.{IsReport, IsStuck}

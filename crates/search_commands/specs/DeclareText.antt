@@ -1,13 +1,13 @@
 -- What `declare` writes.
 use Rattle.std.specs.Prelude.{ℕ, ◌≡◌, ◌⊎◌, List, Option, None, is_some, false, true}
-use Rattle.analyser.specs.Versions.{version_of}
+use Rattle.analyser.specs.Versions.{IsVersionFor}
 use Rattle.peripherals.specs.Loading.{image_of}
 use Rattle.declaration.specs.Declaration.{Declaration}
 use Rattle.declaration.specs.Text.{Declares}
 use Rattle.policy.specs.Runs.{IsSafe}
-use Rattle.certificate.specs.Sums.Exact.{AreLines}
-use Rattle.certificate.specs.Sums.Reading.{Text, certificate_of}
-use Rattle.judge.specs.Sums.Conditions.{IsValid}
+use Rattle.certificate.specs.Exact.{AreLines}
+use Rattle.certificate.specs.Reading.{Text, certificate_of}
+use Rattle.judge.specs.Conditions.{IsValid}
 use Rattle.proposer.specs.Needed.{ReadsAreNeeded}
 use Rattle.diagnostics.specs.CheckText.{checked_case}
 use Rattle.command_parts.specs.declared.options.DeclareOptions.{DeclareOptions}
@@ -27,12 +27,12 @@ pub record IsDeclarationFor (options : DeclareOptions) (text : List ℕ) : Type 
 abbrev pub IsBare : DeclareOptions → List ℕ → Type 0
 IsBare options text = (is : IsDeclarationFor options text) × (is.declaration.reads ≡ None)
 
--- Every condition holds of some certificate, in the version of the declared machine; and by its facts
+-- Every condition holds of some certificate, in the version of the declared machine or in version 3; and by its facts
 -- some possible word may read each cell of the list of reads.
 pub record ListsNeeded (image : List (Option ℕ)) (d : Declaration) : Type 0 where
   pub lines : Text
   pub lines_are : AreLines lines
-  pub version_is : lines.version ≡ version_of d.profile
+  pub version_is : IsVersionFor d.profile lines.version
   pub valid : IsValid (checked_case image d lines)
   pub needed : ReadsAreNeeded (checked_case image d lines)
 

@@ -1,21 +1,21 @@
 -- What `guess` writes.
 use Rattle.std.specs.Prelude.{ℕ, ◌≡◌, List, Option}
-use Rattle.analyser.specs.Versions.{version_of}
-use Rattle.certificate.specs.Sums.Exact.{AreLines}
-use Rattle.certificate.specs.Sums.Laws.{bytes_of}
-use Rattle.certificate.specs.Sums.Reading.{Text}
+use Rattle.analyser.specs.Versions.{IsVersionFor}
+use Rattle.certificate.specs.Exact.{AreLines}
+use Rattle.certificate.specs.Laws.{bytes_of}
+use Rattle.certificate.specs.Reading.{Text}
 use Rattle.declaration.specs.Declaration.{Declaration}
 use Rattle.diagnostics.specs.CheckText.{IsYes, checked_case}
 use Rattle.command_parts.specs.Answers.{OfProgram}
 use Rattle.command_parts.specs.declared.status.Status.{Status}
 use Rattle.command_parts.specs.declared.status.Status.TheVariants.{Done}
 
--- This is the text of some certificate, in the version of the declared machine, of which every condition
+-- This is the text of some certificate, in the version of the declared machine or in version 3, of which every condition
 -- holds: no run of the program with these words breaks the declaration. And the command is done.
 pub record IsGuessOf (image : List (Option ℕ)) (declaration : Declaration) (status : Status) (guess : List ℕ) : Type 0 where
   pub lines : Text
   pub lines_are : AreLines lines
-  pub version_is : lines.version ≡ version_of declaration.profile
+  pub version_is : IsVersionFor declaration.profile lines.version
   pub guess_is : guess ≡ bytes_of lines
   pub accepted : IsYes (checked_case image declaration lines)
   pub status_is : status ≡ Done

@@ -1,8 +1,8 @@
 -- What the answers of several calls on the same bytes say of one another.
 use Rattle.std.specs.Prelude.{ℕ, ◌≡◌, Bool, List, Some}
 use Rattle.command_parts.specs.declared.status.Status.TheVariants.{Done}
-use Rattle.judge.specs.Sums.Certifying.{AreRead, IsRefused, Parts, case_of, declaration_of, words_of}
-use Rattle.judge.specs.Sums.Conditions.{IsValid}
+use Rattle.judge.specs.Certifying.{AreRead, IsRefused, Parts, case_of, declaration_of, words_of}
+use Rattle.judge.specs.Conditions.{IsValid}
 use Rattle.judge.specs.declared.verdict.CertifyFault.{CertifyFault}
 use Rattle.judge.specs.declared.verdict.CertifyFault.TheVariants as fault
 use Rattle.policy.specs.Runs.{IsSafe}

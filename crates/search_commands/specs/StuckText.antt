@@ -4,10 +4,10 @@ use Rattle.word12.specs.Words.{octal_text}
 use Rattle.instruct.specs.declared.Profile.{Profile}
 use Rattle.analyser.specs.Attempts.{IsDraft}
 use Rattle.analyser.specs.Versions.{version_of}
-use Rattle.certificate.specs.Sums.Exact.{AreLines}
-use Rattle.certificate.specs.Sums.Reading.{Text, certificate_of}
+use Rattle.certificate.specs.Exact.{AreLines}
+use Rattle.certificate.specs.Reading.{Text, certificate_of}
 use Rattle.declaration.specs.Declaration.{Declaration}
-use Rattle.judge.specs.Sums.Landing.{Case}
+use Rattle.judge.specs.Landing.{Case}
 use Rattle.judge.specs.declared.judging.Refusal.{Refusal}
 use Rattle.reasons.specs.Reasons.{Explains}
 use Rattle.reasons.specs.Stuck.{EachFailsByLinesAlone, IsToldOf, NoneFailsBefore}

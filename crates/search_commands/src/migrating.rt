@@ -1,7 +1,7 @@
 //! The command that migrates a certificate.
 
 ghost use Rattle.std.specs.Prelude.{◌≡◌, false, ⊤, IfOk, IfErr};
-ghost use Rattle.certificate.specs.Sums.Kept.{meaning as lines_of};
+ghost use Rattle.certificate.specs.Kept.{meaning as lines_of};
 ghost use Rattle.command_parts.specs.Answers.{FailsBy, IsLaterFault, IsMemoryFault, NeverFails, ReadsDeclaration, WritesAnswer, output};
 ghost use Rattle.command_parts.specs.Inputs.{input};
 ghost use Rattle.command_parts.specs.declared.status.Status.TheVariants.{Done};

@@ -2,3 +2,5 @@ pub mod SourceLemmas
 pub mod PartLemmas
 pub mod AssembleLemmas
 pub mod LaterLemmas
+mod UseLemmas
+mod CrossLemmas

@@ -65,7 +65,7 @@ fn translation_of<A: Allocator + Copy>(
 }
 
 /// Assembles the parts of a source, with its listing.
-fn program_of<A: Allocator + Copy>(
+pub(crate) fn program_of<A: Allocator + Copy>(
     alloc: A,
     parts: &[&[u8]],
     profile: Profile,

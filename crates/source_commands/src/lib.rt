@@ -1,6 +1,9 @@
-//! The commands that assemble and list a source, and the one that writes a source of a tape.
+//! The commands that assemble and list a source, with a table of its symbols if that is asked for, and the one that writes a source of a tape.
 #![tactic(auto)]
 
 pub mod assembling;
+pub mod cross;
+pub mod crossing;
+pub mod mentions;
 mod sources;
 pub mod sourcing;

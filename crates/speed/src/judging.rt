@@ -13,7 +13,7 @@ pub fn accepted<A: Allocator>(
     declaration: &Declaration<A>,
     certificate: &Certificate<A>,
     times: u16,
-    rooms: &mut Rooms,
+    rooms: &mut Rooms<A>,
 ) -> u64 {
     let mut count = 0u64;
     for _ in 0..times {

@@ -1,6 +1,6 @@
 //! Outcomes of a word and whether they entail a fact, over and over.
 
-ghost use Rattle.judge.specs.Sums.Shapes.{IsRoomy};
+ghost use Rattle.judge.specs.Shapes.{IsRoomy};
 
 use bin_tape::Image;
 use certificate::Certificate;

@@ -14,6 +14,7 @@ use requests::of_files::certificates::migrate_from;
 use requests::of_files::joined::{hold_session, hold_teletype_session};
 use requests::of_files::sources::{assemble_to, list_from};
 use requests::of_files::tapes::{dump_from, run_from, source_from};
+use requests::of_machine::answer_sourced;
 use requests::of_programs::answer_program;
 use requests::recognised::hint_line;
 use requests::telling::{tell, tell_lines, tell_misuse};
@@ -179,6 +180,7 @@ fn answer<R: Files + Input + Print + Eprint>(
         Request::Assemble(asked) => assemble_to(rt, alloc, asked),
         Request::List(asked) => list_from(rt, alloc, asked),
         Request::Source(asked) => source_from(rt, alloc, asked),
+        Request::Sourced(asked) => answer_sourced(rt, alloc, asked),
         Request::Program(asked) => answer_program(rt, alloc, asked),
         Request::Migrate(asked) => migrate_from(rt, alloc, asked),
         Request::Explain { code } => explain_code(rt, alloc, *code),

@@ -1,7 +1,7 @@
 use Rattle.std.proofs.Common.{◌≡◌, subst, sym}
 use Rattle.std.proofs.lemmas.Result.{IfOk-weaker}
-use Rattle.certificate.specs.Sums.Kept.{meaning}
-use Rattle.certificate.specs.Sums.Exact.{AreLines}
+use Rattle.certificate.specs.Kept.{meaning}
+use Rattle.certificate.specs.Exact.{AreLines}
 use Rattle.analyser.proofs.found_by.Goals as goal
 
 pub returns-in-Ok-clause-lines : goal.returns-in-Ok-clause-lines

@@ -1,9 +1,9 @@
 //! Where the distance between a pointer and another cell is lost, though a loop keeps it on another way.
 
 ghost use Rattle.std.specs.Prelude.{◌<◌, length};
-ghost use Rattle.certificate.specs.Sums.Kept.{claims};
-ghost use Rattle.domain.specs.Sums.FactInCode.{fact_in_code};
-ghost use Rattle.judge.specs.Sums.Shapes.{HasShape};
+ghost use Rattle.certificate.specs.Kept.{claims};
+ghost use Rattle.domain.specs.FactInCode.{fact_in_code};
+ghost use Rattle.judge.specs.Shapes.{HasShape};
 
 use crate::bounds::known::is_difference_of;
 use crate::bounds::losses::{stores_through_pointer, successors_of_call};

@@ -3,9 +3,9 @@
 ghost use Rattle.std.specs.Prelude.{ℕ, ◌≡◌, ◌<◌, List, true, not, length, IfSome};
 ghost use Rattle.std.specs.List.{list_any};
 ghost use Rattle.wordset.specs.Words.{only};
-ghost use Rattle.domain.specs.Meaning.{location_of};
-ghost use Rattle.domain.specs.Sums.FactInCode.{fact_in_code};
-ghost use Rattle.domain.specs.Sums.Facts as said;
+ghost use Rattle.domain.specs.LocationsInCode.{location_of};
+ghost use Rattle.domain.specs.FactInCode.{fact_in_code};
+ghost use Rattle.domain.specs.Facts as said;
 ghost use Rattle.diagnostics.specs.Telling.{AreMarks, IsMarked, IsTelling, IsTellingOf, has_mark, is_word, place_in, place_of_reason};
 
 use domain::{CellSet, Location, Rules};

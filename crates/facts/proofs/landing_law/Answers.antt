@@ -1,4 +1,4 @@
-use Rattle.facts.proofs.Sums.LandedLemmas.{one_landed_holds, idle_never_holds}
+use Rattle.facts.proofs.LandedLemmas.{one_landed_holds, idle_never_holds}
 use Rattle.facts.proofs.landing_law.Goals as goal
 
 pub returns : goal.returns

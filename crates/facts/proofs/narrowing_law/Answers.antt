@@ -1,4 +1,4 @@
-use Rattle.facts.proofs.Sums.KeepingLemmas.{narrowed_few, narrowed_short}
+use Rattle.facts.proofs.KeepingLemmas.{narrowed_few, narrowed_short}
 use Rattle.facts.proofs.narrowing_law.Goals as goal
 
 pub returns : goal.returns

@@ -1,4 +1,4 @@
-use Rattle.facts.proofs.Sums.JoinedLemmas.{joined_holds}
+use Rattle.facts.proofs.JoinedLemmas.{joined_holds}
 use Rattle.facts.proofs.return_law.Goals as goal
 
 pub returns : goal.returns

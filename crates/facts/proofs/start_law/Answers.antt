@@ -1,5 +1,5 @@
-use Rattle.facts.proofs.Sums.ExactLemmas.{starts_are_exact}
-use Rattle.facts.proofs.Sums.StartedLemmas.{start_fact_holds, starts_land}
+use Rattle.facts.proofs.ExactLemmas.{starts_are_exact}
+use Rattle.facts.proofs.StartedLemmas.{start_fact_holds, starts_land}
 use Rattle.facts.proofs.start_law.Goals as goal
 
 pub returns : goal.returns

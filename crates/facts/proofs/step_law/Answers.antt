@@ -1,4 +1,4 @@
-use Rattle.facts.proofs.Sums.StepLemmas.{step_law}
+use Rattle.facts.proofs.StepLemmas.{step_law}
 use Rattle.facts.proofs.step_law.Goals as goal
 
 pub returns : goal.returns

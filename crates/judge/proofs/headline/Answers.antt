@@ -1,4 +1,4 @@
-use Rattle.judge.proofs.Sums.TrueLemmas.{programs_are_safe, unlisted_reads_are_free}
+use Rattle.judge.proofs.TrueLemmas.{programs_are_safe, unlisted_reads_are_free}
 use Rattle.judge.proofs.headline.Goals as goal
 
 pub returns : goal.returns

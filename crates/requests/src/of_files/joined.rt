@@ -6,15 +6,17 @@ use crate::files::open_input;
 use crate::replacing::ResultFile;
 use crate::tellers::{Nowhere, open_input_if, report_to, tell_to};
 use command_line::{Session, TeletypeSession};
+use command_parts::options::SummaryForm;
 use command_parts::status::{DeviceFault, Fault, Status};
+use command_parts::visible::visible_text;
 use either::Either;
 use machine_commands::session::{Outputs, run_session};
 use machine_commands::teletype::{Typist, teletype};
-use std::alloc::Global;
+use std::alloc::{AllocError, Global};
 use std::io::{self, Printer};
 use std::rt::Files;
-use streams::ByteSink;
 use streams::standard::{Reads, Writes};
+use streams::{ByteSink, ByteSource};
 
 /// Where the punched bytes go: to a file, or nowhere.
 type Punch<'r, R> = Either<ResultFile<'r, R>, Nowhere>;
@@ -70,20 +72,44 @@ fn type_to<'r, R: Print>(rt: &'r R, teletype: bool) -> Writes<Either<Printer<'r,
     }
 }
 
-/// Runs a tape with an operator. The files are opened in this order: the tape, the reader's frames
-/// and the keys, and then it is seen that the punch's can be made.
+/// The name of the punch's file as it is shown.
+fn shown_name(alloc: Global, name: Option<&str>) -> Result<Option<String>, AllocError> {
+    match name {
+        Some(name) => Ok(Some(visible_text(alloc, name)?)),
+        None => Ok(None),
+    }
+}
+
+/// The form of a summary that tells the punch's file by this name.
+fn form_with<'n>(form: SummaryForm<'_>, name: &'n Option<String>) -> SummaryForm<'n> {
+    SummaryForm {
+        apart: form.apart,
+        seen: form.seen,
+        saved_in: match name {
+            Some(name) => Some(name.as_str()),
+            None => None,
+        },
+    }
+}
+
+/// Runs a tape with these frames and with an operator. The files are opened in this order: the reader's frames and the
+/// keys, and then it is seen that the punch's can be made.
 ///
 /// # Errors
 ///
 /// As for `run_session`, and `Device` where a file can't be opened or made.
 #[inline(never)]
-pub fn hold_session<R: Files + Input + Print + Eprint>(
+pub(crate) fn hold_session_on<R: Files + Input + Print + Eprint, S: ByteSource>(
     rt: &R,
     alloc: Global,
     session: &Session<'_>,
-) -> Result<Status, Fault> {
+    frames: &mut S,
+) -> Result<Status, Fault>
+    requires { S.mark frames.old ≡ false }
+{
     let joined = &session.joined;
-    let mut frames = open_input(rt, session.tape)?;
+    let name = shown_name(alloc, joined.punch)?;
+    let form = form_with(session.summary, &name);
     let mut reader = open_input_if(rt, joined.reader)?;
     let mut keys = open_input_if(rt, joined.keys)?;
     let mut punch = open_punch(rt, alloc, joined.punch)?;
@@ -94,30 +120,49 @@ pub fn hold_session<R: Files + Input + Print + Eprint>(
     };
     let answer = run_session(
         alloc,
-        &mut frames,
+        frames,
         &mut reader,
         &mut keys,
         session.options,
+        form,
         &mut outputs,
     );
     let failed = outputs.punch.failed();
     finish_punch(&mut punch, failed, answer)
 }
 
-/// Holds a session at the teletype: keys come from standard input, what is printed goes to standard
-/// output, and the summary to standard error. The tape is opened first, then the reader's frames, and then
-/// it is seen that the punch's file can be made.
+/// Runs the tape of a file with an operator. The tape is opened first.
+///
+/// # Errors
+///
+/// As for [`hold_session_on`].
+pub fn hold_session<R: Files + Input + Print + Eprint>(
+    rt: &R,
+    alloc: Global,
+    session: &Session<'_>,
+) -> Result<Status, Fault> {
+    let mut frames = open_input(rt, session.tape.unwrap_or("-"))?;
+    hold_session_on(rt, alloc, session, &mut frames)
+}
+
+/// Holds a session at the teletype with the tape of these frames: keys come from standard input, what is printed goes to
+/// standard output, and the summary to standard error. The reader's frames are opened first, and then it is seen that
+/// the punch's file can be made.
 ///
 /// # Errors
 ///
 /// As for `teletype`, and `Device` where a file can't be opened or made.
 #[inline(never)]
-pub fn hold_teletype_session<R: Files + Input + Print + Eprint>(
+pub(crate) fn hold_teletype_session_on<R: Files + Input + Print + Eprint, S: ByteSource>(
     rt: &R,
     alloc: Global,
     session: &TeletypeSession<'_>,
-) -> Result<Status, Fault> {
-    let mut frames = open_input(rt, session.tape)?;
+    frames: &mut S,
+) -> Result<Status, Fault>
+    requires { S.mark frames.old ≡ false }
+{
+    let name = shown_name(alloc, session.punch)?;
+    let form = form_with(session.summary, &name);
     let reader = open_input_if(rt, session.reader)?;
     let keys = Reads::new(rt.reader());
     let mut punch = open_punch(rt, alloc, session.punch)?;
@@ -127,7 +172,21 @@ pub fn hold_teletype_session<R: Files + Input + Print + Eprint>(
         punch: Writes::new(&mut punch),
     };
     let mut typist = Typist::new(reader, keys, session.options);
-    let answer = teletype(alloc, &mut frames, &mut typist, &mut outputs);
+    let answer = teletype(alloc, frames, &mut typist, form, &mut outputs);
     let failed = outputs.punch.failed();
     finish_punch(&mut punch, failed, answer)
+}
+
+/// Holds a session at the teletype with the tape of a file, which is opened first.
+///
+/// # Errors
+///
+/// As for [`hold_teletype_session_on`].
+pub fn hold_teletype_session<R: Files + Input + Print + Eprint>(
+    rt: &R,
+    alloc: Global,
+    session: &TeletypeSession<'_>,
+) -> Result<Status, Fault> {
+    let mut frames = open_input(rt, session.tape.unwrap_or("-"))?;
+    hold_teletype_session_on(rt, alloc, session, &mut frames)
 }

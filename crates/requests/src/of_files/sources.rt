@@ -1,5 +1,8 @@
 //! Sources that are assembled or listed, and what is told of their faults.
 
+ghost use Rattle.std.specs.Prelude.{◌≡◌, false};
+ghost use Rattle.std.specs.List.{AllByRecursion};
+
 use crate::files::{Outlet, finish, open_inputs, open_output, open_parts};
 use crate::source_faults::{
     NO_WORD, input_name, lend_names, output_name, tell_of, tell_size, unopened, visible_names,
@@ -7,13 +10,13 @@ use crate::source_faults::{
 use crate::telling::{tell, tell_with};
 use command_line::{AssembleRequest, ListRequest};
 use command_parts::status::{DeviceFault, Fault, Status};
-use instruct::Profile;
 use source_commands::assembling::{assemble, list};
+use source_commands::crossing::list_crossed;
 use std::alloc::Global;
 use std::io;
 use std::rt::Files;
-use streams::ByteSource;
 use streams::standard::Writes;
+use streams::{ByteSink, ByteSource};
 
 /// The name of the first part of which a read failed.
 fn unread<'n, S: ByteSource>(names: &'n [&'n str], parts: &[S]) -> &'n str {
@@ -60,17 +63,35 @@ fn tell_all<R: Eprint, S: ByteSource>(
     }
 }
 
+/// Lists a source, with a table of its symbols if that is asked for.
+fn list_as_asked<S: ByteSource, W: ByteSink>(
+    alloc: Global,
+    parts: &mut [S],
+    asked: &ListRequest<'_>,
+    names: Option<&[&str]>,
+    told: &mut String,
+    out: &mut W,
+) -> Result<Status, Fault>
+    requires readable { AllByRecursion (λ part. S.mark part ≡ false) parts.old }
+    requires writable { W.mark out.old ≡ false }
+{
+    if asked.crossed {
+        list_crossed(alloc, parts, asked.profile, names, told, out)
+    } else {
+        list(alloc, parts, asked.profile, names, told, out)
+    }
+}
+
 /// Lists the source whose parts are in these files, and tells below the line of a fault what is wrong, with the names as
 /// they are shown.
 fn list_or_tell<R: Files + Input + Print + Eprint>(
     rt: &R,
     alloc: Global,
-    names: &[&str],
+    asked: &ListRequest<'_>,
     shown: &[&str],
-    profile: Profile,
 ) -> Status {
     let mut parts = Vec::new(alloc);
-    if let Err(fault) = open_parts(rt, names, &mut parts) {
+    if let Err(fault) = open_parts(rt, &asked.sources, &mut parts) {
         return tell_of(
             rt,
             alloc,
@@ -81,7 +102,7 @@ fn list_or_tell<R: Files + Input + Print + Eprint>(
     }
     let mut out = Writes::new(io::writer(rt));
     let mut told = String::new(alloc);
-    match list(alloc, &mut parts, profile, Some(shown), &mut told, &mut out) {
+    match list_as_asked(alloc, &mut parts, asked, Some(shown), &mut told, &mut out) {
         Ok(status) => status,
         Err(fault) => tell_all(rt, alloc, fault, shown, &parts, "-", &told),
     }
@@ -143,12 +164,12 @@ pub fn list_from<R: Files + Input + Print + Eprint>(
     if asked.explained {
         let shown = visible_names(alloc, &asked.sources)?;
         let lent = lend_names(alloc, &shown)?;
-        return Ok(list_or_tell(rt, alloc, &asked.sources, &lent, asked.profile));
+        return Ok(list_or_tell(rt, alloc, asked, &lent));
     }
     let mut parts = open_inputs(rt, alloc, &asked.sources)?;
     let mut out = Writes::new(io::writer(rt));
     let mut told = String::new(alloc);
-    list(alloc, &mut parts, asked.profile, None, &mut told, &mut out)
+    list_as_asked(alloc, &mut parts, asked, None, &mut told, &mut out)
 }
 
 /// Assembles the parts of files into a tape.

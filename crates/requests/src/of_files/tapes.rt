@@ -1,5 +1,7 @@
 //! Commands that work on a tape alone.
 
+ghost use Rattle.std.specs.Prelude.{◌≡◌, false};
+
 use crate::files::{finish, open_input, open_output};
 use command_line::{DumpRequest, RunRequest, SourceRequest, Stopping};
 use command_parts::status::{Fault, Status};
@@ -10,6 +12,7 @@ use source_commands::sourcing::{declared_source, source};
 use std::alloc::Global;
 use std::io;
 use std::rt::Files;
+use streams::ByteSource;
 use streams::standard::Writes;
 
 /// Names the words of the tape of a file.
@@ -19,76 +22,89 @@ pub fn dump_from<R: Files + Input + Print>(
     alloc: Global,
     asked: &DumpRequest<'_>,
 ) -> Result<Status, Fault> {
-    let mut frames = open_input(rt, asked.tape)?;
+    let mut frames = open_input(rt, asked.tape.unwrap_or("-"))?;
     let mut out = Writes::new(io::writer(rt));
     dump(alloc, &mut frames, asked.profile, &mut out)
 }
 
 /// Runs a tape in rounds up to where it is stopped.
-fn run_rounds_until<R: Files + Input + Print>(
+fn run_rounds_until<R: Print, S: ByteSource>(
     rt: &R,
     alloc: Global,
     asked: &RunRequest<'_>,
+    frames: &mut S,
     stopping: &Stopping,
-) -> Result<Status, Fault> {
-    let mut frames = open_input(rt, asked.tape)?;
+) -> Result<Status, Fault>
+    requires { S.mark frames.old ≡ false }
+{
     let mut out = Writes::new(io::writer(rt));
     let (options, stops) = (asked.options, &stopping.stops);
     match stopping.last {
-        None => run_with_stops(alloc, &mut frames, options, stops, &mut out),
-        Some(most) => run_with_last(alloc, &mut frames, options, stops, most, &mut out),
+        None => run_with_stops(alloc, frames, options, stops, &mut out),
+        Some(most) => run_with_last(alloc, frames, options, stops, most, &mut out),
     }
 }
 
 /// Runs a tape by the events of a file up to where it is stopped.
-fn run_events_until<R: Files + Input + Print>(
+fn run_events_until<R: Files + Input + Print, S: ByteSource>(
     rt: &R,
     alloc: Global,
     asked: &RunRequest<'_>,
+    frames: &mut S,
     events: &str,
     stopping: &Stopping,
-) -> Result<Status, Fault> {
-    let mut frames = open_input(rt, asked.tape)?;
+) -> Result<Status, Fault>
+    requires { S.mark frames.old ≡ false }
+{
     let mut list = open_input(rt, events)?;
     let mut out = Writes::new(io::writer(rt));
     let (options, stops) = (asked.options, &stopping.stops);
     match stopping.last {
-        None => { run_events_with_stops(alloc, &mut frames, &mut list, options, stops, &mut out) }
+        None => run_events_with_stops(alloc, frames, &mut list, options, stops, &mut out),
         Some(most) => {
-            run_events_with_last(
-                alloc,
-                &mut frames,
-                &mut list,
-                options,
-                stops,
-                most,
-                &mut out,
-            )
+            run_events_with_last(alloc, frames, &mut list, options, stops, most, &mut out)
         }
     }
 }
 
-/// Runs a tape, in rounds or by the events of a file, up to where it is stopped if that is asked for.
+/// Runs a tape with these frames, in rounds or by the events of a file, up to where it is stopped if that is asked
+/// for.
+///
+/// # Errors
+///
+/// As of the command, and `Device` if the file of events cannot be opened.
+pub(crate) fn run_on<R: Files + Input + Print, S: ByteSource>(
+    rt: &R,
+    alloc: Global,
+    asked: &RunRequest<'_>,
+    frames: &mut S,
+) -> Result<Status, Fault>
+    requires { S.mark frames.old ≡ false }
+{
+    if let Some(stopping) = &asked.stopping {
+        return match asked.events {
+            None => run_rounds_until(rt, alloc, asked, frames, stopping),
+            Some(events) => run_events_until(rt, alloc, asked, frames, events, stopping),
+        };
+    }
+    let Some(events) = asked.events else {
+        let mut out = Writes::new(io::writer(rt));
+        return run(alloc, frames, asked.options, &mut out);
+    };
+    let mut list = open_input(rt, events)?;
+    let mut out = Writes::new(io::writer(rt));
+    run_events(alloc, frames, &mut list, asked.options, &mut out)
+}
+
+/// Runs the tape of a file, in rounds or by the events of a file, up to where it is stopped if that is asked for.
 #[inline(never)]
 pub fn run_from<R: Files + Input + Print>(
     rt: &R,
     alloc: Global,
     asked: &RunRequest<'_>,
 ) -> Result<Status, Fault> {
-    if let Some(stopping) = &asked.stopping {
-        return match asked.events {
-            None => run_rounds_until(rt, alloc, asked, stopping),
-            Some(events) => run_events_until(rt, alloc, asked, events, stopping),
-        };
-    }
-    let mut frames = open_input(rt, asked.tape)?;
-    let Some(events) = asked.events else {
-        let mut out = Writes::new(io::writer(rt));
-        return run(alloc, &mut frames, asked.options, &mut out);
-    };
-    let mut list = open_input(rt, events)?;
-    let mut out = Writes::new(io::writer(rt));
-    run_events(alloc, &mut frames, &mut list, asked.options, &mut out)
+    let mut frames = open_input(rt, asked.tape.unwrap_or("-"))?;
+    run_on(rt, alloc, asked, &mut frames)
 }
 
 /// Writes a source of the tape of a file. A declaration is opened before the file that the source goes

@@ -9,12 +9,14 @@ use crate::of_sources::source_lines::lines_of;
 use crate::stuck::{Stuck, stuck_message};
 use crate::tellers::{report_to, tell_to};
 use crate::telling::tell_lines;
-use analyser::{Attempt, guess, guess_or_draft};
-use certificate::Certificate;
+use analyser::{Attempt, guess, guess_or_draft, guess_version, guess_version_or_draft};
+use bin_tape::Image;
+use certificate::{Certificate, Version};
 use command_line::Destination;
 use command_parts::options::{DeclareOptions, RefuteOptions};
 use command_parts::programs::Program;
 use command_parts::status::{Fault, Status};
+use declaration::Declaration;
 use diagnostics::verdicts::certificates::write_certificate;
 use machine_commands::messages::refute_message;
 use search_commands::completing::complete;
@@ -59,7 +61,33 @@ fn tell_stuck<R: Files + Print + Eprint>(
     Err(Fault::Guess(GuessFault::Stuck(stuck.at)))
 }
 
-/// Searches for a certificate. If the search is stuck, it says why on standard error and writes a report, each if it is
+/// Searches for a certificate, of a version if one is asked for.
+fn found_for(
+    alloc: Global,
+    image: &Image,
+    declaration: &Declaration<Global>,
+    version: Option<Version>,
+) -> Result<Certificate<Global>, GuessFault> {
+    match version {
+        None => guess(alloc, image, declaration),
+        Some(version) => guess_version(alloc, image, declaration, version),
+    }
+}
+
+/// Searches for a certificate, of a version if one is asked for, or for the draft of one.
+fn attempt_for(
+    alloc: Global,
+    image: &Image,
+    declaration: &Declaration<Global>,
+    version: Option<Version>,
+) -> Result<Attempt<Global>, GuessFault> {
+    match version {
+        None => guess_or_draft(alloc, image, declaration),
+        Some(version) => guess_version_or_draft(alloc, image, declaration, version),
+    }
+}
+
+/// Searches for a certificate, of a version if one is asked for. If the search is stuck, it says why on standard error and writes a report, each if it is
 /// asked for: one search is made for all of them.
 #[inline(never)]
 pub(crate) fn guessed<R: Files + Print + Eprint, I: Read + Drop>(
@@ -68,15 +96,16 @@ pub(crate) fn guessed<R: Files + Print + Eprint, I: Read + Drop>(
     opened: &mut OpenProgram<'_, I>,
     out: Destination<'_>,
     report: Option<&str>,
+    version: Option<Version>,
     explained: bool,
 ) -> Result<Status, Fault> {
     let mut file = open_output(rt, alloc, out)?;
     let source = opened.source;
     let Program { image, declaration } = opened.read(alloc)?;
     if !explained && report.is_none() {
-        return write_found(&mut file, &guess(alloc, &image, &declaration)?);
+        return write_found(&mut file, &found_for(alloc, &image, &declaration, version)?);
     }
-    match &guess_or_draft(alloc, &image, &declaration)? {
+    match &attempt_for(alloc, &image, &declaration, version)? {
         Attempt::Found(found) => write_found(&mut file, found),
         Attempt::Stuck(at, draft) => {
             let stuck = Stuck {

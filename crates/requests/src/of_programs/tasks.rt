@@ -1,15 +1,18 @@
 //! What is done with a program that is open. The other files of a command are opened before the program is read.
 
 use crate::files::{finish, open_input, open_output};
+use crate::of_machine::places::Symbolic;
 use crate::of_programs::open::OpenProgram;
 use crate::of_programs::searches::{declared, guessed, refuted};
 use crate::of_programs::verified::verified;
 use crate::of_sources::assembled::AssembledSource;
 use crate::of_sources::source_lines::lines_of;
 use crate::tellers::open_input_if;
-use command_line::{Destination, ProgramRequest, Task, WatchedSession};
+use crate::telling::tell_misuse;
+use command_line::{Destination, Misuse, ProgramRequest, Task, WatchedSession};
 use command_parts::inputs::{bytes_from, events_from};
 use command_parts::message::Message;
+use command_parts::options::{RunOptions, SessionOptions};
 use command_parts::outcome::deliver;
 use command_parts::programs::Program;
 use command_parts::status::{Fault, Status};
@@ -113,10 +116,18 @@ fn session_watched<R: Files + Input + Print, I: Read + Drop>(
     alloc: Global,
     opened: &mut OpenProgram<'_, I>,
     session: &WatchedSession<'_>,
+    show: &WordSet,
 ) -> Result<Status, Fault> {
     let mut reader = open_input_if(rt, session.reader)?;
     let mut keys = open_input_if(rt, session.keys)?;
-    let (options, explained) = (&session.options, session.explained);
+    let explained = session.explained;
+    let options = &SessionOptions {
+        run: RunOptions {
+            show: *show,
+            ..session.options.run
+        },
+        ..session.options
+    };
     let source = opened.labels(explained);
     let Program { image, declaration } = opened.read(alloc)?;
     let frames = bytes_from(alloc, &mut reader, options.run.rounds)?;
@@ -158,6 +169,20 @@ fn report_form(text: bool) -> ReportForm {
     }
 }
 
+/// The cells that are shown when a run is over: those of a source may be named by its symbols.
+fn shown_of(
+    source: Option<&AssembledSource>,
+    asked: &ProgramRequest<'_>,
+    show: &WordSet,
+) -> Result<WordSet, Misuse> {
+    match source {
+        None => Ok(*show),
+        Some(source) => asked.places.shown(&Symbolic {
+            own: source.numbered.map.symbols(),
+        }),
+    }
+}
+
 /// Does what is asked for with a program that is open. Each command has a frame of its own on the stack, since they are
 /// large.
 ///
@@ -179,9 +204,21 @@ pub(crate) fn carry_out<R: Files + Input + Print + Eprint, I: Read + Drop>(
             out,
             text,
         } => reported(rt, alloc, opened, certificate, *out, report_form(*text)),
-        Task::Watch { events, show } => watched(rt, alloc, opened, events, show, explained),
-        Task::WatchSession(session) => session_watched(rt, alloc, opened, session),
-        Task::Guess { out, report } => guessed(rt, alloc, opened, *out, *report, explained),
+        Task::Watch { events, show } => match shown_of(opened.source, asked, show) {
+            Ok(show) => watched(rt, alloc, opened, events, &show, explained),
+            Err(misuse) => Ok(tell_misuse(rt, &misuse.with_symbols())),
+        },
+        Task::WatchSession(session) => {
+            match shown_of(opened.source, asked, &session.options.run.show) {
+                Ok(show) => session_watched(rt, alloc, opened, session, &show),
+                Err(misuse) => Ok(tell_misuse(rt, &misuse.with_symbols())),
+            }
+        }
+        Task::Guess {
+            out,
+            report,
+            version,
+        } => guessed(rt, alloc, opened, *out, *report, *version, explained),
         Task::Refute { out, options } => refuted(rt, alloc, opened, *out, options),
         Task::Declare { out, options } => declared(rt, alloc, opened, *out, *options),
         Task::Place { out } => placed(rt, alloc, opened.source, *out),

@@ -56,7 +56,7 @@ pub enum Prepared {
 
 /// Reads the parts of a source in order, up to the first that cannot be read, and puts them after those that were
 /// read.
-fn read_parts<R: Files + Input>(
+pub(crate) fn read_parts<R: Files + Input>(
     rt: &R,
     alloc: Global,
     names: &[&str],
@@ -92,7 +92,7 @@ pub(crate) fn says_something(declaration: &[u8]) -> bool {
 }
 
 /// The line that names a machine.
-fn machine_line(profile: Profile) -> &'static [u8] {
+pub(crate) fn machine_line(profile: Profile) -> &'static [u8] {
     match profile {
         Profile::Pdp8I => b"profile 8i\n",
         Profile::Pdp8E => b"profile 8e\n",

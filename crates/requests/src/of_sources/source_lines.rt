@@ -68,7 +68,7 @@ fn push_source_line(
 }
 
 /// Whether a source's line begins with the tag that is the name of its address.
-fn begins_with_tag(note: SourceNote<'_>) -> bool {
+pub(crate) fn begins_with_tag(note: SourceNote<'_>) -> bool {
     match note.text.strip_prefix(note.label) {
         Some(rest) => rest.starts_with(b","),
         None => false,

@@ -1,6 +1,6 @@
 use Rattle.std.proofs.Common.{◌≡◌, ◌+◌, ◌*◌, ℕ, drop, subst, arith}
-use Rattle.certificate.specs.Sums.Packed.{said_lines}
-use Rattle.certificate.specs.Sums.Found.{from_place}
+use Rattle.certificate.specs.Packed.{said_lines}
+use Rattle.certificate.specs.Found.{from_place}
 use Rattle.certificate.proofs.SumReaderLemmas.{exits_begin}
 use Rattle.certificate.proofs.Certificate.exits_from.Goals as goal
 

@@ -1,5 +1,5 @@
 use Rattle.std.proofs.Common.{arith}
-use Rattle.certificate.specs.Sums.Packed.{said_lines}
+use Rattle.certificate.specs.Packed.{said_lines}
 use Rattle.certificate.proofs.SumReaderLemmas.{facts_begin}
 use Rattle.certificate.proofs.Certificate.facts_from.Goals as goal
 

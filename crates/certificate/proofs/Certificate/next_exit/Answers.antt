@@ -1,6 +1,6 @@
 use Rattle.std.proofs.Common.{◌≡◌, ◌+◌, ◌*◌, true, false, ℕ, sym, subst, drop, arith}
-use Rattle.certificate.specs.Sums.Packed.{said_lines}
-use Rattle.certificate.specs.Sums.Found.{begins_at}
+use Rattle.certificate.specs.Packed.{said_lines}
+use Rattle.certificate.specs.Found.{begins_at}
 use Rattle.certificate.proofs.SumReaderLemmas.{fit_next, exit_next, has_said, no_exit_left}
 use Rattle.certificate.proofs.Certificate.next_exit.Goals as goal
 

@@ -1,6 +1,6 @@
 use Rattle.std.proofs.Common.{◌≡◌, ◌+◌, ◌*◌, ℕ, true, false, sym, subst, drop, arith}
-use Rattle.certificate.specs.Sums.Packed.{said_lines}
-use Rattle.certificate.specs.Sums.Found.{begins_at}
+use Rattle.certificate.specs.Packed.{said_lines}
+use Rattle.certificate.specs.Found.{begins_at}
 use Rattle.certificate.proofs.SumReaderLemmas.{no_exit_left}
 use Rattle.certificate.proofs.SumSkipLemmas.{exit_skipped, begun_within}
 use Rattle.certificate.proofs.Certificate.skip_exit.Goals as goal

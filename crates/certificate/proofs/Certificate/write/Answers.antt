@@ -1,11 +1,11 @@
 use Rattle.std.proofs.Common.{◌≡◌, ◌++◌}
 use Rattle.std.specs.Prelude.{codes}
-use Rattle.certificate.specs.Spelling.{ended}
-use Rattle.certificate.specs.Sums.Spelling.{version_text}
-use Rattle.certificate.specs.Sums.Spelled.{all_ended}
-use Rattle.certificate.specs.Sums.Laws.{bytes_of}
-use Rattle.certificate.specs.Sums.Kept.{meaning}
-use Rattle.certificate.specs.Sums.Packed.{said_lines}
+use Rattle.certificate.specs.FieldSpelling.{ended}
+use Rattle.certificate.specs.Spelling.{version_text}
+use Rattle.certificate.specs.Spelled.{all_ended}
+use Rattle.certificate.specs.Laws.{bytes_of}
+use Rattle.certificate.specs.Kept.{meaning}
+use Rattle.certificate.specs.Packed.{said_lines}
 use Rattle.certificate.proofs.SumReaderLemmas.{formed}
 use Rattle.certificate.proofs.SumMadeLemmas.{text_ended}
 use Rattle.certificate.proofs.Certificate.write.Goals as goal

@@ -1,6 +1,6 @@
 use Rattle.std.proofs.Common.{◌∙◌, List, [], get_or, ap, sym}
-use Rattle.certificate.specs.Sums.Lines.{Line}
-use Rattle.certificate.specs.Sums.Packed.{said_lines}
+use Rattle.certificate.specs.Lines.{Line}
+use Rattle.certificate.specs.Packed.{said_lines}
 use Rattle.certificate.proofs.SumReaderLemmas.{formed}
 use Rattle.certificate.proofs.SumWrittenLemmas.{lines_end}
 use Rattle.certificate.proofs.Certificate.write_fact.Goals as goal

@@ -2,9 +2,9 @@ use Rattle.std.proofs.Common.{◌≡◌, ◌++◌, true, refl, ap, ◌∙◌, Li
 use Rattle.std.specs.Prelude.{codes, nat_lt}
 use Rattle.word12.specs.Words.{octal_text}
 use Rattle.wordset.specs.Words.{has_some}
-use Rattle.certificate.specs.Spelling.{set_text}
-use Rattle.certificate.specs.Fields.{left}
-use Rattle.certificate.specs.Packed.{added}
+use Rattle.certificate.specs.FieldSpelling.{set_text}
+use Rattle.certificate.specs.FieldsLeft.{left}
+use Rattle.certificate.specs.Runs.{added}
 use Rattle.certificate.proofs.DigitLemmas.{at_some}
 use Rattle.certificate.proofs.SumReadLemmas.{added_ends, one_laid, cell_spelled}
 use Rattle.std.proofs.lemmas.Bool.{and_parts, ltb-true}

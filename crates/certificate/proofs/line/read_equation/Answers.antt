@@ -2,11 +2,11 @@ use Rattle.std.proofs.Common.{◌≡◌, ◌++◌, ◌∙◌, refl, ap, sym, Lis
 use Rattle.std.specs.Prelude.{codes}
 use Rattle.std.proofs.lemmas.Bool.{and_parts}
 use Rattle.word12.specs.Words.{octal_text}
-use Rattle.domain.specs.Meaning.{location_of}
-use Rattle.domain.specs.Sums.Terms.{difference_of}
-use Rattle.certificate.specs.Spelling.{name_text}
-use Rattle.certificate.specs.Fields.{left}
-use Rattle.certificate.specs.Sums.LineOf.{is_relation}
+use Rattle.domain.specs.LocationsInCode.{location_of}
+use Rattle.domain.specs.Terms.{difference_of}
+use Rattle.certificate.specs.FieldSpelling.{name_text}
+use Rattle.certificate.specs.FieldsLeft.{left}
+use Rattle.certificate.specs.LineOf.{is_relation}
 use Rattle.certificate.proofs.LineLemmas.{both, whole}
 use Rattle.certificate.proofs.SumReadLemmas.{one_laid, IsDifference, difference_parts, equation_spelled, equation_of_fits, equation_fields, one_small, set_added}
 use Rattle.certificate.proofs.line.read_equation.Goals as goal

@@ -3,16 +3,16 @@ use Rattle.std.specs.Prelude.{codes, IfSome, nat_lt}
 use Rattle.std.proofs.lemmas.List.{length-drop}
 use Rattle.word12.specs.Words.{octal_text}
 use Rattle.wordset.specs.Words.{Words}
-use Rattle.certificate.specs.Spelling.{Registers}
-use Rattle.certificate.specs.Fields.{left}
-use Rattle.certificate.specs.Packed.{added, registers_at}
-use Rattle.certificate.specs.Sums.Spelling.{sites_text, words_text, offset_text}
-use Rattle.certificate.specs.Sums.Laws.{SitesFit, RegistersFit}
+use Rattle.certificate.specs.FieldSpelling.{Registers}
+use Rattle.certificate.specs.FieldsLeft.{left}
+use Rattle.certificate.specs.Runs.{added, registers_at}
+use Rattle.certificate.specs.Spelling.{sites_text, words_text, offset_text}
+use Rattle.certificate.specs.Laws.{SitesFit, RegistersFit}
 use Rattle.certificate.proofs.DigitLemmas.{at_some}
 use Rattle.certificate.proofs.LineLemmas.{both, earlier, whole}
 use Rattle.certificate.proofs.SumPackedLemmas.{AreSited, are_sited}
 use Rattle.std.proofs.lemmas.Bool.{and_parts, ltb-true}
-use Rattle.certificate.specs.Sums.LineOf.{has_registers, most_offsets}
+use Rattle.certificate.specs.LineOf.{has_registers, most_offsets}
 use Rattle.certificate.proofs.SumReadLemmas.{exit_fields, exit_spelled, sited_whole}
 use Rattle.certificate.proofs.line.read_exit.Goals as goal
 

@@ -3,13 +3,13 @@ use Rattle.std.specs.Prelude.{codes, IfSome, nat_lt}
 use Rattle.std.proofs.lemmas.List.{length-drop}
 use Rattle.word12.specs.Words.{octal_text}
 use Rattle.wordset.specs.Words.{Words}
-use Rattle.certificate.specs.Spelling.{Registers}
-use Rattle.certificate.specs.Fields.{left}
-use Rattle.certificate.specs.Packed.{added, registers_at}
-use Rattle.certificate.specs.Sums.Spelling.{sites_text, words_text, offsets_line}
-use Rattle.domain.specs.Sums.Offsets.{offsets_in}
-use Rattle.certificate.specs.Sums.LineOf.{has_registers}
-use Rattle.certificate.specs.Sums.Laws.{SitesFit, RegistersFit}
+use Rattle.certificate.specs.FieldSpelling.{Registers}
+use Rattle.certificate.specs.FieldsLeft.{left}
+use Rattle.certificate.specs.Runs.{added, registers_at}
+use Rattle.certificate.specs.Spelling.{sites_text, words_text, offsets_line}
+use Rattle.domain.specs.Offsets.{offsets_in}
+use Rattle.certificate.specs.LineOf.{has_registers}
+use Rattle.certificate.specs.Laws.{SitesFit, RegistersFit}
 use Rattle.certificate.proofs.DigitLemmas.{at_some}
 use Rattle.certificate.proofs.LineLemmas.{both, earlier, whole}
 use Rattle.certificate.proofs.SumPackedLemmas.{AreSited, are_sited}

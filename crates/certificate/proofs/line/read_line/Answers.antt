@@ -1,12 +1,12 @@
 use Rattle.std.proofs.Common.{◌≡◌, rules, true}
 use Rattle.std.specs.Prelude.{is_some}
-use Rattle.domain.specs.Sums.Facts.{Relation}
+use Rattle.domain.specs.Facts.{Relation}
 use Rattle.certificate.specs.declared.Version.{Version}
 use Rattle.certificate.specs.declared.Version.TheVariants.{One, Two, Three}
-use Rattle.certificate.specs.Sums.Lines.{Line, RoutineIs, FactIs, ExitIs, CellIs, SumIs, ChainIs, End}
-use Rattle.certificate.specs.Sums.Spelling.{relation_line, line_text}
-use Rattle.certificate.specs.Sums.LineOf.{has_form}
-use Rattle.certificate.specs.Sums.Laws.{LineFits}
+use Rattle.certificate.specs.Lines.{Line, RoutineIs, FactIs, ExitIs, CellIs, SumIs, ChainIs, End}
+use Rattle.certificate.specs.Spelling.{relation_line, line_text}
+use Rattle.certificate.specs.LineOf.{has_form}
+use Rattle.certificate.specs.Laws.{LineFits}
 use Rattle.certificate.proofs.line.read_line.Goals as goal
 
 pub returns-in-102-clause-within : goal.returns-in-102-clause-within

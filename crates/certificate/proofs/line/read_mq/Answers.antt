@@ -1,5 +1,5 @@
-use Rattle.certificate.specs.Fields.{left}
-use Rattle.certificate.specs.Packed.{added}
+use Rattle.certificate.specs.FieldsLeft.{left}
+use Rattle.certificate.specs.Runs.{added}
 use Rattle.certificate.proofs.SumReadLemmas.{added_ends, if_some, all_some}
 use Rattle.certificate.proofs.line.read_mq.Goals as goal
 

@@ -2,11 +2,11 @@ use Rattle.std.proofs.Common.{◌≡◌, ◌+◌, ◌≤◌, refl, ap, ◌∙◌
 use Rattle.std.specs.Prelude.{codes, ◌++◌}
 use Rattle.wordset.specs.Words.{has_some}
 use Rattle.wordset.specs.Links.{links_of}
-use Rattle.certificate.specs.Spelling.{set_text, digits}
-use Rattle.certificate.specs.Fields.{left}
-use Rattle.certificate.specs.Packed.{added}
-use Rattle.certificate.specs.Sums.Spelling.{mq_text}
-use Rattle.certificate.specs.Sums.Laws.{MqFits}
+use Rattle.certificate.specs.FieldSpelling.{set_text, digits}
+use Rattle.certificate.specs.FieldsLeft.{left}
+use Rattle.certificate.specs.Runs.{added}
+use Rattle.certificate.specs.Spelling.{mq_text}
+use Rattle.certificate.specs.Laws.{MqFits}
 use Rattle.certificate.proofs.PackedLemmas.{two_laid}
 use Rattle.certificate.proofs.LineLemmas.{both, earlier}
 use Rattle.certificate.proofs.SumReadLemmas.{added_ends, registers_formed, registers_fit, registers_parts, mq_space, words_fields}

@@ -2,11 +2,11 @@ use Rattle.std.proofs.Common.{◌≡◌, ◌+◌, ◌≤◌, refl, ap, ◌∙◌
 use Rattle.std.specs.Prelude.{codes, ◌++◌, nat_lt}
 use Rattle.std.proofs.lemmas.Bool.{and_parts, and_from, ltb-true, lt-ltb}
 use Rattle.word12.specs.Words.{octal_text}
-use Rattle.certificate.specs.Fields.{left}
+use Rattle.certificate.specs.FieldsLeft.{left}
 use Rattle.certificate.proofs.PackedLemmas.{from_none}
 use Rattle.certificate.proofs.LineLemmas.{both, whole, routine_fields}
-use Rattle.certificate.specs.Spelling.{set_text, rank_text}
-use Rattle.certificate.specs.Packed.{added}
+use Rattle.certificate.specs.FieldSpelling.{set_text, rank_text}
+use Rattle.certificate.specs.Runs.{added}
 use Rattle.certificate.proofs.SumReadLemmas.{added_ends}
 use Rattle.certificate.proofs.line.read_routine.Goals as goal
 

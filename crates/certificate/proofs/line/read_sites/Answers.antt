@@ -1,4 +1,4 @@
-use Rattle.certificate.specs.Fields.{left}
+use Rattle.certificate.specs.FieldsLeft.{left}
 use Rattle.certificate.proofs.SumPackedLemmas.{none_added}
 use Rattle.certificate.proofs.SumReadLemmas.{added_ends, if_some}
 use Rattle.certificate.proofs.line.read_sites.Goals as goal

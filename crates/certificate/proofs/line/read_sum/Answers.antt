@@ -2,13 +2,13 @@ use Rattle.std.proofs.Common.{◌≡◌, ◌++◌, true, refl, ap, ◌∙◌, Li
 use Rattle.std.proofs.lemmas.Bool.{and_parts}
 use Rattle.std.specs.Prelude.{codes, IfSome}
 use Rattle.wordset.specs.Words.{has_some}
-use Rattle.domain.specs.Sums.Terms.{Sum}
-use Rattle.certificate.specs.Spelling.{set_text}
-use Rattle.certificate.specs.Fields.{left}
-use Rattle.certificate.specs.Packed.{added}
-use Rattle.certificate.specs.Sums.Spelling.{sum_text}
-use Rattle.certificate.specs.Sums.Packed.{packed_sum_of}
-use Rattle.certificate.specs.Sums.LineOf.{is_relation}
+use Rattle.domain.specs.Terms.{Sum}
+use Rattle.certificate.specs.FieldSpelling.{set_text}
+use Rattle.certificate.specs.FieldsLeft.{left}
+use Rattle.certificate.specs.Runs.{added}
+use Rattle.certificate.specs.Spelling.{sum_text}
+use Rattle.certificate.specs.Packed.{packed_sum_of}
+use Rattle.certificate.specs.LineOf.{is_relation}
 use Rattle.certificate.proofs.DigitLemmas.{at_some}
 use Rattle.certificate.proofs.LineLemmas.{both, earlier, whole}
 use Rattle.certificate.proofs.SumReadLemmas.{added_ends, one_laid, sum_spelled, sum_line_fields}

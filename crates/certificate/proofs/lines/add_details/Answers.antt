@@ -1,5 +1,5 @@
 use Rattle.std.proofs.Common.{◌+◌, ◌∙◌, sym, drop, arith}
-use Rattle.certificate.specs.Sums.Packed.{said_of, said_lines}
+use Rattle.certificate.specs.Packed.{said_of, said_lines}
 use Rattle.certificate.proofs.SumDetailLemmas.{none_sofar, sofar_more, room_left, other_next, past_left, past_both}
 use Rattle.certificate.proofs.lines.add_details.Goals as goal
 

@@ -1,5 +1,5 @@
 use Rattle.std.proofs.Common.{drop}
-use Rattle.certificate.specs.Sums.Packed.{said_lines}
+use Rattle.certificate.specs.Packed.{said_lines}
 use Rattle.certificate.proofs.SumDetailLemmas.{AddedSofar}
 use Rattle.certificate.proofs.lines.add_details.Given as goal
 

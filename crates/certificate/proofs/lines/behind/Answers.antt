@@ -1,5 +1,5 @@
 use Rattle.std.proofs.Common.{◌≡◌, ◌+◌, ◌∙◌, refl, sym, arith}
-use Rattle.certificate.specs.Sums.Packed.{said_of, said_lines}
+use Rattle.certificate.specs.Packed.{said_of, said_lines}
 use Rattle.certificate.proofs.SumSkipLemmas.{passed_on, stops_here, ends_here}
 use Rattle.certificate.proofs.lines.behind.Goals as goal
 

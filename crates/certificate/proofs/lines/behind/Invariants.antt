@@ -1,6 +1,6 @@
 use Rattle.std.proofs.Common.{◌≡◌, ◌+◌, ◌≤◌, drop, length}
-use Rattle.certificate.specs.Sums.Packed.{said_lines}
-use Rattle.certificate.specs.Sums.Found.{behind_details}
+use Rattle.certificate.specs.Packed.{said_lines}
+use Rattle.certificate.specs.Found.{behind_details}
 use Rattle.certificate.proofs.lines.behind.Given as goal
 
 abbrev pub invariant-loop-at : goal.invariant-loop-at

@@ -1,5 +1,5 @@
 use Rattle.std.proofs.Common.{◌≡◌, ◌∙◌, refl, sym, arith}
-use Rattle.certificate.specs.Sums.Packed.{said_of, said_lines}
+use Rattle.certificate.specs.Packed.{said_of, said_lines}
 use Rattle.certificate.proofs.SumDetailLemmas.{detail_passed, other_line, no_line, first_ended, none_first}
 use Rattle.certificate.proofs.lines.end_of.Goals as goal
 

@@ -1,5 +1,5 @@
 use Rattle.std.proofs.Common.{◌≡◌, ◌+◌, ◌≤◌, length}
-use Rattle.certificate.specs.Sums.Packed.{said_lines}
+use Rattle.certificate.specs.Packed.{said_lines}
 use Rattle.certificate.proofs.SumDetailLemmas.{EndsAt}
 use Rattle.certificate.proofs.lines.end_of.Given as goal
 

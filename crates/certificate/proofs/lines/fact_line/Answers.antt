@@ -1,8 +1,8 @@
 use Rattle.std.proofs.Common.{◌≡◌, ◌∙◌, ◌<◌, [], get_or, sym, ap, arith}
 use Rattle.std.proofs.lemmas.List.{drop_all}
-use Rattle.certificate.specs.Sums.Packed.{said_lines}
-use Rattle.certificate.specs.Sums.Found.{first_with_details}
-use Rattle.certificate.specs.Sums.Written.{facts_lines}
+use Rattle.certificate.specs.Packed.{said_lines}
+use Rattle.certificate.specs.Found.{first_with_details}
+use Rattle.certificate.specs.Written.{facts_lines}
 use Rattle.certificate.proofs.SumWrittenLemmas.{none_passed, one_passed, fewer, its_lines}
 use Rattle.certificate.proofs.lines.fact_line.Goals as goal
 

@@ -1,4 +1,4 @@
-use Rattle.certificate.specs.Sums.Packed.{said_lines}
+use Rattle.certificate.specs.Packed.{said_lines}
 use Rattle.certificate.proofs.SumWrittenLemmas.{IsPassed}
 use Rattle.certificate.proofs.lines.fact_line.Given as goal
 

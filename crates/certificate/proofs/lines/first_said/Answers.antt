@@ -1,5 +1,5 @@
 use Rattle.std.proofs.Common.{◌+◌, drop, refl}
-use Rattle.certificate.specs.Sums.Packed.{said_of, said_lines}
+use Rattle.certificate.specs.Packed.{said_of, said_lines}
 use Rattle.certificate.proofs.SumDetailLemmas.{room_under, said_with}
 use Rattle.certificate.proofs.lines.first_said.Goals as goal
 

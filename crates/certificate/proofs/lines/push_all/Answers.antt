@@ -1,11 +1,11 @@
 use Rattle.std.proofs.Common.{[], ◌∷◌, ◌++◌, ◌∙◌, List, map, ap}
-use Rattle.domain.specs.Statements.{TrackedCell}
-use Rattle.domain.specs.Sums.Chains.{Chain}
-use Rattle.domain.specs.Sums.Facts.{Relation}
-use Rattle.certificate.specs.Sums.Lines.{CellIs, SumIs, ChainIs}
+use Rattle.domain.specs.TrackedCells.{TrackedCell}
+use Rattle.domain.specs.Chains.{Chain}
+use Rattle.domain.specs.Facts.{Relation}
+use Rattle.certificate.specs.Lines.{CellIs, SumIs, ChainIs}
 use Rattle.certificate.proofs.SumDetailLemmas.{all_pushed}
-use Rattle.certificate.specs.Sums.Packed.{claimed_line}
-use Rattle.certificate.specs.Sums.Packed.{said_lines}
+use Rattle.certificate.specs.Packed.{claimed_line}
+use Rattle.certificate.specs.Packed.{said_lines}
 use Rattle.certificate.proofs.MakerLemmas.{begins_both, on_ok}
 use Rattle.certificate.proofs.lines.push_all.Goals as goal
 

@@ -1,6 +1,6 @@
 use Rattle.std.proofs.Common.{◌∙◌, map, take}
-use Rattle.domain.specs.Sums.CellsInCode.{cell_set_of}
-use Rattle.certificate.specs.Sums.Lines.{CellIs}
+use Rattle.domain.specs.CellsInCode.{cell_set_of}
+use Rattle.certificate.specs.Lines.{CellIs}
 use Rattle.certificate.proofs.lines.push_cells.Goals as goal
 
 pub returns-in_err-claim-clause-front : goal.returns-in_err-claim-clause-front

@@ -1,7 +1,7 @@
 use Rattle.std.proofs.Common.{◌≡◌, ◌++◌, map, take}
-use Rattle.domain.specs.Sums.CellsInCode.{cell_set_of}
-use Rattle.certificate.specs.Sums.Packed.{said_lines}
-use Rattle.certificate.specs.Sums.Lines.{CellIs}
+use Rattle.domain.specs.CellsInCode.{cell_set_of}
+use Rattle.certificate.specs.Packed.{said_lines}
+use Rattle.certificate.specs.Lines.{CellIs}
 use Rattle.certificate.proofs.lines.push_cells.Given as goal
 
 abbrev pub invariant-loop-cell : goal.invariant-loop-cell

@@ -1,7 +1,7 @@
 use Rattle.std.proofs.Common.{◌∙◌, ◌≤◌, map, take, length}
-use Rattle.domain.specs.Sums.ChainsInCode.{chain_of}
-use Rattle.certificate.specs.Sums.Lines.{ChainIs}
-use Rattle.domain.specs.Sums.Chains.{Chain}
+use Rattle.domain.specs.ChainsInCode.{chain_of}
+use Rattle.certificate.specs.Lines.{ChainIs}
+use Rattle.domain.specs.Chains.{Chain}
 use Rattle.certificate.proofs.SumDetailLemmas.{each_at}
 use Rattle.certificate.proofs.lines.push_chains.Goals as goal
 

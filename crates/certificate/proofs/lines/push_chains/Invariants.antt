@@ -1,7 +1,7 @@
 use Rattle.std.proofs.Common.{◌≡◌, ◌++◌, map, take}
-use Rattle.domain.specs.Sums.ChainsInCode.{chain_of}
-use Rattle.certificate.specs.Sums.Packed.{said_lines}
-use Rattle.certificate.specs.Sums.Lines.{ChainIs}
+use Rattle.domain.specs.ChainsInCode.{chain_of}
+use Rattle.certificate.specs.Packed.{said_lines}
+use Rattle.certificate.specs.Lines.{ChainIs}
 use Rattle.certificate.proofs.lines.push_chains.Given as goal
 
 abbrev pub invariant-loop-chain : goal.invariant-loop-chain

@@ -1,9 +1,9 @@
 use Rattle.std.proofs.Common.{◌∙◌, ◌++◌, ◌∷◌, [], ap}
 use Rattle.std.proofs.lemmas.Bool.{false≢true}
-use Rattle.domain.specs.Sums.Terms.{Sum}
-use Rattle.domain.specs.Sums.Brief.{brief_words}
-use Rattle.certificate.specs.Sums.Lines.{SumIs}
-use Rattle.certificate.specs.Sums.Packed.{said_lines}
+use Rattle.domain.specs.Terms.{Sum}
+use Rattle.domain.specs.Brief.{brief_words}
+use Rattle.certificate.specs.Lines.{SumIs}
+use Rattle.certificate.specs.Packed.{said_lines}
 use Rattle.certificate.proofs.MakerLemmas.{on_ok}
 use Rattle.certificate.proofs.lines.push_relation.Goals as goal
 

@@ -1,8 +1,8 @@
 use Rattle.std.proofs.Common.{◌≡◌, ◌∙◌, true, map, take}
-use Rattle.domain.specs.Sums.Facts.{Relation}
-use Rattle.domain.specs.Sums.RelationsInCode.{relation_of}
-use Rattle.certificate.specs.Sums.Lines.{SumIs}
-use Rattle.certificate.specs.Sums.LineOf.{is_relation}
+use Rattle.domain.specs.Facts.{Relation}
+use Rattle.domain.specs.RelationsInCode.{relation_of}
+use Rattle.certificate.specs.Lines.{SumIs}
+use Rattle.certificate.specs.LineOf.{is_relation}
 use Rattle.certificate.proofs.SumDetailLemmas.{each_at}
 use Rattle.certificate.proofs.lines.push_relations.Goals as goal
 

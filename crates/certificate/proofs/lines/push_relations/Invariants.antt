@@ -1,7 +1,7 @@
 use Rattle.std.proofs.Common.{◌≡◌, ◌++◌, map, take}
-use Rattle.domain.specs.Sums.RelationsInCode.{relation_of}
-use Rattle.certificate.specs.Sums.Packed.{said_lines}
-use Rattle.certificate.specs.Sums.Lines.{SumIs}
+use Rattle.domain.specs.RelationsInCode.{relation_of}
+use Rattle.certificate.specs.Packed.{said_lines}
+use Rattle.certificate.specs.Lines.{SumIs}
 use Rattle.certificate.proofs.lines.push_relations.Given as goal
 
 abbrev pub invariant-loop-relation : goal.invariant-loop-relation

@@ -1,8 +1,8 @@
 use Rattle.std.proofs.Common.{◌∙◌}
 use Rattle.wordset.specs.Lanes.{words}
-use Rattle.domain.specs.Sums.CellsInCode.{cell_sets_of}
-use Rattle.domain.specs.Sums.Offsets.{offsets_in}
-use Rattle.domain.specs.Sums.FactInCode.{fact_in_code}
+use Rattle.domain.specs.CellsInCode.{cell_sets_of}
+use Rattle.domain.specs.Offsets.{offsets_in}
+use Rattle.domain.specs.FactInCode.{fact_in_code}
 use Rattle.certificate.proofs.SumAddingLemmas.{begun_fact, registers_begun}
 use Rattle.certificate.proofs.packed.begin.Goals as goal
 

@@ -1,7 +1,7 @@
 use Rattle.std.proofs.Common.{◌∙◌, [], drop, ap}
 use Rattle.wordset.specs.Words.{Words}
-use Rattle.certificate.specs.Packed.{set_at, registers_at}
-use Rattle.certificate.specs.Sums.Reading.{fact_said}
+use Rattle.certificate.specs.Runs.{set_at, registers_at}
+use Rattle.certificate.specs.Reading.{fact_said}
 use Rattle.certificate.proofs.packed.begin_said.Goals as goal
 
 pub returns-in-Fact-clause-says : goal.returns-in-Fact-clause-says

@@ -1,8 +1,8 @@
 use Rattle.std.proofs.Common.{◌≡◌, ◌∙◌, ◌++◌, [], ◌∷◌, take, map, ap}
 use Rattle.wordset.specs.Links.{links_of}
-use Rattle.domain.specs.Sums.Chains.{Chain}
-use Rattle.domain.specs.Sums.ChainsInCode.{step_of, chain_of}
-use Rattle.domain.specs.Sums.FactInCode.{fact_in_code}
+use Rattle.domain.specs.Chains.{Chain}
+use Rattle.domain.specs.ChainsInCode.{step_of, chain_of}
+use Rattle.domain.specs.FactInCode.{fact_in_code}
 use Rattle.certificate.proofs.packed.chain.Goals as goal
 
 pub returns-clause-fact : goal.returns-clause-fact

@@ -1,9 +1,9 @@
 use Rattle.std.proofs.Common.{◌∙◌, ◌&&◌, ap, sym}
-use Rattle.domain.specs.Meaning.{location_of}
-use Rattle.domain.specs.Sums.InCode.{summand_of}
-use Rattle.domain.specs.Sums.Terms.{Holding, Sum, arranged, same_sum}
-use Rattle.domain.specs.Sums.Shapes.{has_shape}
-use Rattle.certificate.specs.Sums.Packed.{packed_sum_of}
+use Rattle.domain.specs.LocationsInCode.{location_of}
+use Rattle.domain.specs.InCode.{summand_of}
+use Rattle.domain.specs.Terms.{Holding, Sum, arranged, same_sum}
+use Rattle.domain.specs.Shapes.{has_shape}
+use Rattle.certificate.specs.Packed.{packed_sum_of}
 use Rattle.certificate.proofs.SumFieldLemmas.{no_words, of_words}
 use Rattle.certificate.proofs.packed.is_relation.Goals as goal
 

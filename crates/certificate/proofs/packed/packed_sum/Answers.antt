@@ -1,6 +1,6 @@
 use Rattle.std.proofs.Common.{refl, arith}
-use Rattle.domain.specs.Meaning.{location_of}
-use Rattle.domain.specs.Sums.InCode.{summand_of, sum_of}
+use Rattle.domain.specs.LocationsInCode.{location_of}
+use Rattle.domain.specs.InCode.{summand_of, sum_of}
 use Rattle.certificate.proofs.SumFieldLemmas.{is_kept, pair_packed, triple_packed, no_accumulator, two_or_more}
 use Rattle.certificate.proofs.packed.packed_sum.Goals as goal
 

@@ -1,7 +1,7 @@
 use Rattle.std.proofs.Common.{◌≡◌, ◌-◌, length, suc, true, sym, arith}
 use Rattle.std.proofs.lemmas.Bool.{eqb-false}
-use Rattle.certificate.specs.Sums.Lines.{is_detail}
-use Rattle.certificate.specs.Sums.Packed.{said_at}
+use Rattle.certificate.specs.Lines.{is_detail}
+use Rattle.certificate.specs.Packed.{said_at}
 use Rattle.certificate.proofs.SumFoundLemmas.{last_is}
 use Rattle.certificate.proofs.packed.past.Goals as goal
 

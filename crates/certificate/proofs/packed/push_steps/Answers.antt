@@ -1,4 +1,4 @@
-use Rattle.domain.specs.Sums.ChainsInCode.{chain_of}
+use Rattle.domain.specs.ChainsInCode.{chain_of}
 use Rattle.certificate.proofs.SumAddingLemmas.{step_more, steps_begun, steps_done}
 use Rattle.certificate.proofs.packed.push_steps.Goals as goal
 

@@ -1,5 +1,5 @@
 use Rattle.std.proofs.Common.{◌≡◌, ◌++◌, take, map}
-use Rattle.domain.specs.Sums.ChainsInCode.{step_of, chain_of}
+use Rattle.domain.specs.ChainsInCode.{step_of, chain_of}
 use Rattle.certificate.proofs.packed.push_steps.Given as goal
 
 abbrev pub invariant-loop-step : goal.invariant-loop-step

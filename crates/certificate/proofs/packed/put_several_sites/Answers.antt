@@ -1,6 +1,6 @@
 use Rattle.std.proofs.Common.{◌∙◌, ap}
 use Rattle.wordset.specs.Words.{Words}
-use Rattle.domain.specs.Sums.FactInCode.{fact_in_code}
+use Rattle.domain.specs.FactInCode.{fact_in_code}
 use Rattle.certificate.proofs.packed.put_several_sites.Goals as goal
 
 pub returns-clause-fact : goal.returns-clause-fact

@@ -1,6 +1,6 @@
 use Rattle.std.proofs.Common.{◌<◌, ◌∙◌, ap, subst, sym, arith}
 use Rattle.wordset.specs.Words.{Words}
-use Rattle.domain.specs.Sums.FactInCode.{fact_in_code}
+use Rattle.domain.specs.FactInCode.{fact_in_code}
 use Rattle.certificate.proofs.AddingLemmas.{row_there}
 use Rattle.certificate.proofs.SumAddingLemmas.{no_sites}
 use Rattle.certificate.proofs.packed.put_sites.Goals as goal

@@ -1,9 +1,9 @@
 use Rattle.std.proofs.Common.{◌∙◌, ◌++◌, ◌∷◌, [], ap, sym, subst, ◌<◌, arith}
 use Rattle.wordset.specs.Words.{Words}
-use Rattle.domain.specs.Sums.Terms.{Sum}
-use Rattle.domain.specs.Sums.InCode.{sum_of}
-use Rattle.domain.specs.Sums.FactInCode.{fact_in_code}
-use Rattle.certificate.specs.Packed.{set_at}
+use Rattle.domain.specs.Terms.{Sum}
+use Rattle.domain.specs.InCode.{sum_of}
+use Rattle.domain.specs.FactInCode.{fact_in_code}
+use Rattle.certificate.specs.Runs.{set_at}
 use Rattle.certificate.proofs.AddingLemmas.{row_there}
 use Rattle.certificate.proofs.SumAddingLemmas.{one_row}
 use Rattle.certificate.proofs.packed.relate.Goals as goal

@@ -1,7 +1,7 @@
 use Rattle.std.proofs.Common.{◌<◌, ◌∙◌, ◌++◌, ◌∷◌, List, [], ap, subst, sym, arith}
 use Rattle.wordset.specs.Words.{Words}
-use Rattle.domain.specs.Statements.{TrackedCell}
-use Rattle.domain.specs.Sums.CellsInCode.{cell_sets_of}
+use Rattle.domain.specs.TrackedCells.{TrackedCell}
+use Rattle.domain.specs.CellsInCode.{cell_sets_of}
 use Rattle.certificate.proofs.AddingLemmas.{row_there}
 use Rattle.certificate.proofs.packed.track.Goals as goal
 

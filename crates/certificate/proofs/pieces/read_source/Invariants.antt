@@ -1,5 +1,5 @@
 use Rattle.std.proofs.Common.{◌≡◌, ◌-◌, length, false}
-use Rattle.certificate.specs.Sums.Parser.{CameTo}
+use Rattle.certificate.specs.Parser.{CameTo}
 use Rattle.certificate.proofs.pieces.read_source.Given as goal
 
 abbrev pub invariant-loop-parser : goal.invariant-loop-parser

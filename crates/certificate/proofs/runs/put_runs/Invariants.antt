@@ -1,7 +1,7 @@
 use Rattle.std.proofs.Common.{◌≡◌, take}
 use Rattle.wordset.specs.Words.{nothing}
 use Rattle.wordset.specs.Lanes.{words}
-use Rattle.certificate.specs.Packed.{joined}
+use Rattle.certificate.specs.Runs.{joined}
 use Rattle.certificate.proofs.runs.put_runs.Given as goal
 
 abbrev pub invariant-loop-run : goal.invariant-loop-run

@@ -1,5 +1,5 @@
 use Rattle.std.proofs.Common.{◌≡◌, ◌≤◌, ◌<◌, ◌+◌, arith}
-use Rattle.certificate.specs.Packed.{StandApart}
+use Rattle.certificate.specs.Runs.{StandApart}
 use Rattle.certificate.proofs.ApartLemmas.{one_apart, all_apart}
 use Rattle.certificate.proofs.runs.stand_apart.Goals as goal
 

@@ -1,6 +1,6 @@
 use Rattle.std.proofs.Common.{List, ◌++◌, take}
 use Rattle.certificate.specs.declared.runs.Run.{Run}
-use Rattle.certificate.specs.Packed.{StandApart}
+use Rattle.certificate.specs.Runs.{StandApart}
 use Rattle.certificate.proofs.runs.stand_apart.Given as goal
 
 abbrev pub invariant-loop-run : goal.invariant-loop-run

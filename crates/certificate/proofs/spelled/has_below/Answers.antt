@@ -1,6 +1,6 @@
 use Rattle.std.proofs.Common.{sym}
 use Rattle.wordset.proofs.Tests.{some_from}
-use Rattle.domain.specs.Sums.Offsets.{offsets_in}
+use Rattle.domain.specs.Offsets.{offsets_in}
 use Rattle.certificate.proofs.SumSpelledLemmas.{none_yet, none_more, none_at_all}
 use Rattle.certificate.proofs.spelled.has_below.Goals as goal
 

@@ -1,10 +1,10 @@
 use Rattle.std.proofs.Common.{◌++◌}
 use Rattle.std.specs.Prelude.{codes}
 use Rattle.std.proofs.KnownBytes.{Appends-trans}
-use Rattle.certificate.specs.Spelling.{ended}
-use Rattle.certificate.specs.Sums.Spelling.{version_text}
-use Rattle.certificate.specs.Sums.Spelled.{all_ended}
-use Rattle.certificate.specs.Sums.Packed.{said_lines}
+use Rattle.certificate.specs.FieldSpelling.{ended}
+use Rattle.certificate.specs.Spelling.{version_text}
+use Rattle.certificate.specs.Spelled.{all_ended}
+use Rattle.certificate.specs.Packed.{said_lines}
 use Rattle.streams.proofs.BytesLemmas.{front_after}
 use Rattle.certificate.proofs.SpelledLemmas.{front_more}
 use Rattle.certificate.proofs.SumSpelledLemmas.{all_lines}

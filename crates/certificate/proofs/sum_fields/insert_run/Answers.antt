@@ -1,6 +1,6 @@
 use Rattle.std.proofs.Common.{◌∙◌, ◌≤◌, ap, arith}
 use Rattle.wordset.specs.Words.{Words}
-use Rattle.domain.specs.Sums.Offsets.{offsets_in}
+use Rattle.domain.specs.Offsets.{offsets_in}
 use Rattle.certificate.proofs.SumFieldLemmas.{run_begun, run_more, run_done}
 use Rattle.certificate.proofs.sum_fields.insert_run.Goals as goal
 

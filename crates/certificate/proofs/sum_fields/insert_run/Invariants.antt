@@ -1,6 +1,6 @@
 use Rattle.std.proofs.Common.{◌≡◌, ◌≤◌, ◌&&◌, ◌||◌, ℕ}
 use Rattle.std.specs.Prelude.{nat_le, nat_lt}
-use Rattle.domain.specs.Sums.Offsets.{offsets_in}
+use Rattle.domain.specs.Offsets.{offsets_in}
 use Rattle.certificate.proofs.sum_fields.insert_run.Given as goal
 
 abbrev pub invariant-loop-offset : goal.invariant-loop-offset

@@ -1,9 +1,9 @@
 use Rattle.std.proofs.Common.{◌∙◌, sym, ap, arith}
 use Rattle.std.proofs.lemmas.Bool.{false≢true, not-true}
-use Rattle.domain.specs.Facts.{same}
-use Rattle.domain.specs.Meaning.{location_of}
-use Rattle.domain.specs.Sums.Terms.{Summand, name_of_term}
-use Rattle.domain.specs.Sums.InCode.{sum_of}
+use Rattle.domain.specs.Locations.{same}
+use Rattle.domain.specs.LocationsInCode.{location_of}
+use Rattle.domain.specs.Terms.{Summand, name_of_term}
+use Rattle.domain.specs.InCode.{sum_of}
 use Rattle.domain.proofs.NameAskedLemmas.{part_of_other}
 use Rattle.domain.proofs.asked.is_idle.Goals as goal
 

@@ -1,6 +1,6 @@
 use Rattle.std.proofs.Common.{◌∙◌, sym}
 use Rattle.wordset.specs.Lanes.{words}
-use Rattle.domain.specs.Meaning.{location_of}
+use Rattle.domain.specs.LocationsInCode.{location_of}
 use Rattle.domain.proofs.NameAskedLemmas.{met_here, met_elsewhere}
 use Rattle.domain.proofs.asked.keep_for_name.Goals as goal
 

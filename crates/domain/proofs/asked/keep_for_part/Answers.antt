@@ -1,12 +1,12 @@
 use Rattle.std.proofs.Common.{◌<◌, ◌∙◌, ap, sym, length, arith}
 use Rattle.wordset.specs.Lanes.{words}
 use Rattle.peripherals.specs.Loading.{image_of}
-use Rattle.domain.specs.Meaning.{location_of}
-use Rattle.domain.specs.Sums.Terms.{Summand}
-use Rattle.domain.specs.Sums.Facts.{Fact, OfSums}
-use Rattle.domain.specs.Sums.Adding.{adding}
-use Rattle.domain.specs.Sums.Narrowing.{of_term}
-use Rattle.domain.specs.Sums.InCode.{sum_of}
+use Rattle.domain.specs.LocationsInCode.{location_of}
+use Rattle.domain.specs.Terms.{Summand}
+use Rattle.domain.specs.Facts.{Fact, OfSums}
+use Rattle.domain.specs.Adding.{adding}
+use Rattle.domain.specs.Narrowing.{of_term}
+use Rattle.domain.specs.InCode.{sum_of}
 use Rattle.domain.proofs.PartLemmas.{part_none, part_one, part_more}
 use Rattle.domain.proofs.asked.keep_for_part.Goals as goal
 

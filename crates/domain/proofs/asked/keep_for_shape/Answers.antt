@@ -1,10 +1,10 @@
 use Rattle.std.proofs.Common.{◌∙◌, ap, arith}
 use Rattle.wordset.specs.Words.{Words}
 use Rattle.wordset.specs.Lanes.{words}
-use Rattle.domain.specs.Meaning.{location_of}
-use Rattle.domain.specs.Sums.Terms.{Summand}
-use Rattle.domain.specs.Sums.Adding.{times, with_term_in}
-use Rattle.domain.specs.Sums.InCode.{sum_of, summand_at}
+use Rattle.domain.specs.LocationsInCode.{location_of}
+use Rattle.domain.specs.Terms.{Summand}
+use Rattle.domain.specs.Adding.{times, with_term_in}
+use Rattle.domain.specs.InCode.{sum_of, summand_at}
 use Rattle.domain.proofs.NameAskedLemmas.{shape_not_one, shape_of_one}
 use Rattle.domain.proofs.asked.keep_for_shape.Goals as goal
 

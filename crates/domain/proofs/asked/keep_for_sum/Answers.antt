@@ -1,8 +1,8 @@
 use Rattle.std.proofs.Common.{◌∙◌, ap}
 use Rattle.wordset.specs.Lanes.{words}
-use Rattle.domain.specs.Meaning.{location_of}
-use Rattle.domain.specs.Sums.Facts.{Fact, OfSums}
-use Rattle.domain.specs.Sums.InCode.{sum_of}
+use Rattle.domain.specs.LocationsInCode.{location_of}
+use Rattle.domain.specs.Facts.{Fact, OfSums}
+use Rattle.domain.specs.InCode.{sum_of}
 use Rattle.domain.proofs.FactLemmas.{nothing_added, shape_added}
 use Rattle.domain.proofs.asked.keep_for_sum.Goals as goal
 

@@ -1,9 +1,9 @@
 use Rattle.std.proofs.Common.{◌∙◌, sym, ap, refl}
 use Rattle.wordset.specs.Lanes.{words}
 use Rattle.peripherals.specs.Loading.{image_of}
-use Rattle.domain.specs.Facts.{same}
-use Rattle.domain.specs.Meaning.{location_of}
-use Rattle.domain.specs.Sums.InCode.{term_of}
+use Rattle.domain.specs.Locations.{same}
+use Rattle.domain.specs.LocationsInCode.{location_of}
+use Rattle.domain.specs.InCode.{term_of}
 use Rattle.domain.proofs.NameAskedLemmas.{told_here, term_of_other}
 use Rattle.domain.proofs.asked.keep_for_term.Goals as goal
 

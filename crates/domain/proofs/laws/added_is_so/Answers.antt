@@ -1,4 +1,4 @@
-use Rattle.domain.proofs.Sums.AddingLemmas.{adding_keeps, added_is_so, all_added_is_so}
+use Rattle.domain.proofs.AddingLemmas.{adding_keeps, added_is_so, all_added_is_so}
 use Rattle.domain.proofs.laws.added_is_so.Goals as goal
 
 pub returns : goal.returns

@@ -1,4 +1,4 @@
-use Rattle.domain.proofs.Sums.MoveLemmas.{moved_is_so, all_moved_is_so, chains_are_counted, counted_holds}
+use Rattle.domain.proofs.MoveLemmas.{moved_is_so, all_moved_is_so, chains_are_counted, counted_holds}
 use Rattle.domain.proofs.laws.counted_holds.Goals as goal
 
 pub returns : goal.returns

@@ -1,4 +1,4 @@
-use Rattle.domain.proofs.Sums.MoveLemmas.{joined_fact_holds, joined_keeps}
+use Rattle.domain.proofs.MoveLemmas.{joined_fact_holds, joined_keeps}
 use Rattle.domain.proofs.laws.joined_holds.Goals as goal
 
 pub returns : goal.returns

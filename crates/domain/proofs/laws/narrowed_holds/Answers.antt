@@ -1,4 +1,4 @@
-use Rattle.domain.proofs.Sums.NarrowingLemmas.{narrowed_is_so, narrowed_holds, asked_holds, known_is_so}
+use Rattle.domain.proofs.NarrowingLemmas.{narrowed_is_so, narrowed_holds, asked_holds, known_is_so}
 use Rattle.domain.proofs.laws.narrowed_holds.Goals as goal
 
 pub returns : goal.returns

@@ -1,5 +1,5 @@
-use Rattle.domain.proofs.Sums.AddingLemmas.{given_is_so}
-use Rattle.domain.proofs.Sums.KnowingLemmas.{said_is_so}
+use Rattle.domain.proofs.AddingLemmas.{given_is_so}
+use Rattle.domain.proofs.KnowingLemmas.{said_is_so}
 use Rattle.domain.proofs.laws.said_is_so.Goals as goal
 
 pub returns : goal.returns

@@ -1,4 +1,4 @@
-use Rattle.domain.proofs.Sums.SumLemmas.{sums_are_kept, spelled_is_so}
+use Rattle.domain.proofs.SumLemmas.{sums_are_kept, spelled_is_so}
 use Rattle.domain.proofs.laws.sums_are_kept.Goals as goal
 
 pub returns : goal.returns

@@ -1,4 +1,4 @@
-use Rattle.domain.proofs.Sums.MoveLemmas.{free_stays_true, taking_holds, weakly_updated_holds}
+use Rattle.domain.proofs.MoveLemmas.{free_stays_true, taking_holds, weakly_updated_holds}
 use Rattle.domain.proofs.laws.taken_holds.Goals as goal
 
 pub returns : goal.returns

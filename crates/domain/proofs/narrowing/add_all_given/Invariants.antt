@@ -1,8 +1,8 @@
 use Rattle.wordset.specs.Lanes.{words}
 use Rattle.wordset.specs.Links.{links_of}
 use Rattle.wordset.proofs.IterLemmas.{Gathered}
-use Rattle.domain.specs.Sums.ChainsInCode.{chain_of}
-use Rattle.domain.specs.Sums.Given.{gives_allowed, cells_given, accumulators_given, differences_given, links_given}
+use Rattle.domain.specs.ChainsInCode.{chain_of}
+use Rattle.domain.specs.Given.{gives_allowed, cells_given, accumulators_given, differences_given, links_given}
 use Rattle.domain.proofs.narrowing.add_all_given.Given as goal
 
 abbrev pub invariant-loop-word : goal.invariant-loop-word

@@ -1,7 +1,7 @@
 use Rattle.wordset.specs.Lanes.{words}
 use Rattle.wordset.specs.Links.{links_of}
-use Rattle.domain.specs.Sums.ChainsInCode.{chain_of}
-use Rattle.domain.specs.Sums.Given.{gives_allowed_from, gives_allowed}
+use Rattle.domain.specs.ChainsInCode.{chain_of}
+use Rattle.domain.specs.Given.{gives_allowed_from, gives_allowed}
 use Rattle.domain.proofs.GivenLemmas.{adds_both, from_either}
 use Rattle.domain.proofs.narrowing.add_given.Goals as goal
 

@@ -2,9 +2,9 @@ use Rattle.std.proofs.Common.{◌≡◌, ◌∙◌, true, sym, ap, subst}
 use Rattle.wordset.specs.Words.{Words, plus}
 use Rattle.wordset.specs.Lanes.{words}
 use Rattle.wordset.specs.Links.{links_of}
-use Rattle.domain.specs.Sums.Chains.{after_steps}
-use Rattle.domain.specs.Sums.ChainsInCode.{chain_of}
-use Rattle.domain.specs.Sums.Given.{gives_allowed_from, AddsGiven}
+use Rattle.domain.specs.Chains.{after_steps}
+use Rattle.domain.specs.ChainsInCode.{chain_of}
+use Rattle.domain.specs.Given.{gives_allowed_from, AddsGiven}
 use Rattle.domain.proofs.GivenLemmas.{adds_none, none_begins, gives_pair}
 use Rattle.domain.proofs.narrowing.add_given_from.Goals as goal
 

@@ -2,7 +2,7 @@ use Rattle.std.proofs.Common.{◌≡◌, ◌∙◌, ◌<◌, ◌+◌, ◌%◌, t
 use Rattle.wordset.specs.Words.{with_word}
 use Rattle.wordset.specs.Lanes.{words}
 use Rattle.wordset.specs.Links.{links_of}
-use Rattle.domain.specs.Sums.Given.{is_allowed_pair}
+use Rattle.domain.specs.Given.{is_allowed_pair}
 use Rattle.domain.proofs.GivenLemmas.{adds_none, adds_pair, no_accumulator, no_link, link_small}
 use Rattle.domain.proofs.narrowing.add_pair.Goals as goal
 

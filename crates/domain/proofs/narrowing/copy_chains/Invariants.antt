@@ -1,5 +1,5 @@
 use Rattle.std.proofs.Common.{◌≡◌, ◌++◌, drop, length, map}
-use Rattle.domain.specs.Sums.ChainsInCode.{chain_of}
+use Rattle.domain.specs.ChainsInCode.{chain_of}
 use Rattle.domain.proofs.narrowing.copy_chains.Given as goal
 
 abbrev pub invariant-loop-chain : goal.invariant-loop-chain

@@ -1,6 +1,6 @@
 use Rattle.std.proofs.Common.{◌<◌, sym, ap, ◌∙◌, arith}
 use Rattle.wordset.specs.Words.{Words, shifted}
-use Rattle.domain.specs.Sums.Brief.{brief_words}
+use Rattle.domain.specs.Brief.{brief_words}
 use Rattle.domain.proofs.SumSetLemmas.{moved_one, moved_all}
 use Rattle.domain.proofs.relations.add_times.Goals as goal
 

@@ -1,7 +1,7 @@
 use Rattle.std.proofs.Common.{ℕ, ◌||◌, ap, ◌∙◌}
 use Rattle.std.specs.Prelude.{Option}
 use Rattle.wordset.specs.Lanes.{words}
-use Rattle.domain.specs.Facts.{tape_word}
+use Rattle.domain.specs.Locations.{tape_word}
 use Rattle.domain.proofs.SetLemmas.{all_or}
 use Rattle.domain.proofs.sets.add_start.Goals as goal
 

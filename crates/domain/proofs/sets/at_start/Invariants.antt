@@ -2,7 +2,7 @@ use Rattle.wordset.specs.Words.{nothing}
 use Rattle.wordset.specs.Lanes.{words}
 use Rattle.wordset.proofs.IterLemmas.{Gathered}
 use Rattle.peripherals.specs.Loading.{image_of}
-use Rattle.domain.specs.Facts.{tape_word}
+use Rattle.domain.specs.Locations.{tape_word}
 use Rattle.domain.proofs.sets.at_start.Given as goal
 
 abbrev pub invariant-loop-cell : goal.invariant-loop-cell

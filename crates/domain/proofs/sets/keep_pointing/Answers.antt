@@ -3,7 +3,7 @@ use Rattle.wordset.specs.Words.{plus, some_below}
 use Rattle.wordset.specs.Lanes.{words}
 use Rattle.wordset.proofs.IterLemmas.{none_gathered, image_gathered, all_gathered}
 use Rattle.peripherals.specs.Loading.{image_of}
-use Rattle.domain.specs.Facts.{tape_word}
+use Rattle.domain.specs.Locations.{tape_word}
 use Rattle.domain.proofs.SetLemmas.{kept_all, and_yes, or_none}
 use Rattle.domain.proofs.sets.keep_pointing.Goals as goal
 

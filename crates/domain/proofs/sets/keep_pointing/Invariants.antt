@@ -3,7 +3,7 @@ use Rattle.wordset.specs.Words.{nothing, plus, some_below}
 use Rattle.wordset.specs.Lanes.{words}
 use Rattle.wordset.proofs.IterLemmas.{Gathered}
 use Rattle.peripherals.specs.Loading.{image_of}
-use Rattle.domain.specs.Facts.{tape_word}
+use Rattle.domain.specs.Locations.{tape_word}
 use Rattle.domain.proofs.sets.keep_pointing.Given as goal
 
 abbrev pub invariant-loop-word : goal.invariant-loop-word

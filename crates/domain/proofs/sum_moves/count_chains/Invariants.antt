@@ -1,6 +1,6 @@
 use Rattle.std.proofs.Common.{◌≡◌, ◌++◌, drop, length, map}
-use Rattle.domain.specs.Sums.Chains.{after_count}
-use Rattle.domain.specs.Sums.ChainsInCode.{chain_of}
+use Rattle.domain.specs.Chains.{after_count}
+use Rattle.domain.specs.ChainsInCode.{chain_of}
 use Rattle.domain.proofs.sum_moves.count_chains.Given as goal
 
 abbrev pub invariant-loop-chain : goal.invariant-loop-chain

@@ -1,8 +1,8 @@
 use Rattle.std.proofs.Common.{◌≡◌, ◌≤◌, ◌++◌, drop, length, map}
 use Rattle.std.specs.Prelude.{filter, not}
-use Rattle.domain.specs.Facts.{Cell}
-use Rattle.domain.specs.Sums.Naming.{names_of}
-use Rattle.domain.specs.Sums.ChainsInCode.{chain_of}
+use Rattle.domain.specs.Locations.{Cell}
+use Rattle.domain.specs.Naming.{names_of}
+use Rattle.domain.specs.ChainsInCode.{chain_of}
 use Rattle.domain.proofs.sum_moves.keep_chains_free_of.Given as goal
 
 abbrev pub invariant-loop-chain : goal.invariant-loop-chain

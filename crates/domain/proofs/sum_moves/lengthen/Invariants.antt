@@ -1,6 +1,6 @@
 use Rattle.std.proofs.Common.{◌≡◌, ◌++◌, drop, length, map}
-use Rattle.domain.specs.Sums.Chains.{all_longer}
-use Rattle.domain.specs.Sums.ChainsInCode.{chain_of, step_of, AreShort}
+use Rattle.domain.specs.Chains.{all_longer}
+use Rattle.domain.specs.ChainsInCode.{chain_of, step_of, AreShort}
 use Rattle.domain.proofs.sum_moves.lengthen.Given as goal
 
 abbrev pub invariant-loop-chain : goal.invariant-loop-chain

@@ -1,7 +1,7 @@
 use Rattle.std.proofs.Common.{◌≡◌, ◌+◌, ◌++◌, drop, length, map}
 use Rattle.wordset.specs.Lanes.{words}
-use Rattle.domain.specs.Sums.CellsInCode.{cell_set_of, cell_sets_of}
-use Rattle.domain.specs.Sums.Taken.{changed, changed_among}
+use Rattle.domain.specs.CellsInCode.{cell_set_of, cell_sets_of}
+use Rattle.domain.specs.Taken.{changed, changed_among}
 use Rattle.domain.proofs.taking.push_all_changed.Given as goal
 
 abbrev pub invariant-loop-entry : goal.invariant-loop-entry

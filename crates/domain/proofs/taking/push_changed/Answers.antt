@@ -1,9 +1,9 @@
 use Rattle.std.proofs.Common.{◌∙◌, ◌++◌, ◌∷◌, [], sym, ap}
 use Rattle.wordset.specs.Words.{Words, union}
 use Rattle.wordset.specs.Lanes.{words}
-use Rattle.domain.specs.Statements.{TrackedCell}
-use Rattle.domain.specs.Sums.CellsInCode.{cell_set_of, cell_sets_of}
-use Rattle.domain.specs.Sums.Taken.{changed}
+use Rattle.domain.specs.TrackedCells.{TrackedCell}
+use Rattle.domain.specs.CellsInCode.{cell_set_of, cell_sets_of}
+use Rattle.domain.specs.Taken.{changed}
 use Rattle.domain.proofs.NameLemmas.{has_cell_words}
 use Rattle.domain.proofs.TakenLemmas.{stays_among, changes_among}
 use Rattle.domain.proofs.taking.push_changed.Goals as goal

@@ -1,8 +1,8 @@
 use Rattle.std.proofs.Common.{◌≡◌, ◌++◌, length, ap, ◌∙◌, arith}
 use Rattle.std.proofs.lemmas.List.{length-map}
-use Rattle.domain.specs.Facts.{Ac}
-use Rattle.domain.specs.Sums.Terms.{Sum, sum_of_name, multiplied}
-use Rattle.domain.specs.Sums.InCode.{sum_of}
+use Rattle.domain.specs.Locations.{Ac}
+use Rattle.domain.specs.Terms.{Sum, sum_of_name, multiplied}
+use Rattle.domain.specs.InCode.{sum_of}
 use Rattle.facts.proofs.additions.accumulator_with_rest.Goals as goal
 
 pub push_from-requires : goal.push_from-requires

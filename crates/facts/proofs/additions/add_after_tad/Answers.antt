@@ -1,12 +1,12 @@
 use Rattle.std.proofs.Common.{sym, ap, ◌∙◌}
 use Rattle.wordset.specs.Lanes.{words}
-use Rattle.domain.specs.Sums.Facts.{Fact, OfSums}
-use Rattle.domain.specs.Sums.Adding.{adding_all}
-use Rattle.domain.specs.Sums.InCode.{sum_of}
-use Rattle.domain.specs.Sums.FactInCode.{fact_in_code}
-use Rattle.facts.specs.Sums.Additions.{brought}
-use Rattle.facts.specs.Sums.Shaped.{term_if, told, moved_after_tad}
-use Rattle.facts.proofs.Sums.EachRelation.{adding_append}
+use Rattle.domain.specs.Facts.{Fact, OfSums}
+use Rattle.domain.specs.Adding.{adding_all}
+use Rattle.domain.specs.InCode.{sum_of}
+use Rattle.domain.specs.FactInCode.{fact_in_code}
+use Rattle.facts.specs.Additions.{brought}
+use Rattle.facts.specs.Shaped.{term_if, told, moved_after_tad}
+use Rattle.facts.proofs.EachRelation.{adding_append}
 use Rattle.facts.proofs.additions.add_after_tad.Goals as goal
 
 pub returns-clause-fact : goal.returns-clause-fact

@@ -1,13 +1,13 @@
 use Rattle.std.proofs.Common.{refl, sym, ap, ◌∙◌}
 use Rattle.wordset.specs.Words.{Words, sums}
 use Rattle.wordset.specs.Lanes.{words}
-use Rattle.domain.specs.Sums.Terms.{Sum}
-use Rattle.domain.specs.Sums.Facts.{OfSums}
-use Rattle.domain.specs.Sums.Adding.{adding}
-use Rattle.domain.specs.Sums.InCode.{term_of, sum_of}
-use Rattle.domain.specs.Sums.FactInCode.{fact_in_code}
-use Rattle.facts.specs.Sums.Additions.{ac_with_rest}
-use Rattle.facts.specs.Sums.Shaped.{told}
+use Rattle.domain.specs.Terms.{Sum}
+use Rattle.domain.specs.Facts.{OfSums}
+use Rattle.domain.specs.Adding.{adding}
+use Rattle.domain.specs.InCode.{term_of, sum_of}
+use Rattle.domain.specs.FactInCode.{fact_in_code}
+use Rattle.facts.specs.Additions.{ac_with_rest}
+use Rattle.facts.specs.Shaped.{told}
 use Rattle.facts.proofs.additions.add_brought_by.Goals as goal
 
 pub returns-then-not-is_sign-clause-fact : goal.returns-then-not-is_sign-clause-fact

@@ -1,12 +1,12 @@
 use Rattle.std.proofs.Common.{refl, sym, ap, ◌∙◌}
 use Rattle.wordset.specs.Lanes.{words}
-use Rattle.domain.specs.Sums.Terms.{Sum}
-use Rattle.domain.specs.Sums.Facts.{OfSums}
-use Rattle.domain.specs.Sums.Adding.{adding, adding_all}
-use Rattle.domain.specs.Sums.InCode.{term_of, sum_of}
-use Rattle.domain.specs.Sums.FactInCode.{fact_in_code}
-use Rattle.facts.specs.Sums.Additions.{brought_by}
-use Rattle.facts.specs.Sums.Shaped.{told}
+use Rattle.domain.specs.Terms.{Sum}
+use Rattle.domain.specs.Facts.{OfSums}
+use Rattle.domain.specs.Adding.{adding, adding_all}
+use Rattle.domain.specs.InCode.{term_of, sum_of}
+use Rattle.domain.specs.FactInCode.{fact_in_code}
+use Rattle.facts.specs.Additions.{brought_by}
+use Rattle.facts.specs.Shaped.{told}
 use Rattle.facts.proofs.additions.add_brought_of.Goals as goal
 
 pub returns-then-has_accumulator-clause-fact : goal.returns-then-has_accumulator-clause-fact

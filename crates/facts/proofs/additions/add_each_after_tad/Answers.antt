@@ -1,14 +1,14 @@
 use Rattle.std.proofs.Common.{◌<◌, ◌≤◌, length, ap, ◌∙◌, arith}
 use Rattle.wordset.specs.Words.{Words}
 use Rattle.wordset.specs.Lanes.{words}
-use Rattle.domain.specs.Sums.Facts.{OfSums}
-use Rattle.domain.specs.Sums.Adding.{adding_all}
-use Rattle.domain.specs.Sums.InCode.{sum_of}
-use Rattle.domain.specs.Sums.RelationsInCode.{relation_of}
-use Rattle.domain.specs.Sums.FactInCode.{fact_in_code}
-use Rattle.facts.specs.Sums.Additions.{after_tad}
-use Rattle.facts.specs.Sums.Shaped.{term_if, told}
-use Rattle.facts.proofs.Sums.EachRelation.{added_on, all_added_on, few_terms}
+use Rattle.domain.specs.Facts.{OfSums}
+use Rattle.domain.specs.Adding.{adding_all}
+use Rattle.domain.specs.InCode.{sum_of}
+use Rattle.domain.specs.RelationsInCode.{relation_of}
+use Rattle.domain.specs.FactInCode.{fact_in_code}
+use Rattle.facts.specs.Additions.{after_tad}
+use Rattle.facts.specs.Shaped.{term_if, told}
+use Rattle.facts.proofs.EachRelation.{added_on, all_added_on, few_terms}
 use Rattle.facts.proofs.additions.add_each_after_tad.Goals as goal
 
 pub add_after_tad-requires : goal.add_after_tad-requires

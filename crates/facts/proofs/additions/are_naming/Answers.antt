@@ -1,8 +1,8 @@
 use Rattle.std.proofs.Common.{sym, ap, ◌∙◌}
-use Rattle.domain.specs.Facts.{Location, same}
-use Rattle.domain.specs.Meaning.{location_of}
-use Rattle.domain.specs.Sums.InCode.{summand_of}
-use Rattle.facts.proofs.Sums.RowsLemmas.{naming_found, naming_step}
+use Rattle.domain.specs.Locations.{Location, same}
+use Rattle.domain.specs.LocationsInCode.{location_of}
+use Rattle.domain.specs.InCode.{summand_of}
+use Rattle.facts.proofs.RowsLemmas.{naming_found, naming_step}
 use Rattle.facts.proofs.additions.are_naming.Goals as goal
 
 pub returns-then-is_same_location : goal.returns-then-is_same_location

@@ -1,7 +1,7 @@
 use Rattle.std.proofs.Common.{◌≡◌, drop, map}
-use Rattle.domain.specs.Meaning.{location_of}
-use Rattle.domain.specs.Sums.InCode.{summand_of}
-use Rattle.facts.specs.Sums.Additions.{names}
+use Rattle.domain.specs.LocationsInCode.{location_of}
+use Rattle.domain.specs.InCode.{summand_of}
+use Rattle.facts.specs.Additions.{names}
 use Rattle.facts.proofs.additions.are_naming.Given as goal
 
 abbrev pub invariant-loop-summand : goal.invariant-loop-summand

@@ -1,10 +1,10 @@
 use Rattle.std.proofs.Common.{◌++◌, [], ◌∷◌, List, sym, ap, ◌∙◌}
 use Rattle.wordset.specs.Words.{Words, shifted}
-use Rattle.domain.specs.Sums.Facts.{Relation}
-use Rattle.domain.specs.Sums.RelationsInCode.{relation_of}
-use Rattle.domain.specs.Sums.FactInCode.{fact_in_code}
-use Rattle.facts.specs.Sums.Shaped.{told}
-use Rattle.facts.proofs.Sums.EachRelation.{append_nothing}
+use Rattle.domain.specs.Facts.{Relation}
+use Rattle.domain.specs.RelationsInCode.{relation_of}
+use Rattle.domain.specs.FactInCode.{fact_in_code}
+use Rattle.facts.specs.Shaped.{told}
+use Rattle.facts.proofs.EachRelation.{append_nothing}
 use Rattle.facts.proofs.additions.push_equation_moved.Goals as goal
 
 pub returns-then-has_accumulator-clause-fact : goal.returns-then-has_accumulator-clause-fact

@@ -1,13 +1,13 @@
 use Rattle.std.proofs.Common.{◌++◌, [], ◌∷◌, List, map, ap, ◌∙◌}
 use Rattle.wordset.specs.Words.{one}
-use Rattle.domain.specs.Facts.{Ac, same}
-use Rattle.domain.specs.Sums.Terms.{Sum}
-use Rattle.domain.specs.Sums.Facts.{Relation, Fact}
-use Rattle.domain.specs.Sums.Moves.{free_of}
-use Rattle.domain.specs.Sums.InCode.{sum_of}
-use Rattle.domain.specs.Sums.RelationsInCode.{relation_of}
-use Rattle.domain.specs.Sums.FactInCode.{fact_in_code}
-use Rattle.facts.specs.Sums.Shaped.{told}
+use Rattle.domain.specs.Locations.{Ac, same}
+use Rattle.domain.specs.Terms.{Sum}
+use Rattle.domain.specs.Facts.{Relation, Fact}
+use Rattle.domain.specs.Moves.{free_of}
+use Rattle.domain.specs.InCode.{sum_of}
+use Rattle.domain.specs.RelationsInCode.{relation_of}
+use Rattle.domain.specs.FactInCode.{fact_in_code}
+use Rattle.facts.specs.Shaped.{told}
 use Rattle.facts.proofs.additions.push_equation_of.Goals as goal
 
 pub returns-clause-fact : goal.returns-clause-fact

@@ -1,10 +1,10 @@
 use Rattle.std.proofs.Common.{◌++◌, List, map, ap, ◌∙◌}
-use Rattle.domain.specs.Facts.{Ac, same}
-use Rattle.domain.specs.Sums.Facts.{Relation}
-use Rattle.domain.specs.Sums.Moves.{free_of}
-use Rattle.domain.specs.Sums.RelationsInCode.{relation_of}
-use Rattle.domain.specs.Sums.FactInCode.{fact_in_code}
-use Rattle.facts.specs.Sums.Additions.{equations_moved}
+use Rattle.domain.specs.Locations.{Ac, same}
+use Rattle.domain.specs.Facts.{Relation}
+use Rattle.domain.specs.Moves.{free_of}
+use Rattle.domain.specs.RelationsInCode.{relation_of}
+use Rattle.domain.specs.FactInCode.{fact_in_code}
+use Rattle.facts.specs.Additions.{equations_moved}
 use Rattle.facts.proofs.additions.push_equations_by.Goals as goal
 
 pub returns-in-None-clause-fact : goal.returns-in-None-clause-fact

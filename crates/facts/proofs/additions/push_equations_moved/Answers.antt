@@ -1,9 +1,9 @@
 use Rattle.std.proofs.Common.{◌<◌, ◌++◌, List, length, ap, ◌∙◌, arith}
-use Rattle.domain.specs.Sums.Facts.{Relation}
-use Rattle.domain.specs.Sums.RelationsInCode.{relation_of}
-use Rattle.domain.specs.Sums.FactInCode.{fact_in_code}
-use Rattle.facts.proofs.Sums.EachRelation.{append_nothing}
-use Rattle.facts.proofs.Sums.RowsLemmas.{moved_piece, told_on, all_told}
+use Rattle.domain.specs.Facts.{Relation}
+use Rattle.domain.specs.RelationsInCode.{relation_of}
+use Rattle.domain.specs.FactInCode.{fact_in_code}
+use Rattle.facts.proofs.EachRelation.{append_nothing}
+use Rattle.facts.proofs.RowsLemmas.{moved_piece, told_on, all_told}
 use Rattle.facts.proofs.additions.push_equations_moved.Goals as goal
 
 pub loop-relation-preserved : goal.loop-relation-preserved

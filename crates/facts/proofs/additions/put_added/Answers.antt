@@ -2,11 +2,11 @@ use Rattle.std.proofs.Common.{map, ap, ◌∙◌}
 use Rattle.wordset.specs.Words.{Words, toggled}
 use Rattle.wordset.specs.Lanes.{words}
 use Rattle.wordset.specs.Links.{links_of, carries_of}
-use Rattle.domain.specs.Sums.Facts.{Fact}
-use Rattle.domain.specs.Sums.RelationsInCode.{relation_of}
-use Rattle.domain.specs.Sums.FactInCode.{fact_in_code}
-use Rattle.facts.specs.Sums.Shaped.{term_if}
-use Rattle.facts.proofs.Sums.RowsLemmas.{added_is}
+use Rattle.domain.specs.Facts.{Fact}
+use Rattle.domain.specs.RelationsInCode.{relation_of}
+use Rattle.domain.specs.FactInCode.{fact_in_code}
+use Rattle.facts.specs.Shaped.{term_if}
+use Rattle.facts.proofs.RowsLemmas.{added_is}
 use Rattle.facts.proofs.additions.put_added.Goals as goal
 
 pub returns : goal.returns

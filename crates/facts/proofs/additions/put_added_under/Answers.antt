@@ -1,12 +1,12 @@
 use Rattle.std.proofs.Common.{ap, ◌∙◌}
 use Rattle.wordset.specs.Words.{Words, one, only, meet}
 use Rattle.wordset.specs.Lanes.{words}
-use Rattle.domain.specs.Facts.{Ac}
-use Rattle.domain.specs.Sums.Facts.{Fact}
-use Rattle.domain.specs.Sums.Adding.{with_name}
-use Rattle.domain.specs.Sums.FactInCode.{fact_in_code}
-use Rattle.facts.specs.Sums.Additions.{summed, sums_under, chains_after_tad}
-use Rattle.facts.specs.Sums.Shaped.{term_if}
+use Rattle.domain.specs.Locations.{Ac}
+use Rattle.domain.specs.Facts.{Fact}
+use Rattle.domain.specs.Adding.{with_name}
+use Rattle.domain.specs.FactInCode.{fact_in_code}
+use Rattle.facts.specs.Additions.{summed, sums_under, chains_after_tad}
+use Rattle.facts.specs.Shaped.{term_if}
 use Rattle.facts.proofs.additions.put_added_under.Goals as goal
 
 pub returns : goal.returns

@@ -1,13 +1,13 @@
 use Rattle.std.proofs.Common.{ap, ◌∙◌}
 use Rattle.wordset.specs.Words.{Words, all_words}
 use Rattle.wordset.specs.Lanes.{words}
-use Rattle.domain.specs.Facts.{Ac}
-use Rattle.domain.specs.Sums.InCode.{sum_of}
-use Rattle.domain.specs.Sums.Facts.{Fact}
-use Rattle.domain.specs.Sums.Adding.{with_name}
-use Rattle.domain.specs.Sums.FactInCode.{fact_in_code}
-use Rattle.facts.specs.Sums.Shaped.{term_if}
-use Rattle.facts.proofs.Sums.RowsLemmas.{summed_is}
+use Rattle.domain.specs.Locations.{Ac}
+use Rattle.domain.specs.InCode.{sum_of}
+use Rattle.domain.specs.Facts.{Fact}
+use Rattle.domain.specs.Adding.{with_name}
+use Rattle.domain.specs.FactInCode.{fact_in_code}
+use Rattle.facts.specs.Shaped.{term_if}
+use Rattle.facts.proofs.RowsLemmas.{summed_is}
 use Rattle.facts.proofs.additions.put_summed.Goals as goal
 
 pub returns-clause-fact : goal.returns-clause-fact

@@ -1,7 +1,7 @@
 use Rattle.std.proofs.Common.{◌<◌, ap, ◌∙◌, arith}
 use Rattle.wordset.specs.Words.{Words, between, difference, shifted, union}
 use Rattle.wordset.specs.Lanes.{words}
-use Rattle.facts.proofs.Sums.CarryingLemmas.{with_carry_of}
+use Rattle.facts.proofs.CarryingLemmas.{with_carry_of}
 use Rattle.facts.proofs.carrying.add_with_carry.Goals as goal
 
 pub returns : goal.returns

@@ -1,7 +1,7 @@
 use Rattle.std.proofs.Common.{◌<◌, ap, ◌∙◌, arith}
 use Rattle.wordset.specs.Words.{Words, between, meet, shifted, union}
 use Rattle.wordset.specs.Lanes.{words}
-use Rattle.facts.proofs.Sums.CarryingLemmas.{without_carry_of}
+use Rattle.facts.proofs.CarryingLemmas.{without_carry_of}
 use Rattle.facts.proofs.carrying.add_without_carry.Goals as goal
 
 pub returns : goal.returns

@@ -1,7 +1,7 @@
 use Rattle.std.proofs.Common.{ap, ◌∙◌}
 use Rattle.wordset.specs.Words.{Words, all_words, between, difference}
 use Rattle.wordset.specs.Lanes.{words}
-use Rattle.facts.proofs.Sums.CarryingLemmas.{no_sums, below_greatest}
+use Rattle.facts.proofs.CarryingLemmas.{no_sums, below_greatest}
 use Rattle.facts.proofs.carrying.below_greatest.Goals as goal
 
 pub returns-in-None : goal.returns-in-None

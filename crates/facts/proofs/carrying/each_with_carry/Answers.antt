@@ -3,7 +3,7 @@ use Rattle.std.proofs.Math.Path.{fun_ext}
 use Rattle.wordset.specs.Words.{Words}
 use Rattle.wordset.specs.Lanes.{words}
 use Rattle.wordset.proofs.IterLemmas.{none_gathered, image_gathered, all_gathered}
-use Rattle.facts.proofs.Sums.CarryingLemmas.{gathered_sums}
+use Rattle.facts.proofs.CarryingLemmas.{gathered_sums}
 use Rattle.facts.proofs.carrying.each_with_carry.Goals as goal
 
 pub loop-word-init : goal.loop-word-init

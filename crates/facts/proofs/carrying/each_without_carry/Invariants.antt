@@ -1,7 +1,7 @@
 use Rattle.wordset.specs.Words.{nothing}
 use Rattle.wordset.specs.Lanes.{words}
 use Rattle.wordset.proofs.IterLemmas.{Gathered}
-use Rattle.facts.specs.Sums.Shaped.{sums_with}
+use Rattle.facts.specs.Shaped.{sums_with}
 use Rattle.facts.proofs.carrying.each_without_carry.Given as goal
 
 abbrev pub invariant-loop-word : goal.invariant-loop-word

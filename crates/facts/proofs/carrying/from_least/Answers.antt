@@ -1,7 +1,7 @@
 use Rattle.std.proofs.Common.{ap, ◌∙◌, arith}
 use Rattle.wordset.specs.Words.{all_words, between}
 use Rattle.wordset.specs.Lanes.{words}
-use Rattle.facts.proofs.Sums.CarryingLemmas.{no_sums, from_least}
+use Rattle.facts.proofs.CarryingLemmas.{no_sums, from_least}
 use Rattle.facts.proofs.carrying.from_least.Goals as goal
 
 pub returns-in-None : goal.returns-in-None

@@ -4,7 +4,7 @@ use Rattle.std.proofs.Math.Path.{fun_ext}
 use Rattle.wordset.specs.Words.{Words}
 use Rattle.wordset.specs.Links.{links_of}
 use Rattle.wordset.specs.Lanes.{words}
-use Rattle.facts.specs.Sums.Additions.{sums_carrying}
+use Rattle.facts.specs.Additions.{sums_carrying}
 use Rattle.facts.proofs.carrying.sums_under.Goals as goal
 
 pub returns : goal.returns

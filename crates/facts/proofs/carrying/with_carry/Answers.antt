@@ -1,8 +1,8 @@
 use Rattle.std.proofs.Common.{sym, ap, ◌∙◌}
 use Rattle.wordset.specs.Words.{Words}
 use Rattle.wordset.specs.Lanes.{words}
-use Rattle.facts.specs.Sums.Additions.{sums_carrying}
-use Rattle.facts.proofs.Sums.CarryingLemmas.{sums_turned}
+use Rattle.facts.specs.Additions.{sums_carrying}
+use Rattle.facts.proofs.CarryingLemmas.{sums_turned}
 use Rattle.facts.proofs.carrying.with_carry.Goals as goal
 
 pub returns-then-is_all-2 : goal.returns-then-is_all-2

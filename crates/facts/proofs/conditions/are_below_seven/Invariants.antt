@@ -1,5 +1,5 @@
 use Rattle.std.proofs.Common.{◌≡◌, ◌<◌, ◌≤◌, ℕ, false}
-use Rattle.domain.specs.Sums.Offsets.{offsets_in}
+use Rattle.domain.specs.Offsets.{offsets_in}
 use Rattle.facts.proofs.conditions.are_below_seven.Given as goal
 
 abbrev pub invariant-loop-o : goal.invariant-loop-o

@@ -1,6 +1,6 @@
-use Rattle.facts.proofs.Sums.ShowingLemmas.{gives_step, gives_fails}
+use Rattle.facts.proofs.ShowingLemmas.{gives_step, gives_fails}
 use Rattle.facts.proofs.EntailLemmas.{not_both}
-use Rattle.domain.specs.Sums.ChainsInCode.{chain_of}
+use Rattle.domain.specs.ChainsInCode.{chain_of}
 use Rattle.facts.proofs.entailment.each_gives.Goals as goal
 
 pub returns-then-not-gives_if_on : goal.returns-then-not-gives_if_on

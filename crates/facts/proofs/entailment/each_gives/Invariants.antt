@@ -1,7 +1,7 @@
 use Rattle.std.proofs.Common.{drop, map}
 use Rattle.std.specs.Prelude.{◌↔◌}
-use Rattle.facts.specs.Sums.Entailment.{EachGives}
-use Rattle.domain.specs.Sums.ChainsInCode.{chain_of}
+use Rattle.facts.specs.Entailment.{EachGives}
+use Rattle.domain.specs.ChainsInCode.{chain_of}
 use Rattle.facts.proofs.entailment.each_gives.Given as goal
 
 abbrev pub invariant-loop-chain : goal.invariant-loop-chain

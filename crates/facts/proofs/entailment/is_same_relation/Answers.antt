@@ -1,4 +1,4 @@
-use Rattle.facts.proofs.Sums.ShowingLemmas.{one_sum, same_sums, both_within, same_within, same_outside}
+use Rattle.facts.proofs.ShowingLemmas.{one_sum, same_sums, both_within, same_within, same_outside}
 use Rattle.facts.proofs.EntailLemmas.{not_true, not_both}
 use Rattle.std.proofs.Common.{◌∙◌, sym}
 use Rattle.facts.proofs.entailment.is_same_relation.Goals as goal

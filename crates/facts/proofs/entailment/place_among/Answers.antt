@@ -1,6 +1,6 @@
 use Rattle.std.proofs.Common.{arith}
-use Rattle.facts.proofs.Sums.ShowingLemmas.{among_none}
-use Rattle.domain.specs.Sums.RelationsInCode.{relation_of}
+use Rattle.facts.proofs.ShowingLemmas.{among_none}
+use Rattle.domain.specs.RelationsInCode.{relation_of}
 use Rattle.facts.proofs.entailment.place_among.Goals as goal
 
 pub loop-at-init : goal.loop-at-init

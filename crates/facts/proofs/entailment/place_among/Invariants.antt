@@ -1,6 +1,6 @@
 use Rattle.std.proofs.Common.{drop, map}
-use Rattle.facts.specs.Sums.Entailment.{Among}
-use Rattle.domain.specs.Sums.RelationsInCode.{relation_of}
+use Rattle.facts.specs.Entailment.{Among}
+use Rattle.domain.specs.RelationsInCode.{relation_of}
 use Rattle.facts.proofs.entailment.place_among.Given as goal
 
 abbrev pub invariant-loop-at : goal.invariant-loop-at

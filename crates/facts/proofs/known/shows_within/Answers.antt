@@ -1,5 +1,5 @@
-use Rattle.domain.specs.Sums.CellsInCode.{cell_set_of}
-use Rattle.facts.proofs.Sums.ShowingLemmas.{entry_here, entry_passed}
+use Rattle.domain.specs.CellsInCode.{cell_set_of}
+use Rattle.facts.proofs.ShowingLemmas.{entry_here, entry_passed}
 use Rattle.facts.proofs.known.shows_within.Goals as goal
 
 pub returns-then-is_within_of : goal.returns-then-is_within_of

@@ -1,6 +1,6 @@
 use Rattle.std.proofs.Common.{◌≡◌, ℕ, true, drop, map}
-use Rattle.domain.specs.Statements.{tracked}
-use Rattle.domain.specs.Sums.CellsInCode.{cell_set_of}
+use Rattle.domain.specs.TrackedCells.{tracked}
+use Rattle.domain.specs.CellsInCode.{cell_set_of}
 use Rattle.facts.proofs.known.shows_within.Given as goal
 
 abbrev pub invariant-loop-entry : goal.invariant-loop-entry

@@ -1,6 +1,6 @@
 use Rattle.std.proofs.Common.{arith}
-use Rattle.domain.specs.Sums.CellsInCode.{cell_set_of}
-use Rattle.facts.proofs.Sums.ShowingLemmas.{entry_at}
+use Rattle.domain.specs.CellsInCode.{cell_set_of}
+use Rattle.facts.proofs.ShowingLemmas.{entry_at}
 use Rattle.facts.proofs.known.shows_within_at.Goals as goal
 
 pub returns : goal.returns

@@ -1,8 +1,8 @@
 use Rattle.std.proofs.Common.{◌≡◌, ℕ, true, false, drop, map}
 use Rattle.wordset.specs.Lanes.{words}
 use Rattle.wordset.specs.Words.{all_words}
-use Rattle.domain.specs.Statements.{tracked}
-use Rattle.domain.specs.Sums.CellsInCode.{cell_set_of}
+use Rattle.domain.specs.TrackedCells.{tracked}
+use Rattle.domain.specs.CellsInCode.{cell_set_of}
 use Rattle.facts.proofs.landing.add_cells.Given as goal
 
 abbrev pub invariant-loop-entry : goal.invariant-loop-entry

@@ -1,11 +1,11 @@
 use Rattle.std.proofs.Common.{ap, sym, subst, ◌∙◌, arith}
 use Rattle.std.proofs.Math.ListN.{drop_of_length-le}
 use Rattle.wordset.specs.Words.{Words}
-use Rattle.domain.specs.Facts.{Location, Cell}
-use Rattle.domain.specs.Statements.{tracked}
-use Rattle.domain.specs.Sums.FactInCode.{fact_in_code}
-use Rattle.facts.specs.Sums.Landing.{AllowAll}
-use Rattle.facts.proofs.Sums.SplitLemmas.{told_step, still_out}
+use Rattle.domain.specs.Locations.{Location, Cell}
+use Rattle.domain.specs.TrackedCells.{tracked}
+use Rattle.domain.specs.FactInCode.{fact_in_code}
+use Rattle.facts.specs.Landing.{AllowAll}
+use Rattle.facts.proofs.SplitLemmas.{told_step, still_out}
 use Rattle.facts.proofs.landing.cells_told.Goals as goal
 
 pub loop-at-preserved : goal.loop-at-preserved

@@ -1,7 +1,7 @@
 use Rattle.std.proofs.Common.{◌≡◌, ℕ, false, drop}
 use Rattle.wordset.specs.Lanes.{words}
-use Rattle.domain.specs.Facts.{Cell}
-use Rattle.facts.specs.Sums.Landing.{AllowAll}
+use Rattle.domain.specs.Locations.{Cell}
+use Rattle.facts.specs.Landing.{AllowAll}
 use Rattle.facts.proofs.landing.cells_told.Given as goal
 
 abbrev pub invariant-loop-at : goal.invariant-loop-at

@@ -1,6 +1,6 @@
 use Rattle.std.proofs.Common.{sym, ◌∙◌}
 use Rattle.wordset.specs.Lanes.{words}
-use Rattle.facts.proofs.Sums.RowsLemmas.{image_put, image_left}
+use Rattle.facts.proofs.RowsLemmas.{image_put, image_left}
 use Rattle.facts.proofs.operations.add_image.Goals as goal
 
 pub returns-then-eq : goal.returns-then-eq

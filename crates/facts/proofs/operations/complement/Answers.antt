@@ -1,13 +1,13 @@
 use Rattle.std.proofs.Common.{not, [], ◌∷◌, sym, ap, ◌∙◌}
 use Rattle.wordset.specs.Words.{Words}
-use Rattle.domain.specs.Facts.{Ac}
-use Rattle.domain.specs.Sums.Terms.{Sum, Holding}
-use Rattle.domain.specs.Sums.Facts.{Relation}
-use Rattle.domain.specs.Sums.Brief.{brief_words}
-use Rattle.domain.specs.Sums.RelationsInCode.{relation_of}
-use Rattle.facts.specs.Sums.Additions.{ac_with_rest}
-use Rattle.facts.specs.Sums.Shaped.{told, if_stays}
-use Rattle.facts.proofs.Sums.RowsLemmas.{stays_unless}
+use Rattle.domain.specs.Locations.{Ac}
+use Rattle.domain.specs.Terms.{Sum, Holding}
+use Rattle.domain.specs.Facts.{Relation}
+use Rattle.domain.specs.Brief.{brief_words}
+use Rattle.domain.specs.RelationsInCode.{relation_of}
+use Rattle.facts.specs.Additions.{ac_with_rest}
+use Rattle.facts.specs.Shaped.{told, if_stays}
+use Rattle.facts.proofs.RowsLemmas.{stays_unless}
 use Rattle.facts.proofs.operations.complement.Goals as goal
 
 pub returns-then-has_accumulator : goal.returns-then-has_accumulator

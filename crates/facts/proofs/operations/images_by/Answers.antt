@@ -1,8 +1,8 @@
 use Rattle.std.proofs.Common.{ap, sym, ◌∙◌}
 use Rattle.wordset.specs.Words.{Words}
 use Rattle.wordset.specs.Lanes.{words}
-use Rattle.facts.specs.Sums.Shaped.{images_from}
-use Rattle.facts.proofs.Sums.RowsLemmas.{one_is_enough, some_there}
+use Rattle.facts.specs.Shaped.{images_from}
+use Rattle.facts.proofs.RowsLemmas.{one_is_enough, some_there}
 use Rattle.facts.proofs.operations.images_by.Goals as goal
 
 pub returns-then-not-is_empty : goal.returns-then-not-is_empty

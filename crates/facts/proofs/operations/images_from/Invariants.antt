@@ -3,7 +3,7 @@ use Rattle.std.specs.Prelude.{◌&&◌}
 use Rattle.wordset.specs.Words.{nothing}
 use Rattle.wordset.specs.Lanes.{words}
 use Rattle.wordset.proofs.IterLemmas.{Gathered}
-use Rattle.facts.specs.Sums.Operations.{ac_after, link_after}
+use Rattle.facts.specs.Operations.{ac_after, link_after}
 use Rattle.facts.proofs.operations.images_from.Given as goal
 
 abbrev pub invariant-loop-ac : goal.invariant-loop-ac

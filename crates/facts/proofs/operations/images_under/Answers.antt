@@ -4,8 +4,8 @@ use Rattle.std.proofs.Math.Path.{fun_ext}
 use Rattle.wordset.specs.Words.{Words}
 use Rattle.wordset.specs.Links.{links_of}
 use Rattle.wordset.specs.Lanes.{words}
-use Rattle.facts.specs.Sums.Shaped.{images_from}
-use Rattle.facts.proofs.Sums.RowsLemmas.{under_both}
+use Rattle.facts.specs.Shaped.{images_from}
+use Rattle.facts.proofs.RowsLemmas.{under_both}
 use Rattle.facts.proofs.operations.images_under.Goals as goal
 
 pub returns : goal.returns

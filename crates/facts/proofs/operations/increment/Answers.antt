@@ -1,9 +1,9 @@
 use Rattle.std.proofs.Common.{not, [], ◌∷◌, sym, ap, ◌∙◌}
 use Rattle.wordset.specs.Words.{Words, shifted}
-use Rattle.domain.specs.Sums.Facts.{Relation}
-use Rattle.domain.specs.Sums.RelationsInCode.{relation_of}
-use Rattle.facts.specs.Sums.Shaped.{told, if_stays}
-use Rattle.facts.proofs.Sums.RowsLemmas.{stays_unless}
+use Rattle.domain.specs.Facts.{Relation}
+use Rattle.domain.specs.RelationsInCode.{relation_of}
+use Rattle.facts.specs.Shaped.{told, if_stays}
+use Rattle.facts.proofs.RowsLemmas.{stays_unless}
 use Rattle.facts.proofs.operations.increment.Goals as goal
 
 pub returns-then-has_accumulator : goal.returns-then-has_accumulator

@@ -1,12 +1,12 @@
 use Rattle.std.proofs.Common.{◌<◌, ◌≤◌, ◌++◌, [], ◌∷◌, List, length, map, ap, sym, ◌∙◌, arith}
 use Rattle.std.specs.Prelude.{filter}
-use Rattle.domain.specs.Sums.Facts.{Relation}
-use Rattle.domain.specs.Sums.Adding.{is_kept}
-use Rattle.domain.specs.Sums.RelationsInCode.{relation_of}
-use Rattle.domain.specs.Sums.FactInCode.{fact_in_code, rules_of}
-use Rattle.facts.specs.Sums.Additions.{turned}
-use Rattle.facts.proofs.Sums.EachRelation.{few_terms}
-use Rattle.facts.proofs.Sums.RowsLemmas.{told_on, all_told, kept_turned}
+use Rattle.domain.specs.Facts.{Relation}
+use Rattle.domain.specs.Adding.{is_kept}
+use Rattle.domain.specs.RelationsInCode.{relation_of}
+use Rattle.domain.specs.FactInCode.{fact_in_code, rules_of}
+use Rattle.facts.specs.Additions.{turned}
+use Rattle.facts.proofs.EachRelation.{few_terms}
+use Rattle.facts.proofs.RowsLemmas.{told_on, all_told, kept_turned}
 use Rattle.facts.proofs.operations.push_each_turned.Goals as goal
 
 pub push_turned-requires : goal.push_turned-requires

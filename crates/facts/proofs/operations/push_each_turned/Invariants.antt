@@ -1,9 +1,9 @@
 use Rattle.std.proofs.Common.{◌≡◌, ◌+◌, ◌≤◌, ◌++◌, drop, length, map, [], ◌∷◌}
 use Rattle.std.specs.Prelude.{filter, flat_map}
-use Rattle.domain.specs.Sums.Adding.{is_kept}
-use Rattle.domain.specs.Sums.RelationsInCode.{relation_of, relations_of}
-use Rattle.domain.specs.Sums.FactInCode.{fact_in_code, rules_of}
-use Rattle.facts.specs.Sums.Additions.{turned}
+use Rattle.domain.specs.Adding.{is_kept}
+use Rattle.domain.specs.RelationsInCode.{relation_of, relations_of}
+use Rattle.domain.specs.FactInCode.{fact_in_code, rules_of}
+use Rattle.facts.specs.Additions.{turned}
 use Rattle.facts.proofs.operations.push_each_turned.Given as goal
 
 abbrev pub invariant-loop-relation : goal.invariant-loop-relation

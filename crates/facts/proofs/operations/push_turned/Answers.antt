@@ -1,12 +1,12 @@
 use Rattle.std.proofs.Common.{◌++◌, [], ◌∷◌, List, sym, ap, ◌∙◌}
-use Rattle.domain.specs.Sums.Facts.{Relation}
-use Rattle.domain.specs.Sums.Adding.{is_kept}
-use Rattle.domain.specs.Sums.RelationsInCode.{relation_of}
-use Rattle.domain.specs.Sums.FactInCode.{fact_in_code, rules_of}
-use Rattle.facts.specs.Sums.Additions.{turned}
-use Rattle.facts.specs.Sums.Shaped.{if_stays}
-use Rattle.facts.proofs.Sums.EachRelation.{append_nothing}
-use Rattle.facts.proofs.Sums.RowsLemmas.{kept_none, kept_if}
+use Rattle.domain.specs.Facts.{Relation}
+use Rattle.domain.specs.Adding.{is_kept}
+use Rattle.domain.specs.RelationsInCode.{relation_of}
+use Rattle.domain.specs.FactInCode.{fact_in_code, rules_of}
+use Rattle.facts.specs.Additions.{turned}
+use Rattle.facts.specs.Shaped.{if_stays}
+use Rattle.facts.proofs.EachRelation.{append_nothing}
+use Rattle.facts.proofs.RowsLemmas.{kept_none, kept_if}
 use Rattle.facts.proofs.operations.push_turned.Goals as goal
 
 pub returns-then-not-turn-clause-fact : goal.returns-then-not-turn-clause-fact

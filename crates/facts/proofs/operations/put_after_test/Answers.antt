@@ -3,14 +3,14 @@ use Rattle.std.specs.Prelude.{◌||◌}
 use Rattle.wordset.specs.Words.{one}
 use Rattle.wordset.specs.Lanes.{words}
 use Rattle.instruct.specs.Bits.{has_bit}
-use Rattle.domain.specs.Facts.{Ac}
-use Rattle.domain.specs.Sums.Facts.{Fact}
-use Rattle.domain.specs.Sums.Adding.{with_name}
-use Rattle.domain.specs.Sums.Narrowing.{asked_by}
-use Rattle.domain.specs.Sums.FactInCode.{fact_in_code, rules_of}
-use Rattle.facts.specs.Sums.Outcomes.{with_link}
-use Rattle.facts.specs.Sums.Operations.{may_be, cleared2}
-use Rattle.facts.proofs.Sums.RowsLemmas.{tested_narrowed, tested_as_it_is, neither_first, neither_second, cleared_as_it_is}
+use Rattle.domain.specs.Locations.{Ac}
+use Rattle.domain.specs.Facts.{Fact}
+use Rattle.domain.specs.Adding.{with_name}
+use Rattle.domain.specs.Narrowing.{asked_by}
+use Rattle.domain.specs.FactInCode.{fact_in_code, rules_of}
+use Rattle.facts.specs.Outcomes.{with_link}
+use Rattle.facts.specs.Operations.{may_be, cleared2}
+use Rattle.facts.proofs.RowsLemmas.{tested_narrowed, tested_as_it_is, neither_first, neither_second, cleared_as_it_is}
 use Rattle.facts.proofs.operations.put_after_test.Goals as goal
 
 pub returns-then-changes_accumulator-clause-may : goal.returns-then-changes_accumulator-clause-may

@@ -2,12 +2,12 @@ use Rattle.std.proofs.Common.{ap, ◌∙◌}
 use Rattle.wordset.specs.Words.{Words, images}
 use Rattle.wordset.specs.Lanes.{words}
 use Rattle.wordset.specs.Operate as said
-use Rattle.domain.specs.Facts.{Ac}
-use Rattle.domain.specs.Sums.Facts.{Fact, OfEquations}
-use Rattle.domain.specs.Sums.Adding.{with_name}
-use Rattle.domain.specs.Sums.FactInCode.{fact_in_code}
-use Rattle.facts.specs.Sums.Operations.{link_after, operated}
-use Rattle.facts.proofs.Sums.RowsLemmas.{images_ac, images_link}
+use Rattle.domain.specs.Locations.{Ac}
+use Rattle.domain.specs.Facts.{Fact, OfEquations}
+use Rattle.domain.specs.Adding.{with_name}
+use Rattle.domain.specs.FactInCode.{fact_in_code}
+use Rattle.facts.specs.Operations.{link_after, operated}
+use Rattle.facts.proofs.RowsLemmas.{images_ac, images_link}
 use Rattle.facts.proofs.operations.put_all_operated.Goals as goal
 
 pub returns : goal.returns

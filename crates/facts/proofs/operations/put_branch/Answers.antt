@@ -4,11 +4,11 @@ use Rattle.std.proofs.lemmas.Bool.{false≢true}
 use Rattle.instruct.specs.Operates.{skips_of}
 use Rattle.wordset.specs.Words.{Words, has_some}
 use Rattle.wordset.specs.Lanes.{words}
-use Rattle.domain.specs.Sums.Facts.{Fact, Rules}
-use Rattle.domain.specs.Sums.FactInCode.{fact_in_code}
-use Rattle.facts.specs.Sums.Operations.{part2, tested, cleared2, may_be}
+use Rattle.domain.specs.Facts.{Fact, Rules}
+use Rattle.domain.specs.FactInCode.{fact_in_code}
+use Rattle.facts.specs.Operations.{part2, tested, cleared2, may_be}
 use Rattle.facts.proofs.SkipLemmas.{part_is}
-use Rattle.facts.proofs.Sums.RowsLemmas.{first_fails, second_fails, both_hold, some_there, none_there}
+use Rattle.facts.proofs.RowsLemmas.{first_fails, second_fails, both_hold, some_there, none_there}
 use Rattle.facts.proofs.operations.put_branch.Goals as goal
 
 pub returns-then-not-contains-clause-may : goal.returns-then-not-contains-clause-may

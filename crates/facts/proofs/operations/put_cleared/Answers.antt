@@ -3,10 +3,10 @@ use Rattle.std.specs.Prelude.{if◌then◌else◌}
 use Rattle.instruct.specs.Bits.{has_bit}
 use Rattle.wordset.specs.Words.{Words, one, or_any}
 use Rattle.wordset.specs.Lanes.{words}
-use Rattle.domain.specs.Facts.{Ac}
-use Rattle.domain.specs.Sums.Facts.{Fact}
-use Rattle.domain.specs.Sums.Moves.{taking}
-use Rattle.domain.specs.Sums.FactInCode.{fact_in_code}
+use Rattle.domain.specs.Locations.{Ac}
+use Rattle.domain.specs.Facts.{Fact}
+use Rattle.domain.specs.Moves.{taking}
+use Rattle.domain.specs.FactInCode.{fact_in_code}
 use Rattle.facts.proofs.operations.put_cleared.Goals as goal
 
 pub returns-then-reads_switches : goal.returns-then-reads_switches

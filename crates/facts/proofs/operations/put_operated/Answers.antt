@@ -1,8 +1,8 @@
 use Rattle.std.proofs.Common.{List, [], ◌++◌, map, ap, ◌∙◌}
-use Rattle.domain.specs.Sums.RelationsInCode.{relation_of}
-use Rattle.domain.specs.Sums.Facts.{Relation, Fact}
-use Rattle.domain.specs.Sums.FactInCode.{fact_in_code, rules_of}
-use Rattle.facts.specs.Sums.Operations.{relations_operated, chains_operated}
+use Rattle.domain.specs.RelationsInCode.{relation_of}
+use Rattle.domain.specs.Facts.{Relation, Fact}
+use Rattle.domain.specs.FactInCode.{fact_in_code, rules_of}
+use Rattle.facts.specs.Operations.{relations_operated, chains_operated}
 use Rattle.facts.proofs.operations.put_operated.Goals as goal
 
 pub returns : goal.returns

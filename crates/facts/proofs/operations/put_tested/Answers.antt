@@ -1,10 +1,10 @@
 use Rattle.std.proofs.Common.{◌≡◌, length, sym, ap, ◌∙◌, arith}
 use Rattle.std.proofs.lemmas.List.{length-map}
 use Rattle.peripherals.specs.Loading.{image_of}
-use Rattle.domain.specs.Sums.Facts.{Fact}
-use Rattle.domain.specs.Sums.Narrowing.{narrowed}
-use Rattle.domain.specs.Sums.RelationsInCode.{relations_of}
-use Rattle.domain.specs.Sums.ChainsInCode.{chain_of}
+use Rattle.domain.specs.Facts.{Fact}
+use Rattle.domain.specs.Narrowing.{narrowed}
+use Rattle.domain.specs.RelationsInCode.{relations_of}
+use Rattle.domain.specs.ChainsInCode.{chain_of}
 use Rattle.facts.proofs.operations.put_tested.Goals as goal
 
 pub narrow-requires : goal.narrow-requires

@@ -1,10 +1,10 @@
 use Rattle.std.proofs.Common.{ap, ◌∙◌}
 use Rattle.wordset.specs.Words.{Words, one}
 use Rattle.wordset.specs.Lanes.{words}
-use Rattle.domain.specs.Facts.{Ac}
-use Rattle.domain.specs.Sums.Facts.{Fact}
-use Rattle.domain.specs.Sums.Adding.{with_name}
-use Rattle.domain.specs.Sums.FactInCode.{fact_in_code}
+use Rattle.domain.specs.Locations.{Ac}
+use Rattle.domain.specs.Facts.{Fact}
+use Rattle.domain.specs.Adding.{with_name}
+use Rattle.domain.specs.FactInCode.{fact_in_code}
 use Rattle.facts.proofs.operations.put_with_part.Goals as goal
 
 pub returns-clause-fact : goal.returns-clause-fact

@@ -1,5 +1,5 @@
-use Rattle.domain.specs.Sums.RelationsInCode.{relation_of}
-use Rattle.facts.proofs.Sums.RowsLemmas.{turned_gone, turned_on}
+use Rattle.domain.specs.RelationsInCode.{relation_of}
+use Rattle.facts.proofs.RowsLemmas.{turned_gone, turned_on}
 use Rattle.facts.proofs.operations.turn.Goals as goal
 
 pub returns-then-not-complement_if : goal.returns-then-not-complement_if

@@ -1,8 +1,8 @@
 use Rattle.std.proofs.Common.{ap, refl}
 use Rattle.wordset.specs.Words.{has_some, has_link}
 use Rattle.wordset.specs.Lanes.{words}
-use Rattle.domain.specs.Sums.FactInCode.{fact_in_code}
-use Rattle.facts.proofs.Sums.ComesLemmas.{alive_by_equations}
+use Rattle.domain.specs.FactInCode.{fact_in_code}
+use Rattle.facts.proofs.ComesLemmas.{alive_by_equations}
 use Rattle.facts.proofs.outcomes.is_alive.Goals as goal
 
 pub returns-in-OfSums : goal.returns-in-OfSums

@@ -1,8 +1,8 @@
 use Rattle.std.proofs.Common.{map, ap, arith}
 use Rattle.std.proofs.Math.ListN.{drop_of_length-le}
-use Rattle.domain.specs.Statements.{tracked}
-use Rattle.domain.specs.Sums.CellsInCode.{cell_set_of}
-use Rattle.facts.proofs.Sums.SplitLemmas.{entry_skipped}
+use Rattle.domain.specs.TrackedCells.{tracked}
+use Rattle.domain.specs.CellsInCode.{cell_set_of}
+use Rattle.facts.proofs.SplitLemmas.{entry_skipped}
 use Rattle.facts.proofs.parts.look_at_cells.Goals as goal
 
 pub loop-entry-preserved : goal.loop-entry-preserved

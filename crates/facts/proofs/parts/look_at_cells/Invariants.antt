@@ -1,7 +1,7 @@
 use Rattle.std.proofs.Common.{◌≡◌, ℕ, ◌≤◌, drop, map}
 use Rattle.wordset.specs.Words.{all_words}
-use Rattle.domain.specs.Statements.{tracked}
-use Rattle.domain.specs.Sums.CellsInCode.{cell_set_of}
+use Rattle.domain.specs.TrackedCells.{tracked}
+use Rattle.domain.specs.CellsInCode.{cell_set_of}
 use Rattle.facts.proofs.parts.look_at_cells.Given as goal
 
 abbrev pub invariant-loop-entry : goal.invariant-loop-entry

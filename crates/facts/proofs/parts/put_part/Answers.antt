@@ -2,9 +2,9 @@ use Rattle.std.proofs.Common.{ap, ◌∙◌}
 use Rattle.wordset.specs.Words.{Words}
 use Rattle.wordset.specs.Links.{links_of}
 use Rattle.peripherals.specs.Loading.{image_of}
-use Rattle.domain.specs.Sums.Facts.{Fact}
-use Rattle.domain.specs.Sums.Narrowing.{narrowed}
-use Rattle.domain.specs.Sums.FactInCode.{fact_in_code}
+use Rattle.domain.specs.Facts.{Fact}
+use Rattle.domain.specs.Narrowing.{narrowed}
+use Rattle.domain.specs.FactInCode.{fact_in_code}
 use Rattle.facts.proofs.parts.put_part.Goals as goal
 
 pub returns-clause-part : goal.returns-clause-part

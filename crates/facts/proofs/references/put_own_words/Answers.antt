@@ -3,11 +3,11 @@ use Rattle.std.specs.Prelude.{◌||◌}
 use Rattle.wordset.specs.Words.{Words, shifted}
 use Rattle.wordset.specs.Lanes.{words}
 use Rattle.wordset.proofs.Tests.{some_none}
-use Rattle.domain.specs.Sums.Brief.{brief_words}
-use Rattle.domain.specs.Sums.Offsets.{offsets_in}
-use Rattle.domain.specs.Sums.FactInCode.{fact_in_code}
+use Rattle.domain.specs.Brief.{brief_words}
+use Rattle.domain.specs.Offsets.{offsets_in}
+use Rattle.domain.specs.FactInCode.{fact_in_code}
 use Rattle.facts.proofs.PlaceLemmas.{some_step, and_both}
-use Rattle.facts.proofs.Sums.OperandLemmas.{own_end}
+use Rattle.facts.proofs.OperandLemmas.{own_end}
 use Rattle.facts.proofs.references.put_own_words.Goals as goal
 
 pub loop-o-init : goal.loop-o-init

@@ -1,5 +1,5 @@
 use Rattle.std.proofs.Common.{◌∙◌, ap}
-use Rattle.domain.specs.Facts.{tape_word}
+use Rattle.domain.specs.Locations.{tape_word}
 use Rattle.facts.proofs.starts.put_tape_word.Goals as goal
 
 pub returns-in-None : goal.returns-in-None

@@ -1,10 +1,10 @@
 use Rattle.std.proofs.Common.{refl, sym, ap, ◌∙◌}
 use Rattle.wordset.specs.Lanes.{words}
-use Rattle.domain.specs.Sums.Terms.{Sum}
-use Rattle.domain.specs.Sums.Facts.{OfSums}
-use Rattle.domain.specs.Sums.Adding.{adding}
-use Rattle.domain.specs.Sums.FactInCode.{fact_in_code}
-use Rattle.facts.specs.Sums.Shaped.{told}
+use Rattle.domain.specs.Terms.{Sum}
+use Rattle.domain.specs.Facts.{OfSums}
+use Rattle.domain.specs.Adding.{adding}
+use Rattle.domain.specs.FactInCode.{fact_in_code}
+use Rattle.facts.specs.Shaped.{told}
 use Rattle.facts.proofs.stores.add_after_store.Goals as goal
 
 pub returns-then-not-names-clause-fact : goal.returns-then-not-names-clause-fact

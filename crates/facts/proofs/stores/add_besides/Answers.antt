@@ -1,6 +1,6 @@
 use Rattle.std.proofs.Common.{refl, sym, ◌∙◌}
 use Rattle.wordset.specs.Lanes.{words}
-use Rattle.facts.proofs.Sums.RowsLemmas.{all_there, not_all_there}
+use Rattle.facts.proofs.RowsLemmas.{all_there, not_all_there}
 use Rattle.facts.proofs.stores.add_besides.Goals as goal
 
 pub returns-then-not-names-clause-fact : goal.returns-then-not-names-clause-fact

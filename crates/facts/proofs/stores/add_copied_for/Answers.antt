@@ -1,13 +1,13 @@
 use Rattle.std.proofs.Common.{ap, sym, ◌∙◌}
 use Rattle.wordset.specs.Words.{Words}
 use Rattle.wordset.specs.Lanes.{words}
-use Rattle.domain.specs.Sums.Terms.{Sum}
-use Rattle.domain.specs.Sums.Facts.{OfEquations}
-use Rattle.domain.specs.Sums.Adding.{adding}
-use Rattle.domain.specs.Sums.InCode.{sum_of}
-use Rattle.domain.specs.Sums.FactInCode.{fact_in_code}
-use Rattle.facts.specs.Sums.Stores.{with_cell_for_ac}
-use Rattle.facts.specs.Sums.Shaped.{told}
+use Rattle.domain.specs.Terms.{Sum}
+use Rattle.domain.specs.Facts.{OfEquations}
+use Rattle.domain.specs.Adding.{adding}
+use Rattle.domain.specs.InCode.{sum_of}
+use Rattle.domain.specs.FactInCode.{fact_in_code}
+use Rattle.facts.specs.Stores.{with_cell_for_ac}
+use Rattle.facts.specs.Shaped.{told}
 use Rattle.facts.proofs.stores.add_copied_for.Goals as goal
 
 pub returns-clause-fact : goal.returns-clause-fact

@@ -1,12 +1,12 @@
 use Rattle.std.proofs.Common.{◌≡◌, ◌+◌, ◌≤◌, drop, length, map}
 use Rattle.std.specs.Prelude.{flat_map}
 use Rattle.wordset.specs.Lanes.{words}
-use Rattle.domain.specs.Sums.Facts.{OfSums}
-use Rattle.domain.specs.Sums.Adding.{adding_all}
-use Rattle.domain.specs.Sums.CellsInCode.{cell_sets_of}
-use Rattle.domain.specs.Sums.RelationsInCode.{relation_of, relations_of}
-use Rattle.domain.specs.Sums.FactInCode.{fact_in_code}
-use Rattle.facts.specs.Sums.Stores.{after_store}
+use Rattle.domain.specs.Facts.{OfSums}
+use Rattle.domain.specs.Adding.{adding_all}
+use Rattle.domain.specs.CellsInCode.{cell_sets_of}
+use Rattle.domain.specs.RelationsInCode.{relation_of, relations_of}
+use Rattle.domain.specs.FactInCode.{fact_in_code}
+use Rattle.facts.specs.Stores.{after_store}
 use Rattle.facts.proofs.stores.add_each_after_store.Given as goal
 
 abbrev pub invariant-loop-relation : goal.invariant-loop-relation

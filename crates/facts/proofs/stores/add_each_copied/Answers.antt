@@ -1,9 +1,9 @@
 use Rattle.std.proofs.Common.{◌<◌, ◌≤◌, length, ◌∙◌, arith}
-use Rattle.domain.specs.Sums.Facts.{OfEquations}
-use Rattle.domain.specs.Sums.RelationsInCode.{relation_of}
-use Rattle.domain.specs.Sums.FactInCode.{fact_in_code}
-use Rattle.facts.specs.Sums.Stores.{copied_for}
-use Rattle.facts.proofs.Sums.EachRelation.{added_on, all_added_on, few_terms}
+use Rattle.domain.specs.Facts.{OfEquations}
+use Rattle.domain.specs.RelationsInCode.{relation_of}
+use Rattle.domain.specs.FactInCode.{fact_in_code}
+use Rattle.facts.specs.Stores.{copied_for}
+use Rattle.facts.proofs.EachRelation.{added_on, all_added_on, few_terms}
 use Rattle.facts.proofs.stores.add_each_copied.Goals as goal
 
 pub add_copied_for-requires : goal.add_copied_for-requires

@@ -1,10 +1,10 @@
 use Rattle.std.proofs.Common.{ap, sym, ◌∙◌}
 use Rattle.wordset.specs.Words.{Words, sums}
 use Rattle.wordset.specs.Lanes.{words}
-use Rattle.domain.specs.Sums.Adding.{times}
-use Rattle.domain.specs.Sums.InCode.{sum_of}
-use Rattle.domain.specs.Sums.FactInCode.{fact_in_code}
-use Rattle.facts.proofs.Sums.RowsLemmas.{moved_unknown, moved_known}
+use Rattle.domain.specs.Adding.{times}
+use Rattle.domain.specs.InCode.{sum_of}
+use Rattle.domain.specs.FactInCode.{fact_in_code}
+use Rattle.facts.proofs.RowsLemmas.{moved_unknown, moved_known}
 use Rattle.facts.proofs.stores.add_moved.Goals as goal
 
 pub returns-then-not-has_behind-clause-fact : goal.returns-then-not-has_behind-clause-fact

@@ -1,6 +1,6 @@
 use Rattle.std.proofs.Common.{◌≡◌, drop, map}
-use Rattle.domain.specs.Sums.ChainsInCode.{chain_of}
-use Rattle.facts.specs.Sums.Stores.{has_chain_on}
+use Rattle.domain.specs.ChainsInCode.{chain_of}
+use Rattle.facts.specs.Stores.{has_chain_on}
 use Rattle.facts.proofs.stores.has_chain_on.Given as goal
 
 abbrev pub invariant-loop-chain : goal.invariant-loop-chain

@@ -2,13 +2,13 @@ use Rattle.std.proofs.Common.{ℕ, ap, sym, ◌∙◌, map}
 use Rattle.std.specs.Prelude.{Option, Some}
 use Rattle.wordset.specs.Words.{only}
 use Rattle.wordset.specs.Links.{links_of}
-use Rattle.domain.specs.Sums.Brief.{brief_words}
-use Rattle.domain.specs.Sums.ChainsInCode.{step_of, chain_of}
-use Rattle.domain.specs.Sums.RelationsInCode.{relation_of}
-use Rattle.domain.specs.Sums.FactInCode.{fact_in_code}
-use Rattle.facts.specs.Sums.Shaped.{begun_at}
-use Rattle.facts.specs.Sums.Stores.{begun_by}
-use Rattle.facts.proofs.Sums.RowsLemmas.{begun_one}
+use Rattle.domain.specs.Brief.{brief_words}
+use Rattle.domain.specs.ChainsInCode.{step_of, chain_of}
+use Rattle.domain.specs.RelationsInCode.{relation_of}
+use Rattle.domain.specs.FactInCode.{fact_in_code}
+use Rattle.facts.specs.Shaped.{begun_at}
+use Rattle.facts.specs.Stores.{begun_by}
+use Rattle.facts.proofs.RowsLemmas.{begun_one}
 use Rattle.facts.proofs.stores.push_begun.Goals as goal
 
 pub returns-clause-fact : goal.returns-clause-fact

@@ -1,12 +1,12 @@
 use Rattle.std.proofs.Common.{◌<◌, ◌++◌, List, length, map, ap, sym, ◌∙◌, arith}
 use Rattle.wordset.specs.Links.{links_of}
-use Rattle.domain.specs.Sums.Chains.{Chain, all_longer}
-use Rattle.domain.specs.Sums.RelationsInCode.{relation_of}
-use Rattle.domain.specs.Sums.ChainsInCode.{step_of, chain_of}
-use Rattle.domain.specs.Sums.FactInCode.{fact_in_code}
-use Rattle.facts.specs.Sums.Stores.{begun_by}
-use Rattle.facts.specs.Sums.Shaped.{begun_beside}
-use Rattle.facts.proofs.Sums.RowsLemmas.{begun_on, all_begun_on, begun_each}
+use Rattle.domain.specs.Chains.{Chain, all_longer}
+use Rattle.domain.specs.RelationsInCode.{relation_of}
+use Rattle.domain.specs.ChainsInCode.{step_of, chain_of}
+use Rattle.domain.specs.FactInCode.{fact_in_code}
+use Rattle.facts.specs.Stores.{begun_by}
+use Rattle.facts.specs.Shaped.{begun_beside}
+use Rattle.facts.proofs.RowsLemmas.{begun_on, all_begun_on, begun_each}
 use Rattle.facts.proofs.stores.push_each_begun.Goals as goal
 
 pub loop-relation-preserved : goal.loop-relation-preserved

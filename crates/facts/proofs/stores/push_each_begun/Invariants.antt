@@ -1,12 +1,12 @@
 use Rattle.std.proofs.Common.{◌≡◌, ◌+◌, ◌≤◌, ◌++◌, drop, length, map}
 use Rattle.std.specs.Prelude.{flat_map}
 use Rattle.wordset.specs.Links.{links_of}
-use Rattle.domain.specs.Sums.Chains.{all_longer}
-use Rattle.domain.specs.Sums.RelationsInCode.{relation_of}
-use Rattle.domain.specs.Sums.ChainsInCode.{step_of, chain_of}
-use Rattle.domain.specs.Sums.FactInCode.{fact_in_code}
-use Rattle.facts.specs.Sums.Stores.{begun_by}
-use Rattle.facts.specs.Sums.Shaped.{begun_beside}
+use Rattle.domain.specs.Chains.{all_longer}
+use Rattle.domain.specs.RelationsInCode.{relation_of}
+use Rattle.domain.specs.ChainsInCode.{step_of, chain_of}
+use Rattle.domain.specs.FactInCode.{fact_in_code}
+use Rattle.facts.specs.Stores.{begun_by}
+use Rattle.facts.specs.Shaped.{begun_beside}
 use Rattle.facts.proofs.stores.push_each_begun.Given as goal
 
 abbrev pub invariant-loop-relation : goal.invariant-loop-relation

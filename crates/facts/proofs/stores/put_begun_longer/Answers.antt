@@ -2,14 +2,14 @@ use Rattle.std.proofs.Common.{◌≡◌, ◌++◌, List, length, map, sym, ap, �
 use Rattle.std.proofs.lemmas.List.{length-map}
 use Rattle.wordset.specs.Words.{Words}
 use Rattle.wordset.specs.Links.{links_of}
-use Rattle.domain.specs.Sums.Chains.{Chain, longer, all_longer}
-use Rattle.domain.specs.Sums.Facts.{Relation, Fact}
-use Rattle.domain.specs.Sums.ChainsInCode.{step_of, chain_of}
-use Rattle.domain.specs.Sums.RelationsInCode.{relation_of}
-use Rattle.domain.specs.Sums.FactInCode.{fact_in_code}
-use Rattle.facts.specs.Sums.Stores.{all_begun}
-use Rattle.facts.specs.Sums.Shaped.{begun_beside}
-use Rattle.facts.proofs.Sums.EachRelation.{map_append}
+use Rattle.domain.specs.Chains.{Chain, longer, all_longer}
+use Rattle.domain.specs.Facts.{Relation, Fact}
+use Rattle.domain.specs.ChainsInCode.{step_of, chain_of}
+use Rattle.domain.specs.RelationsInCode.{relation_of}
+use Rattle.domain.specs.FactInCode.{fact_in_code}
+use Rattle.facts.specs.Stores.{all_begun}
+use Rattle.facts.specs.Shaped.{begun_beside}
+use Rattle.facts.proofs.EachRelation.{map_append}
 use Rattle.facts.proofs.stores.put_begun_longer.Goals as goal
 
 pub push_each_begun-requires : goal.push_each_begun-requires

@@ -1,15 +1,15 @@
 use Rattle.std.proofs.Common.{ℕ, ◌<◌, List, map, ap, ◌∙◌, arith}
-use Rattle.domain.specs.Sums.RelationsInCode.{relation_of}
+use Rattle.domain.specs.RelationsInCode.{relation_of}
 use Rattle.std.specs.Prelude.{flat_map, not}
 use Rattle.wordset.specs.Words.{Words, one}
 use Rattle.wordset.specs.Lanes.{words}
-use Rattle.domain.specs.Facts.{Ac, Cell, is_outside}
-use Rattle.domain.specs.Sums.Facts.{Relation, Fact, OfEquations}
-use Rattle.domain.specs.Sums.Adding.{with_name, adding_all}
-use Rattle.domain.specs.Sums.Moves.{taking}
-use Rattle.domain.specs.Sums.FactInCode.{fact_in_code}
-use Rattle.facts.specs.Sums.Stores.{copied_for}
-use Rattle.facts.proofs.Sums.RowsLemmas.{copied_base, changing_one}
+use Rattle.domain.specs.Locations.{Ac, Cell, is_outside}
+use Rattle.domain.specs.Facts.{Relation, Fact, OfEquations}
+use Rattle.domain.specs.Adding.{with_name, adding_all}
+use Rattle.domain.specs.Moves.{taking}
+use Rattle.domain.specs.FactInCode.{fact_in_code}
+use Rattle.facts.specs.Stores.{copied_for}
+use Rattle.facts.proofs.RowsLemmas.{copied_base, changing_one}
 use Rattle.facts.proofs.stores.put_copied.Goals as goal
 
 pub returns : goal.returns

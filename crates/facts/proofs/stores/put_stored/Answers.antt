@@ -1,13 +1,13 @@
 use Rattle.std.proofs.Common.{ap, ◌∙◌}
 use Rattle.wordset.specs.Words.{Words, all_words, one}
 use Rattle.wordset.specs.Lanes.{words}
-use Rattle.domain.specs.Facts.{Ac, Cell}
-use Rattle.domain.specs.Sums.Terms.{Sum}
-use Rattle.domain.specs.Sums.Facts.{Fact}
-use Rattle.domain.specs.Sums.Adding.{with_name, set_of_sum}
-use Rattle.domain.specs.Sums.InCode.{sum_of}
-use Rattle.domain.specs.Sums.FactInCode.{fact_in_code}
-use Rattle.facts.proofs.Sums.RowsLemmas.{stored_is}
+use Rattle.domain.specs.Locations.{Ac, Cell}
+use Rattle.domain.specs.Terms.{Sum}
+use Rattle.domain.specs.Facts.{Fact}
+use Rattle.domain.specs.Adding.{with_name, set_of_sum}
+use Rattle.domain.specs.InCode.{sum_of}
+use Rattle.domain.specs.FactInCode.{fact_in_code}
+use Rattle.facts.proofs.RowsLemmas.{stored_is}
 use Rattle.facts.proofs.stores.put_stored.Goals as goal
 
 pub returns : goal.returns

@@ -1,7 +1,7 @@
 use Rattle.std.proofs.Common.{◌≡◌, ◌++◌, length, ap, ◌∙◌, arith}
-use Rattle.domain.specs.Facts.{Cell}
-use Rattle.domain.specs.Sums.Terms.{Sum, sum_of_name}
-use Rattle.domain.specs.Sums.InCode.{sum_of}
+use Rattle.domain.specs.Locations.{Cell}
+use Rattle.domain.specs.Terms.{Sum, sum_of_name}
+use Rattle.domain.specs.InCode.{sum_of}
 use Rattle.facts.proofs.stores.with_cell_for_accumulator.Goals as goal
 
 pub push_from-requires : goal.push_from-requires

@@ -1,5 +1,5 @@
 use Rattle.std.proofs.Common.{◌≡◌, ◌≤◌, ◌<◌, false}
-use Rattle.domain.specs.Sums.Offsets.{offsets_in}
+use Rattle.domain.specs.Offsets.{offsets_in}
 use Rattle.fixpoint.proofs.form.are_below.Given as goal
 
 abbrev pub invariant-loop-offset : goal.invariant-loop-offset

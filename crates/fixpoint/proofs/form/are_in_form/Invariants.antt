@@ -1,6 +1,6 @@
 use Rattle.std.proofs.Common.{drop, map}
-use Rattle.certificate.specs.Reading.{Each}
-use Rattle.domain.specs.Sums.RelationsInCode.{relation_of}
+use Rattle.certificate.specs.RisingLists.{Each}
+use Rattle.domain.specs.RelationsInCode.{relation_of}
 use Rattle.fixpoint.specs.Form.{IsInForm}
 use Rattle.fixpoint.proofs.form.are_in_form.Given as goal
 

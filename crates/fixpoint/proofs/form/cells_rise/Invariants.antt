@@ -1,5 +1,5 @@
 use Rattle.std.proofs.Common.{drop, map}
-use Rattle.certificate.specs.Reading.{RiseFrom}
+use Rattle.certificate.specs.RisingLists.{RiseFrom}
 use Rattle.fixpoint.specs.Claimed.{cell_of}
 use Rattle.fixpoint.proofs.form.cells_rise.Given as goal
 

@@ -1,5 +1,5 @@
 use Rattle.std.proofs.Common.{◌∙◌, sym}
-use Rattle.domain.specs.Sums.Brief.{brief_words}
+use Rattle.domain.specs.Brief.{brief_words}
 use Rattle.fixpoint.proofs.FormLemmas.{one_alone}
 use Rattle.fixpoint.proofs.form.has_one_word.Goals as goal
 

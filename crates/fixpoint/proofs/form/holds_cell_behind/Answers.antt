@@ -1,5 +1,5 @@
-use Rattle.domain.specs.Meaning.{location_of}
-use Rattle.domain.specs.Sums.InCode.{term_of}
+use Rattle.domain.specs.LocationsInCode.{location_of}
+use Rattle.domain.specs.InCode.{term_of}
 use Rattle.fixpoint.proofs.FormLemmas.{held_behind}
 use Rattle.fixpoint.proofs.form.holds_cell_behind.Goals as goal
 

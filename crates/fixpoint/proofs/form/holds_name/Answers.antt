@@ -1,6 +1,6 @@
 use Rattle.std.proofs.Common.{ap}
-use Rattle.domain.specs.Meaning.{location_of}
-use Rattle.domain.specs.Sums.InCode.{term_of}
+use Rattle.domain.specs.LocationsInCode.{location_of}
+use Rattle.domain.specs.InCode.{term_of}
 use Rattle.fixpoint.proofs.form.holds_name.Goals as goal
 
 pub returns-in-Holding : goal.returns-in-Holding

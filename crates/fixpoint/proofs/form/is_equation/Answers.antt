@@ -1,4 +1,4 @@
-use Rattle.domain.specs.Sums.RelationsInCode.{relation_of}
+use Rattle.domain.specs.RelationsInCode.{relation_of}
 use Rattle.fixpoint.proofs.FormLemmas.{equation_is}
 use Rattle.fixpoint.proofs.form.is_equation.Goals as goal
 

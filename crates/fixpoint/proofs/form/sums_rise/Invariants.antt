@@ -1,5 +1,5 @@
 use Rattle.std.proofs.Common.{drop, map}
-use Rattle.domain.specs.Sums.RelationsInCode.{relation_of}
+use Rattle.domain.specs.RelationsInCode.{relation_of}
 use Rattle.fixpoint.specs.Form.{SumsRise, RiseAfter, sum_if}
 use Rattle.fixpoint.proofs.form.sums_rise.Given as goal
 

@@ -1,6 +1,6 @@
 use Rattle.std.proofs.Common.{drop, map}
-use Rattle.domain.specs.Sums.RelationsInCode.{relation_of}
-use Rattle.facts.specs.Sums.Shaped.{HaveFewTerms}
+use Rattle.domain.specs.RelationsInCode.{relation_of}
+use Rattle.facts.specs.Shaped.{HaveFewTerms}
 use Rattle.fixpoint.proofs.invariant.are_short.Given as goal
 
 abbrev pub invariant-loop-relation : goal.invariant-loop-relation

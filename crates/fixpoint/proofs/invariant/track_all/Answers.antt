@@ -1,7 +1,7 @@
 use Rattle.std.proofs.Common.{◌∙◌, refl}
 use Rattle.wordset.specs.Lanes.{words}
-use Rattle.domain.specs.Sums.CellsInCode.{cell_sets_of}
-use Rattle.domain.specs.Sums.FactInCode.{fact_in_code}
+use Rattle.domain.specs.CellsInCode.{cell_sets_of}
+use Rattle.domain.specs.FactInCode.{fact_in_code}
 use Rattle.fixpoint.proofs.KeptLemmas.{told_more, cells_more}
 use Rattle.fixpoint.proofs.invariant.track_all.Goals as goal
 

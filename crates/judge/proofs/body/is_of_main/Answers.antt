@@ -1,5 +1,5 @@
-use Rattle.domain.specs.Sums.FactInCode.{fact_in_code}
-use Rattle.judge.proofs.Sums.LineLemmas.{of_main, site_in_main}
+use Rattle.domain.specs.FactInCode.{fact_in_code}
+use Rattle.judge.proofs.LineLemmas.{of_main, site_in_main}
 use Rattle.judge.proofs.body.is_of_main.Goals as goal
 
 pub returns-then-not-is_empty : goal.returns-then-not-is_empty

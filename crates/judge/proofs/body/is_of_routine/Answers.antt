@@ -1,9 +1,9 @@
-use Rattle.domain.specs.Sums.FactInCode.{fact_in_code, rules_of}
+use Rattle.domain.specs.FactInCode.{fact_in_code, rules_of}
 use Rattle.std.proofs.Common.{true, ap, sym, subst}
 use Rattle.std.specs.Prelude.{IsTrue, ◌↔◌, not}
-use Rattle.domain.specs.Sums.Facts.{Rules}
-use Rattle.judge.specs.Sums.Conditions.{HasSites}
-use Rattle.judge.proofs.Sums.LineLemmas.{no_offset, of_routine, some_site, sites_free}
+use Rattle.domain.specs.Facts.{Rules}
+use Rattle.judge.specs.Conditions.{HasSites}
+use Rattle.judge.proofs.LineLemmas.{no_offset, of_routine, some_site, sites_free}
 use Rattle.judge.proofs.body.is_of_routine.Goals as goal
 
 pub returns-then-is_empty : goal.returns-then-is_empty

@@ -1,7 +1,7 @@
 use Rattle.std.proofs.Common.{ap}
 use Rattle.peripherals.specs.Loading.{image_of}
-use Rattle.domain.specs.Sums.FactInCode.{fact_in_code, rules_of}
-use Rattle.judge.proofs.Sums.CaseLemmas.{asked_equations, asked_sums, narrowed_roomy}
+use Rattle.domain.specs.FactInCode.{fact_in_code, rules_of}
+use Rattle.judge.proofs.CaseLemmas.{asked_equations, asked_sums, narrowed_roomy}
 use Rattle.judge.proofs.case.put_asked.Goals as goal
 
 pub returns-in-OfEquations-clause-asked : goal.returns-in-OfEquations-clause-asked

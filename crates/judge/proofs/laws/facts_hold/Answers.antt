@@ -1,4 +1,4 @@
-use Rattle.judge.proofs.Sums.TrueLemmas.{facts_hold_in_runs, facts_hold_in_events}
+use Rattle.judge.proofs.TrueLemmas.{facts_hold_in_runs, facts_hold_in_events}
 use Rattle.judge.proofs.laws.facts_hold.Goals as goal
 
 pub returns : goal.returns

@@ -1,4 +1,4 @@
-use Rattle.judge.proofs.Sums.FirstLemmas.{one_first}
+use Rattle.judge.proofs.FirstLemmas.{one_first}
 use Rattle.judge.proofs.laws.first_is_one.Goals as goal
 
 pub returns : goal.returns

@@ -1,7 +1,7 @@
 use Rattle.std.proofs.Common.{ap}
 use Rattle.wordset.specs.Lanes.{words}
-use Rattle.domain.specs.Sums.FactInCode.{fact_in_code, rules_of}
-use Rattle.judge.proofs.Sums.SourceLemmas.{sited_by_equations}
+use Rattle.domain.specs.FactInCode.{fact_in_code, rules_of}
+use Rattle.judge.proofs.SourceLemmas.{sited_by_equations}
 use Rattle.judge.proofs.sited.put_sites.Goals as goal
 
 pub returns-in-OfEquations : goal.returns-in-OfEquations

@@ -1,11 +1,11 @@
 use Rattle.std.proofs.Common.{◌≡◌, ◌≢◌, Err, ap, inl, inr, refl, rules}
 use Rattle.declaration.specs.declared.DeclarationFault.TheVariants as declaration_fault
 use Rattle.certificate.specs.declared.CertificateFault.TheVariants as certificate_fault
-use Rattle.certificate.specs.Sums.Reading.{reading}
+use Rattle.certificate.specs.Reading.{reading}
 use Rattle.judge.specs.declared.verdict.CertifyFault.TheVariants as fault
-use Rattle.judge.specs.Sums.Certifying.{Parts, AreRead, declaration_of}
-use Rattle.judge.proofs.Sums.ReadingLemmas.{are_read, first_too, none_fails, not_both, one_fault, one_refusal, valid_too}
-use Rattle.judge.proofs.VerdictLemmas.{ok_or_err, same_fault}
+use Rattle.judge.specs.Certifying.{Parts, AreRead, declaration_of}
+use Rattle.judge.proofs.ReadingLemmas.{are_read, first_too, none_fails, not_both, one_fault, one_refusal, valid_too}
+use Rattle.judge.proofs.AnswerLemmas.{ok_or_err, same_fault}
 use Rattle.judge.proofs.verdict.certify.Goals as goal
 
 -- the tape has a fault, so nothing of it can be good

@@ -13,7 +13,7 @@ attend-requires-clause-few g c = rw (ap (λ (q : Plan). q.rounds) c.new-operator
 pub returns-clause-run : goal.returns-clause-run
 returns-clause-run g c =
     let is : plan_of c.new-operator.result ≡ plan_for c.args.options c.in_ok-frames.frames.items c.in_ok-struck.struck.items = search rules in
-    session_ok c.args.options _ _ _ c.in_ok-image.image c.in_ok-frames.frames.items c.in_ok-struck.struck.items c.new-operator.result c.attend.result _ _ c.in_ok-image.ensures.tape c.in_ok-frames.ensures.bytes c.in_ok-struck.ensures.bytes is c.new-operator.ensures.first c.attend.ensures.run
+    session_ok c.args.options c.args.form _ _ _ c.in_ok-image.image c.in_ok-frames.frames.items c.in_ok-struck.struck.items c.new-operator.result c.attend.result _ _ c.in_ok-image.ensures.tape c.in_ok-frames.ensures.bytes c.in_ok-struck.ensures.bytes is c.new-operator.ensures.first c.attend.ensures.run
 
 pub returns-clause-faults : goal.returns-clause-faults
 returns-clause-faults g c = session_faults _ _ _ _ c.in_ok-image.image c.attend.result c.in_ok-image.ensures.tape c.attend.ensures.reads c.attend.ensures.faults
@@ -21,12 +21,12 @@ returns-clause-faults g c = session_faults _ _ _ _ c.in_ok-image.image c.attend.
 pub returns-clause-front : goal.returns-clause-front
 returns-clause-front g c =
     let is : plan_of c.new-operator.result ≡ plan_for c.args.options c.in_ok-frames.frames.items c.in_ok-struck.struck.items = search rules in
-    on_err_weaker c.attend.result (session_or c.args.options _ _ _ c.in_ok-image.image c.in_ok-frames.frames.items c.in_ok-struck.struck.items c.new-operator.result _ _ _ c.in_ok-image.ensures.tape c.in_ok-frames.ensures.bytes c.in_ok-struck.ensures.bytes is c.new-operator.ensures.first) c.attend.ensures.front
+    on_err_weaker c.attend.result (session_or c.args.options c.args.form _ _ _ c.in_ok-image.image c.in_ok-frames.frames.items c.in_ok-struck.struck.items c.new-operator.result _ _ _ c.in_ok-image.ensures.tape c.in_ok-frames.ensures.bytes c.in_ok-struck.ensures.bytes is c.new-operator.ensures.first) c.attend.ensures.front
 
 pub returns-clause-front_of_failure : goal.returns-clause-front_of_failure
 returns-clause-front_of_failure g c = λ failed.
     let is : plan_of c.new-operator.result ≡ plan_for c.args.options c.in_ok-frames.frames.items c.in_ok-struck.struck.items = search rules in
-    session_fronts c.args.options _ _ _ c.in_ok-image.image c.in_ok-frames.frames.items c.in_ok-struck.struck.items c.new-operator.result _ _ _ c.in_ok-image.ensures.tape c.in_ok-frames.ensures.bytes c.in_ok-struck.ensures.bytes is c.new-operator.ensures.first (of_failure c.attend.result failed c.attend.ensures.front)
+    session_fronts c.args.options c.args.form _ _ _ c.in_ok-image.image c.in_ok-frames.frames.items c.in_ok-struck.struck.items c.new-operator.result _ _ _ c.in_ok-image.ensures.tape c.in_ok-frames.ensures.bytes c.in_ok-struck.ensures.bytes is c.new-operator.ensures.first (of_failure c.attend.result failed c.attend.ensures.front)
 
 pub returns-in_err-image-clause-broke_off : goal.returns-in_err-image-clause-broke_off
 returns-in_err-image-clause-broke_off g c = λ same. absurd (tape_wants_none _ c.tape_from.result c.tape_from.ensures.faults (search rules))
@@ -40,7 +40,7 @@ returns-in_err-struck-clause-broke_off g c = λ same. inr (inl (bytes_came _ _ c
 pub returns-clause-broke_off : goal.returns-clause-broke_off
 returns-clause-broke_off g c = λ refused.
     let is : plan_of c.new-operator.result ≡ plan_for c.args.options c.in_ok-frames.frames.items c.in_ok-struck.struck.items = search rules in
-    inr (inr (session_fronts c.args.options _ _ _ c.in_ok-image.image c.in_ok-frames.frames.items c.in_ok-struck.struck.items c.new-operator.result _ _ _ c.in_ok-image.ensures.tape c.in_ok-frames.ensures.bytes c.in_ok-struck.ensures.bytes is c.new-operator.ensures.first (of_refusal c.attend.result refused c.attend.ensures.front)))
+    inr (inr (session_fronts c.args.options c.args.form _ _ _ c.in_ok-image.image c.in_ok-frames.frames.items c.in_ok-struck.struck.items c.new-operator.result _ _ _ c.in_ok-image.ensures.tape c.in_ok-frames.ensures.bytes c.in_ok-struck.ensures.bytes is c.new-operator.ensures.first (of_refusal c.attend.result refused c.attend.ensures.front)))
 
 pub returns-clause-nothing : goal.returns-clause-nothing
 returns-clause-nothing g c = held_no_tape c.attend.result _ c.attend.ensures.faults

@@ -20,7 +20,7 @@ pub returns-clause-run : goal.returns-clause-run
 returns-clause-run g c =
     let t = c.args.typist.now in
     let run = rw (c.begin.ensures, c.run_of-options.ensures, c.options.ensures) at c.attend.ensures.run in
-    typed_ok t.options (g.R.ByteSource.remaining c.args.tape.now) (source (g.F.ByteSource.remaining t.reader) (g.F.ByteSource.ended t.reader)) (source (g.K.ByteSource.remaining t.keys) (g.K.ByteSource.ended t.keys)) c.in_ok-image.image c.attend.result _ _ c.in_ok-image.ensures.tape run
+    typed_ok t.options c.args.form (g.R.ByteSource.remaining c.args.tape.now) (source (g.F.ByteSource.remaining t.reader) (g.F.ByteSource.ended t.reader)) (source (g.K.ByteSource.remaining t.keys) (g.K.ByteSource.ended t.keys)) c.in_ok-image.image c.attend.result _ _ c.in_ok-image.ensures.tape run
 
 pub returns-clause-faults : goal.returns-clause-faults
 returns-clause-faults g c = typed_faults _ c.in_ok-image.image c.attend.result c.in_ok-image.ensures.tape c.attend.ensures.faults
@@ -30,7 +30,7 @@ returns-clause-front g c =
     let t = c.args.typist.now in
     let n = c.attend.new.schedule in
     let front = rw (c.begin.ensures, c.run_of-options.ensures, c.options.ensures) at c.attend.ensures.front in
-    typed_err t.options (g.R.ByteSource.remaining c.args.tape.now) (source (g.F.ByteSource.remaining t.reader) (g.F.ByteSource.ended t.reader)) (source (g.K.ByteSource.remaining t.keys) (g.K.ByteSource.ended t.keys)) c.in_ok-image.image
+    typed_err t.options c.args.form (g.R.ByteSource.remaining c.args.tape.now) (source (g.F.ByteSource.remaining t.reader) (g.F.ByteSource.ended t.reader)) (source (g.K.ByteSource.remaining t.keys) (g.K.ByteSource.ended t.keys)) c.in_ok-image.image
     (g.R.ByteSource.mark c.tape_from.new.source) (g.F.ByteSource.mark n.reader || g.K.ByteSource.mark n.keys) (failures (g.W.ByteSink.mark c.attend.new.out.report) (g.T.ByteSink.mark c.attend.new.out.teletype) (g.P.ByteSink.mark c.attend.new.out.punch))
     _ _ c.attend.result c.in_ok-image.ensures.tape front
 

@@ -1,7 +1,7 @@
 use Rattle.std.proofs.Common.{ap, ◌∙◌}
 use Rattle.wordset.specs.Words.{Words}
-use Rattle.certificate.specs.Sums.Kept.{claims}
-use Rattle.judge.specs.Sums.Judged.{judged}
+use Rattle.certificate.specs.Kept.{claims}
+use Rattle.judge.specs.Judged.{judged}
 use Rattle.proposer.proofs.TouchLemmas.{is_read, some_is}
 use Rattle.proposer.proofs.variables.lists_needed.Goals as goal
 

@@ -1,8 +1,8 @@
 use Rattle.std.proofs.Common.{ℕ, ◌≡◌, ◌<◌, true}
 use Rattle.wordset.specs.Lanes.{words}
-use Rattle.certificate.specs.Sums.Kept.{claims}
-use Rattle.judge.specs.Sums.Bodies.{Tells}
-use Rattle.judge.specs.Sums.Judged.{judged}
+use Rattle.certificate.specs.Kept.{claims}
+use Rattle.judge.specs.Bodies.{Tells}
+use Rattle.judge.specs.Judged.{judged}
 use Rattle.proposer.specs.Touched.{IsTouched, IsTouchedFrom}
 use Rattle.proposer.proofs.variables.touched.Given as goal
 

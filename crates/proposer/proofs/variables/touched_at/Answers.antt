@@ -2,14 +2,14 @@ use Rattle.std.proofs.Common.{◌≡◌, Bool, [], ◌∷◌, refl, ap, ◌∙�
 use Rattle.std.specs.Prelude.{if◌then◌else◌}
 use Rattle.wordset.specs.Words.{Words}
 use Rattle.wordset.specs.Lanes.{words}
-use Rattle.domain.specs.Sums.FactInCode.{fact_in_code, rules_of}
-use Rattle.domain.specs.Sums.Facts.{Fact}
-use Rattle.facts.specs.Sums.Landing.{fact_at}
-use Rattle.facts.specs.Sums.PlaceInCode.{place_in_code}
-use Rattle.certificate.specs.Sums.Kept.{claims}
-use Rattle.judge.specs.Sums.Judged.{case_kept}
-use Rattle.judge.proofs.Sums.CaseLemmas.{asked_alone}
-use Rattle.judge.proofs.Sums.SourceLemmas.{sited_from}
+use Rattle.domain.specs.FactInCode.{fact_in_code, rules_of}
+use Rattle.domain.specs.Facts.{Fact}
+use Rattle.facts.specs.Landing.{fact_at}
+use Rattle.facts.specs.PlaceInCode.{place_in_code}
+use Rattle.certificate.specs.Kept.{claims}
+use Rattle.judge.specs.Judged.{case_kept}
+use Rattle.judge.proofs.CaseLemmas.{asked_alone}
+use Rattle.judge.proofs.SourceLemmas.{sited_from}
 use Rattle.proposer.proofs.TouchLemmas.{is_asked, not_asked}
 use Rattle.proposer.proofs.variables.touched_at.Goals as goal
 

@@ -4,8 +4,8 @@ use Rattle.wordset.specs.Words.{Words}
 use Rattle.wordset.specs.Lanes.{words}
 use Rattle.wordset.proofs.IterLemmas.{none_gathered, image_gathered}
 use Rattle.wordset.specs.declared.iter.Iter.{Iter}
-use Rattle.domain.specs.Sums.FactInCode.{fact_in_code}
-use Rattle.facts.specs.Sums.PlaceInCode.{place_in_code}
+use Rattle.domain.specs.FactInCode.{fact_in_code}
+use Rattle.facts.specs.PlaceInCode.{place_in_code}
 use Rattle.proposer.proofs.TouchLemmas.{touched_by}
 use Rattle.proposer.proofs.variables.touched_by.Goals as goal
 

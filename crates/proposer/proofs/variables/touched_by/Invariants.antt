@@ -1,8 +1,8 @@
 use Rattle.wordset.specs.Words.{nothing}
 use Rattle.wordset.specs.Lanes.{words}
 use Rattle.wordset.proofs.IterLemmas.{Gathered}
-use Rattle.domain.specs.Sums.FactInCode.{fact_in_code}
-use Rattle.facts.specs.Sums.PlaceInCode.{meaning_in, place_in_code}
+use Rattle.domain.specs.FactInCode.{fact_in_code}
+use Rattle.facts.specs.PlaceInCode.{meaning_in, place_in_code}
 use Rattle.proposer.specs.Touched.{touches}
 use Rattle.proposer.proofs.variables.touched_by.Given as goal
 

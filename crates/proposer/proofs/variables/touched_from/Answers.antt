@@ -1,6 +1,6 @@
 use Rattle.wordset.specs.Lanes.{words}
-use Rattle.certificate.specs.Sums.Kept.{claims}
-use Rattle.judge.specs.Sums.Judged.{case_kept}
+use Rattle.certificate.specs.Kept.{claims}
+use Rattle.judge.specs.Judged.{case_kept}
 use Rattle.proposer.proofs.TouchLemmas.{nothing_there, touched_there}
 use Rattle.proposer.proofs.variables.touched_from.Goals as goal
 

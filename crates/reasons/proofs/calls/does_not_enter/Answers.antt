@@ -1,5 +1,5 @@
 use Rattle.std.proofs.Common.{Some, refl}
-use Rattle.judge.specs.Sums.Points.{case_of}
+use Rattle.judge.specs.Points.{case_of}
 use Rattle.reasons.specs.Points.{counts_lines}
 use Rattle.reasons.proofs.LandingLemmas.{arrives_equally, misses_equally}
 use Rattle.reasons.proofs.calls.does_not_enter.Goals as goal

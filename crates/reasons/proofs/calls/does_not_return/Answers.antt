@@ -1,5 +1,5 @@
 use Rattle.std.proofs.Common.{arith}
-use Rattle.judge.specs.Sums.Points.{case_of, fact_asked}
+use Rattle.judge.specs.Points.{case_of, fact_asked}
 use Rattle.reasons.specs.Keeping.{ArrivesBy}
 use Rattle.reasons.specs.Points.{counts_lines}
 use Rattle.reasons.proofs.SetLemmas.{below_next}

@@ -1,10 +1,10 @@
 use Rattle.std.proofs.Common.{◌<◌, length, arith, ap, refl, subst}
 use Rattle.wordset.specs.Lanes.{words}
 use Rattle.wordset.specs.Words.{Words}
-use Rattle.domain.specs.Sums.FactInCode.{fact_in_code}
-use Rattle.judge.specs.Sums.Conditions.{EachFact}
-use Rattle.judge.specs.Sums.Landing.{sited}
-use Rattle.judge.specs.Sums.Points.{case_of, fact_asked}
+use Rattle.domain.specs.FactInCode.{fact_in_code}
+use Rattle.judge.specs.Conditions.{EachFact}
+use Rattle.judge.specs.Landing.{sited}
+use Rattle.judge.specs.Points.{case_of, fact_asked}
 use Rattle.reasons.specs.Keeping.{ArrivesWith}
 use Rattle.reasons.specs.Points.{counts_lines}
 use Rattle.reasons.proofs.LandingLemmas.{misses_after}

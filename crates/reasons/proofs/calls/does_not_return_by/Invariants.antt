@@ -1,8 +1,8 @@
 use Rattle.std.proofs.Common.{drop}
 use Rattle.wordset.specs.Lanes.{words}
-use Rattle.judge.specs.Sums.Conditions.{EachFact}
-use Rattle.judge.specs.Sums.Landing.{sited}
-use Rattle.judge.specs.Sums.Points.{case_of, fact_asked}
+use Rattle.judge.specs.Conditions.{EachFact}
+use Rattle.judge.specs.Landing.{sited}
+use Rattle.judge.specs.Points.{case_of, fact_asked}
 use Rattle.reasons.specs.Keeping.{ArrivesWith}
 use Rattle.reasons.specs.Points.{counts_lines}
 use Rattle.reasons.proofs.calls.does_not_return_by.Given as goal

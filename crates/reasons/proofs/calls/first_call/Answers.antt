@@ -2,10 +2,10 @@ use Rattle.std.proofs.Common.{◌≡◌, ap, sym, ◌∙◌}
 use Rattle.wordset.specs.Words.{Words}
 use Rattle.wordset.specs.Lanes.{words}
 use Rattle.wordset.proofs.IterLemmas.{all_pass, given_word, of_set, one_more}
-use Rattle.facts.specs.Sums.Conditions.{called}
-use Rattle.facts.specs.Sums.PlaceInCode.{meaning_in}
-use Rattle.judge.specs.Sums.Points.{fact_asked}
-use Rattle.judge.proofs.Sums.PointLemmas.{meant}
+use Rattle.facts.specs.Conditions.{called}
+use Rattle.facts.specs.PlaceInCode.{meaning_in}
+use Rattle.judge.specs.Points.{fact_asked}
+use Rattle.judge.proofs.PointLemmas.{meant}
 use Rattle.reasons.specs.Keeping.{KeepsCallHere}
 use Rattle.reasons.specs.Points.{counts_lines}
 use Rattle.reasons.proofs.calls.first_call.Goals as goal

@@ -1,7 +1,7 @@
 use Rattle.std.proofs.Common.{arith, ap, refl, sym, ◌∙◌}
 use Rattle.std.proofs.lemmas.Bool.{true≢false}
 use Rattle.wordset.specs.Words.{Words}
-use Rattle.domain.specs.Sums.Facts.{last_site}
+use Rattle.domain.specs.Facts.{last_site}
 use Rattle.reasons.proofs.calls.is_no_site.Goals as goal
 
 pub returns-then-index-last_site-clause-found : goal.returns-then-index-last_site-clause-found

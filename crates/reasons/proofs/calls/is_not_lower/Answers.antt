@@ -1,5 +1,5 @@
 use Rattle.std.proofs.Common.{◌<◌, arith, refl, sym}
-use Rattle.judge.specs.Sums.Points.{case_of}
+use Rattle.judge.specs.Points.{case_of}
 use Rattle.reasons.proofs.FoundLemmas.{lower_in_main, lower_in_routine, lower_in_unlisted, lower_of_unlisted}
 use Rattle.reasons.proofs.calls.is_not_lower.Goals as goal
 

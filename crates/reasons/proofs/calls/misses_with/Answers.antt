@@ -1,8 +1,8 @@
 use Rattle.std.proofs.Common.{ap, refl, sym, ◌∙◌}
 use Rattle.std.proofs.lemmas.Bool.{true≢false}
 use Rattle.wordset.specs.Words.{Words}
-use Rattle.judge.specs.Sums.Points.{case_of}
-use Rattle.judge.proofs.Sums.CallLemmas.{joined_by, return_place}
+use Rattle.judge.specs.Points.{case_of}
+use Rattle.judge.proofs.CallLemmas.{joined_by, return_place}
 use Rattle.reasons.specs.Points.{counts_lines}
 use Rattle.reasons.proofs.FoundLemmas.{none_weaker}
 use Rattle.reasons.proofs.LandingLemmas.{arrives_equally, misses_equally}

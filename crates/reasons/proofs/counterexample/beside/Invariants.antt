@@ -2,8 +2,8 @@ use Rattle.std.proofs.Common.{map}
 use Rattle.wordset.specs.Lanes.{words}
 use Rattle.wordset.specs.Links.{links_of}
 use Rattle.wordset.proofs.IterLemmas.{Passed}
-use Rattle.domain.specs.Sums.ChainsInCode.{chain_of}
-use Rattle.facts.specs.Sums.Entailing.{GivesAllowed}
+use Rattle.domain.specs.ChainsInCode.{chain_of}
+use Rattle.facts.specs.Entailing.{GivesAllowed}
 use Rattle.reasons.proofs.counterexample.beside.Given as goal
 
 abbrev pub invariant-loop-word : goal.invariant-loop-word

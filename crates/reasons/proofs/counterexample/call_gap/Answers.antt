@@ -1,6 +1,6 @@
 use Rattle.std.proofs.Common.{ap, sym, ◌∙◌}
 use Rattle.wordset.specs.Words.{Words}
-use Rattle.facts.proofs.Sums.ShowingLemmas.{offsets_as}
+use Rattle.facts.proofs.ShowingLemmas.{offsets_as}
 use Rattle.reasons.proofs.GapLemmas.{within_both}
 use Rattle.reasons.proofs.counterexample.call_gap.Goals as goal
 

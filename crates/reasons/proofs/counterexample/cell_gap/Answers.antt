@@ -1,9 +1,9 @@
 use Rattle.std.proofs.Common.{ap, arith, sym, subst}
-use Rattle.domain.specs.Statements.{tracked}
-use Rattle.domain.specs.Sums.CellsInCode.{cell_set_of}
-use Rattle.facts.specs.Sums.Entailing.{EachWithin}
-use Rattle.facts.specs.Sums.PlaceInCode.{place_in_code}
-use Rattle.facts.proofs.Sums.ShowingLemmas.{within_step}
+use Rattle.domain.specs.TrackedCells.{tracked}
+use Rattle.domain.specs.CellsInCode.{cell_set_of}
+use Rattle.facts.specs.Entailing.{EachWithin}
+use Rattle.facts.specs.PlaceInCode.{place_in_code}
+use Rattle.facts.proofs.ShowingLemmas.{within_step}
 use Rattle.reasons.proofs.GapLemmas.{all_within, entry_within}
 use Rattle.reasons.proofs.counterexample.cell_gap.Goals as goal
 

@@ -1,8 +1,8 @@
 use Rattle.std.proofs.Common.{drop, map}
 use Rattle.std.specs.Prelude.{◌↔◌}
-use Rattle.domain.specs.Sums.CellsInCode.{cell_set_of}
-use Rattle.facts.specs.Sums.Entailing.{EachWithin}
-use Rattle.facts.specs.Sums.PlaceInCode.{place_in_code}
+use Rattle.domain.specs.CellsInCode.{cell_set_of}
+use Rattle.facts.specs.Entailing.{EachWithin}
+use Rattle.facts.specs.PlaceInCode.{place_in_code}
 use Rattle.reasons.proofs.counterexample.cell_gap.Given as goal
 
 abbrev pub invariant-loop-entry : goal.invariant-loop-entry

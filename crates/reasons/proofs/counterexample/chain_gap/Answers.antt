@@ -1,8 +1,8 @@
 use Rattle.std.proofs.Common.{arith, subst}
-use Rattle.domain.specs.Sums.ChainsInCode.{chain_of}
-use Rattle.facts.specs.Sums.Entailment.{ShowsChains}
-use Rattle.facts.specs.Sums.PlaceInCode.{place_in_code}
-use Rattle.facts.proofs.Sums.ShowingLemmas.{chain_step}
+use Rattle.domain.specs.ChainsInCode.{chain_of}
+use Rattle.facts.specs.Entailment.{ShowsChains}
+use Rattle.facts.specs.PlaceInCode.{place_in_code}
+use Rattle.facts.proofs.ShowingLemmas.{chain_step}
 use Rattle.reasons.proofs.GapLemmas.{all_shown}
 use Rattle.reasons.proofs.ReasonLemmas.{chain_found}
 use Rattle.reasons.proofs.counterexample.chain_gap.Goals as goal

@@ -1,8 +1,8 @@
 use Rattle.std.proofs.Common.{refl}
 use Rattle.wordset.specs.Lanes.{words}
-use Rattle.domain.specs.Sums.CellsInCode.{cell_sets_of}
-use Rattle.domain.specs.Sums.FactInCode.{fact_in_code}
-use Rattle.facts.specs.Sums.PlaceInCode.{place_in_code}
+use Rattle.domain.specs.CellsInCode.{cell_sets_of}
+use Rattle.domain.specs.FactInCode.{fact_in_code}
+use Rattle.facts.specs.PlaceInCode.{place_in_code}
 use Rattle.reasons.proofs.FoundLemmas.{none_weaker}
 use Rattle.reasons.proofs.GapLemmas.{entails_all}
 use Rattle.reasons.proofs.counterexample.gap_between.Goals as goal

@@ -1,11 +1,11 @@
 use Rattle.std.proofs.Common.{ap, ◌∙◌, subst}
 use Rattle.wordset.specs.Lanes.{words}
 use Rattle.wordset.specs.Links.{links_of}
-use Rattle.domain.specs.Facts.{Cell}
-use Rattle.domain.specs.Sums.ChainsInCode.{chain_of}
-use Rattle.domain.specs.Sums.Narrowing.{words_known}
-use Rattle.facts.specs.Sums.Entailing.{GivesIfAllowed}
-use Rattle.facts.specs.Sums.PlaceInCode.{place_in_code}
+use Rattle.domain.specs.Locations.{Cell}
+use Rattle.domain.specs.ChainsInCode.{chain_of}
+use Rattle.domain.specs.Narrowing.{words_known}
+use Rattle.facts.specs.Entailing.{GivesIfAllowed}
+use Rattle.facts.specs.PlaceInCode.{place_in_code}
 use Rattle.reasons.proofs.FoundLemmas.{none_weaker}
 use Rattle.reasons.proofs.GapLemmas.{shows_chain}
 use Rattle.reasons.proofs.ReasonLemmas.{is_beside, some_weaker}

@@ -1,8 +1,8 @@
 use Rattle.std.proofs.Common.{lit<, map}
 use Rattle.wordset.specs.Lanes.{words}
 use Rattle.wordset.specs.Links.{links_of}
-use Rattle.domain.specs.Sums.ChainsInCode.{chain_of}
-use Rattle.facts.specs.Sums.Entailing.{GivesIfAllowed}
+use Rattle.domain.specs.ChainsInCode.{chain_of}
+use Rattle.facts.specs.Entailing.{GivesIfAllowed}
 use Rattle.facts.proofs.EntailLemmas.{not_both}
 use Rattle.reasons.proofs.LandingLemmas.{both_links}
 use Rattle.reasons.proofs.counterexample.link_beside.Goals as goal

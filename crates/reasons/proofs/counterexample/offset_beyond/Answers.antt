@@ -1,5 +1,5 @@
 use Rattle.std.proofs.Common.{◌≡◌, true, arith}
-use Rattle.domain.specs.Sums.Offsets.{offsets_in}
+use Rattle.domain.specs.Offsets.{offsets_in}
 use Rattle.reasons.proofs.SetLemmas.{below_next}
 use Rattle.reasons.proofs.counterexample.offset_beyond.Goals as goal
 

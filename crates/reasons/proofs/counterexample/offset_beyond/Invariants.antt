@@ -1,5 +1,5 @@
 use Rattle.std.proofs.Common.{◌≡◌, ℕ, ◌<◌, true}
-use Rattle.domain.specs.Sums.Offsets.{offsets_in}
+use Rattle.domain.specs.Offsets.{offsets_in}
 use Rattle.reasons.proofs.counterexample.offset_beyond.Given as goal
 
 abbrev pub invariant-loop-offset : goal.invariant-loop-offset

@@ -2,8 +2,8 @@ use Rattle.std.proofs.Common.{map}
 use Rattle.wordset.specs.Lanes.{words}
 use Rattle.wordset.specs.Links.{links_of}
 use Rattle.wordset.proofs.IterLemmas.{all_pass, none_yet, one_more}
-use Rattle.domain.specs.Sums.ChainsInCode.{chain_of}
-use Rattle.facts.proofs.Sums.ShowingLemmas.{by_accumulators}
+use Rattle.domain.specs.ChainsInCode.{chain_of}
+use Rattle.facts.proofs.ShowingLemmas.{by_accumulators}
 use Rattle.reasons.proofs.counterexample.pair_beside.Goals as goal
 
 pub returns-then-permits_word-clause-none : goal.returns-then-permits_word-clause-none

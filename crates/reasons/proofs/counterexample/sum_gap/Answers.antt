@@ -1,9 +1,9 @@
 use Rattle.std.proofs.Common.{sym, ◌∙◌, subst, arith}
-use Rattle.domain.specs.Sums.InCode.{sum_of}
-use Rattle.domain.specs.Sums.RelationsInCode.{relation_of}
-use Rattle.facts.specs.Sums.Entailment.{KnowsAll, KnowsBy}
-use Rattle.facts.specs.Sums.PlaceInCode.{place_in_code}
-use Rattle.facts.proofs.Sums.ShowingLemmas.{known_step}
+use Rattle.domain.specs.InCode.{sum_of}
+use Rattle.domain.specs.RelationsInCode.{relation_of}
+use Rattle.facts.specs.Entailment.{KnowsAll, KnowsBy}
+use Rattle.facts.specs.PlaceInCode.{place_in_code}
+use Rattle.facts.proofs.ShowingLemmas.{known_step}
 use Rattle.reasons.specs.Gaps.{IsSumBeyond, SomeRelation}
 use Rattle.reasons.proofs.ReasonLemmas.{some_relation, all_known}
 use Rattle.reasons.proofs.counterexample.sum_gap.Goals as goal

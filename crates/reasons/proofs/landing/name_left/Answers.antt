@@ -1,7 +1,7 @@
 use Rattle.std.proofs.Common.{subst}
-use Rattle.domain.specs.Facts.{Ac}
-use Rattle.domain.specs.Sums.Facts.{Fact}
-use Rattle.facts.specs.Sums.PlaceInCode.{place_in_code}
+use Rattle.domain.specs.Locations.{Ac}
+use Rattle.domain.specs.Facts.{Fact}
+use Rattle.facts.specs.PlaceInCode.{place_in_code}
 use Rattle.reasons.specs.Landing.{IsNotTaken}
 use Rattle.reasons.proofs.landing.name_left.Goals as goal
 

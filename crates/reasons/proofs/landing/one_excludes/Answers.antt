@@ -1,7 +1,7 @@
 use Rattle.std.proofs.Common.{◌∙◌, sym, subst}
-use Rattle.domain.specs.Sums.Facts.{Fact}
-use Rattle.facts.specs.Sums.Entailment.{Entails}
-use Rattle.facts.specs.Sums.PlaceInCode.{place_in_code}
+use Rattle.domain.specs.Facts.{Fact}
+use Rattle.facts.specs.Entailment.{Entails}
+use Rattle.facts.specs.PlaceInCode.{place_in_code}
 use Rattle.reasons.specs.Gaps.{IsCounterexample}
 use Rattle.reasons.proofs.FoundLemmas.{none_weaker}
 use Rattle.reasons.proofs.LandingLemmas.{entails_one}

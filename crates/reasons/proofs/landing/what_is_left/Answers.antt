@@ -1,8 +1,8 @@
 use Rattle.std.proofs.Common.{arith, ap, sym, subst}
-use Rattle.domain.specs.Sums.Facts.{Rules}
-use Rattle.domain.specs.Sums.FactInCode.{fact_in_code, rules_of}
-use Rattle.facts.specs.Sums.Entailment.{LandsBy}
-use Rattle.facts.specs.Sums.PlaceInCode.{place_in_code}
+use Rattle.domain.specs.Facts.{Rules}
+use Rattle.domain.specs.FactInCode.{fact_in_code, rules_of}
+use Rattle.facts.specs.Entailment.{LandsBy}
+use Rattle.facts.specs.PlaceInCode.{place_in_code}
 use Rattle.reasons.proofs.LandingLemmas.{several}
 use Rattle.reasons.proofs.landing.what_is_left.Goals as goal
 

@@ -1,7 +1,7 @@
 use Rattle.std.proofs.Common.{inl, inr, sym, subst, ◌∙◌}
-use Rattle.domain.specs.Sums.Facts.{Fact}
-use Rattle.facts.specs.Sums.Entailment.{EntailsOne, PartLands}
-use Rattle.facts.specs.Sums.PlaceInCode.{place_in_code}
+use Rattle.domain.specs.Facts.{Fact}
+use Rattle.facts.specs.Entailment.{EntailsOne, PartLands}
+use Rattle.facts.specs.PlaceInCode.{place_in_code}
 use Rattle.reasons.proofs.LandingLemmas.{several}
 use Rattle.reasons.proofs.ReasonLemmas.{excludes_equally}
 use Rattle.reasons.proofs.landing.why_link_fails.Goals as goal

@@ -1,8 +1,8 @@
 use Rattle.std.proofs.Common.{◌≡◌, ℕ, true, subst, ◌∙◌}
-use Rattle.domain.specs.Sums.Facts.{Fact}
-use Rattle.facts.specs.Sums.PlaceInCode.{place_in_code}
-use Rattle.domain.specs.Sums.FactInCode.{fact_in_code}
-use Rattle.facts.specs.Sums.Entailment.{PartLands, with_one_link}
+use Rattle.domain.specs.Facts.{Fact}
+use Rattle.facts.specs.PlaceInCode.{place_in_code}
+use Rattle.domain.specs.FactInCode.{fact_in_code}
+use Rattle.facts.specs.Entailment.{PartLands, with_one_link}
 use Rattle.reasons.specs.Landing.{IsLeft}
 use Rattle.reasons.proofs.LandingLemmas.{both_links}
 use Rattle.reasons.proofs.landing.why_links.Goals as goal

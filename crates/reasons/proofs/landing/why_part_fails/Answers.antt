@@ -1,8 +1,8 @@
 use Rattle.std.proofs.Common.{sym, subst}
-use Rattle.domain.specs.Meaning.{location_of}
-use Rattle.domain.specs.Sums.Facts.{Fact}
-use Rattle.facts.specs.Sums.Entailment.{PartLands}
-use Rattle.facts.specs.Sums.PlaceInCode.{place_in_code}
+use Rattle.domain.specs.LocationsInCode.{location_of}
+use Rattle.domain.specs.Facts.{Fact}
+use Rattle.facts.specs.Entailment.{PartLands}
+use Rattle.facts.specs.PlaceInCode.{place_in_code}
 use Rattle.reasons.specs.Landing.{IsNotTaken}
 use Rattle.reasons.proofs.landing.why_part_fails.Goals as goal
 

@@ -1,11 +1,11 @@
 use Rattle.std.proofs.Common.{sym, ap, subst, ◌∙◌}
 use Rattle.std.proofs.lemmas.Bool.{true≢false}
 use Rattle.wordset.specs.Words.{Words}
-use Rattle.domain.specs.Sums.Facts.{Fact}
-use Rattle.domain.specs.Sums.FactInCode.{fact_in_code}
+use Rattle.domain.specs.Facts.{Fact}
+use Rattle.domain.specs.FactInCode.{fact_in_code}
 use Rattle.facts.proofs.EntailLemmas.{not_both}
-use Rattle.facts.specs.Sums.Entailment.{PartLands}
-use Rattle.facts.specs.Sums.PlaceInCode.{place_in_code}
+use Rattle.facts.specs.Entailment.{PartLands}
+use Rattle.facts.specs.PlaceInCode.{place_in_code}
 use Rattle.reasons.proofs.landing.why_under.Goals as goal
 
 pub why_link_fails-requires : goal.why_link_fails-requires

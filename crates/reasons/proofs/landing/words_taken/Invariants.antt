@@ -1,8 +1,8 @@
 use Rattle.std.proofs.Common.{◌≡◌, drop}
 use Rattle.wordset.specs.Lanes.{words}
-use Rattle.domain.specs.Meaning.{location_of}
-use Rattle.facts.specs.Sums.PlaceInCode.{place_in_code}
-use Rattle.facts.proofs.Sums.SplitLemmas.{TakenSoFar}
+use Rattle.domain.specs.LocationsInCode.{location_of}
+use Rattle.facts.specs.PlaceInCode.{place_in_code}
+use Rattle.facts.proofs.SplitLemmas.{TakenSoFar}
 use Rattle.reasons.proofs.landing.words_taken.Given as goal
 
 abbrev pub invariant-loop-at : goal.invariant-loop-at

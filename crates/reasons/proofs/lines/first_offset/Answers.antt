@@ -1,5 +1,5 @@
 use Rattle.std.proofs.Common.{sym, ◌∙◌, arith}
-use Rattle.domain.specs.Sums.Offsets.{offsets_in}
+use Rattle.domain.specs.Offsets.{offsets_in}
 use Rattle.wordset.proofs.Tests.{some_none_of}
 use Rattle.reasons.proofs.SetLemmas.{none_below}
 use Rattle.reasons.proofs.lines.first_offset.Goals as goal

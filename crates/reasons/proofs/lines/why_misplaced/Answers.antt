@@ -1,5 +1,5 @@
 use Rattle.declaration.specs.Kept.{routine_of}
-use Rattle.judge.specs.Sums.Judged.{case_kept}
+use Rattle.judge.specs.Judged.{case_kept}
 use Rattle.reasons.proofs.FoundLemmas.{none_weaker}
 use Rattle.reasons.proofs.ReasonLemmas.{each_placed}
 use Rattle.reasons.proofs.lines.why_misplaced.Goals as goal

@@ -1,6 +1,6 @@
 use Rattle.std.proofs.Common.{arith}
 use Rattle.declaration.specs.Kept.{routine_of}
-use Rattle.judge.specs.Sums.Bodies.{IsOfBody}
+use Rattle.judge.specs.Bodies.{IsOfBody}
 use Rattle.reasons.proofs.ReasonLemmas.{each_step, each_done}
 use Rattle.reasons.proofs.lines.why_not_all_of_body.Goals as goal
 

@@ -1,7 +1,7 @@
 use Rattle.std.proofs.Common.{drop}
 use Rattle.declaration.specs.Kept.{routine_of}
-use Rattle.judge.specs.Sums.Bodies.{IsOfBody}
-use Rattle.judge.specs.Sums.Conditions.{EachFact}
+use Rattle.judge.specs.Bodies.{IsOfBody}
+use Rattle.judge.specs.Conditions.{EachFact}
 use Rattle.reasons.proofs.lines.why_not_all_of_body.Given as goal
 
 abbrev pub invariant-loop-index : goal.invariant-loop-index

@@ -1,6 +1,6 @@
 use Rattle.std.proofs.Common.{ap, sym, ◌∙◌}
 use Rattle.wordset.specs.Words.{Words}
-use Rattle.domain.specs.Sums.Facts.{Fact}
+use Rattle.domain.specs.Facts.{Fact}
 use Rattle.reasons.proofs.lines.why_not_of_main.Goals as goal
 
 pub returns-in-Some-clause-found : goal.returns-in-Some-clause-found

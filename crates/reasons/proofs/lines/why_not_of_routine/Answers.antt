@@ -1,9 +1,9 @@
 use Rattle.std.proofs.Common.{◌≡◌, true, ap, sym, ◌∙◌, subst}
 use Rattle.wordset.specs.Words.{Words, some_below}
 use Rattle.wordset.proofs.Tests.{some_none_of}
-use Rattle.domain.specs.Sums.Facts.{Fact}
-use Rattle.domain.specs.Sums.Offsets.{offsets_in}
-use Rattle.facts.specs.Sums.Landing.{fact_at}
+use Rattle.domain.specs.Facts.{Fact}
+use Rattle.domain.specs.Offsets.{offsets_in}
+use Rattle.facts.specs.Landing.{fact_at}
 use Rattle.reasons.proofs.FoundLemmas.{none_weaker}
 use Rattle.reasons.proofs.ReasonLemmas.{not_empty}
 use Rattle.reasons.proofs.lines.why_not_of_routine.Goals as goal

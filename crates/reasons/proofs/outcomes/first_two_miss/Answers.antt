@@ -1,5 +1,5 @@
-use Rattle.facts.specs.Sums.OutcomesInCode.{outcome_in}
-use Rattle.judge.specs.Sums.Points.{case_of}
+use Rattle.facts.specs.OutcomesInCode.{outcome_in}
+use Rattle.judge.specs.Points.{case_of}
 use Rattle.reasons.specs.Breaches.{OutcomeMisses}
 use Rattle.reasons.specs.Keeping.{OutcomeArrives}
 use Rattle.reasons.specs.Points.{counts_lines}

@@ -1,10 +1,10 @@
 use Rattle.std.proofs.Common.{List, refl, subst}
-use Rattle.facts.specs.Sums.Operations.{outcomes_of}
-use Rattle.facts.specs.Sums.Outcomes.{Successor}
-use Rattle.facts.specs.Sums.PlaceInCode.{meaning_in}
-use Rattle.judge.specs.Sums.Landing.{EachSuccessor}
-use Rattle.judge.specs.Sums.Points.{case_of, fact_asked}
-use Rattle.judge.proofs.Sums.PointLemmas.{meant}
+use Rattle.facts.specs.Operations.{outcomes_of}
+use Rattle.facts.specs.Outcomes.{Successor}
+use Rattle.facts.specs.PlaceInCode.{meaning_in}
+use Rattle.judge.specs.Landing.{EachSuccessor}
+use Rattle.judge.specs.Points.{case_of, fact_asked}
+use Rattle.judge.proofs.PointLemmas.{meant}
 use Rattle.reasons.specs.Breaches.{OutcomeMisses, SomeOutcome}
 use Rattle.reasons.specs.Keeping.{OutcomeArrives}
 use Rattle.reasons.specs.Points.{counts_lines}

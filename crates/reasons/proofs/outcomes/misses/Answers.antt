@@ -1,6 +1,6 @@
 use Rattle.std.proofs.Common.{sym, ◌∙◌}
-use Rattle.domain.specs.Sums.FactInCode.{fact_in_code}
-use Rattle.judge.specs.Sums.Points.{case_of}
+use Rattle.domain.specs.FactInCode.{fact_in_code}
+use Rattle.judge.specs.Points.{case_of}
 use Rattle.reasons.specs.Points.{counts_lines}
 use Rattle.reasons.proofs.FoundLemmas.{none_weaker}
 use Rattle.reasons.proofs.LandingLemmas.{any_sought, idle_arrives, inside_arrives, landed_arrives, outside_sought}

@@ -1,7 +1,7 @@
 use Rattle.std.proofs.Common.{refl, subst, ◌∙◌}
 use Rattle.wordset.proofs.IterLemmas.{none_yet, given_word, one_more, all_pass}
-use Rattle.domain.specs.Sums.Facts.{Fact}
-use Rattle.judge.specs.Sums.Points.{case_of}
+use Rattle.domain.specs.Facts.{Fact}
+use Rattle.judge.specs.Points.{case_of}
 use Rattle.reasons.specs.Keeping.{Arrives}
 use Rattle.reasons.specs.Points.{MissesAs, counts_lines}
 use Rattle.reasons.proofs.outcomes.misses_at.Goals as goal

@@ -1,8 +1,8 @@
 use Rattle.std.proofs.Common.{◌≡◌}
 use Rattle.wordset.specs.Lanes.{words}
 use Rattle.wordset.proofs.IterLemmas.{Passed}
-use Rattle.domain.specs.Sums.FactInCode.{fact_in_code}
-use Rattle.judge.specs.Sums.Points.{case_of}
+use Rattle.domain.specs.FactInCode.{fact_in_code}
+use Rattle.judge.specs.Points.{case_of}
 use Rattle.reasons.specs.Keeping.{Arrives}
 use Rattle.reasons.specs.Points.{counts_lines}
 use Rattle.reasons.proofs.outcomes.misses_at.Given as goal

@@ -1,8 +1,8 @@
 use Rattle.std.proofs.Common.{◌≡◌, ℕ, ◌<◌, true, subst}
 use Rattle.std.specs.Prelude.{IfNone, IfSome}
 use Rattle.wordset.specs.Words.{Words}
-use Rattle.domain.specs.Sums.FactInCode.{fact_in_code}
-use Rattle.judge.specs.Sums.Points.{case_of}
+use Rattle.domain.specs.FactInCode.{fact_in_code}
+use Rattle.judge.specs.Points.{case_of}
 use Rattle.reasons.specs.Keeping.{Arrives}
 use Rattle.reasons.specs.Points.{MissesAs, counts_lines}
 use Rattle.reasons.proofs.outcomes.misses_at_brief.Goals as goal

@@ -1,7 +1,7 @@
 use Rattle.std.proofs.Common.{refl}
-use Rattle.domain.specs.Sums.FactInCode.{fact_in_code}
+use Rattle.domain.specs.FactInCode.{fact_in_code}
 use Rattle.facts.proofs.EntailLemmas.{not_both}
-use Rattle.judge.specs.Sums.Points.{case_of}
+use Rattle.judge.specs.Points.{case_of}
 use Rattle.reasons.proofs.LandingLemmas.{idle_outside}
 use Rattle.reasons.proofs.outcomes.misses_body.Goals as goal
 

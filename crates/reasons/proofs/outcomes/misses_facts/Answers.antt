@@ -1,10 +1,10 @@
 use Rattle.std.proofs.Common.{ap, ◌∙◌}
 use Rattle.wordset.specs.Words.{Words}
-use Rattle.domain.specs.Sums.FactInCode.{fact_in_code}
+use Rattle.domain.specs.FactInCode.{fact_in_code}
 use Rattle.facts.proofs.EntailLemmas.{not_both}
-use Rattle.judge.specs.Sums.Landing.{sited}
-use Rattle.judge.specs.Sums.Points.{case_of}
-use Rattle.judge.proofs.Sums.PointLemmas.{made_place}
+use Rattle.judge.specs.Landing.{sited}
+use Rattle.judge.specs.Points.{case_of}
+use Rattle.judge.proofs.PointLemmas.{made_place}
 use Rattle.reasons.proofs.LandingLemmas.{lands_here}
 use Rattle.reasons.proofs.ReasonLemmas.{left_here}
 use Rattle.reasons.proofs.outcomes.misses_facts.Goals as goal

@@ -1,10 +1,10 @@
 use Rattle.std.proofs.Common.{inl, subst, sym}
 use Rattle.std.specs.Prelude.{IfNone, IfSome}
-use Rattle.domain.specs.Sums.Brief.{brief_words}
-use Rattle.domain.specs.Sums.FactInCode.{fact_in_code}
-use Rattle.facts.specs.Sums.OutcomesInCode.{outcome_of}
-use Rattle.judge.specs.Sums.Landing.{EachSuccessor}
-use Rattle.judge.specs.Sums.Points.{case_of}
+use Rattle.domain.specs.Brief.{brief_words}
+use Rattle.domain.specs.FactInCode.{fact_in_code}
+use Rattle.facts.specs.OutcomesInCode.{outcome_of}
+use Rattle.judge.specs.Landing.{EachSuccessor}
+use Rattle.judge.specs.Points.{case_of}
 use Rattle.reasons.specs.Breaches.{OutcomeMisses, SomeOutcome}
 use Rattle.reasons.specs.Keeping.{OutcomeArrives}
 use Rattle.reasons.specs.Points.{IsSought, counts_lines}

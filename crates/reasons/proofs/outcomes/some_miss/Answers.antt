@@ -1,8 +1,8 @@
 use Rattle.std.proofs.Common.{subst}
-use Rattle.facts.specs.Sums.OutcomesInCode.{outcome_in}
+use Rattle.facts.specs.OutcomesInCode.{outcome_in}
 use Rattle.facts.specs.declared.outcomes.Outcome.{Outcome}
-use Rattle.judge.specs.Sums.Landing.{EachSuccessor}
-use Rattle.judge.specs.Sums.Points.{case_of}
+use Rattle.judge.specs.Landing.{EachSuccessor}
+use Rattle.judge.specs.Points.{case_of}
 use Rattle.reasons.specs.Breaches.{OutcomeMisses, SomeOutcome}
 use Rattle.reasons.specs.Keeping.{OutcomeArrives}
 use Rattle.reasons.specs.Points.{counts_lines}

@@ -1,6 +1,6 @@
 use Rattle.std.proofs.Common.{inl, inr, subst}
-use Rattle.judge.specs.Sums.Conditions.{IsFirst}
-use Rattle.judge.specs.Sums.Judged.{judged}
+use Rattle.judge.specs.Conditions.{IsFirst}
+use Rattle.judge.specs.Judged.{judged}
 use Rattle.reasons.proofs.FoundLemmas.{found_of_lines, found_of_start, found_of_words, past_lines}
 use Rattle.reasons.proofs.ReasonLemmas.{some_weaker}
 use Rattle.reasons.proofs.reason.why.Goals as goal

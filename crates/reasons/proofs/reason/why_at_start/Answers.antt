@@ -1,8 +1,8 @@
 use Rattle.std.proofs.Common.{◌≡◌, inl, refl, sym, subst, ◌∙◌}
 use Rattle.std.proofs.lemmas.Bool.{eq-eqb, eqb-true, true≢false}
 use Rattle.facts.specs.declared.Condition.TheVariants.{V1}
-use Rattle.judge.specs.Sums.Conditions.{HoldsAt}
-use Rattle.judge.specs.Sums.Judged.{case_kept}
+use Rattle.judge.specs.Conditions.{HoldsAt}
+use Rattle.judge.specs.Judged.{case_kept}
 use Rattle.reasons.specs.Reasons.{IsWrongStart}
 use Rattle.reasons.proofs.FoundLemmas.{none_weaker}
 use Rattle.reasons.proofs.ReasonLemmas.{some_weaker}

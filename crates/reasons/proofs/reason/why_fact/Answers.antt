@@ -1,11 +1,11 @@
 use Rattle.std.proofs.Common.{[], ◌∷◌, ap}
 use Rattle.wordset.specs.Lanes.{words}
-use Rattle.domain.specs.Sums.FactInCode.{fact_in_code, rules_of}
-use Rattle.facts.specs.Sums.Landing.{fact_at}
-use Rattle.judge.specs.Sums.Judged.{case_kept}
-use Rattle.judge.specs.Sums.Points.{case_of}
-use Rattle.judge.proofs.Sums.CaseLemmas.{asked_alone}
-use Rattle.judge.proofs.Sums.SourceLemmas.{sited_from}
+use Rattle.domain.specs.FactInCode.{fact_in_code, rules_of}
+use Rattle.facts.specs.Landing.{fact_at}
+use Rattle.judge.specs.Judged.{case_kept}
+use Rattle.judge.specs.Points.{case_of}
+use Rattle.judge.proofs.CaseLemmas.{asked_alone}
+use Rattle.judge.proofs.SourceLemmas.{sited_from}
 use Rattle.reasons.specs.Points.{counts_lines}
 use Rattle.reasons.specs.Reasons.{IsAskedFact}
 use Rattle.reasons.proofs.FoundLemmas.{none_weaker}

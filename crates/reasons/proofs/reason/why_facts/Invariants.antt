@@ -1,5 +1,5 @@
 use Rattle.std.proofs.Common.{drop}
-use Rattle.judge.specs.Sums.Judged.{case_kept}
+use Rattle.judge.specs.Judged.{case_kept}
 use Rattle.reasons.specs.Keeping.{FactsKeep}
 use Rattle.reasons.specs.Points.{counts_lines}
 use Rattle.reasons.proofs.reason.why_facts.Given as goal

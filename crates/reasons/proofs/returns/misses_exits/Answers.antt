@@ -2,14 +2,14 @@ use Rattle.std.proofs.Common.{ap, subst, ◌∙◌}
 use Rattle.declaration.specs.Declaration.{Routine}
 use Rattle.wordset.specs.Lanes.{words}
 use Rattle.wordset.specs.Words.{Words}
-use Rattle.domain.specs.Sums.Facts.{Fact}
-use Rattle.facts.specs.Sums.Entailment.{Lands}
-use Rattle.facts.specs.Sums.PlaceInCode.{place_in_code}
+use Rattle.domain.specs.Facts.{Fact}
+use Rattle.facts.specs.Entailment.{Lands}
+use Rattle.facts.specs.PlaceInCode.{place_in_code}
 use Rattle.facts.proofs.EntailLemmas.{not_both}
-use Rattle.judge.specs.Sums.Landing.{place_in, sited, sites_of}
-use Rattle.judge.specs.Sums.Points.{case_of, fact_asked}
-use Rattle.judge.proofs.Sums.CallLemmas.{lands_among}
-use Rattle.judge.proofs.Sums.PointLemmas.{same_place}
+use Rattle.judge.specs.Landing.{place_in, sited, sites_of}
+use Rattle.judge.specs.Points.{case_of, fact_asked}
+use Rattle.judge.proofs.CallLemmas.{lands_among}
+use Rattle.judge.proofs.PointLemmas.{same_place}
 use Rattle.reasons.proofs.LandingLemmas.{left_equally}
 use Rattle.reasons.proofs.returns.misses_exits.Goals as goal
 

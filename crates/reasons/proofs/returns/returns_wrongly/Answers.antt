@@ -1,5 +1,5 @@
 use Rattle.std.proofs.Common.{refl, sym, subst, ◌∙◌}
-use Rattle.judge.specs.Sums.Points.{case_of, fact_asked}
+use Rattle.judge.specs.Points.{case_of, fact_asked}
 use Rattle.reasons.specs.Keeping.{ReturnsThrough}
 use Rattle.reasons.specs.Points.{counts_lines}
 use Rattle.facts.proofs.EntailLemmas.{none_is, some_is}

@@ -1,9 +1,9 @@
 use Rattle.std.proofs.Common.{arith, ap, sym, subst}
-use Rattle.domain.specs.Sums.Facts.{Rules}
-use Rattle.domain.specs.Sums.FactInCode.{rules_of}
-use Rattle.facts.specs.Sums.Entailment.{LandsBy}
-use Rattle.facts.specs.Sums.PlaceInCode.{place_in_code}
-use Rattle.facts.specs.Sums.Starts.{start_fact}
+use Rattle.domain.specs.Facts.{Rules}
+use Rattle.domain.specs.FactInCode.{rules_of}
+use Rattle.facts.specs.Entailment.{LandsBy}
+use Rattle.facts.specs.PlaceInCode.{place_in_code}
+use Rattle.facts.specs.Starts.{start_fact}
 use Rattle.reasons.proofs.start.what_starts_leave.Goals as goal
 
 pub why_links-requires : goal.why_links-requires

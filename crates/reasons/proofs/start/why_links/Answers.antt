@@ -1,7 +1,7 @@
 use Rattle.std.proofs.Common.{ℕ}
-use Rattle.facts.specs.Sums.Entailment.{PartLands, with_one_link}
-use Rattle.facts.specs.Sums.PlaceInCode.{place_in_code}
-use Rattle.facts.specs.Sums.Starts.{start_fact}
+use Rattle.facts.specs.Entailment.{PartLands, with_one_link}
+use Rattle.facts.specs.PlaceInCode.{place_in_code}
+use Rattle.facts.specs.Starts.{start_fact}
 use Rattle.reasons.proofs.LandingLemmas.{both_links}
 use Rattle.reasons.proofs.start.why_links.Goals as goal
 

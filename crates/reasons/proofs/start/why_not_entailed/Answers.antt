@@ -1,9 +1,9 @@
 use Rattle.std.proofs.Common.{◌∙◌, ap, subst}
 use Rattle.wordset.specs.Words.{Words}
-use Rattle.domain.specs.Sums.Facts.{Fact}
-use Rattle.facts.specs.Sums.Entailment.{EntailsOne}
-use Rattle.facts.specs.Sums.PlaceInCode.{place_in_code}
-use Rattle.facts.proofs.Sums.BeginningLemmas.{begun}
+use Rattle.domain.specs.Facts.{Fact}
+use Rattle.facts.specs.Entailment.{EntailsOne}
+use Rattle.facts.specs.PlaceInCode.{place_in_code}
+use Rattle.facts.proofs.BeginningLemmas.{begun}
 use Rattle.reasons.proofs.LandingLemmas.{several}
 use Rattle.reasons.proofs.ReasonLemmas.{excludes_equally}
 use Rattle.reasons.proofs.start.why_not_entailed.Goals as goal

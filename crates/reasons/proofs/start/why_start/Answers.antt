@@ -1,9 +1,9 @@
 use Rattle.std.proofs.Common.{ap}
 use Rattle.wordset.specs.Words.{Words}
 use Rattle.facts.proofs.EntailLemmas.{not_both}
-use Rattle.judge.specs.Sums.Landing.{sited}
-use Rattle.judge.specs.Sums.Judged.{case_kept}
-use Rattle.judge.proofs.Sums.LineLemmas.{start_place}
+use Rattle.judge.specs.Landing.{sited}
+use Rattle.judge.specs.Judged.{case_kept}
+use Rattle.judge.proofs.LineLemmas.{start_place}
 use Rattle.reasons.proofs.LandingLemmas.{starts_land, wrong_start}
 use Rattle.reasons.proofs.start.why_start.Goals as goal
 

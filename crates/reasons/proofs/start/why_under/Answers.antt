@@ -1,12 +1,12 @@
 use Rattle.std.proofs.Common.{◌∙◌, ap, inl, inr, sym, subst}
 use Rattle.std.proofs.lemmas.Bool.{lt-ltb}
 use Rattle.wordset.specs.Words.{Words}
-use Rattle.domain.specs.Sums.Facts.{Fact}
-use Rattle.facts.specs.Sums.Entailment.{EntailsOne, PartLands}
-use Rattle.facts.specs.Sums.PlaceInCode.{place_in_code}
-use Rattle.facts.specs.Sums.Starts.{start_fact}
+use Rattle.domain.specs.Facts.{Fact}
+use Rattle.facts.specs.Entailment.{EntailsOne, PartLands}
+use Rattle.facts.specs.PlaceInCode.{place_in_code}
+use Rattle.facts.specs.Starts.{start_fact}
 use Rattle.facts.proofs.EntailLemmas.{not_both}
-use Rattle.facts.proofs.Sums.BeginningLemmas.{begun, one_link_begun}
+use Rattle.facts.proofs.BeginningLemmas.{begun, one_link_begun}
 use Rattle.reasons.proofs.LandingLemmas.{several}
 use Rattle.reasons.proofs.ReasonLemmas.{excludes_equally}
 use Rattle.reasons.proofs.start.why_under.Goals as goal

@@ -1,5 +1,5 @@
 use Rattle.std.proofs.Common.{false, inr}
-use Rattle.judge.specs.Sums.Judged.{case_kept}
+use Rattle.judge.specs.Judged.{case_kept}
 use Rattle.reasons.proofs.ByLinesLemmas.{fails_by_lines, not_of_lines}
 use Rattle.reasons.proofs.FoundLemmas.{none_weaker}
 use Rattle.reasons.proofs.ReasonLemmas.{some_weaker}

@@ -1,5 +1,5 @@
 use Rattle.std.proofs.Common.{arith}
-use Rattle.judge.specs.Sums.Judged.{judged}
+use Rattle.judge.specs.Judged.{judged}
 use Rattle.reasons.proofs.ByLinesLemmas.{none_before, passed_all, passed_one}
 use Rattle.reasons.proofs.stuck.why_stuck.Goals as goal
 

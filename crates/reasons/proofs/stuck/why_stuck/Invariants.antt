@@ -1,4 +1,4 @@
-use Rattle.judge.specs.Sums.Judged.{judged}
+use Rattle.judge.specs.Judged.{judged}
 use Rattle.reasons.proofs.ByLinesLemmas.{Passed}
 use Rattle.reasons.proofs.stuck.why_stuck.Given as goal
 

@@ -1,7 +1,7 @@
 use Rattle.std.proofs.Common.{◌≡◌, false}
 use Rattle.wordset.specs.Lanes.{words}
 use Rattle.wordset.proofs.IterLemmas.{Passed}
-use Rattle.judge.specs.Sums.Points.{case_of}
+use Rattle.judge.specs.Points.{case_of}
 use Rattle.reasons.proofs.words.first_entry.Given as goal
 
 abbrev pub invariant-loop-cell : goal.invariant-loop-cell

@@ -2,10 +2,10 @@ use Rattle.std.proofs.Common.{◌≡◌, Some, ap, inl, inr, sym, ◌∙◌}
 use Rattle.std.proofs.lemmas.Bool.{eqb-true}
 use Rattle.wordset.specs.Lanes.{words}
 use Rattle.wordset.specs.Words.{Words}
-use Rattle.facts.specs.Sums.Conditions.{may_read}
-use Rattle.facts.specs.Sums.PlaceInCode.{meaning_in}
-use Rattle.judge.specs.Sums.Points.{case_of, fact_asked}
-use Rattle.judge.proofs.Sums.PointLemmas.{meant}
+use Rattle.facts.specs.Conditions.{may_read}
+use Rattle.facts.specs.PlaceInCode.{meaning_in}
+use Rattle.judge.specs.Points.{case_of, fact_asked}
+use Rattle.judge.proofs.PointLemmas.{meant}
 use Rattle.reasons.proofs.FoundLemmas.{read_in}
 use Rattle.reasons.proofs.SetLemmas.{in_union, none_left}
 use Rattle.reasons.proofs.words.reads_unlisted.Goals as goal

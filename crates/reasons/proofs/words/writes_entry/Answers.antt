@@ -2,11 +2,11 @@ use Rattle.std.proofs.Common.{ap, refl, sym, ◌∙◌}
 use Rattle.std.specs.Prelude.{IsTrue, ◌↔◌}
 use Rattle.std.proofs.lemmas.Bool.{true≢false}
 use Rattle.wordset.specs.Words.{Words}
-use Rattle.facts.specs.Sums.Conditions.{EntriesAreKept}
-use Rattle.facts.specs.Sums.PlaceInCode.{meaning_in}
+use Rattle.facts.specs.Conditions.{EntriesAreKept}
+use Rattle.facts.specs.PlaceInCode.{meaning_in}
 use Rattle.facts.proofs.EntailLemmas.{not_both}
-use Rattle.judge.specs.Sums.Points.{fact_asked}
-use Rattle.judge.proofs.Sums.PointLemmas.{meant}
+use Rattle.judge.specs.Points.{fact_asked}
+use Rattle.judge.proofs.PointLemmas.{meant}
 use Rattle.reasons.proofs.words.writes_entry.Goals as goal
 
 pub returns-then-entries_are_kept-clause-none : goal.returns-then-entries_are_kept-clause-none

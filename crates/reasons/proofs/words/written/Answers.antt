@@ -1,9 +1,9 @@
 use Rattle.std.proofs.Common.{◌≡◌}
 use Rattle.wordset.specs.Lanes.{words}
-use Rattle.facts.specs.Sums.Conditions.{may_write}
-use Rattle.facts.specs.Sums.PlaceInCode.{meaning_in}
-use Rattle.judge.specs.Sums.Points.{fact_asked}
-use Rattle.judge.proofs.Sums.PointLemmas.{meant}
+use Rattle.facts.specs.Conditions.{may_write}
+use Rattle.facts.specs.PlaceInCode.{meaning_in}
+use Rattle.judge.specs.Points.{fact_asked}
+use Rattle.judge.proofs.PointLemmas.{meant}
 use Rattle.reasons.proofs.words.written.Goals as goal
 
 pub returns : goal.returns

@@ -1,7 +1,7 @@
 use Rattle.std.proofs.Common.{◌≡◌, ◌∙◌, refl, ap, sym}
 use Rattle.std.proofs.lemmas.Bool.{true≢false}
-use Rattle.domain.specs.Sums.Terms.{is_sign}
-use Rattle.certificate.specs.Fields.{left}
+use Rattle.domain.specs.Terms.{is_sign}
+use Rattle.certificate.specs.FieldsLeft.{left}
 use Rattle.certificate.proofs.SumFieldLemmas.{plus_read, minus_read, digits_next, no_sign, digits_are}
 use Rattle.certificate.proofs.fields.Fields.coefficient.Goals as goal
 

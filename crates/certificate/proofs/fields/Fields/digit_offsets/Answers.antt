@@ -1,7 +1,7 @@
 use Rattle.std.proofs.Common.{refl, ap, arith}
 use Rattle.wordset.specs.Words.{Words}
-use Rattle.domain.specs.Sums.Offsets.{offsets_in}
-use Rattle.certificate.specs.Fields.{left}
+use Rattle.domain.specs.Offsets.{offsets_in}
+use Rattle.certificate.specs.FieldsLeft.{left}
 use Rattle.certificate.proofs.DigitLemmas.{dash_read, offsets_read, offsets_fail, has_offset}
 use Rattle.certificate.proofs.fields.Fields.digit_offsets.Goals as goal
 

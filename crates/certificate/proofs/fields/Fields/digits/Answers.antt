@@ -1,8 +1,8 @@
 use Rattle.std.proofs.Common.{true, false, sym}
 use Rattle.std.proofs.Math.Bool.{or-false}
 use Rattle.std.proofs.Math.Path.{fun_ext}
-use Rattle.domain.specs.Sums.Offsets.{offsets_in}
-use Rattle.certificate.specs.Fields.{left}
+use Rattle.domain.specs.Offsets.{offsets_in}
+use Rattle.certificate.specs.FieldsLeft.{left}
 use Rattle.certificate.proofs.DigitLemmas.{no_digits, digit_tried, all_digits}
 use Rattle.certificate.proofs.fields.Fields.digits.Goals as goal
 use Rattle.certificate.proofs.fields.Fields.digits.Goals.{then-takes, else-takes}

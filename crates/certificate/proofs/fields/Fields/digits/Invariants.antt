@@ -1,5 +1,5 @@
-use Rattle.domain.specs.Sums.Offsets.{offsets_in}
-use Rattle.certificate.specs.Fields.{left}
+use Rattle.domain.specs.Offsets.{offsets_in}
+use Rattle.certificate.specs.FieldsLeft.{left}
 use Rattle.certificate.proofs.DigitLemmas.{DigitsRead}
 use Rattle.certificate.proofs.fields.Fields.digits.Given as goal
 

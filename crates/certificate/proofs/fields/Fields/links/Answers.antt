@@ -1,7 +1,7 @@
 use Rattle.wordset.specs.Words.{some_below}
 use Rattle.wordset.specs.Links.{links_of}
-use Rattle.domain.specs.Sums.Offsets.{offsets_in}
-use Rattle.certificate.specs.Fields.{left}
+use Rattle.domain.specs.Offsets.{offsets_in}
+use Rattle.certificate.specs.FieldsLeft.{left}
 use Rattle.certificate.proofs.DigitLemmas.{no_links, links_read, not_true}
 use Rattle.certificate.proofs.fields.Fields.links.Goals as goal
 

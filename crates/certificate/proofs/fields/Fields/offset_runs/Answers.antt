@@ -1,6 +1,6 @@
 use Rattle.std.proofs.Common.{refl}
-use Rattle.domain.specs.Sums.Offsets.{offsets_in}
-use Rattle.certificate.specs.Fields.{left}
+use Rattle.domain.specs.Offsets.{offsets_in}
+use Rattle.certificate.specs.FieldsLeft.{left}
 use Rattle.certificate.proofs.OffsetReadLemmas.{none_read, going_on, ending, shorter, end_of}
 use Rattle.certificate.proofs.fields.Fields.offset_runs.Goals as goal
 

@@ -1,5 +1,5 @@
-use Rattle.domain.specs.Sums.Offsets.{offsets_in}
-use Rattle.certificate.specs.Fields.{left}
+use Rattle.domain.specs.Offsets.{offsets_in}
+use Rattle.certificate.specs.FieldsLeft.{left}
 use Rattle.certificate.proofs.RunLemmas.{how_long}
 use Rattle.certificate.proofs.OffsetReadLemmas.{RunsRead}
 use Rattle.certificate.proofs.fields.Fields.offset_runs.Given as goal

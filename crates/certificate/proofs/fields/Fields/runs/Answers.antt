@@ -1,5 +1,5 @@
 use Rattle.std.proofs.Common.{refl}
-use Rattle.certificate.specs.Fields.{left}
+use Rattle.certificate.specs.FieldsLeft.{left}
 use Rattle.certificate.proofs.RunLemmas.{none_read, going_on, no_room, ending, shorter}
 use Rattle.certificate.proofs.fields.Fields.runs.Goals as goal
 

@@ -1,4 +1,4 @@
-use Rattle.certificate.specs.Fields.{left}
+use Rattle.certificate.specs.FieldsLeft.{left}
 use Rattle.certificate.proofs.RunLemmas.{RunsRead, how_long}
 use Rattle.certificate.proofs.fields.Fields.runs.Given as goal
 

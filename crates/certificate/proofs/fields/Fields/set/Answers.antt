@@ -1,5 +1,5 @@
 use Rattle.std.proofs.Common.{refl}
-use Rattle.certificate.specs.Fields.{left}
+use Rattle.certificate.specs.FieldsLeft.{left}
 use Rattle.certificate.proofs.RunLemmas.{dash_read}
 use Rattle.certificate.proofs.fields.Fields.set.Goals as goal
 

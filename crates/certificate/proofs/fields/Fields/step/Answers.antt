@@ -1,7 +1,7 @@
 use Rattle.std.proofs.Common.{◌∙◌, refl, ap, sym}
 use Rattle.std.proofs.lemmas.Bool.{true≢false}
-use Rattle.certificate.specs.Fields.{left}
-use Rattle.certificate.specs.Sums.LineOf.{is_step}
+use Rattle.certificate.specs.FieldsLeft.{left}
+use Rattle.certificate.specs.LineOf.{is_step}
 use Rattle.certificate.proofs.SumFieldLemmas.{and_only, add_only, operate_only}
 use Rattle.certificate.proofs.fields.Fields.step.Goals as goal
 

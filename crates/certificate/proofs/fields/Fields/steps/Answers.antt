@@ -1,7 +1,7 @@
 use Rattle.std.proofs.Common.{map, refl}
 use Rattle.std.proofs.lemmas.List.{map_push}
-use Rattle.domain.specs.Sums.ChainsInCode.{step_of}
-use Rattle.certificate.specs.Fields.{left}
+use Rattle.domain.specs.ChainsInCode.{step_of}
+use Rattle.certificate.specs.FieldsLeft.{left}
 use Rattle.certificate.proofs.SumFieldLemmas.{no_steps, step_more, steps_shorter, steps_end, none_kept}
 use Rattle.certificate.proofs.fields.Fields.steps.Goals as goal
 

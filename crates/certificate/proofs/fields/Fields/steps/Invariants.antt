@@ -1,6 +1,6 @@
 use Rattle.std.proofs.Common.{map}
-use Rattle.domain.specs.Sums.ChainsInCode.{step_of}
-use Rattle.certificate.specs.Fields.{left}
+use Rattle.domain.specs.ChainsInCode.{step_of}
+use Rattle.certificate.specs.FieldsLeft.{left}
 use Rattle.certificate.proofs.RunLemmas.{how_long}
 use Rattle.certificate.proofs.SumFieldLemmas.{StepsRead}
 use Rattle.certificate.proofs.fields.Fields.steps.Given as goal

@@ -1,6 +1,6 @@
 use Rattle.std.proofs.Common.{◌∙◌, ap, sym}
 use Rattle.std.proofs.lemmas.Bool.{true≢false}
-use Rattle.certificate.specs.Sums.LineOf.{is_relation}
+use Rattle.certificate.specs.LineOf.{is_relation}
 use Rattle.certificate.proofs.fields.Fields.sum.Goals as goal
 
 pub returns-then-not-is_relation-clause-only : goal.returns-then-not-is_relation-clause-only

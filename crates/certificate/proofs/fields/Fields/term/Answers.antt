@@ -1,6 +1,6 @@
 use Rattle.std.proofs.Common.{refl}
-use Rattle.domain.specs.Meaning.{location_of}
-use Rattle.certificate.specs.Fields.{left}
+use Rattle.domain.specs.LocationsInCode.{location_of}
+use Rattle.certificate.specs.FieldsLeft.{left}
 use Rattle.certificate.proofs.SumFieldLemmas.{told_name, told_behind}
 use Rattle.certificate.proofs.fields.Fields.term.Goals as goal
 

@@ -1,8 +1,8 @@
 use Rattle.std.proofs.Common.{◌≡◌, Some, refl}
 use Rattle.std.specs.Prelude.{codes}
-use Rattle.domain.specs.Sums.InCode.{summand_of}
-use Rattle.certificate.specs.Fields.{left}
-use Rattle.certificate.specs.Sums.Spelling.{further_text}
+use Rattle.domain.specs.InCode.{summand_of}
+use Rattle.certificate.specs.FieldsLeft.{left}
+use Rattle.certificate.specs.Spelling.{further_text}
 use Rattle.certificate.proofs.LineLemmas.{both}
 use Rattle.certificate.proofs.SumFieldLemmas.{nothing_third, third_read, third_only, no_cell}
 use Rattle.certificate.proofs.fields.Fields.third.Goals as goal

@@ -1,5 +1,5 @@
 use Rattle.std.proofs.Common.{sym}
-use Rattle.domain.specs.Sums.Offsets.{offsets_in}
+use Rattle.domain.specs.Offsets.{offsets_in}
 use Rattle.certificate.proofs.SpelledLemmas.{digits_begun, digit_written, digits_written}
 use Rattle.certificate.proofs.SumSpelledLemmas.{no_digits, some_digits}
 use Rattle.certificate.proofs.line_text.LineText.offset_digits.Goals as goal

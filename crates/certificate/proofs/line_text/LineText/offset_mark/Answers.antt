@@ -1,5 +1,5 @@
 use Rattle.std.proofs.Common.{sym}
-use Rattle.domain.specs.Sums.Offsets.{offsets_in}
+use Rattle.domain.specs.Offsets.{offsets_in}
 use Rattle.certificate.proofs.OffsetTextLemmas.{mark_first, mark_last}
 use Rattle.certificate.proofs.SpelledLemmas.{joined, none}
 use Rattle.certificate.proofs.SumSpelledLemmas.{mark_none}

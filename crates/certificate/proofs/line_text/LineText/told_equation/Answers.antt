@@ -1,7 +1,7 @@
 use Rattle.wordset.specs.Words.{only}
-use Rattle.certificate.specs.Packed.{set_at}
-use Rattle.certificate.specs.Spelled.{Adds}
-use Rattle.certificate.specs.Sums.Spelling.{word_text}
+use Rattle.certificate.specs.Runs.{set_at}
+use Rattle.certificate.specs.LineText.{Adds}
+use Rattle.certificate.specs.Spelling.{word_text}
 use Rattle.certificate.proofs.PackedLemmas.{front_of}
 use Rattle.certificate.proofs.SpelledLemmas.{joined}
 use Rattle.certificate.proofs.line_text.LineText.told_equation.Goals as goal

@@ -1,7 +1,7 @@
 use Rattle.std.proofs.Common.{◌<◌, ◌≤◌, List, length, map, drop, sym, arith}
 use Rattle.std.proofs.lemmas.List.{length-map}
-use Rattle.certificate.specs.Sums.Lines.{Line}
-use Rattle.certificate.specs.Sums.Packed.{kept_at}
+use Rattle.certificate.specs.Lines.{Line}
+use Rattle.certificate.specs.Packed.{kept_at}
 use Rattle.certificate.proofs.SumPackedLemmas.{line_there}
 use Rattle.certificate.proofs.SumFoundLemmas.{none_at, detail_at, head_at, place_there}
 use Rattle.certificate.proofs.packed.PackedLines.is_at.Goals as goal

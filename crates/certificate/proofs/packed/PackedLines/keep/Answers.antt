@@ -1,5 +1,5 @@
 use Rattle.std.proofs.Common.{sym}
-use Rattle.certificate.specs.Sums.Packed.{said_at}
+use Rattle.certificate.specs.Packed.{said_at}
 use Rattle.certificate.proofs.SumWholeLemmas.{end_known, line_kept}
 use Rattle.certificate.proofs.MakerLemmas.{on_ok}
 use Rattle.certificate.proofs.packed.PackedLines.keep.Goals as goal

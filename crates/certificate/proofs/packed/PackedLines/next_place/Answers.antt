@@ -1,8 +1,8 @@
 use Rattle.std.proofs.Common.{◌≡◌, ◌<◌, ◌≤◌, ◌-◌, ◌∙◌, List, length, map, drop, sym, arith}
 use Rattle.std.proofs.lemmas.List.{length-map}
-use Rattle.certificate.specs.Sums.Lines.{Line}
-use Rattle.certificate.specs.Sums.Packed.{kept_at}
-use Rattle.certificate.specs.Sums.Found.{from_place}
+use Rattle.certificate.specs.Lines.{Line}
+use Rattle.certificate.specs.Packed.{kept_at}
+use Rattle.certificate.specs.Found.{from_place}
 use Rattle.certificate.proofs.SumPackedLemmas.{line_there}
 use Rattle.certificate.proofs.SumFoundLemmas.{no_detail, least_at, least_none, place_there}
 use Rattle.certificate.proofs.packed.PackedLines.next_place.Goals as goal

@@ -1,6 +1,6 @@
 use Rattle.std.proofs.Common.{◌∙◌, List, [], length, map, ap, arith}
 use Rattle.certificate.specs.declared.packed.KeptLine.{KeptLine}
-use Rattle.certificate.specs.Sums.Packed.{said_at, kept_at}
+use Rattle.certificate.specs.Packed.{said_at, kept_at}
 use Rattle.certificate.proofs.PutLemmas.{any_err}
 use Rattle.certificate.proofs.SumPackedLemmas.{lines_added, line_added, from_first, begun, packed_after}
 use Rattle.certificate.proofs.SumFoundLemmas.{kept_on, kept_added}

@@ -1,7 +1,7 @@
 use Rattle.std.proofs.Common.{◌∙◌, List, [], length, map, ap, arith}
 use Rattle.wordset.specs.Lanes.{words}
 use Rattle.certificate.specs.declared.packed.KeptLine.{KeptLine}
-use Rattle.certificate.specs.Sums.Packed.{kept_at, said_of, sited_line}
+use Rattle.certificate.specs.Packed.{kept_at, said_of, sited_line}
 use Rattle.certificate.proofs.PutLemmas.{any_err}
 use Rattle.certificate.proofs.SumPackedLemmas.{lines_added, line_added, from_first, begun}
 use Rattle.certificate.proofs.SumFoundLemmas.{kept_on, kept_added}

@@ -3,7 +3,7 @@ use Rattle.std.specs.List.Sorted.{IsNonDecreasingBy}
 use Rattle.std.proofs.lemmas.List.{length-map}
 use Rattle.std.proofs.lemmas.List.Sorted.{IsPartitionPoint-from_clause, IsPartitionedBy-leb}
 use Rattle.certificate.specs.declared.packed.KeptLine.{KeptLine}
-use Rattle.certificate.specs.Sums.Packed.{kept_at}
+use Rattle.certificate.specs.Packed.{kept_at}
 use Rattle.certificate.proofs.SumFoundLemmas.{rises, search_told}
 use Rattle.certificate.proofs.packed.PackedLines.seek.Goals as goal
 

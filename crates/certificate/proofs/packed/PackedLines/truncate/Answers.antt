@@ -1,7 +1,7 @@
 use Rattle.std.proofs.Common.{sym}
 use Rattle.std.proofs.ByRecursion.{All-take}
 use Rattle.std.proofs.lemmas.List.{take-map}
-use Rattle.certificate.specs.Sums.Packed.{kept_at}
+use Rattle.certificate.specs.Packed.{kept_at}
 use Rattle.certificate.proofs.SumFoundLemmas.{past_front}
 use Rattle.certificate.proofs.packed.PackedLines.truncate.Goals as goal
 

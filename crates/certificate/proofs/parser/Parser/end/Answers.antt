@@ -1,5 +1,5 @@
 use Rattle.std.proofs.Common.{List, ℕ, [], ◌∷◌, ◌++◌, ◌+◌, false, subst, sym, arith}
-use Rattle.certificate.specs.Sums.Parser.{Parts}
+use Rattle.certificate.specs.Parser.{Parts}
 use Rattle.certificate.proofs.SumParserLemmas.{then_seen, few_more}
 use Rattle.certificate.proofs.SumServedLemmas.{full}
 use Rattle.certificate.proofs.parser.Parser.end.Goals as goal

@@ -1,6 +1,6 @@
 use Rattle.std.proofs.Common.{◌≤◌, ◌-◌, ◌++◌, ◌∙◌, arith, List, ℕ, length, take, drop, subst, length-drop}
 use Rattle.streams.proofs.BytesLemmas.{rest_is}
-use Rattle.certificate.specs.Sums.Parser.{Seen, Refuses}
+use Rattle.certificate.specs.Parser.{Seen, Refuses}
 use Rattle.certificate.proofs.ServedLemmas.{piece_more, piece_rest, piece_count}
 use Rattle.certificate.proofs.parser.Parser.take_all.Goals as goal
 

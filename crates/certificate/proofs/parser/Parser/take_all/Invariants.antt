@@ -1,5 +1,5 @@
 use Rattle.std.proofs.Common.{◌≡◌, ◌≤◌, ◌+◌, ◌-◌, ◌++◌, ℕ, List, length, take}
-use Rattle.certificate.specs.Sums.Parser.{Seen, IsSmall}
+use Rattle.certificate.specs.Parser.{Seen, IsSmall}
 use Rattle.certificate.proofs.parser.Parser.take_all.Given as goal
 
 abbrev pub invariant-loop-at : goal.invariant-loop-at

@@ -1,8 +1,8 @@
 use Rattle.std.proofs.Common.{List, ℕ, [], ◌∷◌, ◌++◌, ◌+◌, ◌-◌, ◌<◌, ◌≤◌, length, subst, sym, arith, append_assoc, length-append}
 use Rattle.std.proofs.lemmas.List.{take-append-le}
 use Rattle.certificate.specs.declared.CertificateFault.TheVariants as faults
-use Rattle.certificate.specs.Faults.{most_bytes}
-use Rattle.certificate.specs.Sums.Parser.{NoFeed, Refuses}
+use Rattle.certificate.specs.Pieces.{most_bytes}
+use Rattle.certificate.specs.Parser.{NoFeed, Refuses}
 use Rattle.certificate.proofs.LengthLemmas.{feed_taken}
 use Rattle.certificate.proofs.SumParserLemmas.{then_seen, few_more, whole_line}
 use Rattle.certificate.proofs.SumServedLemmas.{full}

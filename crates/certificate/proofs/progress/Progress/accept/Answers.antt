@@ -3,10 +3,10 @@ use Rattle.std.proofs.lemmas.Bool.{false≢true}
 use Rattle.domain.specs.declared.chains.Step.{Step}
 use Rattle.certificate.specs.declared.CertificateFault.TheVariants as faults
 use Rattle.certificate.specs.declared.runs.Run.{Run}
-use Rattle.certificate.specs.Sums.Lines.{Line}
-use Rattle.certificate.specs.Sums.LineOf.{line_of}
-use Rattle.certificate.specs.Sums.Reading.{Failed}
-use Rattle.certificate.specs.Sums.Packed.{said_at}
+use Rattle.certificate.specs.Lines.{Line}
+use Rattle.certificate.specs.LineOf.{line_of}
+use Rattle.certificate.specs.Reading.{Failed}
+use Rattle.certificate.specs.Packed.{said_at}
 use Rattle.certificate.proofs.SumTextLemmas.{no_line_of, line_of_text, bad_line, not_standing, misplaced, no_room}
 use Rattle.certificate.proofs.progress.Progress.accept.Goals as goal
 

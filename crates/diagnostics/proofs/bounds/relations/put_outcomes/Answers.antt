@@ -1,4 +1,4 @@
-use Rattle.judge.proofs.Sums.SourceLemmas.{sited_from}
+use Rattle.judge.proofs.SourceLemmas.{sited_from}
 use Rattle.diagnostics.proofs.bounds.relations.put_outcomes.Goals as goal
 
 pub put_asked-requires : goal.put_asked-requires

@@ -1,6 +1,6 @@
 use Rattle.std.proofs.Common.{◌∙◌, ap}
 use Rattle.wordset.specs.Words.{Words}
-use Rattle.domain.specs.Sums.FactInCode.{fact_in_code}
+use Rattle.domain.specs.FactInCode.{fact_in_code}
 use Rattle.diagnostics.proofs.TellingLemmas.{first_alone, first_fails}
 use Rattle.diagnostics.proofs.verdicts.telling.has_mark.Goals as goal
 

@@ -1,6 +1,6 @@
 use Rattle.std.proofs.Common.{sym, ap, ◌∙◌}
 use Rattle.wordset.specs.Words.{Words, mirrored}
-use Rattle.domain.specs.Sums.Brief.{brief_words}
+use Rattle.domain.specs.Brief.{brief_words}
 use Rattle.wordset.proofs.Firsts.{only_word}
 use Rattle.domain.proofs.SumSetLemmas.{lone_mirrored}
 use Rattle.domain.proofs.brief.BriefSet.complement.Goals as goal

@@ -1,6 +1,6 @@
 use Rattle.std.proofs.Common.{refl}
-use Rattle.domain.specs.Statements.{tracked}
-use Rattle.domain.specs.Sums.CellsInCode.{cell_set_of}
+use Rattle.domain.specs.TrackedCells.{tracked}
+use Rattle.domain.specs.CellsInCode.{cell_set_of}
 use Rattle.domain.proofs.RelationLemmas.{all_kept}
 use Rattle.domain.proofs.cell_sets.CellSet.keep_among.Goals as goal
 

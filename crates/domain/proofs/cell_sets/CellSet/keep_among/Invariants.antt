@@ -1,8 +1,8 @@
 use Rattle.std.proofs.Common.{◌≡◌, ℕ, drop, map}
 use Rattle.std.specs.Prelude.{◌&&◌}
 use Rattle.wordset.specs.Lanes.{words}
-use Rattle.domain.specs.Statements.{tracked}
-use Rattle.domain.specs.Sums.CellsInCode.{cell_set_of}
+use Rattle.domain.specs.TrackedCells.{tracked}
+use Rattle.domain.specs.CellsInCode.{cell_set_of}
 use Rattle.domain.proofs.cell_sets.CellSet.keep_among.Given as goal
 
 abbrev pub invariant-loop-entry : goal.invariant-loop-entry

@@ -1,8 +1,8 @@
 use Rattle.std.proofs.Common.{◌<◌, sym, ap, ◌∙◌}
 use Rattle.std.specs.Prelude.{slice_set}
 use Rattle.std.proofs.lemmas.Bool.{eqb-true}
-use Rattle.domain.specs.Statements.{TrackedCell, cell_at}
-use Rattle.domain.specs.Sums.CellsInCode.{cell_sets_of, cell_set_of}
+use Rattle.domain.specs.TrackedCells.{TrackedCell, cell_at}
+use Rattle.domain.specs.CellsInCode.{cell_sets_of, cell_set_of}
 use Rattle.domain.proofs.UseLemmas.{set_in_use, count_in_use}
 use Rattle.domain.proofs.CellLemmas.{freed_is}
 use Rattle.domain.proofs.cell_sets.CellSets.free_at.Goals as goal

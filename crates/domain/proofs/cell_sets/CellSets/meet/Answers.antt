@@ -1,7 +1,7 @@
 use Rattle.std.proofs.Common.{List, ap, ◌∙◌}
 use Rattle.wordset.specs.Lanes.{words}
-use Rattle.domain.specs.Statements.{TrackedCell}
-use Rattle.domain.specs.Sums.CellsInCode.{cell_sets_of, words_in_cells}
+use Rattle.domain.specs.TrackedCells.{TrackedCell}
+use Rattle.domain.specs.CellsInCode.{cell_sets_of, words_in_cells}
 use Rattle.domain.proofs.CellLemmas.{entry_met, entry_pushed}
 use Rattle.domain.proofs.cell_sets.CellSets.meet.Goals as goal
 

@@ -2,8 +2,8 @@ use Rattle.std.proofs.Common.{◌≡◌, ◌<◌, ◌≤◌, length, get_or, sym
 use Rattle.std.specs.Prelude.{slice_set}
 use Rattle.wordset.specs.Words.{Words, meet}
 use Rattle.wordset.specs.Lanes.{words}
-use Rattle.domain.specs.Statements.{TrackedCell, cell_at}
-use Rattle.domain.specs.Sums.CellsInCode.{cell_sets_of, cell_set_of}
+use Rattle.domain.specs.TrackedCells.{TrackedCell, cell_at}
+use Rattle.domain.specs.CellsInCode.{cell_sets_of, cell_set_of}
 use Rattle.domain.proofs.UseLemmas.{set_in_use, place_in_use, count_in_use}
 use Rattle.domain.proofs.cell_sets.CellSets.meet_at.Goals as goal
 

@@ -1,5 +1,5 @@
 use Rattle.std.proofs.Common.{◌≡◌, ◌+◌, ◌++◌, drop, length, map}
-use Rattle.domain.specs.Sums.CellsInCode.{cell_set_of, cell_sets_of}
+use Rattle.domain.specs.CellsInCode.{cell_set_of, cell_sets_of}
 use Rattle.domain.proofs.cell_sets.CellSets.push_all.Given as goal
 
 abbrev pub invariant-loop-entry : goal.invariant-loop-entry

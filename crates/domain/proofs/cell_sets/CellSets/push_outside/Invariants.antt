@@ -1,6 +1,6 @@
 use Rattle.std.proofs.Common.{◌≡◌, ◌+◌, ◌≤◌, ◌++◌, drop, length, map}
 use Rattle.wordset.specs.Lanes.{words}
-use Rattle.domain.specs.Sums.CellsInCode.{cell_set_of, cell_sets_of, cells_outside}
+use Rattle.domain.specs.CellsInCode.{cell_set_of, cell_sets_of, cells_outside}
 use Rattle.domain.proofs.cell_sets.CellSets.push_outside.Given as goal
 
 abbrev pub invariant-loop-entry : goal.invariant-loop-entry

@@ -1,6 +1,6 @@
 use Rattle.std.proofs.Common.{◌≡◌, ◌+◌, ◌≤◌, ◌++◌, drop, length, map}
 use Rattle.wordset.specs.Lanes.{words}
-use Rattle.domain.specs.Sums.CellsInCode.{cell_set_of, cell_sets_of, cells_within}
+use Rattle.domain.specs.CellsInCode.{cell_set_of, cell_sets_of, cells_within}
 use Rattle.domain.proofs.cell_sets.CellSets.push_within.Given as goal
 
 abbrev pub invariant-loop-entry : goal.invariant-loop-entry

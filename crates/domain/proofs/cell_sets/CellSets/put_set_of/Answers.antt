@@ -1,8 +1,8 @@
 use Rattle.std.proofs.Common.{List, ap, ◌∙◌}
 use Rattle.wordset.specs.Words.{Words, meet}
 use Rattle.wordset.specs.Lanes.{words}
-use Rattle.domain.specs.Statements.{TrackedCell, tracked}
-use Rattle.domain.specs.Sums.CellsInCode.{cell_sets_of}
+use Rattle.domain.specs.TrackedCells.{TrackedCell, tracked}
+use Rattle.domain.specs.CellsInCode.{cell_sets_of}
 use Rattle.domain.proofs.CellLemmas.{all_tracked}
 use Rattle.domain.proofs.cell_sets.CellSets.put_set_of.Goals as goal
 

@@ -1,6 +1,6 @@
 use Rattle.std.proofs.Common.{◌≡◌, ◌<◌, ◌≤◌, List, length, ap, ◌∙◌, arith}
-use Rattle.domain.specs.Statements.{TrackedCell}
-use Rattle.domain.specs.Sums.CellsInCode.{cell_sets_of, words_in_cells}
+use Rattle.domain.specs.TrackedCells.{TrackedCell}
+use Rattle.domain.specs.CellsInCode.{cell_sets_of, words_in_cells}
 use Rattle.domain.proofs.CellLemmas.{freed_on, freed_length, freed_end, all_freed}
 use Rattle.domain.proofs.cell_sets.CellSets.remove.Goals as goal
 

@@ -1,5 +1,5 @@
 use Rattle.std.proofs.Common.{◌≡◌, ◌++◌, take, drop, map}
-use Rattle.domain.specs.Sums.CellsInCode.{cell_sets_of, freed}
+use Rattle.domain.specs.CellsInCode.{cell_sets_of, freed}
 use Rattle.domain.proofs.cell_sets.CellSets.remove.Given as goal
 
 abbrev pub invariant-loop-at : goal.invariant-loop-at

@@ -1,5 +1,5 @@
 use Rattle.std.proofs.Common.{◌∙◌}
-use Rattle.domain.specs.Sums.CellsInCode.{cell_sets_of, words_in_cells}
+use Rattle.domain.specs.CellsInCode.{cell_sets_of, words_in_cells}
 use Rattle.domain.proofs.CellLemmas.{replaced}
 use Rattle.domain.proofs.cell_sets.CellSets.replace.Goals as goal
 

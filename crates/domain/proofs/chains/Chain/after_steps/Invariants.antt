@@ -1,6 +1,6 @@
 use Rattle.std.proofs.Common.{◌≡◌, drop, map}
-use Rattle.domain.specs.Sums.Chains.{after_steps}
-use Rattle.domain.specs.Sums.ChainsInCode.{step_of, chain_of}
+use Rattle.domain.specs.Chains.{after_steps}
+use Rattle.domain.specs.ChainsInCode.{step_of, chain_of}
 use Rattle.domain.proofs.chains.Chain.after_steps.Given as goal
 
 abbrev pub invariant-loop-step : goal.invariant-loop-step

@@ -1,5 +1,5 @@
 use Rattle.std.proofs.Common.{◌∙◌}
-use Rattle.domain.specs.Sums.ChainsInCode.{chain_of, gives_from}
+use Rattle.domain.specs.ChainsInCode.{chain_of, gives_from}
 use Rattle.domain.proofs.ChainLemmas.{two_links, either_first, either_second}
 use Rattle.domain.proofs.chains.Chain.gives.Goals as goal
 

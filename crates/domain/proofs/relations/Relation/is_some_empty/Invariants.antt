@@ -1,7 +1,7 @@
 use Rattle.std.proofs.Common.{◌≡◌, drop, map}
 use Rattle.std.specs.List.{list_any}
-use Rattle.domain.specs.Sums.Adding.{lacks_all}
-use Rattle.domain.specs.Sums.RelationsInCode.{relation_of}
+use Rattle.domain.specs.Adding.{lacks_all}
+use Rattle.domain.specs.RelationsInCode.{relation_of}
 use Rattle.domain.proofs.relations.Relation.is_some_empty.Given as goal
 
 abbrev pub invariant-loop-relation : goal.invariant-loop-relation

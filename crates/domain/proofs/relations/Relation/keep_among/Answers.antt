@@ -1,7 +1,7 @@
 use Rattle.std.proofs.Common.{refl}
-use Rattle.domain.specs.Sums.Adding.{set_among}
-use Rattle.domain.specs.Sums.InCode.{sum_of}
-use Rattle.domain.specs.Sums.RelationsInCode.{relation_of}
+use Rattle.domain.specs.Adding.{set_among}
+use Rattle.domain.specs.InCode.{sum_of}
+use Rattle.domain.specs.RelationsInCode.{relation_of}
 use Rattle.domain.proofs.RelationLemmas.{all_kept}
 use Rattle.domain.proofs.relations.Relation.keep_among.Goals as goal
 

@@ -1,9 +1,9 @@
 use Rattle.std.proofs.Common.{◌≡◌, ℕ, drop, map}
 use Rattle.std.specs.Prelude.{◌&&◌}
 use Rattle.wordset.specs.Lanes.{words}
-use Rattle.domain.specs.Sums.Adding.{set_among}
-use Rattle.domain.specs.Sums.InCode.{sum_of}
-use Rattle.domain.specs.Sums.RelationsInCode.{relation_of}
+use Rattle.domain.specs.Adding.{set_among}
+use Rattle.domain.specs.InCode.{sum_of}
+use Rattle.domain.specs.RelationsInCode.{relation_of}
 use Rattle.domain.proofs.relations.Relation.keep_among.Given as goal
 
 abbrev pub invariant-loop-relation : goal.invariant-loop-relation

@@ -1,8 +1,8 @@
 use Rattle.std.proofs.Common.{◌∙◌, ap}
 use Rattle.wordset.specs.Words.{Words}
-use Rattle.domain.specs.Sums.Facts.{OfSums}
-use Rattle.domain.specs.Sums.Adding.{adding}
-use Rattle.domain.specs.Sums.InCode.{sum_of}
+use Rattle.domain.specs.Facts.{OfSums}
+use Rattle.domain.specs.Adding.{adding}
+use Rattle.domain.specs.InCode.{sum_of}
 use Rattle.domain.proofs.relations.Relations.add_copy.Goals as goal
 
 pub returns-clause-relations : goal.returns-clause-relations

@@ -1,6 +1,6 @@
 use Rattle.std.proofs.Common.{◌∙◌, sym}
 use Rattle.wordset.specs.Lanes.{words}
-use Rattle.domain.specs.Sums.RelationsInCode.{relation_of}
+use Rattle.domain.specs.RelationsInCode.{relation_of}
 use Rattle.domain.proofs.JoinedLemmas.{passed_over, taken_too}
 use Rattle.domain.proofs.relations.Relations.add_if_outside.Goals as goal
 

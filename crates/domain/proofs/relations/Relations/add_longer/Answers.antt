@@ -1,7 +1,7 @@
 use Rattle.std.proofs.Common.{◌∙◌, ap}
 use Rattle.wordset.specs.Lanes.{words}
-use Rattle.domain.specs.Sums.Facts.{Fact, OfSums}
-use Rattle.domain.specs.Sums.InCode.{sum_of}
+use Rattle.domain.specs.Facts.{Fact, OfSums}
+use Rattle.domain.specs.InCode.{sum_of}
 use Rattle.domain.proofs.FactLemmas.{nothing_added, shape_added}
 use Rattle.domain.proofs.relations.Relations.add_longer.Goals as goal
 

@@ -1,9 +1,9 @@
 use Rattle.std.proofs.Common.{◌≤◌, [], ◌∷◌, length, map, refl, ◌∙◌, ap, arith}
 use Rattle.wordset.specs.Lanes.{words}
-use Rattle.domain.specs.Sums.Facts.{Fact, OfSums}
-use Rattle.domain.specs.Sums.Adding.{adding_all}
-use Rattle.domain.specs.Sums.Moves.{outside}
-use Rattle.domain.specs.Sums.RelationsInCode.{relation_of}
+use Rattle.domain.specs.Facts.{Fact, OfSums}
+use Rattle.domain.specs.Adding.{adding_all}
+use Rattle.domain.specs.Moves.{outside}
+use Rattle.domain.specs.RelationsInCode.{relation_of}
 use Rattle.domain.proofs.JoinedLemmas.{outside_on, outside_end}
 use Rattle.domain.proofs.relations.Relations.add_outside.Goals as goal
 

@@ -1,9 +1,9 @@
 use Rattle.std.proofs.Common.{◌≡◌, ◌+◌, ◌≤◌, drop, length, map}
 use Rattle.wordset.specs.Lanes.{words}
-use Rattle.domain.specs.Sums.Facts.{Fact, OfSums}
-use Rattle.domain.specs.Sums.Adding.{adding_all}
-use Rattle.domain.specs.Sums.Moves.{outside}
-use Rattle.domain.specs.Sums.RelationsInCode.{relation_of, relations_of}
+use Rattle.domain.specs.Facts.{Fact, OfSums}
+use Rattle.domain.specs.Adding.{adding_all}
+use Rattle.domain.specs.Moves.{outside}
+use Rattle.domain.specs.RelationsInCode.{relation_of, relations_of}
 use Rattle.domain.proofs.relations.Relations.add_outside.Given as goal
 
 abbrev pub invariant-loop-relation : goal.invariant-loop-relation

@@ -1,10 +1,10 @@
 use Rattle.std.proofs.Common.{◌<◌, List, length, ◌∙◌, ap, arith}
 use Rattle.wordset.specs.Words.{Words}
 use Rattle.wordset.specs.Lanes.{words}
-use Rattle.domain.specs.Sums.Facts.{Relation}
-use Rattle.domain.specs.Sums.Adding.{times, with_relation}
-use Rattle.domain.specs.Sums.InCode.{sum_of}
-use Rattle.domain.specs.Sums.RelationsInCode.{relations_of}
+use Rattle.domain.specs.Facts.{Relation}
+use Rattle.domain.specs.Adding.{times, with_relation}
+use Rattle.domain.specs.InCode.{sum_of}
+use Rattle.domain.specs.RelationsInCode.{relations_of}
 use Rattle.domain.proofs.JoinedLemmas.{short_adds_none, longer_adds}
 use Rattle.domain.proofs.relations.Relations.add_spelled.Goals as goal
 

@@ -2,9 +2,9 @@ use Rattle.std.proofs.Common.{◌≡◌, ◌<◌, ◌≤◌, length, get_or, sym
 use Rattle.std.specs.Prelude.{slice_set}
 use Rattle.wordset.specs.Words.{Words, meet}
 use Rattle.wordset.specs.Lanes.{words}
-use Rattle.domain.specs.Sums.Facts.{Relation}
-use Rattle.domain.specs.Sums.InCode.{sum_of}
-use Rattle.domain.specs.Sums.RelationsInCode.{relations_of, relation_of, relation_at}
+use Rattle.domain.specs.Facts.{Relation}
+use Rattle.domain.specs.InCode.{sum_of}
+use Rattle.domain.specs.RelationsInCode.{relations_of, relation_of, relation_at}
 use Rattle.domain.proofs.UseLemmas.{set_in_use, place_in_use, count_in_use}
 use Rattle.domain.proofs.relations.Relations.meet_at.Goals as goal
 

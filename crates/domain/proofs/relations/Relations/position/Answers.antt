@@ -1,7 +1,7 @@
 use Rattle.std.proofs.Common.{◌<◌, ◌≤◌, length, sym, ap, ◌∙◌, arith}
-use Rattle.domain.specs.Sums.Terms.{Sum, same_sum}
-use Rattle.domain.specs.Sums.InCode.{sum_of}
-use Rattle.domain.specs.Sums.RelationsInCode.{relations_of}
+use Rattle.domain.specs.Terms.{Sum, same_sum}
+use Rattle.domain.specs.InCode.{sum_of}
+use Rattle.domain.specs.RelationsInCode.{relations_of}
 use Rattle.domain.proofs.RelationLemmas.{found_at, passed_on, not_found}
 use Rattle.domain.proofs.relations.Relations.position.Goals as goal
 

@@ -1,8 +1,8 @@
 use Rattle.std.proofs.Common.{◌≡◌, ◌++◌, take, drop}
 use Rattle.wordset.specs.Words.{Words}
-use Rattle.domain.specs.Sums.Adding.{with_relation}
-use Rattle.domain.specs.Sums.InCode.{sum_of}
-use Rattle.domain.specs.Sums.RelationsInCode.{relations_of}
+use Rattle.domain.specs.Adding.{with_relation}
+use Rattle.domain.specs.InCode.{sum_of}
+use Rattle.domain.specs.RelationsInCode.{relations_of}
 use Rattle.domain.proofs.relations.Relations.position.Given as goal
 
 abbrev pub invariant-loop-at : goal.invariant-loop-at

@@ -1,5 +1,5 @@
 use Rattle.std.proofs.Common.{◌≡◌, ◌+◌, ◌++◌, drop, length, map}
-use Rattle.domain.specs.Sums.RelationsInCode.{relation_of, relations_of}
+use Rattle.domain.specs.RelationsInCode.{relation_of, relations_of}
 use Rattle.domain.proofs.relations.Relations.push_all.Given as goal
 
 abbrev pub invariant-loop-relation : goal.invariant-loop-relation

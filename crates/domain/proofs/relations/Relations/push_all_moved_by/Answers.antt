@@ -1,8 +1,8 @@
 use Rattle.std.proofs.Common.{◌≡◌, ◌+◌, ◌<◌, length, ap, ◌∙◌, arith, length-append}
 use Rattle.std.specs.Prelude.{Some}
 use Rattle.wordset.specs.Words.{one}
-use Rattle.domain.specs.Sums.Moves.{moved_relation}
-use Rattle.domain.specs.Sums.RelationsInCode.{relation_of, relations_of}
+use Rattle.domain.specs.Moves.{moved_relation}
+use Rattle.domain.specs.RelationsInCode.{relation_of, relations_of}
 use Rattle.domain.proofs.BriefLemmas.{only_of_one}
 use Rattle.domain.proofs.RelationLemmas.{moved_on}
 use Rattle.domain.proofs.relations.Relations.push_all_moved_by.Goals as goal

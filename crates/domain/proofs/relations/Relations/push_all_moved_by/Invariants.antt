@@ -1,7 +1,7 @@
 use Rattle.std.proofs.Common.{◌≡◌, ◌+◌, ◌++◌, drop, length, map}
 use Rattle.wordset.specs.Words.{one}
-use Rattle.domain.specs.Sums.Moves.{moved_relations}
-use Rattle.domain.specs.Sums.RelationsInCode.{relation_of, relations_of}
+use Rattle.domain.specs.Moves.{moved_relations}
+use Rattle.domain.specs.RelationsInCode.{relation_of, relations_of}
 use Rattle.domain.proofs.relations.Relations.push_all_moved_by.Given as goal
 
 abbrev pub invariant-loop-relation : goal.invariant-loop-relation

@@ -1,7 +1,7 @@
 use Rattle.std.proofs.Common.{◌≡◌, ◌+◌, ◌≤◌, ◌++◌, drop, length, map}
-use Rattle.domain.specs.Sums.Moves.{free_of}
-use Rattle.domain.specs.Sums.Naming.{names_of}
-use Rattle.domain.specs.Sums.RelationsInCode.{relation_of, relations_of}
+use Rattle.domain.specs.Moves.{free_of}
+use Rattle.domain.specs.Naming.{names_of}
+use Rattle.domain.specs.RelationsInCode.{relation_of, relations_of}
 use Rattle.domain.proofs.relations.Relations.push_free_of.Given as goal
 
 abbrev pub invariant-loop-relation : goal.invariant-loop-relation

@@ -1,10 +1,10 @@
 use Rattle.std.proofs.Common.{List, ap, ◌∙◌}
 use Rattle.wordset.specs.Words.{Words, meet}
 use Rattle.wordset.specs.Lanes.{words}
-use Rattle.domain.specs.Sums.Facts.{Relation}
-use Rattle.domain.specs.Sums.Adding.{set_among}
-use Rattle.domain.specs.Sums.InCode.{sum_of}
-use Rattle.domain.specs.Sums.RelationsInCode.{relations_of}
+use Rattle.domain.specs.Facts.{Relation}
+use Rattle.domain.specs.Adding.{set_among}
+use Rattle.domain.specs.InCode.{sum_of}
+use Rattle.domain.specs.RelationsInCode.{relations_of}
 use Rattle.domain.proofs.RelationLemmas.{all_among}
 use Rattle.domain.proofs.relations.Relations.put_set_among.Goals as goal
 

@@ -2,12 +2,12 @@ use Rattle.std.proofs.Common.{◌≡◌, ◌∙◌, ◌++◌, ◌≤◌, ◌<◌
 use Rattle.wordset.specs.Words.{Words, meet, sums}
 use Rattle.wordset.specs.Lanes.{words}
 use Rattle.peripherals.specs.Loading.{image_of}
-use Rattle.domain.specs.Sums.Terms.{Sum, Summand}
-use Rattle.domain.specs.Sums.Facts.{Fact}
-use Rattle.domain.specs.Sums.Adding.{times, set_of_sum}
-use Rattle.domain.specs.Sums.Knowing.{words_of_term}
-use Rattle.domain.specs.Sums.InCode.{sum_of, summand_at}
-use Rattle.domain.specs.Sums.FactInCode.{fact_in_code}
+use Rattle.domain.specs.Terms.{Sum, Summand}
+use Rattle.domain.specs.Facts.{Fact}
+use Rattle.domain.specs.Adding.{times, set_of_sum}
+use Rattle.domain.specs.Knowing.{words_of_term}
+use Rattle.domain.specs.InCode.{sum_of, summand_at}
+use Rattle.domain.specs.FactInCode.{fact_in_code}
 use Rattle.domain.proofs.SaidLemmas.{said_none, said_one, said_more}
 use Rattle.domain.proofs.sum_fact.SumFact.+put_said_from.Goals as goal
 

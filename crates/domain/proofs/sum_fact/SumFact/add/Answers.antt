@@ -1,9 +1,9 @@
 use Rattle.std.proofs.Common.{ap, ◌∙◌}
 use Rattle.wordset.specs.Words.{Words}
 use Rattle.wordset.specs.Lanes.{words}
-use Rattle.domain.specs.Sums.Adding.{with_shape_in}
-use Rattle.domain.specs.Sums.InCode.{sum_of}
-use Rattle.domain.specs.Sums.FactInCode.{fact_in_code, rules_of}
+use Rattle.domain.specs.Adding.{with_shape_in}
+use Rattle.domain.specs.InCode.{sum_of}
+use Rattle.domain.specs.FactInCode.{fact_in_code, rules_of}
 use Rattle.domain.proofs.FactLemmas.{nothing_added, shape_added}
 use Rattle.domain.proofs.sum_fact.SumFact.add.Goals as goal
 

@@ -1,10 +1,10 @@
 use Rattle.std.proofs.Common.{arith}
 use Rattle.peripherals.specs.Loading.{image_of}
-use Rattle.domain.specs.Sums.Facts.{OfSums}
-use Rattle.domain.specs.Sums.Adding.{adding_all}
-use Rattle.domain.specs.Sums.Narrowing.{parts_of}
-use Rattle.domain.specs.Sums.RelationsInCode.{relation_of}
-use Rattle.domain.specs.Sums.FactInCode.{fact_in_code, all_parts}
+use Rattle.domain.specs.Facts.{OfSums}
+use Rattle.domain.specs.Adding.{adding_all}
+use Rattle.domain.specs.Narrowing.{parts_of}
+use Rattle.domain.specs.RelationsInCode.{relation_of}
+use Rattle.domain.specs.FactInCode.{fact_in_code, all_parts}
 use Rattle.domain.proofs.PartLemmas.{parts_on}
 use Rattle.std.proofs.Common.{map}
 use Rattle.domain.proofs.sum_fact.SumFact.add_all_parts.Goals as goal

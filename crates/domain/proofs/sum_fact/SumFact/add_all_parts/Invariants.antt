@@ -1,10 +1,10 @@
 use Rattle.std.proofs.Common.{◌≡◌, ◌+◌, ◌*◌, ◌≤◌, drop, length, map}
 use Rattle.peripherals.specs.Loading.{image_of}
-use Rattle.domain.specs.Sums.Facts.{OfSums}
-use Rattle.domain.specs.Sums.Adding.{adding_all}
-use Rattle.domain.specs.Sums.CellsInCode.{cell_sets_of}
-use Rattle.domain.specs.Sums.RelationsInCode.{relation_of, relations_of}
-use Rattle.domain.specs.Sums.FactInCode.{fact_in_code, all_parts}
+use Rattle.domain.specs.Facts.{OfSums}
+use Rattle.domain.specs.Adding.{adding_all}
+use Rattle.domain.specs.CellsInCode.{cell_sets_of}
+use Rattle.domain.specs.RelationsInCode.{relation_of, relations_of}
+use Rattle.domain.specs.FactInCode.{fact_in_code, all_parts}
 use Rattle.domain.proofs.sum_fact.SumFact.add_all_parts.Given as goal
 
 abbrev pub invariant-loop-relation : goal.invariant-loop-relation

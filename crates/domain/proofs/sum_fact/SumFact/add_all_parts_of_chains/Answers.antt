@@ -1,9 +1,9 @@
 use Rattle.std.proofs.Common.{arith}
-use Rattle.domain.specs.Sums.Facts.{OfSums}
-use Rattle.domain.specs.Sums.Adding.{adding_all}
-use Rattle.domain.specs.Sums.Narrowing.{parts_of_chain}
-use Rattle.domain.specs.Sums.ChainsInCode.{chain_of}
-use Rattle.domain.specs.Sums.FactInCode.{fact_in_code, all_parts_of_chains}
+use Rattle.domain.specs.Facts.{OfSums}
+use Rattle.domain.specs.Adding.{adding_all}
+use Rattle.domain.specs.Narrowing.{parts_of_chain}
+use Rattle.domain.specs.ChainsInCode.{chain_of}
+use Rattle.domain.specs.FactInCode.{fact_in_code, all_parts_of_chains}
 use Rattle.domain.proofs.PartLemmas.{parts_on}
 use Rattle.std.proofs.Common.{map}
 use Rattle.domain.proofs.sum_fact.SumFact.add_all_parts_of_chains.Goals as goal

@@ -1,17 +1,17 @@
 use Rattle.std.proofs.Common.{◌≡◌, List, length, ◌∙◌, ap, refl, arith}
 use Rattle.wordset.specs.Words.{Words, plus, some_below}
 use Rattle.wordset.specs.Lanes.{words}
-use Rattle.domain.specs.Facts.{Ac, Cell}
-use Rattle.domain.specs.Sums.Terms.{Sum, Holding, sum_of_name, difference_of}
-use Rattle.domain.specs.Sums.Chains.{Chain}
-use Rattle.domain.specs.Sums.Facts.{Fact, Relation, OfSums}
-use Rattle.domain.specs.Sums.Adding.{adding, with_term_in}
-use Rattle.domain.specs.Sums.Narrowing.{may_give}
-use Rattle.domain.specs.Sums.InCode.{sum_of}
-use Rattle.domain.specs.Sums.CellsInCode.{cell_sets_of}
-use Rattle.domain.specs.Sums.RelationsInCode.{relations_of}
-use Rattle.domain.specs.Sums.ChainsInCode.{chain_of}
-use Rattle.domain.specs.Sums.FactInCode.{fact_in_code}
+use Rattle.domain.specs.Locations.{Ac, Cell}
+use Rattle.domain.specs.Terms.{Sum, Holding, sum_of_name, difference_of}
+use Rattle.domain.specs.Chains.{Chain}
+use Rattle.domain.specs.Facts.{Fact, Relation, OfSums}
+use Rattle.domain.specs.Adding.{adding, with_term_in}
+use Rattle.domain.specs.Narrowing.{may_give}
+use Rattle.domain.specs.InCode.{sum_of}
+use Rattle.domain.specs.CellsInCode.{cell_sets_of}
+use Rattle.domain.specs.RelationsInCode.{relations_of}
+use Rattle.domain.specs.ChainsInCode.{chain_of}
+use Rattle.domain.specs.FactInCode.{fact_in_code}
 use Rattle.domain.proofs.PartLemmas.{names_past, known_name, known_sum, difference_told}
 use Rattle.domain.proofs.sum_fact.SumFact.add_parts_of_chain.Goals as goal
 

@@ -1,9 +1,9 @@
 use Rattle.std.proofs.Common.{sym, ap, ◌∙◌}
 use Rattle.wordset.specs.Lanes.{words}
-use Rattle.domain.specs.Sums.Terms.{Summand}
-use Rattle.domain.specs.Sums.Adding.{with_term_in}
-use Rattle.domain.specs.Sums.InCode.{sum_of}
-use Rattle.domain.specs.Sums.FactInCode.{fact_in_code, rules_of}
+use Rattle.domain.specs.Terms.{Summand}
+use Rattle.domain.specs.Adding.{with_term_in}
+use Rattle.domain.specs.InCode.{sum_of}
+use Rattle.domain.specs.FactInCode.{fact_in_code, rules_of}
 use Rattle.domain.proofs.FactLemmas.{added_of_none, added_of_one}
 use Rattle.domain.proofs.sum_fact.SumFact.add_shape.Goals as goal
 

@@ -1,7 +1,7 @@
 use Rattle.std.proofs.Common.{◌<◌, ◌≤◌, length, sym, ap, ◌∙◌, arith}
 use Rattle.wordset.specs.Words.{Words}
-use Rattle.domain.specs.Sums.Adding.{lacks_all}
-use Rattle.domain.specs.Sums.CellsInCode.{cell_sets_of, cell_set_of}
+use Rattle.domain.specs.Adding.{lacks_all}
+use Rattle.domain.specs.CellsInCode.{cell_sets_of, cell_set_of}
 use Rattle.domain.proofs.VoidLemmas.{one_lacks, one_further, none_further}
 use Rattle.domain.proofs.sum_fact.SumFact.has_empty_cell.Goals as goal
 

@@ -1,7 +1,7 @@
 use Rattle.std.proofs.Common.{◌≡◌, ℕ, ◌<◌, false}
-use Rattle.domain.specs.Statements.{tracked, cell_at}
-use Rattle.domain.specs.Sums.Adding.{lacks_all}
-use Rattle.domain.specs.Sums.CellsInCode.{cell_sets_of}
+use Rattle.domain.specs.TrackedCells.{tracked, cell_at}
+use Rattle.domain.specs.Adding.{lacks_all}
+use Rattle.domain.specs.CellsInCode.{cell_sets_of}
 use Rattle.domain.proofs.sum_fact.SumFact.has_empty_cell.Given as goal
 
 abbrev pub invariant-loop-entry : goal.invariant-loop-entry

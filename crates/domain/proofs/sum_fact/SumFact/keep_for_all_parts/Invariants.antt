@@ -1,11 +1,11 @@
 use Rattle.std.proofs.Common.{◌≡◌, drop, map}
 use Rattle.wordset.specs.Lanes.{words}
 use Rattle.peripherals.specs.Loading.{image_of}
-use Rattle.domain.specs.Meaning.{location_of}
-use Rattle.domain.specs.Sums.Facts.{Fact, OfSums}
-use Rattle.domain.specs.Sums.Adding.{adding_all}
-use Rattle.domain.specs.Sums.RelationsInCode.{relation_of}
-use Rattle.domain.specs.Sums.FactInCode.{fact_in_code, all_parts}
+use Rattle.domain.specs.LocationsInCode.{location_of}
+use Rattle.domain.specs.Facts.{Fact, OfSums}
+use Rattle.domain.specs.Adding.{adding_all}
+use Rattle.domain.specs.RelationsInCode.{relation_of}
+use Rattle.domain.specs.FactInCode.{fact_in_code, all_parts}
 use Rattle.domain.proofs.sum_fact.SumFact.keep_for_all_parts.Given as goal
 
 abbrev pub invariant-loop-relation : goal.invariant-loop-relation

@@ -1,15 +1,15 @@
 use Rattle.std.proofs.Common.{◌≡◌, ◌<◌, ◌∙◌, ◌++◌, ◌∷◌, [], drop, length, sym, ap, arith}
 use Rattle.wordset.specs.Words.{Words}
 use Rattle.peripherals.specs.Loading.{image_of}
-use Rattle.domain.specs.Meaning.{location_of}
-use Rattle.domain.specs.Sums.Terms.{Sum, Summand}
-use Rattle.domain.specs.Sums.Facts.{Fact, OfSums}
-use Rattle.domain.specs.Sums.Adding.{adding_all, differences}
-use Rattle.domain.specs.Sums.Knowing.{said_of}
-use Rattle.domain.specs.Sums.Narrowing.{of_part}
-use Rattle.domain.specs.Sums.Brief.{brief_words}
-use Rattle.domain.specs.Sums.InCode.{sum_of, summand_of, summand_at}
-use Rattle.domain.specs.Sums.FactInCode.{fact_in_code}
+use Rattle.domain.specs.LocationsInCode.{location_of}
+use Rattle.domain.specs.Terms.{Sum, Summand}
+use Rattle.domain.specs.Facts.{Fact, OfSums}
+use Rattle.domain.specs.Adding.{adding_all, differences}
+use Rattle.domain.specs.Knowing.{said_of}
+use Rattle.domain.specs.Narrowing.{of_part}
+use Rattle.domain.specs.Brief.{brief_words}
+use Rattle.domain.specs.InCode.{sum_of, summand_of, summand_at}
+use Rattle.domain.specs.FactInCode.{fact_in_code}
 use Rattle.domain.proofs.PartLemmas.{parts_none, parts_more}
 use Rattle.domain.proofs.sum_fact.SumFact.keep_for_both.Goals as goal
 

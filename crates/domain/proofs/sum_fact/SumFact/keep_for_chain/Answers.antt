@@ -1,8 +1,8 @@
 use Rattle.std.proofs.Common.{◌∙◌, ap}
 use Rattle.wordset.specs.Lanes.{words}
-use Rattle.domain.specs.Meaning.{location_of}
-use Rattle.domain.specs.Sums.ChainsInCode.{chain_of, met_with_found}
-use Rattle.domain.specs.Sums.FactInCode.{fact_in_code}
+use Rattle.domain.specs.LocationsInCode.{location_of}
+use Rattle.domain.specs.ChainsInCode.{chain_of, met_with_found}
+use Rattle.domain.specs.FactInCode.{fact_in_code}
 use Rattle.domain.proofs.NameAskedLemmas.{chain_told}
 use Rattle.domain.proofs.sum_fact.SumFact.keep_for_chain.Goals as goal
 

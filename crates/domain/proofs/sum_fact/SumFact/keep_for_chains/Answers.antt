@@ -1,10 +1,10 @@
 use Rattle.std.proofs.Common.{◌∙◌, ap, refl, map, arith}
-use Rattle.domain.specs.Meaning.{location_of}
-use Rattle.domain.specs.Sums.Facts.{Fact, OfSums}
-use Rattle.domain.specs.Sums.Adding.{adding_all}
-use Rattle.domain.specs.Sums.Narrowing.{parts_of_chain}
-use Rattle.domain.specs.Sums.ChainsInCode.{chain_of}
-use Rattle.domain.specs.Sums.FactInCode.{fact_in_code, all_parts_of_chains}
+use Rattle.domain.specs.LocationsInCode.{location_of}
+use Rattle.domain.specs.Facts.{Fact, OfSums}
+use Rattle.domain.specs.Adding.{adding_all}
+use Rattle.domain.specs.Narrowing.{parts_of_chain}
+use Rattle.domain.specs.ChainsInCode.{chain_of}
+use Rattle.domain.specs.FactInCode.{fact_in_code, all_parts_of_chains}
 use Rattle.domain.proofs.PartLemmas.{parts_on}
 use Rattle.domain.proofs.NameAskedLemmas.{none_left}
 use Rattle.domain.proofs.sum_fact.SumFact.keep_for_chains.Goals as goal

@@ -1,12 +1,12 @@
 use Rattle.std.proofs.Common.{◌∙◌, ap, sym}
 use Rattle.peripherals.specs.Loading.{image_of}
-use Rattle.domain.specs.Meaning.{location_of}
-use Rattle.domain.specs.Sums.Terms.{Sum}
-use Rattle.domain.specs.Sums.Facts.{Fact, OfSums}
-use Rattle.domain.specs.Sums.Adding.{adding_all}
-use Rattle.domain.specs.Sums.Narrowing.{parts_of}
-use Rattle.domain.specs.Sums.Brief.{brief_words}
-use Rattle.domain.specs.Sums.FactInCode.{fact_in_code}
+use Rattle.domain.specs.LocationsInCode.{location_of}
+use Rattle.domain.specs.Terms.{Sum}
+use Rattle.domain.specs.Facts.{Fact, OfSums}
+use Rattle.domain.specs.Adding.{adding_all}
+use Rattle.domain.specs.Narrowing.{parts_of}
+use Rattle.domain.specs.Brief.{brief_words}
+use Rattle.domain.specs.FactInCode.{fact_in_code}
 use Rattle.domain.proofs.sum_fact.SumFact.keep_for_difference.Goals as goal
 
 pub returns-in-Some : goal.returns-in-Some

@@ -1,11 +1,11 @@
 use Rattle.std.proofs.Common.{◌*◌, ◌%◌, ◌∙◌, ap, sym}
 use Rattle.wordset.specs.Words.{SameWords, shifted}
 use Rattle.wordset.specs.Lanes.{words}
-use Rattle.domain.specs.Meaning.{location_of}
-use Rattle.domain.specs.Sums.Terms.{sum_of_name}
-use Rattle.domain.specs.Sums.Facts.{Fact, OfSums}
-use Rattle.domain.specs.Sums.Adding.{adding, differences, times}
-use Rattle.domain.specs.Sums.FactInCode.{fact_in_code}
+use Rattle.domain.specs.LocationsInCode.{location_of}
+use Rattle.domain.specs.Terms.{sum_of_name}
+use Rattle.domain.specs.Facts.{Fact, OfSums}
+use Rattle.domain.specs.Adding.{adding, differences, times}
+use Rattle.domain.specs.FactInCode.{fact_in_code}
 use Rattle.domain.proofs.EquationLemmas.{first_of_equation, second_of_equation, parts_of_difference}
 use Rattle.domain.proofs.sum_fact.SumFact.keep_for_equation.Goals as goal
 

@@ -1,9 +1,9 @@
 use Rattle.std.proofs.Common.{◌≡◌, ℕ, ◌&&◌, drop, map}
 use Rattle.std.specs.List.{list_all}
 use Rattle.wordset.specs.Links.{links_of}
-use Rattle.domain.specs.Sums.Narrowing.{links_of_chain}
-use Rattle.domain.specs.Sums.ChainsInCode.{chain_of}
-use Rattle.domain.specs.Sums.FactInCode.{fact_in_code}
+use Rattle.domain.specs.Narrowing.{links_of_chain}
+use Rattle.domain.specs.ChainsInCode.{chain_of}
+use Rattle.domain.specs.FactInCode.{fact_in_code}
 use Rattle.domain.proofs.sum_fact.SumFact.keep_links_of.Given as goal
 
 abbrev pub invariant-loop-chain : goal.invariant-loop-chain

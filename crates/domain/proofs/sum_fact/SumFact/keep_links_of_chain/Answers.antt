@@ -1,6 +1,6 @@
-use Rattle.domain.specs.Sums.Narrowing.{links_of_chain}
-use Rattle.domain.specs.Sums.ChainsInCode.{chain_of}
-use Rattle.domain.specs.Sums.FactInCode.{fact_in_code}
+use Rattle.domain.specs.Narrowing.{links_of_chain}
+use Rattle.domain.specs.ChainsInCode.{chain_of}
+use Rattle.domain.specs.FactInCode.{fact_in_code}
 use Rattle.domain.proofs.GivenLemmas.{met_with_chain}
 use Rattle.domain.proofs.sum_fact.SumFact.keep_links_of_chain.Goals as goal
 

@@ -1,9 +1,9 @@
 use Rattle.std.proofs.Common.{◌*◌, ◌%◌, ap, ◌∙◌}
 use Rattle.wordset.specs.Words.{Words, meet}
 use Rattle.wordset.specs.Lanes.{words}
-use Rattle.domain.specs.Meaning.{location_of}
-use Rattle.domain.specs.Sums.CellsInCode.{cell_sets_of}
-use Rattle.domain.specs.Sums.FactInCode.{fact_in_code}
+use Rattle.domain.specs.LocationsInCode.{location_of}
+use Rattle.domain.specs.CellsInCode.{cell_sets_of}
+use Rattle.domain.specs.FactInCode.{fact_in_code}
 use Rattle.domain.proofs.PartLemmas.{names_past, name_added}
 use Rattle.domain.proofs.sum_fact.SumFact.keep_name.Goals as goal
 

@@ -2,9 +2,9 @@ use Rattle.std.proofs.Common.{◌*◌, ◌%◌, ◌&&◌, ap, ◌∙◌}
 use Rattle.wordset.specs.Words.{Words, meet, plus, some_below}
 use Rattle.wordset.specs.Lanes.{words}
 use Rattle.peripherals.specs.Loading.{image_of}
-use Rattle.domain.specs.Facts.{Cell, tape_word}
-use Rattle.domain.specs.Sums.CellsInCode.{cell_sets_of}
-use Rattle.domain.specs.Sums.FactInCode.{fact_in_code}
+use Rattle.domain.specs.Locations.{Cell, tape_word}
+use Rattle.domain.specs.CellsInCode.{cell_sets_of}
+use Rattle.domain.specs.FactInCode.{fact_in_code}
 use Rattle.domain.proofs.PartLemmas.{names_past, name_added}
 use Rattle.domain.proofs.sum_fact.SumFact.keep_pointer.Goals as goal
 

@@ -1,9 +1,9 @@
 use Rattle.std.proofs.Common.{ap, ◌∙◌}
 use Rattle.wordset.specs.Words.{Words, meet}
 use Rattle.wordset.specs.Lanes.{words}
-use Rattle.domain.specs.Facts.{Location}
-use Rattle.domain.specs.Sums.CellsInCode.{cell_sets_of}
-use Rattle.domain.specs.Sums.FactInCode.{fact_in_code, names_words}
+use Rattle.domain.specs.Locations.{Location}
+use Rattle.domain.specs.CellsInCode.{cell_sets_of}
+use Rattle.domain.specs.FactInCode.{fact_in_code, names_words}
 use Rattle.domain.proofs.FactLemmas.{ac_replaced}
 use Rattle.domain.proofs.sum_fact.SumFact.meet_accumulator.Goals as goal
 

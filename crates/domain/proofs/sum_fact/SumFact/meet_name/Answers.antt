@@ -1,9 +1,9 @@
 use Rattle.std.proofs.Common.{ap}
 use Rattle.wordset.specs.Words.{Words, meet}
 use Rattle.wordset.specs.Lanes.{words}
-use Rattle.domain.specs.Facts.{Location, Cell}
-use Rattle.domain.specs.Sums.CellsInCode.{cell_sets_of}
-use Rattle.domain.specs.Sums.FactInCode.{fact_in_code}
+use Rattle.domain.specs.Locations.{Location, Cell}
+use Rattle.domain.specs.CellsInCode.{cell_sets_of}
+use Rattle.domain.specs.FactInCode.{fact_in_code}
 use Rattle.domain.proofs.FactLemmas.{cell_replaced}
 use Rattle.domain.proofs.sum_fact.SumFact.meet_name.Goals as goal
 

@@ -1,11 +1,11 @@
 use Rattle.std.proofs.Common.{◌≡◌, ◌∙◌, ◌&&◌, List, map, ap, sym}
 use Rattle.std.specs.List.{list_all}
 use Rattle.peripherals.specs.Loading.{image_of}
-use Rattle.domain.specs.Sums.Facts.{Fact, Relation, OfSums}
-use Rattle.domain.specs.Sums.Adding.{adding_all}
-use Rattle.domain.specs.Sums.Narrowing.{narrowed, links_of_chain}
-use Rattle.domain.specs.Sums.ChainsInCode.{chain_of}
-use Rattle.domain.specs.Sums.FactInCode.{fact_in_code, all_parts, all_parts_of_chains}
+use Rattle.domain.specs.Facts.{Fact, Relation, OfSums}
+use Rattle.domain.specs.Adding.{adding_all}
+use Rattle.domain.specs.Narrowing.{narrowed, links_of_chain}
+use Rattle.domain.specs.ChainsInCode.{chain_of}
+use Rattle.domain.specs.FactInCode.{fact_in_code, all_parts, all_parts_of_chains}
 use Rattle.domain.proofs.PartLemmas.{added_both}
 use Rattle.domain.proofs.sum_fact.SumFact.narrow.Goals as goal
 

@@ -1,8 +1,8 @@
 use Rattle.std.proofs.Common.{◌<◌, length, sym, ap, ◌∙◌, arith}
-use Rattle.domain.specs.Sums.Terms.{Summand}
-use Rattle.domain.specs.Sums.Adding.{set_of_term}
-use Rattle.domain.specs.Sums.InCode.{sum_of}
-use Rattle.domain.specs.Sums.FactInCode.{fact_in_code}
+use Rattle.domain.specs.Terms.{Summand}
+use Rattle.domain.specs.Adding.{set_of_term}
+use Rattle.domain.specs.InCode.{sum_of}
+use Rattle.domain.specs.FactInCode.{fact_in_code}
 use Rattle.domain.proofs.FactLemmas.{given_of_none, given_of_one, given_of_more}
 use Rattle.domain.proofs.sum_fact.SumFact.put_set_of_shape.Goals as goal
 

@@ -1,13 +1,13 @@
 use Rattle.std.proofs.Common.{◌≡◌, ◌∙◌, ◌++◌, List, map, ap}
 use Rattle.wordset.specs.Words.{Words}
 use Rattle.wordset.specs.Lanes.{words}
-use Rattle.domain.specs.Facts.{Location, Ac, Cell}
-use Rattle.domain.specs.Statements.{TrackedCell}
-use Rattle.domain.specs.Sums.Facts.{Fact}
-use Rattle.domain.specs.Sums.CellsInCode.{cell_sets_of, cell_set_of}
-use Rattle.domain.specs.Sums.Moves.{weakly_updated_sets}
-use Rattle.domain.specs.Sums.Taken.{changed, changed_among}
-use Rattle.domain.specs.Sums.FactInCode.{fact_in_code, names_words}
+use Rattle.domain.specs.Locations.{Location, Ac, Cell}
+use Rattle.domain.specs.TrackedCells.{TrackedCell}
+use Rattle.domain.specs.Facts.{Fact}
+use Rattle.domain.specs.CellsInCode.{cell_sets_of, cell_set_of}
+use Rattle.domain.specs.Moves.{weakly_updated_sets}
+use Rattle.domain.specs.Taken.{changed, changed_among}
+use Rattle.domain.specs.FactInCode.{fact_in_code, names_words}
 use Rattle.domain.proofs.TakenLemmas.{weak_sets, change_past}
 use Rattle.domain.proofs.sum_fact.SumFact.take_changed.Goals as goal
 

@@ -1,15 +1,15 @@
 use Rattle.std.proofs.Common.{◌≡◌, ◌++◌, ◌∙◌, List, length, map, ap, arith}
 use Rattle.wordset.specs.Words.{Words, one}
 use Rattle.wordset.specs.Lanes.{words}
-use Rattle.domain.specs.Facts.{Location, Cell}
-use Rattle.domain.specs.Sums.Facts.{Fact, Relation}
-use Rattle.domain.specs.Sums.Adding.{with_set}
-use Rattle.domain.specs.Sums.Chains.{Chain, after_count}
-use Rattle.domain.specs.Sums.Moves.{moved_relations}
-use Rattle.domain.specs.Sums.CellsInCode.{cell_sets_of}
-use Rattle.domain.specs.Sums.RelationsInCode.{relation_of, relations_of}
-use Rattle.domain.specs.Sums.ChainsInCode.{chain_of}
-use Rattle.domain.specs.Sums.FactInCode.{fact_in_code, names_words}
+use Rattle.domain.specs.Locations.{Location, Cell}
+use Rattle.domain.specs.Facts.{Fact, Relation}
+use Rattle.domain.specs.Adding.{with_set}
+use Rattle.domain.specs.Chains.{Chain, after_count}
+use Rattle.domain.specs.Moves.{moved_relations}
+use Rattle.domain.specs.CellsInCode.{cell_sets_of}
+use Rattle.domain.specs.RelationsInCode.{relation_of, relations_of}
+use Rattle.domain.specs.ChainsInCode.{chain_of}
+use Rattle.domain.specs.FactInCode.{fact_in_code, names_words}
 use Rattle.domain.proofs.FactLemmas.{cell_replaced}
 use Rattle.domain.proofs.TakenLemmas.{all_moved}
 use Rattle.domain.proofs.sum_fact.SumFact.take_counted.Goals as goal

@@ -1,12 +1,12 @@
 use Rattle.std.proofs.Common.{◌∙◌, List, [], ap}
 use Rattle.wordset.specs.Words.{Words, one}
 use Rattle.wordset.specs.Lanes.{words}
-use Rattle.domain.specs.Facts.{Location, Ac}
-use Rattle.domain.specs.Sums.Facts.{Fact, Relation}
-use Rattle.domain.specs.Sums.Adding.{with_name}
-use Rattle.domain.specs.Sums.CellsInCode.{cell_sets_of}
-use Rattle.domain.specs.Sums.Moves.{weakly_updated_sets}
-use Rattle.domain.specs.Sums.FactInCode.{fact_in_code}
+use Rattle.domain.specs.Locations.{Location, Ac}
+use Rattle.domain.specs.Facts.{Fact, Relation}
+use Rattle.domain.specs.Adding.{with_name}
+use Rattle.domain.specs.CellsInCode.{cell_sets_of}
+use Rattle.domain.specs.Moves.{weakly_updated_sets}
+use Rattle.domain.specs.FactInCode.{fact_in_code}
 use Rattle.domain.proofs.FactLemmas.{ac_replaced}
 use Rattle.domain.proofs.TakenLemmas.{free_of_both}
 use Rattle.domain.proofs.sum_fact.SumFact.take_deposited_among.Goals as goal

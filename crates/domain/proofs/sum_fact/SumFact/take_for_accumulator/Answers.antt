@@ -1,10 +1,10 @@
 use Rattle.std.proofs.Common.{◌∙◌, ap}
 use Rattle.wordset.specs.Words.{Words}
 use Rattle.wordset.specs.Lanes.{words}
-use Rattle.domain.specs.Facts.{Location, Ac}
-use Rattle.domain.specs.Sums.Adding.{with_name}
-use Rattle.domain.specs.Sums.CellsInCode.{cell_sets_of}
-use Rattle.domain.specs.Sums.FactInCode.{fact_in_code}
+use Rattle.domain.specs.Locations.{Location, Ac}
+use Rattle.domain.specs.Adding.{with_name}
+use Rattle.domain.specs.CellsInCode.{cell_sets_of}
+use Rattle.domain.specs.FactInCode.{fact_in_code}
 use Rattle.domain.proofs.FactLemmas.{ac_replaced}
 use Rattle.domain.proofs.sum_fact.SumFact.take_for_accumulator.Goals as goal
 

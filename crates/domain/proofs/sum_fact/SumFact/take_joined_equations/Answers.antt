@@ -3,15 +3,15 @@ use Rattle.std.specs.Prelude.{if◌then◌else◌}
 use Rattle.wordset.specs.Words.{Words}
 use Rattle.wordset.specs.Lanes.{words}
 use Rattle.wordset.specs.Links.{links_of}
-use Rattle.domain.specs.Facts.{Ac, is_outside}
-use Rattle.domain.specs.Statements.{TrackedCell}
-use Rattle.domain.specs.Sums.Facts.{Fact, Relation, OfEquations}
-use Rattle.domain.specs.Sums.Moves.{outside, words_outside}
-use Rattle.domain.specs.Sums.Brief.{brief_words}
-use Rattle.domain.specs.Sums.CellsInCode.{cell_sets_of, cell_set_of, cells_outside, cells_within}
-use Rattle.domain.specs.Sums.RelationsInCode.{relation_of, relations_of}
-use Rattle.domain.specs.Sums.ChainsInCode.{chain_of}
-use Rattle.domain.specs.Sums.FactInCode.{fact_in_code, names_words}
+use Rattle.domain.specs.Locations.{Ac, is_outside}
+use Rattle.domain.specs.TrackedCells.{TrackedCell}
+use Rattle.domain.specs.Facts.{Fact, Relation, OfEquations}
+use Rattle.domain.specs.Moves.{outside, words_outside}
+use Rattle.domain.specs.Brief.{brief_words}
+use Rattle.domain.specs.CellsInCode.{cell_sets_of, cell_set_of, cells_outside, cells_within}
+use Rattle.domain.specs.RelationsInCode.{relation_of, relations_of}
+use Rattle.domain.specs.ChainsInCode.{chain_of}
+use Rattle.domain.specs.FactInCode.{fact_in_code, names_words}
 use Rattle.domain.proofs.JoinedLemmas.{equations_sets, equations_joined}
 use Rattle.domain.proofs.sum_fact.SumFact.take_joined_equations.Goals as goal
 

@@ -1,10 +1,10 @@
 use Rattle.std.proofs.Common.{◌≡◌, ◌++◌, ◌∙◌, List, map, ap}
 use Rattle.wordset.specs.Lanes.{words}
-use Rattle.domain.specs.Facts.{Ac}
-use Rattle.domain.specs.Statements.{TrackedCell}
-use Rattle.domain.specs.Sums.Facts.{Fact}
-use Rattle.domain.specs.Sums.CellsInCode.{cell_sets_of, cell_set_of}
-use Rattle.domain.specs.Sums.FactInCode.{fact_in_code, names_words}
+use Rattle.domain.specs.Locations.{Ac}
+use Rattle.domain.specs.TrackedCells.{TrackedCell}
+use Rattle.domain.specs.Facts.{Fact}
+use Rattle.domain.specs.CellsInCode.{cell_sets_of, cell_set_of}
+use Rattle.domain.specs.FactInCode.{fact_in_code, names_words}
 use Rattle.domain.proofs.sum_fact.SumFact.take_over.Goals as goal
 
 pub returns-clause-fact : goal.returns-clause-fact

@@ -1,12 +1,12 @@
 use Rattle.std.proofs.Common.{◌≡◌, ◌++◌, ◌∙◌, List, length, map, ap, arith}
 use Rattle.std.proofs.lemmas.List.{length-map}
-use Rattle.domain.specs.Sums.Facts.{Fact, Relation}
-use Rattle.domain.specs.Sums.Chains.{Chain}
-use Rattle.domain.specs.Sums.Moves.{free_of, chains_free_of}
-use Rattle.domain.specs.Sums.Naming.{names_of}
-use Rattle.domain.specs.Sums.RelationsInCode.{relation_of, relations_of}
-use Rattle.domain.specs.Sums.ChainsInCode.{chain_of}
-use Rattle.domain.specs.Sums.FactInCode.{fact_in_code}
+use Rattle.domain.specs.Facts.{Fact, Relation}
+use Rattle.domain.specs.Chains.{Chain}
+use Rattle.domain.specs.Moves.{free_of, chains_free_of}
+use Rattle.domain.specs.Naming.{names_of}
+use Rattle.domain.specs.RelationsInCode.{relation_of, relations_of}
+use Rattle.domain.specs.ChainsInCode.{chain_of}
+use Rattle.domain.specs.FactInCode.{fact_in_code}
 use Rattle.domain.proofs.sum_fact.SumFact.take_without.Goals as goal
 
 pub returns-clause-fact : goal.returns-clause-fact

@@ -1,7 +1,7 @@
 use Rattle.std.proofs.Common.{◌≡◌, ◌+◌, length, arith}
 use Rattle.std.specs.Prelude.{filter, not}
-use Rattle.domain.specs.Sums.Terms.{Summand, is_sign}
-use Rattle.domain.specs.Sums.InCode.{sum_of}
+use Rattle.domain.specs.Terms.{Summand, is_sign}
+use Rattle.domain.specs.InCode.{sum_of}
 use Rattle.domain.proofs.TermLemmas.{both_filters, sum_few}
 use Rattle.std.proofs.Common.{length-append}
 use Rattle.domain.proofs.terms.Sum.arranged.Goals as goal

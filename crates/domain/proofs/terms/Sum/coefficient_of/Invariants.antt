@@ -1,6 +1,6 @@
 use Rattle.std.proofs.Common.{◌≡◌, ◌-◌, drop}
-use Rattle.domain.specs.Sums.Terms.{coefficient_in}
-use Rattle.domain.specs.Sums.InCode.{term_of, sum_of}
+use Rattle.domain.specs.Terms.{coefficient_in}
+use Rattle.domain.specs.InCode.{term_of, sum_of}
 use Rattle.domain.proofs.terms.Sum.coefficient_of.Given as goal
 
 abbrev pub invariant-loop-done : goal.invariant-loop-done

@@ -1,6 +1,6 @@
 use Rattle.std.proofs.Common.{◌≡◌, ◌-◌, ◌≤◌, drop, length}
-use Rattle.domain.specs.Sums.Terms.{collected}
-use Rattle.domain.specs.Sums.InCode.{sum_of}
+use Rattle.domain.specs.Terms.{collected}
+use Rattle.domain.specs.InCode.{sum_of}
 use Rattle.domain.proofs.terms.Sum.collected.Given as goal
 
 abbrev pub invariant-loop-done : goal.invariant-loop-done

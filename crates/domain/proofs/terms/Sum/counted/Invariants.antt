@@ -1,6 +1,6 @@
 use Rattle.std.proofs.Common.{◌≡◌, ◌++◌, drop, length}
-use Rattle.domain.specs.Sums.Moves.{counted_sum}
-use Rattle.domain.specs.Sums.InCode.{sum_of}
+use Rattle.domain.specs.Moves.{counted_sum}
+use Rattle.domain.specs.InCode.{sum_of}
 use Rattle.domain.proofs.terms.Sum.counted.Given as goal
 
 abbrev pub invariant-loop-at : goal.invariant-loop-at

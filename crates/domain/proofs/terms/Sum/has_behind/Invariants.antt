@@ -1,6 +1,6 @@
 use Rattle.std.proofs.Common.{◌≡◌, drop}
-use Rattle.domain.specs.Sums.Moves.{has_behind}
-use Rattle.domain.specs.Sums.InCode.{sum_of}
+use Rattle.domain.specs.Moves.{has_behind}
+use Rattle.domain.specs.InCode.{sum_of}
 use Rattle.domain.proofs.terms.Sum.has_behind.Given as goal
 
 abbrev pub invariant-loop-at : goal.invariant-loop-at

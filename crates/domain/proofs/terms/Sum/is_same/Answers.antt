@@ -1,5 +1,5 @@
 use Rattle.std.proofs.Common.{sym, ◌∙◌}
-use Rattle.domain.specs.Sums.InCode.{sum_of}
+use Rattle.domain.specs.InCode.{sum_of}
 use Rattle.domain.proofs.TermLemmas.{apart_lengths}
 use Rattle.domain.proofs.terms.Sum.is_same.Goals as goal
 

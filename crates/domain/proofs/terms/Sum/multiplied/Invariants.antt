@@ -1,6 +1,6 @@
 use Rattle.std.proofs.Common.{◌≡◌, ◌++◌, drop, length}
-use Rattle.domain.specs.Sums.Terms.{multiplied}
-use Rattle.domain.specs.Sums.InCode.{sum_of}
+use Rattle.domain.specs.Terms.{multiplied}
+use Rattle.domain.specs.InCode.{sum_of}
 use Rattle.domain.proofs.terms.Sum.multiplied.Given as goal
 
 abbrev pub invariant-loop-at : goal.invariant-loop-at

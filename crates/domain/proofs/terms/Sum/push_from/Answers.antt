@@ -1,5 +1,5 @@
 use Rattle.std.proofs.Common.{◌<◌, length, drop, arith}
-use Rattle.domain.specs.Sums.InCode.{sum_of}
+use Rattle.domain.specs.InCode.{sum_of}
 use Rattle.domain.proofs.TermLemmas.{room_left, one_left}
 use Rattle.domain.proofs.terms.Sum.push_from.Goals as goal
 

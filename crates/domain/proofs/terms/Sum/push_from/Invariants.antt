@@ -1,5 +1,5 @@
 use Rattle.std.proofs.Common.{◌≡◌, ◌++◌, drop}
-use Rattle.domain.specs.Sums.InCode.{sum_of}
+use Rattle.domain.specs.InCode.{sum_of}
 use Rattle.domain.proofs.terms.Sum.push_from.Given as goal
 
 abbrev pub invariant-loop-at : goal.invariant-loop-at

@@ -1,8 +1,8 @@
 use Rattle.std.proofs.Common.{◌<◌, length, drop, sym, ◌∙◌, arith}
 use Rattle.std.specs.Prelude.{filter}
-use Rattle.domain.specs.Facts.{Ac}
-use Rattle.domain.specs.Sums.Terms.{Summand, Holding, is_sign}
-use Rattle.domain.specs.Sums.InCode.{sum_of, summand_of}
+use Rattle.domain.specs.Locations.{Ac}
+use Rattle.domain.specs.Terms.{Summand, Holding, is_sign}
+use Rattle.domain.specs.InCode.{sum_of, summand_of}
 use Rattle.domain.proofs.TermLemmas.{room_left, some_left}
 use Rattle.domain.proofs.terms.Sum.push_signed.Goals as goal
 

@@ -1,7 +1,7 @@
 use Rattle.std.proofs.Common.{◌≡◌, ◌++◌, drop}
 use Rattle.std.specs.Prelude.{filter, not}
-use Rattle.domain.specs.Sums.Terms.{is_sign}
-use Rattle.domain.specs.Sums.InCode.{sum_of}
+use Rattle.domain.specs.Terms.{is_sign}
+use Rattle.domain.specs.InCode.{sum_of}
 use Rattle.domain.proofs.terms.Sum.push_unsigned.Given as goal
 
 abbrev pub invariant-loop-at : goal.invariant-loop-at

@@ -1,7 +1,7 @@
 use Rattle.std.proofs.Common.{◌≡◌, drop}
-use Rattle.domain.specs.Sums.Terms.{speaks_of}
-use Rattle.domain.specs.Sums.InCode.{sum_of}
-use Rattle.domain.specs.Sums.Naming.{names_of}
+use Rattle.domain.specs.Terms.{speaks_of}
+use Rattle.domain.specs.InCode.{sum_of}
+use Rattle.domain.specs.Naming.{names_of}
 use Rattle.domain.proofs.terms.Sum.speaks_of.Given as goal
 
 abbrev pub invariant-loop-at : goal.invariant-loop-at

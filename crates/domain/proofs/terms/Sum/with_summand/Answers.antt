@@ -1,7 +1,7 @@
 use Rattle.std.proofs.Common.{◌≤◌, ◌<◌, length, sym, ◌∙◌, arith}
-use Rattle.domain.specs.Facts.{Ac}
-use Rattle.domain.specs.Sums.Terms.{Holding, with_summand}
-use Rattle.domain.specs.Sums.InCode.{sum_of, summand_of, term_of}
+use Rattle.domain.specs.Locations.{Ac}
+use Rattle.domain.specs.Terms.{Holding, with_summand}
+use Rattle.domain.specs.InCode.{sum_of, summand_of, term_of}
 use Rattle.domain.proofs.TermLemmas.{put_before, put_last}
 use Rattle.domain.proofs.terms.Sum.with_summand.Goals as goal
 

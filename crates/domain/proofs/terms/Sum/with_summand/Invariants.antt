@@ -1,6 +1,6 @@
 use Rattle.std.proofs.Common.{◌≡◌, ◌++◌, drop, length}
-use Rattle.domain.specs.Sums.Terms.{with_summand}
-use Rattle.domain.specs.Sums.InCode.{term_of, sum_of}
+use Rattle.domain.specs.Terms.{with_summand}
+use Rattle.domain.specs.InCode.{term_of, sum_of}
 use Rattle.domain.proofs.terms.Sum.with_summand.Given as goal
 
 abbrev pub invariant-loop-at : goal.invariant-loop-at

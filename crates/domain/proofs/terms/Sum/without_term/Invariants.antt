@@ -1,6 +1,6 @@
 use Rattle.std.proofs.Common.{◌≡◌, ◌≤◌, ◌++◌, drop, length}
-use Rattle.domain.specs.Sums.Terms.{without_term}
-use Rattle.domain.specs.Sums.InCode.{term_of, sum_of}
+use Rattle.domain.specs.Terms.{without_term}
+use Rattle.domain.specs.InCode.{term_of, sum_of}
 use Rattle.domain.proofs.terms.Sum.without_term.Given as goal
 
 abbrev pub invariant-loop-at : goal.invariant-loop-at

@@ -1,8 +1,8 @@
 use Rattle.std.proofs.Common.{◌∙◌, sym, map}
 use Rattle.wordset.specs.Lanes.{words}
 use Rattle.wordset.specs.Links.{links_of}
-use Rattle.domain.specs.Sums.ChainsInCode.{chain_of}
-use Rattle.facts.proofs.Sums.ShowingLemmas.{no_accumulator, no_link, gives_it, allowed_not_given, not_each_given}
+use Rattle.domain.specs.ChainsInCode.{chain_of}
+use Rattle.facts.proofs.ShowingLemmas.{no_accumulator, no_link, gives_it, allowed_not_given, not_each_given}
 use Rattle.facts.proofs.EntailLemmas.{not_both}
 use Rattle.facts.proofs.entailment.Allowed.permits.Goals as goal
 

@@ -1,8 +1,8 @@
 use Rattle.std.proofs.Common.{map, lit<}
 use Rattle.wordset.specs.Lanes.{words}
 use Rattle.wordset.specs.Links.{links_of}
-use Rattle.domain.specs.Sums.ChainsInCode.{chain_of}
-use Rattle.facts.proofs.Sums.ShowingLemmas.{each_link, Allows}
+use Rattle.domain.specs.ChainsInCode.{chain_of}
+use Rattle.facts.proofs.ShowingLemmas.{each_link, Allows}
 use Rattle.facts.proofs.EntailLemmas.{not_true, not_both}
 use Rattle.facts.proofs.entailment.Allowed.permits_both.Goals as goal
 

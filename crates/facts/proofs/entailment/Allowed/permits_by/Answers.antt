@@ -1,8 +1,8 @@
 use Rattle.std.proofs.Common.{map}
 use Rattle.wordset.specs.Lanes.{words}
 use Rattle.wordset.specs.Links.{links_of}
-use Rattle.domain.specs.Sums.ChainsInCode.{chain_of}
-use Rattle.facts.proofs.Sums.ShowingLemmas.{by_first_fails, by_both}
+use Rattle.domain.specs.ChainsInCode.{chain_of}
+use Rattle.facts.proofs.ShowingLemmas.{by_first_fails, by_both}
 use Rattle.facts.proofs.EntailLemmas.{not_both}
 use Rattle.facts.proofs.entailment.Allowed.permits_by.Goals as goal
 

@@ -1,8 +1,8 @@
 use Rattle.std.proofs.Common.{ℕ, ◌<◌, map}
 use Rattle.wordset.specs.Lanes.{words}
 use Rattle.wordset.specs.Links.{links_of}
-use Rattle.domain.specs.Sums.ChainsInCode.{chain_of}
-use Rattle.facts.specs.Sums.Entailing.{GivesIfAllowed}
+use Rattle.domain.specs.ChainsInCode.{chain_of}
+use Rattle.facts.specs.Entailing.{GivesIfAllowed}
 use Rattle.wordset.proofs.IterLemmas.{Passed}
 use Rattle.facts.proofs.entailment.Allowed.permits_each.Given as goal
 

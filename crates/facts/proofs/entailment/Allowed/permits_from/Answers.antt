@@ -2,9 +2,9 @@ use Rattle.std.proofs.Common.{◌∙◌, sym, ap, map}
 use Rattle.wordset.specs.Words.{Words, plus}
 use Rattle.wordset.specs.Lanes.{words}
 use Rattle.wordset.specs.Links.{links_of}
-use Rattle.domain.specs.Sums.Chains.{after_steps}
-use Rattle.domain.specs.Sums.ChainsInCode.{chain_of}
-use Rattle.facts.proofs.Sums.ShowingLemmas.{from_none, from_pair}
+use Rattle.domain.specs.Chains.{after_steps}
+use Rattle.domain.specs.ChainsInCode.{chain_of}
+use Rattle.facts.proofs.ShowingLemmas.{from_none, from_pair}
 use Rattle.facts.proofs.entailment.Allowed.permits_from.Goals as goal
 
 pub returns-then-not-contains : goal.returns-then-not-contains

@@ -2,9 +2,9 @@ use Rattle.std.proofs.Common.{◌∙◌, ℕ, sym, subst, map}
 use Rattle.std.proofs.lemmas.Bool.{eq-eqb, eqb-true, true≢false}
 use Rattle.wordset.specs.Lanes.{words}
 use Rattle.wordset.specs.Links.{links_of}
-use Rattle.domain.specs.Sums.ChainsInCode.{chain_of}
-use Rattle.facts.proofs.Sums.ShowingLemmas.{none_before, on_item, word_by, words_small, links_small, GivesOn}
-use Rattle.facts.specs.Sums.Entailment.{EachGives}
+use Rattle.domain.specs.ChainsInCode.{chain_of}
+use Rattle.facts.proofs.ShowingLemmas.{none_before, on_item, word_by, words_small, links_small, GivesOn}
+use Rattle.facts.specs.Entailment.{EachGives}
 use Rattle.facts.proofs.entailment.Allowed.permits_word.Goals as goal
 
 pub loop-other-preserved : goal.loop-other-preserved

@@ -1,5 +1,5 @@
-use Rattle.domain.specs.Sums.ChainsInCode.{chain_of}
-use Rattle.facts.proofs.Sums.ShowingLemmas.{NoneBefore}
+use Rattle.domain.specs.ChainsInCode.{chain_of}
+use Rattle.facts.proofs.ShowingLemmas.{NoneBefore}
 use Rattle.facts.proofs.entailment.Allowed.permits_word.Given as goal
 
 abbrev pub invariant-loop-other : goal.invariant-loop-other

@@ -1,7 +1,7 @@
 use Rattle.std.proofs.Common.{List, ap, ◌∙◌}
 use Rattle.wordset.specs.Words.{Words}
-use Rattle.domain.specs.Facts.{Location, Cell}
-use Rattle.domain.specs.Statements.{TrackedCell, tracked}
+use Rattle.domain.specs.Locations.{Location, Cell}
+use Rattle.domain.specs.TrackedCells.{TrackedCell, tracked}
 use Rattle.facts.proofs.known.SumFactKnownFact.has_plainly_within.Goals as goal
 
 pub returns : goal.returns

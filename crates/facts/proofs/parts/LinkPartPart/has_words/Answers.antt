@@ -1,9 +1,9 @@
 use Rattle.std.proofs.Common.{ap, sym, ◌∙◌}
 use Rattle.wordset.specs.Words.{Words}
-use Rattle.domain.specs.Facts.{Location, Cell}
-use Rattle.domain.specs.Statements.{tracked}
-use Rattle.domain.specs.Sums.CellsInCode.{cell_sets_of}
-use Rattle.facts.proofs.Sums.SplitLemmas.{told_small}
+use Rattle.domain.specs.Locations.{Location, Cell}
+use Rattle.domain.specs.TrackedCells.{tracked}
+use Rattle.domain.specs.CellsInCode.{cell_sets_of}
+use Rattle.facts.proofs.SplitLemmas.{told_small}
 use Rattle.facts.proofs.parts.LinkPartPart.has_words.Goals as goal
 
 pub returns-clause-beyond : goal.returns-clause-beyond

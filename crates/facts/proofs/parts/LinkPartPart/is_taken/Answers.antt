@@ -1,9 +1,9 @@
 use Rattle.std.proofs.Common.{sym, ◌∙◌}
-use Rattle.domain.specs.Meaning.{location_of}
-use Rattle.domain.specs.Sums.FactInCode.{fact_in_code}
-use Rattle.facts.specs.Sums.PlaceInCode.{place_in_code}
-use Rattle.facts.specs.Sums.PartInCode.{part_in_code}
-use Rattle.facts.proofs.Sums.SplitLemmas.{takes_void, takes_entails}
+use Rattle.domain.specs.LocationsInCode.{location_of}
+use Rattle.domain.specs.FactInCode.{fact_in_code}
+use Rattle.facts.specs.PlaceInCode.{place_in_code}
+use Rattle.facts.specs.PartInCode.{part_in_code}
+use Rattle.facts.proofs.SplitLemmas.{takes_void, takes_entails}
 use Rattle.facts.proofs.parts.LinkPartPart.is_taken.Goals as goal
 
 pub returns-then-is_void-clause-taken : goal.returns-then-is_void-clause-taken

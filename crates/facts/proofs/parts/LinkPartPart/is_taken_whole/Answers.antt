@@ -1,8 +1,8 @@
 use Rattle.std.proofs.Common.{sym, ◌∙◌}
-use Rattle.domain.specs.Sums.FactInCode.{fact_in_code}
-use Rattle.facts.specs.Sums.PlaceInCode.{place_in_code}
-use Rattle.facts.specs.Sums.PartInCode.{part_in_code}
-use Rattle.facts.proofs.Sums.SplitLemmas.{void_whole, some_whole}
+use Rattle.domain.specs.FactInCode.{fact_in_code}
+use Rattle.facts.specs.PlaceInCode.{place_in_code}
+use Rattle.facts.specs.PartInCode.{part_in_code}
+use Rattle.facts.proofs.SplitLemmas.{void_whole, some_whole}
 use Rattle.facts.proofs.parts.LinkPartPart.is_taken_whole.Goals as goal
 
 pub returns-then-is_void-clause-taken : goal.returns-then-is_void-clause-taken

@@ -1,16 +1,16 @@
 use Rattle.std.proofs.Common.{◌≡◌, ◌∙◌, sym, ap, refl}
 use Rattle.wordset.specs.Words.{Words, one, plus, all_words}
 use Rattle.wordset.specs.Lanes.{words}
-use Rattle.domain.specs.Sums.Facts.{Fact}
-use Rattle.domain.specs.Sums.FactInCode.{fact_in_code}
-use Rattle.facts.specs.Sums.PlaceInCode.{place_in_code}
+use Rattle.domain.specs.Facts.{Fact}
+use Rattle.domain.specs.FactInCode.{fact_in_code}
+use Rattle.facts.specs.PlaceInCode.{place_in_code}
 use Rattle.std.specs.Prelude.{Option}
-use Rattle.domain.specs.Sums.Terms.{Term}
-use Rattle.domain.specs.Sums.FactInCode.{rules_of}
-use Rattle.facts.specs.Sums.References.{words_at, operand_term, one_target}
-use Rattle.facts.specs.Sums.Outcomes.{tad_by, ac_of, added, added_under}
-use Rattle.facts.specs.Sums.Shaped.{term_if}
-use Rattle.facts.proofs.Sums.ComesLemmas.{goes_on, both_are, none_after, all_reached}
+use Rattle.domain.specs.Terms.{Term}
+use Rattle.domain.specs.FactInCode.{rules_of}
+use Rattle.facts.specs.References.{words_at, operand_term, one_target}
+use Rattle.facts.specs.Outcomes.{tad_by, ac_of, added, added_under}
+use Rattle.facts.specs.Shaped.{term_if}
+use Rattle.facts.proofs.ComesLemmas.{goes_on, both_are, none_after, all_reached}
 use Rattle.facts.proofs.place.Place.add.Goals as goal
 
 pub returns-in-OfSums : goal.returns-in-OfSums

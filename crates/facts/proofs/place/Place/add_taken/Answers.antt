@@ -2,11 +2,11 @@ use Rattle.std.proofs.Common.{◌∙◌, ap, subst}
 use Rattle.wordset.specs.Words.{Words, meet, IsWithin}
 use Rattle.wordset.specs.Lanes.{words}
 use Rattle.std.specs.Prelude.{◌||◌}
-use Rattle.domain.specs.Meaning.{location_of}
-use Rattle.domain.specs.Sums.FactInCode.{fact_in_code}
-use Rattle.facts.specs.Sums.PlaceInCode.{place_in_code}
+use Rattle.domain.specs.LocationsInCode.{location_of}
+use Rattle.domain.specs.FactInCode.{fact_in_code}
+use Rattle.facts.specs.PlaceInCode.{place_in_code}
 use Rattle.facts.proofs.EntailLemmas.{not_both}
-use Rattle.facts.proofs.Sums.SplitLemmas.{taken_before, taken_now, not_taken}
+use Rattle.facts.proofs.SplitLemmas.{taken_before, taken_now, not_taken}
 use Rattle.facts.proofs.place.Place.add_taken.Goals as goal
 
 pub returns-then-is_subset-clause-taken : goal.returns-then-is_subset-clause-taken

@@ -1,8 +1,8 @@
 use Rattle.std.proofs.Common.{◌∙◌, sym}
 use Rattle.wordset.specs.Lanes.{words}
 use Rattle.wordset.proofs.IterLemmas.{none_yet, given_word, one_more, all_pass}
-use Rattle.facts.specs.Sums.PlaceInCode.{place_in_code}
-use Rattle.facts.proofs.Sums.OperandLemmas.{one_moves, none_moves}
+use Rattle.facts.specs.PlaceInCode.{place_in_code}
+use Rattle.facts.proofs.OperandLemmas.{one_moves, none_moves}
 use Rattle.facts.proofs.place.Place.are_fixed.Goals as goal
 
 pub returns-then-not-is_fixed : goal.returns-then-not-is_fixed

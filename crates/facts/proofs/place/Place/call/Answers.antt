@@ -1,11 +1,11 @@
 use Rattle.std.proofs.Common.{◌∙◌, ap, refl}
 use Rattle.wordset.specs.Words.{Words, all_words}
 use Rattle.wordset.specs.Lanes.{words}
-use Rattle.domain.specs.Sums.Facts.{Fact}
-use Rattle.domain.specs.Sums.FactInCode.{fact_in_code}
-use Rattle.facts.specs.Sums.PlaceInCode.{place_in_code}
-use Rattle.facts.specs.Sums.Outcomes.{CallsTo, given, alive}
-use Rattle.facts.proofs.Sums.ComesLemmas.{comes_by, all_reached}
+use Rattle.domain.specs.Facts.{Fact}
+use Rattle.domain.specs.FactInCode.{fact_in_code}
+use Rattle.facts.specs.PlaceInCode.{place_in_code}
+use Rattle.facts.specs.Outcomes.{CallsTo, given, alive}
+use Rattle.facts.proofs.ComesLemmas.{comes_by, all_reached}
 use Rattle.facts.proofs.place.Place.call.Goals as goal
 
 pub returns : goal.returns

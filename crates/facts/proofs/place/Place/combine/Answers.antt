@@ -1,16 +1,16 @@
 use Rattle.std.proofs.Common.{◌≡◌, ◌∙◌, ap, refl}
 use Rattle.wordset.specs.Words.{Words, one, plus, all_words}
 use Rattle.wordset.specs.Lanes.{words}
-use Rattle.domain.specs.Sums.Facts.{Fact}
-use Rattle.domain.specs.Sums.FactInCode.{fact_in_code}
-use Rattle.facts.specs.Sums.PlaceInCode.{place_in_code}
+use Rattle.domain.specs.Facts.{Fact}
+use Rattle.domain.specs.FactInCode.{fact_in_code}
+use Rattle.facts.specs.PlaceInCode.{place_in_code}
 use Rattle.std.specs.Prelude.{Option, ℕ}
 use Rattle.wordset.specs.Words.{ands, only}
-use Rattle.domain.specs.Facts.{Ac}
-use Rattle.domain.specs.Sums.Moves.{taking}
-use Rattle.facts.specs.Sums.References.{words_at}
-use Rattle.facts.specs.Sums.Outcomes.{ac_of, chains_after_and}
-use Rattle.facts.proofs.Sums.ComesLemmas.{goes_on, all_reached}
+use Rattle.domain.specs.Locations.{Ac}
+use Rattle.domain.specs.Moves.{taking}
+use Rattle.facts.specs.References.{words_at}
+use Rattle.facts.specs.Outcomes.{ac_of, chains_after_and}
+use Rattle.facts.proofs.ComesLemmas.{goes_on, all_reached}
 use Rattle.facts.proofs.place.Place.combine.Goals as goal
 
 pub returns : goal.returns

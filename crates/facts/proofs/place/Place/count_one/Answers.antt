@@ -1,14 +1,14 @@
 use Rattle.std.proofs.Common.{◌≡◌, ◌∙◌, ap}
 use Rattle.wordset.specs.Words.{Words, one, plus}
 use Rattle.wordset.specs.Lanes.{words}
-use Rattle.domain.specs.Sums.Facts.{Fact}
-use Rattle.domain.specs.Sums.FactInCode.{fact_in_code}
-use Rattle.facts.specs.Sums.PlaceInCode.{place_in_code}
+use Rattle.domain.specs.Facts.{Fact}
+use Rattle.domain.specs.FactInCode.{fact_in_code}
+use Rattle.facts.specs.PlaceInCode.{place_in_code}
 use Rattle.wordset.specs.Words.{shifted, without, has_some}
-use Rattle.domain.specs.Facts.{Cell}
-use Rattle.domain.specs.Sums.Narrowing.{words_known}
+use Rattle.domain.specs.Locations.{Cell}
+use Rattle.domain.specs.Narrowing.{words_known}
 use Rattle.facts.proofs.OutcomeLemmas.{plus_two}
-use Rattle.facts.proofs.Sums.ComesLemmas.{goes_on, chosen_goes, counted_to, both_are, zero_there}
+use Rattle.facts.proofs.ComesLemmas.{goes_on, chosen_goes, counted_to, both_are, zero_there}
 use Rattle.facts.proofs.place.Place.count_one.Goals as goal
 
 pub returns : goal.returns

@@ -1,12 +1,12 @@
 use Rattle.std.proofs.Common.{◌∙◌, ap, refl}
 use Rattle.wordset.specs.Words.{Words, one, plus, all_words}
 use Rattle.wordset.specs.Lanes.{words}
-use Rattle.domain.specs.Sums.Facts.{Fact}
-use Rattle.domain.specs.Sums.FactInCode.{fact_in_code}
-use Rattle.facts.specs.Sums.PlaceInCode.{place_in_code}
-use Rattle.domain.specs.Sums.Moves.{counted_up}
-use Rattle.domain.specs.Sums.Offsets.{offsets_in}
-use Rattle.facts.proofs.Sums.ComesLemmas.{goes_on, all_reached}
+use Rattle.domain.specs.Facts.{Fact}
+use Rattle.domain.specs.FactInCode.{fact_in_code}
+use Rattle.facts.specs.PlaceInCode.{place_in_code}
+use Rattle.domain.specs.Moves.{counted_up}
+use Rattle.domain.specs.Offsets.{offsets_in}
+use Rattle.facts.proofs.ComesLemmas.{goes_on, all_reached}
 use Rattle.facts.proofs.place.Place.count_own.Goals as goal
 
 pub returns : goal.returns

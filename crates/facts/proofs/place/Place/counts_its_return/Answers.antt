@@ -1,11 +1,11 @@
 use Rattle.std.proofs.Common.{◌≡◌, ◌∙◌, sym, ap, refl, Some, None}
 use Rattle.std.proofs.lemmas.Bool.{eqb-true, eq-eqb}
 use Rattle.wordset.specs.Words.{only}
-use Rattle.domain.specs.Sums.FactInCode.{fact_in_code}
-use Rattle.facts.specs.Sums.References.{targets}
-use Rattle.facts.specs.Sums.PlaceInCode.{place_in_code}
+use Rattle.domain.specs.FactInCode.{fact_in_code}
+use Rattle.facts.specs.References.{targets}
+use Rattle.facts.specs.PlaceInCode.{place_in_code}
 use Rattle.facts.proofs.AskedLemmas.{false_iff}
-use Rattle.facts.proofs.Sums.AskingLemmas.{counts_in}
+use Rattle.facts.proofs.AskingLemmas.{counts_in}
 use Rattle.facts.proofs.place.Place.counts_its_return.Goals as goal
 
 pub returns-then-not-counts : goal.returns-then-not-counts

@@ -1,14 +1,14 @@
 use Rattle.std.proofs.Common.{◌∙◌, sym, ap, refl}
 use Rattle.wordset.specs.Words.{Words, one, plus, all_words}
 use Rattle.wordset.specs.Lanes.{words}
-use Rattle.domain.specs.Sums.Facts.{Fact}
-use Rattle.domain.specs.Sums.FactInCode.{fact_in_code}
-use Rattle.facts.specs.Sums.PlaceInCode.{place_in_code}
+use Rattle.domain.specs.Facts.{Fact}
+use Rattle.domain.specs.FactInCode.{fact_in_code}
+use Rattle.facts.specs.PlaceInCode.{place_in_code}
 use Rattle.wordset.specs.Words.{has_some}
-use Rattle.domain.specs.Facts.{Ac}
-use Rattle.domain.specs.Sums.Moves.{taking, weakly_updated}
-use Rattle.facts.specs.Sums.Outcomes.{ac_of, stored_by}
-use Rattle.facts.proofs.Sums.ComesLemmas.{goes_on, all_reached}
+use Rattle.domain.specs.Locations.{Ac}
+use Rattle.domain.specs.Moves.{taking, weakly_updated}
+use Rattle.facts.specs.Outcomes.{ac_of, stored_by}
+use Rattle.facts.proofs.ComesLemmas.{goes_on, all_reached}
 use Rattle.facts.proofs.place.Place.deposit.Goals as goal
 
 pub returns-in-Some : goal.returns-in-Some

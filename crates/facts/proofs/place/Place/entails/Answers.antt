@@ -1,12 +1,12 @@
 use Rattle.std.proofs.Common.{◌∙◌, sym, subst}
 use Rattle.std.specs.Prelude.{IsTrue, ◌↔◌}
-use Rattle.facts.specs.Sums.PlaceInCode.{place_in_code}
-use Rattle.domain.specs.Sums.FactInCode.{fact_in_code}
-use Rattle.facts.specs.Sums.Entailment.{KnowsAll, ShowsChains}
-use Rattle.facts.specs.Sums.Entailing.{EachWithin}
-use Rattle.domain.specs.Facts.{Ac}
-use Rattle.domain.specs.Sums.CellsInCode.{cell_sets_of}
-use Rattle.facts.proofs.Sums.ShowingLemmas.{entails_iff, entails_cells, entails_registers}
+use Rattle.facts.specs.PlaceInCode.{place_in_code}
+use Rattle.domain.specs.FactInCode.{fact_in_code}
+use Rattle.facts.specs.Entailment.{KnowsAll, ShowsChains}
+use Rattle.facts.specs.Entailing.{EachWithin}
+use Rattle.domain.specs.Locations.{Ac}
+use Rattle.domain.specs.CellsInCode.{cell_sets_of}
+use Rattle.facts.proofs.ShowingLemmas.{entails_iff, entails_cells, entails_registers}
 use Rattle.facts.proofs.EntailLemmas.{not_true, not_both}
 use Rattle.facts.proofs.place.Place.entails.Goals as goal
 

@@ -1,7 +1,7 @@
 use Rattle.std.proofs.Common.{drop}
 use Rattle.std.specs.Prelude.{◌↔◌}
-use Rattle.facts.specs.Sums.Entailment.{EntailsOne}
-use Rattle.facts.specs.Sums.PlaceInCode.{place_in_code}
+use Rattle.facts.specs.Entailment.{EntailsOne}
+use Rattle.facts.specs.PlaceInCode.{place_in_code}
 use Rattle.facts.proofs.place.Place.entails_one.Given as goal
 
 abbrev pub invariant-loop-at : goal.invariant-loop-at

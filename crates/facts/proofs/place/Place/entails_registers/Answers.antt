@@ -1,6 +1,6 @@
-use Rattle.facts.specs.Sums.PlaceInCode.{place_in_code}
-use Rattle.domain.specs.Sums.FactInCode.{fact_in_code}
-use Rattle.facts.proofs.Sums.ShowingLemmas.{registers_iff, registers_not_link, registers_not_offsets, registers_not_mq, registers_not_sites}
+use Rattle.facts.specs.PlaceInCode.{place_in_code}
+use Rattle.domain.specs.FactInCode.{fact_in_code}
+use Rattle.facts.proofs.ShowingLemmas.{registers_iff, registers_not_link, registers_not_offsets, registers_not_mq, registers_not_sites}
 use Rattle.facts.proofs.EntailLemmas.{not_both}
 use Rattle.facts.proofs.place.Place.entails_registers.Goals as goal
 

@@ -1,9 +1,9 @@
 use Rattle.std.proofs.Common.{◌≡◌, true}
 use Rattle.wordset.specs.Lanes.{words}
 use Rattle.wordset.proofs.IterLemmas.{Passed}
-use Rattle.domain.specs.Sums.FactInCode.{fact_in_code}
-use Rattle.facts.specs.Sums.Conditions.{CountsItsReturn}
-use Rattle.facts.specs.Sums.PlaceInCode.{place_in_code, meaning_in}
+use Rattle.domain.specs.FactInCode.{fact_in_code}
+use Rattle.facts.specs.Conditions.{CountsItsReturn}
+use Rattle.facts.specs.PlaceInCode.{place_in_code, meaning_in}
 use Rattle.facts.proofs.place.Place.entries_are_kept.Given as goal
 
 abbrev pub invariant-loop-cell : goal.invariant-loop-cell

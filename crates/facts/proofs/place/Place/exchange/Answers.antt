@@ -1,13 +1,13 @@
 use Rattle.std.proofs.Common.{◌∙◌, sym, ap, refl}
 use Rattle.wordset.specs.Words.{Words, one, plus, all_words, ors}
 use Rattle.wordset.specs.Lanes.{words}
-use Rattle.domain.specs.Sums.FactInCode.{fact_in_code}
-use Rattle.facts.specs.Sums.PlaceInCode.{place_in_code}
+use Rattle.domain.specs.FactInCode.{fact_in_code}
+use Rattle.facts.specs.PlaceInCode.{place_in_code}
 use Rattle.instruct.specs.Operates.{Mql, Mqa, Swp, Cam, ClaMqa, ClaSwp}
-use Rattle.domain.specs.Facts.{Ac}
-use Rattle.domain.specs.Sums.Moves.{taking}
-use Rattle.facts.specs.Sums.Outcomes.{ac_of, goes, with_mq}
-use Rattle.facts.proofs.Sums.DeviceLemmas.{exchange_is}
+use Rattle.domain.specs.Locations.{Ac}
+use Rattle.domain.specs.Moves.{taking}
+use Rattle.facts.specs.Outcomes.{ac_of, goes, with_mq}
+use Rattle.facts.proofs.DeviceLemmas.{exchange_is}
 use Rattle.facts.proofs.place.Place.exchange.Goals as goal
 
 pub returns-in-3857 : goal.returns-in-3857

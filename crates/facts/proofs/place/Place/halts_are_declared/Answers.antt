@@ -1,4 +1,4 @@
-use Rattle.facts.specs.Sums.PlaceInCode.{place_in_code}
+use Rattle.facts.specs.PlaceInCode.{place_in_code}
 use Rattle.std.proofs.Common.{◌∙◌, sym}
 use Rattle.facts.proofs.AskedLemmas.{no_reference, halts_nowhere, halts_not, halts_at}
 use Rattle.wordset.proofs.Tests.{or_left}

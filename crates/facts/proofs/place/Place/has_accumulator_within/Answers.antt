@@ -1,7 +1,7 @@
 use Rattle.std.proofs.Common.{refl}
-use Rattle.facts.specs.Sums.PlaceInCode.{place_in_code}
-use Rattle.domain.specs.Facts.{Ac}
-use Rattle.facts.proofs.Sums.ShowingLemmas.{known_inside}
+use Rattle.facts.specs.PlaceInCode.{place_in_code}
+use Rattle.domain.specs.Locations.{Ac}
+use Rattle.facts.proofs.ShowingLemmas.{known_inside}
 use Rattle.facts.proofs.place.Place.has_accumulator_within.Goals as goal
 
 pub returns-then-is_subset : goal.returns-then-is_subset

@@ -1,7 +1,7 @@
 use Rattle.std.proofs.Common.{refl}
-use Rattle.facts.specs.Sums.PlaceInCode.{place_in_code}
-use Rattle.domain.specs.Facts.{Cell}
-use Rattle.facts.proofs.Sums.ShowingLemmas.{known_inside}
+use Rattle.facts.specs.PlaceInCode.{place_in_code}
+use Rattle.domain.specs.Locations.{Cell}
+use Rattle.facts.proofs.ShowingLemmas.{known_inside}
 use Rattle.facts.proofs.place.Place.has_cell_within.Goals as goal
 
 pub returns-then-has_plainly_within : goal.returns-then-has_plainly_within

@@ -1,7 +1,7 @@
-use Rattle.facts.proofs.Sums.ShowingLemmas.{within_step, within_fails}
+use Rattle.facts.proofs.ShowingLemmas.{within_step, within_fails}
 use Rattle.facts.proofs.EntailLemmas.{not_both}
-use Rattle.facts.specs.Sums.PlaceInCode.{place_in_code}
-use Rattle.domain.specs.Sums.CellsInCode.{cell_set_of}
+use Rattle.facts.specs.PlaceInCode.{place_in_code}
+use Rattle.domain.specs.CellsInCode.{cell_set_of}
 use Rattle.facts.proofs.place.Place.has_each_within.Goals as goal
 
 pub returns-then-not-has_cell_within : goal.returns-then-not-has_cell_within

@@ -1,6 +1,6 @@
 use Rattle.std.proofs.Common.{◌≡◌, false, refl}
-use Rattle.facts.specs.Conditions.{is_call}
-use Rattle.facts.specs.Sums.PlaceInCode.{place_in_code}
+use Rattle.facts.specs.Instructions.{is_call}
+use Rattle.facts.specs.PlaceInCode.{place_in_code}
 use Rattle.facts.proofs.AskedLemmas.{no_reference, unless_memory}
 use Rattle.facts.proofs.AskedLemmas.{call_if}
 use Rattle.facts.proofs.place.Place.is_call.Goals as goal

@@ -1,10 +1,10 @@
 use Rattle.std.proofs.Common.{◌∙◌, ap, subst}
 use Rattle.std.specs.Prelude.{IsTrue, ◌↔◌}
-use Rattle.facts.specs.Sums.PlaceInCode.{place_in_code}
-use Rattle.domain.specs.Sums.Facts.{Fact}
-use Rattle.domain.specs.Sums.FactInCode.{fact_in_code, rules_of}
-use Rattle.facts.specs.Sums.Landing.{IsIdleUnder}
-use Rattle.facts.proofs.Sums.SplitLemmas.{both_idle, first_not_idle, never_idle}
+use Rattle.facts.specs.PlaceInCode.{place_in_code}
+use Rattle.domain.specs.Facts.{Fact}
+use Rattle.domain.specs.FactInCode.{fact_in_code, rules_of}
+use Rattle.facts.specs.Landing.{IsIdleUnder}
+use Rattle.facts.proofs.SplitLemmas.{both_idle, first_not_idle, never_idle}
 use Rattle.facts.proofs.EntailLemmas.{not_both}
 use Rattle.facts.proofs.place.Place.is_idle.Goals as goal
 

@@ -1,11 +1,11 @@
 use Rattle.std.proofs.Common.{◌∙◌, ℕ, subst, refl}
 use Rattle.std.specs.Prelude.{IsTrue, ◌↔◌}
-use Rattle.facts.specs.Sums.PlaceInCode.{place_in_code}
-use Rattle.domain.specs.Sums.Facts.{Fact}
-use Rattle.domain.specs.Facts.{Ac, Cell}
-use Rattle.facts.specs.Sums.Entailment.{IsSplit}
-use Rattle.facts.specs.Sums.Landing.{IsSplitBy, AllowAll, IsTakenWhole}
-use Rattle.facts.proofs.Sums.SplitLemmas.{split_iff}
+use Rattle.facts.specs.PlaceInCode.{place_in_code}
+use Rattle.domain.specs.Facts.{Fact}
+use Rattle.domain.specs.Locations.{Ac, Cell}
+use Rattle.facts.specs.Entailment.{IsSplit}
+use Rattle.facts.specs.Landing.{IsSplitBy, AllowAll, IsTakenWhole}
+use Rattle.facts.proofs.SplitLemmas.{split_iff}
 use Rattle.facts.proofs.EntailLemmas.{not_both}
 use Rattle.facts.proofs.place.Place.is_split.Goals as goal
 

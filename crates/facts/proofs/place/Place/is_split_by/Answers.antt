@@ -2,12 +2,12 @@ use Rattle.std.proofs.Common.{◌≡◌, ◌∙◌, ◌<◌, ℕ, true, ◌⊎�
 use Rattle.std.specs.Prelude.{IsTrue, ◌↔◌}
 use Rattle.wordset.specs.Lanes.{words}
 use Rattle.wordset.specs.Words.{Words, IsWithin}
-use Rattle.domain.specs.Meaning.{location_of}
-use Rattle.facts.specs.Sums.PlaceInCode.{place_in_code}
-use Rattle.domain.specs.Sums.FactInCode.{fact_in_code}
-use Rattle.domain.specs.Sums.Facts.{Fact}
-use Rattle.facts.specs.Sums.Landing.{TakesAt}
-use Rattle.facts.proofs.Sums.SplitLemmas.{none_taken, one_taken, all_taken}
+use Rattle.domain.specs.LocationsInCode.{location_of}
+use Rattle.facts.specs.PlaceInCode.{place_in_code}
+use Rattle.domain.specs.FactInCode.{fact_in_code}
+use Rattle.domain.specs.Facts.{Fact}
+use Rattle.facts.specs.Landing.{TakesAt}
+use Rattle.facts.proofs.SplitLemmas.{none_taken, one_taken, all_taken}
 use Rattle.facts.proofs.place.Place.is_split_by.Goals as goal
 
 pub loop-at-init : goal.loop-at-init

@@ -1,8 +1,8 @@
 use Rattle.std.proofs.Common.{◌≡◌}
 use Rattle.wordset.specs.Lanes.{words}
-use Rattle.domain.specs.Facts.{Cell}
-use Rattle.facts.specs.Sums.PlaceInCode.{place_in_code}
-use Rattle.facts.specs.Sums.Landing.{IsSplitBy}
+use Rattle.domain.specs.Locations.{Cell}
+use Rattle.facts.specs.PlaceInCode.{place_in_code}
+use Rattle.facts.specs.Landing.{IsSplitBy}
 use Rattle.wordset.proofs.IterLemmas.{Passed}
 use Rattle.facts.proofs.place.Place.is_split_by_some.Given as goal
 

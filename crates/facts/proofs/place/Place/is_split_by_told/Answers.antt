@@ -1,5 +1,5 @@
 use Rattle.std.proofs.Common.{arith}
-use Rattle.facts.proofs.Sums.SplitLemmas.{told_or_all}
+use Rattle.facts.proofs.SplitLemmas.{told_or_all}
 use Rattle.wordset.proofs.SetLemmas.{words_past}
 use Rattle.facts.proofs.place.Place.is_split_by_told.Goals as goal
 

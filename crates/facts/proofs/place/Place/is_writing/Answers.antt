@@ -1,9 +1,9 @@
 use Rattle.std.proofs.Common.{◌≡◌, subst, false}
 use Rattle.instruct.specs.Instructions.{operation_of}
-use Rattle.facts.specs.Sums.Conditions.{may_write}
-use Rattle.facts.specs.Sums.PlaceInCode.{place_in_code}
+use Rattle.facts.specs.Conditions.{may_write}
+use Rattle.facts.specs.PlaceInCode.{place_in_code}
 use Rattle.facts.proofs.AskedLemmas.{no_reference}
-use Rattle.facts.proofs.Sums.AskingLemmas.{refers_in, writes_none, no_store}
+use Rattle.facts.proofs.AskingLemmas.{refers_in, writes_none, no_store}
 use Rattle.facts.proofs.place.Place.is_writing.Goals as goal
 
 pub returns-then-not-is_reference : goal.returns-then-not-is_reference

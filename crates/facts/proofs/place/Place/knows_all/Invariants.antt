@@ -1,8 +1,8 @@
 use Rattle.std.proofs.Common.{drop, map}
 use Rattle.std.specs.Prelude.{◌↔◌}
-use Rattle.facts.specs.Sums.Entailment.{KnowsAll}
-use Rattle.facts.specs.Sums.PlaceInCode.{place_in_code}
-use Rattle.domain.specs.Sums.RelationsInCode.{relation_of}
+use Rattle.facts.specs.Entailment.{KnowsAll}
+use Rattle.facts.specs.PlaceInCode.{place_in_code}
+use Rattle.domain.specs.RelationsInCode.{relation_of}
 use Rattle.facts.proofs.place.Place.knows_all.Given as goal
 
 abbrev pub invariant-loop-relation : goal.invariant-loop-relation

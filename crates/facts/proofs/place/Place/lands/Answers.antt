@@ -1,10 +1,10 @@
 use Rattle.std.proofs.Common.{◌∙◌, ap, subst}
 use Rattle.std.specs.Prelude.{IsTrue, ◌↔◌}
-use Rattle.facts.specs.Sums.PlaceInCode.{place_in_code}
-use Rattle.domain.specs.Sums.Facts.{Fact}
-use Rattle.domain.specs.Sums.FactInCode.{fact_in_code, rules_of}
-use Rattle.facts.specs.Sums.Landing.{LandsUnder}
-use Rattle.facts.proofs.Sums.SplitLemmas.{both_land, first_fails, one_lands}
+use Rattle.facts.specs.PlaceInCode.{place_in_code}
+use Rattle.domain.specs.Facts.{Fact}
+use Rattle.domain.specs.FactInCode.{fact_in_code, rules_of}
+use Rattle.facts.specs.Landing.{LandsUnder}
+use Rattle.facts.proofs.SplitLemmas.{both_land, first_fails, one_lands}
 use Rattle.facts.proofs.EntailLemmas.{not_both}
 use Rattle.facts.proofs.place.Place.lands.Goals as goal
 

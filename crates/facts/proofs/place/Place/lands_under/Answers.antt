@@ -1,9 +1,9 @@
 use Rattle.std.proofs.Common.{◌∙◌, sym, ap}
 use Rattle.wordset.specs.Words.{Words}
-use Rattle.facts.specs.Sums.PlaceInCode.{place_in_code}
-use Rattle.facts.specs.Sums.PartInCode.{part_in_code}
-use Rattle.domain.specs.Sums.FactInCode.{fact_in_code}
-use Rattle.facts.proofs.Sums.SplitLemmas.{no_link, under_link}
+use Rattle.facts.specs.PlaceInCode.{place_in_code}
+use Rattle.facts.specs.PartInCode.{part_in_code}
+use Rattle.domain.specs.FactInCode.{fact_in_code}
+use Rattle.facts.proofs.SplitLemmas.{no_link, under_link}
 use Rattle.facts.proofs.place.Place.lands_under.Goals as goal
 
 pub returns-then-not-contains-clause-lands : goal.returns-then-not-contains-clause-lands

@@ -1,9 +1,9 @@
 use Rattle.std.proofs.Common.{◌∙◌, ap}
 use Rattle.wordset.specs.Words.{one, all_words}
-use Rattle.domain.specs.Sums.Facts.{Fact}
-use Rattle.domain.specs.Sums.FactInCode.{fact_in_code}
-use Rattle.facts.specs.Sums.PlaceInCode.{place_in_code}
-use Rattle.facts.specs.Sums.Outcomes.{goes}
+use Rattle.domain.specs.Facts.{Fact}
+use Rattle.domain.specs.FactInCode.{fact_in_code}
+use Rattle.facts.specs.PlaceInCode.{place_in_code}
+use Rattle.facts.specs.Outcomes.{goes}
 use Rattle.facts.proofs.place.Place.leave.Goals as goal
 
 pub returns : goal.returns

@@ -1,11 +1,11 @@
 use Rattle.std.proofs.Common.{◌≡◌, false}
 use Rattle.wordset.specs.Lanes.{words}
 use Rattle.wordset.proofs.IterLemmas.{Passed}
-use Rattle.domain.specs.Facts.{Cell}
-use Rattle.domain.specs.Sums.Narrowing.{words_known}
-use Rattle.domain.specs.Sums.FactInCode.{fact_in_code}
-use Rattle.facts.specs.Sums.Shaped.{has_last_or_other}
-use Rattle.facts.specs.Sums.PlaceInCode.{place_in_code}
+use Rattle.domain.specs.Locations.{Cell}
+use Rattle.domain.specs.Narrowing.{words_known}
+use Rattle.domain.specs.FactInCode.{fact_in_code}
+use Rattle.facts.specs.Shaped.{has_last_or_other}
+use Rattle.facts.specs.PlaceInCode.{place_in_code}
 use Rattle.facts.proofs.place.Place.may_some_hold.Given as goal
 
 abbrev pub invariant-loop-cell : goal.invariant-loop-cell

@@ -1,15 +1,15 @@
 use Rattle.std.proofs.Common.{◌∙◌, sym, ap}
 use Rattle.wordset.specs.Words.{Words, one, all_words}
-use Rattle.domain.specs.Sums.Facts.{Fact}
-use Rattle.domain.specs.Sums.FactInCode.{fact_in_code, rules_of}
-use Rattle.facts.specs.Sums.PlaceInCode.{place_in_code}
+use Rattle.domain.specs.Facts.{Fact}
+use Rattle.domain.specs.FactInCode.{fact_in_code, rules_of}
+use Rattle.facts.specs.PlaceInCode.{place_in_code}
 use Rattle.wordset.specs.Words.{images}
-use Rattle.domain.specs.Facts.{Ac}
-use Rattle.domain.specs.Sums.Adding.{with_name}
-use Rattle.domain.specs.Sums.Facts.{OfEquations}
-use Rattle.facts.specs.Sums.Outcomes.{goes, ac_of, with_link}
-use Rattle.facts.specs.Sums.Operations.{all_operated1, operated, operated_under, ac_after, link_after}
-use Rattle.facts.proofs.Sums.ComesLemmas.{both_are, none_after}
+use Rattle.domain.specs.Locations.{Ac}
+use Rattle.domain.specs.Adding.{with_name}
+use Rattle.domain.specs.Facts.{OfEquations}
+use Rattle.facts.specs.Outcomes.{goes, ac_of, with_link}
+use Rattle.facts.specs.Operations.{all_operated1, operated, operated_under, ac_after, link_after}
+use Rattle.facts.proofs.ComesLemmas.{both_are, none_after}
 use Rattle.facts.proofs.place.Place.operate.Goals as goal
 
 pub returns-in-OfSums : goal.returns-in-OfSums

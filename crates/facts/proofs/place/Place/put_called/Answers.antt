@@ -1,11 +1,11 @@
 use Rattle.std.proofs.Common.{◌≡◌, subst, refl}
 use Rattle.wordset.specs.Lanes.{words}
 use Rattle.instruct.specs.Instructions.{operation_of}
-use Rattle.domain.specs.Sums.FactInCode.{fact_in_code}
-use Rattle.facts.specs.Sums.PlaceInCode.{place_in_code}
+use Rattle.domain.specs.FactInCode.{fact_in_code}
+use Rattle.facts.specs.PlaceInCode.{place_in_code}
 use Rattle.facts.proofs.AskedLemmas.{no_reference, no_words}
-use Rattle.facts.specs.Sums.Conditions.{called}
-use Rattle.facts.proofs.Sums.AskingLemmas.{refers_in, calls_nothing, not_called, calls_targets}
+use Rattle.facts.specs.Conditions.{called}
+use Rattle.facts.proofs.AskingLemmas.{refers_in, calls_nothing, not_called, calls_targets}
 use Rattle.facts.proofs.place.Place.put_called.Goals as goal
 
 pub returns-then-not-is_reference : goal.returns-then-not-is_reference

@@ -1,12 +1,12 @@
 use Rattle.std.proofs.Common.{◌∙◌, ap}
 use Rattle.wordset.specs.Words.{Words, shifted}
-use Rattle.domain.specs.Facts.{Cell}
-use Rattle.domain.specs.Sums.FactInCode.{fact_in_code}
-use Rattle.domain.specs.Sums.Narrowing.{words_known}
-use Rattle.facts.specs.Sums.PlaceInCode.{place_in_code}
-use Rattle.facts.proofs.Sums.ComesLemmas.{counted_is}
-use Rattle.facts.proofs.Sums.CountedLemmas.{as_many_chains}
-use Rattle.domain.specs.Sums.Facts.{Fact}
+use Rattle.domain.specs.Locations.{Cell}
+use Rattle.domain.specs.FactInCode.{fact_in_code}
+use Rattle.domain.specs.Narrowing.{words_known}
+use Rattle.facts.specs.PlaceInCode.{place_in_code}
+use Rattle.facts.proofs.ComesLemmas.{counted_is}
+use Rattle.facts.proofs.CountedLemmas.{as_many_chains}
+use Rattle.domain.specs.Facts.{Fact}
 use Rattle.facts.proofs.place.Place.put_counted.Goals as goal
 
 pub returns-clause-fact : goal.returns-clause-fact

@@ -1,11 +1,11 @@
 use Rattle.std.proofs.Common.{◌≡◌, subst}
 use Rattle.wordset.specs.Lanes.{words}
 use Rattle.instruct.specs.Instructions.{operation_of}
-use Rattle.domain.specs.Sums.FactInCode.{fact_in_code}
-use Rattle.facts.specs.Sums.PlaceInCode.{place_in_code}
+use Rattle.domain.specs.FactInCode.{fact_in_code}
+use Rattle.facts.specs.PlaceInCode.{place_in_code}
 use Rattle.facts.proofs.AskedLemmas.{no_reference, no_words}
-use Rattle.facts.specs.Sums.Conditions.{may_read}
-use Rattle.facts.proofs.Sums.AskingLemmas.{refers_in, reads_none, reads_pointer, reads_both}
+use Rattle.facts.specs.Conditions.{may_read}
+use Rattle.facts.proofs.AskingLemmas.{refers_in, reads_none, reads_pointer, reads_both}
 use Rattle.facts.proofs.place.Place.put_reads.Goals as goal
 
 pub returns-then-not-is_reference : goal.returns-then-not-is_reference

@@ -1,10 +1,10 @@
 use Rattle.std.proofs.Common.{◌∙◌, ap, sym}
 use Rattle.wordset.specs.Words.{Words, shifted}
-use Rattle.domain.specs.Facts.{Cell}
-use Rattle.domain.specs.Sums.FactInCode.{fact_in_code}
-use Rattle.domain.specs.Sums.Narrowing.{words_known}
-use Rattle.facts.specs.Sums.PlaceInCode.{place_in_code}
-use Rattle.facts.proofs.Sums.OperandLemmas.{counted_here}
+use Rattle.domain.specs.Locations.{Cell}
+use Rattle.domain.specs.FactInCode.{fact_in_code}
+use Rattle.domain.specs.Narrowing.{words_known}
+use Rattle.facts.specs.PlaceInCode.{place_in_code}
+use Rattle.facts.proofs.OperandLemmas.{counted_here}
 use Rattle.facts.proofs.place.Place.put_targets.Goals as goal
 
 pub returns-then-steps_pointer : goal.returns-then-steps_pointer
@@ -17,4 +17,4 @@ pub returns-then-indirect : goal.returns-then-indirect
 returns-then-indirect g c = rw (sym c.steps_pointer.ensures ∙ c.if-steps_pointer.false, c.if-indirect.true) c.put_words_in.ensures
 
 pub returns : goal.returns
-returns g c = rw (sym c.steps_pointer.ensures ∙ c.if-steps_pointer.false, c.if-indirect.false) c.one.ensures
+returns g c = rw (sym c.steps_pointer.ensures ∙ c.if-steps_pointer.false, c.if-indirect.false) c.put_one.ensures

@@ -1,8 +1,8 @@
 use Rattle.std.proofs.Common.{◌∙◌, sym}
 use Rattle.wordset.specs.Lanes.{words}
-use Rattle.domain.specs.Sums.FactInCode.{fact_in_code}
-use Rattle.facts.specs.Sums.PlaceInCode.{place_in_code}
-use Rattle.facts.proofs.Sums.OperandLemmas.{words_of_only}
+use Rattle.domain.specs.FactInCode.{fact_in_code}
+use Rattle.facts.specs.PlaceInCode.{place_in_code}
+use Rattle.facts.proofs.OperandLemmas.{words_of_only}
 use Rattle.facts.proofs.place.Place.put_words_at.Goals as goal
 
 pub returns-in-Some : goal.returns-in-Some

@@ -1,9 +1,9 @@
 use Rattle.std.proofs.Common.{◌≡◌, ◌⊎◌, Some}
 use Rattle.declaration.specs.Declaration.{IsListed}
-use Rattle.domain.specs.Sums.FactInCode.{fact_in_code}
-use Rattle.facts.specs.Sums.PlaceInCode.{place_in_code, meaning_in}
+use Rattle.domain.specs.FactInCode.{fact_in_code}
+use Rattle.facts.specs.PlaceInCode.{place_in_code, meaning_in}
 use Rattle.facts.proofs.AskedLemmas.{over}
-use Rattle.facts.proofs.Sums.AskingLemmas.{reads_unlisted}
+use Rattle.facts.proofs.AskingLemmas.{reads_unlisted}
 use Rattle.facts.proofs.place.Place.reads_are_listed.Goals as goal
 
 pub returns-then-not-reads_listed : goal.returns-then-not-reads_listed

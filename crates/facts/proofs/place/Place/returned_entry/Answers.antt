@@ -1,6 +1,6 @@
 use Rattle.std.proofs.Common.{◌≡◌, ◌∙◌, sym, true, false, refl}
 use Rattle.instruct.specs.Bits.{is_indirect, named_cell}
-use Rattle.facts.specs.Sums.PlaceInCode.{place_in_code}
+use Rattle.facts.specs.PlaceInCode.{place_in_code}
 use Rattle.facts.proofs.AskedLemmas.{no_reference}
 use Rattle.facts.proofs.AskedLemmas.{returned_none, returns_if}
 use Rattle.facts.proofs.place.Place.returned_entry.Goals as goal

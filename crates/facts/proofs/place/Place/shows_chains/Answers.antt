@@ -1,7 +1,7 @@
-use Rattle.facts.proofs.Sums.ShowingLemmas.{chain_step, chain_fails}
+use Rattle.facts.proofs.ShowingLemmas.{chain_step, chain_fails}
 use Rattle.facts.proofs.EntailLemmas.{not_both}
-use Rattle.facts.specs.Sums.PlaceInCode.{place_in_code}
-use Rattle.domain.specs.Sums.ChainsInCode.{chain_of}
+use Rattle.facts.specs.PlaceInCode.{place_in_code}
+use Rattle.domain.specs.ChainsInCode.{chain_of}
 use Rattle.facts.proofs.place.Place.shows_chains.Goals as goal
 
 pub returns-then-not-shows_chain : goal.returns-then-not-shows_chain

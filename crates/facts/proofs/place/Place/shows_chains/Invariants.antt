@@ -1,8 +1,8 @@
 use Rattle.std.proofs.Common.{drop, map}
 use Rattle.std.specs.Prelude.{◌↔◌}
-use Rattle.facts.specs.Sums.Entailment.{ShowsChains}
-use Rattle.facts.specs.Sums.PlaceInCode.{place_in_code}
-use Rattle.domain.specs.Sums.ChainsInCode.{chain_of}
+use Rattle.facts.specs.Entailment.{ShowsChains}
+use Rattle.facts.specs.PlaceInCode.{place_in_code}
+use Rattle.domain.specs.ChainsInCode.{chain_of}
 use Rattle.facts.proofs.place.Place.shows_chains.Given as goal
 
 abbrev pub invariant-loop-chain : goal.invariant-loop-chain

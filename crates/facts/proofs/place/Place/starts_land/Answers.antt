@@ -1,13 +1,13 @@
 use Rattle.std.proofs.Common.{◌∙◌, ap, refl, subst}
 use Rattle.std.specs.Prelude.{IsTrue, ◌↔◌}
-use Rattle.facts.specs.Sums.PlaceInCode.{place_in_code}
+use Rattle.facts.specs.PlaceInCode.{place_in_code}
 use Rattle.wordset.specs.Words.{Words}
-use Rattle.domain.specs.Sums.Facts.{Fact}
-use Rattle.domain.specs.Sums.FactInCode.{rules_of}
-use Rattle.facts.specs.Sums.Entailment.{EntailsOne}
-use Rattle.facts.specs.Sums.Starts.{start_fact}
-use Rattle.facts.proofs.Sums.SplitLemmas.{both_parts_land, first_part_fails, one_lands}
-use Rattle.facts.proofs.Sums.BeginningLemmas.{begun}
+use Rattle.domain.specs.Facts.{Fact}
+use Rattle.domain.specs.FactInCode.{rules_of}
+use Rattle.facts.specs.Entailment.{EntailsOne}
+use Rattle.facts.specs.Starts.{start_fact}
+use Rattle.facts.proofs.SplitLemmas.{both_parts_land, first_part_fails, one_lands}
+use Rattle.facts.proofs.BeginningLemmas.{begun}
 use Rattle.facts.proofs.EntailLemmas.{not_both}
 use Rattle.facts.proofs.place.Place.starts_land.Goals as goal
 

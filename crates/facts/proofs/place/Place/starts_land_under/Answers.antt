@@ -1,9 +1,9 @@
 use Rattle.std.proofs.Common.{sym, subst, ◌∙◌}
 use Rattle.std.specs.Prelude.{IsTrue, ◌↔◌}
-use Rattle.domain.specs.Sums.Facts.{Fact}
-use Rattle.facts.specs.Sums.Entailment.{PartLands}
-use Rattle.facts.specs.Sums.PlaceInCode.{place_in_code}
-use Rattle.facts.proofs.Sums.BeginningLemmas.{one_link_begun}
+use Rattle.domain.specs.Facts.{Fact}
+use Rattle.facts.specs.Entailment.{PartLands}
+use Rattle.facts.specs.PlaceInCode.{place_in_code}
+use Rattle.facts.proofs.BeginningLemmas.{one_link_begun}
 use Rattle.facts.proofs.place.Place.starts_land_under.Goals as goal
 
 pub returns : goal.returns

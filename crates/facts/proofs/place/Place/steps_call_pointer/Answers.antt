@@ -1,6 +1,6 @@
 use Rattle.std.proofs.Common.{◌∙◌, sym, ap}
-use Rattle.facts.specs.Conditions.{calls_through_index}
-use Rattle.facts.specs.Sums.PlaceInCode.{place_in_code}
+use Rattle.facts.specs.Instructions.{calls_through_index}
+use Rattle.facts.specs.PlaceInCode.{place_in_code}
 use Rattle.facts.proofs.AskedLemmas.{calls_none, call_meaning}
 use Rattle.facts.proofs.place.Place.steps_call_pointer.Goals as goal
 

@@ -1,12 +1,12 @@
 use Rattle.std.proofs.Common.{◌∙◌, ap}
 use Rattle.wordset.specs.Words.{one, all_words}
 use Rattle.wordset.specs.Lanes.{words}
-use Rattle.domain.specs.Sums.Facts.{Fact}
-use Rattle.domain.specs.Sums.FactInCode.{fact_in_code}
-use Rattle.facts.specs.Sums.PlaceInCode.{place_in_code}
-use Rattle.domain.specs.Facts.{Ac}
-use Rattle.domain.specs.Sums.Moves.{taking}
-use Rattle.facts.specs.Sums.Outcomes.{goes, with_mq}
+use Rattle.domain.specs.Facts.{Fact}
+use Rattle.domain.specs.FactInCode.{fact_in_code}
+use Rattle.facts.specs.PlaceInCode.{place_in_code}
+use Rattle.domain.specs.Locations.{Ac}
+use Rattle.domain.specs.Moves.{taking}
+use Rattle.facts.specs.Outcomes.{goes, with_mq}
 use Rattle.facts.proofs.place.Place.take.Goals as goal
 
 pub returns : goal.returns

@@ -1,8 +1,8 @@
 use Rattle.std.proofs.Common.{ap, ◌∙◌, arith}
 use Rattle.wordset.specs.Words.{Words}
 use Rattle.peripherals.specs.Loading.{image_of}
-use Rattle.domain.specs.Sums.InCode.{sum_of}
-use Rattle.facts.proofs.Sums.ShowingLemmas.{said_given}
+use Rattle.domain.specs.InCode.{sum_of}
+use Rattle.facts.proofs.ShowingLemmas.{said_given}
 use Rattle.facts.proofs.place.Place.tells_within.Goals as goal
 
 pub returns : goal.returns

@@ -1,10 +1,10 @@
 use Rattle.std.proofs.Common.{◌∙◌, ap}
 use Rattle.wordset.specs.Words.{one, all_words}
-use Rattle.domain.specs.Sums.FactInCode.{fact_in_code}
-use Rattle.facts.specs.Sums.PlaceInCode.{place_in_code}
-use Rattle.facts.specs.Sums.Outcomes.{goes}
+use Rattle.domain.specs.FactInCode.{fact_in_code}
+use Rattle.facts.specs.PlaceInCode.{place_in_code}
+use Rattle.facts.specs.Outcomes.{goes}
 use Rattle.facts.proofs.OutcomeLemmas.{plus_two}
-use Rattle.facts.proofs.Sums.ComesLemmas.{both_are}
+use Rattle.facts.proofs.ComesLemmas.{both_are}
 use Rattle.facts.proofs.place.Place.test_flag.Goals as goal
 
 pub returns : goal.returns

@@ -1,11 +1,11 @@
 use Rattle.std.proofs.Common.{◌++◌, drop, ap, ◌∙◌, arith}
 use Rattle.wordset.specs.Lanes.{words}
 use Rattle.peripherals.specs.Loading.{image_of}
-use Rattle.domain.specs.Sums.Terms.{Sum}
-use Rattle.domain.specs.Sums.InCode.{sum_of, summand_of}
+use Rattle.domain.specs.Terms.{Sum}
+use Rattle.domain.specs.InCode.{sum_of, summand_of}
 use Rattle.domain.proofs.SaidLemmas.{said_none}
-use Rattle.facts.specs.Sums.StartInCode.{start_in_code}
-use Rattle.facts.proofs.Sums.BeginningLemmas.{last_said, more_said}
+use Rattle.facts.specs.StartInCode.{start_in_code}
+use Rattle.facts.proofs.BeginningLemmas.{last_said, more_said}
 use Rattle.facts.proofs.start_fact.StartFact.+put_said_from.Goals as goal
 
 pub returns-then-start-len : goal.returns-then-start-len

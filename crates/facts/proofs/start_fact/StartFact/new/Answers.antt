@@ -2,9 +2,9 @@ use Rattle.std.proofs.Common.{◌∙◌, ap}
 use Rattle.wordset.specs.Words.{Words}
 use Rattle.wordset.specs.Links.{links_of}
 use Rattle.peripherals.specs.Loading.{image_of}
-use Rattle.domain.specs.Facts.{Ac}
-use Rattle.domain.specs.Sums.Adding.{with_name}
-use Rattle.facts.proofs.Sums.BeginningLemmas.{begun, any_ac}
+use Rattle.domain.specs.Locations.{Ac}
+use Rattle.domain.specs.Adding.{with_name}
+use Rattle.facts.proofs.BeginningLemmas.{begun, any_ac}
 use Rattle.facts.proofs.start_fact.StartFact.new.Goals as goal
 
 pub returns : goal.returns

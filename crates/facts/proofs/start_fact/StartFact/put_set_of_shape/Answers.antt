@@ -1,10 +1,10 @@
 use Rattle.std.proofs.Common.{refl, ap, ◌∙◌, arith}
-use Rattle.domain.specs.Sums.Terms.{Summand}
-use Rattle.domain.specs.Sums.Adding.{set_of_term}
-use Rattle.domain.specs.Sums.InCode.{sum_of}
+use Rattle.domain.specs.Terms.{Summand}
+use Rattle.domain.specs.Adding.{set_of_term}
+use Rattle.domain.specs.InCode.{sum_of}
 use Rattle.domain.proofs.FactLemmas.{given_of_one}
-use Rattle.facts.specs.Sums.StartInCode.{start_in_code}
-use Rattle.facts.proofs.Sums.BeginningLemmas.{not_of_one}
+use Rattle.facts.specs.StartInCode.{start_in_code}
+use Rattle.facts.proofs.BeginningLemmas.{not_of_one}
 use Rattle.facts.proofs.start_fact.StartFact.put_set_of_shape.Goals as goal
 
 pub returns-then-len-ne1 : goal.returns-then-len-ne1

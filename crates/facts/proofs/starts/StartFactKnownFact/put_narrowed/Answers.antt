@@ -1,8 +1,8 @@
 use Rattle.std.proofs.Common.{sym, ap, ◌∙◌}
 use Rattle.peripherals.specs.Loading.{image_of}
-use Rattle.domain.specs.Meaning.{location_of}
-use Rattle.domain.specs.Sums.Facts.{Fact}
-use Rattle.facts.proofs.Sums.BeginningLemmas.{narrowed_plain}
+use Rattle.domain.specs.LocationsInCode.{location_of}
+use Rattle.domain.specs.Facts.{Fact}
+use Rattle.facts.proofs.BeginningLemmas.{narrowed_plain}
 use Rattle.facts.proofs.starts.StartFactKnownFact.put_narrowed.Goals as goal
 
 pub returns : goal.returns

@@ -2,8 +2,8 @@ use Rattle.std.proofs.Common.{sym, ◌∙◌, refl}
 use Rattle.std.proofs.lemmas.Bool.{true≢false}
 use Rattle.wordset.specs.Lanes.{words}
 use Rattle.peripherals.specs.Loading.{image_of}
-use Rattle.domain.specs.Meaning.{location_of}
-use Rattle.facts.proofs.Sums.BeginningLemmas.{chosen_there}
+use Rattle.domain.specs.LocationsInCode.{location_of}
+use Rattle.facts.proofs.BeginningLemmas.{chosen_there}
 use Rattle.facts.proofs.starts.StartFactKnownFact.put_set_of.Goals as goal
 
 pub returns-then-is_same_location : goal.returns-then-is_same_location

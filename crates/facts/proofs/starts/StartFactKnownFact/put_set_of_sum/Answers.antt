@@ -1,9 +1,9 @@
 use Rattle.std.proofs.Common.{ap, ◌∙◌}
 use Rattle.wordset.specs.Words.{Words}
-use Rattle.domain.specs.Sums.Adding.{times}
-use Rattle.domain.specs.Sums.InCode.{sum_of}
+use Rattle.domain.specs.Adding.{times}
+use Rattle.domain.specs.InCode.{sum_of}
 use Rattle.domain.proofs.FactLemmas.{nothing_given, shape_given}
-use Rattle.facts.specs.Sums.StartInCode.{start_in_code}
+use Rattle.facts.specs.StartInCode.{start_in_code}
 use Rattle.facts.proofs.starts.StartFactKnownFact.put_set_of_sum.Goals as goal
 
 pub returns-in-None : goal.returns-in-None

@@ -1,8 +1,8 @@
 use Rattle.std.proofs.Common.{subst}
 use Rattle.std.specs.Prelude.{IsTrue, ◌↔◌}
-use Rattle.domain.specs.Sums.Facts.{Fact}
-use Rattle.facts.specs.Sums.Entailment.{EntailsOne}
-use Rattle.facts.specs.Sums.PlaceInCode.{place_in_code}
+use Rattle.domain.specs.Facts.{Fact}
+use Rattle.facts.specs.Entailment.{EntailsOne}
+use Rattle.facts.specs.PlaceInCode.{place_in_code}
 use Rattle.facts.proofs.starts.StartPartPart.entails_one.Goals as goal
 
 pub returns : goal.returns

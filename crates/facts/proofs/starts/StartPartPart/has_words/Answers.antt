@@ -1,4 +1,4 @@
-use Rattle.facts.proofs.Sums.BeginningLemmas.{start_beyond, start_words}
+use Rattle.facts.proofs.BeginningLemmas.{start_beyond, start_words}
 use Rattle.facts.proofs.starts.StartPartPart.has_words.Goals as goal
 
 pub returns-clause-beyond : goal.returns-clause-beyond

@@ -2,7 +2,7 @@ use Rattle.std.proofs.Common.{sym, ◌∙◌}
 use Rattle.wordset.specs.Links.{links_of}
 use Rattle.peripherals.specs.Loading.{image_of}
 use Rattle.facts.proofs.StartLemmas.{tape_words}
-use Rattle.facts.proofs.Sums.BeginningLemmas.{begun_void_is}
+use Rattle.facts.proofs.BeginningLemmas.{begun_void_is}
 use Rattle.facts.proofs.starts.StartPartPart.is_none.Goals as goal
 
 pub returns : goal.returns

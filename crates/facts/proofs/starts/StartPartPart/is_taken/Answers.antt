@@ -3,14 +3,14 @@ use Rattle.wordset.specs.Words.{Words, meet}
 use Rattle.wordset.specs.Lanes.{words}
 use Rattle.wordset.specs.Links.{links_of}
 use Rattle.peripherals.specs.Loading.{image_of}
-use Rattle.domain.specs.Meaning.{location_of}
-use Rattle.domain.specs.Sums.FactInCode.{fact_in_code}
-use Rattle.facts.specs.Sums.PlaceInCode.{place_in_code}
-use Rattle.facts.specs.Sums.StartInCode.{start_in_code}
-use Rattle.facts.specs.Sums.Starts.{words_at_start}
+use Rattle.domain.specs.LocationsInCode.{location_of}
+use Rattle.domain.specs.FactInCode.{fact_in_code}
+use Rattle.facts.specs.PlaceInCode.{place_in_code}
+use Rattle.facts.specs.StartInCode.{start_in_code}
+use Rattle.facts.specs.Starts.{words_at_start}
 use Rattle.facts.proofs.StartLemmas.{tape_words}
-use Rattle.facts.proofs.Sums.RowsLemmas.{some_there, none_there}
-use Rattle.facts.proofs.Sums.BeginningLemmas.{unlinked_taken, empty_taken, entailed_taken, not_linked, linked}
+use Rattle.facts.proofs.RowsLemmas.{some_there, none_there}
+use Rattle.facts.proofs.BeginningLemmas.{unlinked_taken, empty_taken, entailed_taken, not_linked, linked}
 use Rattle.facts.proofs.starts.StartPartPart.is_taken.Goals as goal
 
 pub returns-then-is_empty-clause-taken : goal.returns-then-is_empty-clause-taken

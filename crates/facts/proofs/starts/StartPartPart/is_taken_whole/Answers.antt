@@ -1,12 +1,12 @@
 use Rattle.std.proofs.Common.{sym, ap, ◌∙◌}
 use Rattle.wordset.specs.Links.{links_of}
 use Rattle.peripherals.specs.Loading.{image_of}
-use Rattle.domain.specs.Sums.Adding.{is_void}
-use Rattle.facts.specs.Sums.PlaceInCode.{place_in_code}
-use Rattle.facts.specs.Sums.StartInCode.{start_in_code}
+use Rattle.domain.specs.Adding.{is_void}
+use Rattle.facts.specs.PlaceInCode.{place_in_code}
+use Rattle.facts.specs.StartInCode.{start_in_code}
 use Rattle.facts.proofs.StartLemmas.{tape_words}
-use Rattle.facts.proofs.Sums.SplitLemmas.{void_whole, some_whole}
-use Rattle.facts.proofs.Sums.BeginningLemmas.{begun, begun_void_is, whole_begun}
+use Rattle.facts.proofs.SplitLemmas.{void_whole, some_whole}
+use Rattle.facts.proofs.BeginningLemmas.{begun, begun_void_is, whole_begun}
 use Rattle.facts.proofs.starts.StartPartPart.is_taken_whole.Goals as goal
 
 pub returns-then-is_empty-clause-taken : goal.returns-then-is_empty-clause-taken

@@ -1,9 +1,9 @@
 use Rattle.std.proofs.Common.{rules, []}
 use Rattle.std.specs.Prelude.{map}
 use Rattle.wordset.specs.Lanes.{words}
-use Rattle.domain.specs.Sums.CellsInCode.{cell_sets_of}
-use Rattle.domain.specs.Sums.RelationsInCode.{relation_of, relations_of}
-use Rattle.domain.specs.Sums.FactInCode.{fact_in_code, names_words}
+use Rattle.domain.specs.CellsInCode.{cell_sets_of}
+use Rattle.domain.specs.RelationsInCode.{relation_of, relations_of}
+use Rattle.domain.specs.FactInCode.{fact_in_code, names_words}
 use Rattle.fixpoint.proofs.KeptLemmas.{all_said}
 use Rattle.fixpoint.proofs.invariant.Invariant.fact_into.Goals as goal
 

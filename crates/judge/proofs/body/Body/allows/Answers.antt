@@ -1,5 +1,5 @@
-use Rattle.domain.specs.Sums.FactInCode.{fact_in_code, rules_of}
-use Rattle.judge.proofs.Sums.LineLemmas.{allows_none, allows_some}
+use Rattle.domain.specs.FactInCode.{fact_in_code, rules_of}
+use Rattle.judge.proofs.LineLemmas.{allows_none, allows_some}
 use Rattle.judge.proofs.body.Body.allows.Goals as goal
 
 pub returns-in-None : goal.returns-in-None

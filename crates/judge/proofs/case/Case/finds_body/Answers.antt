@@ -1,6 +1,6 @@
 use Rattle.std.proofs.Common.{◌∙◌, sym}
-use Rattle.judge.specs.Sums.Judged.{case_kept}
-use Rattle.judge.proofs.Sums.LineLemmas.{nowhere, is_unlisted}
+use Rattle.judge.specs.Judged.{case_kept}
+use Rattle.judge.proofs.LineLemmas.{nowhere, is_unlisted}
 use Rattle.judge.proofs.case.Case.finds_body.Goals as goal
 
 pub returns-in_default-clause-nowhere : goal.returns-in_default-clause-nowhere

@@ -1,6 +1,6 @@
 use Rattle.std.proofs.Common.{arith}
-use Rattle.judge.specs.Sums.Judged.{case_kept}
-use Rattle.judge.proofs.Sums.AskedLemmas.{none_yet, is_not_placed, one_more, all_asked}
+use Rattle.judge.specs.Judged.{case_kept}
+use Rattle.judge.proofs.AskedLemmas.{none_yet, is_not_placed, one_more, all_asked}
 use Rattle.judge.proofs.case.Case.first_place.Goals as goal
 
 pub loop-index-init : goal.loop-index-init

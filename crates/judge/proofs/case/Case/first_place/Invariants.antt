@@ -1,5 +1,5 @@
-use Rattle.judge.specs.Sums.Judged.{case_kept}
-use Rattle.judge.proofs.Sums.AskedLemmas.{SoFar}
+use Rattle.judge.specs.Judged.{case_kept}
+use Rattle.judge.proofs.AskedLemmas.{SoFar}
 use Rattle.judge.proofs.case.Case.first_place.Given as goal
 
 abbrev pub invariant-loop-index : goal.invariant-loop-index

@@ -1,5 +1,5 @@
 use Rattle.std.proofs.Common.{arith}
-use Rattle.judge.proofs.Sums.ClaimsLemmas.{counted_all, counted_more, counted_none}
+use Rattle.judge.proofs.ClaimsLemmas.{counted_all, counted_more, counted_none}
 use Rattle.judge.proofs.claims.CertificateClaims.count_facts.Goals as goal
 
 pub loop-at-init : goal.loop-at-init

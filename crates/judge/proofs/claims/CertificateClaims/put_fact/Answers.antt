@@ -1,6 +1,6 @@
 use Rattle.std.proofs.Common.{◌≡◌, ℕ, drop, subst, arith}
-use Rattle.certificate.specs.Sums.Kept.{claims, facts_from}
-use Rattle.judge.proofs.Sums.ClaimsLemmas.{is_next, passed, has_shape_too}
+use Rattle.certificate.specs.Kept.{claims, facts_from}
+use Rattle.judge.proofs.ClaimsLemmas.{is_next, passed, has_shape_too}
 use Rattle.judge.proofs.claims.CertificateClaims.put_fact.Goals as goal
 
 pub loop-before-init : goal.loop-before-init

@@ -1,7 +1,7 @@
 use Rattle.std.proofs.Common.{sym, ◌∙◌}
 use Rattle.wordset.specs.Lanes.{words}
-use Rattle.judge.specs.Sums.Points.{case_of, fact_asked}
-use Rattle.judge.proofs.Sums.AskedLemmas.{few_where_asked}
+use Rattle.judge.specs.Points.{case_of, fact_asked}
+use Rattle.judge.proofs.AskedLemmas.{few_where_asked}
 use Rattle.judge.proofs.point.Point.are_few.Goals as goal
 
 pub returns : goal.returns

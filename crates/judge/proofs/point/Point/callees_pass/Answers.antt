@@ -1,9 +1,8 @@
-use Rattle.std.proofs.Common.{◌≡◌, sym, ◌∙◌}
+use Rattle.std.proofs.Common.{sym, ◌∙◌}
 use Rattle.instruct.specs.Instructions.{meaning_of}
-use Rattle.facts.specs.Conditions.{is_call}
-use Rattle.judge.specs.Sums.Callees.{HoldsOfCallee}
-use Rattle.judge.specs.Sums.Points.{case_of, fact_asked}
-use Rattle.judge.proofs.Sums.CallLemmas.{no_target}
+use Rattle.judge.specs.Callees.{HoldsOfCallee}
+use Rattle.judge.specs.Points.{case_of, fact_asked}
+use Rattle.judge.proofs.CallLemmas.{no_target}
 use Rattle.judge.proofs.point.Point.callees_pass.Goals as goal
 
 pub returns-then-not-is_call : goal.returns-then-not-is_call

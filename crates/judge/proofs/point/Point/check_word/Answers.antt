@@ -1,6 +1,6 @@
 use Rattle.std.proofs.Common.{arith}
-use Rattle.judge.specs.Sums.Points.{HoldsOfPoint}
-use Rattle.judge.proofs.Sums.AskedLemmas.{stops, one_passed, passes_all}
+use Rattle.judge.specs.Points.{HoldsOfPoint}
+use Rattle.judge.proofs.AskedLemmas.{stops, one_passed, passes_all}
 use Rattle.judge.proofs.point.Point.check_word.Goals as goal
 
 pub returns-then-not-holds_for_only : goal.returns-then-not-holds_for_only

@@ -1,6 +1,6 @@
 use Rattle.std.specs.Prelude.{◌≤◌}
-use Rattle.judge.specs.Sums.Points.{HoldsOfPoint}
-use Rattle.judge.proofs.Sums.AskedLemmas.{PassedBefore}
+use Rattle.judge.specs.Points.{HoldsOfPoint}
+use Rattle.judge.proofs.AskedLemmas.{PassedBefore}
 use Rattle.judge.proofs.point.Point.check_word.Given as goal
 
 abbrev pub invariant-loop-place : goal.invariant-loop-place

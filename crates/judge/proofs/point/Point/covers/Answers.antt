@@ -1,4 +1,4 @@
-use Rattle.judge.proofs.Sums.CallLemmas.{covers_some}
+use Rattle.judge.proofs.CallLemmas.{covers_some}
 use Rattle.judge.proofs.point.Point.covers.Goals as goal
 
 pub returns : goal.returns

@@ -2,12 +2,12 @@ use Rattle.std.proofs.Common.{◌≡◌, refl}
 use Rattle.wordset.specs.Lanes.{words}
 use Rattle.wordset.proofs.IterLemmas.{of_set, one_fails, all_pass}
 use Rattle.instruct.specs.Instructions.{meaning_of}
-use Rattle.facts.specs.Sums.Conditions.{called}
-use Rattle.facts.specs.Sums.PlaceInCode.{meaning_in}
-use Rattle.judge.specs.Sums.Callees.{HoldsOfCallee}
-use Rattle.judge.specs.Sums.Points.{case_of, fact_asked}
-use Rattle.judge.proofs.Sums.PointLemmas.{meant}
-use Rattle.judge.proofs.Sums.CallLemmas.{each_target}
+use Rattle.facts.specs.Conditions.{called}
+use Rattle.facts.specs.PlaceInCode.{meaning_in}
+use Rattle.judge.specs.Callees.{HoldsOfCallee}
+use Rattle.judge.specs.Points.{case_of, fact_asked}
+use Rattle.judge.proofs.PointLemmas.{meant}
+use Rattle.judge.proofs.CallLemmas.{each_target}
 use Rattle.judge.proofs.point.Point.each_callee_passes.Goals as goal
 
 pub returns-then-not-callee_passes : goal.returns-then-not-callee_passes

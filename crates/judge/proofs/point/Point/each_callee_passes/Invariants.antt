@@ -1,7 +1,7 @@
 use Rattle.wordset.specs.Lanes.{words}
 use Rattle.wordset.proofs.IterLemmas.{Passed}
-use Rattle.judge.specs.Sums.Callees.{HoldsOfCallee}
-use Rattle.judge.specs.Sums.Points.{case_of, fact_asked}
+use Rattle.judge.specs.Callees.{HoldsOfCallee}
+use Rattle.judge.specs.Points.{case_of, fact_asked}
 use Rattle.judge.proofs.point.Point.each_callee_passes.Given as goal
 
 abbrev pub invariant-loop-entry : goal.invariant-loop-entry

@@ -1,8 +1,8 @@
-use Rattle.judge.specs.Sums.Landing.{SuccessorLands}
-use Rattle.facts.specs.Sums.OutcomesInCode.{outcome_in}
+use Rattle.judge.specs.Landing.{SuccessorLands}
+use Rattle.facts.specs.OutcomesInCode.{outcome_in}
 use Rattle.facts.proofs.EntailLemmas.{not_both}
-use Rattle.judge.specs.Sums.Points.{case_of}
-use Rattle.judge.proofs.Sums.PointLemmas.{four_land, first_fails, second_fails, third_fails}
+use Rattle.judge.specs.Points.{case_of}
+use Rattle.judge.proofs.PointLemmas.{four_land, first_fails, second_fails, third_fails}
 use Rattle.judge.proofs.point.Point.each_lands.Goals as goal
 
 pub returns-then-not-outcome_lands : goal.returns-then-not-outcome_lands

@@ -1,6 +1,6 @@
 use Rattle.std.proofs.Common.{refl}
-use Rattle.judge.specs.Sums.Points.{case_of}
-use Rattle.judge.proofs.Sums.CallLemmas.{lands_equally}
+use Rattle.judge.specs.Points.{case_of}
+use Rattle.judge.proofs.CallLemmas.{lands_equally}
 use Rattle.judge.proofs.point.Point.enters.Goals as goal
 
 pub returns : goal.returns

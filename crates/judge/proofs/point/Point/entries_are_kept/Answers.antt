@@ -1,8 +1,8 @@
 use Rattle.std.specs.Prelude.{IsTrue, ◌↔◌}
-use Rattle.facts.specs.Sums.Conditions.{EntriesAreKept}
-use Rattle.facts.specs.Sums.PlaceInCode.{meaning_in}
-use Rattle.judge.specs.Sums.Points.{fact_asked}
-use Rattle.judge.proofs.Sums.PointLemmas.{meant}
+use Rattle.facts.specs.Conditions.{EntriesAreKept}
+use Rattle.facts.specs.PlaceInCode.{meaning_in}
+use Rattle.judge.specs.Points.{fact_asked}
+use Rattle.judge.proofs.PointLemmas.{meant}
 use Rattle.judge.proofs.point.Point.entries_are_kept.Goals as goal
 
 pub returns : goal.returns

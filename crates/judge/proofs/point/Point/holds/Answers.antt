@@ -1,6 +1,6 @@
 use Rattle.std.proofs.Common.{sym, ◌∙◌}
 use Rattle.std.proofs.lemmas.Bool.{true≢false}
-use Rattle.judge.proofs.Sums.PointLemmas.{false_if}
+use Rattle.judge.proofs.PointLemmas.{false_if}
 use Rattle.judge.proofs.point.Point.holds.Goals as goal
 
 pub returns-then-not-are_few : goal.returns-then-not-are_few

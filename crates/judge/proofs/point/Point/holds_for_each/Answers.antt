@@ -1,8 +1,8 @@
 use Rattle.std.proofs.Common.{refl}
 use Rattle.wordset.specs.Lanes.{words}
 use Rattle.wordset.proofs.IterLemmas.{one_fails, all_pass}
-use Rattle.judge.specs.Sums.Points.{case_of, fact_asked}
-use Rattle.judge.proofs.Sums.AskedLemmas.{each_possible}
+use Rattle.judge.specs.Points.{case_of, fact_asked}
+use Rattle.judge.proofs.AskedLemmas.{each_possible}
 use Rattle.judge.proofs.point.Point.holds_for_each.Goals as goal
 
 pub returns-then-not-holds_for : goal.returns-then-not-holds_for

@@ -1,6 +1,6 @@
 use Rattle.wordset.specs.Lanes.{words}
 use Rattle.wordset.proofs.IterLemmas.{Passed}
-use Rattle.judge.specs.Sums.Points.{HoldsHere}
+use Rattle.judge.specs.Points.{HoldsHere}
 use Rattle.judge.proofs.point.Point.holds_for_each.Given as goal
 
 abbrev pub invariant-loop-word : goal.invariant-loop-word

@@ -1,6 +1,6 @@
 use Rattle.std.proofs.Common.{◌<◌, subst}
-use Rattle.judge.specs.Sums.Points.{case_of, fact_asked}
-use Rattle.judge.proofs.Sums.AskedLemmas.{holds_only}
+use Rattle.judge.specs.Points.{case_of, fact_asked}
+use Rattle.judge.proofs.AskedLemmas.{holds_only}
 use Rattle.judge.proofs.point.Point.holds_for_only.Goals as goal
 
 pub returns : goal.returns

@@ -2,12 +2,12 @@ use Rattle.std.proofs.Common.{ap, subst}
 use Rattle.std.specs.Prelude.{IsTrue, ◌↔◌, List}
 use Rattle.wordset.specs.Words.{Words}
 use Rattle.wordset.specs.Lanes.{words}
-use Rattle.domain.specs.Sums.Facts.{Fact, Place}
-use Rattle.domain.specs.Sums.FactInCode.{fact_in_code}
-use Rattle.facts.specs.Sums.Entailment.{Lands, IsIdle}
-use Rattle.judge.specs.Sums.Landing.{place_in, sited}
-use Rattle.judge.specs.Sums.Points.{case_of}
-use Rattle.judge.proofs.Sums.PointLemmas.{made_place, lands_inside, lands_outside}
+use Rattle.domain.specs.Facts.{Fact, Place}
+use Rattle.domain.specs.FactInCode.{fact_in_code}
+use Rattle.facts.specs.Entailment.{Lands, IsIdle}
+use Rattle.judge.specs.Landing.{place_in, sited}
+use Rattle.judge.specs.Points.{case_of}
+use Rattle.judge.proofs.PointLemmas.{made_place, lands_inside, lands_outside}
 use Rattle.judge.proofs.point.Point.lands.Goals as goal
 
 pub returns-then-not-is_inside-clause-lands : goal.returns-then-not-is_inside-clause-lands

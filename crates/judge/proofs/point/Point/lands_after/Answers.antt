@@ -1,6 +1,6 @@
-use Rattle.judge.specs.Sums.Points.{case_of, fact_asked}
+use Rattle.judge.specs.Points.{case_of, fact_asked}
 use Rattle.facts.proofs.EntailLemmas.{not_both}
-use Rattle.judge.proofs.Sums.CallLemmas.{lands_further, lands_everywhere, lacks_one}
+use Rattle.judge.proofs.CallLemmas.{lands_further, lands_everywhere, lacks_one}
 use Rattle.judge.proofs.point.Point.lands_after.Goals as goal
 
 pub returns-then-not-lands_by : goal.returns-then-not-lands_by

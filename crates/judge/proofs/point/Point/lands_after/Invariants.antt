@@ -1,6 +1,6 @@
 use Rattle.std.proofs.Common.{◌-◌}
-use Rattle.judge.specs.Sums.Points.{case_of, fact_asked}
-use Rattle.judge.proofs.Sums.CallLemmas.{LandsBefore}
+use Rattle.judge.specs.Points.{case_of, fact_asked}
+use Rattle.judge.proofs.CallLemmas.{LandsBefore}
 use Rattle.judge.proofs.point.Point.lands_after.Given as goal
 
 abbrev pub invariant-loop-offset : goal.invariant-loop-offset

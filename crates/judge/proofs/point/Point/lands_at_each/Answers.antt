@@ -1,8 +1,8 @@
 use Rattle.std.proofs.Common.{refl, sym, ◌∙◌, subst}
-use Rattle.domain.specs.Sums.Facts.{Fact}
+use Rattle.domain.specs.Facts.{Fact}
 use Rattle.wordset.proofs.IterLemmas.{none_yet, one_more, one_fails, all_pass}
-use Rattle.judge.specs.Sums.Landing.{LandsAt}
-use Rattle.judge.specs.Sums.Points.{case_of}
+use Rattle.judge.specs.Landing.{LandsAt}
+use Rattle.judge.specs.Points.{case_of}
 use Rattle.judge.proofs.point.Point.lands_at_each.Goals as goal
 
 pub loop-at-init : goal.loop-at-init

@@ -1,9 +1,9 @@
 use Rattle.std.proofs.Common.{◌≡◌}
 use Rattle.wordset.specs.Lanes.{words}
 use Rattle.wordset.proofs.IterLemmas.{Passed}
-use Rattle.domain.specs.Sums.FactInCode.{fact_in_code}
-use Rattle.judge.specs.Sums.Landing.{LandsAt}
-use Rattle.judge.specs.Sums.Points.{case_of}
+use Rattle.domain.specs.FactInCode.{fact_in_code}
+use Rattle.judge.specs.Landing.{LandsAt}
+use Rattle.judge.specs.Points.{case_of}
 use Rattle.judge.proofs.point.Point.lands_at_each.Given as goal
 
 abbrev pub invariant-loop-at : goal.invariant-loop-at

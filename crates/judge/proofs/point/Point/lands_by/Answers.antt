@@ -2,13 +2,13 @@ use Rattle.std.proofs.Common.{ap, sym, subst, arith}
 use Rattle.std.specs.Prelude.{IsTrue, ◌↔◌, List, true, false}
 use Rattle.wordset.specs.Words.{Words}
 use Rattle.wordset.specs.Lanes.{words}
-use Rattle.domain.specs.Sums.Facts.{Fact}
-use Rattle.domain.specs.Sums.FactInCode.{fact_in_code}
-use Rattle.judge.specs.Sums.Landing.{sited, EachLandsAfter}
-use Rattle.judge.specs.Sums.Callees.{LandsWith}
-use Rattle.judge.specs.Sums.Points.{case_of, fact_asked}
+use Rattle.domain.specs.Facts.{Fact}
+use Rattle.domain.specs.FactInCode.{fact_in_code}
+use Rattle.judge.specs.Landing.{sited, EachLandsAfter}
+use Rattle.judge.specs.Callees.{LandsWith}
+use Rattle.judge.specs.Points.{case_of, fact_asked}
 use Rattle.facts.proofs.EntailLemmas.{not_both}
-use Rattle.judge.proofs.Sums.CallLemmas.{one_lands, one_lacks, all_land}
+use Rattle.judge.proofs.CallLemmas.{one_lands, one_lacks, all_land}
 use Rattle.judge.proofs.point.Point.lands_by.Goals as goal
 
 pub returns-then-not-lands_with : goal.returns-then-not-lands_with

@@ -1,7 +1,7 @@
-use Rattle.judge.specs.Sums.Points.{case_of, fact_asked}
+use Rattle.judge.specs.Points.{case_of, fact_asked}
 use Rattle.wordset.specs.Lanes.{words}
-use Rattle.judge.specs.Sums.Landing.{sited}
-use Rattle.judge.proofs.Sums.CallLemmas.{EachBehind}
+use Rattle.judge.specs.Landing.{sited}
+use Rattle.judge.proofs.CallLemmas.{EachBehind}
 use Rattle.judge.proofs.point.Point.lands_by.Given as goal
 
 abbrev pub invariant-loop-index : goal.invariant-loop-index

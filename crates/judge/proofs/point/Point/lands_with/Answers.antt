@@ -1,7 +1,7 @@
 use Rattle.std.proofs.Common.{refl, ◌∙◌}
-use Rattle.judge.specs.Sums.Points.{case_of}
-use Rattle.domain.specs.Sums.FactInCode.{fact_in_code}
-use Rattle.judge.proofs.Sums.CallLemmas.{lands_if, lands_without, lands_equally, return_place, joined_by}
+use Rattle.judge.specs.Points.{case_of}
+use Rattle.domain.specs.FactInCode.{fact_in_code}
+use Rattle.judge.proofs.CallLemmas.{lands_if, lands_without, lands_equally, return_place, joined_by}
 use Rattle.judge.proofs.point.Point.lands_with.Goals as goal
 
 pub returns-then-not-contains : goal.returns-then-not-contains

@@ -1,8 +1,6 @@
 use Rattle.instruct.specs.Instructions.{meaning_of}
-use Rattle.std.proofs.Common.{◌≡◌}
-use Rattle.facts.specs.Conditions.{calls_through_index}
-use Rattle.judge.specs.Sums.Points.{case_of}
-use Rattle.judge.proofs.Sums.CallLemmas.{steps_pointer_first, and_pointer}
+use Rattle.judge.specs.Points.{case_of}
+use Rattle.judge.proofs.CallLemmas.{steps_pointer_first, and_pointer}
 use Rattle.judge.proofs.point.Point.may_call.Goals as goal
 
 pub returns-then-steps_call_pointer : goal.returns-then-steps_call_pointer

@@ -1,8 +1,8 @@
 use Rattle.std.proofs.Common.{arith}
 use Rattle.wordset.specs.Lanes.{words}
-use Rattle.judge.specs.Sums.Points.{case_of, fact_asked}
-use Rattle.judge.proofs.Sums.PointLemmas.{same_place}
-use Rattle.judge.proofs.Sums.CallLemmas.{is_undeclared, returns_by, lands_among}
+use Rattle.judge.specs.Points.{case_of, fact_asked}
+use Rattle.judge.proofs.PointLemmas.{same_place}
+use Rattle.judge.proofs.CallLemmas.{is_undeclared, returns_by, lands_among}
 use Rattle.judge.proofs.point.Point.may_return.Goals as goal
 
 pub returns-then-not-has_offset : goal.returns-then-not-has_offset

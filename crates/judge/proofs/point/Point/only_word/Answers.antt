@@ -1,7 +1,7 @@
 use Rattle.std.proofs.Common.{sym, ◌∙◌}
-use Rattle.judge.specs.Sums.Points.{case_of, fact_asked}
-use Rattle.judge.specs.Sums.Landing.{place_in}
-use Rattle.judge.proofs.Sums.AskedLemmas.{only_there}
+use Rattle.judge.specs.Points.{case_of, fact_asked}
+use Rattle.judge.specs.Landing.{place_in}
+use Rattle.judge.proofs.AskedLemmas.{only_there}
 use Rattle.judge.proofs.point.Point.only_word.Goals as goal
 
 pub returns : goal.returns

@@ -1,12 +1,18 @@
 use Rattle.std.specs.Prelude.{IsTrue, ◌↔◌, List}
-use Rattle.facts.specs.Sums.Outcomes.{Successor}
-use Rattle.facts.specs.Sums.Operations.{outcomes_of}
-use Rattle.facts.specs.Sums.PlaceInCode.{meaning_in}
-use Rattle.judge.specs.Sums.Landing.{EachSuccessor, SuccessorLands}
-use Rattle.std.proofs.Common.{subst}
-use Rattle.judge.specs.Sums.Points.{case_of, fact_asked}
-use Rattle.judge.proofs.Sums.PointLemmas.{meant}
+use Rattle.facts.specs.Outcomes.{Successor}
+use Rattle.facts.specs.Operations.{outcomes_of}
+use Rattle.facts.specs.PlaceInCode.{meaning_in}
+use Rattle.judge.specs.Landing.{EachSuccessor, SuccessorLands}
+use Rattle.std.proofs.Common.{sym, ◌∙◌, subst}
+use Rattle.instruct.specs.Instructions.{meaning_of}
+use Rattle.judge.specs.Points.{case_of, fact_asked}
+use Rattle.judge.proofs.PointLemmas.{meant, calls_land}
 use Rattle.judge.proofs.point.Point.outcomes_land.Goals as goal
+
+pub returns-then-is_call : goal.returns-then-is_call
+returns-then-is_call g c =
+    calls_land (case_of g.C.Claims.claims c.args.self.now) c.args.self.now.place.routine (fact_asked c.args.self.now) c.args.self.now.at (meaning_of (case_of g.C.Claims.claims c.args.self.now).declaration.profile c.args.self.now.at c.args.word)
+    (sym (c.is_call.ensures c.args.self.now.at) ∙ c.if-is_call.true)
 
 pub returns : goal.returns
 returns g c =

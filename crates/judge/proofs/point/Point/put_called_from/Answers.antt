@@ -1,5 +1,5 @@
-use Rattle.judge.proofs.Sums.CallLemmas.{is_called_from}
-use Rattle.judge.specs.Sums.Points.{fact_asked}
+use Rattle.judge.proofs.CallLemmas.{is_called_from}
+use Rattle.judge.specs.Points.{fact_asked}
 use Rattle.judge.proofs.point.Point.put_called_from.Goals as goal
 
 pub returns : goal.returns

@@ -1,7 +1,7 @@
 use Rattle.std.proofs.Common.{ap, ◌∙◌}
 use Rattle.wordset.specs.Words.{Words}
-use Rattle.judge.specs.Sums.Points.{case_of, fact_asked}
-use Rattle.judge.proofs.Sums.CallLemmas.{returns_lacking, returns_having}
+use Rattle.judge.specs.Points.{case_of, fact_asked}
+use Rattle.judge.proofs.CallLemmas.{returns_lacking, returns_having}
 use Rattle.judge.proofs.point.Point.returns_by.Goals as goal
 
 pub returns-then-not-contains : goal.returns-then-not-contains

@@ -1,6 +1,6 @@
 use Rattle.std.proofs.Common.{ℕ, ◌<◌}
-use Rattle.judge.specs.Sums.Callees.{ReturnsBy}
-use Rattle.judge.specs.Sums.Points.{case_of, fact_asked}
+use Rattle.judge.specs.Callees.{ReturnsBy}
+use Rattle.judge.specs.Points.{case_of, fact_asked}
 use Rattle.judge.proofs.point.Point.returns_through.Given as goal
 
 abbrev pub invariant-loop-offset : goal.invariant-loop-offset

@@ -1,8 +1,7 @@
 use Rattle.instruct.specs.Instructions.{meaning_of}
-use Rattle.std.proofs.Common.{◌≡◌, sym, ◌∙◌}
-use Rattle.facts.specs.Conditions.{returned_through}
-use Rattle.judge.specs.Sums.Points.{case_of, fact_asked}
-use Rattle.judge.proofs.Sums.CallLemmas.{returns_none, returns_some}
+use Rattle.std.proofs.Common.{sym, ◌∙◌}
+use Rattle.judge.specs.Points.{case_of, fact_asked}
+use Rattle.judge.proofs.CallLemmas.{returns_none, returns_some}
 use Rattle.judge.proofs.point.Point.returns_well.Goals as goal
 
 pub returns-in-None : goal.returns-in-None

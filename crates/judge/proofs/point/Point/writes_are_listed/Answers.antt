@@ -1,11 +1,11 @@
 use Rattle.std.proofs.Common.{subst}
 use Rattle.std.specs.Prelude.{IsTrue, ◌↔◌}
 use Rattle.wordset.specs.Words.{Words}
-use Rattle.certificate.specs.Sums.Certificate.{writes_of}
-use Rattle.facts.specs.Sums.Conditions.{WritesAreListed}
-use Rattle.facts.specs.Sums.PlaceInCode.{place_in_code, meaning_in}
-use Rattle.judge.specs.Sums.Points.{fact_asked}
-use Rattle.judge.proofs.Sums.PointLemmas.{meant}
+use Rattle.certificate.specs.Certificate.{writes_of}
+use Rattle.facts.specs.Conditions.{WritesAreListed}
+use Rattle.facts.specs.PlaceInCode.{place_in_code, meaning_in}
+use Rattle.judge.specs.Points.{fact_asked}
+use Rattle.judge.proofs.PointLemmas.{meant}
 use Rattle.judge.proofs.point.Point.writes_are_listed.Goals as goal
 
 pub returns : goal.returns

@@ -1,5 +1,5 @@
 use Rattle.wordset.specs.Lanes.{words}
-use Rattle.judge.proofs.Sums.SourceLemmas.{put_at}
+use Rattle.judge.proofs.SourceLemmas.{put_at}
 use Rattle.judge.proofs.sited.FactsAtFactSource.put.Goals as goal
 
 pub returns : goal.returns

@@ -1,8 +1,8 @@
 use Rattle.std.proofs.Common.{subst}
-use Rattle.judge.specs.Sums.Certifying.{Parts, case_of, declaration_of, words_of}
-use Rattle.judge.specs.Sums.Conditions.{IsValid}
+use Rattle.judge.specs.Certifying.{Parts, case_of, declaration_of, words_of}
+use Rattle.judge.specs.Conditions.{IsValid}
 use Rattle.policy.specs.Runs.{IsSafe}
-use Rattle.judge.proofs.Sums.VerdictLemmas.{safe_of}
+use Rattle.judge.proofs.VerdictLemmas.{safe_of}
 use Rattle.judge.proofs.verdict.Certified.is_safe.Goals as goal
 
 pub returns-clause-valid : goal.returns-clause-valid

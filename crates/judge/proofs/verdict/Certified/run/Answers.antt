@@ -3,7 +3,7 @@ use Rattle.std.specs.Prelude.{IfOk, OnErr}
 use Rattle.peripherals.specs.World.{view}
 use Rattle.policy.specs.Watching.{IsClean, LeadsTo, StepPutsOut, begun}
 use Rattle.policy.proofs.TellLemmas.{safe_clean}
-use Rattle.judge.specs.Sums.Certifying.{Parts, declaration_of, words_of}
+use Rattle.judge.specs.Certifying.{Parts, declaration_of, words_of}
 use Rattle.judge.proofs.verdict.Certified.run.Goals as goal
 
 pub returns-clause-run : goal.returns-clause-run

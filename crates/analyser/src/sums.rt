@@ -1,0 +1,167 @@
+//! Certificates of version 3: facts with relations of sums, told apart in one way after another.
+
+ghost use Rattle.std.specs.Prelude.{◌≡◌, ◌≤◌, IfErr, IfOk};
+ghost use Rattle.certificate.specs.Kept.{meaning};
+ghost use Rattle.certificate.specs.Exact.{AreLines};
+ghost use Rattle.certificate.specs.declared.Version.TheVariants.{Three};
+ghost use Rattle.turns.specs.Counts.{IsSpentUp};
+ghost use Rattle.analyser.specs.Accepted.{IsAccepted};
+
+use crate::accepted;
+use bin_tape::Image;
+use certificate::Certificate;
+use declaration::Declaration;
+use fixpoint::{Split, SumProgram, SumSearch};
+use std::alloc::Allocator;
+use turns::{GuessFault, Turns};
+use word12::Word;
+use wordset::WordSet;
+
+/// The most turns of one try.
+const MOST_TURNS: u32 = 20_000;
+
+/// So many tries at most are made with facts told apart by calls: with none, with those of routines that look at their return
+/// word, and with those of one routine more in each.
+const MOST_CALLS: usize = 6;
+
+/// By the words of so many cells at most facts are told apart, one after another.
+const MOST_CELLS: usize = 12;
+
+/// Looks for facts that are told apart in one way.
+fn tried<A: Allocator + Copy, D: Allocator>(
+    search: &mut SumSearch<A>,
+    program: &SumProgram<'_, D>,
+    split: &Split,
+    turns: &mut Turns,
+) -> Result<Certificate<A>, GuessFault>
+    ensures lines { IfOk result (λ c. AreLines (meaning c)) }
+    ensures version { IfOk result (λ c. (meaning c).version ≡ Three) }
+    ensures accepted { IfOk result (IsAccepted program.now.base.image.now program.now.base.declaration.now) }
+    ensures limit { turns.new.limit ≡ turns.old.limit }
+    ensures rises { turns.old.spent ≤ turns.new.spent }
+    ensures within { turns.new.spent ≤ turns.new.limit }
+    ensures spent { IfErr result (IsSpentUp turns.new) }
+{
+    search.run(program, split, MOST_TURNS, turns)?;
+    match search.finish(program) {
+        Ok(certificate) => accepted(
+            search.allocator(),
+            program.base.image,
+            program.base.declaration,
+            certificate,
+        ),
+        Err(halt) => Err(halt.fault()),
+    }
+}
+
+/// The routines whose facts are told apart by the call besides, if a try is stuck: first those that look at their return word,
+/// then the one in whose body it is stuck.
+fn more_called<D: Allocator>(
+    program: &SumProgram<'_, D>,
+    split: &Split,
+    stuck: Word,
+) -> Option<WordSet> {
+    if !program.readers().is_subset(split.called()) {
+        return Some(*program.readers());
+    }
+    let entry = program.owner(stuck)?;
+    if split.called().contains(entry) {
+        return None;
+    }
+    Some(WordSet::one(entry))
+}
+
+/// The same, with facts of more and more routines told apart by the call where a try is stuck. The lent way to tell them apart
+/// becomes the last one.
+fn tried_by_calls<A: Allocator + Copy, D: Allocator>(
+    search: &mut SumSearch<A>,
+    program: &SumProgram<'_, D>,
+    split: &mut Split,
+    turns: &mut Turns,
+) -> Result<Certificate<A>, GuessFault>
+    ensures lines { IfOk result (λ c. AreLines (meaning c)) }
+    ensures version { IfOk result (λ c. (meaning c).version ≡ Three) }
+    ensures accepted { IfOk result (IsAccepted program.now.base.image.now program.now.base.declaration.now) }
+    ensures limit { turns.new.limit ≡ turns.old.limit }
+    ensures rises { turns.old.spent ≤ turns.new.spent }
+    ensures within { turns.new.spent ≤ turns.new.limit }
+    ensures spent { IfErr result (IsSpentUp turns.new) }
+{
+    turns.are_within();
+    let mut stuck = program.base.declaration.start();
+    for _more in 0..MOST_CALLS {
+        let found = tried(search, program, split, turns);
+        let Err(GuessFault::Stuck(at)) = &found else {
+            return found;
+        };
+        stuck = *at;
+        match more_called(program, split, stuck) {
+            None => return Err(GuessFault::Stuck(stuck)),
+            Some(entries) => *split = split.by_calls(&entries),
+        }
+    }
+    Err(GuessFault::Stuck(stuck))
+}
+
+/// The same, with facts told apart by the words of one of some cells, one after another.
+fn tried_by_cells<A: Allocator + Copy, D: Allocator>(
+    search: &mut SumSearch<A>,
+    program: &SumProgram<'_, D>,
+    split: &Split,
+    cells: &WordSet,
+    stuck: Word,
+    turns: &mut Turns,
+) -> Result<Certificate<A>, GuessFault>
+    ensures lines { IfOk result (λ c. AreLines (meaning c)) }
+    ensures version { IfOk result (λ c. (meaning c).version ≡ Three) }
+    ensures accepted { IfOk result (IsAccepted program.now.base.image.now program.now.base.declaration.now) }
+    ensures limit { turns.new.limit ≡ turns.old.limit }
+    ensures rises { turns.old.spent ≤ turns.new.spent }
+    ensures within { turns.new.spent ≤ turns.new.limit }
+    ensures spent { IfErr result (IsSpentUp turns.new) }
+{
+    turns.are_within();
+    let mut count = 0usize;
+    for cell in cells.iter() {
+        if count < MOST_CELLS {
+            count += 1;
+            let found = tried(search, program, &split.by_cell(cell), turns);
+            let Err(GuessFault::Stuck(_)) = &found else {
+                return found;
+            };
+        }
+    }
+    Err(GuessFault::Stuck(stuck))
+}
+
+/// Looks for a certificate of version 3: with one fact at an address, and where that is stuck with facts that are told apart by
+/// the call, then by the link, then by the words of a cell.
+pub(crate) fn found_by_sums<A: Allocator + Copy, D: Allocator>(
+    alloc: A,
+    image: &Image,
+    declaration: &Declaration<D>,
+    turns: &mut Turns,
+) -> Result<Certificate<A>, GuessFault>
+    ensures lines { IfOk result (λ c. AreLines (meaning c)) }
+    ensures version { IfOk result (λ c. (meaning c).version ≡ Three) }
+    ensures accepted { IfOk result (IsAccepted image.now declaration.now) }
+    ensures limit { turns.new.limit ≡ turns.old.limit }
+    ensures rises { turns.old.spent ≤ turns.new.spent }
+    ensures within { turns.new.spent ≤ turns.new.limit }
+    ensures spent { IfErr result (IsSpentUp turns.new) }
+{
+    turns.are_within();
+    let program = SumProgram::of(image, declaration);
+    let mut search = SumSearch::new(alloc);
+    let mut split = Split::none();
+    let found = tried_by_calls(&mut search, &program, &mut split, turns);
+    let Err(GuessFault::Stuck(at)) = &found else {
+        return found;
+    };
+    let cells = search.tellers(&program);
+    let found = tried(&mut search, &program, &split.by_links(), turns);
+    let Err(GuessFault::Stuck(_)) = &found else {
+        return found;
+    };
+    tried_by_cells(&mut search, &program, &split, &cells, *at, turns)
+}

@@ -1,0 +1,20 @@
+//! The search by the rules of sums: for facts that certificates of version 3 can say, several of them at an address where they
+//! are told apart.
+
+mod candidates;
+mod kept;
+mod making;
+mod merging;
+mod program;
+mod returning;
+mod rooms;
+mod search;
+mod splits;
+mod steps;
+mod table;
+mod text;
+mod widening;
+
+pub use program::SumProgram;
+pub use search::SumSearch;
+pub use splits::Split;

@@ -1,0 +1,182 @@
+//! Which sums of cells that changed together may be told: their difference, and what stays the same where the one goes by
+//! several words as the other goes by one.
+
+use crate::halt::Halt;
+use crate::of_sums::kept::SumInvariant;
+use crate::of_sums::merging::{Merge, Sides};
+use domain::{Location, Sum, Summand, Term, negated, product, spelled};
+use facts::{Fact, KnownFact};
+use std::alloc::Allocator;
+use word12::Word;
+use wordset::WordSet;
+
+/// Where more cells changed, only pointers and counters are looked at.
+const MOST_CHANGED: usize = 10;
+
+/// The greatest factor.
+const MOST_FACTOR: usize = 64;
+
+/// Of which words a cell went to which.
+#[derive(Clone, Copy)]
+struct Change {
+    cell: Word,
+    before: WordSet,
+    after: WordSet,
+}
+
+/// How a cell changed.
+fn change_of<F: KnownFact>(cell: Word, known: &F, before: &Fact) -> Change {
+    let name = Location::Cell(cell);
+    let mut old = WordSet::all();
+    before.put_set_of(&name, &mut old);
+    let mut new = WordSet::all();
+    known.put_set_of(&name, &mut new);
+    Change {
+        cell,
+        before: old,
+        after: new,
+    }
+}
+
+/// How much more one word is than another.
+fn more_than(a: Option<Word>, b: Option<Word>) -> Option<Word> {
+    let (Some(a), Some(b)) = (a, b) else {
+        return None;
+    };
+    Some(a.add(negated(b)))
+}
+
+impl Change {
+    /// By how much its one word went on.
+    fn step(&self) -> Option<Word> {
+        more_than(self.after.only(), self.before.only())
+    }
+
+    /// By how much its least word went on.
+    fn low_step(&self) -> Option<Word> {
+        more_than(self.after.least(), self.before.least())
+    }
+
+    /// By how much its greatest word went on.
+    fn high_step(&self) -> Option<Word> {
+        more_than(self.after.greatest(), self.before.greatest())
+    }
+}
+
+/// Whether a word is a small number of either sign, other than -1, 0 and 1.
+fn is_factor(word: Word) -> bool {
+    let index = word.index();
+    index > 1 && index <= MOST_FACTOR || index >= 4096 - MOST_FACTOR && index < 4095
+}
+
+/// The sum of a cell and so many times another.
+fn with_factor(cell: Word, factor: Word, other: Word) -> Option<Sum> {
+    let mut sum = Sum::zero();
+    sum.push(Summand {
+        coefficient: Word::from_index(1),
+        term: Term::Holding(Location::Cell(cell)),
+    });
+    sum.push(Summand {
+        coefficient: factor,
+        term: Term::Holding(Location::Cell(other)),
+    });
+    match spelled(&sum) {
+        None => None,
+        Some(found) => Some(found.sum),
+    }
+}
+
+/// The factor of the second cell in what stays the same where the first one goes by a number as the second one goes by 1 or
+/// -1.
+fn factor(fast: Option<Word>, slow: Option<Word>) -> Option<Word> {
+    let (Some(fast), Some(slow)) = (fast, slow) else {
+        return None;
+    };
+    if slow.index() != 1 && slow.index() != 4095 {
+        return None;
+    }
+    let factor = product(negated(fast), slow);
+    if is_factor(factor) {
+        Some(factor)
+    } else {
+        None
+    }
+}
+
+/// Adds what is said of the difference and of the sum of two cells that changed.
+fn add_pair<A: Allocator + Copy, F: KnownFact>(
+    kept: &mut SumInvariant<A>,
+    left: &Change,
+    right: &Change,
+    known: &F,
+    merge: &Merge<'_, A>,
+    sides: &mut Sides<'_>,
+) -> Result<(), Halt> {
+    let minus = Word::from_index(0o7777);
+    if let Some(sum) = with_factor(left.cell, minus, right.cell) {
+        kept.add_sum(&sum, known, merge, sides)?;
+    }
+    if let Some(sum) = with_factor(left.cell, Word::from_index(1), right.cell) {
+        kept.add_sum(&sum, known, merge, sides)?;
+    }
+    Ok(())
+}
+
+/// Adds what is said of one cell and a multiple of another, where the one went by several words as the other went by one.
+fn add_factors<A: Allocator + Copy, F: KnownFact>(
+    kept: &mut SumInvariant<A>,
+    fast: &Change,
+    slow: &Change,
+    known: &F,
+    merge: &Merge<'_, A>,
+    sides: &mut Sides<'_>,
+) -> Result<(), Halt> {
+    for step in [fast.step(), fast.low_step(), fast.high_step()] {
+        if let Some(factor) = factor(step, slow.step()) {
+            if let Some(sum) = with_factor(fast.cell, factor, slow.cell) {
+                kept.add_sum(&sum, known, merge, sides)?;
+            }
+        }
+    }
+    Ok(())
+}
+
+/// Adds what is said of one cell that changed and of others that did.
+fn add_pairs_of<A: Allocator + Copy, F: KnownFact>(
+    kept: &mut SumInvariant<A>,
+    cell: Word,
+    others: &WordSet,
+    known: &F,
+    merge: &Merge<'_, A>,
+    sides: &mut Sides<'_>,
+) -> Result<(), Halt> {
+    let left = change_of(cell, known, sides.before);
+    for other in others.iter() {
+        if other > cell {
+            let right = change_of(other, known, sides.before);
+            add_pair(kept, &left, &right, known, merge, sides)?;
+            add_factors(kept, &left, &right, known, merge, sides)?;
+            add_factors(kept, &right, &left, known, merge, sides)?;
+        }
+    }
+    Ok(())
+}
+
+/// Adds what is said of pairs of cells that changed.
+pub(crate) fn add_pairs<A: Allocator + Copy, F: KnownFact>(
+    kept: &mut SumInvariant<A>,
+    changed: &WordSet,
+    known: &F,
+    merge: &Merge<'_, A>,
+    sides: &mut Sides<'_>,
+) -> Result<(), Halt> {
+    let chosen = if changed.count() <= MOST_CHANGED {
+        *changed
+    } else {
+        changed.meet(&merge.pointers.union(&merge.limits.counted))
+    };
+    for cell in chosen.iter() {
+        add_pairs_of(kept, cell, &chosen, known, merge, sides)?;
+    }
+    Ok(())
+}

@@ -1,0 +1,225 @@
+//! A program as the search by the rules of sums sees it.
+
+ghost use Rattle.std.specs.Prelude.{ℕ, ◌≡◌, true, IfSome, Some};
+ghost use Rattle.wordset.specs.Words.{difference};
+ghost use Rattle.wordset.specs.Lanes.{words};
+ghost use Rattle.declaration.specs.Kept.{meaning};
+
+use crate::program::{AnalysedProgram, is_reference};
+use crate::widening::{Limits, MANY_RUNS};
+use bin_tape::Image;
+use declaration::{Declaration, Owner};
+use domain::Rules;
+use facts::{Place, SumFact};
+use instruct::{Operation, refers_indirectly, target};
+use std::alloc::Allocator;
+use word12::Word;
+use wordset::WordSet;
+
+/// A program, the variables that it uses as pointers, those that it tests, the routines that look at their return word, and
+/// words at which sets may end.
+#[derive(Drop)]
+pub struct SumProgram<'a, D: Allocator> {
+    pub base: AnalysedProgram<'a, D>,
+    pub(crate) pointers: WordSet,
+    pub(crate) tested: WordSet,
+    pub(crate) readers: WordSet,
+    pub(crate) thresholds: WordSet,
+}
+
+/// Words at which sets may end, and their neighbours; and the ends of the numbers with and without a sign.
+fn thresholds(limits: &Limits) -> WordSet {
+    let one = Word::from_index(1);
+    let mut words = limits.landmarks;
+    words.insert(Word::ZERO);
+    words.insert(one);
+    words.insert(Word::from_index(0o3777));
+    words.insert(Word::from_index(0o4000));
+    words.insert(Word::from_index(0o7777));
+    let after = words.shift(one);
+    let before = words.shift(Word::from_index(0o7777));
+    words.union(&after).union(&before)
+}
+
+/// Whether a word in the body of a routine looks at the cell that it names, if that is the routine's entry: it reads it, or
+/// goes through it elsewhere than back.
+fn looks_at(word: Word) -> bool {
+    match Operation::of(word) {
+        Operation::And | Operation::Tad => true,
+        Operation::Isz | Operation::Dca | Operation::Jms => refers_indirectly(word),
+        Operation::Jmp => false,
+    }
+}
+
+/// The entry of the routine whose body has an address, if it is not main's.
+fn entry_at<D: Allocator>(declaration: &Declaration<D>, at: Word) -> Option<Word>
+    ensures found { IfSome result (λ entry. (meaning declaration.now).body (Some entry) at ≡ true) }
+    ensures only { (entry : ℕ) → (meaning declaration.now).body (Some entry) at ≡ true →
+        result ≡ Some entry }
+{
+    match declaration.owner_of(at)? {
+        Owner::Main => None,
+        Owner::Routine(entry) => Some(entry),
+    }
+}
+
+/// What the instructions of a program do with cells: the variables that are pointers, those that are tested, and the entries of
+/// the routines that look at their return word.
+#[derive(Clone, Copy)]
+struct Uses {
+    pointers: WordSet,
+    tested: WordSet,
+    readers: WordSet,
+}
+
+/// What all memory references of a program do.
+fn uses_of<D: Allocator>(base: &AnalysedProgram<'_, D>) -> Uses {
+    let mut uses = Uses {
+        pointers: WordSet::empty(),
+        tested: WordSet::empty(),
+        readers: WordSet::empty(),
+    };
+    for index in 0..4096usize {
+        let at = Word::from_index(index);
+        if let Some(word) = base.fixed_word(at) {
+            if is_reference(word) {
+                uses.add(base.declaration, at, word);
+            }
+        }
+    }
+    uses
+}
+
+impl Uses {
+    /// Adds what a memory reference does.
+    fn add<D: Allocator>(&mut self, declaration: &Declaration<D>, at: Word, word: Word) {
+        let named = target(word, at);
+        if declaration.is_variable(named) {
+            if refers_indirectly(word) {
+                self.pointers.insert(named);
+            }
+            if let Operation::Tad | Operation::And | Operation::Isz = Operation::of(word) {
+                if !refers_indirectly(word) {
+                    self.tested.insert(named);
+                }
+            }
+        }
+        if entry_at(declaration, at) == Some(named) && looks_at(word) {
+            self.readers.insert(named);
+        }
+    }
+}
+
+impl<'a, D: Allocator> SumProgram<'a, D> {
+    /// A tape's words and a declaration.
+    pub fn of(image: &'a Image, declaration: &'a Declaration<D>) -> SumProgram<'a, D>
+        ensures image { result.base.image.now ≡ image.now }
+        ensures declaration { result.base.declaration.now ≡ declaration.now }
+    {
+        let base = AnalysedProgram::of(image, declaration, MANY_RUNS);
+        let thresholds = thresholds(&base.limits);
+        let Uses {
+            pointers,
+            tested,
+            readers,
+        } = uses_of(&base);
+        SumProgram {
+            base,
+            pointers,
+            tested,
+            readers,
+            thresholds,
+        }
+    }
+
+    /// The entry of the routine whose body has an address, if it is not main's.
+    pub fn owner(&self, at: Word) -> Option<Word>
+        ensures found { IfSome result (λ entry.
+            (meaning self.now.base.declaration.now).body (Some entry) at ≡ true) }
+        ensures only { (entry : ℕ) →
+            (meaning self.now.base.declaration.now).body (Some entry) at ≡ true →
+            result ≡ Some entry }
+    {
+        entry_at(self.base.declaration, at)
+    }
+
+    /// Whether an address is in the body of a routine, or of main.
+    pub(crate) fn has(&self, routine: &Option<Word>, at: Word) -> bool {
+        match routine {
+            None => self.base.declaration.in_main(at),
+            Some(entry) => self.base.declaration.in_body(*entry, at),
+        }
+    }
+
+    /// Where a fact of a body stands.
+    pub(crate) fn place(&self, routine: &Option<Word>) -> Place<'_, D> {
+        Place {
+            image: self.base.image,
+            declaration: self.base.declaration,
+            routine: *routine,
+            rules: Rules::OfSums,
+        }
+    }
+
+    /// The routines that look at their return word.
+    pub fn readers(&self) -> &WordSet
+        ensures { result.now ≡ self.now.readers }
+    {
+        &self.readers
+    }
+
+    /// The variables that are added, masked or counted by name, but for pointers.
+    pub fn tested(&self) -> WordSet
+        ensures { words result ≡ difference (words self.now.tested) (words self.now.pointers) }
+    {
+        self.tested.minus(&self.pointers)
+    }
+
+    /// Whether a word has a meaning, calls through no stepped pointer, and is no HLT where the program may not halt.
+    pub(crate) fn may_be_met(&self, place: &Place<'_, D>, at: Word, word: Word) -> bool {
+        place.is_supported(word)
+            && place.halts_are_declared(at, word)
+            && !place.steps_call_pointer(at, word)
+    }
+
+    /// Whether what a word writes and reads by a fact may be written and read.
+    pub(crate) fn may_access<const C: usize, const R: usize>(
+        &self,
+        place: &Place<'_, D>,
+        fact: &SumFact<C, R>,
+        at: Word,
+        word: Word,
+    ) -> bool {
+        place.writes_are_declared(fact, at, word)
+            && place.entries_are_kept(fact, at, word)
+            && place.reads_are_listed(fact, at, word)
+    }
+
+    /// The words that a pointer may hold where a word refers through it, so that it writes variables alone and reads what is
+    /// listed.
+    pub(crate) fn permitted(&self, routine: &Option<Word>, at: Word, word: Word) -> WordSet {
+        let mut cells = WordSet::all();
+        let declaration = self.base.declaration;
+        if let Operation::Isz | Operation::Dca = Operation::of(word) {
+            cells = *declaration.variables();
+        }
+        if let Operation::Isz | Operation::Tad | Operation::And = Operation::of(word) {
+            if let Some(listed) = declaration.reads() {
+                cells = cells.meet(&with_own(listed, routine));
+            }
+        }
+        if target(word, at).index() / 8 == 1 {
+            cells.shift(Word::from_index(0o7777))
+        } else {
+            cells
+        }
+    }
+}
+
+/// Some cells and the entry of a routine, if there is one.
+fn with_own(cells: &WordSet, routine: &Option<Word>) -> WordSet {
+    match routine {
+        None => *cells,
+        Some(entry) => cells.union(&WordSet::one(*entry)),
+    }
+}

@@ -1,0 +1,315 @@
+//! The search by the rules of sums: on from each fact until nothing grows, with targets left out that are not permitted; then back
+//! by sweeps that make the facts anew from what leads to them; and on again.
+
+ghost use Rattle.std.specs.Prelude.{◌≡◌, ◌<◌, ◌≤◌, true, IfErr, IfOk};
+ghost use Rattle.turns.specs.Counts.{IsSpentUp};
+
+use crate::halt::Halt;
+use crate::needs::Needs;
+use crate::of_sums::kept::SumInvariant;
+use crate::of_sums::merging::Merge;
+use crate::of_sums::program::SumProgram;
+use crate::of_sums::rooms::SumRooms;
+use crate::of_sums::splits::Split;
+use crate::of_sums::table::Table;
+use crate::of_sums::widening::Paces;
+use facts::Fact;
+use std::alloc::Allocator;
+use std::mem::replace;
+use turns::{GuessFault, Turns};
+use word12::Word;
+use wordset::WordSet;
+
+/// How many sweeps go back at most.
+const MOST_SWEEPS: usize = 4;
+
+/// The most turns of all tries together.
+const MOST_TURNS: u32 = 100_000;
+
+/// The most words that may be possible at one address.
+pub(crate) const MOST_WORDS: usize = 64;
+
+/// What is known, what is gathered in a sweep back and whether one goes on, how facts are told apart, which cells they speak of,
+/// the addresses from which to go on, and how many turns this try may take yet, and all tries together.
+#[derive(Drop)]
+pub struct SumSearch<A: Allocator> {
+    pub(crate) alloc: A,
+    pub(crate) table: Table<A>,
+    pub(crate) gathered: Table<A>,
+    pub(crate) gathers: bool,
+    pub(crate) split: Split,
+    pub(crate) tracked: WordSet,
+    pub(crate) needs: Option<Needs<A>>,
+    pub(crate) waiting: WordSet,
+    left: u32,
+    left_in_all: u32,
+}
+
+impl<A: Allocator + Copy> SumSearch<A> {
+    /// Before the first step.
+    pub fn new(alloc: A) -> SumSearch<A> {
+        SumSearch {
+            alloc,
+            table: Table::new(alloc),
+            gathered: Table::new(alloc),
+            gathers: false,
+            split: Split::none(),
+            tracked: WordSet::empty(),
+            needs: None,
+            waiting: WordSet::empty(),
+            left: 0,
+            left_in_all: MOST_TURNS,
+        }
+    }
+
+    /// The allocator.
+    pub fn allocator(&self) -> A {
+        self.alloc
+    }
+
+    /// Looks for facts that are told apart in one way, within so many turns of those that there are; what was found before is
+    /// forgotten.
+    pub fn run<D: Allocator>(
+        &mut self,
+        program: &SumProgram<'_, D>,
+        split: &Split,
+        most_turns: u32,
+        turns: &mut Turns,
+    ) -> Result<(), GuessFault>
+        ensures limit { turns.new.limit ≡ turns.old.limit }
+        ensures rises { turns.old.spent ≤ turns.new.spent }
+        ensures within { turns.new.spent ≤ turns.new.limit }
+        ensures spent { IfErr result (IsSpentUp turns.new) }
+    {
+        turns.are_within();
+        self.left = most_turns;
+        let mut room = match self.begin(program, split) {
+            Ok(room) => room,
+            Err(halt) => return Err(halt.fault()),
+        };
+        self.ascend(program, &mut room, turns)?;
+        self.descend(program, &mut room, turns)?;
+        self.ascend(program, &mut room, turns)
+    }
+
+    /// Forgets what was found, and keeps what is known at the start.
+    fn begin<D: Allocator>(
+        &mut self,
+        program: &SumProgram<'_, D>,
+        split: &Split,
+    ) -> Result<SumRooms<A>, Halt> {
+        self.table.forget();
+        self.gathers = false;
+        self.split = *split;
+        self.tracked = program.base.named;
+        self.needs = Some(Needs::of(self.alloc, &program.base)?);
+        self.waiting = WordSet::empty();
+        self.start(program)?;
+        SumRooms::new(self.alloc)
+    }
+
+    /// The cells that facts at an address speak of, and exits at their entry.
+    fn tracked_at(&self, at: Word) -> WordSet {
+        let cells = match &self.needs {
+            None => self.tracked,
+            Some(needs) => needs.at(at),
+        };
+        match self.split.cell {
+            None => cells,
+            Some(cell) => cells.union(&WordSet::one(cell)),
+        }
+    }
+
+    /// How facts at an address are joined, and exits at their entry.
+    pub(crate) fn merge_at<'b, D: Allocator>(
+        &self,
+        program: &'b SumProgram<'_, D>,
+        at: Word,
+    ) -> Merge<'b, A> {
+        Merge {
+            alloc: self.alloc,
+            image: program.base.image,
+            tracked: self.tracked_at(at),
+            pointers: &program.pointers,
+            thresholds: &program.thresholds,
+            limits: &program.base.limits,
+            paces: Paces::soon(),
+            widens: !self.gathers,
+        }
+    }
+
+    /// Keeps what is known at the start: the tracked cells hold the tape's words.
+    fn start<D: Allocator>(&mut self, program: &SumProgram<'_, D>) -> Result<(), Halt> {
+        let at = program.base.declaration.start();
+        let tracked = self.tracked_at(at);
+        let fact = Fact::any();
+        let case = self.split.case_of(&program.owner(at), &fact);
+        let mut kept = SumInvariant::bare(self.alloc, at, case, &fact);
+        for cell in tracked.iter() {
+            if let Some(word) = program.base.image.get(cell) {
+                kept.track(cell, &WordSet::one(word))?;
+            }
+        }
+        kept.case.value = match self.split.cell {
+            None => None,
+            Some(cell) => program.base.image.get(cell),
+        };
+        self.waiting.insert(at);
+        if self.gathers {
+            self.gathered.facts.keep(self.alloc, at, kept)
+        } else {
+            self.table.facts.keep(self.alloc, at, kept)
+        }
+    }
+
+    /// Goes on until nothing grows.
+    fn ascend<D: Allocator>(
+        &mut self,
+        program: &SumProgram<'_, D>,
+        room: &mut SumRooms<A>,
+        turns: &mut Turns,
+    ) -> Result<(), GuessFault>
+        ensures limit { turns.new.limit ≡ turns.old.limit }
+        ensures rises { turns.old.spent ≤ turns.new.spent }
+        ensures within { turns.new.spent ≤ turns.new.limit }
+        ensures spent { IfErr result (IsSpentUp turns.new) }
+    {
+        turns.are_within();
+        while self.go_on(program, room, turns)? {}
+        Ok(())
+    }
+
+    /// Goes on from the least waiting address, and from those behind it until a turn is taken: as long as none is, nothing
+    /// grows. Tells whether one was taken; else no address waits any more.
+    fn go_on<D: Allocator>(
+        &mut self,
+        program: &SumProgram<'_, D>,
+        room: &mut SumRooms<A>,
+        turns: &mut Turns,
+    ) -> Result<bool, GuessFault>
+        ensures limit { turns.new.limit ≡ turns.old.limit }
+        ensures rises { turns.old.spent ≤ turns.new.spent }
+        ensures within { turns.new.spent ≤ turns.new.limit }
+        ensures taken { IfOk result (λ taken. taken ≡ true → turns.old.spent < turns.new.spent) }
+        ensures spent { IfErr result (IsSpentUp turns.new) }
+    {
+        let before = turns.spent();
+        let mut next = 0usize;
+        while let Some(at) = self.waiting.first_from(next) {
+            self.waiting.remove(at);
+            self.visit_waiting(program, at, room, turns)?;
+            if turns.spent() > before {
+                return Ok(true);
+            }
+            next = at.index() + 1;
+        }
+        Ok(false)
+    }
+
+    /// Goes on from those facts at an address that wait.
+    fn visit_waiting<D: Allocator>(
+        &mut self,
+        program: &SumProgram<'_, D>,
+        at: Word,
+        room: &mut SumRooms<A>,
+        turns: &mut Turns,
+    ) -> Result<(), GuessFault>
+        ensures limit { turns.new.limit ≡ turns.old.limit }
+        ensures rises { turns.old.spent ≤ turns.new.spent }
+        ensures within { turns.new.spent ≤ turns.new.limit }
+        ensures spent { IfErr result (IsSpentUp turns.new) }
+    {
+        turns.are_within();
+        for index in 0..self.table.facts.row(at).len() {
+            if self.table.facts.take_waiting(at, index) {
+                self.visit(program, at, index, room, turns)?;
+            }
+        }
+        Ok(())
+    }
+
+    /// Makes the facts anew from what leads to them, so often as that changes something, up to a number of times. Then all wait.
+    fn descend<D: Allocator>(
+        &mut self,
+        program: &SumProgram<'_, D>,
+        room: &mut SumRooms<A>,
+        turns: &mut Turns,
+    ) -> Result<(), GuessFault>
+        ensures limit { turns.new.limit ≡ turns.old.limit }
+        ensures rises { turns.old.spent ≤ turns.new.spent }
+        ensures within { turns.new.spent ≤ turns.new.limit }
+        ensures spent { IfErr result (IsSpentUp turns.new) }
+    {
+        turns.are_within();
+        self.gathers = true;
+        for _sweep in 0..MOST_SWEEPS {
+            self.sweep(program, room, turns)?;
+        }
+        self.gathers = false;
+        self.waiting = self.table.facts.addresses();
+        for at in self.waiting.iter() {
+            self.table.facts.let_wait(at);
+        }
+        Ok(())
+    }
+
+    /// Makes the facts anew from what leads to them.
+    fn sweep<D: Allocator>(
+        &mut self,
+        program: &SumProgram<'_, D>,
+        room: &mut SumRooms<A>,
+        turns: &mut Turns,
+    ) -> Result<(), GuessFault>
+        ensures limit { turns.new.limit ≡ turns.old.limit }
+        ensures rises { turns.old.spent ≤ turns.new.spent }
+        ensures within { turns.new.spent ≤ turns.new.limit }
+        ensures spent { IfErr result (IsSpentUp turns.new) }
+    {
+        turns.are_within();
+        self.gathered.forget();
+        if let Err(halt) = self.start(program) {
+            return Err(halt.fault());
+        }
+        for at in self.table.facts.addresses().iter() {
+            self.visit_all(program, at, room, turns)?;
+        }
+        self.table = replace(&mut self.gathered, Table::new(self.alloc));
+        Ok(())
+    }
+
+    /// Goes on from all facts at an address.
+    fn visit_all<D: Allocator>(
+        &mut self,
+        program: &SumProgram<'_, D>,
+        at: Word,
+        room: &mut SumRooms<A>,
+        turns: &mut Turns,
+    ) -> Result<(), GuessFault>
+        ensures limit { turns.new.limit ≡ turns.old.limit }
+        ensures rises { turns.old.spent ≤ turns.new.spent }
+        ensures within { turns.new.spent ≤ turns.new.limit }
+        ensures spent { IfErr result (IsSpentUp turns.new) }
+    {
+        turns.are_within();
+        for index in 0..self.table.facts.row(at).len() {
+            self.visit(program, at, index, room, turns)?;
+        }
+        Ok(())
+    }
+
+    /// Takes a turn, if one is left for this try.
+    pub(crate) fn take_turn(&mut self, at: Word, turns: &mut Turns) -> Result<(), GuessFault>
+        ensures limit { turns.new.limit ≡ turns.old.limit }
+        ensures rises { turns.old.spent ≤ turns.new.spent }
+        ensures within { turns.new.spent ≤ turns.new.limit }
+        ensures spent { IfErr result (IsSpentUp turns.new) }
+    {
+        turns.are_within();
+        if self.left == 0 || self.left_in_all == 0 {
+            return Err(GuessFault::Stuck(at));
+        }
+        self.left -= 1;
+        self.left_in_all -= 1;
+        turns.take()
+    }
+}

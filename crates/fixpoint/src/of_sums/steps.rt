@@ -1,0 +1,334 @@
+//! On from one fact by the words that are possible at its address.
+
+ghost use Rattle.std.specs.Prelude.{◌≡◌, ◌≤◌, IfErr, map, true};
+ghost use Rattle.domain.specs.ChainsInCode.{AreShort, chain_of};
+ghost use Rattle.turns.specs.Counts.{IsSpentUp};
+
+use crate::halt::Halt;
+use crate::invariant::are_short;
+use crate::of_sums::program::SumProgram;
+use crate::of_sums::rooms::{CallRooms, PartRooms, SumRooms};
+use crate::of_sums::search::{MOST_WORDS, SumSearch};
+use crate::of_sums::splits::{Case, MOST_VALUES};
+use domain::{Chain, Location};
+use facts::{Fact, Kind, KnownFact, NarrowedFact, NextFact, Outcome, Outcomes, Part, Place};
+use instruct::{refers_indirectly, target};
+use std::alloc::Allocator;
+use turns::{GuessFault, Turns};
+use word12::{Link, Word};
+use wordset::WordSet;
+
+/// Where facts go to be kept: at which address, and for what is joined there, in the body of which routine.
+#[derive(Clone, Copy)]
+pub(crate) struct Goal {
+    pub(crate) to: Word,
+    pub(crate) routine: Option<Word>,
+    pub(crate) exit: Option<usize>,
+}
+
+impl<A: Allocator + Copy> SumSearch<A> {
+    /// Goes on from a fact at an address.
+    pub(crate) fn visit<D: Allocator>(
+        &mut self,
+        program: &SumProgram<'_, D>,
+        at: Word,
+        index: usize,
+        room: &mut SumRooms<A>,
+        turns: &mut Turns,
+    ) -> Result<(), GuessFault>
+        ensures limit { turns.new.limit ≡ turns.old.limit }
+        ensures rises { turns.old.spent ≤ turns.new.spent }
+        ensures within { turns.new.spent ≤ turns.new.limit }
+        ensures spent { IfErr result (IsSpentUp turns.new) }
+    {
+        turns.are_within();
+        let Some(kept) = self.table.facts.get(at, index) else {
+            return Ok(());
+        };
+        kept.put(&mut room.calls.claimed);
+        if !room.calls.narrow(program.base.image) {
+            return Ok(());
+        }
+        let place = program.place(&program.owner(at));
+        let mut possible = WordSet::empty();
+        place.put_possible(&room.calls.fact, at, &mut possible);
+        if possible.count() > MOST_WORDS {
+            return Ok(());
+        }
+        for word in possible.iter() {
+            self.step_in_turn(program, &place, at, word, room, turns)?;
+        }
+        Ok(())
+    }
+
+    /// Goes on by a word, if it may stand there; the turn for its `post` is taken right before it.
+    fn step_in_turn<D: Allocator>(
+        &mut self,
+        program: &SumProgram<'_, D>,
+        place: &Place<'_, D>,
+        at: Word,
+        word: Word,
+        room: &mut SumRooms<A>,
+        turns: &mut Turns,
+    ) -> Result<(), GuessFault>
+        ensures limit { turns.new.limit ≡ turns.old.limit }
+        ensures rises { turns.old.spent ≤ turns.new.spent }
+        ensures within { turns.new.spent ≤ turns.new.limit }
+        ensures spent { IfErr result (IsSpentUp turns.new) }
+    {
+        self.take_turn(at, turns)?;
+        if !program.may_be_met(place, at, word) {
+            return Ok(());
+        }
+        if !may_go_on(program, place, at, word, &mut room.calls) {
+            return Ok(());
+        }
+        match self.step(program, place, at, word, room) {
+            Ok(()) => Ok(()),
+            Err(halt) => Err(halt.fault()),
+        }
+    }
+
+    /// Goes on where the outcomes of a word lead.
+    fn step<D: Allocator>(
+        &mut self,
+        program: &SumProgram<'_, D>,
+        place: &Place<'_, D>,
+        at: Word,
+        word: Word,
+        room: &mut SumRooms<A>,
+    ) -> Result<(), Halt> {
+        let mut written = WordSet::empty();
+        place.put_writes(&room.calls.fact, at, word, &mut written);
+        self.write(&place.routine, &written)?;
+        if !put_outcomes(place, &room.calls.fact, at, word, &mut room.outcomes) {
+            return Ok(());
+        }
+        let kind = room.outcomes.first.kind;
+        match kind {
+            Kind::Calls => self.call_each(program, place, at, room),
+            Kind::Returns => self.come_back(program, place, at, word, room),
+            Kind::Goes | Kind::Nothing => self.follow_all(program, place, room),
+        }
+    }
+
+    /// Goes on where all outcomes lead that go on in the same body.
+    fn follow_all<D: Allocator>(
+        &mut self,
+        program: &SumProgram<'_, D>,
+        place: &Place<'_, D>,
+        room: &mut SumRooms<A>,
+    ) -> Result<(), Halt> {
+        let SumRooms {
+            outcomes,
+            parts,
+            ..
+        } = room;
+        self.follow(program, place, &mut outcomes.first, parts)?;
+        self.follow(program, place, &mut outcomes.second, parts)?;
+        self.follow(program, place, &mut outcomes.third, parts)?;
+        self.follow(program, place, &mut outcomes.fourth, parts)
+    }
+
+    /// Goes on at each address of the same body where an outcome leads, if it leads anywhere.
+    fn follow<D: Allocator>(
+        &mut self,
+        program: &SumProgram<'_, D>,
+        place: &Place<'_, D>,
+        outcome: &mut Outcome,
+        rooms: &mut PartRooms<A>,
+    ) -> Result<(), Halt> {
+        if outcome.kind != Kind::Goes {
+            return Ok(());
+        }
+        let mut addresses = WordSet::empty();
+        outcome.targets.put(&mut addresses);
+        for to in addresses.iter() {
+            if program.has(&place.routine, to) {
+                let goal = Goal {
+                    to,
+                    routine: place.routine,
+                    exit: None,
+                };
+                self.land(program, &goal, &mut outcome.fact, rooms)?;
+            }
+        }
+        Ok(())
+    }
+
+    /// Lets a fact be known where it goes, each of its links for itself.
+    pub(crate) fn land<D: Allocator>(
+        &mut self,
+        program: &SumProgram<'_, D>,
+        goal: &Goal,
+        fact: &mut NextFact,
+        rooms: &mut PartRooms<A>,
+    ) -> Result<(), Halt> {
+        for link in [Link::CLEAR, Link::SET] {
+            if fact.link().contains(link) {
+                let place = program.place(&goal.routine);
+                rooms.part.take(&place, fact, link);
+                if !rooms.part.is_none() {
+                    self.reach_each(program, goal, rooms)?;
+                }
+            }
+        }
+        Ok(())
+    }
+
+    /// Lets a part be known where it goes, each word for itself of a cell by which facts are told apart.
+    fn reach_each<D: Allocator>(
+        &mut self,
+        program: &SumProgram<'_, D>,
+        goal: &Goal,
+        rooms: &mut PartRooms<A>,
+    ) -> Result<(), Halt> {
+        if let Some(cell) = self.split.cell {
+            let name = Location::Cell(cell);
+            let mut set = WordSet::all();
+            rooms.part.put_set_of(&name, &mut set);
+            if has_few_words(&set) {
+                return self.reach_values(program, goal, &name, &set, rooms);
+            }
+        }
+        self.reach(
+            program,
+            goal,
+            rooms.part.fact(),
+            &mut rooms.before,
+            &mut rooms.after,
+        )
+    }
+
+    /// Lets a part be known where it goes, each word of a name for itself.
+    fn reach_values<D: Allocator>(
+        &mut self,
+        program: &SumProgram<'_, D>,
+        goal: &Goal,
+        name: &Location,
+        values: &WordSet,
+        rooms: &mut PartRooms<A>,
+    ) -> Result<(), Halt> {
+        for value in values.iter() {
+            if rooms.has_value(program.base.image, name, value) {
+                self.reach(
+                    program,
+                    goal,
+                    &*rooms.met,
+                    &mut rooms.before,
+                    &mut rooms.after,
+                )?;
+            }
+        }
+        Ok(())
+    }
+
+    /// A run may come to where a part goes, and know this.
+    fn reach<D: Allocator, F: KnownFact>(
+        &mut self,
+        program: &SumProgram<'_, D>,
+        goal: &Goal,
+        known: &F,
+        before: &mut Fact,
+        after: &mut Fact,
+    ) -> Result<(), Halt> {
+        match goal.exit {
+            None => {
+                let case = self.split.case_of(&goal.routine, known);
+                self.reach_fact(program, goal, &case, known, before, after)
+            }
+            Some(offset) => {
+                let case = self.split.case_of_exit(&goal.routine, offset, known);
+                self.reach_exit(program, goal, &case, known, before, after)
+            }
+        }
+    }
+
+    /// The same at an address.
+    fn reach_fact<D: Allocator, F: KnownFact>(
+        &mut self,
+        program: &SumProgram<'_, D>,
+        goal: &Goal,
+        case: &Case,
+        known: &F,
+        before: &mut Fact,
+        after: &mut Fact,
+    ) -> Result<(), Halt> {
+        let at = goal.to;
+        let merge = self.merge_at(program, at);
+        let is_less = if self.gathers {
+            let wanted = self.table.facts.relations_in(at, case);
+            self.gathered
+                .facts
+                .reach(at, at, case, known, wanted, &merge, before, after)?
+        } else {
+            self.table
+                .facts
+                .reach(at, at, case, known, &[], &merge, before, after)?
+        };
+        if is_less {
+            self.waiting.insert(at);
+        }
+        Ok(())
+    }
+}
+
+/// Whether a set has more than one word, and few.
+fn has_few_words(set: &WordSet) -> bool {
+    let count = set.count();
+    count > 1 && count <= MOST_VALUES
+}
+
+/// Whether each chain has room for one step more.
+#[tactic(auto, using(crate::proofs::RoomLemmas::steps_told))]
+fn have_room(chains: &[Chain]) -> bool
+    ensures { result ≡ true → AreShort (map chain_of chains.now) }
+{
+    for chain in chains {
+        if chain.steps().len() >= 17 {
+            return false;
+        }
+    }
+    true
+}
+
+/// Puts what may come of a word into the lent room, if the fact has few enough chains and terms.
+#[tactic(auto, using(crate::proofs::RoomLemmas::chains_told))]
+fn put_outcomes<D: Allocator>(
+    place: &Place<'_, D>,
+    fact: &NarrowedFact,
+    at: Word,
+    word: Word,
+    outcomes: &mut Outcomes,
+) -> bool {
+    if fact.chains().len() > 4 {
+        return false;
+    }
+    if !are_short(fact.relations().as_slice()) || !have_room(fact.chains()) {
+        return false;
+    }
+    fact.is_within_room();
+    place.put_outcomes(fact, at, word, outcomes);
+    true
+}
+
+/// Whether a run may go on by a word where the fact in the lent room holds; where what it refers to is only permitted in part,
+/// the fact then says that its pointer keeps to that.
+fn may_go_on<D: Allocator>(
+    program: &SumProgram<'_, D>,
+    place: &Place<'_, D>,
+    at: Word,
+    word: Word,
+    calls: &mut CallRooms,
+) -> bool {
+    if program.may_access(place, &calls.fact, at, word) {
+        return true;
+    }
+    let named = target(word, at);
+    if !refers_indirectly(word) || !program.base.declaration.is_variable(named) {
+        return false;
+    }
+    let permitted = program.permitted(&place.routine, at, word);
+    calls.clip(program.base.image, named, &permitted)
+        && program.may_access(place, &calls.fact, at, word)
+}

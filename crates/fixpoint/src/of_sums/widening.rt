@@ -1,0 +1,132 @@
+//! How sets that go on growing are made ones that do not: on to the next words at which sets may end, counted from the start of
+//! the longest gap, so that a count of negative numbers ends at 0.
+
+use word12::Word;
+use wordset::WordSet;
+
+/// How often a set grows before it goes on to the next thresholds, and before nothing is said of it any more.
+#[derive(Clone, Copy)]
+pub(crate) struct Pace {
+    pub(crate) jump: u32,
+    pub(crate) drop: u32,
+}
+
+/// How often sets of counted cells, of other names, and of sums grow.
+#[derive(Clone, Copy)]
+pub(crate) struct Paces {
+    pub(crate) counted: Pace,
+    pub(crate) other: Pace,
+    pub(crate) sums: Pace,
+}
+
+impl Paces {
+    /// Soon.
+    pub(crate) fn soon() -> Paces {
+        Paces {
+            counted: Pace { jump: 10, drop: 40 },
+            other: Pace { jump: 16, drop: 40 },
+            sums: Pace { jump: 8, drop: 24 },
+        }
+    }
+}
+
+/// By how much a set is turned so that it begins behind its longest gap: the first word there.
+fn behind_longest_gap(set: &WordSet) -> Word {
+    let Some(first) = set.least() else {
+        return Word::ZERO;
+    };
+    let Some(last) = set.greatest() else {
+        return Word::ZERO;
+    };
+    let mut longest = first.index() + 4096 - last.index();
+    let mut start = first;
+    let mut before = last;
+    for (low, high) in set.ranges() {
+        if low.index() > before.index() {
+            let gap = low.index() - before.index();
+            if gap > longest {
+                longest = gap;
+                start = low;
+            }
+        }
+        before = high;
+    }
+    start
+}
+
+/// The least threshold from a word on, or 7777.
+fn threshold_from(thresholds: &WordSet, word: Word) -> Word {
+    match thresholds.first_from(word.index()) {
+        None => Word::from_index(0o7777),
+        Some(found) => found,
+    }
+}
+
+/// The greatest threshold up to a word, or the word.
+fn threshold_up_to(thresholds: &WordSet, word: Word) -> Word {
+    match thresholds
+        .meet(&WordSet::range(Word::ZERO, word))
+        .greatest()
+    {
+        None => word,
+        Some(found) => found,
+    }
+}
+
+/// The words above a word.
+fn above(word: Word) -> WordSet {
+    WordSet::all().minus(&WordSet::range(Word::ZERO, word))
+}
+
+/// A set that grew out of one that begins with 0, where it went on upwards or came from above.
+fn beyond(top: Word, grown: &WordSet, new: &WordSet, thresholds: &WordSet) -> WordSet {
+    let middle = Word::from_index(((top.index() + 4095) / 2).min(4095));
+    let mut set = *grown;
+    let up = new.minus(&above(middle));
+    let down = new.meet(&above(middle));
+    if let Some(last) = up.greatest() {
+        set.insert_range(top, threshold_from(thresholds, last));
+    }
+    if let Some(first) = down.least() {
+        let from = threshold_up_to(&thresholds.meet(&above(top)), first);
+        set.insert_range(from, Word::from_index(0o7777));
+    }
+    set
+}
+
+/// A set that grew out of another, on to the next thresholds where it grew.
+fn to_thresholds(old: &WordSet, grown: &WordSet, thresholds: &WordSet) -> WordSet {
+    let start = behind_longest_gap(old);
+    let back = start.complement().increment();
+    let turned = old.shift(back);
+    let more = grown.shift(back);
+    let Some(top) = turned.greatest() else {
+        return *grown;
+    };
+    let new = more.minus(&turned).meet(&above(top));
+    let wide = if new.is_empty() {
+        more.union(&WordSet::range(Word::ZERO, top))
+    } else {
+        beyond(top, &more, &new, &thresholds.shift(back))
+    };
+    wide.shift(start)
+}
+
+impl Pace {
+    /// A set that grew out of another so often.
+    pub(crate) fn widened(
+        &self,
+        old: &WordSet,
+        grown: &WordSet,
+        growths: u32,
+        thresholds: &WordSet,
+    ) -> WordSet {
+        if growths > self.drop {
+            return WordSet::all();
+        }
+        if growths > self.jump {
+            return to_thresholds(old, grown, thresholds);
+        }
+        *grown
+    }
+}

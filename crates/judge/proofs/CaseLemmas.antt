@@ -1,0 +1,110 @@
+-- What was found of one claimed fact, from what the code read, put and asked.
+use Rattle.std.proofs.Common.{◌≡◌, ℕ, ◌+◌, ◌*◌, ◌≤◌, Bool, true, false, not, List, [], ◌∷◌, length, map, suc, refl, sym, ap, ◌∙◌, subst, inl, inr, arith}
+use Rattle.std.specs.Prelude.{IsTrue, ◌↔◌, if◌then◌else◌}
+use Rattle.std.proofs.lemmas.Bool.{true≢false}
+use Rattle.wordset.specs.Words.{Words}
+use Rattle.processor.specs.Runs.{Image}
+use Rattle.declaration.specs.Declaration.{Routine}
+use Rattle.domain.specs.Facts.{Fact, Rules, OfEquations, OfSums}
+use Rattle.domain.specs.Adding.{is_void}
+use Rattle.domain.specs.CellsInCode.{cell_sets_of}
+use Rattle.domain.specs.RelationsInCode.{relations_of}
+use Rattle.domain.specs.Chains.{Chain}
+use Rattle.domain.specs.ChainsInCode.{chain_of, AreShort}
+use Rattle.domain.specs.FactInCode.{fact_in_code}
+use Rattle.facts.specs.Shaped.{HaveFewTerms}
+use Rattle.domain.specs.Narrowing.{narrowed}
+use Rattle.domain.specs.declared.sum_fact.SumFact.{SumFact}
+use Rattle.facts.proofs.KeepingLemmas.{narrowed_few, narrowed_short, narrowed_chains}
+use Rattle.judge.specs.Landing.{Case, sites_of, asked}
+use Rattle.judge.specs.Shapes.{HasShape, IsRoomy}
+use Rattle.judge.specs.Sources.{sited_one}
+use Rattle.judge.specs.Bodies.{IsOfBody}
+use Rattle.judge.specs.Asked.{HoldsOfFact, asked_of, IsLeastPlace, IsLeastOf}
+use Rattle.judge.proofs.SourceLemmas.{sited_alone}
+use Rattle.judge.proofs.AskedLemmas.{of_one, of_none}
+
+-- ---- the fact that is asked
+
+pub asked_sums : (rules : Rules) (image : Image) (f g : Fact) (b : Bool) → rules ≡ OfSums → g ≡ narrowed image f → b ≡ is_void g → asked rules image (f ∷ []) ≡ (if not b then g ∷ [] else [])
+asked_sums rules image f g b sums is void = ap (λ (k : Rules). asked k image (f ∷ [])) sums ∙ go b (void ∙ ap is_void is)
+  where
+    go : (x : Bool) → x ≡ is_void (narrowed image f) → asked OfSums image (f ∷ []) ≡ (if not x then g ∷ [] else [])
+    go true v = rw (← v) refl
+    go false v = rw (← v, is) refl
+
+pub asked_equations : (rules : Rules) (image : Image) (f g : Fact) → rules ≡ OfEquations → g ≡ f → asked rules image (f ∷ []) ≡ g ∷ []
+asked_equations rules image f g equations is = ap (λ (k : Rules). asked k image (f ∷ [])) equations ∙ ap (λ (x : Fact). x ∷ []) (sym is)
+
+pub asked_alone : (j : Case) (r : Routine) (own : Rules) (sites : Words) (f g h : Fact) (xs : List Fact) → own ≡ j.certificate.rules → sites ≡ sites_of j.certificate r → g ≡ f → h ≡ sited_one own sites g →
+    asked own j.image (h ∷ []) ≡ xs → asked_of j r (f ∷ []) ≡ xs
+asked_alone j r own sites f g h xs rules same read put told =
+    let here : h ≡ sited_one j.certificate.rules (sites_of j.certificate r) f =
+    put ∙ (ap (λ (k : Rules). sited_one k sites g) rules ∙ (ap (λ (s : Words). sited_one j.certificate.rules s g) same ∙ ap (λ (x : Fact). sited_one j.certificate.rules (sites_of j.certificate r) x) read)) in
+    ap (λ (ys : List Fact). asked j.certificate.rules j.image ys) (sited_alone j.certificate.rules (sites_of j.certificate r) f ∙ ap (λ (x : Fact). x ∷ []) (sym here)) ∙
+    (ap (λ (k : Rules). asked k j.image (h ∷ [])) (sym rules) ∙ told)
+
+pub same_point : (i j : Case) (q r : Routine) (b a : ℕ) (g h : Fact) (limit place : ℕ) → i ≡ j → q ≡ r → b ≡ a → g ≡ h → IsLeastPlace (λ v. HoldsOfFact i v q b g) limit place → IsLeastPlace (λ v. HoldsOfFact j v r a h) limit place
+same_point i j q r b a g h limit place case routine at fact k =
+    subst (λ (x : Fact). IsLeastPlace (λ v. HoldsOfFact j v r a x) limit place) fact
+    (subst (λ (x : ℕ). IsLeastPlace (λ v. HoldsOfFact j v r x g) limit place) at
+    (subst (λ (x : Routine). IsLeastPlace (λ v. HoldsOfFact j v x b g) limit place) routine
+    (subst (λ (x : Case). IsLeastPlace (λ v. HoldsOfFact x v q b g) limit place) case k)))
+
+-- whether it is where it may be
+allowed : (j : Case) (r : Routine) (own : Rules) (f g : Fact) (t : Bool) → own ≡ j.certificate.rules → g ≡ f → (IsTrue t ↔ IsOfBody own r g) → IsTrue t ↔ IsOfBody j.certificate.rules r f
+allowed j r own f g t rules read told = subst (λ (x : Fact). IsTrue t ↔ IsOfBody j.certificate.rules r x) read (subst (λ (k : Rules). IsTrue t ↔ IsOfBody k r g) rules told)
+
+pub not_allowed : (j : Case) (r : Routine) (a : ℕ) (own : Rules) (f g : Fact) (limit : ℕ) (t : Bool) → own ≡ j.certificate.rules → g ≡ f → t ≡ false → (IsTrue t ↔ IsOfBody own r g) → IsLeastOf j r a f limit 1
+not_allowed j r a own f g limit t rules read fails told = inl (refl, λ h. true≢false (sym ((allowed j r own f g t rules read told).1 h) ∙ fails))
+
+pub not_asked : (j : Case) (r : Routine) (a : ℕ) (own : Rules) (sites : Words) (f g h k : Fact) (limit : ℕ) (t b : Bool) → 2 ≤ limit → own ≡ j.certificate.rules → sites ≡ sites_of j.certificate r → g ≡ f → t ≡ true → (IsTrue t ↔ IsOfBody own r g) →
+    h ≡ sited_one own sites g → asked own j.image (h ∷ []) ≡ (if b then k ∷ [] else []) → b ≡ false → IsLeastOf j r a f limit limit
+not_asked j r a own sites f g h k limit t b low rules same read is told put chosen none =
+    inr ((allowed j r own f g t rules read told).0 is, of_none j r a f limit low (asked_alone j r own sites f g h [] rules same read put (chosen ∙ ap (λ (x : Bool). if x then k ∷ [] else []) none)))
+
+pub is_asked : (j : Case) (r : Routine) (a : ℕ) (own : Rules) (sites : Words) (f g h k : Fact) (limit place : ℕ) (t b : Bool) → own ≡ j.certificate.rules → sites ≡ sites_of j.certificate r → g ≡ f → t ≡ true → (IsTrue t ↔ IsOfBody own r g) →
+    h ≡ sited_one own sites g → asked own j.image (h ∷ []) ≡ (if b then k ∷ [] else []) → b ≡ true → IsLeastPlace (λ v. HoldsOfFact j v r a k) limit place → IsLeastOf j r a f limit place
+is_asked j r a own sites f g h k limit place t b rules same read is told put chosen some least =
+    inr ((allowed j r own f g t rules read told).0 is, of_one j r a f k limit place (asked_alone j r own sites f g h (k ∷ []) rules same read put (chosen ∙ ap (λ (x : Bool). if x then k ∷ [] else []) some)) least)
+
+-- ---- room
+
+mapped : {A B : Type 0} (f : A → B) (xs : List A) → length (map f xs) ≡ length xs
+mapped f [] = refl
+mapped f (x ∷ xs) = ap suc (mapped f xs)
+
+chain_count : {C R : ℕ} (g : SumFact C R) (cs : List Chain) → (fact_in_code g).chains ≡ cs → length g.chains.items ≡ length cs
+chain_count g cs is = sym (mapped chain_of g.chains.items) ∙ ap length is
+
+pub copied_roomy : {C R D S : ℕ} (g : SumFact C R) (f : SumFact D S) → HasShape (fact_in_code f) → length (cell_sets_of f.cells) ≤ 64 → length (relations_of f.relations) ≤ 32 →
+    fact_in_code g ≡ fact_in_code f → cell_sets_of g.cells ≡ cell_sets_of f.cells → relations_of g.relations ≡ relations_of f.relations → IsRoomy g
+copied_roomy g f shape cells relations is same alike =
+    let count : length g.chains.items ≡ length (fact_in_code f).chains = chain_count g (fact_in_code f).chains (ap (λ (x : Fact). x.chains) is) in
+    let few : length (fact_in_code f).chains ≤ 4 = shape.few in
+    record {
+      terms = subst (λ (x : Fact). HaveFewTerms x.relations) (sym is) shape.terms;
+      short = subst (λ (x : Fact). AreShort x.chains) (sym is) shape.short;
+      cells = omega (arith, cells, ap length same);
+      relations = omega (arith, relations, ap length alike);
+      chains = omega (arith, relations, ap length alike, count, few);
+    }
+
+pub narrowed_roomy : {C R D S : ℕ} (image : Image) (g : SumFact C R) (f : SumFact D S) → HasShape (fact_in_code f) → length (cell_sets_of f.cells) ≤ 64 → length (relations_of f.relations) ≤ 32 →
+    fact_in_code g ≡ narrowed image (fact_in_code f) →
+    length (cell_sets_of g.cells) ≤ length (cell_sets_of f.cells) + 2 * length (relations_of f.relations) + length f.chains.items →
+    length (relations_of g.relations) ≤ 2 * length (relations_of f.relations) + length f.chains.items → IsRoomy g
+narrowed_roomy image g f shape cells relations is more_cells more_relations =
+    let count : length g.chains.items ≡ length (fact_in_code f).chains = chain_count g (fact_in_code f).chains (ap (λ (x : Fact). x.chains) is ∙ narrowed_chains image (fact_in_code f)) in
+    let own : length f.chains.items ≡ length (fact_in_code f).chains = chain_count f (fact_in_code f).chains refl in
+    let few : length (fact_in_code f).chains ≤ 4 = shape.few in
+    record {
+      terms = subst (λ (x : Fact). HaveFewTerms x.relations) (sym is) (narrowed_few image (fact_in_code f) shape.terms);
+      short = subst (λ (x : Fact). AreShort x.chains) (sym is) (narrowed_short image (fact_in_code f) shape.short);
+      cells = omega (arith, cells, relations, more_cells, own, few);
+      relations = omega (arith, relations, more_relations, own, few);
+      chains = omega (arith, relations, more_relations, count, own, few);
+    }
+
+pub narrowing_fits : {D S : ℕ} (f : SumFact D S) → HasShape (fact_in_code f) → length f.chains.items ≤ 4
+narrowing_fits f shape = let own : length f.chains.items ≡ length (fact_in_code f).chains = chain_count f (fact_in_code f).chains refl in omega (arith, own, shape.few)

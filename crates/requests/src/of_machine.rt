@@ -1,0 +1,166 @@
+//! The commands that run the program of a source, or list its words, with the symbols of the source. It is tested, not
+//! proved.
+
+pub(crate) mod places;
+mod words;
+
+use crate::of_files::joined::{hold_session_on, hold_teletype_session_on};
+use crate::of_files::tapes::run_on;
+use crate::of_machine::places::{Named, named_in};
+use crate::of_machine::words::words_of;
+use crate::of_sources::assembled::{AssembledSource, described};
+use crate::of_sources::numbering::{Given, Promise, lend, machine_line, read_parts};
+use crate::of_sources::told::tell_unread;
+use crate::source_faults::{tell_of, tell_source, unopened};
+use crate::telling::tell_misuse;
+use command_line::{MachineTask, RunRequest, Session, SourcedRequest, TeletypeSession};
+use command_parts::options::{RunOptions, SessionOptions, TeletypeOptions};
+use command_parts::status::{Fault, Status};
+use labels::{Numbered, NumberingFault, number};
+use std::alloc::Global;
+use std::io;
+use std::rt::Files;
+use streams::put;
+use streams::standard::{Reads, Writes};
+
+/// The tape of a source that was read, and its lines.
+fn numbered_of(alloc: Global, given: &Given) -> Result<Numbered<Global>, NumberingFault> {
+    match lend(alloc, &given.parts) {
+        Ok(parts) => number(alloc, &parts, &given.text),
+        Err(_) => Err(NumberingFault::NoMemory),
+    }
+}
+
+/// Runs a program with these cells shown and these stops.
+fn run_of<'a>(run: &RunRequest<'a>, named: &Named) -> RunRequest<'a> {
+    RunRequest {
+        tape: run.tape,
+        events: run.events,
+        options: RunOptions {
+            show: named.show,
+            ..run.options
+        },
+        stopping: named.stopping,
+        last: run.last,
+    }
+}
+
+/// A run with an operator with these cells shown.
+fn session_of<'a>(session: &Session<'a>, named: &Named) -> Session<'a> {
+    Session {
+        tape: session.tape,
+        joined: session.joined,
+        options: SessionOptions {
+            run: RunOptions {
+                show: named.show,
+                ..session.options.run
+            },
+            ..session.options
+        },
+        summary: session.summary,
+    }
+}
+
+/// A session at the teletype with these cells shown.
+fn teletype_of<'a>(session: &TeletypeSession<'a>, named: &Named) -> TeletypeSession<'a> {
+    TeletypeSession {
+        tape: session.tape,
+        reader: session.reader,
+        punch: session.punch,
+        options: TeletypeOptions {
+            show: named.show,
+            ..session.options
+        },
+        summary: session.summary,
+    }
+}
+
+/// Does what is asked for with the program of a source that was assembled.
+fn carry_out<R: Files + Input + Print + Eprint>(
+    rt: &R,
+    alloc: Global,
+    source: &AssembledSource,
+    asked: &SourcedRequest<'_>,
+) -> Result<Status, Fault> {
+    let named = match named_in(source.numbered.map.symbols(), asked) {
+        Ok(named) => named,
+        Err(misuse) => return Ok(tell_misuse(rt, &misuse.with_symbols())),
+    };
+    let mut frames = Reads::new(source.numbered.tape.as_slice());
+    match &asked.task {
+        MachineTask::Run(run) => run_on(rt, alloc, &run_of(run, &named), &mut frames),
+        MachineTask::Session(session) => {
+            hold_session_on(rt, alloc, &session_of(session, &named), &mut frames)
+        }
+        MachineTask::Teletype(session) => {
+            hold_teletype_session_on(rt, alloc, &teletype_of(session, &named), &mut frames)
+        }
+        MachineTask::Dump(dump) => {
+            let text = words_of(alloc, source, dump.profile)?;
+            put(&mut Writes::new(io::writer(rt)), &text)?;
+            Ok(Status::Done)
+        }
+    }
+}
+
+/// Does what is asked for with the program of a source that was read, or tells why it is refused, and says which of its
+/// parts are ignored.
+fn answer_given<R: Files + Input + Print + Eprint>(
+    rt: &R,
+    alloc: Global,
+    given: Given,
+    asked: &SourcedRequest<'_>,
+) -> Result<Status, Fault> {
+    let numbered = match numbered_of(alloc, &given) {
+        Ok(numbered) => numbered,
+        Err(NumberingFault::Source(fault)) => {
+            let parts = lend(alloc, &given.parts)?;
+            let profile = asked.task.profile();
+            return Ok(tell_source(
+                rt,
+                alloc,
+                fault,
+                &asked.parts,
+                &parts,
+                profile,
+                asked.explained,
+            ));
+        }
+        Err(NumberingFault::EmptyImage) => return Err(Fault::EmptyImage),
+        Err(_) => return Err(Fault::NoMemory),
+    };
+    let source = described(alloc, given, numbered, &asked.parts)?;
+    let status = carry_out(rt, alloc, &source, asked)?;
+    tell_unread(rt, alloc, &asked.parts, &lend(alloc, &source.given.parts)?)?;
+    Ok(status)
+}
+
+/// Runs the program of a source, or lists its words. The parts are opened and read in order, and then the other files of
+/// the command are opened.
+///
+/// # Errors
+///
+/// The fault of another file or of the command.
+#[inline(never)]
+pub fn answer_sourced<R: Files + Input + Print + Eprint>(
+    rt: &R,
+    alloc: Global,
+    asked: &SourcedRequest<'_>,
+) -> Result<Status, Fault> {
+    let mut parts = Vec::new(alloc);
+    if let Err(fault) = read_parts(rt, alloc, &asked.parts, &mut parts) {
+        if !asked.explained {
+            return Err(fault);
+        }
+        let name = unopened(&asked.parts, parts.len());
+        return Ok(tell_of(rt, alloc, fault, name, "cannot be opened or read"));
+    }
+    let mut text = Vec::new(alloc);
+    text.extend_from_slice(machine_line(asked.task.profile()))?;
+    let given = Given {
+        parts,
+        text,
+        promise: Promise::Proposed,
+    };
+    answer_given(rt, alloc, given, asked)
+}

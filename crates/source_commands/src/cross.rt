@@ -1,0 +1,192 @@
+//! The table of the symbols of a source, with what its statements do with them.
+
+ghost use Rattle.std.specs.Prelude.{◌≡◌, ◌++◌, IfOk, OnOk};
+ghost use Rattle.std.specs.List.Sorted.{IsPermutation};
+ghost use Rattle.source_commands.specs.Cross.{AddsLines, IsTable, entries_of, head_text};
+
+use crate::mentions::{Mention, Role, Site};
+use itoa::Buffer;
+use labels::Tags;
+use pal_acts::{Name, SymbolTable};
+use std::alloc::{AllocError, Allocator};
+use word12::Word;
+
+/// A symbol of a source, and its value.
+#[derive(Clone, Copy)]
+pub struct Entry {
+    /// The symbol.
+    pub name: Name,
+    /// Its value.
+    pub value: Word,
+}
+
+/// What is done with a symbol, in the order of a line, and what stands before the first place where it is done.
+const ROLES: [(Role, &str); 9] = [
+    (Role::Defines, "  line "),
+    (Role::Calls, "; called "),
+    (Role::JumpsTo, "; jump "),
+    (Role::Points, "; pointer "),
+    (Role::Sets, "; set "),
+    (Role::Counts, "; counted "),
+    (Role::Reads, "; read "),
+    (Role::Holds, "; word "),
+    (Role::Computes, "; used in line "),
+];
+
+/// What places are told by: the source's own symbols, its tags, and how many parts it has.
+#[derive(Clone, Copy)]
+pub struct Places<'s, A: Allocator + Copy> {
+    /// The symbols.
+    pub own: &'s SymbolTable<A>,
+    /// The tags.
+    pub tags: &'s Tags<A>,
+    /// How many parts there are.
+    pub parts: usize,
+}
+
+/// Adds a number in decimal digits.
+fn push_number<A: Allocator>(text: &mut Vec<u8, A>, number: usize) -> Result<(), AllocError> {
+    let mut digits = Buffer::new();
+    text.extend_from_slice(digits.format(number).as_bytes())
+}
+
+/// Adds where something is done: the number of the line, with that of its part where there are several, or the address
+/// by its tag.
+fn push_site<A: Allocator + Copy>(
+    alloc: A,
+    places: &Places<'_, A>,
+    site: Site,
+    text: &mut Vec<u8, A>,
+) -> Result<(), AllocError> {
+    match site {
+        Site::Line(place) => {
+            push_number(text, place.line)?;
+            if places.parts > 1 {
+                text.extend_from_slice(b" of part ")?;
+                push_number(text, place.part)?;
+            }
+            Ok(())
+        }
+        Site::Word(at) => places.tags.push_name(alloc, places.own, at, text),
+    }
+}
+
+/// Adds where one thing is done with a symbol, each place once; nothing where it is done nowhere.
+fn push_role<A: Allocator + Copy>(
+    alloc: A,
+    places: &Places<'_, A>,
+    role: Role,
+    title: &str,
+    mentions: &[Mention],
+    text: &mut Vec<u8, A>,
+) -> Result<(), AllocError> {
+    let mut before = title.as_bytes();
+    let mut last = None;
+    for mention in mentions {
+        if mention.role == role && last != Some(mention.site) {
+            text.extend_from_slice(before)?;
+            push_site(alloc, places, mention.site, text)?;
+            before = b", ";
+            last = Some(mention.site);
+        }
+    }
+    Ok(())
+}
+
+/// What is done with this symbol.
+fn mentions_with<A: Allocator + Copy>(
+    alloc: A,
+    name: Name,
+    mentions: &[Mention],
+) -> Result<Vec<Mention, A>, AllocError> {
+    let mut found = Vec::new(alloc);
+    for mention in mentions {
+        if mention.name == name {
+            found.push(*mention)?;
+        }
+    }
+    Ok(found)
+}
+
+/// What is told of a symbol behind its value.
+fn told_of<A: Allocator + Copy>(
+    alloc: A,
+    places: &Places<'_, A>,
+    name: Name,
+    mentions: &[Mention],
+) -> Result<Vec<u8, A>, AllocError> {
+    let own = mentions_with(alloc, name, mentions)?;
+    let mut text = Vec::new(alloc);
+    for (role, title) in &ROLES {
+        push_role(alloc, places, *role, title, &own, &mut text)?;
+    }
+    Ok(text)
+}
+
+/// Adds a symbol and its value.
+fn push_head<A: Allocator>(text: &mut Vec<u8, A>, entry: Entry) -> Result<(), AllocError>
+    ensures { OnOk result (text.new.items ≡ text.old.items ++ head_text entry) }
+{
+    text.extend_from_slice(&entry.name.letters)?;
+    text.extend_from_slice(b"  ")?;
+    text.extend_from_slice(&entry.value.to_octal())
+}
+
+/// Adds the lines of the table.
+fn push_lines<A: Allocator + Copy>(
+    alloc: A,
+    places: &Places<'_, A>,
+    entries: &[Entry],
+    mentions: &[Mention],
+    text: &mut Vec<u8, A>,
+) -> Result<(), AllocError>
+    ensures { OnOk result (AddsLines entries.now text.old.items text.new.items) }
+{
+    for entry in entries {
+        push_head(text, *entry)?;
+        text.extend_from_slice(&told_of(alloc, places, entry.name, mentions)?)?;
+        text.extend_from_slice(b"\n")?;
+    }
+    Ok(())
+}
+
+/// The symbols of a source as entries, in the order of their definition.
+fn entries_of<A: Allocator + Copy>(
+    alloc: A,
+    own: &SymbolTable<A>,
+) -> Result<Vec<Entry, A>, AllocError>
+    ensures { IfOk result (λ entries. entries.items ≡ entries_of own.now.entries) }
+{
+    let mut entries = Vec::new(alloc);
+    for at in 0..own.len() {
+        if let Some((name, value)) = own.get_index(at) {
+            entries.push(Entry {
+                name: *name,
+                value: *value,
+            })?;
+        }
+    }
+    Ok(entries)
+}
+
+/// The table of the symbols of a source, sorted by their names: of each its value, and where the statements define it
+/// and use it.
+///
+/// # Errors
+///
+/// Memory was refused.
+pub fn table_of<A: Allocator + Copy>(
+    alloc: A,
+    places: &Places<'_, A>,
+    mentions: &[Mention],
+) -> Result<Vec<u8, A>, AllocError>
+    // Each symbol has a line with its value, and there is no other line. The order of the lines, and what is told
+    // behind the values, is tested.
+    ensures { IfOk result (λ text. IsTable places.now.own.now.entries text.items) }
+{
+    let mut entries = entries_of(alloc, places.own)?;
+    entries.sort_by_key(|entry| entry.name.letters)?;
+    let mut text = Vec::new(alloc);
+    push_lines(alloc, places, &entries, mentions, &mut text)?;
+    Ok(text)
+}

@@ -1,0 +1,491 @@
+//! What the statements of a source do with its symbols.
+
+ghost use Rattle.std.specs.Prelude.{◌≡◌, ◌≤◌, ◌++◌, drop, length, take, IfOk, OnOk};
+ghost use Rattle.std.specs.List.{AllByRecursion};
+ghost use Rattle.pal_text.specs.Names.{IsWithin};
+ghost use Rattle.pal_text.specs.Order.{IsPlaced};
+ghost use Rattle.pal_text.specs.Tokens.{is_space};
+ghost use Rattle.pal_asm.specs.Expressions.{name_of};
+ghost use Rattle.source_commands.specs.Mentions.{assignment_uses, begins_with, body_uses, direct_role, is_indirect, is_own, is_symbol, reference_role, role_behind, statement_uses, use_of, uses, word_role, word_uses};
+
+use pal_acts::{Name, PlacedWord, SourcePlace, SymbolTable};
+use pal_text::{Ending, Form, Kind, Part, Statement, TextFault, Token, statements};
+use std::alloc::{AllocError, Allocator};
+use word12::Word;
+
+/// What a statement does with a symbol.
+#[derive(Clone, Copy, PartialEq, Eq, Debug)]
+pub enum Role {
+    /// It gives it its value, as a tag or by an assignment.
+    Defines,
+    /// It calls it by JMS.
+    Calls,
+    /// It jumps to it by JMP.
+    JumpsTo,
+    /// It uses its cell as a pointer.
+    Points,
+    /// It sets its cell by DCA.
+    Sets,
+    /// It adds 1 to its cell by ISZ.
+    Counts,
+    /// It reads its cell by AND or TAD.
+    Reads,
+    /// Its word holds the value, or is computed by it.
+    Holds,
+    /// It computes an origin or the value of another symbol by it.
+    Computes,
+}
+
+/// Where a statement is found: by its line, or by the address of its word.
+#[derive(Clone, Copy, PartialEq, Eq, Debug)]
+pub enum Site {
+    /// By its line.
+    Line(SourcePlace),
+    /// By the address of its word.
+    Word(Word),
+}
+
+/// A symbol in a statement, and what that does with it.
+#[derive(Clone, Copy)]
+pub struct Mention {
+    /// The symbol.
+    pub name: Name,
+    /// What is done with it.
+    pub role: Role,
+    /// Where.
+    pub site: Site,
+}
+
+/// Where a statement is found: by its line, and if it is a word by the address of that.
+#[derive(Clone, Copy)]
+pub struct Standing {
+    /// Its line.
+    pub line: Site,
+    /// Its word.
+    pub word: Site,
+}
+
+const AND: Name = Name {
+    letters: *b"AND   ",
+};
+
+const TAD: Name = Name {
+    letters: *b"TAD   ",
+};
+
+const ISZ: Name = Name {
+    letters: *b"ISZ   ",
+};
+
+const DCA: Name = Name {
+    letters: *b"DCA   ",
+};
+
+const JMS: Name = Name {
+    letters: *b"JMS   ",
+};
+
+const JMP: Name = Name {
+    letters: *b"JMP   ",
+};
+
+/// The mark of an indirect reference.
+const INDIRECT: Name = Name {
+    letters: *b"I     ",
+};
+
+/// The mark of a reference to page zero.
+const ZERO_PAGE: Name = Name {
+    letters: *b"Z     ",
+};
+
+/// Whether a token of this kind is an ordinary symbol.
+fn is_symbol(kind: Kind) -> bool
+    ensures { result ≡ is_symbol kind }
+{
+    matches!(kind, Kind::Symbol)
+}
+
+/// Whether a token of this kind is a space.
+fn is_space(kind: Kind) -> bool
+    ensures { result ≡ is_space kind }
+{
+    matches!(kind, Kind::Space)
+}
+
+/// The name of a symbol's token.
+fn name_of(source: &[u8], token: Token) -> Name
+    requires { IsWithin (length source.now) token }
+    ensures { result ≡ name_of source.now token }
+{
+    Name::new(&source[token.start..token.end])
+}
+
+/// What an operation that takes an address does with the cell that it names directly.
+fn direct_role(name: Name) -> Option<Role>
+    ensures { result ≡ direct_role name }
+{
+    if name == AND || name == TAD {
+        Some(Role::Reads)
+    } else if name == ISZ {
+        Some(Role::Counts)
+    } else if name == DCA {
+        Some(Role::Sets)
+    } else if name == JMS {
+        Some(Role::Calls)
+    } else if name == JMP {
+        Some(Role::JumpsTo)
+    } else {
+        None
+    }
+}
+
+/// Whether a space and this symbol stand at the front of tokens.
+fn begins_with(mark: Name, source: &[u8], tokens: &[Token]) -> bool
+    requires { AllByRecursion (IsWithin (length source.now)) tokens.now }
+    ensures { result ≡ begins_with mark source.now tokens.now }
+{
+    match tokens {
+        [space, token, ..] => {
+            is_space(space.kind) && is_symbol(token.kind) && name_of(source, *token) == mark
+        }
+        _ => false,
+    }
+}
+
+/// The tokens behind the first two.
+fn behind_two(tokens: &[Token]) -> &[Token]
+    ensures { result.now ≡ drop 2 tokens.now }
+{
+    match tokens {
+        [_, _, more @ ..] => more,
+        _ => &[],
+    }
+}
+
+/// Whether what follows an operation says that the reference is indirect.
+fn is_indirect(source: &[u8], rest: &[Token]) -> bool
+    requires { AllByRecursion (IsWithin (length source.now)) rest.now }
+    ensures { result ≡ is_indirect source.now rest.now }
+{
+    begins_with(INDIRECT, source, rest)
+        || (begins_with(ZERO_PAGE, source, rest) && begins_with(INDIRECT, source, behind_two(rest)))
+}
+
+/// What a reference does with the cell that it names.
+fn reference_role(direct: Option<Role>, indirect: bool) -> Role
+    ensures { result ≡ reference_role direct indirect }
+{
+    match direct {
+        None => Role::Holds,
+        Some(role) => { if indirect { Role::Points } else { role } }
+    }
+}
+
+/// What a word does with the first of the source's own symbols in it.
+fn word_role(source: &[u8], tokens: &[Token]) -> Role
+    requires { AllByRecursion (IsWithin (length source.now)) tokens.now }
+    ensures { result ≡ word_role source.now tokens.now }
+{
+    match tokens {
+        [first, rest @ ..] if is_symbol(first.kind) => {
+            reference_role(
+                direct_role(name_of(source, *first)),
+                is_indirect(source, rest),
+            )
+        }
+        _ => Role::Holds,
+    }
+}
+
+/// Whether a token is one of the source's own symbols.
+fn is_own<S: Allocator + Copy>(own: &SymbolTable<S>, source: &[u8], token: Token) -> bool
+    requires { IsWithin (length source.now) token }
+    ensures { result ≡ is_own own.now.entries source.now token }
+{
+    is_symbol(token.kind) && own.get(&name_of(source, token)).is_some()
+}
+
+/// Adds what a token does with a symbol, if it is one of the source's own, and tells whether it is.
+fn push_use<A: Allocator, S: Allocator + Copy>(
+    own: &SymbolTable<S>,
+    source: &[u8],
+    site: &Site,
+    role: Role,
+    token: Token,
+    mentions: &mut Vec<Mention, A>,
+) -> Result<bool, AllocError>
+    requires { IsWithin (length source.now) token }
+    ensures own { IfOk result (λ is. is ≡ is_own own.now.entries source.now token) }
+    ensures added { OnOk result (mentions.new.items ≡ mentions.old.items ++
+        use_of own.now.entries source.now site.now role token) }
+{
+    if !is_own(own, source, token) {
+        return Ok(false);
+    }
+    mentions.push(Mention {
+        name: name_of(source, token),
+        role,
+        site: *site,
+    })?;
+    Ok(true)
+}
+
+/// What is done with the next symbol behind a token, that is one of the source's own or not.
+fn role_behind(is_own: bool, role: Role, later: Role) -> Role
+    ensures { result ≡ role_behind is_own role later }
+{
+    if is_own { later } else { role }
+}
+
+/// Adds what tokens do with the source's own symbols among them: one thing with the first of these, and another with
+/// each later one.
+fn push_uses<A: Allocator, S: Allocator + Copy>(
+    own: &SymbolTable<S>,
+    source: &[u8],
+    site: &Site,
+    first: Role,
+    later: Role,
+    tokens: &[Token],
+    mentions: &mut Vec<Mention, A>,
+) -> Result<(), AllocError>
+    requires { AllByRecursion (IsWithin (length source.now)) tokens.now }
+    ensures { OnOk result (mentions.new.items ≡ mentions.old.items ++
+        uses own.now.entries source.now site.now first later tokens.now) }
+{
+    let mut role = first;
+    for token in tokens {
+        let is_own = push_use(own, source, site, role, *token, mentions)?;
+        role = role_behind(is_own, role, later);
+    }
+    Ok(())
+}
+
+/// The first of some tokens, if there is one.
+fn front_of(tokens: &[Token]) -> &[Token]
+    ensures { result.now ≡ take 1 tokens.now }
+{
+    match tokens {
+        [_, ..] => &tokens[..1],
+        _ => tokens,
+    }
+}
+
+/// The tokens behind the first one.
+fn behind_one(tokens: &[Token]) -> &[Token]
+    ensures { result.now ≡ drop 1 tokens.now }
+{
+    match tokens {
+        [_, more @ ..] => more,
+        _ => tokens,
+    }
+}
+
+/// Adds what an assignment does: it defines its symbol, and computes by the others.
+fn push_assignment<A: Allocator, S: Allocator + Copy>(
+    own: &SymbolTable<S>,
+    source: &[u8],
+    line: &Site,
+    body: &[Token],
+    mentions: &mut Vec<Mention, A>,
+) -> Result<(), AllocError>
+    requires { AllByRecursion (IsWithin (length source.now)) body.now }
+    ensures { OnOk result (mentions.new.items ≡ mentions.old.items ++
+        assignment_uses own.now.entries source.now line.now body.now) }
+{
+    let (defines, computes) = (Role::Defines, Role::Computes);
+    push_uses(
+        own,
+        source,
+        line,
+        defines,
+        computes,
+        front_of(body),
+        mentions,
+    )?;
+    push_uses(
+        own,
+        source,
+        line,
+        computes,
+        computes,
+        behind_one(body),
+        mentions,
+    )
+}
+
+/// Adds what a word does.
+fn push_word_uses<A: Allocator, S: Allocator + Copy>(
+    own: &SymbolTable<S>,
+    source: &[u8],
+    word: &Site,
+    body: &[Token],
+    mentions: &mut Vec<Mention, A>,
+) -> Result<(), AllocError>
+    requires { AllByRecursion (IsWithin (length source.now)) body.now }
+    ensures { OnOk result (mentions.new.items ≡ mentions.old.items ++
+        word_uses own.now.entries source.now word.now body.now) }
+{
+    let role = word_role(source, body);
+    push_uses(own, source, word, role, Role::Holds, body, mentions)
+}
+
+/// Adds what a statement does behind its tags.
+fn push_body<A: Allocator, S: Allocator + Copy>(
+    own: &SymbolTable<S>,
+    source: &[u8],
+    standing: &Standing,
+    form: Form,
+    body: &[Token],
+    mentions: &mut Vec<Mention, A>,
+) -> Result<(), AllocError>
+    requires { AllByRecursion (IsWithin (length source.now)) body.now }
+    ensures { OnOk result (mentions.new.items ≡ mentions.old.items ++
+        body_uses own.now.entries source.now standing.now form body.now) }
+{
+    let computes = Role::Computes;
+    match form {
+        Form::Assign => push_assignment(own, source, &standing.line, body, mentions),
+        Form::Origin => {
+            push_uses(
+                own,
+                source,
+                &standing.line,
+                computes,
+                computes,
+                body,
+                mentions,
+            )
+        }
+        Form::Word => push_word_uses(own, source, &standing.word, body, mentions),
+        _ => Ok(()),
+    }
+}
+
+/// Adds what a statement with so many tags does with the source's own symbols.
+fn push_statement<A: Allocator, S: Allocator + Copy>(
+    own: &SymbolTable<S>,
+    source: &[u8],
+    standing: &Standing,
+    tags: usize,
+    form: Form,
+    tokens: &[Token],
+    mentions: &mut Vec<Mention, A>,
+) -> Result<(), AllocError>
+    requires within { AllByRecursion (IsWithin (length source.now)) tokens.now }
+    requires tags { tags ≤ length tokens.now }
+    ensures { OnOk result (mentions.new.items ≡ mentions.old.items ++
+        statement_uses own.now.entries source.now standing.now tags form tokens.now) }
+{
+    let defines = Role::Defines;
+    push_uses(
+        own,
+        source,
+        &standing.line,
+        defines,
+        defines,
+        &tokens[..tags],
+        mentions,
+    )?;
+    push_body(own, source, standing, form, &tokens[tags..], mentions)
+}
+
+/// The address of the next word, if there is one.
+fn next_at(words: &[PlacedWord]) -> Word {
+    match words {
+        [word, ..] => word.at,
+        [] => Word::ZERO,
+    }
+}
+
+/// The words behind a statement of this form: the first one is its own, if it is a word.
+fn words_behind(form: Form, words: &[PlacedWord]) -> &[PlacedWord] {
+    match (form, words) {
+        (Form::Word, [_, more @ ..]) => more,
+        _ => words,
+    }
+}
+
+/// How many of the tokens of a statement are its tags, each with a comma.
+fn tag_tokens(statement: Statement, tokens: &[Token]) -> usize
+    ensures { result ≤ length tokens.now }
+{
+    statement.tags.saturating_mul(2).min(tokens.len())
+}
+
+/// Adds what a statement does that stands on a line of the part of this number and whose word is at this address.
+fn push_placed<A: Allocator + Copy, S: Allocator + Copy>(
+    own: &SymbolTable<S>,
+    number: usize,
+    part: &Part<'_, A>,
+    statement: Statement,
+    at: Word,
+    mentions: &mut Vec<Mention, A>,
+) -> Result<(), AllocError>
+    requires tokens { AllByRecursion (IsWithin (length part.now.source.now)) part.now.tokens.items }
+    requires placed { IsPlaced part.now.tokens.items statement }
+{
+    let tokens = part.tokens_of(statement);
+    let standing = Standing {
+        line: Site::Line(SourcePlace {
+            part: number,
+            line: statement.line,
+        }),
+        word: Site::Word(at),
+    };
+    let tags = tag_tokens(statement, tokens);
+    push_statement(
+        own,
+        part.source,
+        &standing,
+        tags,
+        statement.form,
+        tokens,
+        mentions,
+    )
+}
+
+/// Adds what the statements of the part of this number do, of whose words these come next, and tells the words behind
+/// them.
+fn push_statements<'w, A: Allocator + Copy, S: Allocator + Copy>(
+    own: &SymbolTable<S>,
+    number: usize,
+    part: &Part<'_, A>,
+    words: &'w [PlacedWord],
+    mentions: &mut Vec<Mention, A>,
+) -> Result<&'w [PlacedWord], AllocError>
+    requires tokens { AllByRecursion (IsWithin (length part.now.source.now)) part.now.tokens.items }
+    requires placed { AllByRecursion (IsPlaced part.now.tokens.items) part.now.statements.items }
+{
+    let mut left = words;
+    for statement in &part.statements {
+        push_placed(own, number, part, *statement, next_at(left), mentions)?;
+        left = words_behind(statement.form, left);
+    }
+    Ok(left)
+}
+
+/// What the statements of a source do with its own symbols, in their order. These are its words, in the order of the
+/// source. That all statements are taken, each with its word, is tested.
+pub fn mentions_of<A: Allocator + Copy, S: Allocator + Copy>(
+    alloc: A,
+    own: &SymbolTable<S>,
+    parts: &[&[u8]],
+    words: &[PlacedWord],
+) -> Result<Vec<Mention, A>, AllocError> {
+    let mut mentions = Vec::new(alloc);
+    let mut left = words;
+    for (index, source) in parts.iter().enumerate() {
+        match statements(alloc, source) {
+            Ok(part) => {
+                left = push_statements(own, index.saturating_add(1), &part, left, &mut mentions)?;
+                if part.ending == Ending::Dollar {
+                    break;
+                }
+            }
+            Err(TextFault::NoMemory) => return Err(AllocError),
+            Err(_) => break,
+        }
+    }
+    Ok(mentions)
+}

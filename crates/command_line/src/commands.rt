@@ -359,6 +359,11 @@ const LAST: Argument = Argument {
     help: "writes a line for each of the last N instructions that are executed, before the summary",
 };
 
+const LAST_WATCHED: Argument = Argument {
+    help: "before the verdict, writes a line for each of the last N instructions that are executed; if a rule is violated, of those before it",
+    ..LAST
+};
+
 const CROSS: Argument = Argument {
     name: "cross",
     short: None,
@@ -490,7 +495,7 @@ const RUN_ARGUMENTS: [Argument; 19] = [
     WHY_INPUT,
 ];
 
-const TELETYPE_ARGUMENTS: [Argument; 11] = [
+const TELETYPE_ARGUMENTS: [Argument; 14] = [
     TAPE_BESIDE_KEYS,
     PARTS,
     START,
@@ -500,6 +505,9 @@ const TELETYPE_ARGUMENTS: [Argument; 11] = [
     SWITCHES,
     MARK,
     RAW,
+    UNTIL,
+    UNTIL_WRITE,
+    UNTIL_READ,
     SHOW,
     WHY_INPUT,
 ];
@@ -521,7 +529,7 @@ const SOURCE_ARGUMENTS: [Argument; 8] = [
     WHY_INPUT,
 ];
 
-const WATCH_ARGUMENTS: [Argument; 12] = [
+const WATCH_ARGUMENTS: [Argument; 16] = [
     TAPE_OR_SOURCE,
     DECLARATION_OR_SOURCE,
     EVENTS,
@@ -532,6 +540,10 @@ const WATCH_ARGUMENTS: [Argument; 12] = [
     SWITCHES,
     ROUNDS,
     CONTINUE,
+    UNTIL,
+    UNTIL_WRITE,
+    UNTIL_READ,
+    LAST_WATCHED,
     SHOW,
     WHY_WATCH,
 ];

@@ -3,7 +3,7 @@
 use crate::names::FileNames;
 use crate::outputs::punch_of;
 use crate::refused::{Misuse, Refused};
-use crate::shown::{Octal, Places, is_stopped};
+use crate::shown::{Octal, Places, Stopping};
 use crate::tapes::tape_of;
 use crate::values::{continues_of, profile_of, read_standard_input_once, run_options, start_of};
 use clap::ArgMatches;
@@ -22,6 +22,8 @@ pub struct Session<'a> {
     pub options: SessionOptions,
     /// What the summary tells.
     pub summary: SummaryForm<'a>,
+    /// How the run is followed, if it may be stopped.
+    pub stopping: Option<Stopping>,
 }
 
 impl<'a> Session<'a> {
@@ -52,6 +54,8 @@ pub struct WatchedSession<'a> {
     pub options: SessionOptions,
     /// How often CONTINUE is pressed at declared pauses at most, if it may be.
     pub continues: Option<u32>,
+    /// How the run is followed, if it may be stopped.
+    pub stopping: Option<Stopping>,
     /// Whether it is said what violates a rule.
     pub explained: bool,
 }
@@ -82,6 +86,8 @@ pub struct TeletypeSession<'a> {
     pub options: TeletypeOptions,
     /// What the summary tells.
     pub summary: SummaryForm<'a>,
+    /// How it is followed, if it may be stopped.
+    pub stopping: Option<Stopping>,
 }
 
 impl<'a> TeletypeSession<'a> {
@@ -145,6 +151,14 @@ fn shown_on(tape: Option<&str>, places: &Places<'_>) -> Result<WordSet, Refused>
     Ok(places.shown(&Octal)?)
 }
 
+/// How the run of a tape is followed, if it may be stopped. Of a source that is not known yet.
+fn stopping_on(tape: Option<&str>, places: &Places<'_>) -> Result<Option<Stopping>, Refused> {
+    if tape.is_none() {
+        return Ok(None);
+    }
+    Ok(places.stopping(&Octal)?)
+}
+
 /// The run with an operator that the options of `run` ask for.
 pub fn session_of<'a>(found: &ArgMatches<'a>, places: &Places<'a>) -> Result<Session<'a>, Refused> {
     let tape = tape_of(found)?;
@@ -153,8 +167,8 @@ pub fn session_of<'a>(found: &ArgMatches<'a>, places: &Places<'a>) -> Result<Ses
     if found.get_str("events").is_some() {
         return Err(Refused::Misuse(Misuse::EventsAndOperator));
     }
-    if is_stopped(found) {
-        return Err(Refused::Misuse(Misuse::StopsAndOperator));
+    if found.get_str("last").is_some() {
+        return Err(Refused::Misuse(Misuse::LastAndOperator));
     }
     let names = [tape.unwrap_or(""), reader.unwrap_or(""), keys.unwrap_or("")];
     read_standard_input_once(&names)?;
@@ -180,6 +194,7 @@ pub fn session_of<'a>(found: &ArgMatches<'a>, places: &Places<'a>) -> Result<Ses
         },
         options: session_options(found, shown_on(tape, places)?)?,
         summary,
+        stopping: stopping_on(tape, places)?,
     })
 }
 
@@ -197,6 +212,7 @@ pub fn watched_session_of<'a>(
     tape: &'a str,
     declaration: &'a str,
     show: WordSet,
+    stopping: Option<Stopping>,
     found: &ArgMatches<'a>,
 ) -> Result<WatchedSession<'a>, Refused> {
     let reader = found.get_str("reader");
@@ -213,6 +229,7 @@ pub fn watched_session_of<'a>(
         keys,
         options: session_options(found, show)?,
         continues: continues_of(found)?,
+        stopping,
         explained: found.get_flag("why"),
     })
 }
@@ -245,5 +262,6 @@ pub fn teletype_of<'a>(
             seen: true,
             saved_in: punch,
         },
+        stopping: stopping_on(tape, places)?,
     })
 }

@@ -12,7 +12,7 @@ use crate::outputs::{
     report_of, save_of,
 };
 use crate::refused::{Misuse, Refused};
-use crate::shown::{Octal, Places, shown_of};
+use crate::shown::{Octal, Places, Stopping, places_of};
 use crate::sources::source_names;
 use crate::values::{
     declare_options, is_start_named, operand_of, read_standard_input_once, refute_options,
@@ -34,7 +34,7 @@ pub struct ProgramRequest<'a> {
     pub declaration: Option<&'a str>,
     /// What is done.
     pub task: Task<'a>,
-    /// The cells whose words are shown when a run is over, which may have the symbols of a source.
+    /// The cells that are shown of a run and where it is stopped, which may have the symbols of a source.
     pub places: Places<'a>,
     /// Whether a start or a machine is named.
     pub asked: bool,
@@ -81,6 +81,8 @@ pub enum Task<'a> {
         events: &'a str,
         /// The cells whose words are shown when the run of a tape is over.
         show: WordSet,
+        /// How the run of a tape is followed, if it may be stopped.
+        stopping: Option<Stopping>,
     },
     /// To watch a run with an operator.
     WatchSession(WatchedSession<'a>),
@@ -421,11 +423,15 @@ fn session_task<'a>(
     alloc: Global,
     found: &ArgMatches<'a>,
     operands: &Operands<'a>,
-    show: WordSet,
+    followed: Followed,
 ) -> Result<Task<'a>, Refused> {
+    let Followed { show, stopping } = followed;
     let session = match operands.program.tape() {
-        Some(tape) => watched_session_of(tape, operands.declaration.unwrap_or("-"), show, found)?,
-        None => watched_session_of("", "", show, found)?,
+        Some(tape) => {
+            let declaration = operands.declaration.unwrap_or("-");
+            watched_session_of(tape, declaration, show, stopping, found)?
+        }
+        None => watched_session_of("", "", show, stopping, found)?,
     };
     let inputs = inputs_of(alloc, operands, &[session.reader, session.keys])?;
     read_standard_input_once(&inputs)?;
@@ -477,7 +483,7 @@ fn task_of<'a>(
     found: &ArgMatches<'a>,
     operands: &Operands<'a>,
     inputs: &[&'a str],
-    show: WordSet,
+    followed: Followed,
 ) -> Result<Task<'a>, Refused> {
     let last = operands.last;
     Ok(match command {
@@ -487,7 +493,8 @@ fn task_of<'a>(
         },
         "watch" => Task::Watch {
             events: last.unwrap_or("-"),
-            show,
+            show: followed.show,
+            stopping: followed.stopping,
         },
         "guess" => guess_task(found, operands, inputs)?,
         "refute" => Task::Refute {
@@ -509,12 +516,25 @@ fn task_of<'a>(
     })
 }
 
-/// The cells that are shown of a run of a tape. Of a source they are not known yet.
-fn shown_on(operands: &Operands<'_>, places: &Places<'_>) -> Result<WordSet, Refused> {
+/// What is shown of a watched run, and where it is stopped.
+#[derive(Clone, Copy)]
+struct Followed {
+    show: WordSet,
+    stopping: Option<Stopping>,
+}
+
+/// What is shown of a watched run of a tape, and where it is stopped. Of a source that is not known yet.
+fn followed_on(operands: &Operands<'_>, places: &Places<'_>) -> Result<Followed, Refused> {
     if operands.program.tape().is_none() {
-        return Ok(WordSet::empty());
+        return Ok(Followed {
+            show: WordSet::empty(),
+            stopping: None,
+        });
     }
-    Ok(places.shown(&Octal)?)
+    Ok(Followed {
+        show: places.shown(&Octal)?,
+        stopping: places.stopping(&Octal)?,
+    })
 }
 
 /// What a command asks for whose operands are these.
@@ -525,9 +545,9 @@ fn task_on<'a>(
     operands: &Operands<'a>,
     places: &Places<'a>,
 ) -> Result<Task<'a>, Refused> {
-    let show = shown_on(operands, places)?;
+    let followed = followed_on(operands, places)?;
     if command == "watch" && is_watched_with_operator(found) {
-        return session_task(alloc, found, operands, show);
+        return session_task(alloc, found, operands, followed);
     }
     let input = match command {
         "check" | "report" | "watch" => operands.last,
@@ -536,7 +556,7 @@ fn task_on<'a>(
     let inputs = inputs_of(alloc, operands, &[input])?;
     read_standard_input_once(&inputs)?;
     start_once(found, operands.declaration)?;
-    task_of(command, found, operands, &inputs, show)
+    task_of(command, found, operands, &inputs, followed)
 }
 
 /// The request of a command on a program and its declaration.
@@ -555,7 +575,7 @@ pub(crate) fn program_request<'a>(
         Some(parts) => source_operands(alloc, command, found, parts)?,
         None => tape_operands(command, found)?,
     };
-    let places = shown_of(alloc, found)?;
+    let places = places_of(alloc, found)?;
     let task = task_on(alloc, command, found, &operands, &places)?;
     let Operands {
         program,
@@ -597,7 +617,7 @@ pub(crate) fn place_request<'a>(
         program,
         declaration,
         task: Task::Place { out },
-        places: shown_of(alloc, found)?,
+        places: places_of(alloc, found)?,
         asked: false,
         explained: found.get_flag("why"),
     })

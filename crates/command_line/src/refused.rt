@@ -49,8 +49,8 @@ pub enum Misuse {
     Last,
     /// The last instructions are to be shown, and all of them too.
     LastAndTrace,
-    /// A run is to be stopped or its last instructions are to be shown, and it has an operator too.
-    StopsAndOperator,
+    /// The last instructions of a run are to be shown, and it has an operator too.
+    LastAndOperator,
     /// There are events, and an operator too.
     EventsAndOperator,
     /// A run is to be watched by a list of events, and with an operator too.
@@ -153,8 +153,8 @@ impl Misuse {
         Some(match self {
             Misuse::LastAndTrace =>
                 "'--last' cannot be combined with '--trace', which writes all instructions",
-            Misuse::StopsAndOperator =>
-                "'--until', '--until-write', '--until-read' and '--last' cannot be combined with the options for the reader, the punch, the teletype and the switches",
+            Misuse::LastAndOperator =>
+                "'--last' cannot be combined with the options for the reader, the punch, the teletype and the switches",
             Misuse::EventsAndOperator =>
                 "'--events' cannot be combined with the options for the reader, the punch, the teletype and the switches",
             Misuse::ListAndOperator =>

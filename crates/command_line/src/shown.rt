@@ -99,6 +99,8 @@ pub struct Places<'a> {
     written: Vec<&'a str>,
     /// The values of `--until-read`.
     read: Vec<&'a str>,
+    /// How many of the last instructions are shown, if that is asked for.
+    last: Option<u32>,
 }
 
 /// The values of an option that may be given several times.
@@ -112,29 +114,14 @@ fn values_of<'a>(
     Ok(values)
 }
 
-/// The cells and the places that options of `run` name.
-pub(crate) fn places_of<'a>(
-    alloc: Global,
-    found: &ArgMatches<'a>,
-) -> Result<Places<'a>, AllocError> {
+/// The cells and the places that options of a run name.
+pub(crate) fn places_of<'a>(alloc: Global, found: &ArgMatches<'a>) -> Result<Places<'a>, Refused> {
     Ok(Places {
         show: values_of(alloc, found, "show")?,
         until: found.get_str("until"),
         written: values_of(alloc, found, "until-write")?,
         read: values_of(alloc, found, "until-read")?,
-    })
-}
-
-/// The cells that options of another command name.
-pub(crate) fn shown_of<'a>(
-    alloc: Global,
-    found: &ArgMatches<'a>,
-) -> Result<Places<'a>, AllocError> {
-    Ok(Places {
-        show: values_of(alloc, found, "show")?,
-        until: None,
-        written: Vec::new(alloc),
-        read: Vec::new(alloc),
+        last: last_of(found)?,
     })
 }
 
@@ -173,23 +160,18 @@ impl Places<'_> {
         })
     }
 
-    /// How a run is followed of which so many last instructions are shown, if it may be stopped or these are asked
-    /// for.
+    /// How a run is followed, if it may be stopped or its last instructions are asked for.
     ///
     /// # Errors
     ///
     /// What is wrong with a value.
-    pub fn stopping<C: ReadCells>(
-        &self,
-        reader: &C,
-        last: Option<u32>,
-    ) -> Result<Option<Stopping>, Misuse> {
-        if last.is_none() && !self.has_stops() {
+    pub fn stopping<C: ReadCells>(&self, reader: &C) -> Result<Option<Stopping>, Misuse> {
+        if self.last.is_none() && !self.has_stops() {
             return Ok(None);
         }
         Ok(Some(Stopping {
             stops: self.stops(reader)?,
-            last,
+            last: self.last,
         }))
     }
 
@@ -237,7 +219,7 @@ pub struct Stopping {
 }
 
 /// How many of the last instructions are shown, if that is asked for.
-pub(crate) fn last_of(found: &ArgMatches<'_>) -> Result<Option<u32>, Refused> {
+fn last_of(found: &ArgMatches<'_>) -> Result<Option<u32>, Refused> {
     let Some(text) = found.get_str("last") else {
         return Ok(None);
     };
@@ -248,14 +230,4 @@ pub(crate) fn last_of(found: &ArgMatches<'_>) -> Result<Option<u32>, Refused> {
         Some(most) => Ok(Some(most)),
         None => Err(Refused::Misuse(Misuse::Last)),
     }
-}
-
-/// Whether a run may be stopped, or its last instructions are shown.
-pub(crate) fn is_stopped(found: &ArgMatches<'_>) -> bool {
-    ["until", "last"]
-        .iter()
-        .any(|name| found.get_str(name).is_some())
-        || ["until-write", "until-read"]
-            .iter()
-            .any(|name| found.get_strs(name).is_some())
 }

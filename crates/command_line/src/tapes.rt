@@ -3,7 +3,7 @@
 use crate::names::FileNames;
 use crate::outputs::{Destination, emptied_destination, kept_destination, no_input, no_source};
 use crate::refused::{Misuse, Refused};
-use crate::shown::{Octal, Places, Stopping, last_of};
+use crate::shown::{Octal, Places, Stopping};
 use crate::values::{is_start_named, profile_of, read_standard_input_once, run_options, start_of};
 use clap::ArgMatches;
 use command_parts::options::RunOptions;
@@ -22,8 +22,6 @@ pub struct RunRequest<'a> {
     pub options: RunOptions,
     /// How it is followed, if it may be stopped.
     pub stopping: Option<Stopping>,
-    /// How many of its last instructions are shown, if that is asked for.
-    pub last: Option<u32>,
 }
 
 impl<'a> RunRequest<'a> {
@@ -55,22 +53,19 @@ pub(crate) fn run_request<'a>(
     let tape = tape_of(found)?;
     let events = found.get_str("events");
     read_standard_input_once(&[tape.unwrap_or(""), events.unwrap_or("")])?;
-    let last = last_of(found)?;
     if tape.is_none() {
         return Ok(RunRequest {
             tape,
             events,
             options: run_options(found, WordSet::empty())?,
             stopping: None,
-            last,
         });
     }
     Ok(RunRequest {
         tape,
         events,
         options: run_options(found, places.shown(&Octal)?)?,
-        stopping: places.stopping(&Octal, last)?,
-        last,
+        stopping: places.stopping(&Octal)?,
     })
 }
 

@@ -13,3 +13,5 @@ pub mod StopLemmas
 pub mod StoppingLemmas
 pub mod StopLawLemmas
 pub mod LastLemmas
+pub mod StoppedLemmas
+pub mod StoppedSessionLemmas

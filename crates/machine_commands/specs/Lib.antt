@@ -19,3 +19,7 @@ pub mod Typing
 pub mod TypingParts
 pub mod Teletype
 pub mod Cuts
+pub mod StoppedSession
+pub mod StoppedParts
+pub mod DeclaredRun
+pub mod StoppedWatch

@@ -3,6 +3,7 @@
 #![tactic(auto)]
 
 mod continuing;
+mod declared_run;
 pub mod follow;
 pub mod last;
 pub mod laws;
@@ -13,6 +14,8 @@ pub mod running;
 mod schedule;
 pub mod session;
 mod shown;
+pub mod stopped_session;
+pub mod stopped_watch;
 pub mod stopping;
 mod stops;
 pub mod summary;

@@ -62,7 +62,7 @@ fn push_steps<A: Allocator>(text: &mut Vec<u8, A>, steps: u64) -> Result<(), All
 }
 
 /// Adds the first line of a summary.
-fn push_state<A: Allocator, B: Allocator>(
+pub(crate) fn push_state<A: Allocator, B: Allocator>(
     text: &mut Vec<u8, A>,
     outcome: &RunOutcome,
     world: &World<B>,

@@ -41,11 +41,10 @@ fn run_of<'a>(run: &RunRequest<'a>, named: &Named) -> RunRequest<'a> {
             ..run.options
         },
         stopping: named.stopping,
-        last: run.last,
     }
 }
 
-/// A run with an operator with these cells shown.
+/// A run with an operator with these cells shown and these stops.
 fn session_of<'a>(session: &Session<'a>, named: &Named) -> Session<'a> {
     Session {
         tape: session.tape,
@@ -58,10 +57,11 @@ fn session_of<'a>(session: &Session<'a>, named: &Named) -> Session<'a> {
             ..session.options
         },
         summary: session.summary,
+        stopping: named.stopping,
     }
 }
 
-/// A session at the teletype with these cells shown.
+/// A session at the teletype with these cells shown and these stops.
 fn teletype_of<'a>(session: &TeletypeSession<'a>, named: &Named) -> TeletypeSession<'a> {
     TeletypeSession {
         tape: session.tape,
@@ -72,6 +72,7 @@ fn teletype_of<'a>(session: &TeletypeSession<'a>, named: &Named) -> TeletypeSess
             ..session.options
         },
         summary: session.summary,
+        stopping: named.stopping,
     }
 }
 
@@ -82,7 +83,7 @@ fn carry_out<R: Files + Input + Print + Eprint>(
     source: &AssembledSource,
     asked: &SourcedRequest<'_>,
 ) -> Result<Status, Fault> {
-    let named = match named_in(source.numbered.map.symbols(), asked) {
+    let named = match named_in(source.numbered.map.symbols(), &asked.places) {
         Ok(named) => named,
         Err(misuse) => return Ok(tell_misuse(rt, &misuse.with_symbols())),
     };

@@ -11,6 +11,7 @@ use command_parts::status::{DeviceFault, Fault, Status};
 use command_parts::visible::visible_text;
 use either::Either;
 use machine_commands::session::{Outputs, run_session};
+use machine_commands::stopped_session::{run_session_with_stops, teletype_with_stops};
 use machine_commands::teletype::{Typist, teletype};
 use std::alloc::{AllocError, Global};
 use std::io::{self, Printer};
@@ -118,15 +119,21 @@ pub(crate) fn hold_session_on<R: Files + Input + Print + Eprint, S: ByteSource>(
         teletype: type_to(rt, joined.teletype),
         punch: Writes::new(&mut punch),
     };
-    let answer = run_session(
-        alloc,
-        frames,
-        &mut reader,
-        &mut keys,
-        session.options,
-        form,
-        &mut outputs,
-    );
+    let options = session.options;
+    let out = &mut outputs;
+    let answer = match &session.stopping {
+        None => run_session(alloc, frames, &mut reader, &mut keys, options, form, out),
+        Some(stopping) => run_session_with_stops(
+            alloc,
+            frames,
+            &mut reader,
+            &mut keys,
+            options,
+            &stopping.stops,
+            form,
+            out,
+        ),
+    };
     let failed = outputs.punch.failed();
     finish_punch(&mut punch, failed, answer)
 }
@@ -172,7 +179,13 @@ pub(crate) fn hold_teletype_session_on<R: Files + Input + Print + Eprint, S: Byt
         punch: Writes::new(&mut punch),
     };
     let mut typist = Typist::new(reader, keys, session.options);
-    let answer = teletype(alloc, frames, &mut typist, form, &mut outputs);
+    let out = &mut outputs;
+    let answer = match &session.stopping {
+        None => teletype(alloc, frames, &mut typist, form, out),
+        Some(stopping) => {
+            teletype_with_stops(alloc, frames, &mut typist, &stopping.stops, form, out)
+        }
+    };
     let failed = outputs.punch.failed();
     finish_punch(&mut punch, failed, answer)
 }

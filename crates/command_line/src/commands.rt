@@ -317,6 +317,13 @@ const RAW: Argument = Argument {
     help: "strikes the bytes of keys as they come: a line feed does not become a carriage return, and channel 8 is not set",
 };
 
+const INTERRUPT: Argument = Argument {
+    name: "interrupt",
+    short: None,
+    form: Form::Value("K"),
+    help: "the key that ends the session when the program asks for one: an octal number, such as 5 for ^E, or off. Without it ^E at a terminal, and none in other cases or with --raw",
+};
+
 const SWITCHES: Argument = Argument {
     name: "switches",
     short: None,
@@ -495,7 +502,7 @@ const RUN_ARGUMENTS: [Argument; 19] = [
     WHY_INPUT,
 ];
 
-const TELETYPE_ARGUMENTS: [Argument; 14] = [
+const TELETYPE_ARGUMENTS: [Argument; 15] = [
     TAPE_BESIDE_KEYS,
     PARTS,
     START,
@@ -505,6 +512,7 @@ const TELETYPE_ARGUMENTS: [Argument; 14] = [
     SWITCHES,
     MARK,
     RAW,
+    INTERRUPT,
     UNTIL,
     UNTIL_WRITE,
     UNTIL_READ,
@@ -638,7 +646,7 @@ const SESSION: Entry = Entry {
     name: "teletype",
     usage: "pdp8 teletype [OPTIONS] <TAPE>",
     about: "Runs a tape with you at the teletype: what it prints appears at once, and it gets a key when it asks for one",
-    after_help: "Keys come from standard input, what is printed goes to standard output, and the summary goes to standard error. The session ends at a halt, at an unsupported word, or when a key is asked for and none is left.\n\nExample:\n  pdp8 teletype echo.bin",
+    after_help: "Keys come from standard input, what is printed goes to standard output, and the summary goes to standard error. The session ends at a halt, at an unsupported word, or when a key is asked for and none is left, or the key of --interrupt is struck.\n\nExample:\n  pdp8 teletype echo.bin",
 };
 
 const DUMP: Entry = Entry {

@@ -8,6 +8,7 @@ use crate::tapes::tape_of;
 use crate::values::{continues_of, profile_of, read_standard_input_once, run_options, start_of};
 use clap::ArgMatches;
 use command_parts::options::{Manner, SessionOptions, SummaryForm, TeletypeOptions};
+use streams::text::octal_byte;
 use word12::Word;
 use wordset::WordSet;
 
@@ -73,6 +74,17 @@ impl<'a> WatchedSession<'a> {
     }
 }
 
+/// The key that interrupts a session at the teletype, where the program asks for one; the program never gets it.
+#[derive(Clone, Copy)]
+pub enum Interrupt {
+    /// The usual one at a terminal, and else none.
+    Usual,
+    /// The one with this byte.
+    Key(u8),
+    /// None.
+    Off,
+}
+
 /// A session at the teletype, as the options ask for it. The keys come from standard input.
 #[derive(Clone, Copy)]
 pub struct TeletypeSession<'a> {
@@ -88,6 +100,8 @@ pub struct TeletypeSession<'a> {
     pub summary: SummaryForm<'a>,
     /// How it is followed, if it may be stopped.
     pub stopping: Option<Stopping>,
+    /// The key that interrupts it.
+    pub interrupt: Interrupt,
 }
 
 impl<'a> TeletypeSession<'a> {
@@ -234,6 +248,19 @@ pub fn watched_session_of<'a>(
     })
 }
 
+/// The key that interrupts a session, where bytes of keys are struck as they come or are not.
+fn interrupt_of(found: &ArgMatches<'_>, raw: bool) -> Result<Interrupt, Refused> {
+    match found.get_str("interrupt") {
+        None if raw => Ok(Interrupt::Off),
+        None => Ok(Interrupt::Usual),
+        Some("off") => Ok(Interrupt::Off),
+        Some(text) => match octal_byte(text.as_bytes()) {
+            Some(byte) => Ok(Interrupt::Key(byte)),
+            None => Err(Refused::Misuse(Misuse::Interrupt)),
+        },
+    }
+}
+
 /// The session at the teletype that the options of `teletype` ask for.
 pub fn teletype_of<'a>(
     found: &ArgMatches<'a>,
@@ -243,6 +270,7 @@ pub fn teletype_of<'a>(
     let reader = found.get_str("reader");
     read_standard_input_once(&[tape.unwrap_or(""), reader.unwrap_or(""), "-"])?;
     let punch = punch_of(found, &[tape.unwrap_or("-"), reader.unwrap_or("-")])?;
+    let raw = found.get_flag("raw");
     Ok(TeletypeSession {
         tape,
         reader,
@@ -252,7 +280,7 @@ pub fn teletype_of<'a>(
             profile: profile_of(found)?,
             switches: switches_of(found)?,
             manner: Manner {
-                raw: found.get_flag("raw"),
+                raw,
                 mark: found.get_flag("mark"),
             },
             show: shown_on(tape, places)?,
@@ -263,5 +291,6 @@ pub fn teletype_of<'a>(
             saved_in: punch,
         },
         stopping: stopping_on(tape, places)?,
+        interrupt: interrupt_of(found, raw)?,
     })
 }

@@ -15,3 +15,4 @@ pub mod StopLawLemmas
 pub mod LastLemmas
 pub mod StoppedLemmas
 pub mod StoppedSessionLemmas
+pub mod DeclaredLemmas

@@ -29,7 +29,7 @@ use Rattle.machine_commands.specs.Schedule.{Extent, UpToAny, UpToOutput, UpToRea
 use Rattle.machine_commands.specs.Session.{AppendsSome, BrokeOff, FrontsOf, Operated, WritesAll, extent_after, failures, printed_in, summary_where, taken}
 use Rattle.machine_commands.specs.SessionParts.{IsNext, IsPartOf, Played, PlayedFront, is_step, steps_in}
 use Rattle.machine_commands.specs.StoppedParts.{IsPartToStop, OperatedToStop, Passes, unstopped}
-use Rattle.machine_commands.specs.StoppedSession.{IsHeldToStop, StoppedSo, extent_to_stop}
+use Rattle.machine_commands.specs.StoppedSession.{IsHeldToStop, StoppedSo, extent_to_stop, leaving}
 use Rattle.machine_commands.specs.Stops.{Ends, GoesOn, Here, Later, NeverStops, Over, StopsAfter, stops_before, visits_with}
 use Rattle.machine_commands.specs.Trace.{traced}
 use Rattle.machine_commands.proofs.FollowLemmas.{front_after}
@@ -154,7 +154,7 @@ un_completed brings stops p trace first now after w x n visits old new told_old 
 -- the step that is due stops the run
 pub un_to_stop : {S : Type 0} (brings : S → Profile → WorldState → Extent → List Event → Type 0) (stops : Stops) (p : Profile) (trace : Bool) (first now after : S) (e : Event) (w x : WorldState) (n visits : ℕ) (outcome : RunOutcome) (old new told_old told_new : Option (List ℕ)) →
     Unstopped brings stops p trace first now w x n visits old new told_old told_new → IsNext brings now after x e → stops_before stops p visits x e ≡ true → outcome.steps ≡ n → outcome.end ≡ end.Stopped x.state.pc →
-    OperatedToStop (brings first p w) stops p trace w outcome x old new told_old told_new
+    OperatedToStop (brings first p w) false stops p trace w outcome x old new told_old told_new
 un_to_stop brings stops p trace first now after e w x n visits outcome old new told_old told_new un next on steps ends =
     let sat = un.sat in
     let step : e ≡ Step = stops_at_step stops p visits x e on in
@@ -176,7 +176,7 @@ un_to_stop brings stops p trace first now after e w x n visits outcome old new t
 
 -- a run that came to its end, and that no event stopped
 of_operated : (comes : Extent → List Event → Type 0) (stops : Stops) (p : Profile) (trace : Bool) (w : WorldState) (outcome : RunOutcome) (x : WorldState) (old new told_old told_new : Option (List ℕ)) →
-    (done : Operated comes p trace w outcome x old new told_old told_new) → StoppedSo stops p false done.events w → OperatedToStop comes stops p trace w outcome x old new told_old told_new
+    (done : Operated comes p trace w outcome x old new told_old told_new) → StoppedSo stops p false done.events w → OperatedToStop comes false stops p trace w outcome x old new told_old told_new
 of_operated comes stops p trace w outcome x old new told_old told_new done never = record {
   events = done.events;
   stopped = false;
@@ -192,7 +192,7 @@ of_operated comes stops p trace w outcome x old new told_old told_new done never
 
 pub un_all : {S : Type 0} (brings : S → Profile → WorldState → Extent → List Event → Type 0) (stops : Stops) (p : Profile) (trace : Bool) (first now : S) (w x : WorldState) (visits : ℕ) (outcome : RunOutcome) (old new told_old told_new : Option (List ℕ)) →
     Unstopped brings stops p trace first now w x outcome.steps visits old new told_old told_new → ((extent : Extent) → brings now p x extent []) → outcome.end ≡ end_of x →
-    OperatedToStop (brings first p w) stops p trace w outcome x old new told_old told_new
+    OperatedToStop (brings first p w) false stops p trace w outcome x old new told_old told_new
 unfolding sat_all
 un_all brings stops p trace first now w x visits outcome old new told_old told_new un over ends =
     of_operated (brings first p w) stops p trace w outcome x old new told_old told_new (sat_all brings p trace first now w x outcome old new told_old told_new un.sat over ends)
@@ -200,7 +200,7 @@ un_all brings stops p trace first now w x visits outcome old new told_old told_n
 
 pub un_to_halt : {S : Type 0} (brings : S → Profile → WorldState → Extent → List Event → Type 0) (stops : Stops) (p : Profile) (trace : Bool) (first now after : S) (e : Event) (w x y : WorldState) (n visits : ℕ) (outcome : RunOutcome) (old mid new told_old told_mid told_new : Option (List ℕ)) →
     Unstopped brings stops p trace first now w x n visits old mid told_old told_mid → IsNext brings now after x e → Played p trace x e seen.Halted y mid new told_mid told_new → stops_before stops p visits x e ≡ false → outcome.steps ≡ n + 1 → outcome.end ≡ end_of y →
-    OperatedToStop (brings first p w) stops p trace w outcome y old new told_old told_new
+    OperatedToStop (brings first p w) false stops p trace w outcome y old new told_old told_new
 unfolding sat_to_halt
 un_to_halt brings stops p trace first now after e w x y n visits outcome old mid new told_old told_mid told_new un next played off steps ends =
     let over : goes_on true (seen_of p x e) ≡ false = rw (← played.sees) refl in
@@ -209,7 +209,7 @@ un_to_halt brings stops p trace first now after e w x y n visits outcome old mid
 
 pub un_to_stuck : {S : Type 0} (brings : S → Profile → WorldState → Extent → List Event → Type 0) (stops : Stops) (p : Profile) (trace : Bool) (first now after : S) (e : Event) (w x y : WorldState) (n visits word : ℕ) (outcome : RunOutcome) (old mid new told_old told_mid told_new : Option (List ℕ)) →
     Unstopped brings stops p trace first now w x n visits old mid told_old told_mid → IsNext brings now after x e → Played p trace x e (seen.Unsupported word) y mid new told_mid told_new → stops_before stops p visits x e ≡ false → outcome.steps ≡ n → outcome.end ≡ end.Unsupported y.state.pc →
-    OperatedToStop (brings first p w) stops p trace w outcome y old new told_old told_new
+    OperatedToStop (brings first p w) false stops p trace w outcome y old new told_old told_new
 unfolding sat_to_stuck
 un_to_stuck brings stops p trace first now after e w x y n visits word outcome old mid new told_old told_mid told_new un next played off steps ends =
     let over : goes_on true (seen_of p x e) ≡ false = rw (← played.sees) refl in
@@ -281,11 +281,27 @@ un_to_fault brings stops p trace first now after e w x y n visits reported typed
     (sat_to_fault (UnstoppedFrom brings stops p) p trace (first, 0) (now, visits) (after, visits_with stops visits x e) e w x y n reported typed unread old mid new told_old told_mid told_new
     (sat_unstopped brings stops p trace first now w x n visits old mid told_old told_mid un) (next_unstopped brings stops p now after x e visits next off) (λ s q v. (anywhere s.0 q v, λ same. Over s.1 v)) readable front)
 
+-- how a run is said to have ended that a key interrupted, or did not
+pub left_so : (comes : Extent → List Event → Type 0) (left : Bool) (stops : Stops) (p : Profile) (trace : Bool) (w : WorldState) (ran outcome : RunOutcome) (x : WorldState) (old new told_old told_new : Option (List ℕ)) →
+    OperatedToStop comes false stops p trace w ran x old new told_old told_new → outcome.steps ≡ ran.steps → outcome.end ≡ leaving left ran.end x → OperatedToStop comes left stops p trace w outcome x old new told_old told_new
+left_so comes left stops p trace w ran outcome x old new told_old told_new done steps ends = record {
+  events = done.events;
+  stopped = done.stopped;
+  come = done.come;
+  stop = done.stop;
+  lines = done.lines;
+  last = done.last;
+  follows = rw steps done.follows;
+  ends = ends ∙ ap (λ (t : End). leaving left t x) done.ends;
+  wrote = done.wrote;
+  printed = done.printed;
+}
+
 -- What a run leaves that came to its end or was stopped.
-held_to_stop : (comes : Profile → WorldState → Extent → List Event → Type 0) (options : RunOptions) (stops : Stops) (form : SummaryForm) (extent : Extent) (image : List (Option ℕ)) (p : Profile) (w x : WorldState) (outcome : RunOutcome) (status : Status) (old mid told_old told_new : Option (List ℕ)) →
-    p ≡ options.profile → w ≡ fresh image options.start → (done : OperatedToStop (comes p w) stops p options.trace w outcome x old mid told_old told_new) → status ≡ status_of outcome.end →
-    IsHeldToStop comes options stops form extent image (traced options.trace done.lines ++ summary_where (words options.show) form extent outcome.end x outcome.steps) (printed_in x) x.devices.punch.output status
-held_to_stop comes options stops form extent image p w x outcome status old mid told_old told_new profile begins done is = record {
+held_to_stop : (comes : Profile → WorldState → Extent → List Event → Type 0) (options : RunOptions) (stops : Stops) (form : SummaryForm) (extent : Extent) (left : Bool) (image : List (Option ℕ)) (p : Profile) (w x : WorldState) (outcome : RunOutcome) (status : Status) (old mid told_old told_new : Option (List ℕ)) →
+    p ≡ options.profile → w ≡ fresh image options.start → (done : OperatedToStop (comes p w) left stops p options.trace w outcome x old mid told_old told_new) → status ≡ status_of outcome.end →
+    IsHeldToStop comes options stops form extent left image (traced options.trace done.lines ++ summary_where (words options.show) form extent outcome.end x outcome.steps) (printed_in x) x.devices.punch.output status
+held_to_stop comes options stops form extent left image p w x outcome status old mid told_old told_new profile begins done is = record {
   events = done.events;
   stopped = done.stopped;
   come = let come : comes p w (extent_to_stop done.stopped extent) done.events = done.come extent in rw (profile, begins) at come;
@@ -301,15 +317,15 @@ held_to_stop comes options stops form extent image p w x outcome status old mid 
   status_is = is ∙ ap status_of done.ends;
 }
 
-pub attended_to_stop : (comes : Profile → WorldState → Extent → List Event → Type 0) (options : RunOptions) (stops : Stops) (form : SummaryForm) (image : List (Option ℕ)) (p : Profile) (w x : WorldState) (outcome : RunOutcome) (status : Status) (old mid new told_old told_new held holds : Option (List ℕ)) →
-    p ≡ options.profile → w ≡ fresh image options.start → OperatedToStop (comes p w) stops p options.trace w outcome x old mid told_old told_new → Appends held holds x.devices.punch.output →
+pub attended_to_stop : (comes : Profile → WorldState → Extent → List Event → Type 0) (options : RunOptions) (stops : Stops) (form : SummaryForm) (left : Bool) (image : List (Option ℕ)) (p : Profile) (w x : WorldState) (outcome : RunOutcome) (status : Status) (old mid new told_old told_new held holds : Option (List ℕ)) →
+    p ≡ options.profile → w ≡ fresh image options.start → OperatedToStop (comes p w) left stops p options.trace w outcome x old mid told_old told_new → Appends held holds x.devices.punch.output →
     Appends mid new (summary_where (words options.show) form Whole outcome.end x outcome.steps) → status ≡ status_of outcome.end →
-    WritesAll (λ text printed punched. IsHeldToStop comes options stops form Whole image text printed punched status) (taken old told_old held) (taken new told_new holds)
-attended_to_stop comes options stops form image p w x outcome status old mid new told_old told_new held holds profile begins done punched wrote is = record {
+    WritesAll (λ text printed punched. IsHeldToStop comes options stops form Whole left image text printed punched status) (taken old told_old held) (taken new told_new holds)
+attended_to_stop comes options stops form left image p w x outcome status old mid new told_old told_new held holds profile begins done punched wrote is = record {
   text = traced options.trace done.lines ++ summary_where (words options.show) form Whole outcome.end x outcome.steps;
   printed = printed_in x;
   punched = x.devices.punch.output;
-  is = held_to_stop comes options stops form Whole image p w x outcome status old mid told_old told_new profile begins done is;
+  is = held_to_stop comes options stops form Whole left image p w x outcome status old mid told_old told_new profile begins done is;
   to_report = Appends-trans old mid new (traced options.trace done.lines) (summary_where (words options.show) form Whole outcome.end x outcome.steps) done.wrote wrote;
   to_teletype = done.printed;
   to_punch = punched;
@@ -319,17 +335,17 @@ one_over : (n : ℕ) → n ≤ n + 1
 one_over n = omega arith
 
 -- the summary failed
-pub summary_failed : (comes : Profile → WorldState → Extent → List Event → Type 0) (options : RunOptions) (stops : Stops) (form : SummaryForm) (image : List (Option ℕ)) (p : Profile) (w x : WorldState) (outcome : RunOutcome) (reported typed unread unpunched : Bool) (old mid new told_old told_new held holds : Option (List ℕ)) →
-    p ≡ options.profile → w ≡ fresh image options.start → OperatedToStop (comes p w) stops p options.trace w outcome x old mid told_old told_new → Appends held holds x.devices.punch.output →
+pub summary_failed : (comes : Profile → WorldState → Extent → List Event → Type 0) (options : RunOptions) (stops : Stops) (form : SummaryForm) (left : Bool) (image : List (Option ℕ)) (p : Profile) (w x : WorldState) (outcome : RunOutcome) (reported typed unread unpunched : Bool) (old mid new told_old told_new held holds : Option (List ℕ)) →
+    p ≡ options.profile → w ≡ fresh image options.start → OperatedToStop (comes p w) left stops p options.trace w outcome x old mid told_old told_new → Appends held holds x.devices.punch.output →
     AppendsFront mid new (summary_where (words options.show) form Whole outcome.end x outcome.steps) → reported ≡ true → typed ≡ false → unpunched ≡ false →
-    FrontsOf (IsPartToStop comes options stops form reported typed unread image) (failures reported typed unpunched) (taken old told_old held) (taken new told_new holds)
+    FrontsOf (IsPartToStop comes options stops form left reported typed unread image) (failures reported typed unpunched) (taken old told_old held) (taken new told_new holds)
 unfolding whole_front
-summary_failed comes options stops form image p w x outcome reported typed unread unpunched old mid new told_old told_new held holds profile begins done punched front failed untyped is_punched = record {
+summary_failed comes options stops form left image p w x outcome reported typed unread unpunched old mid new told_old told_new held holds profile begins done punched front failed untyped is_punched = record {
   extent = Whole;
   text = traced options.trace done.lines ++ summary_where (words options.show) form Whole outcome.end x outcome.steps;
   printed = printed_in x;
   punched = x.devices.punch.output;
-  is = record { summed = λ all. failed; to_there = λ no. absurd (true≢false (sym failed ∙ or_left reported typed no)); status = status_of outcome.end; is = held_to_stop comes options stops form Whole image p w x outcome (status_of outcome.end) old mid told_old told_new profile begins done refl };
+  is = record { summed = λ all. failed; to_there = λ no. absurd (true≢false (sym failed ∙ or_left reported typed no)); as_left = left; if_left = λ yes. yes; status = status_of outcome.end; is = held_to_stop comes options stops form Whole left image p w x outcome (status_of outcome.end) old mid told_old told_new profile begins done refl };
   to_report = some_of old new (traced options.trace done.lines ++ summary_where (words options.show) form Whole outcome.end x outcome.steps) (front_after old mid new (traced options.trace done.lines) (summary_where (words options.show) form Whole outcome.end x outcome.steps) done.wrote front);
   to_teletype = whole_front told_old told_new (printed_in x) done.printed;
   to_punch = whole_front held holds x.devices.punch.output punched;
@@ -355,12 +371,12 @@ unsummed named form false true last x steps = refl
 unsummed named form false false last x steps = refl
 
 -- the run came to its end or was stopped, and the summary is not written
-done_front : (comes : Profile → WorldState → Extent → List Event → Type 0) (options : RunOptions) (stops : Stops) (form : SummaryForm) (image : List (Option ℕ)) (p : Profile) (w x : WorldState) (outcome : RunOutcome) (reported typed unread unpunched : Bool) (old new told_old told_new held holds : Option (List ℕ)) →
-    p ≡ options.profile → w ≡ fresh image options.start → OperatedToStop (comes p w) stops p options.trace w outcome x old new told_old told_new → (reported || typed) ≡ false → AppendsSome held holds x.devices.punch.output →
+done_front : (comes : Profile → WorldState → Extent → List Event → Type 0) (options : RunOptions) (stops : Stops) (form : SummaryForm) (left : Bool) (image : List (Option ℕ)) (p : Profile) (w x : WorldState) (outcome : RunOutcome) (reported typed unread unpunched : Bool) (old new told_old told_new held holds : Option (List ℕ)) →
+    p ≡ options.profile → w ≡ fresh image options.start → OperatedToStop (comes p w) left stops p options.trace w outcome x old new told_old told_new → (reported || typed) ≡ false → AppendsSome held holds x.devices.punch.output →
     (unpunched ≡ false → Appends held holds x.devices.punch.output) → (unpunched ≡ true → AppendsFront held holds x.devices.punch.output) →
-    FrontsOf (IsPartToStop comes options stops form reported typed unread image) (failures reported typed unpunched) (taken old told_old held) (taken new told_new holds)
+    FrontsOf (IsPartToStop comes options stops form left reported typed unread image) (failures reported typed unpunched) (taken old told_old held) (taken new told_new holds)
 unfolding whole_front
-done_front comes options stops form image p w x outcome reported typed unread unpunched old new told_old told_new held holds profile begins done unfailed punched whole cut =
+done_front comes options stops form left image p w x outcome reported typed unread unpunched old new told_old told_new held holds profile begins done unfailed punched whole cut =
     let extent = extent_after (reported || typed) unread in
     let lines = traced options.trace done.lines in
     let none : summary_where (words options.show) form extent outcome.end x outcome.steps ≡ [] = unsummed (words options.show) form (reported || typed) unread outcome.end x outcome.steps in
@@ -373,8 +389,10 @@ done_front comes options stops form image p w x outcome reported typed unread un
       is = record {
         summed = λ all. absurd (not_all (reported || typed) unread all);
         to_there = λ no. rw no refl;
+        as_left = left;
+        if_left = λ yes. yes;
         status = status_of outcome.end;
-        is = rw none at (held_to_stop comes options stops form extent image p w x outcome (status_of outcome.end) old new told_old told_new profile begins done refl);
+        is = rw none at (held_to_stop comes options stops form extent left image p w x outcome (status_of outcome.end) old new told_old told_new profile begins done refl);
       };
       to_report = whole_front old new (lines ++ []) wrote;
       to_teletype = whole_front told_old told_new (printed_in x) done.printed;
@@ -391,18 +409,20 @@ done_front comes options stops form image p w x outcome reported typed unread un
     }
 
 -- memory was refused for the summary
-pub summary_unmade : (comes : Profile → WorldState → Extent → List Event → Type 0) (options : RunOptions) (stops : Stops) (form : SummaryForm) (image : List (Option ℕ)) (p : Profile) (w x : WorldState) (outcome : RunOutcome) (reported typed unread unpunched : Bool) (old new told_old told_new held holds : Option (List ℕ)) →
-    p ≡ options.profile → w ≡ fresh image options.start → OperatedToStop (comes p w) stops p options.trace w outcome x old new told_old told_new → Appends held holds x.devices.punch.output → (reported || typed) ≡ false → unpunched ≡ false →
-    FrontsOf (IsPartToStop comes options stops form reported typed unread image) (failures reported typed unpunched) (taken old told_old held) (taken new told_new holds)
-summary_unmade comes options stops form image p w x outcome reported typed unread unpunched old new told_old told_new held holds profile begins done punched unfailed is_punched =
-    done_front comes options stops form image p w x outcome reported typed unread unpunched old new told_old told_new held holds profile begins done unfailed
+pub summary_unmade : (comes : Profile → WorldState → Extent → List Event → Type 0) (options : RunOptions) (stops : Stops) (form : SummaryForm) (left : Bool) (image : List (Option ℕ)) (p : Profile) (w x : WorldState) (outcome : RunOutcome) (reported typed unread unpunched : Bool) (old new told_old told_new held holds : Option (List ℕ)) →
+    p ≡ options.profile → w ≡ fresh image options.start → OperatedToStop (comes p w) left stops p options.trace w outcome x old new told_old told_new → Appends held holds x.devices.punch.output → (reported || typed) ≡ false → unpunched ≡ false →
+    FrontsOf (IsPartToStop comes options stops form left reported typed unread image) (failures reported typed unpunched) (taken old told_old held) (taken new told_new holds)
+summary_unmade comes options stops form left image p w x outcome reported typed unread unpunched old new told_old told_new held holds profile begins done punched unfailed is_punched =
+    done_front comes options stops form left image p w x outcome reported typed unread unpunched old new told_old told_new held holds profile begins done unfailed
     (whole_front held holds x.devices.punch.output punched) (λ no. punched) (λ yes. absurd (true≢false (sym yes ∙ is_punched)))
 
-part_unstopped : (comes : Profile → WorldState → Extent → List Event → Type 0) (options : RunOptions) (stops : Stops) (form : SummaryForm) (image : List (Option ℕ)) (reported typed unread : Bool) (extent : Extent) (text printed punched : List ℕ) →
-    IsPartOf (unstopped stops comes) options form reported typed unread image extent text printed punched → IsPartToStop comes options stops form reported typed unread image extent text printed punched
-part_unstopped comes options stops form image reported typed unread extent text printed punched part = record {
+part_unstopped : (comes : Profile → WorldState → Extent → List Event → Type 0) (options : RunOptions) (stops : Stops) (form : SummaryForm) (left : Bool) (image : List (Option ℕ)) (reported typed unread : Bool) (extent : Extent) (text printed punched : List ℕ) →
+    IsPartOf (unstopped stops comes) options form reported typed unread image extent text printed punched → IsPartToStop comes options stops form left reported typed unread image extent text printed punched
+part_unstopped comes options stops form left image reported typed unread extent text printed punched part = record {
   summed = part.summed;
   to_there = part.to_there;
+  as_left = false;
+  if_left = λ yes. absurd (true≢false (sym yes));
   status = part.status;
   is = record {
     events = part.is.events;
@@ -422,23 +442,23 @@ part_unstopped comes options stops form image reported typed unread extent text 
 }
 
 -- the run broke off
-pub broke_unstopped : (comes : Profile → WorldState → Extent → List Event → Type 0) (options : RunOptions) (stops : Stops) (form : SummaryForm) (image : List (Option ℕ)) (p : Profile) (w x : WorldState) (reported typed unread unpunched : Bool) (old new told_old told_new held holds : Option (List ℕ)) →
+pub broke_unstopped : (comes : Profile → WorldState → Extent → List Event → Type 0) (options : RunOptions) (stops : Stops) (form : SummaryForm) (left : Bool) (image : List (Option ℕ)) (p : Profile) (w x : WorldState) (reported typed unread unpunched : Bool) (old new told_old told_new held holds : Option (List ℕ)) →
     p ≡ options.profile → w ≡ fresh image options.start → BrokeOff (unstopped stops comes p w) p options.trace w x reported typed unread old new told_old told_new → AppendsSome held holds x.devices.punch.output →
     (unpunched ≡ false → Appends held holds x.devices.punch.output) → (unpunched ≡ true → AppendsFront held holds x.devices.punch.output) →
-    FrontsOf (IsPartToStop comes options stops form reported typed unread image) (failures reported typed unpunched) (taken old told_old held) (taken new told_new holds)
-broke_unstopped comes options stops form image p w x reported typed unread unpunched old new told_old told_new held holds profile begins broke punched whole cut =
+    FrontsOf (IsPartToStop comes options stops form left reported typed unread image) (failures reported typed unpunched) (taken old told_old held) (taken new told_new holds)
+broke_unstopped comes options stops form left image p w x reported typed unread unpunched old new told_old told_new held holds profile begins broke punched whole cut =
     fronts_by _ _ (failures reported typed unpunched) (taken old told_old held) (taken new told_new holds)
-    (λ extent text printed punched part. part_unstopped comes options stops form image reported typed unread extent text printed punched part)
+    (λ extent text printed punched part. part_unstopped comes options stops form left image reported typed unread extent text printed punched part)
     (broke_front (unstopped stops comes) options form image p w x reported typed unread unpunched old new told_old told_new held holds profile begins broke punched whole cut)
 
 -- the punch failed, whatever the run brought
-pub punch_failed : (comes : Profile → WorldState → Extent → List Event → Type 0) (options : RunOptions) (stops : Stops) (form : SummaryForm) (image : List (Option ℕ)) (p : Profile) (w x : WorldState) (ran : Result RunOutcome Fault) (reported typed unread unpunched : Bool) (old new told_old told_new held holds : Option (List ℕ)) →
-    p ≡ options.profile → w ≡ fresh image options.start → IfOk ran (λ outcome. OperatedToStop (comes p w) stops p options.trace w outcome x old new told_old told_new) → OnErr ran (BrokeOff (unstopped stops comes p w) p options.trace w x reported typed unread old new told_old told_new) →
+pub punch_failed : (comes : Profile → WorldState → Extent → List Event → Type 0) (options : RunOptions) (stops : Stops) (form : SummaryForm) (left : Bool) (image : List (Option ℕ)) (p : Profile) (w x : WorldState) (ran : Result RunOutcome Fault) (reported typed unread unpunched : Bool) (old new told_old told_new held holds : Option (List ℕ)) →
+    p ≡ options.profile → w ≡ fresh image options.start → IfOk ran (λ outcome. OperatedToStop (comes p w) left stops p options.trace w outcome x old new told_old told_new) → OnErr ran (BrokeOff (unstopped stops comes p w) p options.trace w x reported typed unread old new told_old told_new) →
     (reported || typed) ≡ fails_to_write ran → AppendsFront held holds x.devices.punch.output → unpunched ≡ true →
-    FrontsOf (IsPartToStop comes options stops form reported typed unread image) (failures reported typed unpunched) (taken old told_old held) (taken new told_new holds)
-punch_failed comes options stops form image p w x (Ok outcome) reported typed unread unpunched old new told_old told_new held holds profile begins done broke marks punched failed =
-    done_front comes options stops form image p w x outcome reported typed unread unpunched old new told_old told_new held holds profile begins done marks
+    FrontsOf (IsPartToStop comes options stops form left reported typed unread image) (failures reported typed unpunched) (taken old told_old held) (taken new told_new holds)
+punch_failed comes options stops form left image p w x (Ok outcome) reported typed unread unpunched old new told_old told_new held holds profile begins done broke marks punched failed =
+    done_front comes options stops form left image p w x outcome reported typed unread unpunched old new told_old told_new held holds profile begins done marks
     (some_of held holds x.devices.punch.output punched) (λ no. absurd (true≢false (sym failed ∙ no))) (λ yes. punched)
-punch_failed comes options stops form image p w x (Err fault) reported typed unread unpunched old new told_old told_new held holds profile begins done broke marks punched failed =
-    broke_unstopped comes options stops form image p w x reported typed unread unpunched old new told_old told_new held holds profile begins broke
+punch_failed comes options stops form left image p w x (Err fault) reported typed unread unpunched old new told_old told_new held holds profile begins done broke marks punched failed =
+    broke_unstopped comes options stops form left image p w x reported typed unread unpunched old new told_old told_new held holds profile begins broke
     (some_of held holds x.devices.punch.output punched) (λ no. absurd (true≢false (sym failed ∙ no))) (λ yes. punched)

@@ -1,5 +1,5 @@
 -- A declared run, in which a CONTINUE counts at a pause alone: its trace, and where it is stopped.
-use Rattle.std.specs.Prelude.{ℕ, ◌≡◌, ◌+◌, ◌++◌, Bool, true, false, not, Option, Some, None, List, [], ◌∷◌, is_some, take}
+use Rattle.std.specs.Prelude.{ℕ, ◌≡◌, ◌+◌, ◌++◌, Bool, true, false, Option, Some, None, List, [], ◌∷◌, is_some, take}
 use Rattle.std.proofs.Common.{zero, suc}
 use Rattle.peripherals.specs.declared.Event.{Event}
 use Rattle.peripherals.specs.declared.Event.TheVariants.{Continue}
@@ -18,11 +18,6 @@ use Rattle.machine_commands.specs.Stops.{stops_before, visits_with}
 use Rattle.machine_commands.specs.Summary.{state_line}
 use Rattle.machine_commands.specs.Trace.{trace_of}
 use Rattle.machine_commands.specs.WatchText.{IsSeen, happening}
-
--- The machine is halted, and not at a declared pause.
-abbrev pub waits_at : Declaration → Option ℕ → Bool
-waits_at d None = false
-waits_at d (Some at) = not (d.pause at)
 
 -- The event is a CONTINUE.
 abbrev pub is_continue : Event → Bool

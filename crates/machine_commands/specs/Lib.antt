@@ -19,6 +19,7 @@ pub mod Typing
 pub mod TypingParts
 pub mod Teletype
 pub mod Cuts
+pub mod Interrupted
 pub mod StoppedSession
 pub mod StoppedParts
 pub mod DeclaredRun

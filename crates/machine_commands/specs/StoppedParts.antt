@@ -14,7 +14,7 @@ use Rattle.machine_commands.specs.Follows.{Follows}
 use Rattle.machine_commands.specs.Last.{told}
 use Rattle.machine_commands.specs.Schedule.{Extent, Whole}
 use Rattle.machine_commands.specs.Session.{extent_unread, printed_in}
-use Rattle.machine_commands.specs.StoppedSession.{IsHeldToStop, StoppedSo, extent_to_stop}
+use Rattle.machine_commands.specs.StoppedSession.{IsHeldToStop, StoppedSo, extent_to_stop, leaving}
 use Rattle.machine_commands.specs.Stops.{NeverStops, stops_before, visits_with}
 use Rattle.machine_commands.specs.Trace.{traced}
 
@@ -23,8 +23,8 @@ abbrev pub Passes : Stops → Profile → ℕ → WorldState → Event → Optio
 Passes stops profile visits w e None = stops_before stops profile visits w e ≡ true
 Passes stops profile visits w e (Some more) = (stops_before stops profile visits w e ≡ false) × (more ≡ visits_with stops visits w e)
 
--- A run came to its end in x, or it was stopped there: the trace, if one was asked for, and the characters that were printed were appended.
-pub record OperatedToStop (comes : Extent → List Event → Type 0) (stops : Stops) (profile : Profile) (trace : Bool) (w : WorldState) (outcome : RunOutcome) (x : WorldState) (old new told_old told_new : Option (List ℕ)) : Type 0 where
+-- A run came to its end in x, or it was stopped there, or a key interrupted it: the trace, if one was asked for, and the characters that were printed were appended.
+pub record OperatedToStop (comes : Extent → List Event → Type 0) (left : Bool) (stops : Stops) (profile : Profile) (trace : Bool) (w : WorldState) (outcome : RunOutcome) (x : WorldState) (old new told_old told_new : Option (List ℕ)) : Type 0 where
   pub events : List Event
   pub stopped : Bool
   pub come : (extent : Extent) → comes (extent_to_stop stopped extent) events
@@ -32,7 +32,7 @@ pub record OperatedToStop (comes : Extent → List Event → Type 0) (stops : St
   pub lines : List ℕ
   pub last : End
   pub follows : Follows profile true events w lines outcome.steps last x
-  pub ends : outcome.end ≡ told stopped last x
+  pub ends : outcome.end ≡ leaving left (told stopped last x) x
   pub wrote : Appends old new (traced trace lines)
   pub printed : Appends told_old told_new (printed_in x)
 
@@ -42,8 +42,10 @@ unstopped stops comes profile w extent events = comes profile w extent events ×
 
 -- What the events that come up to where the run is stopped, or the first of them, leave; all of them with the summary, where the report
 -- failed.
-pub record IsPartToStop (comes : Profile → WorldState → Extent → List Event → Type 0) (options : RunOptions) (stops : Stops) (form : SummaryForm) (reported typed unread : Bool) (image : List (Option ℕ)) (extent : Extent) (text printed punched : List ℕ) : Type 0 where
+pub record IsPartToStop (comes : Profile → WorldState → Extent → List Event → Type 0) (options : RunOptions) (stops : Stops) (form : SummaryForm) (left reported typed unread : Bool) (image : List (Option ℕ)) (extent : Extent) (text printed punched : List ℕ) : Type 0 where
   pub summed : extent ≡ Whole → reported ≡ true
   pub to_there : (reported || typed) ≡ false → extent ≡ extent_unread unread
+  pub as_left : Bool
+  pub if_left : as_left ≡ true → left ≡ true
   pub status : Status
-  pub is : IsHeldToStop comes options stops form extent image text printed punched status
+  pub is : IsHeldToStop comes options stops form extent as_left image text printed punched status

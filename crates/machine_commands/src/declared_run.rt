@@ -6,14 +6,15 @@ ghost use Rattle.peripherals.specs.Seen.{seen_of};
 ghost use Rattle.peripherals.specs.World.{view, profile_of};
 ghost use Rattle.declaration.specs.Kept.{meaning};
 ghost use Rattle.policy.specs.Runs.{HappensDeclared};
-ghost use Rattle.machine_commands.specs.DeclaredRun.{Goes, IsDeclaredCut, IsDeclaredStop, IsLinesBefore, is_continue, last_of, stopped_line, up_to, waits_at};
+ghost use Rattle.machine_commands.specs.DeclaredRun.{Goes, IsDeclaredCut, IsDeclaredStop, IsLinesBefore, is_continue, last_of, stopped_line, up_to};
+ghost use Rattle.policy.specs.WatchedSteps.{waits};
 ghost use Rattle.machine_commands.specs.Follows.{counted};
 ghost use Rattle.machine_commands.specs.Running.{fresh};
 ghost use Rattle.machine_commands.specs.Trace.{trace_of};
 
 use crate::follow::{End, RunOutcome, advance};
 use crate::last::{KeptTrace, last_lines};
-use crate::shown::happening;
+use crate::shown::{first, happening};
 use crate::stopped_session::visits_past;
 use crate::summary::push_state;
 use bin_tape::Image;
@@ -26,7 +27,7 @@ use streams::ByteSink;
 
 /// Whether the machine is halted, and not at a declared pause.
 fn waits<A: Allocator, D: Allocator>(world: &World<A>, declaration: &Declaration<D>) -> bool
-    ensures { result ≡ waits_at (meaning declaration.now) (view world.now).halted_at }
+    ensures { result ≡ waits (meaning declaration.now) (view world.now).halted_at }
 {
     match world.halted_at() {
         None => false,
@@ -103,7 +104,8 @@ fn go_through<A: Allocator, B: Allocator, D: Allocator>(
     let mut trace = KeptTrace::new(alloc);
     let mut steps = 0;
     for index in 0..events.len() {
-        steps += go(world, declaration, &mut trace, events[index])?;
+        let event = events[index];
+        steps += go(world, declaration, &mut trace, event)?;
     }
     let KeptTrace { text, .. } = trace;
     Ok(DeclaredTrace { steps, lines: text })
@@ -152,11 +154,12 @@ fn declared_stop_of<A: Allocator + Copy, D: Allocator>(
     );
     let mut visits = 0;
     for index in 0..events.len() {
-        let Some(more) = visits_past(stops, visits, &world, &events[index]) else {
+        let event = events[index];
+        let Some(more) = visits_past(stops, visits, &world, &event) else {
             return Ok(Some(index));
         };
         visits = more;
-        happen(&mut world, declaration, events[index])?;
+        happen(&mut world, declaration, event)?;
     }
     Ok(None)
 }
@@ -173,8 +176,8 @@ fn up_to(events: &[Event], stop: Option<usize>) -> &[Event]
     ensures { result.now ≡ up_to stop events.now }
 {
     match stop {
-        Some(count) if count < events.len() => &events[..count],
-        _ => events,
+        None => events,
+        Some(count) => first(events, count),
     }
 }
 

@@ -5,6 +5,7 @@
 mod continuing;
 mod declared_run;
 pub mod follow;
+pub mod interrupted;
 pub mod last;
 pub mod laws;
 pub mod messages;

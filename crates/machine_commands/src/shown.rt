@@ -14,7 +14,7 @@ use std::alloc::Allocator;
 use wordset::WordSet;
 
 /// The first of some events, so many.
-fn first(events: &[Event], count: usize) -> &[Event]
+pub(crate) fn first(events: &[Event], count: usize) -> &[Event]
     ensures { result.now ≡ take count events.now }
 {
     if count < events.len() {

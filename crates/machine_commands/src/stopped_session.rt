@@ -7,11 +7,12 @@ ghost use Rattle.command_parts.specs.Inputs.{TakesAtMost, TakesTape, input};
 ghost use Rattle.machine_commands.specs.Schedule.{Whole};
 ghost use Rattle.machine_commands.specs.Session.{BrokeOff, FrontsOf, IsHeldFault, WritesAll, failures, taken};
 ghost use Rattle.machine_commands.specs.SessionParts.{is_step, steps_in};
-ghost use Rattle.machine_commands.specs.StoppedSession.{IsHeldToStop, IsSessionToStop, IsTypedToStop, NothingOrStoppedFronts, StoppedTypedFronts};
+ghost use Rattle.machine_commands.specs.StoppedSession.{leaving, IsHeldToStop, IsSessionToStop, IsTypedToStop, NothingOrStoppedFronts, StoppedTypedFronts};
 ghost use Rattle.machine_commands.specs.StoppedParts.{IsPartToStop, OperatedToStop, Passes, unstopped};
 ghost use Rattle.machine_commands.specs.Teletype.{IsTypedFault};
 
 use crate::follow::{End, RunOutcome, end_of};
+use crate::interrupted::Leaves;
 use crate::running::status_of;
 use crate::schedule::Scheduler;
 use crate::session::{Outputs, play};
@@ -71,7 +72,7 @@ pub(crate) fn operate_to_stop<A: Allocator, S: Scheduler, W: ByteSink, T: ByteSi
     requires few { S.steps_to_come schedule.old < 18446744073709551616 }
     requires unprinted { (view world.old).devices.printer.output ≡ [] }
     ensures ran { IfOk result (λ outcome.
-        OperatedToStop (S.brings schedule.old (profile_of world.old) (view world.old)) stops.now
+        OperatedToStop (S.brings schedule.old (profile_of world.old) (view world.old)) false stops.now
         (profile_of world.old) trace (view world.old) outcome
         (view world.new) (W.taken report.old) (W.taken report.new)
         (T.taken teletype.old) (T.taken teletype.new)) }
@@ -122,11 +123,25 @@ pub(crate) fn operate_to_stop<A: Allocator, S: Scheduler, W: ByteSink, T: ByteSi
     })
 }
 
+/// How a run is said to have ended that a key interrupted, or did not.
+fn leaving<A: Allocator>(left: bool, ran: RunOutcome, world: &World<A>) -> RunOutcome
+    ensures steps { result.steps ≡ ran.steps }
+    ensures end { result.end ≡ leaving left ran.end (view world.now) }
+{
+    if !left {
+        return ran;
+    }
+    RunOutcome {
+        steps: ran.steps,
+        end: End::Interrupted(world.cpu().pc),
+    }
+}
+
 /// Runs an image by a schedule up to where it is stopped, and writes what was punched in the end, also where the run
 /// broke off, and the summary in this form.
 pub(crate) fn attend_to_stop<
     A: Allocator + Copy,
-    S: Scheduler,
+    S: Scheduler + Leaves,
     W: ByteSink,
     T: ByteSink,
     P: ByteSink,
@@ -146,12 +161,12 @@ pub(crate) fn attend_to_stop<
     requires few { S.steps_to_come schedule.old < 18446744073709551616 }
     ensures run { IfOk result (λ status.
         WritesAll (λ text printed punched.
-        IsHeldToStop (S.brings schedule.old) options stops.now form.entry Whole image.now text printed
+        IsHeldToStop (S.brings schedule.old) options stops.now form.entry Whole (S.left schedule.new) image.now text printed
         punched status)
         (taken (W.taken out.old.report) (T.taken out.old.teletype) (P.taken out.old.punch))
         (taken (W.taken out.new.report) (T.taken out.new.teletype) (P.taken out.new.punch))) }
     ensures front { OnErr result (FrontsOf
-        (IsPartToStop (S.brings schedule.old) options stops.now form.entry (W.mark out.new.report)
+        (IsPartToStop (S.brings schedule.old) options stops.now form.entry (S.left schedule.new) (W.mark out.new.report)
         (T.mark out.new.teletype) (S.unread schedule.new) image.now)
         (failures (W.mark out.new.report) (T.mark out.new.teletype) (P.mark out.new.punch))
         (taken (W.taken out.old.report) (T.taken out.old.teletype) (P.taken out.old.punch))
@@ -171,7 +186,8 @@ pub(crate) fn attend_to_stop<
     } = out;
     let ran = operate_to_stop(&mut world, schedule, stops, options.trace, report, teletype);
     put(punch, world.punched())?;
-    let outcome = ran?;
+    let came = ran?;
+    let outcome = leaving(schedule.has_left(), came, &world);
     let text = closing_of(alloc, &outcome, &world, &form, &options.show)?;
     put(report, &text)?;
     Ok(status_of(outcome.end))
@@ -268,8 +284,9 @@ pub fn run_session_with_stops<
 }
 
 /// Runs a tape with somebody at the teletype, as [`crate::teletype::teletype`] does, up to the step before which the
-/// session is stopped. The summary then says where that is, and shows the machine as it was there. Where the session
-/// ends before, it writes as `teletype` does.
+/// session is stopped. The summary then says where that is, and shows the machine as it was there; where the key was
+/// struck that interrupts the session, it says where that was. Where the session ends before, it writes as `teletype`
+/// does.
 ///
 /// # Errors
 ///
@@ -278,7 +295,7 @@ pub fn teletype_with_stops<
     A: Allocator + Copy,
     R: ByteSource,
     F: ByteSource,
-    K: ByteSource,
+    K: ByteSource + Leaves,
     W: ByteSink,
     T: ByteSink,
     P: ByteSink,
@@ -299,7 +316,7 @@ pub fn teletype_with_stops<
     // What is written, typed and punched is that of the run of the events that come, up to the first step that stops
     // it.
     ensures run { IfOk result (λ status.
-        WritesAll (IsTypedToStop typist.old.options stops.now form.entry Whole (R.remaining tape.old)
+        WritesAll (IsTypedToStop typist.old.options stops.now form.entry Whole (K.left typist.new.keys) (R.remaining tape.old)
         (F.remaining typist.old.reader) (K.remaining typist.old.keys) status)
         (taken (W.taken out.old.report) (T.taken out.old.teletype) (P.taken out.old.punch))
         (taken (W.taken out.new.report) (T.taken out.new.teletype) (P.taken out.new.punch))) }
@@ -307,7 +324,7 @@ pub fn teletype_with_stops<
         (input (R.mark tape.new) (R.remaining tape.old) (R.remaining tape.new))) }
     // After a fault of a good tape fronts of what the first events leave went out.
     ensures front { IfErr result (λ fault. (is_fault_of_tape fault ≡ true) ⊎ ((R.mark tape.new ≡ true)
-        ⊎ StoppedTypedFronts typist.old.options stops.now form.entry
+        ⊎ StoppedTypedFronts typist.old.options stops.now form.entry (K.left typist.new.keys)
         (failures (W.mark out.new.report) (T.mark out.new.teletype) (P.mark out.new.punch))
         (F.mark typist.new.reader || K.mark typist.new.keys)
         (R.remaining tape.old) (F.remaining typist.old.reader) (K.remaining typist.old.keys)

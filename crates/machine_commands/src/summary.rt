@@ -29,6 +29,7 @@ fn push_end<A: Allocator>(text: &mut Vec<u8, A>, end: End) -> Result<(), AllocEr
         End::Halted(at) => push_place(text, b"HALT ", at),
         End::Bound(at) => push_place(text, b"BOUND ", at),
         End::Stopped(at) => push_place(text, b"STOPPED ", at),
+        End::Interrupted(at) => push_place(text, b"INTERRUPTED ", at),
     }
 }
 

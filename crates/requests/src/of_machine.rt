@@ -73,6 +73,7 @@ fn teletype_of<'a>(session: &TeletypeSession<'a>, named: &Named) -> TeletypeSess
         },
         summary: session.summary,
         stopping: named.stopping,
+        interrupt: session.interrupt,
     }
 }
 
@@ -82,6 +83,7 @@ fn carry_out<R: Files + Input + Print + Eprint>(
     alloc: Global,
     source: &AssembledSource,
     asked: &SourcedRequest<'_>,
+    at_terminal: bool,
 ) -> Result<Status, Fault> {
     let named = match named_in(source.numbered.map.symbols(), &asked.places) {
         Ok(named) => named,
@@ -94,7 +96,8 @@ fn carry_out<R: Files + Input + Print + Eprint>(
             hold_session_on(rt, alloc, &session_of(session, &named), &mut frames)
         }
         MachineTask::Teletype(session) => {
-            hold_teletype_session_on(rt, alloc, &teletype_of(session, &named), &mut frames)
+            let session = teletype_of(session, &named);
+            hold_teletype_session_on(rt, alloc, &session, at_terminal, &mut frames)
         }
         MachineTask::Dump(dump) => {
             let text = words_of(alloc, source, dump.profile)?;
@@ -111,6 +114,7 @@ fn answer_given<R: Files + Input + Print + Eprint>(
     alloc: Global,
     given: Given,
     asked: &SourcedRequest<'_>,
+    at_terminal: bool,
 ) -> Result<Status, Fault> {
     let numbered = match numbered_of(alloc, &given) {
         Ok(numbered) => numbered,
@@ -131,7 +135,7 @@ fn answer_given<R: Files + Input + Print + Eprint>(
         Err(_) => return Err(Fault::NoMemory),
     };
     let source = described(alloc, given, numbered, &asked.parts)?;
-    let status = carry_out(rt, alloc, &source, asked)?;
+    let status = carry_out(rt, alloc, &source, asked, at_terminal)?;
     tell_unread(rt, alloc, &asked.parts, &lend(alloc, &source.given.parts)?)?;
     Ok(status)
 }
@@ -147,6 +151,7 @@ pub fn answer_sourced<R: Files + Input + Print + Eprint>(
     rt: &R,
     alloc: Global,
     asked: &SourcedRequest<'_>,
+    at_terminal: bool,
 ) -> Result<Status, Fault> {
     let mut parts = Vec::new(alloc);
     if let Err(fault) = read_parts(rt, alloc, &asked.parts, &mut parts) {
@@ -163,5 +168,5 @@ pub fn answer_sourced<R: Files + Input + Print + Eprint>(
         text,
         promise: Promise::Proposed,
     };
-    answer_given(rt, alloc, given, asked)
+    answer_given(rt, alloc, given, asked, at_terminal)
 }

@@ -21,7 +21,7 @@ pub returns-clause-run : goal.returns-clause-run
 returns-clause-run g c =
     let t = c.args.typist.now in
     let run = rw (c.begin.ensures, c.run_of-options.ensures, c.options.ensures) at c.attend_to_stop.ensures.run in
-    typed_stop_ok t.options c.args.stops.now c.args.form (g.R.ByteSource.remaining c.args.tape.now) (source (g.F.ByteSource.remaining t.reader) (g.F.ByteSource.ended t.reader)) (source (g.K.ByteSource.remaining t.keys) (g.K.ByteSource.ended t.keys)) c.in_ok-image.image c.attend_to_stop.result _ _ c.in_ok-image.ensures.tape run
+    typed_stop_ok t.options c.args.stops.now c.args.form _ (g.R.ByteSource.remaining c.args.tape.now) (source (g.F.ByteSource.remaining t.reader) (g.F.ByteSource.ended t.reader)) (source (g.K.ByteSource.remaining t.keys) (g.K.ByteSource.ended t.keys)) c.in_ok-image.image c.attend_to_stop.result _ _ c.in_ok-image.ensures.tape run
 
 pub returns-clause-faults : goal.returns-clause-faults
 returns-clause-faults g c = typed_faults _ c.in_ok-image.image c.attend_to_stop.result c.in_ok-image.ensures.tape c.attend_to_stop.ensures.faults
@@ -31,7 +31,7 @@ returns-clause-front g c =
     let t = c.args.typist.now in
     let n = c.attend_to_stop.new.schedule in
     let front = rw (c.begin.ensures, c.run_of-options.ensures, c.options.ensures) at c.attend_to_stop.ensures.front in
-    typed_stop_err t.options c.args.stops.now c.args.form (g.R.ByteSource.remaining c.args.tape.now) (source (g.F.ByteSource.remaining t.reader) (g.F.ByteSource.ended t.reader)) (source (g.K.ByteSource.remaining t.keys) (g.K.ByteSource.ended t.keys)) c.in_ok-image.image
+    typed_stop_err t.options c.args.stops.now c.args.form _ (g.R.ByteSource.remaining c.args.tape.now) (source (g.F.ByteSource.remaining t.reader) (g.F.ByteSource.ended t.reader)) (source (g.K.ByteSource.remaining t.keys) (g.K.ByteSource.ended t.keys)) c.in_ok-image.image
     (g.R.ByteSource.mark c.tape_from.new.source) (g.F.ByteSource.mark n.reader || g.K.ByteSource.mark n.keys) (failures (g.W.ByteSink.mark c.attend_to_stop.new.out.report) (g.T.ByteSink.mark c.attend_to_stop.new.out.teletype) (g.P.ByteSink.mark c.attend_to_stop.new.out.punch))
     _ _ c.attend_to_stop.result c.in_ok-image.ensures.tape front
 

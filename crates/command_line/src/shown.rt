@@ -142,9 +142,10 @@ impl Places<'_> {
     /// What is wrong with a value.
     pub fn stops<C: ReadCells>(&self, reader: &C) -> Result<Stops, Misuse> {
         let stops = Stops {
+            place: None,
+            times: 1,
             written: named_cells(reader, &self.written, Misuse::UntilWrite)?,
             read: named_cells(reader, &self.read, Misuse::UntilRead)?,
-            ..Stops::none()
         };
         let Some(text) = self.until else {
             return Ok(stops);

@@ -1,9 +1,5 @@
 //! What commands are asked to do, apart from the files that they work on.
 
-ghost use Rattle.std.specs.Prelude.{◌≡◌, None};
-ghost use Rattle.wordset.specs.Lanes.{words};
-ghost use Rattle.wordset.specs.Words.{nothing};
-
 use instruct::Profile;
 use word12::Word;
 use wordset::WordSet;
@@ -34,22 +30,6 @@ pub struct Stops {
     pub written: WordSet,
     /// The run is stopped before a step that reads one of these cells.
     pub read: WordSet,
-}
-
-impl Stops {
-    /// What never stops a run.
-    pub fn none() -> Stops
-        ensures place { result.place ≡ None }
-        ensures written { words result.written ≡ nothing }
-        ensures read { words result.read ≡ nothing }
-    {
-        Stops {
-            place: None,
-            times: 1,
-            written: WordSet::empty(),
-            read: WordSet::empty(),
-        }
-    }
 }
 
 /// What the summary of a run with an operator tells, and where it begins.

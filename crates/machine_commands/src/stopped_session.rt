@@ -1,6 +1,8 @@
 //! A run with an operator, or a session at the teletype, up to where it is stopped.
 
-ghost use Rattle.std.specs.Prelude.{◌≡◌, ◌<◌, ◌≤◌, ◌+◌, IfSome, ◌||◌, ◌⊎◌, [], false, true, IfOk, IfErr, OnErr};
+ghost use Rattle.std.specs.Prelude.{◌≡◌, ◌<◌, ◌≤◌, ◌+◌, IfSome, ◌||◌, ◌⊎◌, [], false, true, None, IfOk, IfErr, OnErr};
+ghost use Rattle.wordset.specs.Lanes.{words};
+ghost use Rattle.wordset.specs.Words.{nothing};
 ghost use Rattle.peripherals.specs.World.{view, profile_of};
 ghost use Rattle.command_parts.specs.Faults.{is_fault_of_tape, fails_to_read, fails_to_write, IsSessionFault};
 ghost use Rattle.command_parts.specs.Inputs.{TakesAtMost, TakesTape, input};
@@ -27,6 +29,21 @@ use command_parts::status::{Fault, Status};
 use peripherals::{Event, Operator, Seen, Start, World};
 use std::alloc::Allocator;
 use streams::{ByteSink, ByteSource, put};
+use wordset::WordSet;
+
+/// What never stops a run.
+pub fn no_stops() -> Stops
+    ensures place { result.place ≡ None }
+    ensures written { words result.written ≡ nothing }
+    ensures read { words result.read ≡ nothing }
+{
+    Stops {
+        place: None,
+        times: 1,
+        written: WordSet::empty(),
+        read: WordSet::empty(),
+    }
+}
 
 /// Whether an event is a step of the machine.
 fn is_step(event: &Event) -> bool

@@ -6,13 +6,13 @@ use crate::files::open_input;
 use crate::replacing::ResultFile;
 use crate::tellers::{Nowhere, open_input_if, report_to, tell_to};
 use command_line::{Interrupt, Session, TeletypeSession};
-use command_parts::options::{Stops, SummaryForm};
+use command_parts::options::SummaryForm;
 use command_parts::status::{DeviceFault, Fault, Status};
 use command_parts::visible::visible_text;
 use either::Either;
 use machine_commands::interrupted::KeysUntil;
 use machine_commands::session::{Outputs, run_session};
-use machine_commands::stopped_session::{run_session_with_stops, teletype_with_stops};
+use machine_commands::stopped_session::{no_stops, run_session_with_stops, teletype_with_stops};
 use machine_commands::teletype::{Typist, teletype};
 use std::alloc::{AllocError, Global};
 use std::io::{self, Printer};
@@ -225,7 +225,7 @@ pub(crate) fn hold_teletype_session_on<R: Files + Input + Print + Eprint, S: Byt
             teletype_with_stops(alloc, frames, &mut typist, &stopping.stops, form, out)
         }
         None if key.is_some() => {
-            teletype_with_stops(alloc, frames, &mut typist, &Stops::none(), form, out)
+            teletype_with_stops(alloc, frames, &mut typist, &no_stops(), form, out)
         }
         None => teletype(alloc, frames, &mut typist, form, out),
     };

@@ -270,6 +270,13 @@ const TRACE: Argument = Argument {
     help: "writes a line for each instruction that is executed",
 };
 
+const TRACE_LONG: Argument = Argument {
+    name: "trace-long",
+    short: None,
+    form: Form::Flag,
+    help: "writes a longer line for each instruction that is executed: how it reads, with --source its label and its statement, and the cells that it read and wrote",
+};
+
 const READER: Argument = Argument {
     name: "reader",
     short: None,
@@ -480,13 +487,14 @@ const VERIFY_ARGUMENTS: [Argument; 10] = [
     WHY_VERIFY,
 ];
 
-const RUN_ARGUMENTS: [Argument; 19] = [
+const RUN_ARGUMENTS: [Argument; 20] = [
     TAPE_OR_SOURCE,
     PARTS,
     START,
     ROUNDS,
     EVENTS_FILE,
     TRACE,
+    TRACE_LONG,
     PROFILE,
     READER,
     PUNCH,

@@ -184,6 +184,9 @@ pub fn session_of<'a>(found: &ArgMatches<'a>, places: &Places<'a>) -> Result<Ses
     if found.get_str("last").is_some() {
         return Err(Refused::Misuse(Misuse::LastAndOperator));
     }
+    if found.get_flag("trace-long") {
+        return Err(Refused::Misuse(Misuse::LongTrace));
+    }
     let names = [tape.unwrap_or(""), reader.unwrap_or(""), keys.unwrap_or("")];
     read_standard_input_once(&names)?;
     let inputs = [

@@ -51,6 +51,8 @@ pub enum Misuse {
     LastAndTrace,
     /// The last instructions of a run are to be shown, and it has an operator too.
     LastAndOperator,
+    /// A long line is to be written for each instruction, and a short one, or the run has an operator.
+    LongTrace,
     /// There are events, and an operator too.
     EventsAndOperator,
     /// A run is to be watched by a list of events, and with an operator too.
@@ -156,9 +158,11 @@ impl Misuse {
     fn combination_text(&self) -> Option<&'static str> {
         Some(match self {
             Misuse::LastAndTrace =>
-                "'--last' cannot be combined with '--trace', which writes all instructions",
+                "'--last' cannot be combined with '--trace' or '--trace-long', which write all instructions",
             Misuse::LastAndOperator =>
                 "'--last' cannot be combined with the options for the reader, the punch, the teletype and the switches",
+            Misuse::LongTrace =>
+                "'--trace-long' cannot be combined with '--trace', nor with the options for the reader, the punch, the teletype and the switches",
             Misuse::EventsAndOperator =>
                 "'--events' cannot be combined with the options for the reader, the punch, the teletype and the switches",
             Misuse::ListAndOperator =>

@@ -223,7 +223,7 @@ fn last_of(found: &ArgMatches<'_>) -> Result<Option<u32>, Refused> {
     let Some(text) = found.get_str("last") else {
         return Ok(None);
     };
-    if found.get_flag("trace") {
+    if found.get_flag("trace") || found.get_flag("trace-long") {
         return Err(Refused::Misuse(Misuse::LastAndTrace));
     }
     match decimal_between(1, MOST_LAST, text.as_bytes()) {

@@ -22,6 +22,8 @@ pub struct RunRequest<'a> {
     pub options: RunOptions,
     /// How it is followed, if it may be stopped.
     pub stopping: Option<Stopping>,
+    /// Whether a long line is written for each instruction.
+    pub long: bool,
 }
 
 impl<'a> RunRequest<'a> {
@@ -53,12 +55,17 @@ pub(crate) fn run_request<'a>(
     let tape = tape_of(found)?;
     let events = found.get_str("events");
     read_standard_input_once(&[tape.unwrap_or(""), events.unwrap_or("")])?;
+    let long = found.get_flag("trace-long");
+    if long && found.get_flag("trace") {
+        return Err(Refused::Misuse(Misuse::LongTrace));
+    }
     if tape.is_none() {
         return Ok(RunRequest {
             tape,
             events,
             options: run_options(found, WordSet::empty())?,
             stopping: None,
+            long,
         });
     }
     Ok(RunRequest {
@@ -66,6 +73,7 @@ pub(crate) fn run_request<'a>(
         events,
         options: run_options(found, places.shown(&Octal)?)?,
         stopping: places.stopping(&Octal)?,
+        long,
     })
 }
 

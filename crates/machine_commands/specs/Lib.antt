@@ -24,3 +24,4 @@ pub mod StoppedSession
 pub mod StoppedParts
 pub mod DeclaredRun
 pub mod StoppedWatch
+pub mod LongTrace

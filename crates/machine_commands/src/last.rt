@@ -107,13 +107,13 @@ pub(crate) fn last_lines(text: &[u8], most: u32) -> &[u8]
 
 /// What comes of a course before its run is stopped, or all of it.
 #[derive(Clone, Copy)]
-struct Cut<'e> {
-    course: Course<'e>,
-    stopped: bool,
+pub(crate) struct Cut<'e> {
+    pub(crate) course: Course<'e>,
+    pub(crate) stopped: bool,
 }
 
 /// The part of a course up to where the run of an image is stopped.
-fn cut_of<'e, A: Allocator + Copy>(
+pub(crate) fn cut_of<'e, A: Allocator + Copy>(
     alloc: A,
     image: &Image,
     options: &RunOptions,

@@ -8,6 +8,7 @@ pub mod follow;
 pub mod interrupted;
 pub mod last;
 pub mod laws;
+pub mod long_trace;
 pub mod messages;
 mod progress;
 pub mod refuting;

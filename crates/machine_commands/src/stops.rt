@@ -116,7 +116,7 @@ pub(crate) fn visits_with<A: Allocator>(
 }
 
 /// Whether a run goes on after what was seen, where it ends at a halt or does not.
-fn goes_on(ends_at_halt: bool, seen: &Seen) -> bool
+pub(crate) fn goes_on(ends_at_halt: bool, seen: &Seen) -> bool
     ensures { result ≡ goes_on ends_at_halt seen.now }
 {
     match seen {

@@ -7,7 +7,7 @@ mod words;
 use crate::of_files::joined::{hold_session_on, hold_teletype_session_on};
 use crate::of_files::tapes::run_on;
 use crate::of_machine::places::{Named, named_in};
-use crate::of_machine::words::words_of;
+use crate::of_machine::words::{SourceStatements, words_of};
 use crate::of_sources::assembled::{AssembledSource, described};
 use crate::of_sources::numbering::{Given, Promise, lend, machine_line, read_parts};
 use crate::of_sources::told::tell_unread;
@@ -41,6 +41,7 @@ fn run_of<'a>(run: &RunRequest<'a>, named: &Named) -> RunRequest<'a> {
             ..run.options
         },
         stopping: named.stopping,
+        long: run.long,
     }
 }
 
@@ -91,7 +92,13 @@ fn carry_out<R: Files + Input + Print + Eprint>(
     };
     let mut frames = Reads::new(source.numbered.tape.as_slice());
     match &asked.task {
-        MachineTask::Run(run) => run_on(rt, alloc, &run_of(run, &named), &mut frames),
+        MachineTask::Run(run) => {
+            let statements = SourceStatements {
+                source,
+                profile: run.options.profile,
+            };
+            run_on(rt, alloc, &run_of(run, &named), &mut frames, &statements)
+        }
         MachineTask::Session(session) => {
             hold_session_on(rt, alloc, &session_of(session, &named), &mut frames)
         }

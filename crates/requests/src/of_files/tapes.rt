@@ -4,9 +4,14 @@ ghost use Rattle.std.specs.Prelude.{◌≡◌, false};
 
 use crate::files::{finish, open_input, open_output};
 use command_line::{DumpRequest, RunRequest, SourceRequest, Stopping};
+use command_parts::options::Stops;
 use command_parts::status::{Fault, Status};
 use machine_commands::last::{run_events_with_last, run_with_last};
+use machine_commands::long_trace::{
+    Named, Statements, run_events_with_long_trace, run_with_long_trace,
+};
 use machine_commands::running::{dump, run, run_events};
+use machine_commands::stopped_session::no_stops;
 use machine_commands::stopping::{run_events_with_stops, run_with_stops};
 use source_commands::sourcing::{declared_source, source};
 use std::alloc::Global;
@@ -25,6 +30,37 @@ pub fn dump_from<R: Files + Input + Print>(
     let mut frames = open_input(rt, asked.tape.unwrap_or("-"))?;
     let mut out = Writes::new(io::writer(rt));
     dump(alloc, &mut frames, asked.profile, &mut out)
+}
+
+/// Runs a tape with these frames, in rounds or by the events of a file, up to where it is stopped, and writes the long
+/// trace.
+fn run_long<R: Files + Input + Print, S: ByteSource, N: Statements>(
+    rt: &R,
+    alloc: Global,
+    asked: &RunRequest<'_>,
+    frames: &mut S,
+    statements: &N,
+) -> Result<Status, Fault>
+    requires { S.mark frames.old ≡ false }
+{
+    let (options, stops) = (asked.options, stops_of(asked));
+    let Some(events) = asked.events else {
+        let mut out = Writes::new(io::writer(rt));
+        return run_with_long_trace(alloc, frames, options, &stops, statements, &mut out);
+    };
+    let mut list = open_input(rt, events)?;
+    let mut out = Writes::new(io::writer(rt));
+    run_events_with_long_trace(
+        alloc, frames, &mut list, options, &stops, statements, &mut out,
+    )
+}
+
+/// Where a run is stopped.
+fn stops_of(asked: &RunRequest<'_>) -> Stops {
+    match &asked.stopping {
+        None => no_stops(),
+        Some(stopping) => stopping.stops,
+    }
 }
 
 /// Runs a tape in rounds up to where it is stopped.
@@ -68,19 +104,23 @@ fn run_events_until<R: Files + Input + Print, S: ByteSource>(
 }
 
 /// Runs a tape with these frames, in rounds or by the events of a file, up to where it is stopped if that is asked
-/// for.
+/// for. In a long trace its instructions read as these statements.
 ///
 /// # Errors
 ///
 /// As of the command, and `Device` if the file of events cannot be opened.
-pub(crate) fn run_on<R: Files + Input + Print, S: ByteSource>(
+pub(crate) fn run_on<R: Files + Input + Print, S: ByteSource, N: Statements>(
     rt: &R,
     alloc: Global,
     asked: &RunRequest<'_>,
     frames: &mut S,
+    statements: &N,
 ) -> Result<Status, Fault>
     requires { S.mark frames.old ≡ false }
 {
+    if asked.long {
+        return run_long(rt, alloc, asked, frames, statements);
+    }
     if let Some(stopping) = &asked.stopping {
         return match asked.events {
             None => run_rounds_until(rt, alloc, asked, frames, stopping),
@@ -104,7 +144,10 @@ pub fn run_from<R: Files + Input + Print>(
     asked: &RunRequest<'_>,
 ) -> Result<Status, Fault> {
     let mut frames = open_input(rt, asked.tape.unwrap_or("-"))?;
-    run_on(rt, alloc, asked, &mut frames)
+    let statements = Named {
+        profile: asked.options.profile,
+    };
+    run_on(rt, alloc, asked, &mut frames, &statements)
 }
 
 /// Writes a source of the tape of a file. A declaration is opened before the file that the source goes

@@ -270,6 +270,13 @@ const TRACE: Argument = Argument {
     help: "writes a line for each instruction that is executed",
 };
 
+const FULL: Argument = Argument {
+    name: "full",
+    short: None,
+    form: Form::Flag,
+    help: "writes each memory reference with the whole address that it names, such as JMP 0202; with --source this is done anyway",
+};
+
 const TRACE_LONG: Argument = Argument {
     name: "trace-long",
     short: None,
@@ -528,7 +535,7 @@ const TELETYPE_ARGUMENTS: [Argument; 15] = [
     WHY_INPUT,
 ];
 
-const DUMP_ARGUMENTS: [Argument; 4] = [TAPE_OR_SOURCE, PARTS, PROFILE, WHY_INPUT];
+const DUMP_ARGUMENTS: [Argument; 5] = [TAPE_OR_SOURCE, PARTS, FULL, PROFILE, WHY_INPUT];
 
 const ASSEMBLE_ARGUMENTS: [Argument; 5] = [TAPE_OUT, OTHER_SOURCES, OUTPUT, PROFILE, WHY_SOURCE];
 

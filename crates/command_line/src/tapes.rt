@@ -84,6 +84,8 @@ pub struct DumpRequest<'a> {
     pub tape: Option<&'a str>,
     /// Whose names the words have.
     pub profile: Profile,
+    /// Whether memory references are written with their whole addresses; those of a source are in any case.
+    pub full: bool,
 }
 
 impl<'a> DumpRequest<'a> {
@@ -101,6 +103,7 @@ pub(crate) fn dump_request<'a>(found: &ArgMatches<'a>) -> Result<DumpRequest<'a>
     Ok(DumpRequest {
         tape: tape_of(found)?,
         profile: profile_of(found)?,
+        full: found.get_flag("full"),
     })
 }
 

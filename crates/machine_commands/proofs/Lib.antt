@@ -16,3 +16,5 @@ pub mod LastLemmas
 pub mod StoppedLemmas
 pub mod StoppedSessionLemmas
 pub mod DeclaredLemmas
+pub mod InterruptedLemmas
+pub mod LongTraceLemmas

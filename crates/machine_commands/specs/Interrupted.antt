@@ -7,6 +7,11 @@ before_key None bytes = bytes
 before_key (Some key) [] = []
 before_key (Some key) (byte ∷ bytes) = if byte == key then [] else byte ∷ before_key (Some key) bytes
 
+-- The byte is that of the key, if there is one.
+abbrev pub is_key : Option ℕ → ℕ → Bool
+is_key None byte = false
+is_key (Some key) byte = byte == key
+
 -- The bytes that are still to come, of what a source tells: none once the key that interrupts was struck.
 abbrev pub keys_until : Bool → Option ℕ → Option (List ℕ) → Option (List ℕ)
 keys_until struck key None = None

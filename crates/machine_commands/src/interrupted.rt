@@ -1,7 +1,7 @@
 //! The key that interrupts a session.
 
-ghost use Rattle.std.specs.Prelude.{◌≡◌, ◌||◌, Bool, false};
-ghost use Rattle.machine_commands.specs.Interrupted.{keys_until};
+ghost use Rattle.std.specs.Prelude.{◌≡◌, Bool, false};
+ghost use Rattle.machine_commands.specs.Interrupted.{is_key};
 
 use crate::typist::Typist;
 use peripherals::Operator;
@@ -56,6 +56,16 @@ impl<K> Leaves for KeysUntil<K> {
     }
 }
 
+/// Whether a byte is that of a key, if there is one.
+fn is_key(key: Option<u8>, byte: u8) -> bool
+    ensures { result ≡ is_key key byte }
+{
+    match key {
+        None => false,
+        Some(key) => byte == key,
+    }
+}
+
 impl<K: ByteSource> ByteSource for KeysUntil<K> {
     ghost use Rattle.std.specs.Prelude.{◌||◌};
     ghost use Rattle.machine_commands.specs.Interrupted.{keys_until};
@@ -67,7 +77,10 @@ impl<K: ByteSource> ByteSource for KeysUntil<K> {
     ghost ended = { λ k. k.struck || K.ended k.keys };
 
     fn read(&mut self, piece: &mut [u8]) -> Result<usize, Failed> {
-        if self.struck || piece.is_empty() {
+        if self.struck {
+            return Ok(0);
+        }
+        if piece.is_empty() {
             return Ok(0);
         }
         let mut next = [0u8; 1];
@@ -75,7 +88,7 @@ impl<K: ByteSource> ByteSource for KeysUntil<K> {
         if count == 0 {
             return Ok(0);
         }
-        if self.key == Some(next[0]) {
+        if is_key(self.key, next[0]) {
             self.struck = true;
             return Ok(0);
         }

@@ -50,7 +50,7 @@ const DECLARATION_OR_SOURCE: Argument = Argument {
     name: "DECLARATION",
     short: None,
     form: Form::OperandOrSource,
-    help: "the declaration, or - for standard input; with --source it may be left out, and the /: lines of the source are the declaration",
+    help: "the declaration, or - for standard input; with --source it may be left out: the /: lines of the source are then the declaration",
 };
 
 const CERTIFICATE_OR_SOURCE: Argument = Argument {
@@ -391,7 +391,7 @@ const SAVE: Argument = Argument {
     name: "save",
     short: None,
     form: Form::Value("NAME"),
-    help: "writes what is found to NAME.declaration, NAME.certificate or NAME.events",
+    help: "saves what is found as NAME.declaration, NAME.certificate or NAME.events",
 };
 
 const FORCE_SAVE: Argument = Argument {
@@ -419,7 +419,7 @@ const WHY_CHECK: Argument = Argument {
     name: "why",
     short: Some('w'),
     form: Form::Flag,
-    help: "after a no, writes what the condition asks and what violates it",
+    help: "if the answer is no, writes what the condition asks and what violates it",
 };
 
 const WHY_GUESS: Argument = Argument {
@@ -682,7 +682,7 @@ const DECLARE: Entry = Entry {
     name: "declare",
     usage: "pdp8 declare [OPTIONS] <TAPE> [-o] <OUT>",
     about: "Proposes a declaration: what the program of a tape may do",
-    after_help: "A file stays as it was if there is nothing to write; with --source, OUT is given by -o. If no certificate is found, the declaration is written all the same, with comments that say why if there is room for them, and the status is 1.\n\nExamples:\n  pdp8 declare hello.bin -o new.declaration\n  pdp8 declare --source hello.pal -o new.declaration",
+    after_help: "A file stays as it was if there is nothing to write; with --source, OUT is given by -o. If no certificate is found, the declaration is written all the same, with comments that say why, if there is room for them, and the status is 1.\n\nExamples:\n  pdp8 declare hello.bin -o new.declaration\n  pdp8 declare --source hello.pal -o new.declaration",
 };
 
 const GUESS: Entry = Entry {

@@ -57,10 +57,9 @@ fn entry_at<D: Allocator>(declaration: &Declaration<D>, at: Word) -> Option<Word
     ensures only { (entry : ℕ) → (meaning declaration.now).body (Some entry) at ≡ true →
         result ≡ Some entry }
 {
-    match declaration.owner_of(at) {
-        Some(Owner::Routine(entry)) => Some(entry),
-        Some(Owner::Main) => None,
-        None => None,
+    match declaration.owner_of(at)? {
+        Owner::Main => None,
+        Owner::Routine(entry) => Some(entry),
     }
 }
 

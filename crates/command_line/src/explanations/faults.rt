@@ -200,7 +200,7 @@ static FAULTS: [Explanation; 43] = [
         code: "Version",
         subject: Subject::Fault("certificate: Version"),
         meaning: "the first line has an unknown version",
-        advice: "the first line must be `PDP8-CERTIFICATE 1` or `2`; if the file is\nempty, `guess` without `-o` found nothing",
+        advice: "the first line must be `PDP8-CERTIFICATE 1`, `2` or `3`; if the file is\nempty, `guess` without `-o` found nothing",
     },
     Explanation {
         code: "BadLine",

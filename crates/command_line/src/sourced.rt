@@ -68,12 +68,12 @@ impl<'a> MachineTask<'a> {
     }
 
     /// The request for a tape.
-    fn of_tape(self) -> Request<'a> {
+    fn of_tape(&self) -> Request<'a> {
         match self {
-            MachineTask::Run(run) => Request::Run(run),
-            MachineTask::Session(session) => Request::Session(session),
-            MachineTask::Teletype(session) => Request::Teletype(session),
-            MachineTask::Dump(dump) => Request::Dump(dump),
+            MachineTask::Run(run) => Request::Run(*run),
+            MachineTask::Session(session) => Request::Session(*session),
+            MachineTask::Teletype(session) => Request::Teletype(*session),
+            MachineTask::Dump(dump) => Request::Dump(*dump),
         }
     }
 }

@@ -138,7 +138,7 @@ fn push_certificate<A: Allocator>(
             push_said(
                 text,
                 file,
-                "its first line is neither `PDP8-CERTIFICATE 1` nor `PDP8-CERTIFICATE 2`: is it a certificate?",
+                "its first line is none of `PDP8-CERTIFICATE 1`, `2` and `3`: is it a certificate?",
             )
         }
         CertificateFault::BadLine(number) => {
@@ -149,14 +149,14 @@ fn push_certificate<A: Allocator>(
             push_numbered(text, file, number)?;
             push_form(
                 text,
-                "out of order or a duplicate line: routines come first, then facts, then exits, each by ascending address; under a fact or an exit come its cells, then its equations",
+                "out of order or a duplicate line: routines come first, then facts, then exits, each by ascending address; under a fact or an exit come its cells, then its equations, or in version 3 its `sum` lines and then its `func` lines",
             )
         }
         CertificateFault::TooMany => {
             push_said(
                 text,
                 file,
-                "it has more than 64 routines, more than 1048576 bytes, or more than 64 cells or 32 equations in a fact or an exit",
+                "it has more than 64 routines, more than 1048576 bytes, or more than 64 cells, 32 equations or `sum` lines, or 4 `func` lines in a fact or an exit",
             )
         }
         CertificateFault::NoMemory | CertificateFault::ReadFault => Ok(()),

@@ -30,8 +30,8 @@ pub fn guess<A: Allocator + Copy, R: ByteSource, D: ByteSource, W: ByteSink>(
     requires readable { R.mark tape.old ≡ false }
     requires declaration_readable { D.mark declaration.old ≡ false }
     requires writable { W.mark out.old ≡ false }
-    // What is written is the text of a certificate, in the version of the declared machine or in version 3, of
-    // which every condition holds.
+    // What is written is the text of a certificate, in the version of the declared machine, of which
+    // every condition holds.
     ensures guessed { WritesAnswer
         (OfProgram (R.remaining tape.old) (D.remaining declaration.old) IsGuessOf)
         (output (W.mark out.new) (W.taken out.old) (W.taken out.new)) result }

@@ -38,7 +38,7 @@ _pdp8() {
         source) options='--output --start --declaration --profile --force --why --help' ;;
         dump) options='--source --full --profile --why --help' ;;
         run) options='--source --start --steps --trace --trace-long --profile --events --reader --punch --keys --mark --teletype --switches --until --until-write --until-read --last --show --why --help' ;;
-        teletype) options='--source --start --profile --reader --punch --switches --mark --raw --interrupt --until --until-write --until-read --show --why --help' ;;
+        teletype) options='--source --start --profile --reader --punch --switches --mark --raw --interrupt --until --until-write --until-read --last --show --why --help' ;;
         watch) options='--source --reader --keys --mark --switches --steps --continue --until --until-write --until-read --last --show --why --help' ;;
         check) options='--source --why --help' ;;
         report) options='--output --source --text --why --help' ;;

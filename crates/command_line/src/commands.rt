@@ -517,7 +517,7 @@ const RUN_ARGUMENTS: [Argument; 20] = [
     WHY_INPUT,
 ];
 
-const TELETYPE_ARGUMENTS: [Argument; 15] = [
+const TELETYPE_ARGUMENTS: [Argument; 16] = [
     TAPE_BESIDE_KEYS,
     PARTS,
     START,
@@ -531,6 +531,7 @@ const TELETYPE_ARGUMENTS: [Argument; 15] = [
     UNTIL,
     UNTIL_WRITE,
     UNTIL_READ,
+    LAST,
     SHOW,
     WHY_INPUT,
 ];

@@ -181,9 +181,6 @@ pub fn session_of<'a>(found: &ArgMatches<'a>, places: &Places<'a>) -> Result<Ses
     if found.get_str("events").is_some() {
         return Err(Refused::Misuse(Misuse::EventsAndOperator));
     }
-    if found.get_str("last").is_some() {
-        return Err(Refused::Misuse(Misuse::LastAndOperator));
-    }
     if found.get_flag("trace-long") {
         return Err(Refused::Misuse(Misuse::LongTrace));
     }

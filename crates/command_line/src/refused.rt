@@ -49,8 +49,6 @@ pub enum Misuse {
     Last,
     /// The last instructions are to be shown, and all of them too.
     LastAndTrace,
-    /// The last instructions of a run are to be shown, and it has an operator too.
-    LastAndOperator,
     /// A long line is to be written for each instruction, and a short one, or the run has an operator.
     LongTrace,
     /// There are events, and an operator too.
@@ -159,8 +157,6 @@ impl Misuse {
         Some(match self {
             Misuse::LastAndTrace =>
                 "'--last' cannot be combined with '--trace' or '--trace-long', which write all instructions",
-            Misuse::LastAndOperator =>
-                "'--last' cannot be combined with the options for the reader, the punch, the teletype and the switches",
             Misuse::LongTrace =>
                 "'--trace-long' cannot be combined with '--trace', nor with the options for the reader, the punch, the teletype and the switches",
             Misuse::EventsAndOperator =>

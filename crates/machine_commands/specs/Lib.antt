@@ -25,3 +25,4 @@ pub mod StoppedParts
 pub mod DeclaredRun
 pub mod StoppedWatch
 pub mod LongTrace
+pub mod LastSession

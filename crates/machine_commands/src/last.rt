@@ -69,7 +69,7 @@ impl<A: Allocator> ByteSink for KeptTrace<A> {
 
 /// How many lines a text has.
 #[tactic(auto, using(crate::proofs::LastLemmas::line_more, crate::proofs::LastLemmas::line_same, crate::proofs::LastLemmas::lines_all))]
-fn lines_in(text: &[u8]) -> usize
+pub(crate) fn lines_in(text: &[u8]) -> usize
     ensures { result ≡ lines_in text.now }
 {
     let mut found = 0;

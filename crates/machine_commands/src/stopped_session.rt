@@ -141,7 +141,7 @@ pub(crate) fn operate_to_stop<A: Allocator, S: Scheduler, W: ByteSink, T: ByteSi
 }
 
 /// How a run is said to have ended that a key interrupted, or did not.
-fn leaving<A: Allocator>(left: bool, ran: RunOutcome, world: &World<A>) -> RunOutcome
+pub(crate) fn leaving<A: Allocator>(left: bool, ran: RunOutcome, world: &World<A>) -> RunOutcome
     ensures steps { result.steps ≡ ran.steps }
     ensures end { result.end ≡ leaving left ran.end (view world.now) }
 {

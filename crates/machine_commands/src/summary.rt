@@ -225,7 +225,7 @@ fn leaves_open(printed: &[u8]) -> bool
 }
 
 /// What stands before a summary that is to stand apart: the end of an open line.
-fn parting(apart: bool, printed: &[u8]) -> &'static [u8]
+pub(crate) fn parting(apart: bool, printed: &[u8]) -> &'static [u8]
     ensures { result.now ≡ parting apart (map character printed.now) }
 {
     if !apart {

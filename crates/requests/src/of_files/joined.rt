@@ -5,12 +5,13 @@ ghost use Rattle.std.specs.Prelude.{◌≡◌, false};
 use crate::files::open_input;
 use crate::replacing::ResultFile;
 use crate::tellers::{Nowhere, open_input_if, report_to, tell_to};
-use command_line::{Interrupt, Session, TeletypeSession};
-use command_parts::options::SummaryForm;
+use command_line::{Interrupt, Session, Stopping, TeletypeSession};
+use command_parts::options::{SessionOptions, SummaryForm};
 use command_parts::status::{DeviceFault, Fault, Status};
 use command_parts::visible::visible_text;
 use either::Either;
 use machine_commands::interrupted::KeysUntil;
+use machine_commands::last_session::{run_session_with_last, teletype_with_last};
 use machine_commands::session::{Outputs, run_session};
 use machine_commands::stopped_session::{no_stops, run_session_with_stops, teletype_with_stops};
 use machine_commands::teletype::{Typist, teletype};
@@ -94,6 +95,40 @@ fn form_with<'n>(form: SummaryForm<'_>, name: &'n Option<String>) -> SummaryForm
     }
 }
 
+/// Runs a tape with an operator, up to where it is stopped, and shows its last instructions if that is asked for.
+fn follow_session<
+    R: ByteSource,
+    F: ByteSource,
+    K: ByteSource,
+    W: ByteSink,
+    T: ByteSink,
+    P: ByteSink,
+>(
+    alloc: Global,
+    frames: &mut R,
+    reader: &mut F,
+    keys: &mut K,
+    options: SessionOptions,
+    stopping: &Stopping,
+    form: SummaryForm<'_>,
+    out: &mut Outputs<W, T, P>,
+) -> Result<Status, Fault>
+    requires readable { R.mark frames.old ≡ false }
+    requires reader_readable { F.mark reader.old ≡ false }
+    requires keys_readable { K.mark keys.old ≡ false }
+    requires writable { W.mark out.old.report ≡ false }
+    requires typable { T.mark out.old.teletype ≡ false }
+    requires punchable { P.mark out.old.punch ≡ false }
+{
+    let stops = &stopping.stops;
+    match stopping.last {
+        None => run_session_with_stops(alloc, frames, reader, keys, options, stops, form, out),
+        Some(most) => {
+            run_session_with_last(alloc, frames, reader, keys, options, stops, most, form, out)
+        }
+    }
+}
+
 /// Runs a tape with these frames and with an operator. The files are opened in this order: the reader's frames and the
 /// keys, and then it is seen that the punch's can be made.
 ///
@@ -124,16 +159,9 @@ pub(crate) fn hold_session_on<R: Files + Input + Print + Eprint, S: ByteSource>(
     let out = &mut outputs;
     let answer = match &session.stopping {
         None => run_session(alloc, frames, &mut reader, &mut keys, options, form, out),
-        Some(stopping) => run_session_with_stops(
-            alloc,
-            frames,
-            &mut reader,
-            &mut keys,
-            options,
-            &stopping.stops,
-            form,
-            out,
-        ),
+        Some(stopping) => {
+            follow_session(alloc, frames, &mut reader, &mut keys, options, stopping, form, out)
+        }
     };
     let failed = outputs.punch.failed();
     finish_punch(&mut punch, failed, answer)
@@ -222,7 +250,13 @@ pub(crate) fn hold_teletype_session_on<R: Files + Input + Print + Eprint, S: Byt
     let out = &mut outputs;
     let answer = match &session.stopping {
         Some(stopping) => {
-            teletype_with_stops(alloc, frames, &mut typist, &stopping.stops, form, out)
+            let stops = &stopping.stops;
+            match stopping.last {
+                None => teletype_with_stops(alloc, frames, &mut typist, stops, form, out),
+                Some(most) => {
+                    teletype_with_last(alloc, frames, &mut typist, stops, most, form, out)
+                }
+            }
         }
         None if key.is_some() => {
             teletype_with_stops(alloc, frames, &mut typist, &no_stops(), form, out)

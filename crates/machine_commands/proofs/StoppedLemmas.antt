@@ -451,14 +451,28 @@ broke_unstopped comes options stops form left image p w x reported typed unread 
     (λ extent text printed punched part. part_unstopped comes options stops form left image reported typed unread extent text printed punched part)
     (broke_front (unstopped stops comes) options form image p w x reported typed unread unpunched old new told_old told_new held holds profile begins broke punched whole cut)
 
+-- what a run leaves that no key interrupted is what one may leave that a key interrupts
+part_left : (comes : Profile → WorldState → Extent → List Event → Type 0) (options : RunOptions) (stops : Stops) (form : SummaryForm) (left : Bool) (image : List (Option ℕ)) (reported typed unread : Bool) (extent : Extent) (text printed punched : List ℕ) →
+    IsPartToStop comes options stops form false reported typed unread image extent text printed punched → IsPartToStop comes options stops form left reported typed unread image extent text printed punched
+part_left comes options stops form left image reported typed unread extent text printed punched part = record {
+  summed = part.summed;
+  to_there = part.to_there;
+  as_left = part.as_left;
+  if_left = λ yes. absurd (true≢false (sym (part.if_left yes)));
+  status = part.status;
+  is = part.is;
+}
+
 -- the punch failed, whatever the run brought
 pub punch_failed : (comes : Profile → WorldState → Extent → List Event → Type 0) (options : RunOptions) (stops : Stops) (form : SummaryForm) (left : Bool) (image : List (Option ℕ)) (p : Profile) (w x : WorldState) (ran : Result RunOutcome Fault) (reported typed unread unpunched : Bool) (old new told_old told_new held holds : Option (List ℕ)) →
-    p ≡ options.profile → w ≡ fresh image options.start → IfOk ran (λ outcome. OperatedToStop (comes p w) left stops p options.trace w outcome x old new told_old told_new) → OnErr ran (BrokeOff (unstopped stops comes p w) p options.trace w x reported typed unread old new told_old told_new) →
+    p ≡ options.profile → w ≡ fresh image options.start → IfOk ran (λ outcome. OperatedToStop (comes p w) false stops p options.trace w outcome x old new told_old told_new) → OnErr ran (BrokeOff (unstopped stops comes p w) p options.trace w x reported typed unread old new told_old told_new) →
     (reported || typed) ≡ fails_to_write ran → AppendsFront held holds x.devices.punch.output → unpunched ≡ true →
     FrontsOf (IsPartToStop comes options stops form left reported typed unread image) (failures reported typed unpunched) (taken old told_old held) (taken new told_new holds)
 punch_failed comes options stops form left image p w x (Ok outcome) reported typed unread unpunched old new told_old told_new held holds profile begins done broke marks punched failed =
-    done_front comes options stops form left image p w x outcome reported typed unread unpunched old new told_old told_new held holds profile begins done marks
-    (some_of held holds x.devices.punch.output punched) (λ no. absurd (true≢false (sym failed ∙ no))) (λ yes. punched)
+    fronts_by _ _ (failures reported typed unpunched) (taken old told_old held) (taken new told_new holds)
+    (λ extent text printed punched part. part_left comes options stops form left image reported typed unread extent text printed punched part)
+    (done_front comes options stops form false image p w x outcome reported typed unread unpunched old new told_old told_new held holds profile begins done marks
+     (some_of held holds x.devices.punch.output punched) (λ no. absurd (true≢false (sym failed ∙ no))) (λ yes. punched))
 punch_failed comes options stops form left image p w x (Err fault) reported typed unread unpunched old new told_old told_new held holds profile begins done broke marks punched failed =
     broke_unstopped comes options stops form left image p w x reported typed unread unpunched old new told_old told_new held holds profile begins broke
     (some_of held holds x.devices.punch.output punched) (λ no. absurd (true≢false (sym failed ∙ no))) (λ yes. punched)

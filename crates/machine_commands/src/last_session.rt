@@ -30,7 +30,7 @@ use streams::{ByteSink, ByteSource, Failed, put};
 #[derive(Drop)]
 struct LastLines<A: Allocator> {
     /// How many are wanted.
-    most: usize,
+    most: u32,
     /// So many lines before those of `newer`, or none.
     older: Vec<u8, A>,
     /// The newest lines.
@@ -45,7 +45,7 @@ impl<A: Allocator + Copy> LastLines<A> {
     /// No lines yet, of which so many are wanted.
     fn new(alloc: A, most: u32) -> LastLines<A> {
         LastLines {
-            most: most as usize,
+            most,
             older: Vec::new(alloc),
             newer: Vec::new(alloc),
             count: 0,
@@ -61,14 +61,14 @@ impl<A: Allocator + Copy> LastLines<A> {
         let mut lines = Vec::new(alloc);
         lines.extend_from_slice(&self.older)?;
         lines.extend_from_slice(&self.newer)?;
-        text.extend_from_slice(last_lines(&lines, self.most as u32))
+        text.extend_from_slice(last_lines(&lines, self.most))
     }
 }
 
 impl<A: Allocator> LastLines<A> {
     /// Adds a piece of the trace.
     fn add(&mut self, piece: &[u8]) {
-        if self.count >= self.most {
+        if self.count >= self.most as usize {
             mem::swap(&mut self.older, &mut self.newer);
             self.newer.clear();
             self.count = 0;

@@ -18,3 +18,4 @@ pub mod StoppedSessionLemmas
 pub mod DeclaredLemmas
 pub mod InterruptedLemmas
 pub mod LongTraceLemmas
+pub mod LastSessionLemmas

@@ -298,7 +298,7 @@ left_so comes left stops p trace w ran outcome x old new told_old told_new done 
 }
 
 -- What a run leaves that came to its end or was stopped.
-held_to_stop : (comes : Profile → WorldState → Extent → List Event → Type 0) (options : RunOptions) (stops : Stops) (form : SummaryForm) (extent : Extent) (left : Bool) (image : List (Option ℕ)) (p : Profile) (w x : WorldState) (outcome : RunOutcome) (status : Status) (old mid told_old told_new : Option (List ℕ)) →
+pub held_to_stop : (comes : Profile → WorldState → Extent → List Event → Type 0) (options : RunOptions) (stops : Stops) (form : SummaryForm) (extent : Extent) (left : Bool) (image : List (Option ℕ)) (p : Profile) (w x : WorldState) (outcome : RunOutcome) (status : Status) (old mid told_old told_new : Option (List ℕ)) →
     p ≡ options.profile → w ≡ fresh image options.start → (done : OperatedToStop (comes p w) left stops p options.trace w outcome x old mid told_old told_new) → status ≡ status_of outcome.end →
     IsHeldToStop comes options stops form extent left image (traced options.trace done.lines ++ summary_where (words options.show) form extent outcome.end x outcome.steps) (printed_in x) x.devices.punch.output status
 held_to_stop comes options stops form extent left image p w x outcome status old mid told_old told_new profile begins done is = record {

@@ -51,7 +51,7 @@ abbrev pub operates : Operator → Profile → WorldState → Extent → List Ev
 operates o p w extent es = Comes operating p extent (place_of o) w es
 
 -- the inputs are good
-session_held : (options : SessionOptions) (stops : Stops) (form : SummaryForm) (extent : Extent) (tape reader keys : Option (List ℕ)) (image : List (Option ℕ)) (frames bytes : List ℕ) (o : Operator) (text printed punched : List ℕ) (status : Status) →
+pub session_held : (options : SessionOptions) (stops : Stops) (form : SummaryForm) (extent : Extent) (tape reader keys : Option (List ℕ)) (image : List (Option ℕ)) (frames bytes : List ℕ) (o : Operator) (text printed punched : List ℕ) (status : Status) →
     HasImage tape image → AreFirst options.run.rounds reader frames → AreFirst options.run.rounds keys bytes → plan_of o ≡ plan_for options frames bytes → o.last ≡ None →
     IsHeldToStop (operates o) options.run stops form extent false image text printed punched status → IsSessionToStop options stops form extent tape reader keys status text printed punched
 session_held options stops form extent tape reader keys image frames bytes o text printed punched status has_image frames_are bytes_are is first held = record {
@@ -91,7 +91,7 @@ stopped_session_fronts options stops form tape reader keys image frames bytes o 
     }) fronts)
 
 -- what a session holds from its beginning
-typed_stop_held : (options : TeletypeOptions) (stops : Stops) (form : SummaryForm) (extent : Extent) (left : Bool) (tape : Option (List ℕ)) (reader keys : Source) (image : List (Option ℕ)) (status : Status) (text printed punched : List ℕ) →
+pub typed_stop_held : (options : TeletypeOptions) (stops : Stops) (form : SummaryForm) (extent : Extent) (left : Bool) (tape : Option (List ℕ)) (reader keys : Source) (image : List (Option ℕ)) (status : Status) (text printed punched : List ℕ) →
     HasImage tape image → IsHeldToStop (begun options reader keys) (run_of options) stops form extent left image text printed punched status → IsTypedToStop options stops form extent left tape reader.told keys.told status text printed punched
 typed_stop_held options stops form extent left tape reader keys image status text printed punched has_image held =
     let come = held.come in

@@ -259,3 +259,11 @@ pub(crate) fn is_stopped(found: &ArgMatches<'_>) -> bool {
             .iter()
             .any(|name| found.get_strs(name).is_some())
 }
+
+/// The cells that are shown of the run of a tape. Of a source they are not known yet.
+pub(crate) fn shown_on(tape: Option<&str>, places: &Places<'_>) -> Result<WordSet, Refused> {
+    if tape.is_none() {
+        return Ok(WordSet::empty());
+    }
+    Ok(places.shown(&Octal)?)
+}

@@ -5,7 +5,7 @@ use Rattle.std.specs.Option.{option_map, option_to_list}
 use Rattle.wordset.specs.Words.{Words, nothing, union}
 use Rattle.wordset.specs.Lanes.{words}
 use Rattle.declaration.specs.Kept.{subroutine_of, further_of, holding_of, returning_of}
-use Rattle.declaration.specs.Lines.{Line, Nothing, Start, Main, Sub, Variables, Stops, Pauses, Machine, Reads, Skip, Moves, Abandon, Hold, Return, all_read, range_of, address_of, is_returns, line_of}
+use Rattle.declaration.specs.Lines.{Line, Nothing, Start, Main, Sub, Variables, Stops, Pauses, Machine, Reads, Skip, Moves, Abandon, Hold, Return, all_read, range_of, address_of, is_returns, is_subject, line_of}
 use Rattle.declaration.specs.Text.{Contents, contents, HasGoodLines, most_routines, most_skips, most_assertions, assertions_in}
 use Rattle.declaration.specs.declared.Routine.{Routine as KeptRoutine}
 use Rattle.declaration.specs.declared.lines.Form.{Form}
@@ -25,6 +25,10 @@ cells_read Address word = address_of word
 -- The ranges of a body, of which there may be none, up to the word `returns`.
 abbrev pub ranges_before : List (List ℕ) → Option (List Words)
 ranges_before words = if list_any is_returns words then all_read range_of (before_first is_returns words) else None
+
+-- The cells of the addresses before the name of a subject, of which there may be none.
+abbrev pub cells_before : List (List ℕ) → Option (List Words)
+cells_before words = all_read address_of (before_first is_subject words)
 
 -- What a line in code says.
 abbrev pub said : KeptLine → Line

@@ -7,8 +7,8 @@ ghost use Rattle.std.specs.Option.{option_map};
 ghost use Rattle.streams.specs.TextLeft.{words_left};
 ghost use Rattle.wordset.specs.Lanes.{words};
 ghost use Rattle.declaration.specs.Kept.{offsets_of, assertion_of};
-ghost use Rattle.declaration.specs.Lines.{is_dash, range_of, address_of, offset_of, any_of, these, all_read, some_read, span, is_returns, body_read, offsets_read, routine, start_line, sub_line, profile_line, named_line, further_line, skips_line, every_offset, if_offsets, holds_line, returns_line, is_subject, addresses_of, offsets_named, cells_before, assertion_in, named_assertion, asserted, link_of, bit_of, cell_assertion, line_of};
-ghost use Rattle.declaration.specs.Drafts.{cells_read, ranges_before, said};
+ghost use Rattle.declaration.specs.Lines.{is_dash, range_of, address_of, offset_of, any_of, these, all_read, some_read, span, is_returns, body_read, offsets_read, routine, start_line, sub_line, profile_line, named_line, further_line, skips_line, every_offset, if_offsets, holds_line, returns_line, is_subject, addresses_of, offsets_named, assertion_in, named_assertion, asserted, link_of, bit_of, cell_assertion, line_of};
+ghost use Rattle.declaration.specs.Drafts.{cells_read, ranges_before, cells_before, said};
 
 use super::{Assertion, Holding, Offsets, Returning, Routine, Skips, Subject};
 use instruct::Profile;
@@ -511,10 +511,10 @@ fn named_assertion(name: &[u8], rest: Words<'_>) -> Option<Assertion>
 }
 
 /// The assertion on a subject, if its words read.
-fn asserted(subject: Subject, words: Option<WordSet>) -> Option<Assertion>
-    ensures { option_map assertion_of result ≡ asserted subject (option_map words words) }
+fn asserted(subject: Subject, set: Option<WordSet>) -> Option<Assertion>
+    ensures { option_map assertion_of result ≡ asserted subject (option_map words set) }
 {
-    match words {
+    match set {
         Some(words) => Some(Assertion { subject, words }),
         None => None,
     }

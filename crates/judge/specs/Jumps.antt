@@ -21,5 +21,5 @@ SuccessorJumps j r (Returns f) = Unit {0}
 
 -- The instruction is a JMP in a routine; or it abandons calls for no address.
 abbrev pub MayAbandon : Bool → Case → Routine → Meaning → Type 0
-MayAbandon true j r m = (a : ℕ) → abandons j.declaration r m a ≡ j.declaration.abandon a
-MayAbandon false j r m = (a : ℕ) → abandons j.declaration r m a ≡ false
+MayAbandon true j r m = (a : ℕ) → a < 4096 → abandons j.declaration r m a ≡ j.declaration.abandon a
+MayAbandon false j r m = (a : ℕ) → a < 4096 → abandons j.declaration r m a ≡ false

@@ -8,7 +8,7 @@ ghost use Rattle.domain.specs.FactInCode.{fact_in_code, rules_of};
 ghost use Rattle.facts.specs.Landing.{fact_at};
 ghost use Rattle.facts.specs.declared.Condition.TheVariants.{V1};
 ghost use Rattle.certificate.specs.Certificate.{names_routine};
-ghost use Rattle.judge.specs.Landing.{asked};
+ghost use Rattle.judge.specs.Landing.{asked, sited};
 ghost use Rattle.judge.specs.Conditions.{HoldsAt, IsPlaced};
 ghost use Rattle.judge.specs.Bodies.{Tells};
 ghost use Rattle.judge.specs.Judged.{case_kept};
@@ -23,8 +23,7 @@ use crate::cache::FactCache;
 use crate::claims::Claims;
 use crate::point::{Others, Point, boxed_landing, boxed_outcomes, place_of};
 use crate::sited::put_sites;
-use crate::sources::{ExitsFor, FactsAt};
-use facts::FactSource;
+use crate::sources::FactsAt;
 use crate::words::nth;
 use bin_tape::Image;
 use declaration::{Declaration, Owner};
@@ -355,19 +354,32 @@ impl<A: Allocator, C: Claims> Case<'_, A, C> {
         ensures { IsTrue result ↔ ExitsAreHeldBy (case_kept C.claims self.now) entry offset }
     {
         let sites = self.sites_of(entry);
-        let exits = ExitsFor {
-            claims: self.claims,
-            entry,
-            offset,
-            sites: &sites,
-        };
-        for index in 0..exits.len() {
-            exits.put(index, claimed);
+        for index in 0..self.claims.count_exits(entry, offset) {
+            self.put_exit(entry, offset, index, &sites, claimed);
             if !self.exit_is_held(entry, offset, claimed, fact) {
                 return false;
             }
         }
         true
+    }
+
+    /// Lets a fact be one of the exits of a routine for an offset, with the sites that it has by the rules.
+    fn put_exit(
+        &self,
+        entry: Word,
+        offset: usize,
+        index: usize,
+        sites: &WordSet,
+        claimed: &mut Fact,
+    )
+        requires offset { offset < 64 }
+        requires index { index < length ((C.claims self.now.claims.now).exits entry offset) }
+        ensures fact { fact_in_code claimed.new ≡ fact_at (sited (C.claims self.now.claims.now).rules
+            (words sites.now) ((C.claims self.now.claims.now).exits entry offset)) index }
+        ensures shape { HasShape (fact_in_code claimed.new) }
+    {
+        self.claims.put_exit(entry, offset, index, claimed);
+        put_sites(&self.claims.rules(), sites, claimed);
     }
 
     /// The sites of the routine of an entry, none where it isn't listed.

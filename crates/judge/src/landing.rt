@@ -176,9 +176,13 @@ impl<A: Allocator, C: Claims> Point<'_, A, C> {
         ensures { MayAbandon result (case_of C.claims self.now) self.now.place.routine
             (meaning_of (case_of C.claims self.now).declaration.profile self.now.at word) }
     {
-        self.place.routine.is_some()
-            && self.place.is_jump(word)
-            && !self.place.declaration.abandons().is_empty()
+        if self.place.routine.is_none() {
+            return false;
+        }
+        if !self.place.is_jump(word) {
+            return false;
+        }
+        !self.place.declaration.abandons().is_empty()
     }
 
     /// Whether an outcome of a JMP in a routine lands wherever it goes, if it is there and goes on: in main's body as one of

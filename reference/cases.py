@@ -5,7 +5,7 @@ is well.
 import sys
 from pathlib import Path
 
-sys.path[:0] = [str(Path(__file__).parent), str(Path(__file__).parent.parent)]
+sys.path[:0] = [str(Path(__file__).parent), str(Path(__file__).parent.parent / "tests")]
 import check  # noqa: E402
 import machine  # noqa: E402
 import pal  # noqa: E402
@@ -15,7 +15,7 @@ import tape  # noqa: E402
 import watch  # noqa: E402
 
 HELLO = second_reader.words(tape.written(pal.assemble([
-    (Path(__file__).parent.parent.parent / "examples" / "hello.pal").read_bytes()]).image))
+    (Path(__file__).parent.parent / "examples" / "hello.pal").read_bytes()]).image))
 HELLO_DECLARED = "start 0200\nmain 0200-0213\nsub 0214 body 0215-0221 returns 0\nvar 0010 0224\npause 0212\n"
 HELLO_CERTIFICATE = """PDP8-CERTIFICATE 1
 routine 0214 rank 00 sites 0207 writes -

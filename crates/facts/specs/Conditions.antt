@@ -1,7 +1,7 @@
 -- What is asked of one word at the address of a fact before its outcomes are looked at.
 use Rattle.std.specs.Prelude.{◌≡◌, ℕ, ◌+◌, ◌<◌, ◌≤◌, ◌==◌, nat_lt, nat_le, true, false, ◌&&◌, ◌||◌, ◌⊎◌, Some, List, [], ◌∷◌}
 use Rattle.instruct.specs.Instructions.{Meaning, And, Tad, Isz, Dca, Jms, Jmp}
-use Rattle.wordset.specs.Words.{Words, only, IsWithin, IsLinkWithin}
+use Rattle.wordset.specs.Words.{Words, only, IsWithin}
 use Rattle.declaration.specs.Declaration.{Assertion, Holding, Returning, IsListed}
 use Rattle.declaration.specs.declared.Subject.{Subject}
 use Rattle.declaration.specs.declared.Subject.TheVariants as subject
@@ -85,16 +85,26 @@ abbrev pub ReadsAreListed : Place → Fact → Meaning → Type 0
 ReadsAreListed pl f m =
     (a : ℕ) → a < 4096 → may_read pl f m a ≡ true → IsListed pl.declaration.reads a ⊎ (pl.routine ≡ Some a)
 
--- Each word that the subject of an assertion may have is among these.
-abbrev pub SubjectWithin : Place → Fact → Subject → Words → Type 0
-SubjectWithin pl f subject.Accumulator set = IsWithin (ac_of pl f) set
-SubjectWithin pl f subject.Link set = IsLinkWithin f.link set
-SubjectWithin pl f subject.Mq set = IsWithin f.mq set
-SubjectWithin pl f (subject.Cell a) set = IsWithin (words_in pl f a) set
+-- Some links, 0 and 1, as words.
+abbrev pub link_words : Words → Words
+link_words links w = nat_lt w 2 && links w
 
--- By the fact what is asserted is so.
+-- The words that the subject of an assertion may have by the fact.
+abbrev pub may_be : Place → Fact → Subject → Words
+may_be pl f subject.Accumulator = ac_of pl f
+may_be pl f subject.Link = link_words f.link
+may_be pl f subject.Mq = f.mq
+may_be pl f (subject.Cell a) = words_in pl f a
+
+-- By the fact what is asserted is so: each word that the subject may have is asserted.
 abbrev pub IsAsserted : Place → Fact → Assertion → Type 0
-IsAsserted pl f a = SubjectWithin pl f a.subject a.words
+IsAsserted pl f a = IsWithin (may_be pl f a.subject) a.words
+
+-- By the fact the subject of an assertion may have this word, which is not asserted.
+pub record IsDenied (pl : Place) (f : Fact) (a : Assertion) (w : ℕ) : Type 0 where
+  pub small : w < 4096
+  pub possible : may_be pl f a.subject w ≡ true
+  pub excluded : a.words w ≡ false
 
 -- By the fact all is so that is to hold at an address.
 abbrev pub EachIsHeld : Place → Fact → ℕ → List Holding → Type 0

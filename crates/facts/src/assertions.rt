@@ -1,12 +1,12 @@
 //! What is declared to hold, by a fact.
 
-ghost use Rattle.std.specs.Prelude.{◌↔◌, IsTrue, map};
-ghost use Rattle.wordset.specs.Words.{IsLinkWithin};
+ghost use Rattle.std.specs.Prelude.{◌≡◌, ◌==◌, ◌&&◌, ◌↔◌, IfNone, IfSome, IsTrue, map};
+ghost use Rattle.wordset.specs.Words.{SameWords};
 ghost use Rattle.wordset.specs.Lanes.{words};
 ghost use Rattle.wordset.specs.Links.{links_of};
 ghost use Rattle.declaration.specs.Kept.{assertion_of, holding_of, returning_of};
 ghost use Rattle.domain.specs.FactInCode.{fact_in_code};
-ghost use Rattle.facts.specs.Conditions.{IsAsserted, EachIsHeld, EachIsHeldBy};
+ghost use Rattle.facts.specs.Conditions.{link_words, may_be, IsAsserted, IsDenied, EachIsHeld, EachIsHeldBy};
 ghost use Rattle.facts.specs.PlaceInCode.{place_in_code};
 
 use crate::place::Place;
@@ -16,20 +16,54 @@ use std::alloc::Allocator;
 use word12::{Link, Word};
 use wordset::{Links, WordSet};
 
-/// Whether each of some links is in a set of words.
-fn are_links_within(links: Links, set: &WordSet) -> bool
-    ensures { IsTrue result ↔ IsLinkWithin (links_of links) (words set.now) }
+/// Lets a set be some links as words.
+fn put_link_words(links: Links, place: &mut WordSet)
+    ensures { SameWords (words place.new) (link_words (links_of links)) }
 {
-    if links.contains(Link::CLEAR) && !set.contains(Word::from_index(0)) {
-        return false;
+    *place = WordSet::empty();
+    if links.contains(Link::CLEAR) {
+        place.insert(Word::from_index(0));
     }
-    if links.contains(Link::SET) && !set.contains(Word::from_index(1)) {
-        return false;
+    if links.contains(Link::SET) {
+        place.insert(Word::from_index(1));
     }
-    true
 }
 
 impl<A: Allocator> Place<'_, A> {
+    /// Lets a set be the words that the subject of an assertion may have by a fact.
+    fn put_may_be<const C: usize, const R: usize>(
+        &self,
+        fact: &SumFact<C, R>,
+        subject: &Subject,
+        place: &mut WordSet,
+    )
+        ensures { SameWords (words place.new)
+            (may_be (place_in_code self.now) (fact_in_code fact.now) subject.now) }
+    {
+        match subject {
+            Subject::Accumulator => self.put_words_known(fact, &Location::Accumulator, place),
+            Subject::Link => put_link_words(fact.link(), place),
+            Subject::Mq => *place = *fact.mq(),
+            Subject::Cell(cell) => self.put_words_in(fact, *cell, place),
+        }
+    }
+
+    /// The least word that the subject of an assertion may have by a fact and that is not asserted.
+    pub fn denied_word<const C: usize, const R: usize>(
+        &self,
+        fact: &SumFact<C, R>,
+        assertion: &Assertion,
+    ) -> Option<Word>
+        ensures denied { IfSome result (IsDenied (place_in_code self.now) (fact_in_code fact.now)
+            (assertion_of assertion.now)) }
+        ensures none { IfNone result (IsAsserted (place_in_code self.now) (fact_in_code fact.now)
+            (assertion_of assertion.now)) }
+    {
+        let mut possible = WordSet::empty();
+        self.put_may_be(fact, assertion.subject(), &mut possible);
+        possible.minus(assertion.words()).first_from(0)
+    }
+
     /// Whether by a fact what is asserted is so.
     fn is_asserted<const C: usize, const R: usize>(
         &self,
@@ -39,19 +73,7 @@ impl<A: Allocator> Place<'_, A> {
         ensures { IsTrue result ↔ IsAsserted (place_in_code self.now) (fact_in_code fact.now)
             (assertion_of assertion.now) }
     {
-        let mut known = WordSet::all();
-        match assertion.subject() {
-            Subject::Accumulator => {
-                self.put_words_known(fact, &Location::Accumulator, &mut known);
-                known.is_subset(assertion.words())
-            }
-            Subject::Link => are_links_within(fact.link(), assertion.words()),
-            Subject::Mq => fact.mq().is_subset(assertion.words()),
-            Subject::Cell(cell) => {
-                self.put_words_in(fact, *cell, &mut known);
-                known.is_subset(assertion.words())
-            }
-        }
+        self.denied_word(fact, assertion).is_none()
     }
 
     /// Whether by a fact at an address all is so that is to hold there, of some that is to hold.

@@ -347,6 +347,8 @@ impl<A: Allocator> Certificate<A> {
         ensures none { result ≡ false → exits_from self.now line.old entry offset ≡ [] }
         ensures next { result ≡ true → exits_from self.now line.old entry offset ≡
             fact_in_code exit.new ∷ exits_from self.now line.new entry offset }
+        // Its relations have two or three terms, and it has at most four chains of at most 16 steps.
+        ensures shape { result ≡ true → HasShape (fact_in_code exit.new) }
         ensures stands { IsBeforeExits self.now line.new entry offset }
         ensures kept { result ≡ false → exit.new ≡ exit.old }
     {

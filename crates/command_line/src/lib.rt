@@ -1,9 +1,11 @@
 //! The command line of `pdp8`: its commands, operands and options, and what they ask for.
 #![tactic(auto)]
 
+mod called;
 mod commands;
 pub mod explanations;
 mod names;
+mod operands;
 mod operator;
 mod outputs;
 mod programs;

@@ -1,11 +1,18 @@
 //! The options of a run with an operator.
 
+ghost use Rattle.std.specs.Prelude.{◌≡◌, ◌||◌, IfOk, codes};
+ghost use Rattle.command_line.specs.Machines.{IsOperatedRunGiven, IsTeletypeGiven};
+ghost use Rattle.command_line.specs.Options.{AreSessionOptions, AreTeletypeOptions, IsWatchedWithOperator, IsWordNamed, value};
+ghost use Rattle.command_line.specs.Requested.{IsSessionGiven};
+
 use crate::names::FileNames;
 use crate::outputs::punch_of;
 use crate::refused::{Misuse, Refused};
-use crate::shown::{Octal, Places, Stopping};
+use crate::shown::{Places, Stopping, shown_on, stopping_on};
 use crate::tapes::tape_of;
-use crate::values::{continues_of, profile_of, read_standard_input_once, run_options, start_of};
+use crate::values::{
+    continues_of, has_value, is_given, profile_of, read_standard_input_once, run_options, start_of,
+};
 use clap::ArgMatches;
 use command_parts::options::{Manner, SessionOptions, SummaryForm, TeletypeOptions};
 use streams::text::octal_byte;
@@ -139,15 +146,29 @@ pub fn has_operator(found: &ArgMatches<'_>) -> bool {
 }
 
 /// Whether a watched run has an operator.
-pub fn is_watched_with_operator(found: &ArgMatches<'_>) -> bool {
-    ["reader", "keys", "switches", "steps", "continue"]
-        .iter()
-        .any(|name| found.get_str(name).is_some())
-        || found.get_flag("mark")
+pub fn is_watched_with_operator(found: &ArgMatches<'_>) -> bool
+    ensures { IsWatchedWithOperator found.now result }
+{
+    let reader = has_value(found, "reader");
+    let keys = has_value(found, "keys");
+    let switches = has_value(found, "switches");
+    let steps = has_value(found, "steps");
+    let continued = has_value(found, "continue");
+    let mark = is_given(found, "mark");
+    is_any(reader, keys, switches, steps, continued, mark)
+}
+
+/// Whether one of these is so.
+fn is_any(a: bool, b: bool, c: bool, d: bool, e: bool, f: bool) -> bool
+    ensures { result ≡ (a || b || c || d || e || f) }
+{
+    a || b || c || d || e || f
 }
 
 /// What the switches are set to, if they are.
-fn switches_of(found: &ArgMatches<'_>) -> Result<Option<Word>, Refused> {
+fn switches_of(found: &ArgMatches<'_>) -> Result<Option<Word>, Refused>
+    ensures { IfOk result (IsWordNamed (value found.now (codes "switches"))) }
+{
     match found.get_str("switches") {
         None => Ok(None),
         Some(text) => match Word::from_octal(text.as_bytes()) {
@@ -157,24 +178,10 @@ fn switches_of(found: &ArgMatches<'_>) -> Result<Option<Word>, Refused> {
     }
 }
 
-/// The cells that are shown of the run of a tape. Of a source they are not known yet.
-fn shown_on(tape: Option<&str>, places: &Places<'_>) -> Result<WordSet, Refused> {
-    if tape.is_none() {
-        return Ok(WordSet::empty());
-    }
-    Ok(places.shown(&Octal)?)
-}
-
-/// How the run of a tape is followed, if it may be stopped. Of a source that is not known yet.
-fn stopping_on(tape: Option<&str>, places: &Places<'_>) -> Result<Option<Stopping>, Refused> {
-    if tape.is_none() {
-        return Ok(None);
-    }
-    Ok(places.stopping(&Octal)?)
-}
-
 /// The run with an operator that the options of `run` ask for.
-pub fn session_of<'a>(found: &ArgMatches<'a>, places: &Places<'a>) -> Result<Session<'a>, Refused> {
+pub fn session_of<'a>(found: &ArgMatches<'a>, places: &Places<'a>) -> Result<Session<'a>, Refused>
+    ensures { IfOk result (IsOperatedRunGiven found.now) }
+{
     let tape = tape_of(found)?;
     let reader = found.get_str("reader");
     let keys = found.get_str("keys");
@@ -192,7 +199,9 @@ pub fn session_of<'a>(found: &ArgMatches<'a>, places: &Places<'a>) -> Result<Ses
         keys.unwrap_or("-"),
     ];
     let punch = punch_of(found, &inputs)?;
-    let teletype = found.get_flag("teletype");
+    let teletype = is_given(found, "teletype");
+    let options = session_options(found, shown_on(tape, places)?)?;
+    let stopping = stopping_on(tape, places)?;
     let summary = SummaryForm {
         apart: false,
         seen: teletype,
@@ -206,18 +215,22 @@ pub fn session_of<'a>(found: &ArgMatches<'a>, places: &Places<'a>) -> Result<Ses
             keys,
             teletype,
         },
-        options: session_options(found, shown_on(tape, places)?)?,
+        options,
         summary,
-        stopping: stopping_on(tape, places)?,
+        stopping,
     })
 }
 
 /// How a tape is run with an operator, with these cells shown.
-fn session_options(found: &ArgMatches<'_>, show: WordSet) -> Result<SessionOptions, Refused> {
+fn session_options(found: &ArgMatches<'_>, show: WordSet) -> Result<SessionOptions, Refused>
+    ensures { IfOk result (AreSessionOptions found.now) }
+{
+    let run = run_options(found, show)?;
+    let switches = switches_of(found)?;
     Ok(SessionOptions {
-        run: run_options(found, show)?,
-        switches: switches_of(found)?,
-        mark: found.get_flag("mark"),
+        run,
+        switches,
+        mark: is_given(found, "mark"),
     })
 }
 
@@ -228,7 +241,9 @@ pub fn watched_session_of<'a>(
     show: WordSet,
     stopping: Option<Stopping>,
     found: &ArgMatches<'a>,
-) -> Result<WatchedSession<'a>, Refused> {
+) -> Result<WatchedSession<'a>, Refused>
+    ensures { IfOk result (IsSessionGiven found.now) }
+{
     let reader = found.get_str("reader");
     let keys = found.get_str("keys");
     if found.get_str("EVENTS").is_some() {
@@ -236,19 +251,40 @@ pub fn watched_session_of<'a>(
     }
     let inputs = [tape, declaration, reader.unwrap_or(""), keys.unwrap_or("")];
     read_standard_input_once(&inputs)?;
+    let options = session_options(found, show)?;
+    let continues = continues_of(found)?;
     Ok(WatchedSession {
         tape,
         declaration,
         reader,
         keys,
-        options: session_options(found, show)?,
-        continues: continues_of(found)?,
+        options,
+        continues,
         stopping,
-        explained: found.get_flag("why"),
+        explained: is_given(found, "why"),
     })
 }
 
-/// The key that interrupts a session, where bytes of keys are struck as they come or are not.
+/// How a session at the teletype is held, with these cells shown.
+fn teletype_options(found: &ArgMatches<'_>, show: WordSet) -> Result<TeletypeOptions, Refused>
+    ensures { IfOk result (AreTeletypeOptions found.now) }
+{
+    let start = start_of(found)?;
+    let profile = profile_of(found)?;
+    let switches = switches_of(found)?;
+    Ok(TeletypeOptions {
+        start,
+        profile,
+        switches,
+        manner: Manner {
+            raw: is_given(found, "raw"),
+            mark: is_given(found, "mark"),
+        },
+        show,
+    })
+}
+
+/// The key that interrupts a session, where the bytes of keys are struck as they come or are not.
 fn interrupt_of(found: &ArgMatches<'_>, raw: bool) -> Result<Interrupt, Refused> {
     match found.get_str("interrupt") {
         None if raw => Ok(Interrupt::Off),
@@ -265,32 +301,27 @@ fn interrupt_of(found: &ArgMatches<'_>, raw: bool) -> Result<Interrupt, Refused>
 pub fn teletype_of<'a>(
     found: &ArgMatches<'a>,
     places: &Places<'a>,
-) -> Result<TeletypeSession<'a>, Refused> {
+) -> Result<TeletypeSession<'a>, Refused>
+    ensures { IfOk result (IsTeletypeGiven found.now) }
+{
     let tape = tape_of(found)?;
     let reader = found.get_str("reader");
     read_standard_input_once(&[tape.unwrap_or(""), reader.unwrap_or(""), "-"])?;
     let punch = punch_of(found, &[tape.unwrap_or("-"), reader.unwrap_or("-")])?;
-    let raw = found.get_flag("raw");
+    let options = teletype_options(found, shown_on(tape, places)?)?;
+    let stopping = stopping_on(tape, places)?;
+    let interrupt = interrupt_of(found, options.manner.raw)?;
     Ok(TeletypeSession {
         tape,
         reader,
         punch,
-        options: TeletypeOptions {
-            start: start_of(found)?,
-            profile: profile_of(found)?,
-            switches: switches_of(found)?,
-            manner: Manner {
-                raw,
-                mark: found.get_flag("mark"),
-            },
-            show: shown_on(tape, places)?,
-        },
+        options,
         summary: SummaryForm {
             apart: true,
             seen: true,
             saved_in: punch,
         },
-        stopping: stopping_on(tape, places)?,
-        interrupt: interrupt_of(found, raw)?,
+        stopping,
+        interrupt,
     })
 }

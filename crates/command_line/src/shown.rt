@@ -116,12 +116,13 @@ fn values_of<'a>(
 
 /// The cells and the places that options of a run name.
 pub(crate) fn places_of<'a>(alloc: Global, found: &ArgMatches<'a>) -> Result<Places<'a>, Refused> {
+    let last = last_of(found)?;
     Ok(Places {
         show: values_of(alloc, found, "show")?,
         until: found.get_str("until"),
         written: values_of(alloc, found, "until-write")?,
         read: values_of(alloc, found, "until-read")?,
-        last: last_of(found)?,
+        last,
     })
 }
 
@@ -229,5 +230,24 @@ fn last_of(found: &ArgMatches<'_>) -> Result<Option<u32>, Refused> {
     match decimal_between(1, MOST_LAST, text.as_bytes()) {
         Some(most) => Ok(Some(most)),
         None => Err(Refused::Misuse(Misuse::Last)),
+    }
+}
+
+/// The cells that are shown of the run of a tape. Of a source they are not known yet.
+pub(crate) fn shown_on(tape: Option<&str>, places: &Places<'_>) -> Result<WordSet, Refused> {
+    if tape.is_none() {
+        return Ok(WordSet::empty());
+    }
+    Ok(places.shown(&Octal)?)
+}
+
+/// How the run of a tape is followed, if it may be stopped. Of a source that is not known yet.
+pub(crate) fn stopping_on(
+    tape: Option<&str>,
+    places: &Places<'_>,
+) -> Result<Option<Stopping>, Refused> {
+    match tape {
+        None => Ok(None),
+        Some(_) => Ok(places.stopping(&Octal)?),
     }
 }

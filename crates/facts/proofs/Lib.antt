@@ -35,3 +35,5 @@ pub mod DeviceLemmas
 pub mod KeepingLemmas
 pub mod ExactLemmas
 pub mod OneTarget
+pub mod AssertedLemmas
+mod MovedLemmas

@@ -8,7 +8,7 @@ use Rattle.domain.specs.Chains.{Ands, Chain, all_longer}
 use Rattle.domain.specs.Facts.{Fact, Place, Rules, OfEquations, OfSums}
 use Rattle.domain.specs.Adding.{with_name}
 use Rattle.domain.specs.Narrowing.{words_known}
-use Rattle.domain.specs.Moves.{taking, counted, weakly_updated, counted_up}
+use Rattle.domain.specs.Moves.{taking, counted, weakly_updated, counted_up, offsets_between}
 use Rattle.facts.specs.References.{words_at, operand_term, one_target}
 use Rattle.facts.specs.Additions.{summed, equated, sums_under, chains_after_tad}
 use Rattle.facts.specs.Stores.{stored, copied, with_begun}
@@ -113,10 +113,20 @@ abbrev pub stored_by : Rules → ℕ → Words → Fact → Fact
 stored_by OfSums y known f = stored y f
 stored_by OfEquations y known f = copied y known f
 
+-- What is known after DCA of the running routine's own entry: the return word is a word of the accumulator, so its offsets are
+-- those from the sites' return addresses to these words; then the accumulator is 0.
+abbrev pub moved : Words → Fact → Fact
+moved known f = record (taking Ac (one 0) f) { offsets = offsets_between f.sites known }
+
+-- What is known after DCA of the one target y, a variable; the only other cell that the conditions let it write is the running
+-- routine's own entry.
+abbrev pub deposited : Place → ℕ → Words → Fact → Fact
+deposited pl y known f = if pl.declaration.variable y then stored_by pl.rules y known f else moved known f
+
 -- DCA: the one target takes the accumulator's words and relations, or an unknown one of several its words; then the
 -- accumulator is 0.
 abbrev pub dca_case : Place → ℕ → Fact → Words → Option ℕ → List Successor
-dca_case pl at f p (Some y) = goes pl p f (ac_of pl f) (one (plus at 1)) (stored_by pl.rules y (ac_of pl f) f)
+dca_case pl at f p (Some y) = goes pl p f (ac_of pl f) (one (plus at 1)) (deposited pl y (ac_of pl f) f)
 dca_case pl at f p None =
     goes pl p f all_words (one (plus at 1)) (taking Ac (one 0) (weakly_updated p (λ y. ac_of pl f) f))
 

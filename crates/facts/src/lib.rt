@@ -8,6 +8,7 @@ ghost use Rattle.facts.specs.Starts.{StartFactHolds, StartsAreExact, StartsLand}
 
 mod additions;
 mod asked;
+mod assertions;
 mod carrying;
 mod conditions;
 mod dispatch;
@@ -57,7 +58,8 @@ pub enum Condition {
     V2,
     /// At most 64 words are possible, and each is supported.
     V3,
-    /// Each outcome entails the fact at each next address, in the same body.
+    /// Each outcome entails the fact at each next address, in the same body; or, by a JMP in a
+    /// routine to a place for which calls may be abandoned, the fact there as main's.
     V4,
     /// Each cell that may be written, a JMS's own apart, is a variable or an entry.
     V5,
@@ -79,11 +81,16 @@ pub enum Condition {
     /// A HLT is at a declared halt.
     V13,
     /// No entry may be written, a JMS's own cell apart, save that ISZ may count the routine's own
-    /// as its only target where 7 is none of the offsets.
+    /// as its only target where 7 is none of the offsets, and that DCA may store in it by its name,
+    /// where the declaration lets the routine do so and the word lies 0 to 77 behind each return
+    /// address.
     V14,
     /// Each cell that may be read is on the list of reads, where there is one, or the routine's own
     /// entry.
     V15,
+    /// What is declared to hold at the address holds by each fact there; what is declared of returns
+    /// holds by the routine's exits.
+    V16,
 }
 
 /// The step law: from a state of a fact, a step by the word at the program counter lands in one of

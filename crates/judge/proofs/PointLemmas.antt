@@ -1,25 +1,27 @@
 -- What is asked of a fact at an address, by its own place.
-use Rattle.std.proofs.Common.{◌≡◌, ℕ, ◌<◌, Bool, true, false, Some, List, [], ◌∷◌, ◌++◌, refl, sym, ap, ◌∙◌, subst, inl, inr}
+use Rattle.std.proofs.Common.{◌≡◌, ℕ, ◌<◌, Bool, true, false, not, Some, None, List, [], ◌∷◌, ◌++◌, refl, sym, ap, ◌∙◌, subst, inl, inr}
 use Rattle.std.specs.Prelude.{IsTrue, ◌↔◌}
-use Rattle.std.proofs.lemmas.Bool.{false≢true, true≢false}
+use Rattle.std.proofs.lemmas.Bool.{and_parts, and_from, false≢true, true≢false}
 use Rattle.peripherals.specs.Loading.{image_of}
 use Rattle.declaration.specs.Declaration.{Routine}
 use Rattle.declaration.specs.Kept.{meaning}
 use Rattle.domain.specs.Facts.{Fact, Place, Rules}
 use Rattle.facts.specs.Entailment.{Entails, Lands, IsIdle, LandsBy}
 use Rattle.domain.specs.Facts.{OfEquations, OfSums}
-use Rattle.wordset.specs.Words.{Words, all_words, only}
+use Rattle.wordset.specs.Words.{Words, all_words, nothing, only, has_some, meet, difference}
+use Rattle.wordset.proofs.Tests.{none_of_some}
 use Rattle.wordset.proofs.Firsts.{IsOnly, only_word}
-use Rattle.instruct.specs.Instructions.{Meaning, Jms}
-use Rattle.facts.specs.Instructions.{is_call}
+use Rattle.instruct.specs.Instructions.{Meaning, Jms, Jmp}
+use Rattle.facts.specs.Instructions.{is_call, is_jump}
 use Rattle.facts.specs.References.{stepped, targets}
-use Rattle.facts.specs.Outcomes.{Successor, CallsTo, alive, given}
+use Rattle.facts.specs.Outcomes.{Successor, Goes, CallsTo, Returns, alive, given}
 use Rattle.facts.specs.Operations.{outcomes_of}
 use Rattle.facts.specs.PlaceInCode.{place_in_code}
 use Rattle.facts.specs.declared.place.Place.{Place as KeptPlace}
 use Rattle.certificate.specs.Certificate.{Certificate}
 use Rattle.judge.specs.declared.point.Point.{Point}
-use Rattle.judge.specs.Landing.{Case, place_in, facts_in, sited, sites_of, LandsAt, EachSuccessor, SuccessorLands}
+use Rattle.judge.specs.Landing.{Case, place_in, facts_in, sited, sites_of, LandsAt, LandsBeyond, EachSuccessor, SuccessorLands, as_main, abandons}
+use Rattle.judge.specs.Jumps.{SuccessorStays, SuccessorJumps, MayAbandon}
 use Rattle.judge.specs.Points.{IsPoint, case_of}
 
 -- the place at hand is the one that is meant
@@ -88,13 +90,85 @@ module _ (p : Successor → Type 0) (os ps qs rs : List Successor) where
   )
 
 -- no outcome of a call goes on here
-pub calls_land : (j : Case) (r : Routine) (f : Fact) (a : ℕ) (m : Meaning) → is_call m ≡ true → IsTrue true ↔ EachSuccessor (SuccessorLands j r) (outcomes_of (place_in j r) f a m)
+pub calls_land : (j : Case) (r : Routine) (f : Fact) (a : ℕ) (m : Meaning) → is_call m ≡ true → IsTrue true ↔ EachSuccessor (SuccessorLands j r m) (outcomes_of (place_in j r) f a m)
 calls_land j r f a (Jms i c) e = (λ q. go (alive (place_in j r) (targets (place_in j r) i c f) (stepped (place_in j r) i c f) all_words (stepped (place_in j r) i c f)), λ k. refl)
   where
-    go : (b : Bool) → EachSuccessor (SuccessorLands j r) (given b (CallsTo (targets (place_in j r) i c f) (stepped (place_in j r) i c f)))
+    go : (b : Bool) → EachSuccessor (SuccessorLands j r (Jms i c)) (given b (CallsTo (targets (place_in j r) i c f) (stepped (place_in j r) i c f)))
     go true = (tt, tt)
     go false = tt
 calls_land j r f a _ e = absurd (false≢true e)
+
+-- where each outcome lands in one way exactly where it lands in another
+pub each_same : (p q : Successor → Type 0) (os : List Successor) → ((o : Successor) → p o ↔ q o) → EachSuccessor p os ↔ EachSuccessor q os
+each_same p q [] same = (λ e. tt, λ e. tt)
+each_same p q (o ∷ os) same = let rest = each_same p q os same in (λ e. ((same o).0 e.0, rest.0 e.1), λ e. ((same o).1 e.0, rest.1 e.1))
+
+-- the outcomes of an instruction that abandons calls for no address, and of a JMP in a routine
+pub stays_lands : (j : Case) (r : Routine) (m : Meaning) → MayAbandon false j r m → (o : Successor) → SuccessorStays j r o ↔ SuccessorLands j r m o
+stays_lands j r m none (Goes next f) = (
+  λ h a lt has. subst (λ b. LandsBeyond b j r a f) (sym (none a lt)) (h a lt has),
+  λ h a lt has. subst (λ b. LandsBeyond b j r a f) (none a lt) (h a lt has),
+)
+stays_lands j r m none (CallsTo next f) = (λ h. h, λ h. h)
+stays_lands j r m none (Returns f) = (λ h. h, λ h. h)
+
+pub jumps_land : (j : Case) (r : Routine) (m : Meaning) → MayAbandon true j r m → (o : Successor) → SuccessorJumps j r o ↔ SuccessorLands j r m o
+jumps_land j r m some (Goes next f) = (
+  λ h a lt has. subst (λ b. LandsBeyond b j r a f) (sym (some a lt)) (h a lt has),
+  λ h a lt has. subst (λ b. LandsBeyond b j r a f) (some a lt) (h a lt has),
+)
+jumps_land j r m some (CallsTo next f) = (λ h. h, λ h. h)
+jumps_land j r m some (Returns f) = (λ h. h, λ h. h)
+
+pub told_of : {P Q : Type 0} (t : Bool) → IsTrue t ↔ P → P ↔ Q → IsTrue t ↔ Q
+told_of t told same = (λ q. same.0 (told.0 q), λ h. told.1 (same.1 h))
+
+-- whether a word may abandon calls
+pub in_main : (j : Case) (r : Routine) (m : Meaning) → r ≡ None → MayAbandon false j r m
+in_main j r m main = subst (λ x. MayAbandon false j x m) (sym main) (λ a lt. refl)
+
+pub no_jump : (j : Case) (r : Routine) (m : Meaning) → is_jump m ≡ false → MayAbandon false j r m
+no_jump j None m no a lt = refl
+no_jump j (Some e) (Jmp i c) no a lt = absurd (true≢false no)
+no_jump j (Some e) _ no a lt = refl
+
+pub a_jump : (j : Case) (r : Routine) (m : Meaning) (b : Bool) → (r ≡ None → ⊥) → is_jump m ≡ true → b ≡ not (has_some j.declaration.abandon) → MayAbandon (not b) j r m
+a_jump j None m b routine jump none = absurd (routine refl)
+a_jump j (Some e) (Jmp i c) true routine jump none = λ a lt. none_of_some 4096 j.declaration.abandon (not_true (has_some j.declaration.abandon) (sym none)) a lt
+  where
+    not_true : (x : Bool) → not x ≡ true → x ≡ false
+    not_true false q = refl
+    not_true true q = absurd (true≢false (sym q))
+a_jump j (Some e) (Jmp i c) false routine jump none = λ a lt. refl
+a_jump j (Some e) _ b routine jump none = absurd (false≢true jump)
+
+-- the addresses for which calls may be abandoned, and the others
+pub lands_split : (j : Case) (r : Routine) (f : Fact) (set others beyond : Words) (t : Bool) → others ≡ difference set j.declaration.abandon → beyond ≡ meet set j.declaration.abandon →
+    ((a : ℕ) → a < 4096 → others a ≡ true → LandsAt j r a f) → (IsTrue t ↔ ((a : ℕ) → a < 4096 → beyond a ≡ true → LandsAt j None a (as_main f))) →
+    IsTrue t ↔ ((a : ℕ) → a < 4096 → set a ≡ true → LandsBeyond (j.declaration.abandon a) j r a f)
+lands_split j r f set others beyond t are_others are_beyond land told = (
+  λ q a lt has. at_each q a lt has (j.declaration.abandon a) refl,
+  λ all. told.1 (λ a lt has.
+      let both = and_parts (set a) (j.declaration.abandon a) (sym (ap (λ (w : Words). w a) are_beyond) ∙ has) in
+      subst (λ b. LandsBeyond b j r a f) both.1 (all a lt both.0)),
+)
+  where
+    at_each : IsTrue t → (a : ℕ) → a < 4096 → set a ≡ true → (b : Bool) → j.declaration.abandon a ≡ b → LandsBeyond b j r a f
+    at_each q a lt has true is = told.0 q a lt (ap (λ (w : Words). w a) are_beyond ∙ and_from (set a) (j.declaration.abandon a) has is)
+    at_each q a lt has false is = land a lt (ap (λ (w : Words). w a) are_others ∙ and_from (set a) (not (j.declaration.abandon a)) has (ap not is))
+
+pub lands_not_here : (j : Case) (r : Routine) (f : Fact) (set others : Words) → others ≡ difference set j.declaration.abandon →
+    (((a : ℕ) → a < 4096 → others a ≡ true → LandsAt j r a f) → ⊥) → IsTrue false ↔ ((a : ℕ) → a < 4096 → set a ≡ true → LandsBeyond (j.declaration.abandon a) j r a f)
+lands_not_here j r f set others are_others none = false_if (λ all. none (λ a lt has.
+    let both = and_parts (set a) (not (j.declaration.abandon a)) (sym (ap (λ (w : Words). w a) are_others) ∙ has) in
+    subst (λ b. LandsBeyond b j r a f) (not_not (j.declaration.abandon a) both.1) (all a lt both.0)))
+  where
+    not_not : (b : Bool) → not b ≡ true → b ≡ false
+    not_not true q = absurd (false≢true q)
+    not_not false q = refl
+
+pub is_as_main : (f g h k : Fact) (sites offsets : Words) → g ≡ f → h ≡ record g { sites = sites } → sites ≡ nothing → k ≡ record h { offsets = offsets } → offsets ≡ nothing → k ≡ as_main f
+is_as_main f g h k sites offsets same sited no_sites counted no_offsets = rw (counted, no_offsets, sited, no_sites, same) refl
 
 -- where there is one fact alone by the rules of equations, a fact lands that entails it
 one_lands : (rules : Rules) (pl : Place) (f g : Fact) (fs : List Fact) (t : Bool) → rules ≡ OfEquations → fs ≡ g ∷ [] → (IsTrue t ↔ Entails pl f g) → IsTrue t ↔ LandsBy rules pl f fs

@@ -401,9 +401,6 @@ impl<A: Allocator, C: Claims> Point<'_, A, C> {
         ensures { IsTrue result ↔
             MayReturn (case_of C.claims self.now) entry (fact_asked self.now) offset }
     {
-        if offset >= 8 {
-            return false;
-        }
         if !self
             .place
             .declaration

@@ -83,7 +83,8 @@ pub trait Claims {
     fn put_exit(&self, entry: Word, offset: usize, index: usize, exit: &mut Fact)
         requires offset { offset < 64 }
         requires index { index < length ((claims self.now).exits entry offset) }
-        ensures { fact_in_code exit.new ≡ fact_at ((claims self.now).exits entry offset) index };
+        ensures fact { fact_in_code exit.new ≡ fact_at ((claims self.now).exits entry offset) index }
+        ensures shape { HasShape (fact_in_code exit.new) };
 
     /// The least offset from a number on for which a routine has an exit.
     fn next_offset(&self, entry: Word, from: usize) -> Option<usize>

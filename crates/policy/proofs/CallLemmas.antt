@@ -48,7 +48,7 @@ no_last_call (d ∷ cs) is = absurd (past d cs (length (d ∷ cs) - 1) (grind (a
 
 -- whether the last call is found
 pub last_found : (d : Declaration) (e word : ℕ) (cs : List KeptCall) (c : KeptCall) → slice_get cs (length cs - 1) ≡ Some c →
-    finds_call d e word (open_calls cs) ≡ ((c.entry == e) && (nat_lt (minus word c.after) 8 && d.offset e (minus word c.after)))
+    finds_call d e word (open_calls cs) ≡ ((c.entry == e) && (nat_lt (minus word c.after) 64 && d.offset e (minus word c.after)))
 last_found d e word cs c is = rw (last_call cs c is).1 refl
 
 -- a call less

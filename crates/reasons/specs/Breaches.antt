@@ -1,20 +1,21 @@
 -- What a possible word breaks at the address of a fact that may have sums.
-use Rattle.std.specs.Prelude.{◌≡◌, ℕ, ◌+◌, ◌<◌, ◌≤◌, true, false, ◌⊎◌, Some, List, [], ◌∷◌, length}
-use Rattle.wordset.specs.Words.{plus}
+use Rattle.std.specs.Prelude.{◌≡◌, ℕ, ◌+◌, ◌<◌, ◌≤◌, Bool, true, false, ◌⊎◌, Some, None, List, [], ◌∷◌, length}
+use Rattle.wordset.specs.Words.{Words, plus}
 use Rattle.instruct.specs.Instructions.{Meaning}
-use Rattle.declaration.specs.Declaration.{Routine, IsListed}
+use Rattle.declaration.specs.Declaration.{Routine, Holding, IsListed}
+use Rattle.declaration.specs.declared.Subject.{Subject}
 use Rattle.policy.specs.Rules.{IsSupported, HaltsDeclared}
-use Rattle.domain.specs.Facts.{Fact, last_site}
+use Rattle.domain.specs.Facts.{Fact, Place, last_site}
 use Rattle.domain.specs.Moves.{joined}
 use Rattle.facts.specs.Instructions.{MayWrite, calls_through_index, returned_through}
 use Rattle.facts.specs.Outcomes.{Successor, Goes, CallsTo, Returns}
 use Rattle.facts.specs.Operations.{outcomes_of}
 use Rattle.facts.specs.Landing.{fact_at}
-use Rattle.facts.specs.Conditions.{EntriesAreKept, may_write, may_read, called}
+use Rattle.facts.specs.Conditions.{EntriesAreKept, IsDenied, may_write, may_read, called}
 use Rattle.facts.specs.declared.Condition.{Condition}
-use Rattle.facts.specs.declared.Condition.TheVariants.{V3, V4, V5, V6, V7, V8, V9, V10, V11, V12, V13, V14, V15}
+use Rattle.facts.specs.declared.Condition.TheVariants.{V3, V4, V5, V6, V7, V8, V9, V10, V11, V12, V13, V14, V15, V16}
 use Rattle.certificate.specs.Certificate.{writes_of}
-use Rattle.judge.specs.Landing.{Case, place_in, exits_of, called_from}
+use Rattle.judge.specs.Landing.{Case, place_in, exits_of, called_from, abandons, as_main}
 use Rattle.reasons.specs.Landing.{Misses, MissesExit}
 use Rattle.reasons.specs.declared.breach.Landing.{Landing}
 use Rattle.reasons.specs.declared.breach.CallBreach.{CallBreach}
@@ -69,14 +70,19 @@ CallBreaks j r a f e (call.Returns o i l) = MissesAfter j r a e o i f l
 abbrev pub ReturnBreaks : Case → Routine → Fact → ℕ → ReturnBreach → Type 0
 ReturnBreaks j r f e return.OtherRoutine = r ≡ Some e → ⊥
 ReturnBreaks j r f e (return.NotDeclared o) =
-    (o < 64) × (f.offsets o ≡ true) × ((8 ≤ o) ⊎ (j.declaration.offset e o ≡ false))
+    (o < 64) × (f.offsets o ≡ true) × (j.declaration.offset e o ≡ false)
 ReturnBreaks j r f e (return.NotAllowed o l) = (o < 64) × (f.offsets o ≡ true) × MissesExit j e o f l
 
--- The outcome goes on at this address, and does not land there.
-abbrev pub OutcomeMisses : Case → Routine → ℕ → Landing → Successor → Type 0
-OutcomeMisses j r a l (Goes next f) = (a < 4096) × (next a ≡ true) × Misses j r a f l
-OutcomeMisses j r a l (CallsTo next f) = ⊥
-OutcomeMisses j r a l (Returns f) = ⊥
+-- The fact does not land at the address: in main's body as one of main's, where calls are abandoned for it; else in the same body.
+abbrev pub MissesBeyond : Bool → Case → Routine → ℕ → Fact → Landing → Type 0
+MissesBeyond true j r a f l = Misses j None a (as_main f) l
+MissesBeyond false j r a f l = Misses j r a f l
+
+-- The outcome goes on at this address, and does not land there; these are the addresses for which all calls are abandoned.
+abbrev pub OutcomeMisses : Case → Routine → Words → ℕ → Landing → Successor → Type 0
+OutcomeMisses j r beyond a l (Goes next f) = (a < 4096) × (next a ≡ true) × MissesBeyond (beyond a) j r a f l
+OutcomeMisses j r beyond a l (CallsTo next f) = ⊥
+OutcomeMisses j r beyond a l (Returns f) = ⊥
 
 -- Some outcome of the list has the property.
 abbrev pub SomeOutcome : (Successor → Type 0) → List Successor → Type 0
@@ -95,6 +101,13 @@ condition_of (breach.Calls e b) = condition_of_call b
 condition_of (breach.Returns e b) = V12
 condition_of (breach.GoesOn a l) = V4
 condition_of (breach.ReadsUnlisted c) = V15
+condition_of (breach.MayDiffer s w) = V16
+
+-- Of some that is to hold at an address this subject may have this word, which is not among those asserted.
+abbrev pub SomeDenied : Place → Fact → ℕ → Subject → ℕ → List Holding → Type 0
+SomeDenied pl f a s w [] = ⊥
+SomeDenied pl f a s w (h ∷ hs) =
+    ((h.places a ≡ true) × (h.assertion.subject ≡ s) × IsDenied pl f h.assertion w) ⊎ SomeDenied pl f a s w hs
 
 -- What a word of this meaning breaks at the address a of a fact in a routine's body.
 abbrev pub Breaks : Case → Routine → ℕ → Fact → Meaning → Breach → Type 0
@@ -109,6 +122,7 @@ Breaks j r a f m breach.HaltsUndeclared = HaltsDeclared j.declaration m a → �
 Breaks j r a f m breach.CallsThroughIndex = calls_through_index m ≡ true
 Breaks j r a f m (breach.Calls e b) = (e < 4096) × (called (place_in j r) f m e ≡ true) × CallBreaks j r a f e b
 Breaks j r a f m (breach.Returns e b) = (returned_through j.declaration m ≡ Some e) × ReturnBreaks j r f e b
-Breaks j r a f m (breach.GoesOn b l) = SomeOutcome (OutcomeMisses j r b l) (outcomes_of (place_in j r) f a m)
+Breaks j r a f m (breach.GoesOn b l) = SomeOutcome (OutcomeMisses j r (abandons j.declaration r m) b l) (outcomes_of (place_in j r) f a m)
 Breaks j r a f m (breach.ReadsUnlisted b) =
     (b < 4096) × (may_read (place_in j r) f m b ≡ true) × (IsListed j.declaration.reads b ⊎ (r ≡ Some b) → ⊥)
+Breaks j r a f m (breach.MayDiffer s w) = SomeDenied (place_in j r) f a s w j.declaration.holds

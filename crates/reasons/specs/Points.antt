@@ -1,11 +1,12 @@
 -- What breaks a condition at a fact of which it is asked, as the code keeps the fact; it serves private contracts.
-use Rattle.std.specs.Prelude.{◌≡◌, ℕ, Bool, true, false}
+use Rattle.std.specs.Prelude.{◌≡◌, ℕ, ◌<◌, Bool, true, false, [], ◌∷◌}
 use Rattle.instruct.specs.Instructions.{Meaning, meaning_of}
 use Rattle.facts.specs.declared.Condition.{Condition}
 use Rattle.certificate.specs.Certificate.{Certificate}
-use Rattle.declaration.specs.Declaration.{Routine}
-use Rattle.domain.specs.Facts.{Fact}
-use Rattle.judge.specs.Landing.{Case}
+use Rattle.declaration.specs.Declaration.{Routine, Holding}
+use Rattle.domain.specs.Facts.{Fact, Place}
+use Rattle.facts.specs.Conditions.{EachIsHeld, IsDenied}
+use Rattle.judge.specs.Landing.{Case, place_in}
 use Rattle.judge.specs.Points.{case_of, fact_asked}
 use Rattle.judge.specs.declared.point.Point.{Point}
 use Rattle.reasons.specs.Breaches.{Breaks, CallBreaks, ReturnBreaks, condition_of, condition_of_call}
@@ -13,6 +14,7 @@ use Rattle.reasons.specs.Landing.{Misses}
 use Rattle.reasons.specs.Reasons.{IsWrongWord}
 use Rattle.reasons.specs.Stuck.{is_call_of_lines, is_landing_of_lines, is_of_lines, is_return_of_lines, is_word_of_lines}
 use Rattle.reasons.specs.declared.breach.Breach.{Breach}
+use Rattle.reasons.specs.declared.breach.Breach.TheVariants as breach
 use Rattle.reasons.specs.declared.breach.CallBreach.{CallBreach}
 use Rattle.reasons.specs.declared.breach.ReturnBreach.{ReturnBreach}
 use Rattle.reasons.specs.declared.breach.Landing.{Landing}
@@ -42,6 +44,18 @@ meaning_here claims s w = meaning_of (case_of claims s).declaration.profile s.at
 abbrev pub BreaksHere : {A C : Type 0} → (C → Certificate) → Point A C → Condition → ℕ → Breach → Type 0
 BreaksHere claims s v w b =
     (condition_of b ≡ v) × Breaks (case_of claims s) s.place.routine s.at (fact_asked s) (meaning_here claims s w) b
+
+-- What one line says is to hold need not hold there, if it is to hold there: it is told what the subject may be.
+abbrev pub Differs : Place → Fact → ℕ → Holding → Breach → Type 0
+Differs pl f a h (breach.MayDiffer s w) = (h.places a ≡ true) × (h.assertion.subject ≡ s) × IsDenied pl f h.assertion w
+Differs pl f a h _ = ⊥
+
+abbrev pub DiffersHere : {A C : Type 0} → (C → Certificate) → Point A C → Holding → Breach → Type 0
+DiffersHere claims s h b = Differs (place_in (case_of claims s) s.place.routine) (fact_asked s) s.at h b
+
+-- What one line says is to hold holds there, if it is to hold there.
+abbrev pub HoldsOneHere : {A C : Type 0} → (C → Certificate) → Point A C → Holding → Type 0
+HoldsOneHere claims s h = EachIsHeld (place_in (case_of claims s) s.place.routine) (fact_asked s) s.at (h ∷ [])
 
 -- It does, and this is one of the reasons that are looked for.
 abbrev pub BreaksAs : {A C : Type 0} → Sought → (C → Certificate) → Point A C → Condition → ℕ → Breach → Type 0

@@ -1,6 +1,7 @@
 //! What a possible word breaks.
 
 use crate::counterexample::Counterexample;
+use declaration::Subject;
 use domain::Location;
 use word12::{Link, Word};
 
@@ -83,4 +84,6 @@ pub enum Breach {
     /// V15: it may read this cell, which is not on the list of reads, nor the entry of the running
     /// routine.
     ReadsUnlisted(Word),
+    /// V16: this subject may have this word, which is not among those that it is declared to have here.
+    MayDiffer(Subject, Word),
 }

@@ -75,9 +75,6 @@ fn returns_by<A: Allocator, C: Claims, M: Allocator>(
     if !point.fact.offsets().contains(offset) {
         return None;
     }
-    if offset >= 8 {
-        return Some(ReturnBreach::NotDeclared(offset));
-    }
     if !point
         .place
         .declaration

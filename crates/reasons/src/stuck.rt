@@ -16,8 +16,8 @@ use std::alloc::Allocator;
 use word12::Word;
 
 /// The conditions in the order in which they are asked: first those that a word breaks by itself, then
-/// those on calls and returns, then those on where a run goes on. The four others fail by lines alone.
-const ORDER: [Condition; 11] = [
+/// those on calls and returns, then those on where a run goes on, and last what is declared to hold. The four others fail by lines alone.
+const ORDER: [Condition; 12] = [
     Condition::V3,
     Condition::V5,
     Condition::V14,
@@ -29,6 +29,7 @@ const ORDER: [Condition; 11] = [
     Condition::V4,
     Condition::V10,
     Condition::V11,
+    Condition::V16,
 ];
 
 /// Why a condition fails at an address, if it is not that lines are missing or too narrow.

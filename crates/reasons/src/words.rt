@@ -2,12 +2,13 @@
 
 ghost use Rattle.std.specs.Prelude.{ℕ, ◌≡◌, ◌<◌, true, false, IfNone, IfSome};
 ghost use Rattle.wordset.specs.Lanes.{words};
-ghost use Rattle.facts.specs.declared.Condition.TheVariants.{V3, V5, V6, V13, V14, V15};
+ghost use Rattle.facts.specs.declared.Condition.TheVariants.{V3, V5, V6, V13, V14, V15, V16};
 ghost use Rattle.facts.specs.Conditions.{may_write};
 ghost use Rattle.judge.specs.Landing.{place_in};
 ghost use Rattle.judge.specs.Points.{HoldsHere, IsPoint, case_of, fact_asked, possible_at};
 ghost use Rattle.reasons.specs.Keeping.{EachKeepsHere, KeepsHere, WordsKeepHere};
-ghost use Rattle.reasons.specs.Points.{BreaksAs, BreaksHere, IsWrongAs, counts_lines, meaning_here};
+ghost use Rattle.declaration.specs.Kept.{holding_of};
+ghost use Rattle.reasons.specs.Points.{BreaksAs, BreaksHere, DiffersHere, HoldsOneHere, IsWrongAs, counts_lines, meaning_here};
 ghost use Rattle.reasons.specs.Stuck.{is_word_of_lines};
 
 use crate::breach::Breach;
@@ -17,6 +18,7 @@ use crate::reason::Reason;
 use crate::returns::returns_wrongly;
 use crate::rooms::WordRooms;
 use crate::sought::Sought;
+use declaration::Holding;
 use facts::Condition;
 use judge::{Claims, Point};
 use std::alloc::Allocator;
@@ -114,6 +116,7 @@ fn breach<A: Allocator, C: Claims, M: Allocator>(
         Condition::V13 => halts_undeclared(point, word),
         Condition::V14 => writes_entry(point, word),
         Condition::V15 => reads_unlisted(point, word),
+        Condition::V16 => may_differ(point, word),
     }
 }
 
@@ -255,5 +258,39 @@ fn reads_unlisted<A: Allocator, C: Claims>(point: &Point<'_, A, C>, word: Word) 
     match rest.first_from(0) {
         None => None,
         Some(cell) => Some(Breach::ReadsUnlisted(cell)),
+    }
+}
+
+/// A subject and a word that it may have where the word is not among those that it is declared to have, whatever word is
+/// executed.
+fn may_differ<A: Allocator, C: Claims>(point: &Point<'_, A, C>, word: Word) -> Option<Breach>
+    requires { IsPoint C.claims point.now }
+    ensures found { IfSome result (BreaksHere C.claims point.now V16 word) }
+    ensures by_word { IfSome result (λ b. is_word_of_lines b ≡ false) }
+    ensures none { IfNone result (HoldsHere C.claims point.now V16 word) }
+{
+    for holding in point.place.declaration.holds() {
+        if let Some(breach) = differs_from(point, holding) {
+            return Some(breach);
+        }
+    }
+    None
+}
+
+/// The subject of one assertion and a word that it may have here and is not declared to have.
+fn differs_from<A: Allocator, C: Claims>(
+    point: &Point<'_, A, C>,
+    holding: &Holding,
+) -> Option<Breach>
+    requires { IsPoint C.claims point.now }
+    ensures found { IfSome result (DiffersHere C.claims point.now (holding_of holding.now)) }
+    ensures none { IfNone result (HoldsOneHere C.claims point.now (holding_of holding.now)) }
+{
+    if !holding.places().contains(point.at) {
+        return None;
+    }
+    match point.place.denied_word(point.fact, holding.assertion()) {
+        None => None,
+        Some(denied) => Some(Breach::MayDiffer(*holding.assertion().subject(), denied)),
     }
 }

@@ -74,7 +74,7 @@ static CONDITIONS: [Explanation; 15] = [
         code: "V12",
         subject: Subject::Asked("a return uses the routine's own entry and a declared offset"),
         meaning: "a return is through the routine's own entry, by declared offsets, and\nthe exit lines allow what is possible",
-        advice: "Declare the offset, as in `returns 0 1`, or increment the return\nword (ISZ of the entry) as declared. Return only through the routine's own\nentry. In a certificate each offset needs its exit line, and the fact at the\nreturn must entail it. In version 3 an offset may have several exit lines,\nwhich must allow what is possible as V4 says it of facts. Offsets are 0 to 7.\nSo a routine that reads the text after its JMS in a loop up to a zero, and then\nreturns beyond the zero, gets no certificate: nothing ties the offset to the\nword that was read. Put the address of the text after the JMS (`returns 1`), or\ninto AC.",
+        advice: "Declare the offset, as in `returns 0 1`, or increment the return\nword (ISZ of the entry) as declared. Return only through the routine's own\nentry. In a certificate each offset needs its exit line, and the fact at the\nreturn must entail it. In version 3 an offset may have several exit lines,\nwhich must allow what is possible as V4 says it of facts. Offsets are 0 to 7.\nSo a routine that reads the text after its JMS in a loop up to a zero, and then\nreturns beyond the zero, gets a certificate only if each text has at most six\ncharacters, and only one of version 3. For a longer text, put the address of the\ntext after the JMS (`returns 1`), or into AC.",
     },
     Explanation {
         code: "V13",

@@ -2,6 +2,7 @@ use Rattle.std.proofs.Common.{◌≡◌, ◌+◌, ◌*◌, true, false, ℕ, sym
 use Rattle.certificate.specs.Packed.{said_lines}
 use Rattle.certificate.specs.Found.{begins_at}
 use Rattle.certificate.proofs.SumReaderLemmas.{fit_next, exit_next, has_said, no_exit_left}
+use Rattle.certificate.proofs.SumSkipLemmas.{has_shape_there}
 use Rattle.certificate.proofs.Certificate.next_exit.Goals as goal
 
 pub returns-then-not-is_at-clause-none : goal.returns-then-not-is_at-clause-none
@@ -34,3 +35,6 @@ pub returns-in-None-clause-none : goal.returns-in-None-clause-none
 returns-in-None-clause-none g c =
     has_said c.self.inside.version c.self.inside.kept c.args.line.now _ c.self.invariant (omega arith) (omega (arith, c.index.ensures.small, c.requires.offset))
     (sym c.if-not-is_at.ensures) (sym c.in-None.ensures.there)
+
+pub returns-in-Some-clause-shape : goal.returns-in-Some-clause-shape
+returns-in-Some-clause-shape g c = λ done. has_shape_there c.self.inside.version c.self.inside.kept c.args.line.now _ _ c.self.invariant (sym c.if-not-is_at.ensures) c.in-Some.ensures.says

@@ -9,7 +9,7 @@ use Rattle.judge.proofs.judging.judge.Given as goal
 
 abbrev pub invariant-loop-address : goal.invariant-loop-address
 invariant-loop-address g l =
-    ((a : ℕ) → a < l.next → claimed (g.C.Claims.claims l.claims) a ≡ true → HoldsBetween (judged l.image l.declaration (g.C.Claims.claims l.claims)) 1 15 a) ×
+    ((a : ℕ) → a < l.next → claimed (g.C.Claims.claims l.claims) a ≡ true → HoldsBetween (judged l.image l.declaration (g.C.Claims.claims l.claims)) 1 16 a) ×
     Tells (g.C.Claims.claims l.claims) l.body ×
     NextNamed (g.C.Claims.claims l.claims) l.next l.named ×
     Shows (g.C.Claims.claims l.claims) l.rooms.even ×

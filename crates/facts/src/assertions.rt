@@ -1,0 +1,149 @@
+//! What is declared to hold, by a fact.
+
+ghost use Rattle.std.specs.Prelude.{◌≡◌, ◌==◌, ◌&&◌, ◌↔◌, IfNone, IfSome, IsTrue, map};
+ghost use Rattle.wordset.specs.Words.{SameWords};
+ghost use Rattle.wordset.specs.Lanes.{words};
+ghost use Rattle.wordset.specs.Links.{links_of};
+ghost use Rattle.declaration.specs.Kept.{assertion_of, holding_of, returning_of};
+ghost use Rattle.domain.specs.FactInCode.{fact_in_code};
+ghost use Rattle.facts.specs.Conditions.{link_words, may_be, IsAsserted, IsDenied, EachIsHeld, EachIsHeldBy};
+ghost use Rattle.facts.specs.PlaceInCode.{place_in_code};
+
+use crate::place::Place;
+use declaration::{Assertion, Holding, Returning, Subject};
+use domain::{Location, SumFact};
+use std::alloc::Allocator;
+use word12::{Link, Word};
+use wordset::{Links, WordSet};
+
+/// Lets a set be some links as words.
+fn put_link_words(links: Links, place: &mut WordSet)
+    ensures { SameWords (words place.new) (link_words (links_of links)) }
+{
+    *place = WordSet::empty();
+    if links.contains(Link::CLEAR) {
+        place.insert(Word::from_index(0));
+    }
+    if links.contains(Link::SET) {
+        place.insert(Word::from_index(1));
+    }
+}
+
+impl<A: Allocator> Place<'_, A> {
+    /// Lets a set be the words that the subject of an assertion may have by a fact.
+    fn put_may_be<const C: usize, const R: usize>(
+        &self,
+        fact: &SumFact<C, R>,
+        subject: &Subject,
+        place: &mut WordSet,
+    )
+        ensures { SameWords (words place.new)
+            (may_be (place_in_code self.now) (fact_in_code fact.now) subject.now) }
+    {
+        match subject {
+            Subject::Accumulator => self.put_words_known(fact, &Location::Accumulator, place),
+            Subject::Link => put_link_words(fact.link(), place),
+            Subject::Mq => *place = *fact.mq(),
+            Subject::Cell(cell) => self.put_words_in(fact, *cell, place),
+        }
+    }
+
+    /// The least word that the subject of an assertion may have by a fact and that is not asserted.
+    pub fn denied_word<const C: usize, const R: usize>(
+        &self,
+        fact: &SumFact<C, R>,
+        assertion: &Assertion,
+    ) -> Option<Word>
+        ensures denied { IfSome result (IsDenied (place_in_code self.now) (fact_in_code fact.now)
+            (assertion_of assertion.now)) }
+        ensures none { IfNone result (IsAsserted (place_in_code self.now) (fact_in_code fact.now)
+            (assertion_of assertion.now)) }
+    {
+        let mut possible = WordSet::empty();
+        self.put_may_be(fact, assertion.subject(), &mut possible);
+        possible.minus(assertion.words()).first_from(0)
+    }
+
+    /// Whether by a fact what is asserted is so.
+    fn is_asserted<const C: usize, const R: usize>(
+        &self,
+        fact: &SumFact<C, R>,
+        assertion: &Assertion,
+    ) -> bool
+        ensures { IsTrue result ↔ IsAsserted (place_in_code self.now) (fact_in_code fact.now)
+            (assertion_of assertion.now) }
+    {
+        self.denied_word(fact, assertion).is_none()
+    }
+
+    /// Whether by a fact at an address all is so that is to hold there, of some that is to hold.
+    fn each_is_held<const C: usize, const R: usize>(
+        &self,
+        fact: &SumFact<C, R>,
+        at: Word,
+        holds: &[Holding],
+    ) -> bool
+        ensures { IsTrue result ↔ EachIsHeld (place_in_code self.now) (fact_in_code fact.now) at
+            (map holding_of holds.now) }
+    {
+        for holding in holds {
+            if holding.places().contains(at) && !self.is_asserted(fact, holding.assertion()) {
+                return false;
+            }
+        }
+        true
+    }
+
+    /// Whether by a fact at an address all is so that is declared to hold there.
+    pub fn holds_as_declared<const C: usize, const R: usize>(
+        &self,
+        fact: &SumFact<C, R>,
+        at: Word,
+    ) -> bool
+        ensures { let pl = place_in_code self.now in
+            IsTrue result ↔ EachIsHeld pl (fact_in_code fact.now) at pl.declaration.holds }
+    {
+        self.each_is_held(fact, at, self.declaration.holds())
+    }
+
+    /// Whether an assertion is on returns of a routine by an offset.
+    fn is_on_return(&self, returning: &Returning, entry: Word, offset: Word) -> bool
+        ensures { result ≡ ((returning_of returning.now).entry == entry && (returning_of returning.now).offsets offset) }
+    {
+        returning.entry() == entry && returning.offsets().contains(offset)
+    }
+
+    /// Whether by an exit of a routine for an offset all is so that is to hold then, of some that is to hold.
+    fn each_is_held_by<const C: usize, const R: usize>(
+        &self,
+        exit: &SumFact<C, R>,
+        entry: Word,
+        offset: Word,
+        returns: &[Returning],
+    ) -> bool
+        ensures { IsTrue result ↔ EachIsHeldBy (place_in_code self.now) (fact_in_code exit.now) entry offset
+            (map returning_of returns.now) }
+    {
+        for returning in returns {
+            if self.is_on_return(returning, entry, offset)
+                && !self.is_asserted(exit, returning.assertion())
+            {
+                return false;
+            }
+        }
+        true
+    }
+
+    /// Whether by an exit of a routine for an offset all is so that is declared to hold then.
+    pub fn returns_as_declared<const C: usize, const R: usize>(
+        &self,
+        exit: &SumFact<C, R>,
+        entry: Word,
+        offset: Word,
+    ) -> bool
+        ensures { let pl = place_in_code self.now in
+            IsTrue result ↔ EachIsHeldBy pl (fact_in_code exit.now) entry offset pl.declaration.returns }
+    {
+        self.each_is_held_by(exit, entry, offset, self.declaration.returns())
+    }
+}

@@ -1,0 +1,25 @@
+-- Where outcomes land, those of JMPs apart, as the code asks it. It serves private contracts.
+use Rattle.std.specs.Prelude.{◌≡◌, ℕ, ◌<◌, Bool, true, false}
+use Rattle.instruct.specs.Instructions.{Meaning, Jmp}
+use Rattle.declaration.specs.Declaration.{Routine}
+use Rattle.facts.specs.Outcomes.{Successor, Goes, CallsTo, Returns}
+use Rattle.judge.specs.Landing.{Case, LandsAt, LandsBeyond, abandons}
+
+-- Where the run goes on in the same body, the outcome's fact lands.
+abbrev pub SuccessorStays : Case → Routine → Successor → Type 0
+SuccessorStays j r (Goes next f) = (a : ℕ) → a < 4096 → next a ≡ true → LandsAt j r a f
+SuccessorStays j r (CallsTo next f) = Unit {0}
+SuccessorStays j r (Returns f) = Unit {0}
+
+-- Where the run goes on after a JMP in a routine, the outcome's fact lands, as one of main's where calls are abandoned for the
+-- address.
+abbrev pub SuccessorJumps : Case → Routine → Successor → Type 0
+SuccessorJumps j r (Goes next f) =
+    (a : ℕ) → a < 4096 → next a ≡ true → LandsBeyond (j.declaration.abandon a) j r a f
+SuccessorJumps j r (CallsTo next f) = Unit {0}
+SuccessorJumps j r (Returns f) = Unit {0}
+
+-- The instruction is a JMP in a routine; or it abandons calls for no address.
+abbrev pub MayAbandon : Bool → Case → Routine → Meaning → Type 0
+MayAbandon true j r m = (a : ℕ) → a < 4096 → abandons j.declaration r m a ≡ j.declaration.abandon a
+MayAbandon false j r m = (a : ℕ) → a < 4096 → abandons j.declaration r m a ≡ false

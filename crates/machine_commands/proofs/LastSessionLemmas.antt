@@ -74,17 +74,17 @@ pub session_behind : (options : SessionOptions) (stops : Stops) (form : SummaryF
     IfOk r (λ status. WritesAll (IsSessionBehind options stops form tape reader keys status) old new)
 session_behind options stops form tape reader keys image frames bytes o (Ok status) old new has_image frames_are bytes_are is first writes =
     writes_by _ _ old new (λ text printed punched behind.
-      let quietly : SessionOptions = record options { run = quiet options.run } in
-      let held = session_held quietly stops (joined form) Whole tape reader keys image frames bytes o behind.rest printed punched status has_image frames_are bytes_are is first behind.held in
-      record {
-        image = held.image;
-        has_image = held.has_image;
-        frames = held.frames;
-        frames_are = held.frames_are;
-        bytes = held.bytes;
-        bytes_are = held.bytes_are;
-        session = record { lines = behind.lines; rest = behind.rest; held = held.session; text_is = behind.text_is };
-      }) writes
+    let quietly : SessionOptions = record options { run = quiet options.run } in
+    let held = session_held quietly stops (joined form) Whole tape reader keys image frames bytes o behind.rest printed punched status has_image frames_are bytes_are is first behind.held in
+    record {
+      image = held.image;
+      has_image = held.has_image;
+      frames = held.frames;
+      frames_are = held.frames_are;
+      bytes = held.bytes;
+      bytes_are = held.bytes_are;
+      session = record { lines = behind.lines; rest = behind.rest; held = held.session; text_is = behind.text_is };
+    }) writes
 session_behind options stops form tape reader keys image frames bytes o (Err fault) old new has_image frames_are bytes_are is first writes = tt
 
 pub typed_behind : (options : TeletypeOptions) (stops : Stops) (form : SummaryForm) (left : Bool) (tape : Option (List ℕ)) (reader keys : Source) (image : List (Option ℕ)) (r : Result Status Fault) (old new : Taken) → HasImage tape image →
@@ -92,14 +92,14 @@ pub typed_behind : (options : TeletypeOptions) (stops : Stops) (form : SummaryFo
     IfOk r (λ status. WritesAll (IsTypedBehind options stops form left tape reader.told keys.told status) old new)
 typed_behind options stops form left tape reader keys image (Ok status) old new has_image writes =
     writes_by _ _ old new (λ text printed punched behind.
-      let held = typed_stop_held options stops (joined form) Whole left tape reader keys image status behind.rest printed punched has_image behind.held in
-      record {
-        image = held.image;
-        has_image = held.has_image;
-        frames = held.frames;
-        frames_are = held.frames_are;
-        bytes = held.bytes;
-        bytes_are = held.bytes_are;
-        session = record { lines = behind.lines; rest = behind.rest; held = held.session; text_is = behind.text_is };
-      }) writes
+    let held = typed_stop_held options stops (joined form) Whole left tape reader keys image status behind.rest printed punched has_image behind.held in
+    record {
+      image = held.image;
+      has_image = held.has_image;
+      frames = held.frames;
+      frames_are = held.frames_are;
+      bytes = held.bytes;
+      bytes_are = held.bytes_are;
+      session = record { lines = behind.lines; rest = behind.rest; held = held.session; text_is = behind.text_is };
+    }) writes
 typed_behind options stops form left tape reader keys image (Err fault) old new has_image writes = tt

@@ -165,7 +165,7 @@ some_same : (old new : Option (List ℕ)) (piece other : List ℕ) → piece ≡
 some_same old new piece other same some = record { count = some.count; within = rw same some.within; out = rw same some.out }
 
 -- a whole piece is a front of itself
-pub whole_front : (old new : Option (List ℕ)) (piece : List ℕ) → Appends old new piece → AppendsSome old new piece
+unfoldable pub whole_front : (old new : Option (List ℕ)) (piece : List ℕ) → Appends old new piece → AppendsSome old new piece
 whole_front old new piece whole = record {
   count = length piece;
   within = le_refl (length piece);
@@ -195,7 +195,7 @@ pub record Sat {S : Type 0} (brings : S → Profile → WorldState → Extent �
   pub come : (extent : Extent) (rest : List Event) → brings now p x extent rest → brings first p w extent (events ++ rest)
   pub printed : Appends told tells (printed_in x)
 
-pub sat_none : {S : Type 0} (brings : S → Profile → WorldState → Extent → List Event → Type 0) (p : Profile) (trace : Bool) (s : S) (w : WorldState) (old told : Option (List ℕ)) → w.devices.printer.output ≡ [] →
+unfoldable pub sat_none : {S : Type 0} (brings : S → Profile → WorldState → Extent → List Event → Type 0) (p : Profile) (trace : Bool) (s : S) (w : WorldState) (old told : Option (List ℕ)) → w.devices.printer.output ≡ [] →
     Sat brings p trace s s w w 0 old old told told
 sat_none brings p trace s w old told empty = record {
   events = [];
@@ -221,7 +221,7 @@ printed_next p x y e told mid tells happens before after =
 one_more : (es : List Event) (e : Event) (rest : List Event) → (es ++ e ∷ []) ++ rest ≡ es ++ (e ∷ rest)
 one_more es e rest = append_assoc es (e ∷ []) rest
 
-pub sat_more : {S : Type 0} (brings : S → Profile → WorldState → Extent → List Event → Type 0) (p : Profile) (trace : Bool) (first now after : S) (e : Event) (w x y : WorldState) (n : ℕ) (what : Seen) (old mid new told tmid tells : Option (List ℕ)) →
+unfoldable pub sat_more : {S : Type 0} (brings : S → Profile → WorldState → Extent → List Event → Type 0) (p : Profile) (trace : Bool) (first now after : S) (e : Event) (w x y : WorldState) (n : ℕ) (what : Seen) (old mid new told tmid tells : Option (List ℕ)) →
     Sat brings p trace first now w x n old mid told tmid → IsNext brings now after x e → Played p trace x e what y mid new tmid tells → goes_on true what ≡ true →
     Sat brings p trace first after w y (n + counted what) old new told tells
 sat_more brings p trace first now after e w x y n what old mid new told tmid tells sat next played goes = record {
@@ -234,7 +234,7 @@ sat_more brings p trace first now after e w x y n what old mid new told tmid tel
 }
 
 -- nothing is due any more
-pub sat_all : {S : Type 0} (brings : S → Profile → WorldState → Extent → List Event → Type 0) (p : Profile) (trace : Bool) (first now : S) (w x : WorldState) (outcome : RunOutcome) (old new told tells : Option (List ℕ)) →
+unfoldable pub sat_all : {S : Type 0} (brings : S → Profile → WorldState → Extent → List Event → Type 0) (p : Profile) (trace : Bool) (first now : S) (w x : WorldState) (outcome : RunOutcome) (old new told tells : Option (List ℕ)) →
     Sat brings p trace first now w x outcome.steps old new told tells → ((extent : Extent) → brings now p x extent []) → outcome.end ≡ end_of x → Operated (brings first p w) p trace w outcome x old new told tells
 sat_all brings p trace first now w x outcome old new told tells sat over ends = record {
   events = sat.events;
@@ -247,7 +247,7 @@ sat_all brings p trace first now w x outcome old new told tells sat over ends = 
 last_comes : {S : Type 0} (brings : S → Profile → WorldState → Extent → List Event → Type 0) (p : Profile) (s t : S) (x : WorldState) (e : Event) (what : Seen) (extent : Extent) → IsNext brings s t x e → what ≡ seen_of p x e → goes_on true what ≡ false → brings s p x extent (e ∷ [])
 last_comes brings p s t x e what extent next sees ends = next.last p extent (rw (← sees) ends)
 
-pub sat_to_halt : {S : Type 0} (brings : S → Profile → WorldState → Extent → List Event → Type 0) (p : Profile) (trace : Bool) (first now after : S) (e : Event) (w x y : WorldState) (n : ℕ) (outcome : RunOutcome) (old mid new told tmid tells : Option (List ℕ)) →
+unfoldable pub sat_to_halt : {S : Type 0} (brings : S → Profile → WorldState → Extent → List Event → Type 0) (p : Profile) (trace : Bool) (first now after : S) (e : Event) (w x y : WorldState) (n : ℕ) (outcome : RunOutcome) (old mid new told tmid tells : Option (List ℕ)) →
     Sat brings p trace first now w x n old mid told tmid → IsNext brings now after x e → Played p trace x e seen.Halted y mid new tmid tells → outcome.steps ≡ n + 1 → outcome.end ≡ end_of y →
     Operated (brings first p w) p trace w outcome y old new told tells
 sat_to_halt brings p trace first now after e w x y n outcome old mid new told tmid tells sat next played steps ends = record {
@@ -261,7 +261,7 @@ sat_to_halt brings p trace first now after e w x y n outcome old mid new told tm
   printed = printed_next p x y e told tmid tells played.happens sat.printed played.printed;
 }
 
-pub sat_to_stuck : {S : Type 0} (brings : S → Profile → WorldState → Extent → List Event → Type 0) (p : Profile) (trace : Bool) (first now after : S) (e : Event) (w x y : WorldState) (n word : ℕ) (outcome : RunOutcome) (old mid new told tmid tells : Option (List ℕ)) →
+unfoldable pub sat_to_stuck : {S : Type 0} (brings : S → Profile → WorldState → Extent → List Event → Type 0) (p : Profile) (trace : Bool) (first now after : S) (e : Event) (w x y : WorldState) (n word : ℕ) (outcome : RunOutcome) (old mid new told tmid tells : Option (List ℕ)) →
     Sat brings p trace first now w x n old mid told tmid → IsNext brings now after x e → Played p trace x e (seen.Unsupported word) y mid new tmid tells → outcome.steps ≡ n → outcome.end ≡ Unsupported y.state.pc →
     Operated (brings first p w) p trace w outcome y old new told tells
 sat_to_stuck brings p trace first now after e w x y n word outcome old mid new told tmid tells sat next played steps ends =
@@ -406,7 +406,7 @@ device_came p trace es w x y n e enabled old new came happens is =
     rw (device_counts enabled, add-zero n) at next
 
 -- after an instruction the printer gets done, and the punch
-pub sat_completed : {S : Type 0} (brings : S → Profile → WorldState → Extent → List Event → Type 0) (p : Profile) (trace : Bool) (first now after : S) (w x : WorldState) (n : ℕ) (old new told tells : Option (List ℕ)) →
+unfoldable pub sat_completed : {S : Type 0} (brings : S → Profile → WorldState → Extent → List Event → Type 0) (p : Profile) (trace : Bool) (first now after : S) (w x : WorldState) (n : ℕ) (old new told tells : Option (List ℕ)) →
     Sat brings p trace first now w x n old new told tells →
     ((q : Profile) (extent : Extent) (es : List Event) → brings after q (completed x) extent es → brings now q x extent (PrinterDone ∷ PunchDone ∷ es)) →
     Sat brings p trace first after w (completed x) n old new told tells

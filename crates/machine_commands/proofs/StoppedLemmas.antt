@@ -472,7 +472,7 @@ punch_failed comes options stops form left image p w x (Ok outcome) reported typ
     fronts_by _ _ (failures reported typed unpunched) (taken old told_old held) (taken new told_new holds)
     (λ extent text printed punched part. part_left comes options stops form left image reported typed unread extent text printed punched part)
     (done_front comes options stops form false image p w x outcome reported typed unread unpunched old new told_old told_new held holds profile begins done marks
-     (some_of held holds x.devices.punch.output punched) (λ no. absurd (true≢false (sym failed ∙ no))) (λ yes. punched))
+    (some_of held holds x.devices.punch.output punched) (λ no. absurd (true≢false (sym failed ∙ no))) (λ yes. punched))
 punch_failed comes options stops form left image p w x (Err fault) reported typed unread unpunched old new told_old told_new held holds profile begins done broke marks punched failed =
     broke_unstopped comes options stops form left image p w x reported typed unread unpunched old new told_old told_new held holds profile begins broke
     (some_of held holds x.devices.punch.output punched) (λ no. absurd (true≢false (sym failed ∙ no))) (λ yes. punched)

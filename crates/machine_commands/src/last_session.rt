@@ -123,13 +123,7 @@ fn behind<'n>(form: &SummaryForm<'n>) -> SummaryForm<'n>
 
 /// Runs an image by a schedule up to where it is stopped, and writes what was punched in the end, also where the run
 /// broke off, the lines of the last instructions, and the summary.
-fn attend_last<
-    A: Allocator + Copy,
-    S: Scheduler + Leaves,
-    W: ByteSink,
-    T: ByteSink,
-    P: ByteSink,
->(
+fn attend_last<A: Allocator + Copy, S: Scheduler + Leaves, W: ByteSink, T: ByteSink, P: ByteSink>(
     alloc: A,
     image: &Image,
     schedule: &mut S,

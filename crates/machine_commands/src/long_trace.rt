@@ -89,7 +89,7 @@ struct Access {
 }
 
 /// How an instruction uses a cell.
-fn access(cpu: &Cpu, cell: Word, is_write: bool) -> Option<Access> {
+fn use_of(cpu: &Cpu, cell: Word, is_write: bool) -> Option<Access> {
     Some(Access {
         cell,
         before: cpu.memory.get(cell),
@@ -102,14 +102,14 @@ fn pointer_access(cpu: &Cpu, reference: &Reference) -> Option<Access> {
     if !reference.indirect {
         return None;
     }
-    access(cpu, reference.named, reference.steps_pointer())
+    use_of(cpu, reference.named, reference.steps_pointer())
 }
 
 /// How a memory reference uses the cell at its effective address, if it does.
 fn operand_access(cpu: &Cpu, reference: &Reference) -> Option<Access> {
     match reference.operation {
-        Operation::And | Operation::Tad => access(cpu, reference.place, false),
-        Operation::Isz | Operation::Dca | Operation::Jms => access(cpu, reference.place, true),
+        Operation::And | Operation::Tad => use_of(cpu, reference.place, false),
+        Operation::Isz | Operation::Dca | Operation::Jms => use_of(cpu, reference.place, true),
         Operation::Jmp => None,
     }
 }
@@ -124,7 +124,7 @@ struct Coming {
 }
 
 /// The instruction that is about to be carried out.
-fn coming(cpu: &Cpu) -> Coming {
+fn instruction_at(cpu: &Cpu) -> Coming {
     let (at, word) = (cpu.pc, cpu.memory.get(cpu.pc));
     match cpu.fetch() {
         DecodedInstruction::Refers(reference) => Coming {
@@ -167,7 +167,11 @@ fn push_accesses<A: Allocator>(
         push_access(line, used, cpu, b"   ")?;
     }
     if let Some(used) = came.operand {
-        let gap = if came.pointer.is_some() { b"  ".as_slice() } else { b"   ".as_slice() };
+        let gap = if came.pointer.is_some() {
+            b"  ".as_slice()
+        } else {
+            b"   ".as_slice()
+        };
         push_access(line, used, cpu, gap)?;
     }
     Ok(())
@@ -235,7 +239,7 @@ fn put_lines<A: Allocator + Copy, N: Statements, W: ByteSink>(
     ensures marks { W.mark out.new ≡ fails_to_write result }
 {
     for index in 0..course.len() {
-        let came = coming(world.cpu());
+        let came = instruction_at(world.cpu());
         let seen = world.apply(course.event(index))?;
         put_line(alloc, &seen, &came, world.cpu(), statements, out)?;
         if !goes_on(course.ends_at_halt(), &seen) {

@@ -1,4 +1,4 @@
-use Rattle.std.proofs.Common.{rules, ◌≡◌, ◌+◌, ◌<◌, ◌≤◌, ◌∙◌, [], Some, true, false, refl, arith}
+use Rattle.std.proofs.Common.{rules, ◌≡◌, ◌+◌, ◌<◌, ◌≤◌, ◌∙◌, [], Some, None, true, false, refl, arith}
 use Rattle.peripherals.specs.declared.Event.TheVariants.{Step}
 use Rattle.peripherals.specs.declared.Seen.TheVariants.{NotEnabled, Changed, Ran, Halted, Unsupported}
 use Rattle.peripherals.specs.World.{view, profile_of}
@@ -175,10 +175,11 @@ visits_past-requires g c =
     let count : c.loop-event.visits + g.S.Scheduler.steps_to_come c.loop-event.schedule ≤ g.S.Scheduler.steps_to_come c.args.schedule.now = inv.visits in
     omega (arith, taken, few, count)
 
-pub returns-in-None-clause-ran : goal.returns-in-None-clause-ran
-returns-in-None-clause-ran g c =
+pub returns-in_default-visits_past-clause-ran : goal.returns-in_default-visits_past-clause-ran
+returns-in_default-visits_past-clause-ran g c =
     let inv = c.loop-event.invariant in
     let p = profile_of c.args.world.now in
     let next : IsNext g.S.Scheduler.brings c.loop-event.schedule c.next_event.new.self (view c.loop-event.world) c.in-Some.event = rw c.in-Some.is at c.in_ok-event.ensures.due in
-    let on : stops_before c.args.stops.now p c.loop-event.visits (view c.loop-event.world) c.in-Some.event ≡ true = rw (inv.profile, c.in-None.is) at c.visits_past.ensures.passes in
+    let none : c.visits_past.result ≡ None = search rules in
+    let on : stops_before c.args.stops.now p c.loop-event.visits (view c.loop-event.world) c.in-Some.event ≡ true = rw (inv.profile, none) at c.visits_past.ensures.passes in
     un_to_stop g.S.Scheduler.brings c.args.stops.now p c.args.trace c.args.schedule.now c.loop-event.schedule c.next_event.new.self c.in-Some.event (view c.args.world.now) (view c.loop-event.world) c.loop-event.steps c.loop-event.visits _ _ _ _ _ inv.un next on refl (search rules)

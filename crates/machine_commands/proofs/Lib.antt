@@ -19,3 +19,4 @@ pub mod DeclaredLemmas
 pub mod InterruptedLemmas
 pub mod LongTraceLemmas
 pub mod LastSessionLemmas
+pub mod StoppedWatchLemmas

@@ -14,6 +14,9 @@ use Rattle.machine_commands.specs.Stopping.{IsRunWithStops}
 pub some_none : (a : Option (List ℕ)) → WritesSome a a
 some_none a = record { text = []; wrote = Appends-nil a }
 
+pub some_one : (a b : Option (List ℕ)) (text : List ℕ) → Appends a b text → WritesSome a b
+some_one a b text wrote = record { text = text; wrote = wrote }
+
 pub some_more : (a b c : Option (List ℕ)) → WritesSome a b → WritesSome b c → WritesSome a c
 some_more a b c first second = record { text = first.text ++ second.text; wrote = Appends-trans a b c first.text second.text first.wrote second.wrote }
 

@@ -204,7 +204,7 @@ sat_none brings p trace s w old told empty = record {
   printed = rw empty (Appends-nil told);
 }
 
-came_next : (p : Profile) (trace : Bool) (es : List Event) (e : Event) (w x y : WorldState) (n : ℕ) (what : Seen) (old mid new : Option (List ℕ)) →
+pub came_next : (p : Profile) (trace : Bool) (es : List Event) (e : Event) (w x y : WorldState) (n : ℕ) (what : Seen) (old mid new : Option (List ℕ)) →
     Came p true trace es w n x old mid → seen_of p x e ≡ what → goes_on true what ≡ true → Happens p x e y → Appends mid new (traced trace (trace_of p x e y)) →
     Came p true trace (es ++ e ∷ []) w (n + counted what) y old new
 came_next p trace es e w x y n what old mid new came sees goes happens wrote = record {
@@ -213,12 +213,12 @@ came_next p trace es e w x y n what old mid new came sees goes happens wrote = r
   wrote = joined trace old mid new came.lines (trace_of p x e y) came.wrote wrote;
 }
 
-printed_next : (p : Profile) (x y : WorldState) (e : Event) (told mid tells : Option (List ℕ)) → Happens p x e y → Appends told mid (printed_in x) → Appends mid tells (printed_from x y) → Appends told tells (printed_in y)
+pub printed_next : (p : Profile) (x y : WorldState) (e : Event) (told mid tells : Option (List ℕ)) → Happens p x e y → Appends told mid (printed_in x) → Appends mid tells (printed_from x y) → Appends told tells (printed_in y)
 printed_next p x y e told mid tells happens before after =
     rw (printed_more p x y e happens) (Appends-trans told mid tells (printed_in x) (printed_from x y) before after)
 
 -- the event that is due comes after those before
-one_more : (es : List Event) (e : Event) (rest : List Event) → (es ++ e ∷ []) ++ rest ≡ es ++ (e ∷ rest)
+pub one_more : (es : List Event) (e : Event) (rest : List Event) → (es ++ e ∷ []) ++ rest ≡ es ++ (e ∷ rest)
 one_more es e rest = append_assoc es (e ∷ []) rest
 
 unfoldable pub sat_more : {S : Type 0} (brings : S → Profile → WorldState → Extent → List Event → Type 0) (p : Profile) (trace : Bool) (first now after : S) (e : Event) (w x y : WorldState) (n : ℕ) (what : Seen) (old mid new told tmid tells : Option (List ℕ)) →
@@ -244,7 +244,7 @@ sat_all brings p trace first now w x outcome old new told tells sat over ends = 
 }
 
 -- the run ends with the event that is due
-last_comes : {S : Type 0} (brings : S → Profile → WorldState → Extent → List Event → Type 0) (p : Profile) (s t : S) (x : WorldState) (e : Event) (what : Seen) (extent : Extent) → IsNext brings s t x e → what ≡ seen_of p x e → goes_on true what ≡ false → brings s p x extent (e ∷ [])
+pub last_comes : {S : Type 0} (brings : S → Profile → WorldState → Extent → List Event → Type 0) (p : Profile) (s t : S) (x : WorldState) (e : Event) (what : Seen) (extent : Extent) → IsNext brings s t x e → what ≡ seen_of p x e → goes_on true what ≡ false → brings s p x extent (e ∷ [])
 last_comes brings p s t x e what extent next sees ends = next.last p extent (rw (← sees) ends)
 
 unfoldable pub sat_to_halt : {S : Type 0} (brings : S → Profile → WorldState → Extent → List Event → Type 0) (p : Profile) (trace : Bool) (first now after : S) (e : Event) (w x y : WorldState) (n : ℕ) (outcome : RunOutcome) (old mid new told tmid tells : Option (List ℕ)) →
@@ -390,7 +390,7 @@ device_line p true false at word s = refl
 device_line p false true at word s = refl
 device_line p false false at word s = refl
 
-output_stays : (busy : Bool) (d : Writer) → (if busy then record d { busy = false; flag = true } else d).output ≡ d.output
+pub output_stays : (busy : Bool) (d : Writer) → (if busy then record d { busy = false; flag = true } else d).output ≡ d.output
 output_stays true d = refl
 output_stays false d = refl
 
@@ -398,7 +398,7 @@ abbrev pub printer_done : WorldState → WorldState
 printer_done w = with_devices w (record w.devices { printer = done w.devices.printer })
 
 -- such an event writes nothing, and prints nothing where the output stays
-device_came : (p : Profile) (trace : Bool) (es : List Event) (w x y : WorldState) (n : ℕ) (e : Event) (enabled : Bool) (old new : Option (List ℕ)) →
+pub device_came : (p : Profile) (trace : Bool) (es : List Event) (w x y : WorldState) (n : ℕ) (e : Event) (enabled : Bool) (old new : Option (List ℕ)) →
     Came p true trace es w n x old new → Happens p x e y → seen_of p x e ≡ device_seen enabled → Came p true trace (es ++ e ∷ []) w n y old new
 device_came p trace es w x y n e enabled old new came happens is =
     let none : Appends new new (traced trace (trace_of p x e y)) = rw (is, device_line p enabled trace x.state.pc (word_at_pc x) y.state) (Appends-nil new) in

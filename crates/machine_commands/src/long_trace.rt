@@ -204,6 +204,7 @@ fn line_of<A: Allocator, N: Statements>(
 }
 
 /// Writes the line of an instruction, if one was carried out.
+#[tactic(auto, using(crate::proofs::LongTraceLemmas::some_none, crate::proofs::LongTraceLemmas::some_one))]
 fn put_line<A: Allocator, N: Statements, W: ByteSink>(
     alloc: A,
     seen: &Seen,

@@ -9,8 +9,8 @@ use crate::outputs::{Destination, emptied_destination, kept_destination, no_inpu
 use crate::refused::{Misuse, Refused};
 use crate::shown::{Places, Stopping, shown_on, stopping_on};
 use crate::values::{
-    has_value, is_given, is_start_named, operand_of, profile_of, read_standard_input_once, run_options,
-    start_of,
+    has_value, is_given, is_start_named, operand_of, profile_of, read_standard_input_once,
+    run_options, start_of,
 };
 use clap::ArgMatches;
 use command_parts::options::RunOptions;

@@ -160,7 +160,16 @@ pub(crate) fn hold_session_on<R: Files + Input + Print + Eprint, S: ByteSource>(
     let answer = match &session.stopping {
         None => run_session(alloc, frames, &mut reader, &mut keys, options, form, out),
         Some(stopping) => {
-            follow_session(alloc, frames, &mut reader, &mut keys, options, stopping, form, out)
+            follow_session(
+                alloc,
+                frames,
+                &mut reader,
+                &mut keys,
+                options,
+                stopping,
+                form,
+                out,
+            )
         }
     };
     let failed = outputs.punch.failed();

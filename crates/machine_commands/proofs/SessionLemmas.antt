@@ -34,7 +34,7 @@ use Rattle.command_parts.specs.declared.status.Status.{Status}
 use Rattle.command_parts.specs.Faults.{IsBytesFault, fails_to_write}
 use Rattle.command_parts.specs.Inputs.{AreFirst, HasCome, HasImage, Input}
 use Rattle.machine_commands.specs.Running.{fresh, status_of}
-use Rattle.machine_commands.specs.Schedule.{Comes, Cut, Final, Then, Extent, Whole, UpToOutput, UpToRead, UpToAny, operating}
+use Rattle.machine_commands.specs.Schedule.{Comes, Cut, Due, Final, Then, Extent, ToStep, Whole, UpToOutput, UpToRead, UpToAny, operating}
 use Rattle.machine_commands.specs.Session.{AppendsSome, extent_after, extent_unread, summary_where, Operated, BrokeOff, FrontsOf, IsHeld, IsPartOfSession, IsSession, SessionFronts, WritesAll, character, comes_by, plan_for, printed_in, taken, Taken, Failures, failures}
 use Rattle.machine_commands.specs.SessionParts.{IsNext, IsPartOf, Played, Unplayed, Faltered, PlayedFront, events_left, has_stepped, place_of, printed_from, rank, steps_in}
 use Rattle.machine_commands.specs.Trace.{line_of, trace_of, traced}
@@ -553,7 +553,6 @@ operator_next old new w e is left next = record {
   on = λ p m extent es goes happens comes. Then (place_of old) w m e es is goes happens (rw (left, next) at comes);
   last = λ p extent ends. Final (place_of old) w e is ends;
   output = λ p puts. Cut (place_of old) w (record { event = e; is_due = is; puts = puts });
-  step = λ p steps. Cut (place_of old) w (rw steps at is);
 }
 
 -- the last event was an instruction
@@ -586,6 +585,12 @@ pub some_counts : (o : Option Event) (old new : Operator) (w : WorldState) → o
     IfSome o (λ e. steps_in e + new.rounds ≤ old.rounds)
 some_counts None old new w is left = tt
 some_counts (Some e) old new w is left = due_counts (plan_of old) (plan_of new) w old.last e (sym is) left
+
+-- a step that is due may be told as the last event
+pub some_to_step : (o : Option Event) (old : Operator) (w : WorldState) → o ≡ due (plan_of old) w old.last →
+    IfSome o (λ e. e ≡ Step → (p : Profile) → Comes operating p ToStep (place_of old) w (Step ∷ []))
+some_to_step None old w is = tt
+some_to_step (Some e) old w is = λ steps p. Due (place_of old) w (rw steps at (sym is)) tt
 
 pub some_stepped : (o : Option Event) (last : Option Event) → IfSome o (λ e. last ≡ Some e) → IfSome o (λ e. e ≡ Step → has_stepped last ≡ true)
 some_stepped None last is = tt

@@ -25,11 +25,11 @@ use Rattle.machine_commands.specs.declared.follow.RunOutcome.{RunOutcome}
 use Rattle.machine_commands.specs.Follows.{Follows, Ended, counted, end_of, goes_on}
 use Rattle.machine_commands.specs.Last.{told}
 use Rattle.machine_commands.specs.Running.{fresh, status_of}
-use Rattle.machine_commands.specs.Schedule.{Extent, UpToAny, UpToOutput, UpToRead, UpToStep, Whole}
+use Rattle.machine_commands.specs.Schedule.{Extent, UpToAny, UpToOutput, UpToRead, ToStep, Whole}
 use Rattle.machine_commands.specs.Session.{AppendsSome, BrokeOff, FrontsOf, Operated, WritesAll, extent_after, failures, printed_in, summary_where, taken}
 use Rattle.machine_commands.specs.SessionParts.{IsNext, IsPartOf, Played, PlayedFront, is_step, steps_in}
 use Rattle.machine_commands.specs.StoppedParts.{IsPartToStop, OperatedToStop, Passes, unstopped}
-use Rattle.machine_commands.specs.StoppedSession.{IsHeldToStop, StoppedSo, extent_to_stop, leaving}
+use Rattle.machine_commands.specs.StoppedSession.{IsHeldToStop, StoppedSo, extent_to_stop, leaving, to_stop}
 use Rattle.machine_commands.specs.Stops.{Ends, GoesOn, Here, Later, NeverStops, Over, StopsAfter, stops_before, visits_with}
 use Rattle.machine_commands.specs.Trace.{traced}
 use Rattle.machine_commands.proofs.FollowLemmas.{front_after}
@@ -153,18 +153,18 @@ un_completed brings stops p trace first now after w x n visits old new told_old 
 
 -- the step that is due stops the run
 pub un_to_stop : {S : Type 0} (brings : S → Profile → WorldState → Extent → List Event → Type 0) (stops : Stops) (p : Profile) (trace : Bool) (first now after : S) (e : Event) (w x : WorldState) (n visits : ℕ) (outcome : RunOutcome) (old new told_old told_new : Option (List ℕ)) →
-    Unstopped brings stops p trace first now w x n visits old new told_old told_new → IsNext brings now after x e → stops_before stops p visits x e ≡ true → outcome.steps ≡ n → outcome.end ≡ end.Stopped x.state.pc →
+    Unstopped brings stops p trace first now w x n visits old new told_old told_new → (e ≡ Step → (q : Profile) → brings now q x ToStep (Step ∷ [])) → stops_before stops p visits x e ≡ true → outcome.steps ≡ n → outcome.end ≡ end.Stopped x.state.pc →
     OperatedToStop (brings first p w) false stops p trace w outcome x old new told_old told_new
-un_to_stop brings stops p trace first now after e w x n visits outcome old new told_old told_new un next on steps ends =
+un_to_stop brings stops p trace first now after e w x n visits outcome old new told_old told_new un due on steps ends =
     let sat = un.sat in
     let step : e ≡ Step = stops_at_step stops p visits x e on in
-    let begins : brings now p x UpToStep [] = next.step p step in
+    let begins : brings now p x ToStep (Step ∷ []) = due step p in
     let on_step : stops_before stops p visits x Step ≡ true = rw step at on in
     let done : Follows p true (sat.events ++ []) w (sat.came.lines ++ []) (n + 0) (end_of x) x = sat.came.leads [] [] 0 (end_of x) x (Ended x) in
     record {
       events = sat.events;
       stopped = true;
-      come = λ extent. let all : brings first p w UpToStep (sat.events ++ []) = sat.come UpToStep [] begins in rw (append-nil sat.events) at all;
+      come = λ extent. sat.come ToStep (Step ∷ []) begins;
       stop = stopped_so stops p sat.events w visits x un.unmet on_step;
       lines = sat.came.lines;
       last = end_of x;
@@ -233,7 +233,6 @@ next_unstopped brings stops p now after x e visits next off = record {
   on = λ q m extent es goes happens comes. (next.on q m extent es goes happens comes.0, λ same. never_on stops p q visits e es x m off same goes happens (comes.1 same));
   last = λ q extent over. (next.last q extent over, λ same. never_last stops p q visits e x off same over);
   output = λ q puts. (next.output q puts, λ same. Over visits x);
-  step = λ q steps. (next.step q steps, λ same. Over visits x);
 }
 
 sat_unstopped : {S : Type 0} (brings : S → Profile → WorldState → Extent → List Event → Type 0) (stops : Stops) (p : Profile) (trace : Bool) (first now : S) (w x : WorldState) (n visits : ℕ) (old new told_old told_new : Option (List ℕ)) →
@@ -304,7 +303,7 @@ pub held_to_stop : (comes : Profile → WorldState → Extent → List Event →
 held_to_stop comes options stops form extent left image p w x outcome status old mid told_old told_new profile begins done is = record {
   events = done.events;
   stopped = done.stopped;
-  come = let come : comes p w (extent_to_stop done.stopped extent) done.events = done.come extent in rw (profile, begins) at come;
+  come = let come : comes p w (extent_to_stop done.stopped extent) (to_stop done.stopped done.events) = done.come extent in rw (profile, begins) at come;
   stop = let stop : StoppedSo stops p done.stopped done.events w = done.stop in rw (profile, begins) at stop;
   lines = done.lines;
   steps = outcome.steps;

@@ -20,7 +20,7 @@ use Rattle.machine_commands.specs.Schedule.{Comes, Extent, Whole, operating}
 use Rattle.machine_commands.specs.Session.{Failures, FrontsOf, Taken, WritesAll, comes_by, plan_for}
 use Rattle.machine_commands.specs.SessionParts.{place_of}
 use Rattle.machine_commands.specs.StoppedParts.{IsPartToStop}
-use Rattle.machine_commands.specs.StoppedSession.{IsHeldToStop, IsPartOfTypedToStop, IsSessionToStop, IsTypedToStop, NothingOrStoppedFronts, StoppedTypedFronts, extent_to_stop}
+use Rattle.machine_commands.specs.StoppedSession.{IsHeldToStop, IsPartOfTypedToStop, IsSessionToStop, IsTypedToStop, NothingOrStoppedFronts, StoppedTypedFronts, extent_to_stop, to_stop}
 use Rattle.machine_commands.specs.Teletype.{run_of}
 use Rattle.machine_commands.specs.TypingParts.{Source}
 use Rattle.machine_commands.proofs.SessionLemmas.{fronts_by, operator_comes, writes_by}
@@ -33,7 +33,7 @@ held_stop_by : (comes brings : Profile → WorldState → Extent → List Event 
 held_stop_by comes brings options stops form extent left image text printed punched status by held = record {
   events = held.events;
   stopped = held.stopped;
-  come = by options.profile (fresh image options.start) (extent_to_stop held.stopped extent) held.events held.come;
+  come = by options.profile (fresh image options.start) (extent_to_stop held.stopped extent) (to_stop held.stopped held.events) held.come;
   stop = held.stop;
   lines = held.lines;
   steps = held.steps;
@@ -105,7 +105,7 @@ typed_stop_held options stops form extent left tape reader keys image status tex
       session = record {
         events = held.events;
         stopped = held.stopped;
-        come = begun_comes options reader keys _ _ (extent_to_stop held.stopped extent) held.events come;
+        come = begun_comes options reader keys _ _ (extent_to_stop held.stopped extent) (to_stop held.stopped held.events) come;
         stop = held.stop;
         lines = held.lines;
         steps = held.steps;

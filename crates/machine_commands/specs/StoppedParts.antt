@@ -14,7 +14,7 @@ use Rattle.machine_commands.specs.Follows.{Follows}
 use Rattle.machine_commands.specs.Last.{told}
 use Rattle.machine_commands.specs.Schedule.{Extent, Whole}
 use Rattle.machine_commands.specs.Session.{extent_unread, printed_in}
-use Rattle.machine_commands.specs.StoppedSession.{IsHeldToStop, StoppedSo, extent_to_stop, leaving}
+use Rattle.machine_commands.specs.StoppedSession.{IsHeldToStop, StoppedSo, extent_to_stop, leaving, to_stop}
 use Rattle.machine_commands.specs.Stops.{NeverStops, stops_before, visits_with}
 use Rattle.machine_commands.specs.Trace.{traced}
 
@@ -27,7 +27,7 @@ Passes stops profile visits w e (Some more) = (stops_before stops profile visits
 pub record OperatedToStop (comes : Extent → List Event → Type 0) (left : Bool) (stops : Stops) (profile : Profile) (trace : Bool) (w : WorldState) (outcome : RunOutcome) (x : WorldState) (old new told_old told_new : Option (List ℕ)) : Type 0 where
   pub events : List Event
   pub stopped : Bool
-  pub come : (extent : Extent) → comes (extent_to_stop stopped extent) events
+  pub come : (extent : Extent) → comes (extent_to_stop stopped extent) (to_stop stopped events)
   pub stop : StoppedSo stops profile stopped events w
   pub lines : List ℕ
   pub last : End

@@ -17,7 +17,7 @@ use Rattle.machine_commands.specs.declared.follow.End.TheVariants as end
 use Rattle.machine_commands.specs.Follows.{Follows}
 use Rattle.machine_commands.specs.Last.{told}
 use Rattle.machine_commands.specs.Running.{fresh, status_of}
-use Rattle.machine_commands.specs.Schedule.{Extent, UpToOutput, UpToStep, Whole}
+use Rattle.machine_commands.specs.Schedule.{Extent, UpToOutput, ToStep, Whole}
 use Rattle.machine_commands.specs.Session.{Failures, FrontsOf, Taken, comes_by, extent_unread, plan_for, printed_in, summary_where}
 use Rattle.machine_commands.specs.Stops.{NeverStops, StopsAfter}
 use Rattle.machine_commands.specs.Teletype.{AreAll, run_of, types_by}
@@ -28,23 +28,28 @@ abbrev pub StoppedSo : Stops → Profile → Bool → List Event → WorldState 
 StoppedSo stops profile true events w = StopsAfter stops profile true 0 (events ++ Step ∷ []) w (length events)
 StoppedSo stops profile false events w = NeverStops stops profile true 0 events w
 
--- How much is told of the run without stops: what comes up to a step, where the run is stopped there.
+-- How much is told of the run without stops: what comes up to a step, and that step, where the run is stopped before it.
 abbrev pub extent_to_stop : Bool → Extent → Extent
-extent_to_stop true extent = UpToStep
+extent_to_stop true extent = ToStep
 extent_to_stop false extent = extent
+
+-- What is told of the run without stops: behind these events the step before which the run is stopped, if it is.
+abbrev pub to_stop : Bool → List Event → List Event
+to_stop true events = events ++ Step ∷ []
+to_stop false events = events
 
 -- How a run is said to have ended: where the program counter is, if a key interrupted it, and else as it ended.
 abbrev pub leaving : Bool → End → WorldState → End
 leaving true last x = end.Interrupted x.state.pc
 leaving false last x = last
 
--- From an image the events that come, up to the step before which the run is stopped if it is, lead to an end. The text is the trace, if
+-- From an image the events that come, up to the step before which the run is stopped if it is, and which is due then, lead to an end. The text is the trace, if
 -- one is asked for, the summary, and the cells to be shown, each with its word in the world in which the run ended; and these are the
 -- characters printed and the bytes punched. Where the run isn't told whole, this is what its first events leave.
 pub record IsHeldToStop (comes : Profile → WorldState → Extent → List Event → Type 0) (options : RunOptions) (stops : Stops) (form : SummaryForm) (extent : Extent) (left : Bool) (image : List (Option ℕ)) (text printed punched : List ℕ) (status : Status) : Type 0 where
   pub events : List Event
   pub stopped : Bool
-  pub come : comes options.profile (fresh image options.start) (extent_to_stop stopped extent) events
+  pub come : comes options.profile (fresh image options.start) (extent_to_stop stopped extent) (to_stop stopped events)
   pub stop : StoppedSo stops options.profile stopped events (fresh image options.start)
   pub lines : List ℕ
   pub steps : ℕ

@@ -1,8 +1,9 @@
-use Rattle.std.proofs.Common.{rules, ◌≡◌, ◌+◌, ◌<◌, ◌≤◌, ◌∙◌, [], Some, None, true, false, refl, arith}
+use Rattle.std.proofs.Common.{rules, ◌≡◌, ◌+◌, ◌<◌, ◌≤◌, ◌∙◌, [], ◌∷◌, Some, None, true, false, refl, arith}
+use Rattle.instruct.specs.declared.Profile.{Profile}
 use Rattle.peripherals.specs.declared.Event.TheVariants.{Step}
 use Rattle.peripherals.specs.declared.Seen.TheVariants.{NotEnabled, Changed, Ran, Halted, Unsupported}
 use Rattle.peripherals.specs.World.{view, profile_of}
-use Rattle.machine_commands.specs.Schedule.{Extent, UpToRead}
+use Rattle.machine_commands.specs.Schedule.{Extent, ToStep, UpToRead}
 use Rattle.machine_commands.specs.SessionParts.{IsNext, Played, PlayedFront, steps_in}
 use Rattle.machine_commands.specs.StoppedParts.{Passes}
 use Rattle.machine_commands.specs.Stops.{stops_before, visits_with}
@@ -179,7 +180,7 @@ pub returns-in_default-visits_past-clause-ran : goal.returns-in_default-visits_p
 returns-in_default-visits_past-clause-ran g c =
     let inv = c.loop-event.invariant in
     let p = profile_of c.args.world.now in
-    let next : IsNext g.S.Scheduler.brings c.loop-event.schedule c.next_event.new.self (view c.loop-event.world) c.in-Some.event = rw c.in-Some.is at c.in_ok-event.ensures.due in
+    let due : c.in-Some.event ≡ Step → (q : Profile) → g.S.Scheduler.brings c.loop-event.schedule q (view c.loop-event.world) ToStep (Step ∷ []) = rw c.in-Some.is at c.in_ok-event.ensures.to_step in
     let none : c.visits_past.result ≡ None = search rules in
     let on : stops_before c.args.stops.now p c.loop-event.visits (view c.loop-event.world) c.in-Some.event ≡ true = rw (inv.profile, none) at c.visits_past.ensures.passes in
-    un_to_stop g.S.Scheduler.brings c.args.stops.now p c.args.trace c.args.schedule.now c.loop-event.schedule c.next_event.new.self c.in-Some.event (view c.args.world.now) (view c.loop-event.world) c.loop-event.steps c.loop-event.visits _ _ _ _ _ inv.un next on refl (search rules)
+    un_to_stop g.S.Scheduler.brings c.args.stops.now p c.args.trace c.args.schedule.now c.loop-event.schedule c.next_event.new.self c.in-Some.event (view c.args.world.now) (view c.loop-event.world) c.loop-event.steps c.loop-event.visits _ _ _ _ _ inv.un due on refl (search rules)

@@ -10,7 +10,7 @@ use Rattle.machine_commands.specs.Follows.{rounds}
 use Rattle.machine_commands.specs.Stopping.{IsRunWithStops}
 
 -- Some text was appended.
-pub record WritesSome (old new : Option (List ℕ)) : Type 0 where
+pub record Appended (old new : Option (List ℕ)) : Type 0 where
   pub text : List ℕ
   pub wrote : Appends old new text
 

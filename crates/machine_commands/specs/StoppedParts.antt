@@ -41,7 +41,7 @@ abbrev pub unstopped : Stops → (Profile → WorldState → Extent → List Eve
 unstopped stops comes profile w extent events = comes profile w extent events × NeverStops stops profile true 0 events w
 
 -- What the events that come up to where the run is stopped, or the first of them, leave; all of them with the summary, where the report
--- failed.
+-- failed. It may be told as interrupted only where the key was struck.
 pub record IsPartToStop (comes : Profile → WorldState → Extent → List Event → Type 0) (options : RunOptions) (stops : Stops) (form : SummaryForm) (left reported typed unread : Bool) (image : List (Option ℕ)) (extent : Extent) (text printed punched : List ℕ) : Type 0 where
   pub summed : extent ≡ Whole → reported ≡ true
   pub to_there : (reported || typed) ≡ false → extent ≡ extent_unread unread

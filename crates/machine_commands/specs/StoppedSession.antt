@@ -98,7 +98,7 @@ pub record IsTypedToStop (options : TeletypeOptions) (stops : Stops) (form : Sum
 
 -- What a session that has a fault may be about to write, to print and to punch. The summary, which a whole session alone has, is written
 -- last. Where neither the report nor the teletype failed, the session came to where a frame or a key was read, if that read failed, or
--- else to its end or to an event that prints or punches.
+-- else to its end or to an event that prints or punches. It may be told as interrupted only where the key was struck.
 pub record IsPartOfTypedToStop (options : TeletypeOptions) (stops : Stops) (form : SummaryForm) (left reported typed unread : Bool) (tape reader keys : Option (List ℕ)) (extent : Extent) (text printed punched : List ℕ) : Type 0 where
   pub summed : extent ≡ Whole → reported ≡ true
   pub to_there : (reported || typed) ≡ false → extent ≡ extent_unread unread

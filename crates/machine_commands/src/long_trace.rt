@@ -5,7 +5,7 @@ ghost use Rattle.command_parts.specs.Faults.{fails_to_read, fails_to_write, is_f
 ghost use Rattle.command_parts.specs.Inputs.{TakesAtMost, TakesTape, input};
 ghost use Rattle.command_parts.specs.Writes.{Writes};
 ghost use Rattle.machine_commands.specs.Course.{ends_at_halt, events_in};
-ghost use Rattle.machine_commands.specs.LongTrace.{IsEventRunBehind, IsRoundRunBehind, IsRunBehind, WritesSome};
+ghost use Rattle.machine_commands.specs.LongTrace.{IsEventRunBehind, IsRoundRunBehind, IsRunBehind, Appended};
 
 use crate::follow::Course;
 use crate::last::cut_of;
@@ -214,7 +214,7 @@ fn put_line<A: Allocator, N: Statements, W: ByteSink>(
     out: &mut W,
 ) -> Result<(), Fault>
     requires { W.mark out.old ≡ false }
-    ensures wrote { OnOk result (WritesSome (W.taken out.old) (W.taken out.new)) }
+    ensures wrote { OnOk result (Appended (W.taken out.old) (W.taken out.new)) }
     ensures faults { IfErr result IsRunFault }
     ensures marks { W.mark out.new ≡ fails_to_write result }
 {
@@ -235,7 +235,7 @@ fn put_lines<A: Allocator + Copy, N: Statements, W: ByteSink>(
     out: &mut W,
 ) -> Result<(), Fault>
     requires { W.mark out.old ≡ false }
-    ensures wrote { OnOk result (WritesSome (W.taken out.old) (W.taken out.new)) }
+    ensures wrote { OnOk result (Appended (W.taken out.old) (W.taken out.new)) }
     ensures faults { IfErr result IsRunFault }
     ensures marks { W.mark out.new ≡ fails_to_write result }
 {

@@ -80,7 +80,7 @@ impl Statements for Named {
     }
 }
 
-/// A cell that an instruction reads, or reads and writes, and its word before.
+/// A cell that an instruction uses, its word before, and whether it is written.
 #[derive(Clone, Copy)]
 struct Access {
     cell: Word,
@@ -142,7 +142,7 @@ fn instruction_at(cpu: &Cpu) -> Coming {
     }
 }
 
-/// Adds the words of a cell that an instruction used, behind so many spaces.
+/// Adds the words of a cell that an instruction used, behind a gap.
 fn push_access<A: Allocator>(
     line: &mut Vec<u8, A>,
     used: Access,

@@ -115,10 +115,19 @@ fn push_declaration<A: Allocator>(
             )
             .map_err(|_| NoMemory)
         }
+        DeclarationFault::Misplaced(at) => {
+            let name = file.name;
+            let cell = at.value();
+            writeln!(
+                text,
+                "{name}: {cell:04o} is named where it may not be: `skips`, `moves` and `returns` name entries, `abandon` names cells of main, and `holds` names cells of bodies"
+            )
+            .map_err(|_| NoMemory)
+        }
         DeclarationFault::TooMany => push_said(
             text,
             file,
-            "it has more than 64 `sub` lines or more than 16384 bytes",
+            "it has more than 64 `sub` lines, 64 `skips` lines or 256 `holds` and `returns` lines, or more than 16384 bytes",
         ),
         DeclarationFault::NoMemory => Ok(()),
     }

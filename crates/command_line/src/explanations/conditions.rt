@@ -3,7 +3,7 @@
 use crate::explanations::{Explanation, Subject};
 
 /// What is said about each of them, in the order of the pages.
-static CONDITIONS: [Explanation; 15] = [
+static CONDITIONS: [Explanation; 16] = [
     Explanation {
         code: "V1",
         subject: Subject::Asked("the fact at the start holds for every start"),
@@ -93,6 +93,12 @@ static CONDITIONS: [Explanation; 15] = [
         subject: Subject::Asked("what may be read is listed"),
         meaning: "each cell that a word may read is on the list of reads or is the\nroutine's entry",
         advice: "List the cell, as in `read 0212`, or leave out all `read` lines:\nthen any cell may be read. Bound a pointer as for V5.",
+    },
+    Explanation {
+        code: "V16",
+        subject: Subject::Asked("what is declared to hold holds"),
+        meaning: "what is declared to hold here, or when the routine of this entry returns,\nholds",
+        advice: "Each word that the fact leaves to AC, the link, MQ or the cell must\nbe one that the `holds` line names. If it is so in each run, say it in the\ncertificate too, by a relation or by a fact for each case; else name more words.\nFor a `returns` line the same is asked of the exit lines of the routine.",
     },
 ];
 

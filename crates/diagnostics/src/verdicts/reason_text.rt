@@ -8,12 +8,13 @@ ghost use Rattle.domain.specs.InCode.{sum_of, summand_of, term_of};
 ghost use Rattle.command_parts.specs.Dumping.{dump_line};
 ghost use Rattle.command_parts.specs.LinkText.{link_text};
 ghost use Rattle.diagnostics.specs.CheckText.{condition_text};
-ghost use Rattle.diagnostics.specs.WhyText.{added_text, around, around_number, asked_by, asked_text, breach_text, call_text, coefficient_text, difference_may_be, equation_text, exit_text, from_one, further_text, gap_text, is_minus, is_without_fact, landing_text, left_text, mark_text, marks_text, more_text, name_may_hold, name_text, reason_line, reason_text, return_text, returned_text, start_text, sum_is, sum_may_be, sum_text, summand_text, sums_asked_text, term_text, told_mark, too_high_text, which_text, why_text, with_link_text, word_shown, word_told};
+ghost use Rattle.diagnostics.specs.WhyText.{added_text, differing_text, exit_named, subject_text, around, around_number, asked_by, asked_text, breach_text, call_text, coefficient_text, difference_may_be, equation_text, exit_text, from_one, further_text, gap_text, is_minus, is_without_fact, landing_text, left_text, mark_text, marks_text, more_text, name_may_hold, name_text, reason_line, reason_text, return_text, returned_text, start_text, sum_is, sum_may_be, sum_text, summand_text, sums_asked_text, term_text, told_mark, too_high_text, which_text, why_text, with_link_text, word_shown, word_told};
 
 use crate::verdicts::telling::{Mark, Telling};
 use crate::verdicts::verdict::condition_name;
 use bin_tape::Image;
 use command_parts::message::{Lines, push_text_and_address, push_text_and_word};
+use declaration::Subject;
 use domain::{Location, Rules, Sum, Summand, Term, negated};
 use instruct::Profile;
 use itoa::Buffer;
@@ -51,6 +52,8 @@ fn asked(condition: Condition) -> &'static [u8]
             b"no word writes an entry, except that a JMS stores its return address there and an ISZ may increment the routine's own",
         Condition::V15 =>
             b"each cell that a word may read is on the list of reads or is the routine's entry",
+        Condition::V16 =>
+            b"what is declared to hold here, or when the routine of this entry returns, holds",
     }
 }
 
@@ -76,6 +79,7 @@ fn sums_asked(condition: Condition) -> &'static [u8]
         Condition::V13 => asked(Condition::V13),
         Condition::V14 => asked(Condition::V14),
         Condition::V15 => asked(Condition::V15),
+        Condition::V16 => asked(Condition::V16),
     }
 }
 
@@ -716,6 +720,35 @@ fn push_write<L: Lines>(text: &mut L, cell: Word, wrong: &[u8]) -> Result<(), Al
     push_around(text, b"it may write ", cell, wrong)
 }
 
+/// Adds of what an assertion speaks.
+fn push_subject<L: Lines>(text: &mut L, subject: &Subject) -> Result<(), AllocError>
+    ensures { OnOk result (L.text text.new ≡ L.text text.old ++ subject_text subject.now) }
+{
+    match subject {
+        Subject::Accumulator => text.push_text(b"AC"),
+        Subject::Link => text.push_text(b"the link"),
+        Subject::Mq => text.push_text(b"MQ"),
+        Subject::Cell(cell) => text.push_address(*cell),
+    }
+}
+
+/// Adds that the subject of an assertion may have a word that a line of this name excludes.
+fn push_differing<L: Lines>(
+    text: &mut L,
+    subject: &Subject,
+    word: Word,
+    line: &[u8],
+) -> Result<(), AllocError>
+    ensures { OnOk result (L.text text.new ≡
+        L.text text.old ++ differing_text subject.now word line.now) }
+{
+    push_subject(text, subject)?;
+    push_text_and_word(text, b" may be ", word)?;
+    text.push_text(b", which a `")?;
+    text.push_text(line)?;
+    text.push_text(b"` line excludes")
+}
+
 /// Adds what a word violates.
 fn push_breach<L: Lines>(text: &mut L, rules: &Rules, breach: &Breach) -> Result<(), AllocError>
     ensures { OnOk result (L.text text.new ≡ L.text text.old ++ breach_text rules.now breach.now) }
@@ -749,6 +782,7 @@ fn push_breach<L: Lines>(text: &mut L, rules: &Rules, breach: &Breach) -> Result
             *cell,
             b", which is not on the list of reads",
         ),
+        Breach::MayDiffer(subject, word) => push_differing(text, subject, *word, b"holds"),
     }
 }
 
@@ -861,6 +895,26 @@ fn push_which<L: Lines>(
     push_several(text, telling, *index)
 }
 
+/// Adds by which offset a routine returns, and by the rules of sums by which of its exit lines.
+fn push_exit_named<L: Lines>(
+    text: &mut L,
+    rules: &Rules,
+    offset: usize,
+    index: usize,
+) -> Result<(), AllocError>
+    ensures { OnOk result (L.text text.new ≡ L.text text.old ++ exit_named rules.now offset index) }
+{
+    match rules {
+        Rules::OfEquations => {
+            push_around_number(text, b"when it returns with offset ", offset, b", ")
+        }
+        Rules::OfSums => {
+            push_around_number(text, b"when it returns with offset ", offset, b" by exit ")?;
+            push_around_number(text, b"", index.saturating_add(1), b", ")
+        }
+    }
+}
+
 /// Adds why a condition fails.
 fn push_reason<L: Lines>(text: &mut L, rules: &Rules, reason: &Reason) -> Result<(), AllocError>
     ensures { OnOk result (L.text text.new ≡ L.text text.old ++ reason_text rules.now reason.now) }
@@ -902,6 +956,10 @@ fn push_reason<L: Lines>(text: &mut L, rules: &Rules, reason: &Reason) -> Result
             push_around_number(text, b"", *count, b" words are possible")
         }
         Reason::ByWord(_, _, breach) => push_breach(text, rules, breach),
+        Reason::ExitMayDiffer(offset, index, subject, word) => {
+            push_exit_named(text, rules, *offset, *index)?;
+            push_differing(text, subject, *word, b"returns")
+        }
     }
 }
 

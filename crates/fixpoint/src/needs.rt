@@ -274,7 +274,7 @@ impl<A: Allocator> Needs<A> {
         entry: Word,
     ) -> WordSet {
         let mut cells = WordSet::empty();
-        for offset in 0..8usize {
+        for offset in 0..64usize {
             let more = Word::from_index(offset);
             if program.declaration.has_offset(entry, more) {
                 cells = cells.union(&self.at(at.increment().add(more)));

@@ -389,6 +389,16 @@ impl<D: Allocator> AnalysedProgram<'_, D> {
             .put_outcomes(&visit.fact, visit.at, word, outcomes);
     }
 
+    /// The addresses for which a routine abandons all open calls by a word: where it is not main and the word is a JMP they
+    /// are the declared ones, and else there are none.
+    pub(crate) fn abandoned_by(&self, visit: &Visit, word: Word) -> WordSet {
+        match &visit.body {
+            Body::Main => WordSet::empty(),
+            Body::Of(_) if word.index() / 0o1000 == 5 => *self.declaration.abandons(),
+            Body::Of(_) => WordSet::empty(),
+        }
+    }
+
     /// The entry through which a word returns: that of a JMP I through one.
     pub(crate) fn returned_entry(&self, visit: &Visit, word: Word) -> Option<Word> {
         if word.index() / 0o1000 != 5 || !refers_indirectly(word) {

@@ -131,7 +131,7 @@ impl<A: Allocator + Copy> SumSearch<A> {
         let Some(offset) = kept.case.offset else {
             return Ok(());
         };
-        let to = at.increment().add(Word::from_index(offset.min(7)));
+        let to = at.increment().add(Word::from_index(offset.min(63)));
         if !kept.sites.contains(at) || !program.has(&place.routine, to) {
             return Ok(());
         }
@@ -160,7 +160,7 @@ impl<A: Allocator + Copy> SumSearch<A> {
         if place.returned_entry(at, word) != Some(entry) {
             return Ok(());
         }
-        for offset in 0..8usize {
+        for offset in 0..64usize {
             let more = Word::from_index(offset);
             if room.calls.fact.offsets().contains(offset)
                 && program.base.declaration.has_offset(entry, more)

@@ -565,7 +565,10 @@ fn routine_with(routines: &[Routine], at: Word) -> Option<Owner>
 }
 
 /// The declaration of a text that isn't too long.
-fn parse_lines<A: Allocator + Copy>(alloc: A, text: &[u8]) -> Result<Declaration<A>, DeclarationFault>
+fn parse_lines<A: Allocator + Copy>(
+    alloc: A,
+    text: &[u8],
+) -> Result<Declaration<A>, DeclarationFault>
     requires { length text.now ≤ most_bytes }
     ensures found { IfOk result (λ d. Declares text.now (meaning d)) }
     ensures declared { IfOk result (λ d. IsDeclared (meaning d)) }

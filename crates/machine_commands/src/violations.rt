@@ -396,7 +396,9 @@ fn push_subject<L: Lines>(text: &mut L, cpu: &Cpu, subject: &Subject) -> Result<
 
 /// Whether what is asserted is not so.
 fn is_denied(cpu: &Cpu, assertion: &Assertion) -> bool {
-    !assertion.words().contains(word_of(cpu, assertion.subject()))
+    !assertion
+        .words()
+        .contains(word_of(cpu, assertion.subject()))
 }
 
 /// Adds the line of the first thing that is declared to hold at the address and does not.

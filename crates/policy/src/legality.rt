@@ -304,7 +304,9 @@ fn bit_of(link: Link) -> Word
 fn is_so(assertion: &Assertion, cpu: &Cpu) -> bool
     ensures { result ≡ is_so (assertion_of assertion.now) (state_of cpu.now) }
 {
-    assertion.words().contains(word_of(assertion.subject(), cpu))
+    assertion
+        .words()
+        .contains(word_of(assertion.subject(), cpu))
 }
 
 /// Whether what is to hold at the program counter is so.
@@ -326,7 +328,9 @@ fn each_holds_by(returns: &[Returning], entry: Word, offset: Word, cpu: &Cpu) ->
     ensures { result
         ≡ each_holds_by (map returning_of returns.now) entry offset (state_of cpu.now) }
 {
-    returns.iter().all(|returning| holds_by(returning, entry, offset, cpu))
+    returns
+        .iter()
+        .all(|returning| holds_by(returning, entry, offset, cpu))
 }
 
 /// The same of one assertion.

@@ -149,7 +149,13 @@ impl<A: Allocator + Copy> SumSearch<A> {
         let mut addresses = WordSet::empty();
         outcome.targets.put(&mut addresses);
         let fact = &mut outcome.fact;
-        self.land_at_each(program, &place.routine, &addresses.minus(beyond), fact, rooms)?;
+        self.land_at_each(
+            program,
+            &place.routine,
+            &addresses.minus(beyond),
+            fact,
+            rooms,
+        )?;
         fact.set_sites(&WordSet::empty());
         fact.set_offsets(ReturnOffsets::none());
         self.land_at_each(program, &None, &addresses.meet(beyond), fact, rooms)

@@ -1,6 +1,6 @@
 //! What is declared to hold, by a fact.
 
-ghost use Rattle.std.specs.Prelude.{◌≡◌, ◌==◌, ◌&&◌, ◌↔◌, IfNone, IfSome, IsTrue, map};
+ghost use Rattle.std.specs.Prelude.{◌≡◌, ◌↔◌, true, IfNone, IfSome, IsTrue, map};
 ghost use Rattle.wordset.specs.Words.{SameWords};
 ghost use Rattle.wordset.specs.Lanes.{words};
 ghost use Rattle.wordset.specs.Links.{links_of};
@@ -73,7 +73,26 @@ impl<A: Allocator> Place<'_, A> {
         ensures { IsTrue result ↔ IsAsserted (place_in_code self.now) (fact_in_code fact.now)
             (assertion_of assertion.now) }
     {
-        self.denied_word(fact, assertion).is_none()
+        match self.denied_word(fact, assertion) {
+            None => true,
+            Some(_) => false,
+        }
+    }
+
+    /// Whether by a fact at an address it is so what is to hold at some places, if the address is one of them.
+    fn is_held<const C: usize, const R: usize>(
+        &self,
+        fact: &SumFact<C, R>,
+        at: Word,
+        holding: &Holding,
+    ) -> bool
+        ensures { let h = holding_of holding.now in IsTrue result ↔ (h.places at ≡ true →
+            IsAsserted (place_in_code self.now) (fact_in_code fact.now) h.assertion) }
+    {
+        if !holding.places().contains(at) {
+            return true;
+        }
+        self.is_asserted(fact, holding.assertion())
     }
 
     /// Whether by a fact at an address all is so that is to hold there, of some that is to hold.
@@ -87,7 +106,7 @@ impl<A: Allocator> Place<'_, A> {
             (map holding_of holds.now) }
     {
         for holding in holds {
-            if holding.places().contains(at) && !self.is_asserted(fact, holding.assertion()) {
+            if !self.is_held(fact, at, holding) {
                 return false;
             }
         }
@@ -106,11 +125,24 @@ impl<A: Allocator> Place<'_, A> {
         self.each_is_held(fact, at, self.declaration.holds())
     }
 
-    /// Whether an assertion is on returns of a routine by an offset.
-    fn is_on_return(&self, returning: &Returning, entry: Word, offset: Word) -> bool
-        ensures { result ≡ ((returning_of returning.now).entry == entry && (returning_of returning.now).offsets offset) }
+    /// Whether by an exit of a routine for an offset it is so what is to hold at some returns, if this is one of them.
+    fn is_held_by<const C: usize, const R: usize>(
+        &self,
+        exit: &SumFact<C, R>,
+        entry: Word,
+        offset: Word,
+        returning: &Returning,
+    ) -> bool
+        ensures { let r = returning_of returning.now in IsTrue result ↔ (r.entry ≡ entry → r.offsets offset ≡ true →
+            IsAsserted (place_in_code self.now) (fact_in_code exit.now) r.assertion) }
     {
-        returning.entry() == entry && returning.offsets().contains(offset)
+        if returning.entry() != entry {
+            return true;
+        }
+        if !returning.offsets().contains(offset) {
+            return true;
+        }
+        self.is_asserted(exit, returning.assertion())
     }
 
     /// Whether by an exit of a routine for an offset all is so that is to hold then, of some that is to hold.
@@ -125,9 +157,7 @@ impl<A: Allocator> Place<'_, A> {
             (map returning_of returns.now) }
     {
         for returning in returns {
-            if self.is_on_return(returning, entry, offset)
-                && !self.is_asserted(exit, returning.assertion())
-            {
+            if !self.is_held_by(exit, entry, offset, returning) {
                 return false;
             }
         }

@@ -1,13 +1,40 @@
 -- What is to hold, line by line.
-use Rattle.std.proofs.Common.{◌≡◌, ℕ, ◌+◌, ◌<◌, ◌≤◌, ◌==◌, Bool, true, false, ◌&&◌, ◌||◌, List, [], ◌∷◌, map, drop, get_or, length, refl, sym, ap, ◌∙◌, subst, arith}
+use Rattle.std.proofs.Common.{◌≡◌, ℕ, ◌+◌, ◌<◌, ◌≤◌, ◌==◌, Bool, true, false, ◌&&◌, ◌||◌, List, [], ◌∷◌, map, drop, get_or, length, refl, sym, ap, ◌∙◌, subst, suc, arith}
 use Rattle.std.specs.Prelude.{Option, None, Some, IfNone, IfSome, IsTrue, ◌↔◌, MatchOption, not}
 use Rattle.std.proofs.lemmas.Bool.{false≢true, true≢false}
-use Rattle.wordset.specs.Words.{Words, IsWithin, SameWords, IsFirstFrom, HasNoneFrom, difference}
+use Rattle.wordset.specs.Words.{Words, IsWithin, SameWords, IsFirstFrom, HasNoneFrom, difference, union}
 use Rattle.domain.specs.Facts.{Fact, Place}
 use Rattle.declaration.specs.Declaration.{Assertion, Holding, Returning}
 use Rattle.std.proofs.Math.ListN.{drop_of_length-le}
 use Rattle.facts.proofs.EntailLemmas.{drop_item}
-use Rattle.facts.specs.Conditions.{may_be, IsAsserted, IsDenied, EachIsHeld, EachIsHeldBy}
+use Rattle.facts.specs.Conditions.{link_words, may_be, IsAsserted, IsDenied, EachIsHeld, EachIsHeldBy}
+
+-- ---- links as words
+
+of_first : (a b : Bool) → ((a && true) || (b && false)) ≡ a
+of_first true b = refl
+of_first false true = refl
+of_first false false = refl
+
+of_second : (a b : Bool) → ((a && false) || (b && true)) ≡ b
+of_second true true = refl
+of_second true false = refl
+of_second false true = refl
+of_second false false = refl
+
+of_neither : (a b : Bool) → ((a && false) || (b && false)) ≡ false
+of_neither true true = refl
+of_neither true false = refl
+of_neither false true = refl
+of_neither false false = refl
+
+links_are : (links : Words) (v : ℕ) → ((links 0 && (v == 0)) || (links 1 && (v == 1))) ≡ link_words links v
+links_are links 0 = of_first (links 0) (links 1)
+links_are links 1 = of_second (links 0) (links 1)
+links_are links (suc (suc v)) = of_neither (links 0) (links 1)
+
+pub link_set : (links clear set both : Words) (a b : Bool) → both ≡ union clear set → clear ≡ (λ v. a && (v == 0)) → set ≡ (λ v. b && (v == 1)) → a ≡ links 0 → b ≡ links 1 → SameWords both (link_words links)
+link_set links clear set both a b is is_clear is_set first second v lt = rw (is, is_clear, is_set, first, second) (links_are links v)
 
 -- ---- one word that is denied
 

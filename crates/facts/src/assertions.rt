@@ -1,6 +1,6 @@
 //! What is declared to hold, by a fact.
 
-ghost use Rattle.std.specs.Prelude.{◌≡◌, ◌↔◌, true, IfNone, IfSome, IsTrue, map};
+ghost use Rattle.std.specs.Prelude.{◌≡◌, ◌==◌, ◌&&◌, ◌↔◌, true, IfNone, IfSome, IsTrue, map};
 ghost use Rattle.wordset.specs.Words.{SameWords};
 ghost use Rattle.wordset.specs.Lanes.{words};
 ghost use Rattle.wordset.specs.Links.{links_of};
@@ -16,17 +16,24 @@ use std::alloc::Allocator;
 use word12::{Link, Word};
 use wordset::{Links, WordSet};
 
-/// Lets a set be some links as words.
-fn put_link_words(links: Links, place: &mut WordSet)
-    ensures { SameWords (words place.new) (link_words (links_of links)) }
+/// The set of one word, if it is to have it, and else of none.
+fn one_if(has: bool, word: Word) -> WordSet
+    ensures { words result ≡ (λ v. has && (v == word)) }
 {
-    *place = WordSet::empty();
-    if links.contains(Link::CLEAR) {
-        place.insert(Word::from_index(0));
+    if has {
+        WordSet::one(word)
+    } else {
+        WordSet::empty()
     }
-    if links.contains(Link::SET) {
-        place.insert(Word::from_index(1));
-    }
+}
+
+/// Some links as words.
+fn words_of(links: Links) -> WordSet
+    ensures { SameWords (words result) (link_words (links_of links)) }
+{
+    let clear = one_if(links.contains(Link::CLEAR), Word::from_index(0));
+    let set = one_if(links.contains(Link::SET), Word::from_index(1));
+    clear.union(&set)
 }
 
 impl<A: Allocator> Place<'_, A> {
@@ -42,7 +49,7 @@ impl<A: Allocator> Place<'_, A> {
     {
         match subject {
             Subject::Accumulator => self.put_words_known(fact, &Location::Accumulator, place),
-            Subject::Link => put_link_words(fact.link(), place),
+            Subject::Link => *place = words_of(fact.link()),
             Subject::Mq => *place = *fact.mq(),
             Subject::Cell(cell) => self.put_words_in(fact, *cell, place),
         }

@@ -313,7 +313,12 @@ fn is_so(assertion: &Assertion, cpu: &Cpu) -> bool
 fn each_holds(holds: &[Holding], cpu: &Cpu) -> bool
     ensures { result ≡ each_holds (map holding_of holds.now) (state_of cpu.now) }
 {
-    holds.iter().all(|holding| holds_here(holding, cpu))
+    for holding in holds {
+        if !holds_here(holding, cpu) {
+            return false;
+        }
+    }
+    true
 }
 
 /// The same of one assertion.
@@ -328,9 +333,12 @@ fn each_holds_by(returns: &[Returning], entry: Word, offset: Word, cpu: &Cpu) ->
     ensures { result
         ≡ each_holds_by (map returning_of returns.now) entry offset (state_of cpu.now) }
 {
-    returns
-        .iter()
-        .all(|returning| holds_by(returning, entry, offset, cpu))
+    for returning in returns {
+        if !holds_by(returning, entry, offset, cpu) {
+            return false;
+        }
+    }
+    true
 }
 
 /// The same of one assertion.

@@ -74,7 +74,7 @@ static CONDITIONS: [Explanation; 16] = [
         code: "V12",
         subject: Subject::Asked("a return uses the routine's own entry and a declared offset"),
         meaning: "a return is through the routine's own entry, by declared offsets, and\nthe exit lines allow what is possible",
-        advice: "Declare the offset, as in `returns 0 1`, or increment the return\nword (ISZ of the entry) as declared. Return only through the routine's own\nentry. In a certificate each offset needs its exit line, and the fact at the\nreturn must entail it. In version 3 an offset may have several exit lines,\nwhich must allow what is possible as V4 says it of facts. Offsets are 0 to 7.\nSo a routine that reads the text after its JMS in a loop up to a zero, and then\nreturns beyond the zero, gets no certificate: nothing ties the offset to the\nword that was read. Put the address of the text after the JMS (`returns 1`), or\ninto AC.",
+        advice: "Declare the offset, as in `returns 0 1`, or increment the return\nword (ISZ of the entry) as declared. Return only through the routine's own\nentry. In a certificate each offset needs its exit line, and the fact at the\nreturn must entail it. In version 3 an offset may have several exit lines,\nwhich must allow what is possible as V4 says it of facts. Offsets of a `sub`\nline are 0 to 7, and a `skips` line declares others up to 77. So a routine that\nreads the text after its JMS in a loop up to a zero, and then returns beyond the\nzero, gets a certificate in version 3, which has a fact for each offset, if no\ntext has more than 77 words. A longer text gets none: put its address after the\nJMS (`returns 1`), or into AC. Neither does a routine that returns through a\ncopy of its return word (rule 1).",
     },
     Explanation {
         code: "V13",
@@ -86,7 +86,7 @@ static CONDITIONS: [Explanation; 16] = [
         code: "V14",
         subject: Subject::Asked("return words are not overwritten"),
         meaning: "no word writes an entry, except that a JMS stores its return address\nthere and an ISZ may increment the routine's own",
-        advice: "A routine cannot make its caller skip on return by incrementing the\ncaller's return word. Let it make a skip return of its own, and let its caller\nthen increment its own return word. An ISZ may increment its routine's own\nentry, up to offset 7, if it can store nowhere else.",
+        advice: "A routine cannot make its caller skip on return by incrementing the\ncaller's return word. Let it make a skip return of its own, and let its caller\nthen increment its own return word. An ISZ may increment its routine's own\nentry, up to offset 7, or in version 3 up to 77, if it can store nowhere else. A\nroutine that stores a computed return word needs a `moves` line.",
     },
     Explanation {
         code: "V15",

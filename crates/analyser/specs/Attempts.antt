@@ -1,12 +1,13 @@
 -- What a search came to.
-use Rattle.std.specs.Prelude.{◌≡◌, ◌<◌, ℕ, ⊤, true, List, Option}
+use Rattle.std.specs.Prelude.{◌≡◌, ◌<◌, ℕ, ⊤, Bool, true, false, List, Option}
 use Rattle.declaration.specs.Declaration.{Declaration, Routine}
 use Rattle.declaration.specs.Kept as declared
 use Rattle.certificate.specs.Certificate.{Certificate, has_any, has_exits}
 use Rattle.certificate.specs.Kept.{Kept, claims, meaning}
 use Rattle.instruct.specs.declared.Profile.{Profile}
 use Rattle.analyser.specs.Accepted.{IsAccepted}
-use Rattle.analyser.specs.Versions.{version_of, IsVersionFor}
+use Rattle.certificate.specs.declared.Version.{Version}
+use Rattle.analyser.specs.Versions.{version_of, drafted_version, IsVersionFor}
 use Rattle.analyser.specs.declared.Attempt.{Attempt}
 use Rattle.analyser.specs.declared.Attempt.TheVariants.{Found, Stuck}
 
@@ -44,3 +45,13 @@ IsDraftIfStuck d (Stuck at c) = IsDraft d at (claims c)
 abbrev pub HasVersionFor : {A : Type 0} → Profile → Attempt A → Type 0
 HasVersionFor p (Found c) = IsVersionFor p (meaning c).version
 HasVersionFor p (Stuck at c) = (meaning c).version ≡ version_of p
+
+-- What a search for one version found is of that version, and a draft is of the version in which such a search drafts.
+abbrev pub HasVersion : {A : Type 0} → Profile → Version → Attempt A → Type 0
+HasVersion p v (Found c) = (meaning c).version ≡ v
+HasVersion p v (Stuck at c) = (meaning c).version ≡ drafted_version p v
+
+-- A certificate is found; it serves private contracts.
+abbrev pub is_found : {A : Type 0} → Attempt A → Bool
+is_found (Found c) = true
+is_found (Stuck at c) = false

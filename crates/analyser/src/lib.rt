@@ -5,11 +5,12 @@ ghost use Rattle.std.specs.Prelude.{◌≡◌, ◌≢◌, ◌≤◌, IfErr, IfOk
 ghost use Rattle.declaration.specs.Kept.{meaning as declared};
 ghost use Rattle.certificate.specs.Kept.{claims, meaning};
 ghost use Rattle.certificate.specs.Exact.{AreLines};
+ghost use Rattle.certificate.specs.declared.Version.TheVariants.{Three};
 ghost use Rattle.judge.specs.Judged.{judged};
 ghost use Rattle.turns.specs.Counts.{IsSpentUp};
 ghost use Rattle.turns.specs.declared.GuessFault.TheVariants.{TurnsSpent};
 ghost use Rattle.analyser.specs.Accepted.{IsAccepted};
-ghost use Rattle.analyser.specs.Attempts.{HasVersionFor, IsAcceptedIfFound, IsDraftIfStuck, claimed_by};
+ghost use Rattle.analyser.specs.Attempts.{HasVersion, HasVersionFor, IsAcceptedIfFound, IsDraftIfStuck, claimed_by, is_found};
 ghost use Rattle.analyser.specs.Halts.{IsRefused};
 ghost use Rattle.analyser.specs.Versions.{IsVersionFor, version_of};
 
@@ -45,7 +46,9 @@ pub enum Attempt<A: Allocator> {
 
 impl<A: Allocator> Attempt<A> {
     /// Whether a certificate is found.
-    fn is_found(&self) -> bool {
+    fn is_found(&self) -> bool
+        ensures { result ≡ is_found self.now }
+    {
         matches!(self, Attempt::Found(_))
     }
 }
@@ -417,6 +420,7 @@ fn drafted<A: Allocator + Copy, D: Allocator>(
     ensures accepted { IfOk result (IsAcceptedIfFound image.now declaration.now) }
     ensures draft { IfOk result (IsDraftIfStuck (declared declaration.now)) }
     ensures lines { IfOk result (λ a. AreLines (meaning (claimed_by a))) }
+    ensures version { IfOk result (HasVersion (declared declaration.now).profile Three) }
 {
     let GuessFault::Stuck(_) = fault else {
         return Err(*fault);
@@ -447,6 +451,7 @@ pub fn guess_version_or_draft<A: Allocator + Copy, D: Allocator>(
     // where it is stuck.
     ensures draft { IfOk result (IsDraftIfStuck (declared declaration.now)) }
     ensures lines { IfOk result (λ a. AreLines (meaning (claimed_by a))) }
+    ensures version { IfOk result (HasVersion (declared declaration.now).profile version) }
 {
     let mut turns = Turns::new(MOST_TURNS);
     if version != Version::Three {

@@ -1,9 +1,11 @@
 //! The command line of `pdp8`: its commands, operands and options, and what they ask for.
 #![tactic(auto)]
 
+mod called;
 mod commands;
 pub mod explanations;
 mod names;
+mod operands;
 mod operator;
 mod outputs;
 mod programs;
@@ -18,7 +20,7 @@ pub mod tips;
 mod values;
 
 pub use names::FileNames;
-pub use operator::{Joined, Session, TeletypeSession, WatchedSession};
+pub use operator::{Interrupt, Joined, Session, TeletypeSession, WatchedSession};
 pub use outputs::{
     CERTIFICATE_ENDING, DECLARATION_ENDING, Destination, EVENTS_ENDING, Save, is_source_name,
 };

@@ -1,13 +1,21 @@
 //! The options of a run with an operator.
 
+ghost use Rattle.std.specs.Prelude.{◌≡◌, ◌||◌, IfOk, codes};
+ghost use Rattle.command_line.specs.Machines.{IsOperatedRunGiven, IsTeletypeGiven};
+ghost use Rattle.command_line.specs.Options.{AreSessionOptions, AreTeletypeOptions, IsWatchedWithOperator, IsWordNamed, value};
+ghost use Rattle.command_line.specs.Requested.{IsSessionGiven};
+
 use crate::names::FileNames;
 use crate::outputs::punch_of;
 use crate::refused::{Misuse, Refused};
-use crate::shown::{Octal, Places, is_stopped};
+use crate::shown::{Places, Stopping, shown_on, stopping_on};
 use crate::tapes::tape_of;
-use crate::values::{continues_of, profile_of, read_standard_input_once, run_options, start_of};
+use crate::values::{
+    continues_of, has_value, is_given, profile_of, read_standard_input_once, run_options, start_of,
+};
 use clap::ArgMatches;
 use command_parts::options::{Manner, SessionOptions, SummaryForm, TeletypeOptions};
+use streams::text::octal_byte;
 use word12::Word;
 use wordset::WordSet;
 
@@ -22,6 +30,8 @@ pub struct Session<'a> {
     pub options: SessionOptions,
     /// What the summary tells.
     pub summary: SummaryForm<'a>,
+    /// How the run is followed, if it may be stopped.
+    pub stopping: Option<Stopping>,
 }
 
 impl<'a> Session<'a> {
@@ -52,6 +62,8 @@ pub struct WatchedSession<'a> {
     pub options: SessionOptions,
     /// How often CONTINUE is pressed at declared pauses at most, if it may be.
     pub continues: Option<u32>,
+    /// How the run is followed, if it may be stopped.
+    pub stopping: Option<Stopping>,
     /// Whether it is said what violates a rule.
     pub explained: bool,
 }
@@ -69,6 +81,17 @@ impl<'a> WatchedSession<'a> {
     }
 }
 
+/// The key that interrupts a session at the teletype, where the program asks for one; the program never gets it.
+#[derive(Clone, Copy)]
+pub enum Interrupt {
+    /// The usual one at a terminal, and else none.
+    Usual,
+    /// The one with this byte.
+    Key(u8),
+    /// None.
+    Off,
+}
+
 /// A session at the teletype, as the options ask for it. The keys come from standard input.
 #[derive(Clone, Copy)]
 pub struct TeletypeSession<'a> {
@@ -82,6 +105,10 @@ pub struct TeletypeSession<'a> {
     pub options: TeletypeOptions,
     /// What the summary tells.
     pub summary: SummaryForm<'a>,
+    /// How it is followed, if it may be stopped.
+    pub stopping: Option<Stopping>,
+    /// The key that interrupts it.
+    pub interrupt: Interrupt,
 }
 
 impl<'a> TeletypeSession<'a> {
@@ -119,15 +146,29 @@ pub fn has_operator(found: &ArgMatches<'_>) -> bool {
 }
 
 /// Whether a watched run has an operator.
-pub fn is_watched_with_operator(found: &ArgMatches<'_>) -> bool {
-    ["reader", "keys", "switches", "steps", "continue"]
-        .iter()
-        .any(|name| found.get_str(name).is_some())
-        || found.get_flag("mark")
+pub fn is_watched_with_operator(found: &ArgMatches<'_>) -> bool
+    ensures { IsWatchedWithOperator found.now result }
+{
+    let reader = has_value(found, "reader");
+    let keys = has_value(found, "keys");
+    let switches = has_value(found, "switches");
+    let steps = has_value(found, "steps");
+    let continued = has_value(found, "continue");
+    let mark = is_given(found, "mark");
+    is_any(reader, keys, switches, steps, continued, mark)
+}
+
+/// Whether one of these is so.
+fn is_any(a: bool, b: bool, c: bool, d: bool, e: bool, f: bool) -> bool
+    ensures { result ≡ (a || b || c || d || e || f) }
+{
+    a || b || c || d || e || f
 }
 
 /// What the switches are set to, if they are.
-fn switches_of(found: &ArgMatches<'_>) -> Result<Option<Word>, Refused> {
+fn switches_of(found: &ArgMatches<'_>) -> Result<Option<Word>, Refused>
+    ensures { IfOk result (IsWordNamed (value found.now (codes "switches"))) }
+{
     match found.get_str("switches") {
         None => Ok(None),
         Some(text) => match Word::from_octal(text.as_bytes()) {
@@ -137,24 +178,18 @@ fn switches_of(found: &ArgMatches<'_>) -> Result<Option<Word>, Refused> {
     }
 }
 
-/// The cells that are shown of the run of a tape. Of a source they are not known yet.
-fn shown_on(tape: Option<&str>, places: &Places<'_>) -> Result<WordSet, Refused> {
-    if tape.is_none() {
-        return Ok(WordSet::empty());
-    }
-    Ok(places.shown(&Octal)?)
-}
-
 /// The run with an operator that the options of `run` ask for.
-pub fn session_of<'a>(found: &ArgMatches<'a>, places: &Places<'a>) -> Result<Session<'a>, Refused> {
+pub fn session_of<'a>(found: &ArgMatches<'a>, places: &Places<'a>) -> Result<Session<'a>, Refused>
+    ensures { IfOk result (IsOperatedRunGiven found.now) }
+{
     let tape = tape_of(found)?;
     let reader = found.get_str("reader");
     let keys = found.get_str("keys");
     if found.get_str("events").is_some() {
         return Err(Refused::Misuse(Misuse::EventsAndOperator));
     }
-    if is_stopped(found) {
-        return Err(Refused::Misuse(Misuse::StopsAndOperator));
+    if found.get_flag("trace-long") {
+        return Err(Refused::Misuse(Misuse::LongTrace));
     }
     let names = [tape.unwrap_or(""), reader.unwrap_or(""), keys.unwrap_or("")];
     read_standard_input_once(&names)?;
@@ -164,7 +199,9 @@ pub fn session_of<'a>(found: &ArgMatches<'a>, places: &Places<'a>) -> Result<Ses
         keys.unwrap_or("-"),
     ];
     let punch = punch_of(found, &inputs)?;
-    let teletype = found.get_flag("teletype");
+    let teletype = is_given(found, "teletype");
+    let options = session_options(found, shown_on(tape, places)?)?;
+    let stopping = stopping_on(tape, places)?;
     let summary = SummaryForm {
         apart: false,
         seen: teletype,
@@ -178,17 +215,22 @@ pub fn session_of<'a>(found: &ArgMatches<'a>, places: &Places<'a>) -> Result<Ses
             keys,
             teletype,
         },
-        options: session_options(found, shown_on(tape, places)?)?,
+        options,
         summary,
+        stopping,
     })
 }
 
 /// How a tape is run with an operator, with these cells shown.
-fn session_options(found: &ArgMatches<'_>, show: WordSet) -> Result<SessionOptions, Refused> {
+fn session_options(found: &ArgMatches<'_>, show: WordSet) -> Result<SessionOptions, Refused>
+    ensures { IfOk result (AreSessionOptions found.now) }
+{
+    let run = run_options(found, show)?;
+    let switches = switches_of(found)?;
     Ok(SessionOptions {
-        run: run_options(found, show)?,
-        switches: switches_of(found)?,
-        mark: found.get_flag("mark"),
+        run,
+        switches,
+        mark: is_given(found, "mark"),
     })
 }
 
@@ -197,8 +239,11 @@ pub fn watched_session_of<'a>(
     tape: &'a str,
     declaration: &'a str,
     show: WordSet,
+    stopping: Option<Stopping>,
     found: &ArgMatches<'a>,
-) -> Result<WatchedSession<'a>, Refused> {
+) -> Result<WatchedSession<'a>, Refused>
+    ensures { IfOk result (IsSessionGiven found.now) }
+{
     let reader = found.get_str("reader");
     let keys = found.get_str("keys");
     if found.get_str("EVENTS").is_some() {
@@ -206,44 +251,77 @@ pub fn watched_session_of<'a>(
     }
     let inputs = [tape, declaration, reader.unwrap_or(""), keys.unwrap_or("")];
     read_standard_input_once(&inputs)?;
+    let options = session_options(found, show)?;
+    let continues = continues_of(found)?;
     Ok(WatchedSession {
         tape,
         declaration,
         reader,
         keys,
-        options: session_options(found, show)?,
-        continues: continues_of(found)?,
-        explained: found.get_flag("why"),
+        options,
+        continues,
+        stopping,
+        explained: is_given(found, "why"),
     })
+}
+
+/// How a session at the teletype is held, with these cells shown.
+fn teletype_options(found: &ArgMatches<'_>, show: WordSet) -> Result<TeletypeOptions, Refused>
+    ensures { IfOk result (AreTeletypeOptions found.now) }
+{
+    let start = start_of(found)?;
+    let profile = profile_of(found)?;
+    let switches = switches_of(found)?;
+    Ok(TeletypeOptions {
+        start,
+        profile,
+        switches,
+        manner: Manner {
+            raw: is_given(found, "raw"),
+            mark: is_given(found, "mark"),
+        },
+        show,
+    })
+}
+
+/// The key that interrupts a session, where the bytes of keys are struck as they come or are not.
+fn interrupt_of(found: &ArgMatches<'_>, raw: bool) -> Result<Interrupt, Refused> {
+    match found.get_str("interrupt") {
+        None if raw => Ok(Interrupt::Off),
+        None => Ok(Interrupt::Usual),
+        Some("off") => Ok(Interrupt::Off),
+        Some(text) => match octal_byte(text.as_bytes()) {
+            Some(byte) => Ok(Interrupt::Key(byte)),
+            None => Err(Refused::Misuse(Misuse::Interrupt)),
+        },
+    }
 }
 
 /// The session at the teletype that the options of `teletype` ask for.
 pub fn teletype_of<'a>(
     found: &ArgMatches<'a>,
     places: &Places<'a>,
-) -> Result<TeletypeSession<'a>, Refused> {
+) -> Result<TeletypeSession<'a>, Refused>
+    ensures { IfOk result (IsTeletypeGiven found.now) }
+{
     let tape = tape_of(found)?;
     let reader = found.get_str("reader");
     read_standard_input_once(&[tape.unwrap_or(""), reader.unwrap_or(""), "-"])?;
     let punch = punch_of(found, &[tape.unwrap_or("-"), reader.unwrap_or("-")])?;
+    let options = teletype_options(found, shown_on(tape, places)?)?;
+    let stopping = stopping_on(tape, places)?;
+    let interrupt = interrupt_of(found, options.manner.raw)?;
     Ok(TeletypeSession {
         tape,
         reader,
         punch,
-        options: TeletypeOptions {
-            start: start_of(found)?,
-            profile: profile_of(found)?,
-            switches: switches_of(found)?,
-            manner: Manner {
-                raw: found.get_flag("raw"),
-                mark: found.get_flag("mark"),
-            },
-            show: shown_on(tape, places)?,
-        },
+        options,
         summary: SummaryForm {
             apart: true,
             seen: true,
             saved_in: punch,
         },
+        stopping,
+        interrupt,
     })
 }

@@ -1,11 +1,13 @@
 //! Where the result of a command goes.
 
-ghost use Rattle.std.specs.Prelude.{◌≡◌, ◌&&◌, not, codes};
+ghost use Rattle.std.specs.Prelude.{◌≡◌, ◌&&◌, IfOk, not, codes, option_map};
 ghost use Rattle.std.specs.List.{list_any};
 ghost use Rattle.std.specs.Str.{bytes_eq};
+ghost use Rattle.command_line.specs.Options.{has_value, value};
 ghost use Rattle.command_line.specs.Outputs.{is_same_file, without_here};
 
 use crate::refused::{Misuse, Refused};
+use crate::values::has_value;
 use clap::ArgMatches;
 
 /// Where a result goes: the name of a file, or `-` for standard output.
@@ -78,8 +80,10 @@ pub fn is_source_name(name: &str) -> bool {
 }
 
 /// Whether the result goes to the value of `-o`.
-pub fn has_output(found: &ArgMatches<'_>) -> bool {
-    found.get_str("output").is_some()
+pub fn has_output(found: &ArgMatches<'_>) -> bool
+    ensures { result ≡ has_value found.now (codes "output") }
+{
+    has_value(found, "output")
 }
 
 /// Where the report of a search that is stuck goes, if it is asked for: it is neither an input nor the
@@ -102,7 +106,10 @@ pub fn report_of<'a>(
 }
 
 /// Where the punched bytes go, if they go to a file: it is none of these inputs, and is not named like a source.
-pub fn punch_of<'a>(found: &ArgMatches<'a>, inputs: &[&str]) -> Result<Option<&'a str>, Refused> {
+pub fn punch_of<'a>(found: &ArgMatches<'a>, inputs: &[&str]) -> Result<Option<&'a str>, Refused>
+    ensures { IfOk result (λ name. option_map (λ it. it.now) name ≡
+        value found.now (codes "punch")) }
+{
     let Some(name) = found.get_str("punch") else {
         return Ok(None);
     };

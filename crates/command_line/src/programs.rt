@@ -1,27 +1,30 @@
 //! What may be asked for with a program and its declaration: the program is given by its tape, or with `--source` by
 //! its source. It is proved that the files of a program are those that were given.
 
-ghost use Rattle.std.specs.Prelude.{◌≡◌, IfOk, Some, codes, map, option_map};
-ghost use Rattle.clap.specs.Matches.{found_of, matched_of, raw_values};
-ghost use Rattle.command_line.specs.Requested.{IsDeclarationGiven, IsProgramGiven, declaration_given};
+ghost use Rattle.std.specs.Prelude.{◌≡◌, IfOk, Some, codes, option_map, unwrap_or};
+ghost use Rattle.command_line.specs.Called.{command_of};
+ghost use Rattle.command_line.specs.Options.{IsFlagGiven, IsVersionNamed, value, version_named};
+ghost use Rattle.command_line.specs.Requested.{IsDeclarationGiven, IsDeclareGiven, IsGuessGiven, IsProgramGiven, IsRefuteGiven, IsReportGiven, IsSessionGiven, IsTaskGiven, IsTaskOf, IsVerifyGiven};
 
+use crate::called::{Called, command_of};
 use crate::names::FileNames;
+use crate::operands::{Operands, inputs_of, operands_of, start_once};
 use crate::operator::{WatchedSession, is_watched_with_operator, watched_session_of};
 use crate::outputs::{
-    Destination, Save, has_output, is_source_name, is_taken, kept_destination, no_input, no_source,
-    report_of, save_of,
+    Destination, Save, is_source_name, is_taken, kept_destination, no_input, no_source, report_of,
+    save_of,
 };
 use crate::refused::{Misuse, Refused};
-use crate::shown::{Octal, Places, shown_of};
+use crate::shown::{Octal, Places, Stopping, places_of};
 use crate::sources::source_names;
 use crate::values::{
-    declare_options, is_start_named, operand_of, read_standard_input_once, refute_options,
+    declare_options, is_given, is_start_named, read_standard_input_once, refute_options,
     verify_options,
 };
 use certificate::Version;
 use clap::ArgMatches;
 use command_parts::options::{DeclareOptions, RefuteOptions, VerifyOptions};
-use std::alloc::{AllocError, Global};
+use std::alloc::Global;
 use wordset::WordSet;
 
 /// To work on a program and its declaration.
@@ -34,7 +37,7 @@ pub struct ProgramRequest<'a> {
     pub declaration: Option<&'a str>,
     /// What is done.
     pub task: Task<'a>,
-    /// The cells whose words are shown when a run is over, which may have the symbols of a source.
+    /// The cells that are shown of a run and where it is stopped, which may have the symbols of a source.
     pub places: Places<'a>,
     /// Whether a start or a machine is named.
     pub asked: bool,
@@ -81,6 +84,8 @@ pub enum Task<'a> {
         events: &'a str,
         /// The cells whose words are shown when the run of a tape is over.
         show: WordSet,
+        /// How the run of a tape is followed, if it may be stopped.
+        stopping: Option<Stopping>,
     },
     /// To watch a run with an operator.
     WatchSession(WatchedSession<'a>),
@@ -116,7 +121,7 @@ pub enum Task<'a> {
 
 impl<'a> ProgramNames<'a> {
     /// The name of the tape's file, if the program is given by its tape.
-    fn tape(&self) -> Option<&'a str> {
+    pub(crate) fn tape(&self) -> Option<&'a str> {
         match self {
             ProgramNames::Tape(name) => Some(name),
             ProgramNames::Source(_) => None,
@@ -225,163 +230,6 @@ impl<'a> Task<'a> {
     }
 }
 
-/// The operands of a command: the program's, that of its declaration, and the last one that the command needs, if
-/// there is one.
-#[derive(Drop)]
-struct Operands<'a> {
-    program: ProgramNames<'a>,
-    declaration: Option<&'a str>,
-    last: Option<&'a str>,
-}
-
-/// The operands that stand after a source: a declaration, if there is one, and the last one, if the command
-/// needs it.
-#[derive(Clone, Copy)]
-struct LaterOperands<'a> {
-    declaration: Option<&'a str>,
-    last: Option<&'a str>,
-}
-
-/// The operands of a command with a source, which clap has taken for those of a tape: the last of so many that are
-/// needed is that of this name.
-fn later_operands<'a>(
-    found: &ArgMatches<'a>,
-    needed: Option<&'static str>,
-) -> Result<LaterOperands<'a>, Refused> {
-    let third = ["CERTIFICATE", "EVENTS", "OUT"]
-        .iter()
-        .any(|name| found.get_str(name).is_some());
-    let (first, second) = (found.get_str("TAPE"), found.get_str("DECLARATION"));
-    if third || (needed.is_none() && second.is_some()) {
-        return Err(Refused::Misuse(Misuse::TapeAndSource));
-    }
-    let (declaration, last) = match (needed, second) {
-        (None, _) => (first, None),
-        (Some(_), None) => (None, first),
-        (Some(_), Some(_)) => (first, second),
-    };
-    match needed {
-        Some(name) if last.is_none() => Err(Refused::NoOperand(name)),
-        _ => Ok(LaterOperands { declaration, last }),
-    }
-}
-
-/// The last operand that a search needs: OUT, unless `-o` stands in its place.
-fn needed_out(found: &ArgMatches<'_>) -> Option<&'static str> {
-    if has_output(found) { None } else { Some("OUT") }
-}
-
-/// The same of a search. A single operand without `-o` might be meant for the declaration or for OUT, and is refused.
-fn search_operands<'a>(found: &ArgMatches<'a>) -> Result<LaterOperands<'a>, Refused> {
-    if !has_output(found) && found.get_str("TAPE").is_none() {
-        return Err(Refused::Misuse(Misuse::NoOutput));
-    }
-    let operands = later_operands(found, needed_out(found))?;
-    if operands.declaration.is_none() && !has_output(found) {
-        return Err(Refused::Misuse(Misuse::NoOutput));
-    }
-    Ok(operands)
-}
-
-/// The same of `declare`, whose declaration is an option.
-fn declare_operands<'a>(found: &ArgMatches<'a>) -> Result<LaterOperands<'a>, Refused> {
-    let operands = search_operands(found)?;
-    if operands.declaration.is_some() {
-        return Err(Refused::Misuse(Misuse::TapeAndSource));
-    }
-    Ok(LaterOperands {
-        declaration: found.get_str("from"),
-        ..operands
-    })
-}
-
-/// The same of the report of a certificate. It goes to the value of `-o`: all operands are inputs.
-fn report_operands<'a>(found: &ArgMatches<'a>) -> Result<LaterOperands<'a>, Refused> {
-    if !has_output(found) {
-        return Err(Refused::Misuse(Misuse::NoOutput));
-    }
-    later_operands(found, Some("CERTIFICATE"))
-}
-
-/// Ensures that a declaration which is given determines the start and the machine.
-fn start_once(found: &ArgMatches<'_>, declaration: Option<&str>) -> Result<(), Refused> {
-    if declaration.is_some() && is_start_named(found) {
-        return Err(Refused::Misuse(Misuse::DeclarationAndStart));
-    }
-    Ok(())
-}
-
-/// These names in a list of its own.
-fn copied<'a>(alloc: Global, names: &[&'a str]) -> Result<Vec<&'a str>, AllocError>
-    ensures { IfOk result (λ copy. copy.items ≡ names.now) }
-{
-    let mut copy = Vec::new(alloc);
-    copy.extend_from_slice(names)?;
-    Ok(copy)
-}
-
-/// The operands of a command with `--source`, which gives these parts.
-fn source_operands<'a>(
-    alloc: Global,
-    command: &str,
-    found: &ArgMatches<'a>,
-    parts: &[&'a str],
-) -> Result<Operands<'a>, Refused>
-    requires { option_map raw_values (matched_of (found_of found.now) (codes "source")) ≡
-        Some (map (λ name. name.now) parts.now) }
-    ensures program { IfOk result (λ operands. IsProgramGiven found.now operands.program) }
-    ensures declaration { IfOk result (λ operands. IsDeclarationGiven command.now found.now
-        operands.program (option_map (λ name. name.now) operands.declaration)) }
-{
-    let LaterOperands { declaration, last } = match command {
-        "verify" => later_operands(found, None)?,
-        "watch" if is_watched_with_operator(found) => later_operands(found, None)?,
-        "watch" => later_operands(found, Some("EVENTS"))?,
-        "guess" | "refute" => search_operands(found)?,
-        "declare" => declare_operands(found)?,
-        "report" => report_operands(found)?,
-        _ => later_operands(found, Some("CERTIFICATE"))?,
-    };
-    start_once(found, declaration)?;
-    Ok(Operands {
-        program: ProgramNames::Source(copied(alloc, parts)?),
-        declaration,
-        last,
-    })
-}
-
-/// The declaration of a command with a tape.
-fn tape_declaration<'a>(command: &str, found: &ArgMatches<'a>) -> Option<&'a str>
-    ensures { option_map (λ name. name.now) result ≡ declaration_given command.now found.now }
-{
-    match command {
-        "verify" => found.get_str("DECLARATION"),
-        "declare" => found.get_str("from"),
-        _ => Some(operand_of(found, "DECLARATION")),
-    }
-}
-
-/// The operands of a command with a tape.
-fn tape_operands<'a>(command: &str, found: &ArgMatches<'a>) -> Result<Operands<'a>, Refused>
-    ensures program { IfOk result (λ operands. IsProgramGiven found.now operands.program) }
-    ensures declaration { IfOk result (λ operands. IsDeclarationGiven command.now found.now
-        operands.program (option_map (λ name. name.now) operands.declaration)) }
-{
-    let last = match command {
-        "check" | "report" => found.get_str("CERTIFICATE"),
-        "watch" => found.get_str("EVENTS"),
-        _ => found.get_str("OUT"),
-    };
-    if command == "watch" && last.is_none() && !is_watched_with_operator(found) {
-        return Err(Refused::Misuse(Misuse::NoEvents));
-    }
-    Ok(Operands {
-        program: ProgramNames::Tape(operand_of(found, "TAPE")),
-        declaration: tape_declaration(command, found),
-        last,
-    })
-}
-
 /// Where a result goes: the operand OUT, which stays as it was if there is nothing to write; without one the value of
 /// `-o`.
 fn result_of<'a>(found: &ArgMatches<'a>, out: Option<&'a str>) -> Destination<'a> {
@@ -399,47 +247,62 @@ fn certificate_of<'a>(found: &ArgMatches<'a>, out: Option<&'a str>) -> Destinati
     }
 }
 
-/// The names of the inputs: the program's, that of the declaration, and those of others.
-fn inputs_of<'a>(
-    alloc: Global,
-    operands: &Operands<'a>,
-    others: &[Option<&'a str>],
-) -> Result<Vec<&'a str>, AllocError> {
-    let mut inputs = Vec::new(alloc);
-    inputs.extend_from_slice(operands.program.tape().as_slice())?;
-    inputs.extend_from_slice(operands.program.parts())?;
-    inputs.extend_from_slice(operands.declaration.as_slice())?;
-    for other in others {
-        inputs.extend_from_slice(other.as_slice())?;
-    }
-    Ok(inputs)
-}
-
 /// The watched run with an operator that is asked for. Of a source, the names of the tape and of the declaration are
 /// empty.
-fn session_task<'a>(
+fn session_on<'a>(
+    found: &ArgMatches<'a>,
+    operands: &Operands<'a>,
+    followed: Followed,
+) -> Result<WatchedSession<'a>, Refused>
+    ensures { IfOk result (IsSessionGiven found.now) }
+{
+    let Followed { show, stopping } = followed;
+    match operands.program.tape() {
+        Some(tape) => {
+            let declaration = operands.declaration.unwrap_or("-");
+            watched_session_of(tape, declaration, show, stopping, found)
+        }
+        None => watched_session_of("", "", show, stopping, found),
+    }
+}
+
+/// The same, of which each input is another file.
+fn session_of_operands<'a>(
     alloc: Global,
     found: &ArgMatches<'a>,
     operands: &Operands<'a>,
-    show: WordSet,
-) -> Result<Task<'a>, Refused> {
-    let session = match operands.program.tape() {
-        Some(tape) => watched_session_of(tape, operands.declaration.unwrap_or("-"), show, found)?,
-        None => watched_session_of("", "", show, found)?,
-    };
+    followed: Followed,
+) -> Result<WatchedSession<'a>, Refused>
+    ensures { IfOk result (IsSessionGiven found.now) }
+{
+    let session = session_on(found, operands, followed)?;
     let inputs = inputs_of(alloc, operands, &[session.reader, session.keys])?;
     read_standard_input_once(&inputs)?;
-    Ok(Task::WatchSession(session))
+    Ok(session)
+}
+
+/// The version of a certificate that is named.
+fn version_named(name: &str) -> Result<Version, Refused>
+    ensures { IfOk result (λ version. version_named name.now ≡ Some version) }
+{
+    match name {
+        "1" => Ok(Version::One),
+        "2" => Ok(Version::Two),
+        "3" => Ok(Version::Three),
+        _ => Err(Refused::Misuse(Misuse::GuessedVersion)),
+    }
 }
 
 /// The version of the certificate for which a search is asked, if one is.
-fn guessed_version(found: &ArgMatches<'_>) -> Result<Option<Version>, Refused> {
+fn guessed_version(found: &ArgMatches<'_>) -> Result<Option<Version>, Refused>
+    ensures { IfOk result (IsVersionNamed (value found.now (codes "certificate"))) }
+{
     match found.get_str("certificate") {
         None => Ok(None),
-        Some("1") => Ok(Some(Version::One)),
-        Some("2") => Ok(Some(Version::Two)),
-        Some("3") => Ok(Some(Version::Three)),
-        Some(_) => Err(Refused::Misuse(Misuse::GuessedVersion)),
+        Some(name) => match version_named(name) {
+            Ok(version) => Ok(Some(version)),
+            Err(refused) => Err(refused),
+        },
     }
 }
 
@@ -449,7 +312,9 @@ fn guess_task<'a>(
     found: &ArgMatches<'a>,
     operands: &Operands<'a>,
     inputs: &[&'a str],
-) -> Result<Task<'a>, Refused> {
+) -> Result<Task<'a>, Refused>
+    ensures { IfOk result (IsGuessGiven found.now) }
+{
     let is_tape = operands.program.tape().is_some();
     let out = no_source(certificate_of(found, operands.last), inputs)?;
     let named = if is_tape {
@@ -464,79 +329,157 @@ fn guess_task<'a>(
     if is_tape && report.is_some() && inputs.iter().any(|input| **input == *"-") {
         return Err(Refused::Misuse(Misuse::ReportOfStandardInput));
     }
+    let version = guessed_version(found)?;
     Ok(Task::Guess {
         out,
         report,
-        version: guessed_version(found)?,
+        version,
     })
+}
+
+/// To find out whether a program complies with its declaration.
+fn verify_task<'a>(
+    found: &ArgMatches<'a>,
+    operands: &Operands<'a>,
+    inputs: &[&'a str],
+) -> Result<Task<'a>, Refused>
+    ensures { IfOk result (IsVerifyGiven found.now) }
+{
+    let save = save_of(found, inputs, operands.declaration.is_none())?;
+    let options = verify_options(found)?;
+    Ok(Task::Verify { save, options })
+}
+
+/// To search for a run that violates the declaration.
+fn refute_task<'a>(
+    found: &ArgMatches<'a>,
+    operands: &Operands<'a>,
+    inputs: &[&'a str],
+) -> Result<Task<'a>, Refused>
+    ensures { IfOk result (IsRefuteGiven found.now) }
+{
+    let out = no_source(result_of(found, operands.last), inputs)?;
+    let options = refute_options(found)?;
+    Ok(Task::Refute { out, options })
+}
+
+/// To propose a declaration, or to complete one.
+fn declare_task<'a>(
+    found: &ArgMatches<'a>,
+    operands: &Operands<'a>,
+    inputs: &[&'a str],
+) -> Result<Task<'a>, Refused>
+    ensures { IfOk result (IsDeclareGiven found.now) }
+{
+    let out = no_source(result_of(found, operands.last), inputs)?;
+    let options = declare_options(found)?;
+    Ok(Task::Declare { out, options })
+}
+
+/// To write what a certificate says.
+fn report_task<'a>(
+    found: &ArgMatches<'a>,
+    operands: &Operands<'a>,
+    inputs: &[&'a str],
+) -> Result<Task<'a>, Refused>
+    ensures { IfOk result (IsReportGiven found.now
+        (option_map (λ name. name.now) operands.now.last)) }
+{
+    let out = no_source(result_of(found, found.get_str("OUT")), inputs)?;
+    Ok(Task::Report {
+        certificate: name_or_input(&operands.last),
+        out,
+        text: is_given(found, "text"),
+    })
+}
+
+/// The name of a file; standard input without one.
+fn name_or_input<'a>(name: &Option<&'a str>) -> &'a str
+    ensures { result.now ≡ unwrap_or (option_map (λ it. it.now) name.now) (codes "-") }
+{
+    match name {
+        Some(it) => it,
+        None => "-",
+    }
 }
 
 /// What a command asks for, whose program, declaration and last input are these inputs.
 fn task_of<'a>(
-    command: &str,
+    called: Called,
     found: &ArgMatches<'a>,
     operands: &Operands<'a>,
     inputs: &[&'a str],
+    followed: Followed,
+) -> Result<Task<'a>, Refused>
+    ensures { IfOk result (IsTaskGiven called found.now
+        (option_map (λ name. name.now) operands.now.last)) }
+{
+    match called {
+        Called::Verify => verify_task(found, operands, inputs),
+        Called::Watch => Ok(Task::Watch {
+            events: name_or_input(&operands.last),
+            show: followed.show,
+            stopping: followed.stopping,
+        }),
+        Called::Guess => guess_task(found, operands, inputs),
+        Called::Refute => refute_task(found, operands, inputs),
+        Called::Declare => declare_task(found, operands, inputs),
+        Called::Report => report_task(found, operands, inputs),
+        Called::Check => Ok(Task::Check {
+            certificate: name_or_input(&operands.last),
+        }),
+    }
+}
+
+/// What is shown of a watched run, and where it is stopped.
+#[derive(Clone, Copy)]
+struct Followed {
     show: WordSet,
-) -> Result<Task<'a>, Refused> {
-    let last = operands.last;
-    Ok(match command {
-        "verify" => Task::Verify {
-            save: save_of(found, inputs, operands.declaration.is_none())?,
-            options: verify_options(found)?,
-        },
-        "watch" => Task::Watch {
-            events: last.unwrap_or("-"),
-            show,
-        },
-        "guess" => guess_task(found, operands, inputs)?,
-        "refute" => Task::Refute {
-            out: no_source(result_of(found, last), inputs)?,
-            options: refute_options(found)?,
-        },
-        "declare" => Task::Declare {
-            out: no_source(result_of(found, last), inputs)?,
-            options: declare_options(found)?,
-        },
-        "report" => Task::Report {
-            certificate: last.unwrap_or("-"),
-            out: no_source(result_of(found, found.get_str("OUT")), inputs)?,
-            text: found.get_flag("text"),
-        },
-        _ => Task::Check {
-            certificate: last.unwrap_or("-"),
-        },
+    stopping: Option<Stopping>,
+}
+
+/// What is shown of a watched run of a tape, and where it is stopped. Of a source that is not known yet.
+fn followed_on(operands: &Operands<'_>, places: &Places<'_>) -> Result<Followed, Refused> {
+    if operands.program.tape().is_none() {
+        return Ok(Followed {
+            show: WordSet::empty(),
+            stopping: None,
+        });
+    }
+    Ok(Followed {
+        show: places.shown(&Octal)?,
+        stopping: places.stopping(&Octal)?,
     })
 }
 
-/// The cells that are shown of a run of a tape. Of a source they are not known yet.
-fn shown_on(operands: &Operands<'_>, places: &Places<'_>) -> Result<WordSet, Refused> {
-    if operands.program.tape().is_none() {
-        return Ok(WordSet::empty());
+/// The last operand of a command, if it is an input.
+fn last_input<'a>(called: Called, operands: &Operands<'a>) -> Option<&'a str> {
+    match called {
+        Called::Check | Called::Report | Called::Watch => operands.last,
+        _ => None,
     }
-    Ok(places.shown(&Octal)?)
 }
 
 /// What a command asks for whose operands are these.
 fn task_on<'a>(
     alloc: Global,
-    command: &str,
+    called: Called,
     found: &ArgMatches<'a>,
     operands: &Operands<'a>,
     places: &Places<'a>,
-) -> Result<Task<'a>, Refused> {
-    let show = shown_on(operands, places)?;
-    if command == "watch" && is_watched_with_operator(found) {
-        return session_task(alloc, found, operands, show);
+) -> Result<Task<'a>, Refused>
+    ensures { IfOk result (IsTaskGiven called found.now
+        (option_map (λ name. name.now) operands.now.last)) }
+{
+    let followed = followed_on(operands, places)?;
+    if called == Called::Watch && is_watched_with_operator(found) {
+        let session = session_of_operands(alloc, found, operands, followed)?;
+        return Ok(Task::WatchSession(session));
     }
-    let input = match command {
-        "check" | "report" | "watch" => operands.last,
-        _ => None,
-    };
-    let inputs = inputs_of(alloc, operands, &[input])?;
+    let inputs = inputs_of(alloc, operands, &[last_input(called, operands)])?;
     read_standard_input_once(&inputs)?;
     start_once(found, operands.declaration)?;
-    task_of(command, found, operands, &inputs, show)
+    task_of(called, found, operands, &inputs, followed)
 }
 
 /// The request of a command on a program and its declaration.
@@ -545,18 +488,21 @@ pub(crate) fn program_request<'a>(
     command: &str,
     found: &ArgMatches<'a>,
 ) -> Result<ProgramRequest<'a>, Refused>
-    // The files of the program are those that were given, and so is the declaration of a tape: one is proposed only if none
+    // The files of the program are those that were given, and so is the declaration: one is proposed for a tape only if none
     // is given to `verify` or `declare`.
     ensures program { IfOk result (λ asked. IsProgramGiven found.now asked.program) }
-    ensures declaration { IfOk result (λ asked. IsDeclarationGiven command.now found.now
+    ensures declaration { IfOk result (λ asked. IsDeclarationGiven (command_of command.now) found.now
         asked.program (option_map (λ name. name.now) asked.declaration)) }
+    // What is done is what the command is called for, with its last operand and as its options ask.
+    ensures task { IfOk result (λ asked.
+        IsTaskOf (command_of command.now) found.now asked.program asked.task) }
+    ensures explained { IfOk result (λ asked.
+        IsFlagGiven found.now (codes "why") asked.explained) }
 {
-    let operands = match found.get_strs("source") {
-        Some(parts) => source_operands(alloc, command, found, parts)?,
-        None => tape_operands(command, found)?,
-    };
-    let places = shown_of(alloc, found)?;
-    let task = task_on(alloc, command, found, &operands, &places)?;
+    let called = command_of(command);
+    let operands = operands_of(alloc, called, found)?;
+    let places = places_of(alloc, found)?;
+    let task = task_on(alloc, called, found, &operands, &places)?;
     let Operands {
         program,
         declaration,
@@ -568,7 +514,7 @@ pub(crate) fn program_request<'a>(
         task,
         places,
         asked: is_start_named(found),
-        explained: found.get_flag("why"),
+        explained: is_given(found, "why"),
     })
 }
 
@@ -597,7 +543,7 @@ pub(crate) fn place_request<'a>(
         program,
         declaration,
         task: Task::Place { out },
-        places: shown_of(alloc, found)?,
+        places: places_of(alloc, found)?,
         asked: false,
         explained: found.get_flag("why"),
     })

@@ -1,10 +1,17 @@
 //! What may be asked for with a tape alone, or with a certificate alone.
 
+ghost use Rattle.std.specs.Prelude.{◌≡◌, IfOk, codes, option_map};
+ghost use Rattle.command_line.specs.Machines.{IsDumpGiven, IsMigrateGiven, IsRunGiven, IsSourceGiven, tape_given};
+ghost use Rattle.command_line.specs.Options.{value};
+
 use crate::names::FileNames;
 use crate::outputs::{Destination, emptied_destination, kept_destination, no_input, no_source};
 use crate::refused::{Misuse, Refused};
-use crate::shown::{Octal, Places, Stopping, last_of};
-use crate::values::{is_start_named, profile_of, read_standard_input_once, run_options, start_of};
+use crate::shown::{Places, Stopping, shown_on, stopping_on};
+use crate::values::{
+    has_value, is_given, is_start_named, operand_of, profile_of, read_standard_input_once, run_options,
+    start_of,
+};
 use clap::ArgMatches;
 use command_parts::options::RunOptions;
 use instruct::Profile;
@@ -22,8 +29,8 @@ pub struct RunRequest<'a> {
     pub options: RunOptions,
     /// How it is followed, if it may be stopped.
     pub stopping: Option<Stopping>,
-    /// How many of its last instructions are shown, if that is asked for.
-    pub last: Option<u32>,
+    /// Whether a long line is written for each instruction.
+    pub long: bool,
 }
 
 impl<'a> RunRequest<'a> {
@@ -38,11 +45,12 @@ impl<'a> RunRequest<'a> {
 }
 
 /// The name of the tape's file, unless a source takes its place.
-pub(crate) fn tape_of<'a>(found: &ArgMatches<'a>) -> Result<Option<&'a str>, Refused> {
-    let tape = found.get_str("TAPE");
+pub(crate) fn tape_of<'a>(found: &ArgMatches<'a>) -> Result<Option<&'a str>, Refused>
+    ensures { IfOk result (λ tape. option_map (λ name. name.now) tape ≡ tape_given found.now) }
+{
     match found.get_strs("source") {
-        None => Ok(Some(tape.unwrap_or("-"))),
-        Some(_) if tape.is_some() => Err(Refused::Misuse(Misuse::TapeAndSource)),
+        None => Ok(Some(operand_of(found, "TAPE"))),
+        Some(_) if has_value(found, "TAPE") => Err(Refused::Misuse(Misuse::TapeAndSource)),
         Some(_) => Ok(None),
     }
 }
@@ -51,26 +59,25 @@ pub(crate) fn tape_of<'a>(found: &ArgMatches<'a>) -> Result<Option<&'a str>, Ref
 pub(crate) fn run_request<'a>(
     found: &ArgMatches<'a>,
     places: &Places<'a>,
-) -> Result<RunRequest<'a>, Refused> {
+) -> Result<RunRequest<'a>, Refused>
+    ensures { IfOk result (IsRunGiven found.now) }
+{
     let tape = tape_of(found)?;
     let events = found.get_str("events");
     read_standard_input_once(&[tape.unwrap_or(""), events.unwrap_or("")])?;
-    let last = last_of(found)?;
-    if tape.is_none() {
-        return Ok(RunRequest {
-            tape,
-            events,
-            options: run_options(found, WordSet::empty())?,
-            stopping: None,
-            last,
-        });
+    let long = is_given(found, "trace-long");
+    if long && found.get_flag("trace") {
+        return Err(Refused::Misuse(Misuse::LongTrace));
     }
+    let show = shown_on(tape, places)?;
+    let options = run_options(found, show)?;
+    let stopping = stopping_on(tape, places)?;
     Ok(RunRequest {
         tape,
         events,
-        options: run_options(found, places.shown(&Octal)?)?,
-        stopping: places.stopping(&Octal, last)?,
-        last,
+        options,
+        stopping,
+        long,
     })
 }
 
@@ -81,6 +88,8 @@ pub struct DumpRequest<'a> {
     pub tape: Option<&'a str>,
     /// Whose names the words have.
     pub profile: Profile,
+    /// Whether memory references are written with their whole addresses; those of a source are in any case.
+    pub full: bool,
 }
 
 impl<'a> DumpRequest<'a> {
@@ -94,10 +103,16 @@ impl<'a> DumpRequest<'a> {
 }
 
 /// The list of words that is asked for.
-pub(crate) fn dump_request<'a>(found: &ArgMatches<'a>) -> Result<DumpRequest<'a>, Refused> {
+pub(crate) fn dump_request<'a>(found: &ArgMatches<'a>) -> Result<DumpRequest<'a>, Refused>
+    ensures { IfOk result (IsDumpGiven found.now) }
+{
+    let tape = tape_of(found)?;
+    let profile = profile_of(found)?;
+    let full = is_given(found, "full");
     Ok(DumpRequest {
-        tape: tape_of(found)?,
-        profile: profile_of(found)?,
+        tape,
+        profile,
+        full,
     })
 }
 
@@ -130,20 +145,25 @@ impl<'a> SourceRequest<'a> {
 }
 
 /// The source that is asked for.
-pub(crate) fn source_request<'a>(found: &ArgMatches<'a>) -> Result<SourceRequest<'a>, Refused> {
-    let tape = found.get_str("TAPE").unwrap_or("-");
+pub(crate) fn source_request<'a>(found: &ArgMatches<'a>) -> Result<SourceRequest<'a>, Refused>
+    ensures { IfOk result (IsSourceGiven found.now) }
+{
+    let tape = operand_of(found, "TAPE");
     let declaration = found.get_str("declaration");
     read_standard_input_once(&[tape, declaration.unwrap_or("")])?;
     if declaration.is_some() && is_start_named(found) {
         return Err(Refused::Misuse(Misuse::DeclarationAndStart));
     }
+    let out = no_input(kept_destination(found), &[tape, declaration.unwrap_or("-")])?;
+    let start = start_of(found)?;
+    let profile = profile_of(found)?;
     Ok(SourceRequest {
         tape,
-        out: no_input(kept_destination(found), &[tape, declaration.unwrap_or("-")])?,
+        out,
         forced: found.get_flag("force"),
         declaration,
-        start: start_of(found)?,
-        profile: profile_of(found)?,
+        start,
+        profile,
     })
 }
 
@@ -170,7 +190,10 @@ impl<'a> MigrateRequest<'a> {
 }
 
 /// The name of the declaration's file, which is given if version 3 is asked for, and only then.
-fn declaration_of_sites<'a>(found: &ArgMatches<'a>) -> Result<Option<&'a str>, Refused> {
+fn declaration_of_sites<'a>(found: &ArgMatches<'a>) -> Result<Option<&'a str>, Refused>
+    ensures { IfOk result (λ name. option_map (λ it. it.now) name ≡
+        value found.now (codes "declaration")) }
+{
     let declaration = found.get_str("declaration");
     let is_third = match found.get_str("certificate") {
         None | Some("2") => false,
@@ -184,14 +207,17 @@ fn declaration_of_sites<'a>(found: &ArgMatches<'a>) -> Result<Option<&'a str>, R
 }
 
 /// The certificate in another version that is asked for.
-pub(crate) fn migrate_request<'a>(found: &ArgMatches<'a>) -> Result<MigrateRequest<'a>, Refused> {
-    let certificate = found.get_str("CERTIFICATE").unwrap_or("-");
+pub(crate) fn migrate_request<'a>(found: &ArgMatches<'a>) -> Result<MigrateRequest<'a>, Refused>
+    ensures { IfOk result (IsMigrateGiven found.now) }
+{
+    let certificate = operand_of(found, "CERTIFICATE");
     let declaration = declaration_of_sites(found)?;
     read_standard_input_once(&[certificate, declaration.unwrap_or("")])?;
     let inputs = [declaration.unwrap_or(certificate), certificate];
+    let out = no_source(emptied_destination(found), &inputs)?;
     Ok(MigrateRequest {
         certificate,
         declaration,
-        out: no_source(emptied_destination(found), &inputs)?,
+        out,
     })
 }

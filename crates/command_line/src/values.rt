@@ -1,7 +1,7 @@
 //! The values of options and operands that several commands have.
 
-ghost use Rattle.std.specs.Prelude.{◌≡◌};
-ghost use Rattle.command_line.specs.Requested.{operand};
+ghost use Rattle.std.specs.Prelude.{◌≡◌, ◌≤◌, IfOk, Ok, Some, codes, is_some};
+ghost use Rattle.command_line.specs.Options.{AreDeclareOptions, AreRefuteOptions, AreRunOptions, AreVerifyOptions, IsFlagGiven, IsNumberNamed, machine_given, machine_named, number_or, operand, start_given, value, value_or};
 
 use crate::refused::{Misuse, Refused};
 use clap::ArgMatches;
@@ -32,28 +32,66 @@ const SEED: u32 = 1;
 /// The greatest seed.
 const MOST_SEED: u32 = 99_999_999;
 
+/// The value of an option, and another text where it is left out.
+fn value_or<'a>(found: &ArgMatches<'a>, name: &str, otherwise: &'a str) -> &'a str
+    ensures { result.now ≡ value_or found.now name.now otherwise.now }
+{
+    match found.get_str(name) {
+        Some(value) => value,
+        None => otherwise,
+    }
+}
+
 /// The value of an operand; one that is left out is `-`, which stands for standard input.
 pub(crate) fn operand_of<'a>(found: &ArgMatches<'a>, name: &str) -> &'a str
     ensures { result.now ≡ operand found.now name.now }
 {
+    value_or(found, name, "-")
+}
+
+/// Whether an option or an operand has a value.
+pub(crate) fn has_value(found: &ArgMatches<'_>, name: &str) -> bool
+    ensures { result ≡ is_some (value found.now name.now) }
+{
     match found.get_str(name) {
-        Some(value) => value,
-        None => "-",
+        Some(_) => true,
+        None => false,
+    }
+}
+
+/// Whether an option without a value is given.
+pub(crate) fn is_given(found: &ArgMatches<'_>, name: &str) -> bool
+    ensures { IsFlagGiven found.now name.now result }
+{
+    found.get_flag(name)
+}
+
+/// The machine of a name.
+fn machine_named(name: &str) -> Result<Profile, Refused>
+    ensures { IfOk result (λ machine. machine_named name.now ≡ Some machine) }
+{
+    match name {
+        "8i" => Ok(Profile::Pdp8I),
+        "8e" => Ok(Profile::Pdp8E),
+        _ => Err(Refused::Misuse(Misuse::Profile)),
     }
 }
 
 /// The machine that is meant.
-pub(crate) fn profile_of(found: &ArgMatches<'_>) -> Result<Profile, Refused> {
-    match found.get_str("profile") {
-        None | Some("8i") => Ok(Profile::Pdp8I),
-        Some("8e") => Ok(Profile::Pdp8E),
-        Some(_) => Err(Refused::Misuse(Misuse::Profile)),
-    }
+pub(crate) fn profile_of(found: &ArgMatches<'_>) -> Result<Profile, Refused>
+    ensures { IfOk result (λ machine. machine_given found.now ≡ Some machine) }
+{
+    machine_named(value_or(found, "profile", "8i"))
 }
 
 /// The address of the first instruction.
-pub(crate) fn start_of(found: &ArgMatches<'_>) -> Result<Word, Refused> {
-    Ok(Word::from_octal(found.get_str("start").unwrap_or("0200").as_bytes())?)
+pub(crate) fn start_of(found: &ArgMatches<'_>) -> Result<Word, Refused>
+    ensures { IfOk result (λ start. start_given found.now ≡ Ok start) }
+{
+    match Word::from_octal(value_or(found, "start", "0200").as_bytes()) {
+        Ok(start) => Ok(start),
+        Err(fault) => Err(Refused::from(fault)),
+    }
 }
 
 /// Whether a start or a machine is named.
@@ -61,18 +99,38 @@ pub(crate) fn is_start_named(found: &ArgMatches<'_>) -> bool {
     found.get_str("start").is_some() || found.get_str("profile").is_some()
 }
 
+/// The number between two others that an option spells; another number where it is left out.
+fn number_or(
+    found: &ArgMatches<'_>,
+    name: &str,
+    least: u32,
+    most: u32,
+    otherwise: u32,
+) -> Option<u32>
+    requires { most ≤ 100000000 }
+    ensures { result ≡ number_or least most otherwise (value found.now name.now) }
+{
+    match found.get_str(name) {
+        None => Some(otherwise),
+        Some(text) => decimal_between(least, most, text.as_bytes()),
+    }
+}
+
 /// How many rounds are made at most.
-fn rounds_of(found: &ArgMatches<'_>) -> Result<u32, Refused> {
-    match found.get_str("steps") {
-        None => Ok(ROUNDS),
-        Some(text) => {
-            decimal_between(1, MOST_ROUNDS, text.as_bytes()).ok_or(Refused::Steps(MOST_ROUNDS))
-        }
+fn rounds_of(found: &ArgMatches<'_>) -> Result<u32, Refused>
+    ensures { IfOk result (λ rounds.
+        number_or 1 1000000 100000 (value found.now (codes "steps")) ≡ Some rounds) }
+{
+    match number_or(found, "steps", 1, MOST_ROUNDS, ROUNDS) {
+        Some(rounds) => Ok(rounds),
+        None => Err(Refused::Steps(MOST_ROUNDS)),
     }
 }
 
 /// How often CONTINUE is pressed at declared pauses at most, if it may be.
-pub(crate) fn continues_of(found: &ArgMatches<'_>) -> Result<Option<u32>, Refused> {
+pub(crate) fn continues_of(found: &ArgMatches<'_>) -> Result<Option<u32>, Refused>
+    ensures { IfOk result (IsNumberNamed 1 1000000 (value found.now (codes "continue"))) }
+{
     match found.get_str("continue") {
         None => Ok(None),
         Some(text) => match decimal_between(1, MOST_CONTINUES, text.as_bytes()) {
@@ -83,62 +141,81 @@ pub(crate) fn continues_of(found: &ArgMatches<'_>) -> Result<Option<u32>, Refuse
 }
 
 /// How a tape is run whose run shows these cells.
-pub(crate) fn run_options(found: &ArgMatches<'_>, show: WordSet) -> Result<RunOptions, Refused> {
+pub(crate) fn run_options(found: &ArgMatches<'_>, show: WordSet) -> Result<RunOptions, Refused>
+    ensures options { IfOk result (AreRunOptions found.now) }
+    ensures shown { IfOk result (λ options. options.show ≡ show) }
+{
+    let start = start_of(found)?;
+    let rounds = rounds_of(found)?;
+    let profile = profile_of(found)?;
     Ok(RunOptions {
-        start: start_of(found)?,
-        rounds: rounds_of(found)?,
-        trace: found.get_flag("trace"),
-        profile: profile_of(found)?,
+        start,
+        rounds,
+        trace: is_given(found, "trace"),
+        profile,
         show,
     })
 }
 
 /// What a declaration is proposed for.
-pub(crate) fn declare_options(found: &ArgMatches<'_>) -> Result<DeclareOptions, Refused> {
+pub(crate) fn declare_options(found: &ArgMatches<'_>) -> Result<DeclareOptions, Refused>
+    ensures { IfOk result (AreDeclareOptions found.now) }
+{
+    let start = start_of(found)?;
+    let profile = profile_of(found)?;
     Ok(DeclareOptions {
-        start: start_of(found)?,
-        profile: profile_of(found)?,
-        reads: found.get_flag("reads"),
+        start,
+        profile,
+        reads: is_given(found, "reads"),
     })
 }
 
 /// How many steps a search for a run makes at most.
-fn search_steps_of(found: &ArgMatches<'_>) -> Result<u32, Refused> {
-    match found.get_str("steps") {
-        None => Ok(SEARCH_STEPS),
-        Some(text) => {
-            decimal_between(1, MOST_SEARCH_STEPS, text.as_bytes()).ok_or(Refused::Steps(
-                MOST_SEARCH_STEPS,
-            ))
-        }
+fn search_steps_of(found: &ArgMatches<'_>) -> Result<u32, Refused>
+    ensures { IfOk result (λ steps.
+        number_or 1 100000000 20000000 (value found.now (codes "steps")) ≡ Some steps) }
+{
+    match number_or(found, "steps", 1, MOST_SEARCH_STEPS, SEARCH_STEPS) {
+        Some(steps) => Ok(steps),
+        None => Err(Refused::Steps(MOST_SEARCH_STEPS)),
     }
 }
 
 /// Where the random numbers of a search begin.
-fn seed_of(found: &ArgMatches<'_>) -> Result<u32, Refused> {
-    match found.get_str("seed") {
-        None => Ok(SEED),
-        Some(text) => {
-            decimal_between(0, MOST_SEED, text.as_bytes()).ok_or(Refused::Misuse(Misuse::Seed))
-        }
+fn seed_of(found: &ArgMatches<'_>) -> Result<u32, Refused>
+    ensures { IfOk result (λ seed.
+        number_or 0 99999999 1 (value found.now (codes "seed")) ≡ Some seed) }
+{
+    match number_or(found, "seed", 0, MOST_SEED, SEED) {
+        Some(seed) => Ok(seed),
+        None => Err(Refused::Misuse(Misuse::Seed)),
     }
 }
 
 /// How a run that violates a declaration is searched for.
-pub(crate) fn refute_options(found: &ArgMatches<'_>) -> Result<RefuteOptions, Refused> {
+pub(crate) fn refute_options(found: &ArgMatches<'_>) -> Result<RefuteOptions, Refused>
+    ensures { IfOk result (AreRefuteOptions found.now) }
+{
+    let steps = search_steps_of(found)?;
+    let seed = seed_of(found)?;
     Ok(RefuteOptions {
-        steps: search_steps_of(found)?,
-        seed: seed_of(found)?,
-        explained: found.get_flag("why"),
+        steps,
+        seed,
+        explained: is_given(found, "why"),
     })
 }
 
 /// How it is found out whether a program complies with its declaration.
-pub(crate) fn verify_options(found: &ArgMatches<'_>) -> Result<VerifyOptions, Refused> {
+pub(crate) fn verify_options(found: &ArgMatches<'_>) -> Result<VerifyOptions, Refused>
+    ensures { IfOk result (AreVerifyOptions found.now) }
+{
+    let start = start_of(found)?;
+    let profile = profile_of(found)?;
+    let search = refute_options(found)?;
     Ok(VerifyOptions {
-        start: start_of(found)?,
-        profile: profile_of(found)?,
-        search: refute_options(found)?,
+        start,
+        profile,
+        search,
     })
 }
 

@@ -17,11 +17,14 @@ const MOST_ROUNDS: usize = 64;
 type Sets<A> = BTreeMap<usize, WordSet, A>;
 
 /// The cells that are needed at each address of a body, and at each entry those that are needed when
-/// its routine returns; at each entry, too, the cells that the routine's words name to write.
+/// its routine returns; at each entry, too, the cells that the routine's words name to write. Some
+/// cells may be partners: where a routine writes one of them that is needed when it returns, all of
+/// them that are needed then are needed in it too, as what is known of them may be how they differ.
 #[derive(Drop)]
 pub(crate) struct Needs<A: Allocator> {
     cells: Sets<A>,
     writes: Sets<A>,
+    partners: WordSet,
 }
 
 /// The set of an address.
@@ -61,6 +64,15 @@ fn without(cells: &WordSet, cell: Option<Word>) -> WordSet {
     match cell {
         None => *cells,
         Some(cell) => cells.minus(&WordSet::one(cell)),
+    }
+}
+
+/// Some of the cells that are needed after a call, with all partners that are needed then if one is among them.
+fn with_partners(after: &WordSet, cells: &WordSet, partners: &WordSet) -> WordSet {
+    if cells.meet(partners).is_empty() {
+        *cells
+    } else {
+        cells.union(&after.meet(partners))
     }
 }
 
@@ -113,14 +125,16 @@ fn asserted_at<D: Allocator>(program: &AnalysedProgram<'_, D>, at: Word) -> Word
 }
 
 impl<A: Allocator + Copy> Needs<A> {
-    /// What the words of a program need.
+    /// What the words of a program need, where some cells are partners.
     pub(crate) fn of<D: Allocator>(
         alloc: A,
         program: &AnalysedProgram<'_, D>,
+        partners: &WordSet,
     ) -> Result<Needs<A>, Halt> {
         let mut needs = Needs {
             cells: BTreeMap::new(alloc),
             writes: BTreeMap::new(alloc),
+            partners: *partners,
         };
         needs.find_writes(program)?;
         needs.add_returned(program)?;
@@ -240,7 +254,8 @@ impl<A: Allocator + Copy> Needs<A> {
         };
         let after = self.after_returns(program, at, entry);
         let written = set_at(&self.writes, entry);
-        add_at(&mut self.cells, entry, &after.meet(&written))?;
+        let returned = with_partners(&after, &after.meet(&written), &self.partners);
+        add_at(&mut self.cells, entry, &returned)?;
         let within = self.at(entry.increment());
         Ok(within.union(&after.minus(&written)))
     }

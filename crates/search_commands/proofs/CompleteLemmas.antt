@@ -1,15 +1,20 @@
 -- What `complete` writes.
-use Rattle.std.proofs.Common.{ℕ, List, Option, refl, inl, inr}
-use Rattle.std.specs.Prelude.{Some, None}
+use Rattle.std.proofs.Common.{ℕ, ◌≡◌, ◌||◌, Bool, true, List, Option, refl, inl, inr, sym, subst, take, arith}
+use Rattle.std.specs.Prelude.{Some, None, IfSome}
 use Rattle.wordset.specs.Words.{Words}
 use Rattle.peripherals.specs.Loading.{image_of}
 use Rattle.declaration.specs.Declaration.{Declaration}
 use Rattle.declaration.specs.Text.{Declares}
 use Rattle.policy.specs.Runs.{IsSafe}
+use Rattle.command_parts.specs.declared.status.Status.{Status}
 use Rattle.command_parts.specs.declared.status.Status.TheVariants.{Done, Refused}
+use Rattle.command_parts.proofs.InputLemmas.{all_or_more}
 use Rattle.search_commands.proofs.DeclareLemmas.{refused_not_done}
 use Rattle.search_commands.specs.Extending.{Extends, KeepsReads}
+use Rattle.search_commands.specs.Adding.{IsAddition, lists}
 use Rattle.search_commands.specs.CompleteText.{Completes, IsExtension}
+use Rattle.search_commands.specs.Keeping.{KeepsLines}
+use Rattle.search_commands.specs.Keeping.KeepsLines.{unchanged}
 
 keeps_own : (reads : Option Words) → KeepsReads reads reads
 keeps_own None = refl
@@ -28,24 +33,62 @@ extends_own d = record {
 }
 
 -- so its text is that of an extension
-pub own_extension : (d : Declaration) (text : List ℕ) → Declares text d → IsExtension d text
-own_extension d text declares = record { declaration = d; declares = declares; extends = extends_own d }
+pub own_extension : (d : Declaration) (text : List ℕ) → Declares text d → IsExtension (Some text) d text
+own_extension d text declares = record { declaration = d; declares = declares; extends = extends_own d; keeps = unchanged text }
+
+so_left : (a b : Bool) → a ≡ true → (a || b) ≡ true
+so_left a b is = rw is refl
+
+-- and of what is added to the declaration, which is nothing
+pub own_addition : (given proposed : Declaration) (text : List ℕ) → Declares text given → IsAddition given proposed text
+own_addition given proposed text declares = record {
+  declaration = given;
+  declares = declares;
+  adds = λ a small. record {
+    body = λ r is. so_left (given.body r a) (proposed.body r a) is;
+    offset = λ o low is. so_left (given.offset a o) (proposed.offset a o) is;
+    entry = λ is. so_left (given.entry a) (proposed.entry a) is;
+    variable = λ is. so_left (given.variable a) (proposed.variable a) is;
+    stop = λ is. so_left (given.stop a) (proposed.stop a) is;
+    pause = λ is. so_left (given.pause a) (proposed.pause a) is;
+    read = λ is. so_left (lists given.reads a) (lists proposed.reads a) is;
+  };
+}
 
 -- with a certificate for what extends it
-pub shown_completes : (image : List (Option ℕ)) (given d : Declaration) (text : List ℕ) → Declares text d → Extends given d →
-    IsSafe (image_of image) d → Completes image given Done text
-shown_completes image given d text declares extends safe = record {
-  is = record { declaration = d; declares = declares; extends = extends };
+pub shown_completes : (image : List (Option ℕ)) (bytes : List ℕ) (given d : Declaration) (text : List ℕ) → Declares text d → Extends given d → KeepsLines bytes text →
+    IsSafe (image_of image) d → Completes (Some bytes) image given Done text
+shown_completes image bytes given d text declares extends keeps safe = record {
+  is = record { declaration = d; declares = declares; extends = extends; keeps = keeps };
   ends = inl refl;
   safe = λ done. safe;
 }
 
 -- with a certificate for the declaration itself
 pub own_completes : (image : List (Option ℕ)) (d : Declaration) (text : List ℕ) → Declares text d → IsSafe (image_of image) d →
-    Completes image d Done text
-own_completes image d text declares safe = shown_completes image d d text declares (extends_own d) safe
+    Completes (Some text) image d Done text
+own_completes image d text declares safe = shown_completes image text d d text declares (extends_own d) (unchanged text) safe
 
 -- without one
-pub lacking_completes : (image : List (Option ℕ)) (given : Declaration) (text : List ℕ) → IsExtension given text →
-    Completes image given Refused text
-lacking_completes image given text is = record { is = is; ends = inr refl; safe = λ done. refused_not_done done }
+pub lacking_completes : (image : List (Option ℕ)) (source : Option (List ℕ)) (given : Declaration) (text : List ℕ) → IsExtension source given text →
+    Completes source image given Refused text
+lacking_completes image source given text is = record { is = is; ends = inr refl; safe = λ done. refused_not_done done }
+
+-- a text that was read up to one byte more than a declaration may have is all that its source had
+pub whole_text : (had : Option (List ℕ)) (text : List ℕ) (d : Declaration) → IfSome had (λ bytes. text ≡ take 16385 bytes) → Declares text d → IfSome had (λ bytes. bytes ≡ text)
+whole_text had text d is declares =
+    all_or_more (λ bytes. bytes ≡ text) had text 16384 is refl (λ bytes long more e. absurd (let short = declares.good.short in omega (arith, short, long)))
+
+-- what keeps the lines of the text that a source had keeps those of the source
+keeps_source : (source : Option (List ℕ)) (bytes text : List ℕ) → IfSome source (λ all. all ≡ bytes) → KeepsLines bytes text → IfSome source (λ all. KeepsLines all text)
+keeps_source None bytes text is keeps = tt
+keeps_source (Some all) bytes text is keeps = let P : List ℕ → Type 0 = λ t. KeepsLines t text in subst P (sym is) keeps
+
+-- so it completes the declaration of the source
+pub completes_source : (source : Option (List ℕ)) (bytes : List ℕ) (image : List (Option ℕ)) (given : Declaration) (status : Status) (text : List ℕ)
+    → IfSome source (λ all. all ≡ bytes) → Completes (Some bytes) image given status text → Completes source image given status text
+completes_source source bytes image given status text all is = record {
+  is = record { declaration = is.is.declaration; declares = is.is.declares; extends = is.is.extends; keeps = keeps_source source bytes text all is.is.keeps };
+  ends = is.ends;
+  safe = is.safe;
+}

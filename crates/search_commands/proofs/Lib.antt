@@ -3,3 +3,4 @@ pub mod CompleteLemmas
 pub mod StuckLemmas
 mod AgreeLemmas
 pub mod WidenedLemmas
+mod KeepingLemmas

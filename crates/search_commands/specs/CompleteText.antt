@@ -1,5 +1,5 @@
 -- What is written of a declaration to which what is missing is added.
-use Rattle.std.specs.Prelude.{ℕ, ◌≡◌, ◌⊎◌, ⊤, List, Option}
+use Rattle.std.specs.Prelude.{ℕ, ◌≡◌, ◌⊎◌, ⊤, IfSome, List, Option, Some}
 use Rattle.peripherals.specs.Loading.{image_of}
 use Rattle.declaration.specs.Declaration.{Declaration}
 use Rattle.declaration.specs.Text.{Declares}
@@ -9,23 +9,26 @@ use Rattle.command_parts.specs.declared.status.Status.TheVariants.{Done, Refused
 use Rattle.search_commands.specs.declared.completing.Trial.{Trial}
 use Rattle.search_commands.specs.declared.completing.Trial.TheVariants.{Shown, Lacking, Unfit}
 use Rattle.search_commands.specs.Extending.{Extends}
+use Rattle.search_commands.specs.Keeping.{KeepsLines}
 
--- The text declares a program, and what it declares extends the declaration that is given.
-pub record IsExtension (given : Declaration) (text : List ℕ) : Type 0 where
+-- The text declares a program, and what it declares extends the declaration that is given. It keeps the lines of the text that is
+-- given, as far as its source tells its bytes.
+pub record IsExtension (source : Option (List ℕ)) (given : Declaration) (text : List ℕ) : Type 0 where
   pub declaration : Declaration
   pub declares : Declares text declaration
   pub extends : Extends given declaration
+  pub keeps : IfSome source (λ bytes. KeepsLines bytes text)
 
--- The text declares what extends the declaration that is given; and where the command is done no run of the program with
--- these words breaks what it declares.
-pub record Completes (image : List (Option ℕ)) (given : Declaration) (status : Status) (text : List ℕ) : Type 0 where
-  pub is : IsExtension given text
+-- The text declares what extends the declaration that is given, and keeps its lines; and where the command is done no run of the
+-- program with these words breaks what it declares.
+pub record Completes (source : Option (List ℕ)) (image : List (Option ℕ)) (given : Declaration) (status : Status) (text : List ℕ) : Type 0 where
+  pub is : IsExtension source given text
   pub ends : (status ≡ Done) ⊎ (status ≡ Refused)
   pub safe : status ≡ Done → IsSafe (image_of image) is.declaration
 
--- What is found of a text is true: it extends the declaration, and if it is shown no run of the program with these words
--- breaks what it declares. Of a text that is unfit nothing is said.
-abbrev pub IsTried : List (Option ℕ) → Declaration → List ℕ → Trial → Type 0
-IsTried image given text Shown = Completes image given Done text
-IsTried image given text (Lacking lack) = IsExtension given text
-IsTried image given text Unfit = ⊤
+-- What is found of a text is true: it extends the declaration that is given by these bytes, and if it is shown no run of the
+-- program with these words breaks what it declares. Of a text that is unfit nothing is said.
+abbrev pub IsTried : List (Option ℕ) → List ℕ → Declaration → List ℕ → Trial → Type 0
+IsTried image bytes given text Shown = Completes (Some bytes) image given Done text
+IsTried image bytes given text (Lacking lack) = IsExtension (Some bytes) given text
+IsTried image bytes given text Unfit = ⊤

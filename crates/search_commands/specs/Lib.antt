@@ -10,3 +10,4 @@ pub mod WidenedSearch
 pub mod Laws
 pub mod Adding
 pub mod MigrateText
+pub mod Keeping

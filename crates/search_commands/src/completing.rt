@@ -1,6 +1,6 @@
 //! The command that adds to a declaration what is missing there.
 
-ghost use Rattle.std.specs.Prelude.{◌≡◌, ◌⊎◌, false, Ok, Err, None, IfSome, IfOk, IfErr, ℕ, List, Option};
+ghost use Rattle.std.specs.Prelude.{◌≡◌, ◌⊎◌, false, Ok, Err, Some, None, IfSome, IfOk, IfErr, ℕ, List, Option};
 ghost use Rattle.command_parts.specs.Answers.{IsLaterFault, IsMemoryFault, NeverFails, OfProgram, ReadsTwo, WritesAnswer, output};
 ghost use Rattle.command_parts.specs.Faults.{IsDeclarationInputFault, fails_to_read, fails_to_write};
 ghost use Rattle.command_parts.specs.Inputs.{HasDeclaration, HasImage, TakesAtMost, input};
@@ -8,6 +8,7 @@ ghost use Rattle.command_parts.specs.declared.status.Status.TheVariants.{Done, R
 ghost use Rattle.search_commands.specs.Adding.{AddsIfFit, AddsOnly, IsAddition};
 ghost use Rattle.search_commands.specs.CompleteText.{Completes, IsExtension, IsTried};
 ghost use Rattle.search_commands.specs.Extending.{Extends};
+ghost use Rattle.search_commands.specs.Keeping.{KeepsLines};
 ghost use Rattle.search_commands.specs.SearchFaults.{IsProposeFault};
 ghost use Rattle.declaration.specs.Kept.{meaning};
 ghost use Rattle.declaration.specs.Text.{Declares};
@@ -18,6 +19,7 @@ ghost use Rattle.policy.specs.Runs.{IsSafe};
 use crate::adding::adds_only;
 use crate::declaring::{MOST_TURNS, copy_of, proposal_for, push_lack, push_seen, push_unfollowed};
 use crate::extending::extends;
+use crate::keeping::keeps_lines;
 use crate::merging::merged;
 use crate::verifying::{Lack, lack_of};
 use analyser::guess;
@@ -72,6 +74,8 @@ fn given_from<A: Allocator + Copy, R: ByteSource>(
         HasDeclaration (R.remaining source.old) (meaning given.declaration)) }
     ensures text { IfOk result (λ given.
         Declares given.text.items (meaning given.declaration)) }
+    ensures whole { IfOk result (λ given.
+        IfSome (R.remaining source.old) (λ bytes. bytes ≡ given.text.items)) }
     ensures faults { IfErr result (IsDeclarationInputFault
         (input (R.mark source.new) (R.remaining source.old) (R.remaining source.new))) }
     ensures marks { R.mark source.new ≡ fails_to_read result }
@@ -97,6 +101,8 @@ fn given_program_from<A: Allocator + Copy, R: ByteSource, D: ByteSource>(
         HasDeclaration (D.remaining declaration.old) (meaning program.given.declaration)) }
     ensures text { IfOk result (λ program.
         Declares program.given.text.items (meaning program.given.declaration)) }
+    ensures whole { IfOk result (λ program. IfSome (D.remaining declaration.old)
+        (λ bytes. bytes ≡ program.given.text.items)) }
     ensures reads { ReadsTwo NeverFails
         (input (R.mark tape.new) (R.remaining tape.old) (R.remaining tape.new))
         (input (D.mark declaration.new) (D.remaining declaration.old) (D.remaining declaration.new))
@@ -127,13 +133,16 @@ fn lack_in<A: Allocator + Copy, D: Allocator>(
     }
 }
 
-/// What a text declares, if that extends a declaration by what is proposed and by nothing else.
+/// What a text declares, if it keeps the lines of a declaration that is given, and extends it by what is proposed and by
+/// nothing else.
 fn extension<A: Allocator + Copy, D: Allocator>(
     alloc: A,
+    bytes: &[u8],
     given: &Declaration<D>,
     proposed: &Declaration<D>,
     text: &[u8],
 ) -> Result<Option<Declaration<A>>, Fault>
+    ensures keeps { IfOk result (λ found. IfSome found (λ d. KeepsLines bytes.now text.now)) }
     ensures declares { IfOk result (λ found. IfSome found (λ d. Declares text.now (meaning d))) }
     ensures extends { IfOk result (λ found.
         IfSome found (λ d. Extends (meaning given.now) (meaning d))) }
@@ -141,6 +150,9 @@ fn extension<A: Allocator + Copy, D: Allocator>(
         AddsOnly (meaning given.now) (meaning proposed.now) (meaning d))) }
     ensures faults { IfErr result IsMemoryFault }
 {
+    if !keeps_lines(bytes, text) {
+        return Ok(None);
+    }
     match Declaration::parse(alloc, text) {
         Ok(more) => {
             if !extends(given, &more) {
@@ -160,15 +172,16 @@ fn extension<A: Allocator + Copy, D: Allocator>(
 fn tried<A: Allocator + Copy, D: Allocator>(
     alloc: A,
     image: &Image,
+    bytes: &[u8],
     given: &Declaration<D>,
     proposed: &Declaration<D>,
     text: &[u8],
 ) -> Result<Trial, Fault>
-    ensures tried { IfOk result (IsTried image.now (meaning given.now) text.now) }
+    ensures tried { IfOk result (IsTried image.now bytes.now (meaning given.now) text.now) }
     ensures adds { IfOk result (AddsIfFit (meaning given.now) (meaning proposed.now) text.now) }
     ensures faults { IfErr result IsMemoryFault }
 {
-    let Some(more) = extension(alloc, given, proposed, text)? else {
+    let Some(more) = extension(alloc, bytes, given, proposed, text)? else {
         return Ok(Trial::Unfit);
     };
     match lack_in(alloc, image, &more)? {
@@ -205,6 +218,7 @@ fn with_remarks<A: Allocator + Copy>(
 /// A text that extends a declaration, with comments after it where there is room for them.
 fn remarked<A: Allocator + Copy, D: Allocator>(
     alloc: A,
+    bytes: &[u8],
     given: &Declaration<D>,
     proposed: &Declaration<D>,
     text: &[u8],
@@ -212,15 +226,16 @@ fn remarked<A: Allocator + Copy, D: Allocator>(
     seen: Option<ObservedRuns>,
     unfollowed: &WordSet,
 ) -> Result<Vec<u8, A>, Fault>
-    requires extends { IsExtension (meaning given.now) text.now }
+    requires extends { IsExtension (Some bytes.now) (meaning given.now) text.now }
     requires adds { IsAddition (meaning given.now) (meaning proposed.now) text.now }
     ensures adds { IfOk result (λ more.
         IsAddition (meaning given.now) (meaning proposed.now) more.items) }
-    ensures extends { IfOk result (λ more. IsExtension (meaning given.now) more.items) }
+    ensures extends { IfOk result (λ more.
+        IsExtension (Some bytes.now) (meaning given.now) more.items) }
     ensures faults { IfErr result IsMemoryFault }
 {
     let more = with_remarks(alloc, text, lack, seen, unfollowed)?;
-    match extension(alloc, given, proposed, &more)? {
+    match extension(alloc, bytes, given, proposed, &more)? {
         Some(_found) => Ok(more),
         None => Ok(copy_of(alloc, text)?),
     }
@@ -247,6 +262,7 @@ fn proposal_by<A: Allocator + Copy>(
 /// What is written of a text that extends a declaration if no certificate is found.
 fn lacking<A: Allocator + Copy, D: Allocator>(
     alloc: A,
+    bytes: &[u8],
     given: &Declaration<D>,
     proposed: &Declaration<D>,
     text: &[u8],
@@ -254,15 +270,15 @@ fn lacking<A: Allocator + Copy, D: Allocator>(
     seen: Option<ObservedRuns>,
     unfollowed: &WordSet,
 ) -> Result<Outcome<A>, Fault>
-    requires extends { IsExtension (meaning given.now) text.now }
+    requires extends { IsExtension (Some bytes.now) (meaning given.now) text.now }
     requires adds { IsAddition (meaning given.now) (meaning proposed.now) text.now }
     ensures completes { (image : List (Option ℕ)) → IfOk result (λ c.
-        Completes image (meaning given.now) c.status c.text.items) }
+        Completes (Some bytes.now) image (meaning given.now) c.status c.text.items) }
     ensures adds { IfOk result (λ c.
         IsAddition (meaning given.now) (meaning proposed.now) c.text.items) }
     ensures faults { IfErr result IsMemoryFault }
 {
-    let more = remarked(alloc, given, proposed, text, lack, seen, unfollowed)?;
+    let more = remarked(alloc, bytes, given, proposed, text, lack, seen, unfollowed)?;
     Ok(Outcome {
         text: more,
         status: Status::Refused,
@@ -279,16 +295,17 @@ fn completed<A: Allocator + Copy>(
     proposal: &Proposal<A>,
 ) -> Result<Outcome<A>, Fault>
     requires { Declares given.now.text.items (meaning given.now.declaration) }
-    ensures completes { IfOk result (λ c.
-        Completes image.now (meaning given.now.declaration) c.status c.text.items) }
+    ensures completes { IfOk result (λ c. Completes (Some given.now.text.items) image.now
+        (meaning given.now.declaration) c.status c.text.items) }
     ensures adds { IfOk result (λ c. IsAddition (meaning given.now.declaration)
         (meaning proposal.now.declaration) c.text.items) }
     ensures faults { IfErr result IsMemoryFault }
 {
+    let bytes = given.text.as_slice();
     let promised = &given.declaration;
     let proposed = &proposal.declaration;
-    let text = merged(alloc, &given.text, promised, proposed)?;
-    match tried(alloc, image, promised, proposed, &text)? {
+    let text = merged(alloc, bytes, promised, proposed)?;
+    match tried(alloc, image, bytes, promised, proposed, &text)? {
         Trial::Shown => Ok(Outcome {
             text,
             status: Status::Done,
@@ -296,13 +313,16 @@ fn completed<A: Allocator + Copy>(
         Trial::Lacking(lack) => {
             let seen = proposal.seen;
             let unfollowed = &proposal.unfollowed;
-            lacking(alloc, promised, proposed, &text, lack, seen, unfollowed)
+            lacking(
+                alloc, bytes, promised, proposed, &text, lack, seen, unfollowed,
+            )
         }
         // Nothing is added, so nothing is by what runs did.
         Trial::Unfit => {
-            let text = &given.text;
             let unfollowed = &proposal.unfollowed;
-            lacking(alloc, promised, proposed, text, lack, None, unfollowed)
+            lacking(
+                alloc, bytes, promised, proposed, bytes, lack, None, unfollowed,
+            )
         }
     }
 }
@@ -314,8 +334,8 @@ fn completion_of<A: Allocator + Copy>(
     reads: bool,
 ) -> Result<Outcome<A>, Fault>
     requires { Declares program.given.text.items (meaning program.given.declaration) }
-    ensures completes { IfOk result (λ told. Completes program.image
-        (meaning program.given.declaration) told.status told.text.items) }
+    ensures completes { IfOk result (λ told. Completes (Some program.given.text.items)
+        program.image (meaning program.given.declaration) told.status told.text.items) }
     ensures faults { IfErr result IsProposeFault }
     ensures unwritten { fails_to_write result ≡ false }
 {
@@ -353,10 +373,12 @@ pub fn complete<A: Allocator + Copy, R: ByteSource, D: ByteSource, W: ByteSink>(
     requires readable { R.mark tape.old ≡ false }
     requires declaration_readable { D.mark declaration.old ≡ false }
     requires writable { W.mark out.old ≡ false }
-    // What is written declares a program, and it extends the declaration that is read; and where the
-    // command is done no run of the tape's program breaks what is written.
+    // What is written declares a program, it extends the declaration that is read, and it keeps its lines in their order, behind
+    // which there are only comments and lines that end with `/ added`; and where the command is done no run of the tape's
+    // program breaks what is written.
     ensures completed { WritesAnswer
-        (OfProgram (R.remaining tape.old) (D.remaining declaration.old) Completes)
+        (OfProgram (R.remaining tape.old) (D.remaining declaration.old)
+        (Completes (D.remaining declaration.old)))
         (output (W.mark out.new) (W.taken out.old) (W.taken out.new)) result }
     // The inputs are read in order; after good ones what was found may be undeclarable, or a write fail.
     ensures reads { ReadsTwo (IsLaterFault IsProposeFault)

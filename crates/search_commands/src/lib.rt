@@ -9,6 +9,7 @@ pub mod declaring;
 pub mod explaining;
 mod extending;
 pub mod guessing;
+mod keeping;
 pub mod laws;
 mod merging;
 pub mod messages;

@@ -24,7 +24,7 @@ impl<A: Allocator + Copy> SumSearch<A> {
     /// Claims more of a routine, and tells whether it is more.
     fn claim(&mut self, entry: Word, sites: &WordSet, writes: &WordSet) -> Result<bool, Halt> {
         let alloc = self.alloc;
-        if self.gathers {
+        if self.gathers() {
             self.gathered.claim(alloc, entry, sites, writes)
         } else {
             self.table.claim(alloc, entry, sites, writes)
@@ -50,7 +50,7 @@ impl<A: Allocator + Copy> SumSearch<A> {
 
     /// The facts at some addresses wait again.
     fn visit_again(&mut self, addresses: &WordSet) {
-        if self.gathers {
+        if self.gathers() {
             return;
         }
         for at in addresses.iter() {
@@ -91,6 +91,7 @@ impl<A: Allocator + Copy> SumSearch<A> {
         self.write(&place.routine, &written.union(&WordSet::one(entry)))?;
         room.calls.put_called_from(at);
         let goal = Goal {
+            from: at,
             to: entry.increment(),
             routine: Some(entry),
             exit: None,
@@ -124,7 +125,6 @@ impl<A: Allocator + Copy> SumSearch<A> {
         room: &mut SumRooms<A>,
     ) -> Result<(), Halt> {
         let written = self.claimed(entry).writes;
-        let more = self.split.cell;
         let Some(kept) = self.table.exits.get(entry, index) else {
             return Ok(());
         };
@@ -135,9 +135,10 @@ impl<A: Allocator + Copy> SumSearch<A> {
         if !kept.sites.contains(at) || !program.has(&place.routine, to) {
             return Ok(());
         }
-        kept.put_written(&written, &more, &mut room.calls.exit);
+        kept.put_written(&written, &mut room.calls.exit);
         room.calls.put_joined(&written);
         let goal = Goal {
+            from: at,
             to,
             routine: place.routine,
             exit: None,
@@ -167,6 +168,7 @@ impl<A: Allocator + Copy> SumSearch<A> {
             {
                 room.calls.put_next();
                 let goal = Goal {
+                    from: at,
                     to: at,
                     routine: Some(entry),
                     exit: Some(offset),
@@ -192,7 +194,7 @@ impl<A: Allocator + Copy> SumSearch<A> {
         };
         let at = goal.to;
         let merge = self.merge_at(program, entry);
-        let is_less = if self.gathers {
+        let is_less = if self.gathers() {
             let wanted = self.table.exits.relations_in(entry, case);
             self.gathered
                 .exits

@@ -8,7 +8,7 @@ use crate::halt::Halt;
 use crate::invariant::are_short;
 use crate::of_sums::program::SumProgram;
 use crate::of_sums::rooms::{CallRooms, PartRooms, SumRooms};
-use crate::of_sums::search::{MOST_WORDS, SumSearch};
+use crate::of_sums::search::{MOST_WORDS, SumSearch, Way};
 use crate::of_sums::splits::{Case, MOST_VALUES};
 use domain::{Chain, Location, ReturnOffsets};
 use facts::{Fact, Kind, KnownFact, NarrowedFact, NextFact, Outcome, Outcomes, Part, Place};
@@ -18,9 +18,10 @@ use turns::{GuessFault, Turns};
 use word12::{Link, Word};
 use wordset::WordSet;
 
-/// Where facts go to be kept: at which address, and for what is joined there, in the body of which routine.
+/// Where facts go to be kept: from which address to which, and for what is joined there, in the body of which routine.
 #[derive(Clone, Copy)]
 pub(crate) struct Goal {
+    pub(crate) from: Word,
     pub(crate) to: Word,
     pub(crate) routine: Option<Word>,
     pub(crate) exit: Option<usize>,
@@ -42,7 +43,7 @@ impl<A: Allocator + Copy> SumSearch<A> {
         ensures spent { IfErr result (IsSpentUp turns.new) }
     {
         turns.are_within();
-        let Some(kept) = self.table.facts.get(at, index) else {
+        let Some(kept) = self.sources().get(at, index) else {
             return Ok(());
         };
         kept.put(&mut room.calls.claimed);
@@ -109,7 +110,7 @@ impl<A: Allocator + Copy> SumSearch<A> {
             Kind::Calls => self.call_each(program, place, at, room),
             Kind::Returns => self.come_back(program, place, at, word, room),
             Kind::Goes | Kind::Nothing => {
-                self.follow_all(program, place, &abandoned_by(place, word), room)
+                self.follow_all(program, place, at, &abandoned_by(place, word), room)
             }
         }
     }
@@ -119,6 +120,7 @@ impl<A: Allocator + Copy> SumSearch<A> {
         &mut self,
         program: &SumProgram<'_, D>,
         place: &Place<'_, D>,
+        at: Word,
         beyond: &WordSet,
         room: &mut SumRooms<A>,
     ) -> Result<(), Halt> {
@@ -127,10 +129,10 @@ impl<A: Allocator + Copy> SumSearch<A> {
             parts,
             ..
         } = room;
-        self.follow(program, place, beyond, &mut outcomes.first, parts)?;
-        self.follow(program, place, beyond, &mut outcomes.second, parts)?;
-        self.follow(program, place, beyond, &mut outcomes.third, parts)?;
-        self.follow(program, place, beyond, &mut outcomes.fourth, parts)
+        self.follow(program, place, at, beyond, &mut outcomes.first, parts)?;
+        self.follow(program, place, at, beyond, &mut outcomes.second, parts)?;
+        self.follow(program, place, at, beyond, &mut outcomes.third, parts)?;
+        self.follow(program, place, at, beyond, &mut outcomes.fourth, parts)
     }
 
     /// Goes on at each address where an outcome leads, if it leads anywhere: in the same body, and in main's, without sites and
@@ -139,6 +141,7 @@ impl<A: Allocator + Copy> SumSearch<A> {
         &mut self,
         program: &SumProgram<'_, D>,
         place: &Place<'_, D>,
+        at: Word,
         beyond: &WordSet,
         outcome: &mut Outcome,
         rooms: &mut PartRooms<A>,
@@ -153,26 +156,29 @@ impl<A: Allocator + Copy> SumSearch<A> {
             program,
             &place.routine,
             &addresses.minus(beyond),
+            at,
             fact,
             rooms,
         )?;
         fact.set_sites(&WordSet::empty());
         fact.set_offsets(ReturnOffsets::none());
-        self.land_at_each(program, &None, &addresses.meet(beyond), fact, rooms)
+        self.land_at_each(program, &None, &addresses.meet(beyond), at, fact, rooms)
     }
 
-    /// Lets a fact be known at each of some addresses that are in a routine's body.
+    /// Lets a fact be known at each of some addresses that are in a routine's body, to which a word at an address goes.
     fn land_at_each<D: Allocator>(
         &mut self,
         program: &SumProgram<'_, D>,
         routine: &Option<Word>,
         addresses: &WordSet,
+        at: Word,
         fact: &mut NextFact,
         rooms: &mut PartRooms<A>,
     ) -> Result<(), Halt> {
         for to in addresses.iter() {
             if program.has(routine, to) {
                 let goal = Goal {
+                    from: at,
                     to,
                     routine: *routine,
                     exit: None,
@@ -183,6 +189,15 @@ impl<A: Allocator + Copy> SumSearch<A> {
         Ok(())
     }
 
+    /// Whether what is known is kept where it goes, as the search goes.
+    fn keeps(&self, goal: &Goal) -> bool {
+        match self.way {
+            Way::On => true,
+            Way::Back => goal.exit.is_none() && goal.to <= goal.from,
+            Way::Forth => goal.exit.is_some() || goal.to > goal.from,
+        }
+    }
+
     /// Lets a fact be known where it goes, each of its links for itself.
     pub(crate) fn land<D: Allocator>(
         &mut self,
@@ -191,6 +206,9 @@ impl<A: Allocator + Copy> SumSearch<A> {
         fact: &mut NextFact,
         rooms: &mut PartRooms<A>,
     ) -> Result<(), Halt> {
+        if !self.keeps(goal) {
+            return Ok(());
+        }
         for link in [Link::CLEAR, Link::SET] {
             if fact.link().contains(link) {
                 let place = program.place(&goal.routine);
@@ -283,7 +301,7 @@ impl<A: Allocator + Copy> SumSearch<A> {
     ) -> Result<(), Halt> {
         let at = goal.to;
         let merge = self.merge_at(program, at);
-        let is_less = if self.gathers {
+        let is_less = if self.gathers() {
             let wanted = self.table.facts.relations_in(at, case);
             self.gathered
                 .facts

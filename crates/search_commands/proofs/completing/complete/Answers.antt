@@ -1,5 +1,6 @@
 use Rattle.declaration.specs.Kept.{meaning}
 use Rattle.command_parts.proofs.AnswerLemmas.{delivered, delivers_by, nothing_written, two_good, two_refused}
+use Rattle.search_commands.proofs.CompleteLemmas.{completes_source}
 use Rattle.search_commands.proofs.completing.complete.Goals as goal
 
 pub returns-in-Err-clause-reads : goal.returns-in-Err-clause-reads
@@ -19,6 +20,6 @@ returns-in-Ok-clause-completed g c =
       tape = c.in-Ok.ensures.image;
       declaration = meaning c.in-Ok.program.given.declaration;
       declares = c.in-Ok.ensures.declares;
-      is = is;
+      is = completes_source _ _ _ _ status text c.in-Ok.ensures.whole is;
     })
     c.deliver.ensures.writes

@@ -1,0 +1,11 @@
+use Rattle.command_line.proofs.operator.session_of.Goals as goal
+
+pub returns : goal.returns
+returns c = record {
+  tape = c.in_ok-tape.ensures;
+  reader = c.get_str-reader.ensures;
+  keys = c.get_str-keys.ensures;
+  punch = c.in_ok-punch.ensures;
+  teletype = c.is_given-teletype.ensures;
+  options = c.in_ok-options.ensures;
+}

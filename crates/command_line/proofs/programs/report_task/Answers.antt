@@ -1,0 +1,4 @@
+use Rattle.command_line.proofs.programs.report_task.Goals as goal
+
+pub returns : goal.returns
+returns c = (c.name_or_input.ensures, c.is_given.ensures)

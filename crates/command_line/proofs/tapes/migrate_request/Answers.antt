@@ -1,0 +1,4 @@
+use Rattle.command_line.proofs.tapes.migrate_request.Goals as goal
+
+pub returns : goal.returns
+returns c = record { certificate = c.operand_of-certificate.ensures; declaration = c.in_ok-declaration.ensures }

@@ -1,0 +1,9 @@
+use Rattle.command_line.proofs.tapes.source_request.Goals as goal
+
+pub returns : goal.returns
+returns c = record {
+  tape = c.operand_of-tape.ensures;
+  declaration = c.get_str-declaration.ensures;
+  start = c.in_ok-start.ensures;
+  machine = c.in_ok-profile.ensures;
+}

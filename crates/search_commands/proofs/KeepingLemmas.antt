@@ -1,0 +1,73 @@
+-- Lines that are kept, line by line.
+use Rattle.std.proofs.Common.{ℕ, ◌≡◌, ◌∷◌, ◌++◌, List, [], true, inl, length, sym, subst, arith}
+use Rattle.std.specs.Str.{bytes_eq}
+use Rattle.std.proofs.lemmas.Slice.Eq.{bytes_eq-Decides}
+use Rattle.search_commands.specs.Keeping.{AreAdded, Grows, HasLine, IsAdded, KeepsLine, KeepsLines, first_line, mark, other_lines}
+use Rattle.search_commands.specs.Keeping.Grows.{same, marked}
+use Rattle.search_commands.specs.Keeping.AreAdded.{none, more}
+use Rattle.search_commands.specs.Keeping.KeepsLines.{unchanged, line, last, added}
+
+-- nothing is left of a line, and the mark follows
+pub ends_marked : (left rest : List ℕ) → length left ≡ 0 → (r : List ℕ) × (rest ≡ mark ++ r) → Grows left rest
+ends_marked [] rest e (r, is) = let P : List ℕ → Type 0 = λ t. Grows [] t in subst P (sym is) (marked r)
+ends_marked (x ∷ xs) rest e m = absurd (omega (arith, e))
+
+-- a byte stands at the front of what is left
+pub first_stands : (left others new : List ℕ) (first byte : ℕ) → left ≡ first ∷ others → first ≡ byte → Grows others new → Grows left (byte ∷ new)
+first_stands left others new first byte e f h =
+    let P : List ℕ → Type 0 = λ t. Grows t (byte ∷ new) in
+    let Q : ℕ → Type 0 = λ c. Grows (first ∷ others) (c ∷ new) in
+    subst P (sym e) (subst Q f (same first others new h))
+
+-- no line is left
+pub none_added : (text : List ℕ) → length text ≡ 0 → AreAdded text
+none_added [] e = none
+none_added (x ∷ xs) e = absurd (omega (arith, e))
+
+-- none of the lines to be kept is left
+pub only_added : (old new : List ℕ) → length old ≡ 0 → AreAdded new → KeepsLines old new
+only_added [] new e are = added new are
+only_added (x ∷ xs) new e are = absurd (omega (arith, e))
+
+-- a text is as it was
+pub same_text : (old new : List ℕ) → bytes_eq old new ≡ true → KeepsLines old new
+same_text old new e = let P : List ℕ → Type 0 = λ t. KeepsLines old t in subst P ((bytes_eq-Decides old new).0 e) (unchanged old)
+
+-- a line is as it was
+pub same_line : (old new : List ℕ) → bytes_eq old new ≡ true → KeepsLine old new
+same_line old new e = inl ((bytes_eq-Decides old new).0 e)
+
+-- a byte more of what a line has grown to
+pub grown : (old new left rest after : List ℕ) (byte : ℕ) (others : List ℕ) → rest ≡ byte ∷ others → (Grows left rest → Grows old new)
+    → (Grows after others → Grows left (byte ∷ others)) → Grows after others → Grows old new
+grown old new left rest after byte others e so step h = let P : List ℕ → Type 0 = λ t. Grows left t in so (subst P (sym e) (step h))
+
+-- a line more that is added
+pub one_more_added : (text first rest : List ℕ) → HasLine text → first ≡ first_line text → rest ≡ other_lines text → IsAdded first → AreAdded rest → AreAdded text
+one_more_added text first rest has e f is others =
+    let P : List ℕ → Type 0 = λ t. IsAdded t in
+    let Q : List ℕ → Type 0 = λ t. AreAdded t in
+    more text has (subst P e is) (subst Q f others)
+
+-- two lines of which the second keeps the first
+kept_line : (old new a b : List ℕ) → a ≡ old → b ≡ new → KeepsLine a b → KeepsLine old new
+kept_line old new a b e f is =
+    let P : List ℕ → Type 0 = λ t. KeepsLine t b in
+    let Q : List ℕ → Type 0 = λ t. KeepsLine old t in
+    subst Q f (subst P e is)
+
+-- a line more that is kept
+pub one_more_kept : (old new first rest first_of_new rest_of_new : List ℕ) → HasLine old → first ≡ first_line old → rest ≡ other_lines old
+    → HasLine new → first_of_new ≡ first_line new → rest_of_new ≡ other_lines new → KeepsLine first first_of_new → KeepsLines rest rest_of_new → KeepsLines old new
+one_more_kept old new a r b s has e f has' e' f' is others =
+    let P : List ℕ → Type 0 = λ t. KeepsLines t s in
+    let Q : List ℕ → Type 0 = λ t. KeepsLines (other_lines old) t in
+    line old new has has' (kept_line (first_line old) (first_line new) a b e e' is) (subst Q f' (subst P f others))
+
+-- the last line of a text, which a line feed need not end
+pub last_kept : (old new first rest : List ℕ) → HasLine new → first ≡ first_line new → rest ≡ other_lines new → KeepsLine old first → AreAdded rest
+    → KeepsLines old new
+last_kept old new b s has e f is others =
+    let P : List ℕ → Type 0 = λ t. KeepsLine old t in
+    let Q : List ℕ → Type 0 = λ t. AreAdded t in
+    last old new has (subst P e is) (subst Q f others)

@@ -1,0 +1,10 @@
+use Rattle.std.proofs.Common.{length}
+use Rattle.search_commands.specs.Keeping.{Grows}
+use Rattle.search_commands.proofs.keeping.grows.Given as goal
+
+-- if what is left has grown to what is left of the other line, the whole line has grown
+abbrev pub invariant-loop-byte : goal.invariant-loop-byte
+invariant-loop-byte l = Grows l.left l.rest → Grows l.old l.new
+
+abbrev pub decreases-loop-byte : goal.decreases-loop-byte
+decreases-loop-byte l = length l.rest

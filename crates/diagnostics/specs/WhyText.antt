@@ -1,6 +1,6 @@
 -- What `check --why` writes after the verdict: the word that violates the condition, what the condition asks, and why it
 -- fails. Of the rules of equations, by which certificates of versions 1 and 2 are judged, some of it reads otherwise.
-use Rattle.std.specs.Prelude.{ℕ, ◌≡◌, ◌+◌, ◌==◌, nat_lt, ◌&&◌, if◌then◌else◌, Bool, ◌++◌, codes, decimal, true, List, [], ◌∷◌, flat_map, length, min, false, Option, Some, None, is_some, IfSome, Result, Ok, Err}
+use Rattle.std.specs.Prelude.{ℕ, ◌≡◌, ◌+◌, ◌/◌, ◌%◌, ◌==◌, nat_lt, ◌&&◌, if◌then◌else◌, Bool, ◌++◌, codes, decimal, true, List, [], ◌∷◌, flat_map, length, min, false, Option, Some, None, is_some, IfSome, Result, Ok, Err}
 use Rattle.word12.specs.Words.{octal_text}
 use Rattle.wordset.specs.Words.{minus}
 use Rattle.instruct.specs.declared.Profile.{Profile}
@@ -95,6 +95,14 @@ around before at after = before ++ octal_text at ++ after
 abbrev pub around_number : List ℕ → ℕ → List ℕ → List ℕ
 around_number before number after = before ++ decimal number ++ after
 
+-- An offset in octal digits, of which there is one below 10.
+abbrev pub offset_text : ℕ → List ℕ
+offset_text o = (if nat_lt o 8 then [] else decimal (o / 8)) ++ decimal (o % 8)
+
+-- A text, an offset, and a text.
+abbrev pub around_offset : List ℕ → ℕ → List ℕ → List ℕ
+around_offset before o after = before ++ offset_text o ++ after
+
 -- AC, or the address of a cell.
 abbrev pub name_text : Location → List ℕ
 name_text Ac = codes "AC"
@@ -173,7 +181,7 @@ gap_text (gap.Accumulator w) = codes "AC may be " ++ octal_text w
 gap_text (gap.Mq w) = codes "MQ may be " ++ octal_text w
 gap_text (gap.Link l) = codes "the link may be " ++ link_text l
 gap_text (gap.Site a) = codes "the routine may have been called from " ++ octal_text a
-gap_text (gap.Offset o) = around_number (codes "the return word may have been incremented by ") o (codes "")
+gap_text (gap.Offset o) = around_offset (codes "the return word may have been incremented by ") o (codes "")
 gap_text (gap.Cell c w) = (codes "the cell " ++ octal_text c) ++ (codes " may hold " ++ octal_text w)
 gap_text (gap.Sum s w) = sum_may_be (sum_of s) w
 gap_text (gap.Equation s w) = word_told (sum_of s) w ++ codes " may be false"
@@ -237,8 +245,8 @@ from_one i = min (i + 1) 18446744073709551615
 
 -- By which offset a callee returns, and by the rules of sums, by which several exit lines may stand for an offset, which of them.
 abbrev pub returned_text : Rules → ℕ → ℕ → List ℕ
-returned_text OfEquations o i = around_number (codes ", which returns with offset ") o (codes ": ")
-returned_text OfSums o i = around_number (codes ", which returns with offset ") o (codes " by exit ") ++ around_number (codes "") (from_one i) (codes ": ")
+returned_text OfEquations o i = around_offset (codes ", which returns with offset ") o (codes ": ")
+returned_text OfSums o i = around_offset (codes ", which returns with offset ") o (codes " by exit ") ++ around_number (codes "") (from_one i) (codes ": ")
 
 -- What a call violates.
 abbrev pub call_text : Rules → CallBreach → List ℕ
@@ -257,8 +265,8 @@ call_text rules (call.Returns o i l) = returned_text rules o i ++ landing_text l
 -- What a return violates.
 abbrev pub return_text : ReturnBreach → List ℕ
 return_text return.OtherRoutine = codes ", which is not its own entry"
-return_text (return.NotDeclared o) = around_number (codes " with offset ") o (codes ", which is not declared")
-return_text (return.NotAllowed o l) = around_number (codes " with offset ") o (codes "") ++ exit_text l
+return_text (return.NotDeclared o) = around_offset (codes " with offset ") o (codes ", which is not declared")
+return_text (return.NotAllowed o l) = around_offset (codes " with offset ") o (codes "") ++ exit_text l
 
 -- Of what an assertion speaks.
 abbrev pub subject_text : Subject → List ℕ
@@ -311,15 +319,15 @@ which_text t (Some i) =
 
 -- By which offset a routine returns, and by the rules of sums by which of its exit lines.
 abbrev pub exit_named : Rules → ℕ → ℕ → List ℕ
-exit_named OfEquations o i = around_number (codes "when it returns with offset ") o (codes ", ")
-exit_named OfSums o i = around_number (codes "when it returns with offset ") o (codes " by exit ") ++ around_number (codes "") (from_one i) (codes ", ")
+exit_named OfEquations o i = around_offset (codes "when it returns with offset ") o (codes ", ")
+exit_named OfSums o i = around_offset (codes "when it returns with offset ") o (codes " by exit ") ++ around_number (codes "") (from_one i) (codes ", ")
 
 -- Why the condition fails.
 abbrev pub reason_text : Rules → Reason → List ℕ
 reason_text rules (reason.AtStart l) = start_text l
 reason_text rules reason.LineAtNoEntry = codes "a routine or exit line names the address, which is not an entry"
 reason_text rules reason.InNoBody = codes "there is a fact at this address, which is not in any body"
-reason_text rules (reason.OffsetInMain i o) = around_number (codes "the fact is in main's body but has the offset ") o (codes "")
+reason_text rules (reason.OffsetInMain i o) = around_offset (codes "the fact is in main's body but has the offset ") o (codes "")
 reason_text rules (reason.SitesInMain i) = codes "the fact is in main's body but has sites"
 reason_text rules (reason.NoOffset i e) = around (codes "the fact is in the body of ") e (codes " but has no offset")
 reason_text rules (reason.NoSites i e) = around (codes "the fact is in the body of ") e (codes " but has no sites")

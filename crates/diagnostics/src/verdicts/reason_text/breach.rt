@@ -4,7 +4,7 @@ ghost use Rattle.std.specs.Prelude.{◌≡◌, ◌++◌, codes, decimal, OnOk};
 ghost use Rattle.diagnostics.specs.WhyText.{around, around_number, breach_text, call_text, differing_text, exit_named, from_one, return_text, returned_text, subject_text, too_high_text};
 
 use crate::verdicts::reason_text::landing::{push_before_landing, push_exit, push_landing};
-use crate::verdicts::reason_text::pieces::{push_around, push_around_number};
+use crate::verdicts::reason_text::pieces::{push_around, push_around_number, push_around_offset};
 use command_parts::message::{Lines, push_text_and_address, push_text_and_word};
 use declaration::Subject;
 use domain::Rules;
@@ -42,14 +42,14 @@ fn push_returned<L: Lines>(
         L.text text.old ++ returned_text rules.now offset index) }
 {
     match rules {
-        Rules::OfEquations => push_around_number(
+        Rules::OfEquations => push_around_offset(
             text,
             b", which returns with offset ",
             offset,
             b": ",
         ),
         Rules::OfSums => {
-            push_around_number(text, b", which returns with offset ", offset, b" by exit ")?;
+            push_around_offset(text, b", which returns with offset ", offset, b" by exit ")?;
             push_number_and_colon(text, index)?;
             Ok(())
         }
@@ -109,10 +109,10 @@ fn push_return<L: Lines>(text: &mut L, breach: &ReturnBreach) -> Result<(), Allo
     match breach {
         ReturnBreach::OtherRoutine => text.push_text(b", which is not its own entry"),
         ReturnBreach::NotDeclared(offset) => {
-            push_around_number(text, b" with offset ", *offset, b", which is not declared")
+            push_around_offset(text, b" with offset ", *offset, b", which is not declared")
         }
         ReturnBreach::NotAllowed(offset, landing) => {
-            push_around_number(text, b" with offset ", *offset, b"")?;
+            push_around_offset(text, b" with offset ", *offset, b"")?;
             push_exit(text, landing)?;
             Ok(())
         }
@@ -167,10 +167,10 @@ pub fn push_exit_named<L: Lines>(
 {
     match rules {
         Rules::OfEquations => {
-            push_around_number(text, b"when it returns with offset ", offset, b", ")
+            push_around_offset(text, b"when it returns with offset ", offset, b", ")
         }
         Rules::OfSums => {
-            push_around_number(text, b"when it returns with offset ", offset, b" by exit ")?;
+            push_around_offset(text, b"when it returns with offset ", offset, b" by exit ")?;
             push_around_number(text, b"", index.saturating_add(1), b", ")
         }
     }

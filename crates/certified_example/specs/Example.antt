@@ -52,6 +52,10 @@ declaration = record {
   pause = one 0o205;
   profile = Pdp8I;
   reads = None;
+  moves = nothing;
+  abandon = nothing;
+  holds = [];
+  returns = [];
 }
 
 -- These words of the accumulator are known, and nothing else of the registers.

@@ -1,9 +1,10 @@
--- What each of the seven rules forbids that the six others let through.
-use Rattle.std.specs.Prelude.{◌≡◌, ◌==◌, false, ◌||◌, if◌then◌else◌, Some, None, List, []}
-use Rattle.wordset.specs.Words.{Words}
+-- What each of the eight rules forbids that the seven others let through.
+use Rattle.std.specs.Prelude.{◌≡◌, ◌==◌, false, ◌||◌, if◌then◌else◌, Some, None, List, [], ◌∷◌}
+use Rattle.wordset.specs.Words.{Words, nothing, one}
 use Rattle.processor.specs.Machine.{State, Answer}
 use Rattle.processor.specs.Runs.{Image, IsStart}
-use Rattle.declaration.specs.Declaration.{Routine, Declaration}
+use Rattle.declaration.specs.Declaration.{Routine, Declaration, Holding}
+use Rattle.declaration.specs.declared.Subject.TheVariants.{Accumulator}
 use Rattle.policy.specs.Calls.{Calls}
 use Rattle.policy.specs.declared.rules.Rule.{Rule}
 use Rattle.policy.specs.Runs.{DeclaredRun}
@@ -29,6 +30,14 @@ changing a = if a == 0o200 then Some 0o3200 else (if a == 0o201 then Some 0o7000
 abbrev pub body_of_two : Routine → Words
 body_of_two None a = a == 0o200 || a == 0o201
 body_of_two (Some e) a = false
+
+-- Whenever control is at 0200, AC has none of all words.
+abbrev pub impossible : Holding
+impossible = record { places = one 0o200; assertion = record { subject = Accumulator; words = nothing } }
+
+-- The declaration of one word, by which this is to hold.
+abbrev pub asserting : Declaration
+asserting = record (bare None) { holds = impossible ∷ [] }
 
 -- Main is these two cells, and nothing else is declared but an entry.
 abbrev pub two_cells : Declaration

@@ -11,7 +11,7 @@ ghost use Rattle.policy.specs.declared.rules.Rule.TheVariants as rule;
 ghost use Rattle.judge.specs.Conditions.{IsValid};
 ghost use Rattle.certified_example.specs.Example.{image, declaration, example};
 ghost use Rattle.certified_example.specs.Broken.{IsUnsafe, bare, image_with};
-ghost use Rattle.certified_example.specs.Forbidden.{BreaksAlone, changing, two_cells};
+ghost use Rattle.certified_example.specs.Forbidden.{BreaksAlone, asserting, changing, two_cells};
 ghost use Rattle.certified_example.specs.Written.{IsWritten};
 
 /// The declaration keeps the overlap rules, the certificate is valid, and so the program is safe.
@@ -40,11 +40,11 @@ pub fn broken_are_unsafe()
     ensures unlisted_read { IsUnsafe 0o1205 (Some nothing) }
 {}
 
-/// For each of the seven rules a program and a step of one of its declared runs that this rule
-/// forbids and the six others let through: an unsupported word, a DCA to no variable, a
+/// For each of the eight rules a program and a step of one of its declared runs that this rule
+/// forbids and the seven others let through: an unsupported word, a DCA to no variable, a
 /// JMS to no entry, a return with no call open, an undeclared HLT, the step after one that changed
-/// fixed code, and a read that isn't listed. So none of
-/// the rules follows from the six others at the same step.
+/// fixed code, a read that isn't listed, and a step at an address where what is declared to hold does not. So none of
+/// the rules follows from the seven others at the same step.
 pub fn each_rule_forbids()
     ensures declared { IsDeclared two_cells }
     ensures stays { BreaksAlone rule.StaysInBody (image_with 0o7401) (bare None) }
@@ -54,4 +54,5 @@ pub fn each_rule_forbids()
     ensures halts { BreaksAlone rule.HaltsDeclared (image_with 0o7402) (bare None) }
     ensures code { BreaksAlone rule.KeepsCode changing two_cells }
     ensures reads { BreaksAlone rule.ReadsListed (image_with 0o1205) (bare (Some nothing)) }
+    ensures assertions { BreaksAlone rule.AssertionsHold (image_with 0o7000) asserting }
 {}

@@ -182,10 +182,6 @@ any_more p xs i x h is =
     let same : (if p (get_or xs i x) then 1 else 0) ≡ (if p x then 1 else 0) = ap (λ y. if p y then 1 else 0) (sym is) in
     sym (some_counted p (take (i + 1) xs)) ∙ (ap (λ n. nat_le 1 n) (more ∙ ap (λ n. count_by p (take i xs) + n) same) ∙ (or_some (count_by p (take i xs)) (p x) ∙ ap (λ b. b || p x) (some_counted p (take i xs))))
   where
-    or_some : (n : ℕ) (b : Bool) → nat_le 1 (n + (if b then 1 else 0)) ≡ (nat_le 1 n || b)
-    or_some n true = le-leb 1 (n + 1) (omega arith) ∙ sym (or_truth (nat_le 1 n))
-    or_some n false = ap (λ k. nat_le 1 k) (add-zero n) ∙ sym (or_falsity (nat_le 1 n))
-
     or_truth : (b : Bool) → (b || true) ≡ true
     or_truth true = refl
     or_truth false = refl
@@ -193,6 +189,10 @@ any_more p xs i x h is =
     or_falsity : (b : Bool) → (b || false) ≡ b
     or_falsity true = refl
     or_falsity false = refl
+
+    or_some : (n : ℕ) (b : Bool) → nat_le 1 (n + (if b then 1 else 0)) ≡ (nat_le 1 n || b)
+    or_some n true = le-leb 1 (n + 1) (omega arith) ∙ sym (or_truth (nat_le 1 n))
+    or_some n false = ap (λ k. nat_le 1 k) (add-zero n) ∙ sym (or_falsity (nat_le 1 n))
 
 -- a cell of each of them more, and a set of each of them more
 pub cell_more : {X : Type 0} (cell : X → ℕ) (set new : Words) (xs : List X) (i : ℕ) (x : X) → i < length xs → x ≡ get_or xs i x → set ≡ (λ a. list_any (λ y. cell y == a) (take i xs)) → new ≡ (λ a. set a || a == cell x)

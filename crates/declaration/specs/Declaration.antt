@@ -45,8 +45,8 @@ pub record Declaration : Type 0 where
   pub returns : List Returning
 
 -- The overlap rules. Bodies are disjoint; an entry is in no body, no variable and no auto-index cell; no cell is both a
--- stop and a pause; the program starts in main's body and halts in bodies; a routine that may store in its entry has one;
--- calls are abandoned for places of main's body.
+-- stop and a pause; the program starts in main's body and halts in bodies; each cell that
+-- `moves` names is an entry; and each place for which calls may be abandoned is in main's body.
 pub record IsDeclared (d : Declaration) : Type 0 where
   pub start_is_word : d.start < 4096
   pub entry_is_word : (e : ℕ) → d.entry e ≡ true → e < 4096

@@ -196,7 +196,11 @@ impl<A: Allocator> Draft<A> {
         }
     }
 
-    fn add_returning(&mut self, returning: &Returning, number: usize) -> Result<(), DeclarationFault>
+    fn add_returning(
+        &mut self,
+        returning: &Returning,
+        number: usize,
+    ) -> Result<(), DeclarationFault>
         ensures added { OnOk result
             (gathered self.new ≡ with_line (gathered self.old) (said (Line.Return returning.now))) }
         ensures follows { OnOk result
@@ -372,7 +376,9 @@ fn index_cells() -> WordSet
 fn named_entries(moves: &WordSet, skips: &[Skips], returns: &[Returning]) -> WordSet
     ensures { words result ≡ named_entries (words moves.now) skips.now returns.now }
 {
-    skipping_entries(skips).union(moves).union(&returning_entries(returns))
+    skipping_entries(skips)
+        .union(moves)
+        .union(&returning_entries(returns))
 }
 
 /// The entries of further offsets.

@@ -10,7 +10,7 @@ ghost use Rattle.declaration.specs.Drafts.{gathered, HasLines};
 ghost use Rattle.declaration.specs.declared.DeclarationFault.{DeclarationFault};
 ghost use Rattle.declaration.specs.declared.DeclarationFault.TheVariants.{NoMemory};
 ghost use Rattle.wordset.specs.Lanes.{words};
-ghost use Rattle.declaration.specs.Kept.{offsets_of, subroutine_of, routine_of, routines_of, further_of, assertion_of, holding_of, returning_of, skips_of, further_offsets, meaning};
+ghost use Rattle.declaration.specs.Kept.{offsets, offsets_of, subroutine_of, routine_of, routines_of, further_of, assertion_of, holding_of, returning_of, skips_of, further_offsets, meaning};
 
 use crate::drafts::Draft;
 use instruct::Profile;
@@ -488,9 +488,15 @@ impl<A: Allocator> Declaration<A> {
     pub fn has_offset(&self, entry: Word, offset: Word) -> bool
         ensures { result ≡ (meaning self.now).offset entry offset }
     {
-        let declared = self.routines.iter().any(|routine| routine.entry == entry
-            && routine.offsets.contains(offset));
-        declared || self.skips_by(entry, offset)
+        self.lists_offset(entry, offset) || self.skips_by(entry, offset)
+    }
+
+    /// Whether a routine has an offset by its `sub` line.
+    fn lists_offset(&self, entry: Word, offset: Word) -> bool
+        ensures { result ≡ offsets (routines_of self.now) entry offset }
+    {
+        self.routines.iter().any(|routine| routine.entry == entry
+            && routine.offsets.contains(offset))
     }
 
     /// Whether a routine has an offset by a `skips` line.
@@ -565,7 +571,10 @@ fn routine_with(routines: &[Routine], at: Word) -> Option<Owner>
 }
 
 /// The declaration of a text that isn't too long.
-fn parse_lines<A: Allocator + Copy>(alloc: A, text: &[u8]) -> Result<Declaration<A>, DeclarationFault>
+fn parse_lines<A: Allocator + Copy>(
+    alloc: A,
+    text: &[u8],
+) -> Result<Declaration<A>, DeclarationFault>
     requires { length text.now ≤ most_bytes }
     ensures found { IfOk result (λ d. Declares text.now (meaning d)) }
     ensures declared { IfOk result (λ d. IsDeclared (meaning d)) }

@@ -1,11 +1,13 @@
 -- What `check --why` writes after the verdict: the word that violates the condition, what the condition asks, and why it
 -- fails. Of the rules of equations, by which certificates of versions 1 and 2 are judged, some of it reads otherwise.
-use Rattle.std.specs.Prelude.{ℕ, ◌≡◌, ◌+◌, ◌==◌, nat_lt, ◌&&◌, if◌then◌else◌, Bool, ◌++◌, codes, decimal, true, List, [], ◌∷◌, flat_map, length, min, false, Option, Some, None, is_some, IfSome, Result, Ok, Err}
+use Rattle.std.specs.Prelude.{ℕ, ◌≡◌, ◌+◌, ◌/◌, ◌%◌, ◌==◌, nat_lt, ◌&&◌, if◌then◌else◌, Bool, ◌++◌, codes, decimal, true, List, [], ◌∷◌, flat_map, length, min, false, Option, Some, None, is_some, IfSome, Result, Ok, Err}
 use Rattle.word12.specs.Words.{octal_text}
 use Rattle.wordset.specs.Words.{minus}
 use Rattle.instruct.specs.declared.Profile.{Profile}
 use Rattle.bin_tape.specs.Image.{word_at}
 use Rattle.declaration.specs.Declaration.{Declaration}
+use Rattle.declaration.specs.declared.Subject.{Subject}
+use Rattle.declaration.specs.declared.Subject.TheVariants as subject
 use Rattle.facts.specs.declared.Condition.{Condition}
 use Rattle.facts.specs.declared.Condition.TheVariants as condition
 use Rattle.domain.specs.Locations.{Location, Ac, Cell}
@@ -58,6 +60,7 @@ asked_text condition.V12 = codes "a return is through the routine's own entry, b
 asked_text condition.V13 = codes "a HLT is at a declared halt"
 asked_text condition.V14 = codes "no word writes an entry, except that a JMS stores its return address there and an ISZ may increment the routine's own"
 asked_text condition.V15 = codes "each cell that a word may read is on the list of reads or is the routine's entry"
+asked_text condition.V16 = codes "what is declared to hold here, or when the routine of this entry returns, holds"
 
 -- What each condition asks by the rules of sums, by which several facts may stand at an address. Most ask the same as by those of
 -- equations.
@@ -77,6 +80,7 @@ sums_asked_text condition.V12 = asked_text condition.V12
 sums_asked_text condition.V13 = asked_text condition.V13
 sums_asked_text condition.V14 = asked_text condition.V14
 sums_asked_text condition.V15 = asked_text condition.V15
+sums_asked_text condition.V16 = asked_text condition.V16
 
 -- What each condition asks, by the rules.
 abbrev pub asked_by : Rules → Condition → List ℕ
@@ -90,6 +94,14 @@ around before at after = before ++ octal_text at ++ after
 -- A text, a number in decimal digits, and a text.
 abbrev pub around_number : List ℕ → ℕ → List ℕ → List ℕ
 around_number before number after = before ++ decimal number ++ after
+
+-- An offset in octal digits, of which there is one below 10.
+abbrev pub offset_text : ℕ → List ℕ
+offset_text o = (if nat_lt o 8 then [] else decimal (o / 8)) ++ decimal (o % 8)
+
+-- A text, an offset, and a text.
+abbrev pub around_offset : List ℕ → ℕ → List ℕ → List ℕ
+around_offset before o after = before ++ offset_text o ++ after
 
 -- AC, or the address of a cell.
 abbrev pub name_text : Location → List ℕ
@@ -169,7 +181,7 @@ gap_text (gap.Accumulator w) = codes "AC may be " ++ octal_text w
 gap_text (gap.Mq w) = codes "MQ may be " ++ octal_text w
 gap_text (gap.Link l) = codes "the link may be " ++ link_text l
 gap_text (gap.Site a) = codes "the routine may have been called from " ++ octal_text a
-gap_text (gap.Offset o) = around_number (codes "the return word may have been incremented by ") o (codes "")
+gap_text (gap.Offset o) = around_offset (codes "the return word may have been incremented by ") o (codes "")
 gap_text (gap.Cell c w) = (codes "the cell " ++ octal_text c) ++ (codes " may hold " ++ octal_text w)
 gap_text (gap.Sum s w) = sum_may_be (sum_of s) w
 gap_text (gap.Equation s w) = word_told (sum_of s) w ++ codes " may be false"
@@ -233,8 +245,8 @@ from_one i = min (i + 1) 18446744073709551615
 
 -- By which offset a callee returns, and by the rules of sums, by which several exit lines may stand for an offset, which of them.
 abbrev pub returned_text : Rules → ℕ → ℕ → List ℕ
-returned_text OfEquations o i = around_number (codes ", which returns with offset ") o (codes ": ")
-returned_text OfSums o i = around_number (codes ", which returns with offset ") o (codes " by exit ") ++ around_number (codes "") (from_one i) (codes ": ")
+returned_text OfEquations o i = around_offset (codes ", which returns with offset ") o (codes ": ")
+returned_text OfSums o i = around_offset (codes ", which returns with offset ") o (codes " by exit ") ++ around_number (codes "") (from_one i) (codes ": ")
 
 -- What a call violates.
 abbrev pub call_text : Rules → CallBreach → List ℕ
@@ -253,8 +265,19 @@ call_text rules (call.Returns o i l) = returned_text rules o i ++ landing_text l
 -- What a return violates.
 abbrev pub return_text : ReturnBreach → List ℕ
 return_text return.OtherRoutine = codes ", which is not its own entry"
-return_text (return.NotDeclared o) = around_number (codes " with offset ") o (codes ", which is not declared")
-return_text (return.NotAllowed o l) = around_number (codes " with offset ") o (codes "") ++ exit_text l
+return_text (return.NotDeclared o) = around_offset (codes " with offset ") o (codes ", which is not declared")
+return_text (return.NotAllowed o l) = around_offset (codes " with offset ") o (codes "") ++ exit_text l
+
+-- Of what an assertion speaks.
+abbrev pub subject_text : Subject → List ℕ
+subject_text subject.Accumulator = codes "AC"
+subject_text subject.Link = codes "the link"
+subject_text subject.Mq = codes "MQ"
+subject_text (subject.Cell a) = octal_text a
+
+-- That it may have a word that a line of this name excludes.
+abbrev pub differing_text : Subject → ℕ → List ℕ → List ℕ
+differing_text s w line = (subject_text s ++ codes " may be " ++ octal_text w) ++ codes ", which a `" ++ line ++ codes "` line excludes"
 
 -- What a word violates.
 abbrev pub breach_text : Rules → Breach → List ℕ
@@ -268,6 +291,7 @@ breach_text rules (breach.Calls e b) = (codes "it calls " ++ octal_text e) ++ ca
 breach_text rules (breach.Returns e b) = (codes "it returns through " ++ octal_text e) ++ return_text b
 breach_text rules (breach.GoesOn a l) = around (codes "it may continue at ") a (codes ": ") ++ landing_text l
 breach_text rules (breach.ReadsUnlisted c) = around (codes "it may read ") c (codes ", which is not on the list of reads")
+breach_text rules (breach.MayDiffer s w) = differing_text s w (codes "holds")
 
 -- What tells a fact from another at its address.
 abbrev pub mark_text : Mark → List ℕ
@@ -293,18 +317,24 @@ which_text t (Some i) =
     if nat_lt t.count 2 then []
     else (around_number (codes "fact ") (from_one i) (codes " of ") ++ around_number (codes "") t.count (codes " there")) ++ (marks_text t ++ codes ": ")
 
+-- By which offset a routine returns, and by the rules of sums by which of its exit lines.
+abbrev pub exit_named : Rules → ℕ → ℕ → List ℕ
+exit_named OfEquations o i = around_offset (codes "when it returns with offset ") o (codes ", ")
+exit_named OfSums o i = around_offset (codes "when it returns with offset ") o (codes " by exit ") ++ around_number (codes "") (from_one i) (codes ", ")
+
 -- Why the condition fails.
 abbrev pub reason_text : Rules → Reason → List ℕ
 reason_text rules (reason.AtStart l) = start_text l
 reason_text rules reason.LineAtNoEntry = codes "a routine or exit line names the address, which is not an entry"
 reason_text rules reason.InNoBody = codes "there is a fact at this address, which is not in any body"
-reason_text rules (reason.OffsetInMain i o) = around_number (codes "the fact is in main's body but has the offset ") o (codes "")
+reason_text rules (reason.OffsetInMain i o) = around_offset (codes "the fact is in main's body but has the offset ") o (codes "")
 reason_text rules (reason.SitesInMain i) = codes "the fact is in main's body but has sites"
 reason_text rules (reason.NoOffset i e) = around (codes "the fact is in the body of ") e (codes " but has no offset")
 reason_text rules (reason.NoSites i e) = around (codes "the fact is in the body of ") e (codes " but has no sites")
 reason_text rules (reason.RoutineNotListed e) = around (codes "the fact is in the body of ") e (codes ", which has no routine line")
 reason_text rules (reason.TooManyWords i n) = around_number (codes "") n (codes " words are possible")
 reason_text rules (reason.ByWord i w b) = breach_text rules b
+reason_text rules (reason.ExitMayDiffer o i s w) = exit_named rules o i ++ differing_text s w (codes "returns")
 
 -- The word that is shown: the one that breaks the condition, or else the tape's.
 abbrev pub word_shown : List (Option ℕ) → ℕ → Option Reason → Option ℕ

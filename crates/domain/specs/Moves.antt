@@ -86,8 +86,8 @@ weakly_updated cells new f =
 abbrev pub counted_up : Words → Words
 counted_up offsets o = nat_lt o 64 && (if o == 0 then false else offsets (o - 1))
 
--- The offsets from the return addresses of some sites to some words: those o for which a site, one more, and o is one of the
--- words.
+-- The offsets from the return addresses of some sites to some words: those o for which the sum of a site, 1 and o, modulo 4096,
+-- is one of the words. V14 sees to it that no sum passes 7777.
 abbrev pub offsets_between : Words → Words → Words
 offsets_between sites to o = nat_lt o 64 && has_some (meet (shifted sites (o + 1)) to)
 

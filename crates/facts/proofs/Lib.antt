@@ -18,6 +18,7 @@ pub mod DcaSteps
 pub mod StepLemmas
 pub mod EntailedLemmas
 pub mod LandedLemmas
+pub mod HeldLemmas
 pub mod JoinedLemmas
 pub mod StartedLemmas
 pub mod ForeseenLemmas

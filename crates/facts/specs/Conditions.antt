@@ -54,7 +54,7 @@ CountsItsReturn pl f (Isz i c) a =
     (pl.routine ≡ Some a) × (only (targets pl i c f) ≡ Some a) × MayCount pl.rules f
 CountsItsReturn pl f _ a = ⊥
 
--- The words that lie 1 to 100 behind an address, so 0 to 77 behind the one after it.
+-- The 64 words above an address, none of them beyond 7777: the return address, one above it, and more by the offsets 1 to 77.
 abbrev pub reach : ℕ → Words
 reach a w = nat_lt a w && nat_le w (a + 64)
 

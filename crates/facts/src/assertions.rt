@@ -1,6 +1,6 @@
 //! What is declared to hold, by a fact.
 
-ghost use Rattle.std.specs.Prelude.{◌≡◌, ◌==◌, ◌&&◌, ◌↔◌, IfNone, IfSome, IsTrue, map};
+ghost use Rattle.std.specs.Prelude.{◌≡◌, ◌==◌, ◌&&◌, ◌↔◌, true, IfNone, IfSome, IsTrue, map};
 ghost use Rattle.wordset.specs.Words.{SameWords};
 ghost use Rattle.wordset.specs.Lanes.{words};
 ghost use Rattle.wordset.specs.Links.{links_of};
@@ -16,17 +16,24 @@ use std::alloc::Allocator;
 use word12::{Link, Word};
 use wordset::{Links, WordSet};
 
-/// Lets a set be some links as words.
-fn put_link_words(links: Links, place: &mut WordSet)
-    ensures { SameWords (words place.new) (link_words (links_of links)) }
+/// The set of one word, if it is to have it, and else of none.
+fn one_if(has: bool, word: Word) -> WordSet
+    ensures { words result ≡ (λ v. has && (v == word)) }
 {
-    *place = WordSet::empty();
-    if links.contains(Link::CLEAR) {
-        place.insert(Word::from_index(0));
+    if has {
+        WordSet::one(word)
+    } else {
+        WordSet::empty()
     }
-    if links.contains(Link::SET) {
-        place.insert(Word::from_index(1));
-    }
+}
+
+/// Some links as words.
+fn words_of(links: Links) -> WordSet
+    ensures { SameWords (words result) (link_words (links_of links)) }
+{
+    let clear = one_if(links.contains(Link::CLEAR), Word::from_index(0));
+    let set = one_if(links.contains(Link::SET), Word::from_index(1));
+    clear.union(&set)
 }
 
 impl<A: Allocator> Place<'_, A> {
@@ -42,7 +49,7 @@ impl<A: Allocator> Place<'_, A> {
     {
         match subject {
             Subject::Accumulator => self.put_words_known(fact, &Location::Accumulator, place),
-            Subject::Link => put_link_words(fact.link(), place),
+            Subject::Link => *place = words_of(fact.link()),
             Subject::Mq => *place = *fact.mq(),
             Subject::Cell(cell) => self.put_words_in(fact, *cell, place),
         }
@@ -73,7 +80,26 @@ impl<A: Allocator> Place<'_, A> {
         ensures { IsTrue result ↔ IsAsserted (place_in_code self.now) (fact_in_code fact.now)
             (assertion_of assertion.now) }
     {
-        self.denied_word(fact, assertion).is_none()
+        match self.denied_word(fact, assertion) {
+            None => true,
+            Some(_) => false,
+        }
+    }
+
+    /// Whether by a fact at an address it is so what is to hold at some places, if the address is one of them.
+    fn is_held<const C: usize, const R: usize>(
+        &self,
+        fact: &SumFact<C, R>,
+        at: Word,
+        holding: &Holding,
+    ) -> bool
+        ensures { let h = holding_of holding.now in IsTrue result ↔ (h.places at ≡ true →
+            IsAsserted (place_in_code self.now) (fact_in_code fact.now) h.assertion) }
+    {
+        if !holding.places().contains(at) {
+            return true;
+        }
+        self.is_asserted(fact, holding.assertion())
     }
 
     /// Whether by a fact at an address all is so that is to hold there, of some that is to hold.
@@ -87,7 +113,7 @@ impl<A: Allocator> Place<'_, A> {
             (map holding_of holds.now) }
     {
         for holding in holds {
-            if holding.places().contains(at) && !self.is_asserted(fact, holding.assertion()) {
+            if !self.is_held(fact, at, holding) {
                 return false;
             }
         }
@@ -106,11 +132,24 @@ impl<A: Allocator> Place<'_, A> {
         self.each_is_held(fact, at, self.declaration.holds())
     }
 
-    /// Whether an assertion is on returns of a routine by an offset.
-    fn is_on_return(&self, returning: &Returning, entry: Word, offset: Word) -> bool
-        ensures { result ≡ ((returning_of returning.now).entry == entry && (returning_of returning.now).offsets offset) }
+    /// Whether by an exit of a routine for an offset it is so what is to hold at some returns, if this is one of them.
+    fn is_held_by<const C: usize, const R: usize>(
+        &self,
+        exit: &SumFact<C, R>,
+        entry: Word,
+        offset: Word,
+        returning: &Returning,
+    ) -> bool
+        ensures { let r = returning_of returning.now in IsTrue result ↔ (r.entry ≡ entry → r.offsets offset ≡ true →
+            IsAsserted (place_in_code self.now) (fact_in_code exit.now) r.assertion) }
     {
-        returning.entry() == entry && returning.offsets().contains(offset)
+        if returning.entry() != entry {
+            return true;
+        }
+        if !returning.offsets().contains(offset) {
+            return true;
+        }
+        self.is_asserted(exit, returning.assertion())
     }
 
     /// Whether by an exit of a routine for an offset all is so that is to hold then, of some that is to hold.
@@ -125,9 +164,7 @@ impl<A: Allocator> Place<'_, A> {
             (map returning_of returns.now) }
     {
         for returning in returns {
-            if self.is_on_return(returning, entry, offset)
-                && !self.is_asserted(exit, returning.assertion())
-            {
+            if !self.is_held_by(exit, entry, offset, returning) {
                 return false;
             }
         }

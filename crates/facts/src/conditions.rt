@@ -66,7 +66,11 @@ fn reach(at: Word) -> WordSet
     if at.index() == 0o7777 {
         return WordSet::empty();
     }
-    let last = if at.index() < 0o7700 { at.index() + 64 } else { 0o7777 };
+    let last = if at.index() < 0o7700 {
+        at.index() + 64
+    } else {
+        0o7777
+    };
     WordSet::range(Word::from_index(at.index() + 1), Word::from_index(last))
 }
 
@@ -318,8 +322,7 @@ impl<A: Allocator> Place<'_, A> {
         if !self.declaration.is_entry(cell) {
             return true;
         }
-        self.counts_its_return(fact, at, word, cell)
-            || self.moves_its_return(fact, at, word, cell)
+        self.counts_its_return(fact, at, word, cell) || self.moves_its_return(fact, at, word, cell)
     }
 
     /// Whether no cell that a word may write is an entry, save that ISZ may count the running routine's own up, as its only

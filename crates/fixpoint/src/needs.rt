@@ -1,8 +1,9 @@
 //! Which cells are needed at an address: those that the words from there on may look at before they
-//! are written. Only of these a quick search keeps what is known.
+//! are written, and those of which something is declared to hold there. Only of these a quick search keeps what is known.
 
 use crate::halt::Halt;
 use crate::program::{AnalysedProgram, is_reference};
+use declaration::{Assertion, Subject};
 use instruct::{Operation, refers_indirectly, target};
 use std::alloc::Allocator;
 use std::collections::BTreeMap;
@@ -104,6 +105,25 @@ fn written_by<A: Allocator, D: Allocator>(
     }
 }
 
+/// The cell that is the subject of an assertion, if a cell is.
+fn subject_cell(assertion: &Assertion) -> WordSet {
+    match assertion.subject() {
+        Subject::Cell(cell) => WordSet::one(*cell),
+        _ => WordSet::empty(),
+    }
+}
+
+/// The cells of which something is declared to hold at an address.
+fn asserted_at<D: Allocator>(program: &AnalysedProgram<'_, D>, at: Word) -> WordSet {
+    let mut cells = WordSet::empty();
+    for holding in program.declaration.holds() {
+        if holding.places().contains(at) {
+            cells = cells.union(&subject_cell(holding.assertion()));
+        }
+    }
+    cells
+}
+
 impl<A: Allocator + Copy> Needs<A> {
     /// What the words of a program need, where some cells are partners.
     pub(crate) fn of<D: Allocator>(
@@ -117,6 +137,7 @@ impl<A: Allocator + Copy> Needs<A> {
             partners: *partners,
         };
         needs.find_writes(program)?;
+        needs.add_returned(program)?;
         needs.find_cells(program)?;
         Ok(needs)
     }
@@ -143,6 +164,15 @@ impl<A: Allocator + Copy> Needs<A> {
         Ok(grew)
     }
 
+    /// Adds to what is needed when routines return the cells of which something is to hold then.
+    fn add_returned<D: Allocator>(&mut self, program: &AnalysedProgram<'_, D>) -> Result<(), Halt> {
+        for returning in program.declaration.returns() {
+            let cells = subject_cell(returning.assertion()).meet(&program.named);
+            add_at(&mut self.cells, returning.entry(), &cells)?;
+        }
+        Ok(())
+    }
+
     /// Finds what is needed at each address.
     fn find_cells<D: Allocator>(&mut self, program: &AnalysedProgram<'_, D>) -> Result<(), Halt> {
         for _round in 0..MOST_ROUNDS {
@@ -159,7 +189,8 @@ impl<A: Allocator + Copy> Needs<A> {
         for more in 0..4096usize {
             let at = Word::from_index(4095 - more);
             if program.bodies.contains(at) {
-                let cells = self.before(program, at)?.meet(&program.named);
+                let cells = self.before(program, at)?.union(&asserted_at(program, at));
+                let cells = cells.meet(&program.named);
                 if add_at(&mut self.cells, at, &cells)? {
                     grew = true;
                 }
@@ -289,7 +320,7 @@ impl<A: Allocator> Needs<A> {
         entry: Word,
     ) -> WordSet {
         let mut cells = WordSet::empty();
-        for offset in 0..8usize {
+        for offset in 0..64usize {
             let more = Word::from_index(offset);
             if program.declaration.has_offset(entry, more) {
                 cells = cells.union(&self.at(at.increment().add(more)));

@@ -6,7 +6,7 @@ ghost use Rattle.fixpoint.specs.Asked.{MayBeAsked};
 use crate::halt::Halt;
 use crate::widening::Limits;
 use bin_tape::Image;
-use declaration::{Declaration, Owner};
+use declaration::{Declaration, Owner, Subject};
 use domain::Rules;
 use facts::{Fact, Outcomes, Place};
 use instruct::{Instruction, decode, halts, refers_indirectly, target};
@@ -93,8 +93,8 @@ fn add_cell(cells: &mut WordSet, cell: Word) {
 
 impl<'a, D: Allocator> AnalysedProgram<'a, D> {
     /// A tape's words and a declaration, with sets of at most so many runs. The cells that facts speak
-    /// of are the variables that instructions name, then those in bodies, then those on the tape; at
-    /// most 64.
+    /// of are the variables of which something is to hold, then those that instructions name, then those in
+    /// bodies, then those on the tape; at most 64.
     pub fn of(
         image: &'a Image,
         declaration: &'a Declaration<D>,
@@ -105,6 +105,7 @@ impl<'a, D: Allocator> AnalysedProgram<'a, D> {
     {
         let bodies = bodies_of(declaration);
         let mut named = WordSet::empty();
+        add_asserted(&mut named, declaration);
         add_named(&mut named, image, declaration, &bodies);
         add_code(&mut named, declaration, &bodies);
         let mut tracked = named;
@@ -133,6 +134,25 @@ fn bodies_of<D: Allocator>(declaration: &Declaration<D>) -> WordSet {
         bodies = bodies.union(routine.body());
     }
     bodies
+}
+
+/// Adds a subject, if it is a variable.
+fn add_subject<D: Allocator>(cells: &mut WordSet, declaration: &Declaration<D>, subject: &Subject) {
+    if let Subject::Cell(cell) = subject {
+        if declaration.is_variable(*cell) {
+            add_cell(cells, *cell);
+        }
+    }
+}
+
+/// Adds the variables of which something is declared to hold.
+fn add_asserted<D: Allocator>(cells: &mut WordSet, declaration: &Declaration<D>) {
+    for holding in declaration.holds() {
+        add_subject(cells, declaration, holding.assertion().subject());
+    }
+    for returning in declaration.returns() {
+        add_subject(cells, declaration, returning.assertion().subject());
+    }
 }
 
 /// Adds the variables that the instructions of bodies name.
@@ -387,6 +407,16 @@ impl<D: Allocator> AnalysedProgram<'_, D> {
         visit.fact.is_within_room();
         self.place(&visit.body)
             .put_outcomes(&visit.fact, visit.at, word, outcomes);
+    }
+
+    /// The addresses for which a routine abandons all open calls by a word: where it is not main and the word is a JMP they
+    /// are the declared ones, and else there are none.
+    pub(crate) fn abandoned_by(&self, visit: &Visit, word: Word) -> WordSet {
+        match &visit.body {
+            Body::Main => WordSet::empty(),
+            Body::Of(_) if word.index() / 0o1000 == 5 => *self.declaration.abandons(),
+            Body::Of(_) => WordSet::empty(),
+        }
     }
 
     /// The entry through which a word returns: that of a JMP I through one.

@@ -19,7 +19,7 @@ SuccessorJumps j r (Goes next f) =
 SuccessorJumps j r (CallsTo next f) = Unit {0}
 SuccessorJumps j r (Returns f) = Unit {0}
 
--- The instruction is a JMP in a routine; or it abandons calls for no address.
+-- Where the test is true, the instruction abandons calls for exactly the declared places; where it is false, for none.
 abbrev pub MayAbandon : Bool → Case → Routine → Meaning → Type 0
 MayAbandon true j r m = (a : ℕ) → a < 4096 → abandons j.declaration r m a ≡ j.declaration.abandon a
 MayAbandon false j r m = (a : ℕ) → a < 4096 → abandons j.declaration r m a ≡ false

@@ -72,7 +72,8 @@ LandsAtExit j e o f = Lands (place_in j (Some e)) f (exits_of j e o)
 abbrev pub as_main : Fact → Fact
 as_main f = record f { sites = nothing; offsets = nothing }
 
--- From a routine's body an instruction may go to the address for which all open calls are abandoned then: it is a JMP.
+-- A JMP in a routine's body to a declared place abandons all open calls; no other instruction does, and none in main's body. Of a
+-- return this is asked too, but its outcome goes on at no address.
 abbrev pub abandons : Declaration → Routine → Meaning → ℕ → Bool
 abandons d (Some e) (Jmp i c) a = d.abandon a
 abandons d _ _ a = false

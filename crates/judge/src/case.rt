@@ -312,9 +312,7 @@ impl<A: Allocator, C: Claims> Case<'_, A, C> {
         if self.declaration.returns().is_empty() {
             return Ok(());
         }
-        let CheckRooms {
-            claimed, fact, ..
-        } = rooms;
+        let CheckRooms { claimed, fact, .. } = rooms;
         if self.exits_are_held(at, near, claimed, fact) {
             Ok(())
         } else {
@@ -409,8 +407,11 @@ impl<A: Allocator, C: Claims> Case<'_, A, C> {
         if !put_asked(&rules, self.image, claimed, fact) {
             return true;
         }
-        place_of(self.image, self.declaration, &Some(entry), rules)
-            .returns_as_declared(fact, entry, Word::from_index(offset))
+        place_of(self.image, self.declaration, &Some(entry), rules).returns_as_declared(
+            fact,
+            entry,
+            Word::from_index(offset),
+        )
     }
 
     /// The condition at the place of the first one that fails of some fact at an address of a body, if one

@@ -7,7 +7,7 @@ use bin_tape::Image;
 use command_parts::message::{
     Lines, Message, push_text_and_address, push_text_and_advised, push_text_and_word,
 };
-use declaration::{Declaration, Owner};
+use declaration::{Assertion, Declaration, Owner, Subject};
 use instruct::{Operation, Profile};
 use itoa::Buffer;
 use peripherals::{Event, NoMemory, Start};
@@ -27,6 +27,7 @@ fn asked(rule: Rule) -> &'static [u8] {
         Rule::HaltsDeclared => b"a HLT is at a declared halt",
         Rule::KeepsCode => b"code stays as it is on the tape",
         Rule::ReadsListed => b"only cells on the list of reads are read",
+        Rule::AssertionsHold => b"what is declared to hold holds",
     }
 }
 
@@ -186,7 +187,7 @@ fn push_returns<L: Lines, D: Allocator>(
     call: &Call,
 ) -> Result<(), AllocError> {
     let mut is_one_told = false;
-    for index in 0..8usize {
+    for index in 0..64usize {
         let offset = Word::from_index(index);
         if declaration.has_offset(call.entry, offset) {
             if is_one_told {
@@ -210,8 +211,8 @@ fn push_returns<L: Lines, D: Allocator>(
     )
 }
 
-/// Adds what to declare of a return through the running routine's own entry, if it goes to one of the eight
-/// addresses from the call on.
+/// Adds what to declare of a return through the running routine's own entry, if it goes to one of the 64 addresses from the
+/// call on: with the first eight of them the `sub` line may list the offset, with the others a `skips` line may.
 fn push_offset_advice<L: Lines>(
     text: &mut L,
     call: &Call,
@@ -219,12 +220,21 @@ fn push_offset_advice<L: Lines>(
     to: Word,
 ) -> Result<(), AllocError> {
     let offset = to.add(call.after.complement()).increment().value();
-    if call.entry != entry || offset > 7 {
+    if call.entry != entry || offset > 0o77 {
         return Ok(());
+    }
+    if offset > 7 {
+        return push_skips_advice(text, entry, Word::from_index(usize::from(offset)));
     }
     text.push_text(b"if it may return there, add ")?;
     text.push_text(Buffer::new().format(offset).as_bytes())?;
     push_advice(text, b" to the returns of `sub ", entry, b"`")
+}
+
+/// Adds the rest of a line: the `skips` line that lets a routine return by an offset.
+fn push_skips_advice<L: Lines>(text: &mut L, entry: Word, offset: Word) -> Result<(), AllocError> {
+    push_text_and_advised(text, b"if it may return there, add `skips ", entry)?;
+    push_word_line(text, b" ", offset, b"`")
 }
 
 /// Adds the lines of a return through an entry: where it goes, the call that it does not return from, and where that
@@ -358,6 +368,86 @@ fn push_reference<L: Lines, D: Allocator>(
     }
 }
 
+/// The word that the subject of an assertion has.
+fn word_of(cpu: &Cpu, subject: &Subject) -> Word {
+    match subject {
+        Subject::Accumulator => cpu.ac,
+        Subject::Link => Word::from_index(usize::from(cpu.link.is_set())),
+        Subject::Mq => cpu.mq,
+        Subject::Cell(cell) => cpu.memory.get(*cell),
+    }
+}
+
+/// Adds the line of a subject and of the word that it has.
+fn push_subject<L: Lines>(text: &mut L, cpu: &Cpu, subject: &Subject) -> Result<(), AllocError> {
+    match subject {
+        Subject::Accumulator => text.push_text(b"AC"),
+        Subject::Link => text.push_text(b"the link"),
+        Subject::Mq => text.push_text(b"MQ"),
+        Subject::Cell(cell) => text.push_address(*cell),
+    }?;
+    push_word_line(
+        text,
+        b" holds ",
+        word_of(cpu, subject),
+        b", which is not one of the words declared",
+    )
+}
+
+/// Whether what is asserted is not so.
+fn is_denied(cpu: &Cpu, assertion: &Assertion) -> bool {
+    !assertion
+        .words()
+        .contains(word_of(cpu, assertion.subject()))
+}
+
+/// Adds the line of the first thing that is declared to hold at the address and does not.
+fn push_unasserted<L: Lines, D: Allocator>(
+    text: &mut L,
+    declaration: &Declaration<D>,
+    calls: &[Call],
+    cpu: &Cpu,
+) -> Result<(), AllocError> {
+    for holding in declaration.holds() {
+        if holding.places().contains(cpu.pc) && is_denied(cpu, holding.assertion()) {
+            return push_subject(text, cpu, holding.assertion().subject());
+        }
+    }
+    match calls.last() {
+        None => Ok(()),
+        Some(call) => push_unasserted_return(text, declaration, call, cpu),
+    }
+}
+
+/// Adds the line of the first thing that is declared to hold at the return from a call and does not.
+fn push_unasserted_return<L: Lines, D: Allocator>(
+    text: &mut L,
+    declaration: &Declaration<D>,
+    call: &Call,
+    cpu: &Cpu,
+) -> Result<(), AllocError> {
+    let offset = offset_of(cpu, call);
+    for returning in declaration.returns() {
+        if returning.entry() == call.entry
+            && returning.offsets().contains(offset)
+            && is_denied(cpu, returning.assertion())
+        {
+            push_text_and_word(text, b"at a return with offset ", offset)?;
+            text.push_text(b" ")?;
+            return push_subject(text, cpu, returning.assertion().subject());
+        }
+    }
+    Ok(())
+}
+
+/// By which offset the word in the entry of a called routine would return.
+fn offset_of(cpu: &Cpu, call: &Call) -> Word {
+    cpu.memory
+        .get(call.entry)
+        .add(call.after.complement())
+        .increment()
+}
+
 /// Adds the lines that say what the step does that its rule does not allow.
 fn push_act<L: Lines, D: Allocator>(
     text: &mut L,
@@ -372,6 +462,7 @@ fn push_act<L: Lines, D: Allocator>(
         Rule::KeepsCode => push_line(text, b"the word at ", cpu.pc, b" is not that of the tape"),
         Rule::WritesDeclared | Rule::CallsEntries | Rule::ReturnsToItsCall | Rule::ReadsListed =>
             push_reference(text, declaration, calls, cpu, rule),
+        Rule::AssertionsHold => push_unasserted(text, declaration, calls, cpu),
     }
 }
 

@@ -416,7 +416,7 @@ undefined_tests d s ks = record {
   halts = nothing_decides (Unit {0}) tt;
   reads = nothing_decides (ReadsListed d Undefined s ks) (no_read d Undefined s ks (λ a. refl));
   asserts = asserted_decides d Undefined s ks;
-  is = undefined_is (d.body (current ks) s.pc) _;
+  is = undefined_is (d.body (current ks) s.pc) (asserted d Undefined s ks);
 }
 
 -- the tests of each instruction

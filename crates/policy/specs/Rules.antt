@@ -52,8 +52,8 @@ pub record StaysInBody (d : Declaration) (s : State) (ks : Calls) : Type 0 where
   pub in_body : d.body (current ks) s.pc ≡ true
   pub supported : IsSupported (instruction d.profile s)
 
--- ISZ may count the running routine's own entry up. DCA that names it directly may store in it, if its routine is one that
--- may.
+-- ISZ may count the running routine's own entry up. A DCA whose address is the entry itself may store in it, where a `moves` line
+-- names the entry; a DCA through a pointer may not.
 abbrev pub WritesOwnEntry : Declaration → Meaning → Calls → ℕ → Type 0
 WritesOwnEntry d (Isz i c) ks a = current ks ≡ Some a
 WritesOwnEntry d (Dca i c) ks a = (i ≡ false) × (d.moves a ≡ true) × (current ks ≡ Some a)

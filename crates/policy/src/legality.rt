@@ -304,14 +304,21 @@ fn bit_of(link: Link) -> Word
 fn is_so(assertion: &Assertion, cpu: &Cpu) -> bool
     ensures { result ≡ is_so (assertion_of assertion.now) (state_of cpu.now) }
 {
-    assertion.words().contains(word_of(assertion.subject(), cpu))
+    assertion
+        .words()
+        .contains(word_of(assertion.subject(), cpu))
 }
 
 /// Whether what is to hold at the program counter is so.
 fn each_holds(holds: &[Holding], cpu: &Cpu) -> bool
     ensures { result ≡ each_holds (map holding_of holds.now) (state_of cpu.now) }
 {
-    holds.iter().all(|holding| holds_here(holding, cpu))
+    for holding in holds {
+        if !holds_here(holding, cpu) {
+            return false;
+        }
+    }
+    true
 }
 
 /// The same of one assertion.
@@ -326,7 +333,12 @@ fn each_holds_by(returns: &[Returning], entry: Word, offset: Word, cpu: &Cpu) ->
     ensures { result
         ≡ each_holds_by (map returning_of returns.now) entry offset (state_of cpu.now) }
 {
-    returns.iter().all(|returning| holds_by(returning, entry, offset, cpu))
+    for returning in returns {
+        if !holds_by(returning, entry, offset, cpu) {
+            return false;
+        }
+    }
+    true
 }
 
 /// The same of one assertion.

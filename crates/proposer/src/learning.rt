@@ -246,6 +246,8 @@ fn lesson_of_place<A: Allocator + Copy, D: Allocator>(
         return Lesson::Never(Obstacle::Unsupported(at));
     }
     match evidence.owner(at) {
+        // A routine may leave for a cell of main, all calls being abandoned then: that is no obstacle, but is not proposed.
+        Some(Owner::Main) if sight.owner != Owner::Main => return Lesson::Unclear,
         Some(owner) if owner != sight.owner => return Lesson::Never(Obstacle::Shared(at)),
         _ => {}
     }
@@ -257,17 +259,23 @@ fn lesson_of_place<A: Allocator + Copy, D: Allocator>(
     }
 }
 
-/// What is learned of a cell that is written: that it may change.
+/// What is learned of a cell that is written: that it may change. A routine may store its own return word, where that is
+/// declared; it is not proposed.
 fn lesson_of_store<A: Allocator + Copy, D: Allocator>(
     declaration: &Declaration<D>,
     evidence: &Evidence<A>,
+    owner: Owner,
     cell: Word,
 ) -> Lesson {
     if declaration.is_variable(cell) {
         return Lesson::Nothing;
     }
     if evidence.called.contains(cell) {
-        return Lesson::Never(Obstacle::StoresInEntry(cell));
+        return if owner == Owner::Routine(cell) {
+            Lesson::Unclear
+        } else {
+            Lesson::Never(Obstacle::StoresInEntry(cell))
+        };
     }
     if declaration.is_entry(cell) {
         return Lesson::Unclear;
@@ -322,10 +330,11 @@ fn lesson_of_return<A: Allocator + Copy, D: Allocator>(
         if declaration.has_offset(named, sight.offset) {
             return Lesson::Nothing;
         }
-        return if sight.offset.index() < 8 {
-            Lesson::New
-        } else {
-            Lesson::Never(Obstacle::ReturnsFar(sight.at))
+        // The offsets 10 to 77 can be declared, and are not proposed.
+        return match sight.offset.index() {
+            0..=7 => Lesson::New,
+            8..=63 => Lesson::Unclear,
+            _ => Lesson::Never(Obstacle::ReturnsFar(sight.at)),
         };
     }
     if evidence.called.contains(named) {
@@ -346,14 +355,14 @@ fn learn_stores<A: Allocator + Copy, D: Allocator>(
 ) -> Lesson {
     let mut lesson = Lesson::Nothing;
     if let Some(cell) = sight.stepped {
-        let further = lesson_of_store(declaration, evidence, cell);
+        let further = lesson_of_store(declaration, evidence, sight.owner, cell);
         if further == Lesson::New {
             sketch.variables.insert(cell);
         }
         lesson = lesson.and(further);
     }
     if let Some(cell) = sight.stored {
-        let further = lesson_of_store(declaration, evidence, cell);
+        let further = lesson_of_store(declaration, evidence, sight.owner, cell);
         if further == Lesson::New {
             let cells = if refers_indirectly(word) {
                 buffer_of(image, sketch, cell, declaration.profile())

@@ -34,10 +34,10 @@ fn keeps_offsets<A: Allocator, B: Allocator>(
     more: &Declaration<B>,
     entry: Word,
 ) -> bool
-    ensures { result ≡ true → (o : ℕ) → o < 8 →
+    ensures { result ≡ true → (o : ℕ) → o < 64 →
         (meaning given.now).offset entry o ≡ true → (meaning more.now).offset entry o ≡ true }
 {
-    for index in 0..8usize {
+    for index in 0..64usize {
         let offset = Word::from_index(index);
         if given.has_offset(entry, offset) && !more.has_offset(entry, offset) {
             return false;

@@ -160,7 +160,7 @@ outcomes_refute j r m b l (o ∷ os) (inr h) lands = outcomes_refute j r m b l o
 denied_refutes : (pl : Place) (f : Fact) (a : Assertion) (w : ℕ) → IsDenied pl f a w → IsAsserted pl f a → ⊥
 denied_refutes pl f a w h holds = both (a.words w) (holds w h.small h.possible) h.excluded
 
-some_denied_refutes : (pl : Place) (f : Fact) (a : ℕ) (s : Subject) (w : ℕ) (hs : List Holding) → SomeDenied pl f a s w hs → EachIsHeld pl f a hs → ⊥
+pub some_denied_refutes : (pl : Place) (f : Fact) (a : ℕ) (s : Subject) (w : ℕ) (hs : List Holding) → SomeDenied pl f a s w hs → EachIsHeld pl f a hs → ⊥
 some_denied_refutes pl f a s w [] h holds = absurd h
 some_denied_refutes pl f a s w (x ∷ xs) (inl h) holds = denied_refutes pl f x.assertion w h.2 (holds.0 h.0)
 some_denied_refutes pl f a s w (x ∷ xs) (inr h) holds = some_denied_refutes pl f a s w xs h holds.1

@@ -103,7 +103,7 @@ condition_of (breach.GoesOn a l) = V4
 condition_of (breach.ReadsUnlisted c) = V15
 condition_of (breach.MayDiffer s w) = V16
 
--- Of some that is to hold at an address this subject may have this word, which is not among those asserted.
+-- One of the assertions at the address is on this subject, which may have this word, and the word is not asserted.
 abbrev pub SomeDenied : Place → Fact → ℕ → Subject → ℕ → List Holding → Type 0
 SomeDenied pl f a s w [] = ⊥
 SomeDenied pl f a s w (h ∷ hs) =

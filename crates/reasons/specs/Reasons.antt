@@ -68,8 +68,8 @@ pub record HasWrongWord (j : Case) (v : Condition) (a : ℕ) (reason : Reason) :
   pub is : IsAskedFact j routine a index fact
   pub wrong : IsWrongWord j routine a fact index v reason
 
--- Of some that is to hold when the routine of an entry returns by an offset this subject may have this word, which is not among
--- those asserted.
+-- One of the assertions on returns of the routine by this offset is on this subject, which may have this word, and the word is not
+-- asserted.
 abbrev pub SomeReturnDenied : Place → Fact → ℕ → ℕ → Subject → ℕ → List Returning → Type 0
 SomeReturnDenied pl x e o s w [] = ⊥
 SomeReturnDenied pl x e o s w (r ∷ rs) =

@@ -200,7 +200,7 @@ fn write_row<A: Allocator, B: Allocator, D: Allocator, C: Allocator>(
         }
     }
     writer.put(b"<td>");
-    write_offsets(writer, routine);
+    write_offsets(writer, report.declaration, routine);
     writer.put(b"\n")
 }
 

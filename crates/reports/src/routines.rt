@@ -5,21 +5,25 @@ use crate::known_fact::KnownFact;
 use crate::report::{Report, claimed_of};
 use crate::writer::ReportWriter;
 use certificate::RoutineClaim as Claimed;
-use declaration::Routine;
+use declaration::{Declaration, Routine};
 use judge::Claims;
 use std::alloc::Allocator;
 use word12::Word;
 use wordset::WordSet;
 
-/// Writes the declared offsets of a routine.
-pub(crate) fn write_offsets<A: Allocator>(writer: &mut ReportWriter<A>, routine: &Routine) {
+/// Writes the declared offsets of a routine, in octal digits.
+pub(crate) fn write_offsets<A: Allocator, D: Allocator>(
+    writer: &mut ReportWriter<A>,
+    declaration: &Declaration<D>,
+    routine: &Routine,
+) {
     let mut some = false;
-    for offset in 0..8usize {
-        if routine.offsets().contains(Word::from_index(offset)) {
+    for offset in 0..64usize {
+        if declaration.has_offset(routine.entry(), Word::from_index(offset)) {
             if some {
                 writer.put(b",");
             }
-            writer.number(offset);
+            writer.offset(offset);
             some = true;
         }
     }
@@ -63,7 +67,7 @@ pub(crate) fn write_routine<A: Allocator, B: Allocator, D: Allocator, C: Allocat
         None => writer.item(b"nothing is claimed about it"),
     }
     writer.item(b"returns by ");
-    write_offsets(writer, routine);
+    write_offsets(writer, report.declaration, routine);
 }
 
 /// Writes the line of an exit: what holds when the routine returns by that offset.

@@ -16,7 +16,7 @@ lists (Some cells) a = cells a
 -- below 8, at which it may in one of them.
 pub record AddsToCell (given proposed more : Declaration) (a : ℕ) : Type 0 where
   pub body : (r : Routine) → more.body r a ≡ true → given.body r a || proposed.body r a ≡ true
-  pub offset : (o : ℕ) → o < 8 → more.offset a o ≡ true → given.offset a o || proposed.offset a o ≡ true
+  pub offset : (o : ℕ) → o < 64 → more.offset a o ≡ true → given.offset a o || proposed.offset a o ≡ true
   pub entry : more.entry a ≡ true → given.entry a || proposed.entry a ≡ true
   pub variable : more.variable a ≡ true → given.variable a || proposed.variable a ≡ true
   pub stop : more.stop a ≡ true → given.stop a || proposed.stop a ≡ true

@@ -35,10 +35,10 @@ fn offsets_are_known<A: Allocator, B: Allocator, C: Allocator>(
     more: &Declaration<C>,
     entry: Word,
 ) -> bool
-    ensures { result ≡ true → (o : ℕ) → o < 8 → (meaning more.now).offset entry o ≡ true →
+    ensures { result ≡ true → (o : ℕ) → o < 64 → (meaning more.now).offset entry o ≡ true →
         (meaning given.now).offset entry o || (meaning proposed.now).offset entry o ≡ true }
 {
-    for index in 0..8usize {
+    for index in 0..64usize {
         let offset = Word::from_index(index);
         if more.has_offset(entry, offset)
             && !given.has_offset(entry, offset)

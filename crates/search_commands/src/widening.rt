@@ -198,7 +198,7 @@ fn obstacle_words(obstacle: &Obstacle) -> &'static [u8]
         Obstacle::ReturnsForAnother(_) =>
             b"control returns from a call other than the last by the JMP at ",
         Obstacle::ReturnsFar(_) =>
-            b"a routine returns outside the eight words after its call by the JMP at ",
+            b"a routine returns outside the 64 words after its call by the JMP at ",
     }
 }
 

@@ -1,6 +1,6 @@
 use Rattle.certified_example.proofs.each_rule_forbids.Goals as goal
 use Rattle.certified_example.proofs.Declared.{two_are_declared}
-use Rattle.certified_example.proofs.Alone.{stays, writes, calls, returns_alone, halts, code, reads}
+use Rattle.certified_example.proofs.Alone.{stays, writes, calls, returns_alone, halts, code, reads, assertions}
 
 pub returns-clause-stays : goal.returns-clause-stays
 returns-clause-stays c = stays
@@ -22,6 +22,9 @@ returns-clause-code c = code
 
 pub returns-clause-reads : goal.returns-clause-reads
 returns-clause-reads c = reads
+
+pub returns-clause-assertions : goal.returns-clause-assertions
+returns-clause-assertions c = assertions
 
 pub returns-clause-declared : goal.returns-clause-declared
 returns-clause-declared c = two_are_declared

@@ -3,7 +3,7 @@
 use crate::explanations::{Explanation, Subject};
 
 /// What is said about each of them, in the order of the pages.
-static CONDITIONS: [Explanation; 15] = [
+static CONDITIONS: [Explanation; 16] = [
     Explanation {
         code: "V1",
         subject: Subject::Asked("the fact at the start holds for every start"),
@@ -74,7 +74,7 @@ static CONDITIONS: [Explanation; 15] = [
         code: "V12",
         subject: Subject::Asked("a return uses the routine's own entry and a declared offset"),
         meaning: "a return is through the routine's own entry, by declared offsets, and\nthe exit lines allow what is possible",
-        advice: "Declare the offset, as in `returns 0 1`, or increment the return\nword (ISZ of the entry) as declared. Return only through the routine's own\nentry. In a certificate each offset needs its exit line, and the fact at the\nreturn must entail it. In version 3 an offset may have several exit lines,\nwhich must allow what is possible as V4 says it of facts. Offsets are 0 to 7.\nSo a routine that reads the text after its JMS in a loop up to a zero, and then\nreturns beyond the zero, gets a certificate only if each text has at most six\ncharacters, and only one of version 3. For a longer text, put the address of the\ntext after the JMS (`returns 1`), or into AC.",
+        advice: "Declare the offset, as in `returns 0 1`, or increment the return\nword (ISZ of the entry) as declared. Return only through the routine's own\nentry. In a certificate each offset needs its exit line, and the fact at the\nreturn must entail it. In version 3 an offset may have several exit lines,\nwhich must allow what is possible as V4 says it of facts. Offsets of a `sub`\nline are 0 to 7, and a `skips` line declares others up to 77. So a routine that\nreads the text after its JMS in a loop up to a zero, and then returns beyond the\nzero, gets a certificate in version 3, which has a fact for each offset, if no\ntext has more than 77 words. A longer text gets none: put its address after the\nJMS (`returns 1`), or into AC. Neither does a routine that returns through a\ncopy of its return word (rule 1).",
     },
     Explanation {
         code: "V13",
@@ -86,13 +86,19 @@ static CONDITIONS: [Explanation; 15] = [
         code: "V14",
         subject: Subject::Asked("return words are not overwritten"),
         meaning: "no word writes an entry, except that a JMS stores its return address\nthere and an ISZ may increment the routine's own",
-        advice: "A routine cannot make its caller skip on return by incrementing the\ncaller's return word. Let it make a skip return of its own, and let its caller\nthen increment its own return word. An ISZ may increment its routine's own\nentry, up to offset 7, if it can store nowhere else.",
+        advice: "A routine cannot make its caller skip on return by incrementing the\ncaller's return word. Let it make a skip return of its own, and let its caller\nthen increment its own return word. An ISZ may increment its routine's own\nentry, up to offset 7, or in version 3 up to 77, if it can store nowhere else. A\nroutine that stores a computed return word needs a `moves` line.",
     },
     Explanation {
         code: "V15",
         subject: Subject::Asked("what may be read is listed"),
         meaning: "each cell that a word may read is on the list of reads or is the\nroutine's entry",
         advice: "List the cell, as in `read 0212`, or leave out all `read` lines:\nthen any cell may be read. Bound a pointer as for V5.",
+    },
+    Explanation {
+        code: "V16",
+        subject: Subject::Asked("what is declared to hold holds"),
+        meaning: "what is declared to hold here, or when the routine of this entry returns,\nholds",
+        advice: "Each word that the fact leaves to AC, the link, MQ or the cell must\nbe one that the `holds` line names. If it is so in each run, say it in the\ncertificate too, by a relation or by a fact for each case; else name more words.\nFor a `returns` line the same is asked of the exit lines of the routine.",
     },
 ];
 

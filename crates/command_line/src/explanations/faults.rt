@@ -3,7 +3,7 @@
 use crate::explanations::{Explanation, Subject};
 
 /// What is said about each of them, in the order of the pages.
-static FAULTS: [Explanation; 43] = [
+static FAULTS: [Explanation; 44] = [
     Explanation {
         code: "NoWord",
         subject: Subject::Fault("tape: NoWord"),
@@ -161,10 +161,16 @@ static FAULTS: [Explanation; 43] = [
         advice: "put the address into `main`, or into the body of its routine",
     },
     Explanation {
+        code: "Misplaced",
+        subject: Subject::Fault("declaration: Misplaced 0204"),
+        meaning: "a line names the address and may not: `skips`, `moves` and `returns` name\nentries, `abandon` names cells of main, and `holds` names cells of bodies",
+        advice: "correct the address, or declare the routine or the body that has it",
+    },
+    Explanation {
         code: "TooMany",
         subject: Subject::Fault("declaration: TooMany"),
-        meaning: "more than 64 routines, or more than 16,384 bytes",
-        advice: "use at most 64 routines and 16,384 bytes",
+        meaning: "more than 64 routines, 64 `skips` lines, or 256 `holds` and `returns` lines,\nor more than 16,384 bytes",
+        advice: "use at most 64 routines, 64 `skips` lines, 256 lines of what is to hold, and\n16,384 bytes",
     },
     Explanation {
         code: "NoSymbol",

@@ -3,7 +3,7 @@
 use crate::explanations::{Explanation, Subject};
 
 /// What is said about each of them, in the order of the pages.
-static RULES: [Explanation; 7] = [
+static RULES: [Explanation; 8] = [
     Explanation {
         code: "rule1",
         subject: Subject::Asked("the body"),
@@ -45,6 +45,12 @@ static RULES: [Explanation; 7] = [
         subject: Subject::Asked("reads"),
         meaning: "If reads are listed, each cell that the step reads is on the list or is\nthe running routine's own entry.\nfor example: the count is one too large, and the word after the table is read",
         advice: "add a `read` line, or a bound as for V5",
+    },
+    Explanation {
+        code: "rule8",
+        subject: Subject::Asked("assertions"),
+        meaning: "What `holds` declares of the step's address holds before the step, and what\n`returns` declares of a return holds at it.\nfor example: a routine that is to return with AC 0 returns with what it read",
+        advice: "correct the program, or name the words that may be there",
     },
 ];
 

@@ -95,8 +95,9 @@ fn omitted_by_reference<D: Allocator>(
         return is_stepped.then_some(Omission::Steps(named));
     }
     let is_own = owner == Owner::Routine(named);
+    let is_moved = is_own && declaration.may_move(named);
     match Operation::of(word) {
-        Operation::Dca if !declaration.is_variable(named) => {
+        Operation::Dca if !declaration.is_variable(named) && !is_moved => {
             Some(omitted_by_store(declaration, named))
         }
         Operation::Isz if !declaration.is_variable(named) && !is_own => {
@@ -105,7 +106,8 @@ fn omitted_by_reference<D: Allocator>(
         Operation::Jms if !declaration.is_entry(named) => {
             Some(omitted_by_call(declaration, named))
         }
-        Operation::Jmp if declaration.owner_of(named) != Some(owner) => {
+        Operation::Jmp
+            if declaration.owner_of(named) != Some(owner) && !declaration.is_abandon(named) => {
             Some(omitted_by_jump(declaration, named))
         }
         _ => None,

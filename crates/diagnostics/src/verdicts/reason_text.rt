@@ -12,10 +12,10 @@ mod pieces;
 mod sums;
 
 use crate::verdicts::reason_text::asked::asked_of;
-use crate::verdicts::reason_text::breach::push_breach;
+use crate::verdicts::reason_text::breach::{push_breach, push_differing, push_exit_named};
 use crate::verdicts::reason_text::landing::push_start;
 use crate::verdicts::reason_text::marks::push_which;
-use crate::verdicts::reason_text::pieces::{push_around, push_around_number};
+use crate::verdicts::reason_text::pieces::{push_around, push_around_number, push_around_offset};
 use crate::verdicts::telling::Telling;
 use crate::verdicts::verdict::condition_name;
 use bin_tape::Image;
@@ -39,7 +39,7 @@ fn push_reason<L: Lines>(text: &mut L, rules: &Rules, reason: &Reason) -> Result
         Reason::InNoBody => {
             text.push_text(b"there is a fact at this address, which is not in any body")
         }
-        Reason::OffsetInMain(_, offset) => push_around_number(
+        Reason::OffsetInMain(_, offset) => push_around_offset(
             text,
             b"the fact is in main's body but has the offset ",
             *offset,
@@ -68,6 +68,10 @@ fn push_reason<L: Lines>(text: &mut L, rules: &Rules, reason: &Reason) -> Result
             push_around_number(text, b"", *count, b" words are possible")
         }
         Reason::ByWord(_, _, breach) => push_breach(text, rules, breach),
+        Reason::ExitMayDiffer(offset, index, subject, word) => {
+            push_exit_named(text, rules, *offset, *index)?;
+            push_differing(text, subject, *word, b"returns")
+        }
     }
 }
 

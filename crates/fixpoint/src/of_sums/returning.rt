@@ -125,18 +125,17 @@ impl<A: Allocator + Copy> SumSearch<A> {
         room: &mut SumRooms<A>,
     ) -> Result<(), Halt> {
         let written = self.claimed(entry).writes;
-        let more = self.split.cell;
         let Some(kept) = self.table.exits.get(entry, index) else {
             return Ok(());
         };
         let Some(offset) = kept.case.offset else {
             return Ok(());
         };
-        let to = at.increment().add(Word::from_index(offset.min(7)));
+        let to = at.increment().add(Word::from_index(offset.min(63)));
         if !kept.sites.contains(at) || !program.has(&place.routine, to) {
             return Ok(());
         }
-        kept.put_written(&written, &more, &mut room.calls.exit);
+        kept.put_written(&written, &mut room.calls.exit);
         room.calls.put_joined(&written);
         let goal = Goal {
             from: at,
@@ -162,7 +161,7 @@ impl<A: Allocator + Copy> SumSearch<A> {
         if place.returned_entry(at, word) != Some(entry) {
             return Ok(());
         }
-        for offset in 0..8usize {
+        for offset in 0..64usize {
             let more = Word::from_index(offset);
             if room.calls.fact.offsets().contains(offset)
                 && program.base.declaration.has_offset(entry, more)

@@ -10,7 +10,7 @@ use crate::of_sums::program::SumProgram;
 use crate::of_sums::rooms::{CallRooms, PartRooms, SumRooms};
 use crate::of_sums::search::{MOST_WORDS, SumSearch, Way};
 use crate::of_sums::splits::{Case, MOST_VALUES};
-use domain::{Chain, Location};
+use domain::{Chain, Location, ReturnOffsets};
 use facts::{Fact, Kind, KnownFact, NarrowedFact, NextFact, Outcome, Outcomes, Part, Place};
 use instruct::{refers_indirectly, target};
 use std::alloc::Allocator;
@@ -109,16 +109,19 @@ impl<A: Allocator + Copy> SumSearch<A> {
         match kind {
             Kind::Calls => self.call_each(program, place, at, room),
             Kind::Returns => self.come_back(program, place, at, word, room),
-            Kind::Goes | Kind::Nothing => self.follow_all(program, place, at, room),
+            Kind::Goes | Kind::Nothing => {
+                self.follow_all(program, place, at, &abandoned_by(place, word), room)
+            }
         }
     }
 
-    /// Goes on where all outcomes lead that go on in the same body.
+    /// Goes on where all outcomes lead that go on, in the same body or where all calls are abandoned.
     fn follow_all<D: Allocator>(
         &mut self,
         program: &SumProgram<'_, D>,
         place: &Place<'_, D>,
         at: Word,
+        beyond: &WordSet,
         room: &mut SumRooms<A>,
     ) -> Result<(), Halt> {
         let SumRooms {
@@ -126,18 +129,20 @@ impl<A: Allocator + Copy> SumSearch<A> {
             parts,
             ..
         } = room;
-        self.follow(program, place, at, &mut outcomes.first, parts)?;
-        self.follow(program, place, at, &mut outcomes.second, parts)?;
-        self.follow(program, place, at, &mut outcomes.third, parts)?;
-        self.follow(program, place, at, &mut outcomes.fourth, parts)
+        self.follow(program, place, at, beyond, &mut outcomes.first, parts)?;
+        self.follow(program, place, at, beyond, &mut outcomes.second, parts)?;
+        self.follow(program, place, at, beyond, &mut outcomes.third, parts)?;
+        self.follow(program, place, at, beyond, &mut outcomes.fourth, parts)
     }
 
-    /// Goes on at each address of the same body where an outcome leads, if it leads anywhere.
+    /// Goes on at each address where an outcome leads, if it leads anywhere: in the same body, and in main's, without sites and
+    /// offsets, where all calls are abandoned for the address.
     fn follow<D: Allocator>(
         &mut self,
         program: &SumProgram<'_, D>,
         place: &Place<'_, D>,
         at: Word,
+        beyond: &WordSet,
         outcome: &mut Outcome,
         rooms: &mut PartRooms<A>,
     ) -> Result<(), Halt> {
@@ -146,15 +151,39 @@ impl<A: Allocator + Copy> SumSearch<A> {
         }
         let mut addresses = WordSet::empty();
         outcome.targets.put(&mut addresses);
+        let fact = &mut outcome.fact;
+        self.land_at_each(
+            program,
+            &place.routine,
+            &addresses.minus(beyond),
+            at,
+            fact,
+            rooms,
+        )?;
+        fact.set_sites(&WordSet::empty());
+        fact.set_offsets(ReturnOffsets::none());
+        self.land_at_each(program, &None, &addresses.meet(beyond), at, fact, rooms)
+    }
+
+    /// Lets a fact be known at each of some addresses that are in a routine's body, to which a word at an address goes.
+    fn land_at_each<D: Allocator>(
+        &mut self,
+        program: &SumProgram<'_, D>,
+        routine: &Option<Word>,
+        addresses: &WordSet,
+        at: Word,
+        fact: &mut NextFact,
+        rooms: &mut PartRooms<A>,
+    ) -> Result<(), Halt> {
         for to in addresses.iter() {
-            if program.has(&place.routine, to) {
+            if program.has(routine, to) {
                 let goal = Goal {
                     from: at,
                     to,
-                    routine: place.routine,
+                    routine: *routine,
                     exit: None,
                 };
-                self.land(program, &goal, &mut outcome.fact, rooms)?;
+                self.land(program, &goal, fact, rooms)?;
             }
         }
         Ok(())
@@ -287,6 +316,15 @@ impl<A: Allocator + Copy> SumSearch<A> {
         }
         Ok(())
     }
+}
+
+/// The addresses for which the running routine abandons all open calls by a word: where it is not main and the word is a JMP
+/// they are the declared ones, and else there are none.
+fn abandoned_by<D: Allocator>(place: &Place<'_, D>, word: Word) -> WordSet {
+    if place.routine.is_none() || !place.is_jump(word) {
+        return WordSet::empty();
+    }
+    *place.declaration.abandons()
 }
 
 /// Whether a set has more than one word, and few.

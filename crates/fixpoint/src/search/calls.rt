@@ -119,7 +119,7 @@ impl<A: Allocator + Copy> Search<A> {
         }
     }
 
-    /// Returns by a word.
+    /// Returns by a word. In versions 1 and 2 an exit line has an offset of at most 7.
     pub(crate) fn come_back<D: Allocator>(
         &mut self,
         program: &AnalysedProgram<'_, D>,
@@ -132,12 +132,12 @@ impl<A: Allocator + Copy> Search<A> {
         if program.returned_entry(visit, word) != Some(*entry) {
             return Err(Halt::Stuck(visit.at));
         }
-        for offset in 0..8usize {
+        for offset in 0..64usize {
             if visit.fact.offsets().contains(offset) {
-                if !program
+                let declared = program
                     .declaration
-                    .has_offset(*entry, Word::from_index(offset))
-                {
+                    .has_offset(*entry, Word::from_index(offset));
+                if !declared || offset >= 8 {
                     return Err(Halt::Stuck(visit.at));
                 }
                 self.reach_exit(program, visit, *entry, offset)?;

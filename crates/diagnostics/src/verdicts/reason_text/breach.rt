@@ -1,11 +1,12 @@
 //! What a word violates: a write, a call, a return, or where it goes on.
 
 ghost use Rattle.std.specs.Prelude.{◌≡◌, ◌++◌, codes, decimal, OnOk};
-ghost use Rattle.diagnostics.specs.WhyText.{around, around_number, breach_text, call_text, from_one, return_text, returned_text, too_high_text};
+ghost use Rattle.diagnostics.specs.WhyText.{around, around_number, breach_text, call_text, differing_text, exit_named, from_one, return_text, returned_text, subject_text, too_high_text};
 
 use crate::verdicts::reason_text::landing::{push_before_landing, push_exit, push_landing};
-use crate::verdicts::reason_text::pieces::{push_around, push_around_number};
-use command_parts::message::{Lines, push_text_and_address};
+use crate::verdicts::reason_text::pieces::{push_around, push_around_number, push_around_offset};
+use command_parts::message::{Lines, push_text_and_address, push_text_and_word};
+use declaration::Subject;
 use domain::Rules;
 use itoa::Buffer;
 use reasons::{Breach, CallBreach, ReturnBreach};
@@ -41,14 +42,14 @@ fn push_returned<L: Lines>(
         L.text text.old ++ returned_text rules.now offset index) }
 {
     match rules {
-        Rules::OfEquations => push_around_number(
+        Rules::OfEquations => push_around_offset(
             text,
             b", which returns with offset ",
             offset,
             b": ",
         ),
         Rules::OfSums => {
-            push_around_number(text, b", which returns with offset ", offset, b" by exit ")?;
+            push_around_offset(text, b", which returns with offset ", offset, b" by exit ")?;
             push_number_and_colon(text, index)?;
             Ok(())
         }
@@ -108,10 +109,10 @@ fn push_return<L: Lines>(text: &mut L, breach: &ReturnBreach) -> Result<(), Allo
     match breach {
         ReturnBreach::OtherRoutine => text.push_text(b", which is not its own entry"),
         ReturnBreach::NotDeclared(offset) => {
-            push_around_number(text, b" with offset ", *offset, b", which is not declared")
+            push_around_offset(text, b" with offset ", *offset, b", which is not declared")
         }
         ReturnBreach::NotAllowed(offset, landing) => {
-            push_around_number(text, b" with offset ", *offset, b"")?;
+            push_around_offset(text, b" with offset ", *offset, b"")?;
             push_exit(text, landing)?;
             Ok(())
         }
@@ -124,6 +125,55 @@ fn push_write<L: Lines>(text: &mut L, cell: Word, wrong: &[u8]) -> Result<(), Al
         (L.text text.new ≡ L.text text.old ++ around (codes "it may write ") cell wrong.now) }
 {
     push_around(text, b"it may write ", cell, wrong)
+}
+
+/// Adds of what an assertion speaks.
+fn push_subject<L: Lines>(text: &mut L, subject: &Subject) -> Result<(), AllocError>
+    ensures { OnOk result (L.text text.new ≡ L.text text.old ++ subject_text subject.now) }
+{
+    match subject {
+        Subject::Accumulator => text.push_text(b"AC"),
+        Subject::Link => text.push_text(b"the link"),
+        Subject::Mq => text.push_text(b"MQ"),
+        Subject::Cell(cell) => text.push_address(*cell),
+    }
+}
+
+/// Adds that the subject of an assertion may have a word that a line of this name excludes.
+pub fn push_differing<L: Lines>(
+    text: &mut L,
+    subject: &Subject,
+    word: Word,
+    line: &[u8],
+) -> Result<(), AllocError>
+    ensures { OnOk result (L.text text.new ≡
+        L.text text.old ++ differing_text subject.now word line.now) }
+{
+    push_subject(text, subject)?;
+    push_text_and_word(text, b" may be ", word)?;
+    text.push_text(b", which a `")?;
+    text.push_text(line)?;
+    text.push_text(b"` line excludes")
+}
+
+/// Adds by which offset a routine returns, and by the rules of sums by which of its exit lines.
+pub fn push_exit_named<L: Lines>(
+    text: &mut L,
+    rules: &Rules,
+    offset: usize,
+    index: usize,
+) -> Result<(), AllocError>
+    ensures { OnOk result (L.text text.new ≡ L.text text.old ++ exit_named rules.now offset index) }
+{
+    match rules {
+        Rules::OfEquations => {
+            push_around_offset(text, b"when it returns with offset ", offset, b", ")
+        }
+        Rules::OfSums => {
+            push_around_offset(text, b"when it returns with offset ", offset, b" by exit ")?;
+            push_around_number(text, b"", index.saturating_add(1), b", ")
+        }
+    }
 }
 
 /// Adds what a word violates.
@@ -159,5 +209,6 @@ pub fn push_breach<L: Lines>(text: &mut L, rules: &Rules, breach: &Breach) -> Re
             *cell,
             b", which is not on the list of reads",
         ),
+        Breach::MayDiffer(subject, word) => push_differing(text, subject, *word, b"holds"),
     }
 }

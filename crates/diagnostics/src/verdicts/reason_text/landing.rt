@@ -6,7 +6,7 @@ ghost use Rattle.domain.specs.LocationsInCode.{location_of};
 ghost use Rattle.command_parts.specs.LinkText.{link_text};
 ghost use Rattle.diagnostics.specs.WhyText.{exit_text, gap_text, is_without_fact, landing_text, left_text, name_may_hold, start_text, with_link_text};
 
-use crate::verdicts::reason_text::pieces::push_around_number;
+use crate::verdicts::reason_text::pieces::push_around_offset;
 use crate::verdicts::reason_text::sums::{push_sum_may_be, push_told};
 use command_parts::message::{Lines, push_text_and_address, push_text_and_word};
 use domain::Location;
@@ -74,7 +74,7 @@ fn push_gap<L: Lines>(text: &mut L, gap: &Counterexample) -> Result<(), AllocErr
             b"the routine may have been called from ",
             *site,
         ),
-        Counterexample::Offset(offset) => push_around_number(
+        Counterexample::Offset(offset) => push_around_offset(
             text,
             b"the return word may have been incremented by ",
             *offset,

@@ -6,7 +6,7 @@ use Rattle.reasons.proofs.ReasonLemmas.{some_weaker}
 use Rattle.reasons.proofs.stuck.why_by_words.Goals as goal
 
 pub returns-clause-explained : goal.returns-clause-explained
-returns-clause-explained g c = some_weaker c.why_words.result _ _ (λ x h. inr (inr h)) c.why_words.ensures.found
+returns-clause-explained g c = some_weaker c.why_words.result _ _ (λ x h. inr (inr (inl h))) c.why_words.ensures.found
 
 pub returns-clause-by_words : goal.returns-clause-by_words
 returns-clause-by_words g c = some_weaker c.why_words.result _ _ (λ x h. not_of_lines _ h) c.why_words.ensures.sought

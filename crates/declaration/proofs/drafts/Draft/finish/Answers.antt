@@ -64,8 +64,8 @@ invariant_of-result g c =
       entries = c.requires;
       stops = λ a is. cell_below c.args.self.stops a is;
       pauses = λ a is. cell_below c.args.self.pauses a is;
-  moves = λ a is. cell_below c.args.self.moves a is;
-  abandons = λ a is. cell_below c.args.self.abandons a is;
+      moves = λ a is. cell_below c.args.self.moves a is;
+      abandons = λ a is. cell_below c.args.self.abandons a is;
     })
 
 pub returns-clause-declared : goal.returns-clause-declared

@@ -91,7 +91,7 @@ range_more set other found next low high v h first last so = ap (λ p. found v |
       | inr r ↦ (let s : IsSome (high - low + 1) (λ k. other (minus (minus v low) k)) = some_to (high - low + 1) (λ k. other (minus (minus v low) k)) r in
           let e : minus v (low + s.at) ≡ minus (minus v low) s.at = omega (arith, s.small, h, first.small, last.small) in
           some_from (high + 1) test (low + s.at) (omega (arith, s.small, last.reached))
-            (and_both (set (low + s.at)) (other (minus v (low + s.at))) (last.within (low + s.at) (omega arith) (omega (arith, s.small, last.reached))) (ap other e ∙ s.holds)))
+          (and_both (set (low + s.at)) (other (minus v (low + s.at))) (last.within (low + s.at) (omega arith) (omega (arith, s.small, last.reached))) (ap other e ∙ s.holds)))
     ]
 
     back : some_below (high + 1) test ≡ true → (found v || spread other (high - low + 1) (minus v low)) ≡ true
@@ -103,7 +103,7 @@ range_more set other found next low high v h first last so = ap (λ p. found v |
             | inl b ↦ absurd (true_false (sym (and_first (set s.at) (other (minus v s.at)) s.holds) ∙ first.before s.at g b))
             | inr o ↦ (let e : minus (minus v low) (s.at - low) ≡ minus v s.at = omega (arith, s.small, h, first.small, last.small, o) in
                 or_right (found v) (spread other (high - low + 1) (minus v low)) (some_from (high - low + 1) (λ k. other (minus (minus v low) k)) (s.at - low)
-                  (omega (arith, s.small, o, last.reached)) (ap other e ∙ and_second (set s.at) (other (minus v s.at)) s.holds)))
+                (omega (arith, s.small, o, last.reached)) (ap other e ∙ and_second (set s.at) (other (minus v s.at)) s.holds)))
           ]
         ]
 

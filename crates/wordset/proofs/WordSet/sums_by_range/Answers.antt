@@ -17,7 +17,7 @@ pub loop-low-preserved : goal.loop-low-preserved
 loop-low-preserved c =
     let counted : c.index.result - c.index-in-loop-low.result + 1 ≡ c.in-Some.high - c.in-Some.low + 1 = omega (arith, c.index.ensures.same, c.index-in-loop-low.ensures.same) in
     let moved : words c.shift.result ≡ shifted (smeared (words c.args.other.now) (c.in-Some.high - c.in-Some.low + 1)) c.in-Some.low =
-      c.shift.ensures ∙ ap (λ s. shifted s c.in-Some.low) (c.smeared-smeared.ensures ∙ ap (smeared (words c.args.other.now)) counted) in
+    c.shift.ensures ∙ ap (λ s. shifted s c.in-Some.low) (c.smeared-smeared.ensures ∙ ap (smeared (words c.args.other.now)) counted) in
     one_summed c.loop-low.invariant c.in-Some.ensures.steps (λ v. ap (λ t. t v) c.union-found.ensures ∙ ap (λ p. words c.loop-low.found v || p) (ap (λ t. t v) moved))
 
 pub returns : goal.returns

@@ -52,6 +52,7 @@ pub struct SumSearch<A: Allocator> {
     pub(crate) way: Way,
     pub(crate) split: Split,
     pub(crate) tracked: WordSet,
+    pub(crate) reached: WordSet,
     pub(crate) needs: Option<Needs<A>>,
     pub(crate) waiting: WordSet,
     left: u32,
@@ -68,6 +69,7 @@ impl<A: Allocator + Copy> SumSearch<A> {
             way: Way::On,
             split: Split::none(),
             tracked: WordSet::empty(),
+            reached: WordSet::empty(),
             needs: None,
             waiting: WordSet::empty(),
             left: 0,
@@ -115,6 +117,7 @@ impl<A: Allocator + Copy> SumSearch<A> {
         self.way = Way::On;
         self.split = *split;
         self.tracked = program.base.named;
+        self.reached = program.reached;
         let partners = program.pointers.union(&program.base.limits.counted);
         self.needs = Some(Needs::of(self.alloc, &program.base, &partners)?);
         self.waiting = WordSet::empty();
@@ -139,7 +142,7 @@ impl<A: Allocator + Copy> SumSearch<A> {
     fn tracked_at(&self, at: Word) -> WordSet {
         let cells = match &self.needs {
             None => self.tracked,
-            Some(needs) => needs.at(at),
+            Some(needs) => needs.at(at).union(&self.reached),
         };
         match self.split.cell {
             None => cells,

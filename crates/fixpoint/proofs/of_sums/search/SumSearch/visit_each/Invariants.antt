@@ -1,5 +1,5 @@
 use Rattle.std.proofs.Common.{◌≡◌, ◌≤◌}
-use Rattle.fixpoint.proofs.of_sums.search.SumSearch.sweep.Given as goal
+use Rattle.fixpoint.proofs.of_sums.search.SumSearch.visit_each.Given as goal
 
 abbrev pub invariant-loop-at : goal.invariant-loop-at
 invariant-loop-at g l = record {

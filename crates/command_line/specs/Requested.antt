@@ -108,7 +108,7 @@ IsVerifyGiven found _ = ⊥
 
 -- The list of events is the one that is given last, or the run has an operator as the options ask.
 abbrev pub IsWatchGiven : ArgMatches → Option (List ℕ) → Task → Type 0
-IsWatchGiven found last (Watch events show) = events.now ≡ unwrap_or last (codes "-")
+IsWatchGiven found last (Watch events show stopping) = events.now ≡ unwrap_or last (codes "-")
 IsWatchGiven found last (WatchSession session) = IsSessionGiven found session
 IsWatchGiven found last _ = ⊥
 

@@ -46,7 +46,7 @@ const SESSION: Entry = Entry {
     name: "teletype",
     usage: "pdp8 teletype [OPTIONS] <TAPE>",
     about: "Runs a tape with you at the teletype: what it prints appears at once, and it gets a key when it asks for one",
-    after_help: "Keys come from standard input, what is printed goes to standard output, and the summary goes to standard error. The session ends at a halt, at an unsupported word, or when a key is asked for and none is left.\n\nExample:\n  pdp8 teletype echo.bin",
+    after_help: "Keys come from standard input, what is printed goes to standard output, and the summary goes to standard error. The session ends at a halt, at an unsupported word, or when a key is asked for and none is left, or the key of --interrupt is struck.\n\nExample:\n  pdp8 teletype echo.bin",
 };
 
 const DUMP: Entry = Entry {

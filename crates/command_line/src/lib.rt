@@ -20,7 +20,7 @@ pub mod tips;
 mod values;
 
 pub use names::FileNames;
-pub use operator::{Joined, Session, TeletypeSession, WatchedSession};
+pub use operator::{Interrupt, Joined, Session, TeletypeSession, WatchedSession};
 pub use outputs::{
     CERTIFICATE_ENDING, DECLARATION_ENDING, Destination, EVENTS_ENDING, Save, is_source_name,
 };

@@ -8,13 +8,14 @@ ghost use Rattle.command_line.specs.Requested.{IsSessionGiven};
 use crate::names::FileNames;
 use crate::outputs::punch_of;
 use crate::refused::{Misuse, Refused};
-use crate::shown::{Places, is_stopped, shown_on};
+use crate::shown::{Places, Stopping, shown_on, stopping_on};
 use crate::tapes::tape_of;
 use crate::values::{
     continues_of, has_value, is_given, profile_of, read_standard_input_once, run_options, start_of,
 };
 use clap::ArgMatches;
 use command_parts::options::{Manner, SessionOptions, SummaryForm, TeletypeOptions};
+use streams::text::octal_byte;
 use word12::Word;
 use wordset::WordSet;
 
@@ -29,6 +30,8 @@ pub struct Session<'a> {
     pub options: SessionOptions,
     /// What the summary tells.
     pub summary: SummaryForm<'a>,
+    /// How the run is followed, if it may be stopped.
+    pub stopping: Option<Stopping>,
 }
 
 impl<'a> Session<'a> {
@@ -59,6 +62,8 @@ pub struct WatchedSession<'a> {
     pub options: SessionOptions,
     /// How often CONTINUE is pressed at declared pauses at most, if it may be.
     pub continues: Option<u32>,
+    /// How the run is followed, if it may be stopped.
+    pub stopping: Option<Stopping>,
     /// Whether it is said what violates a rule.
     pub explained: bool,
 }
@@ -76,6 +81,17 @@ impl<'a> WatchedSession<'a> {
     }
 }
 
+/// The key that interrupts a session at the teletype, where the program asks for one; the program never gets it.
+#[derive(Clone, Copy)]
+pub enum Interrupt {
+    /// The usual one at a terminal, and else none.
+    Usual,
+    /// The one with this byte.
+    Key(u8),
+    /// None.
+    Off,
+}
+
 /// A session at the teletype, as the options ask for it. The keys come from standard input.
 #[derive(Clone, Copy)]
 pub struct TeletypeSession<'a> {
@@ -89,6 +105,10 @@ pub struct TeletypeSession<'a> {
     pub options: TeletypeOptions,
     /// What the summary tells.
     pub summary: SummaryForm<'a>,
+    /// How it is followed, if it may be stopped.
+    pub stopping: Option<Stopping>,
+    /// The key that interrupts it.
+    pub interrupt: Interrupt,
 }
 
 impl<'a> TeletypeSession<'a> {
@@ -168,8 +188,8 @@ pub fn session_of<'a>(found: &ArgMatches<'a>, places: &Places<'a>) -> Result<Ses
     if found.get_str("events").is_some() {
         return Err(Refused::Misuse(Misuse::EventsAndOperator));
     }
-    if is_stopped(found) {
-        return Err(Refused::Misuse(Misuse::StopsAndOperator));
+    if found.get_flag("trace-long") {
+        return Err(Refused::Misuse(Misuse::LongTrace));
     }
     let names = [tape.unwrap_or(""), reader.unwrap_or(""), keys.unwrap_or("")];
     read_standard_input_once(&names)?;
@@ -181,6 +201,7 @@ pub fn session_of<'a>(found: &ArgMatches<'a>, places: &Places<'a>) -> Result<Ses
     let punch = punch_of(found, &inputs)?;
     let teletype = is_given(found, "teletype");
     let options = session_options(found, shown_on(tape, places)?)?;
+    let stopping = stopping_on(tape, places)?;
     let summary = SummaryForm {
         apart: false,
         seen: teletype,
@@ -196,6 +217,7 @@ pub fn session_of<'a>(found: &ArgMatches<'a>, places: &Places<'a>) -> Result<Ses
         },
         options,
         summary,
+        stopping,
     })
 }
 
@@ -217,6 +239,7 @@ pub fn watched_session_of<'a>(
     tape: &'a str,
     declaration: &'a str,
     show: WordSet,
+    stopping: Option<Stopping>,
     found: &ArgMatches<'a>,
 ) -> Result<WatchedSession<'a>, Refused>
     ensures { IfOk result (IsSessionGiven found.now) }
@@ -237,6 +260,7 @@ pub fn watched_session_of<'a>(
         keys,
         options,
         continues,
+        stopping,
         explained: is_given(found, "why"),
     })
 }
@@ -260,6 +284,19 @@ fn teletype_options(found: &ArgMatches<'_>, show: WordSet) -> Result<TeletypeOpt
     })
 }
 
+/// The key that interrupts a session, where the bytes of keys are struck as they come or are not.
+fn interrupt_of(found: &ArgMatches<'_>, raw: bool) -> Result<Interrupt, Refused> {
+    match found.get_str("interrupt") {
+        None if raw => Ok(Interrupt::Off),
+        None => Ok(Interrupt::Usual),
+        Some("off") => Ok(Interrupt::Off),
+        Some(text) => match octal_byte(text.as_bytes()) {
+            Some(byte) => Ok(Interrupt::Key(byte)),
+            None => Err(Refused::Misuse(Misuse::Interrupt)),
+        },
+    }
+}
+
 /// The session at the teletype that the options of `teletype` ask for.
 pub fn teletype_of<'a>(
     found: &ArgMatches<'a>,
@@ -272,6 +309,8 @@ pub fn teletype_of<'a>(
     read_standard_input_once(&[tape.unwrap_or(""), reader.unwrap_or(""), "-"])?;
     let punch = punch_of(found, &[tape.unwrap_or("-"), reader.unwrap_or("-")])?;
     let options = teletype_options(found, shown_on(tape, places)?)?;
+    let stopping = stopping_on(tape, places)?;
+    let interrupt = interrupt_of(found, options.manner.raw)?;
     Ok(TeletypeSession {
         tape,
         reader,
@@ -282,5 +321,7 @@ pub fn teletype_of<'a>(
             seen: true,
             saved_in: punch,
         },
+        stopping,
+        interrupt,
     })
 }

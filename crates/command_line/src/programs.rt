@@ -15,7 +15,7 @@ use crate::outputs::{
     save_of,
 };
 use crate::refused::{Misuse, Refused};
-use crate::shown::{Octal, Places, shown_of};
+use crate::shown::{Octal, Places, Stopping, places_of};
 use crate::sources::source_names;
 use crate::values::{
     declare_options, is_given, is_start_named, read_standard_input_once, refute_options,
@@ -37,7 +37,7 @@ pub struct ProgramRequest<'a> {
     pub declaration: Option<&'a str>,
     /// What is done.
     pub task: Task<'a>,
-    /// The cells whose words are shown when a run is over, which may have the symbols of a source.
+    /// The cells that are shown of a run and where it is stopped, which may have the symbols of a source.
     pub places: Places<'a>,
     /// Whether a start or a machine is named.
     pub asked: bool,
@@ -84,6 +84,8 @@ pub enum Task<'a> {
         events: &'a str,
         /// The cells whose words are shown when the run of a tape is over.
         show: WordSet,
+        /// How the run of a tape is followed, if it may be stopped.
+        stopping: Option<Stopping>,
     },
     /// To watch a run with an operator.
     WatchSession(WatchedSession<'a>),
@@ -250,16 +252,17 @@ fn certificate_of<'a>(found: &ArgMatches<'a>, out: Option<&'a str>) -> Destinati
 fn session_on<'a>(
     found: &ArgMatches<'a>,
     operands: &Operands<'a>,
-    show: WordSet,
+    followed: Followed,
 ) -> Result<WatchedSession<'a>, Refused>
     ensures { IfOk result (IsSessionGiven found.now) }
 {
+    let Followed { show, stopping } = followed;
     match operands.program.tape() {
         Some(tape) => {
             let declaration = operands.declaration.unwrap_or("-");
-            watched_session_of(tape, declaration, show, found)
+            watched_session_of(tape, declaration, show, stopping, found)
         }
-        None => watched_session_of("", "", show, found),
+        None => watched_session_of("", "", show, stopping, found),
     }
 }
 
@@ -268,11 +271,11 @@ fn session_of_operands<'a>(
     alloc: Global,
     found: &ArgMatches<'a>,
     operands: &Operands<'a>,
-    show: WordSet,
+    followed: Followed,
 ) -> Result<WatchedSession<'a>, Refused>
     ensures { IfOk result (IsSessionGiven found.now) }
 {
-    let session = session_on(found, operands, show)?;
+    let session = session_on(found, operands, followed)?;
     let inputs = inputs_of(alloc, operands, &[session.reader, session.keys])?;
     read_standard_input_once(&inputs)?;
     Ok(session)
@@ -406,7 +409,7 @@ fn task_of<'a>(
     found: &ArgMatches<'a>,
     operands: &Operands<'a>,
     inputs: &[&'a str],
-    show: WordSet,
+    followed: Followed,
 ) -> Result<Task<'a>, Refused>
     ensures { IfOk result (IsTaskGiven called found.now
         (option_map (λ name. name.now) operands.now.last)) }
@@ -415,7 +418,8 @@ fn task_of<'a>(
         Called::Verify => verify_task(found, operands, inputs),
         Called::Watch => Ok(Task::Watch {
             events: name_or_input(&operands.last),
-            show,
+            show: followed.show,
+            stopping: followed.stopping,
         }),
         Called::Guess => guess_task(found, operands, inputs),
         Called::Refute => refute_task(found, operands, inputs),
@@ -427,12 +431,25 @@ fn task_of<'a>(
     }
 }
 
-/// The cells that are shown of a run of a tape. Of a source they are not known yet.
-fn shown_on(operands: &Operands<'_>, places: &Places<'_>) -> Result<WordSet, Refused> {
+/// What is shown of a watched run, and where it is stopped.
+#[derive(Clone, Copy)]
+struct Followed {
+    show: WordSet,
+    stopping: Option<Stopping>,
+}
+
+/// What is shown of a watched run of a tape, and where it is stopped. Of a source that is not known yet.
+fn followed_on(operands: &Operands<'_>, places: &Places<'_>) -> Result<Followed, Refused> {
     if operands.program.tape().is_none() {
-        return Ok(WordSet::empty());
+        return Ok(Followed {
+            show: WordSet::empty(),
+            stopping: None,
+        });
     }
-    Ok(places.shown(&Octal)?)
+    Ok(Followed {
+        show: places.shown(&Octal)?,
+        stopping: places.stopping(&Octal)?,
+    })
 }
 
 /// The last operand of a command, if it is an input.
@@ -454,15 +471,15 @@ fn task_on<'a>(
     ensures { IfOk result (IsTaskGiven called found.now
         (option_map (λ name. name.now) operands.now.last)) }
 {
-    let show = shown_on(operands, places)?;
+    let followed = followed_on(operands, places)?;
     if called == Called::Watch && is_watched_with_operator(found) {
-        let session = session_of_operands(alloc, found, operands, show)?;
+        let session = session_of_operands(alloc, found, operands, followed)?;
         return Ok(Task::WatchSession(session));
     }
     let inputs = inputs_of(alloc, operands, &[last_input(called, operands)])?;
     read_standard_input_once(&inputs)?;
     start_once(found, operands.declaration)?;
-    task_of(called, found, operands, &inputs, show)
+    task_of(called, found, operands, &inputs, followed)
 }
 
 /// The request of a command on a program and its declaration.
@@ -484,7 +501,7 @@ pub(crate) fn program_request<'a>(
 {
     let called = command_of(command);
     let operands = operands_of(alloc, called, found)?;
-    let places = shown_of(alloc, found)?;
+    let places = places_of(alloc, found)?;
     let task = task_on(alloc, called, found, &operands, &places)?;
     let Operands {
         program,
@@ -526,7 +543,7 @@ pub(crate) fn place_request<'a>(
         program,
         declaration,
         task: Task::Place { out },
-        places: shown_of(alloc, found)?,
+        places: places_of(alloc, found)?,
         asked: false,
         explained: found.get_flag("why"),
     })

@@ -49,8 +49,8 @@ pub enum Misuse {
     Last,
     /// The last instructions are to be shown, and all of them too.
     LastAndTrace,
-    /// A run is to be stopped or its last instructions are to be shown, and it has an operator too.
-    StopsAndOperator,
+    /// A long line is to be written for each instruction, and a short one, or the run has an operator.
+    LongTrace,
     /// There are events, and an operator too.
     EventsAndOperator,
     /// A run is to be watched by a list of events, and with an operator too.
@@ -67,6 +67,8 @@ pub enum Misuse {
     PunchToOutput,
     /// The value of `--seed` is not a number from 0 to 99,999,999.
     Seed,
+    /// The value of `--interrupt` is neither a byte in octal nor `off`.
+    Interrupt,
     /// The value of `--continue` is not a number from 1 to 1,000,000.
     Continue,
     /// The value of `--profile` is neither `8i` nor `8e`.
@@ -139,6 +141,8 @@ impl Misuse {
             Misuse::UntilReadOfSource =>
                 "bad value for '--until-read': expected addresses and ranges, in octal or by symbols that the source defines, such as COUNT LIST-LIST+17",
             Misuse::Last => "bad value for '--last': expected a number from 1 to 1000000",
+            Misuse::Interrupt =>
+                "bad value for '--interrupt': expected an octal number from 0 to 377, such as 5 for ^E, or off",
             Misuse::Seed => "bad value for '--seed': expected a number from 0 to 99999999",
             Misuse::Continue => "bad value for '--continue': expected a number from 1 to 1000000",
             Misuse::Profile => "bad value for '--profile': expected 8i or 8e",
@@ -152,9 +156,9 @@ impl Misuse {
     fn combination_text(&self) -> Option<&'static str> {
         Some(match self {
             Misuse::LastAndTrace =>
-                "'--last' cannot be combined with '--trace', which writes all instructions",
-            Misuse::StopsAndOperator =>
-                "'--until', '--until-write', '--until-read' and '--last' cannot be combined with the options for the reader, the punch, the teletype and the switches",
+                "'--last' cannot be combined with '--trace' or '--trace-long', which write all instructions",
+            Misuse::LongTrace =>
+                "'--trace-long' cannot be combined with '--trace', nor with the options for the reader, the punch, the teletype and the switches",
             Misuse::EventsAndOperator =>
                 "'--events' cannot be combined with the options for the reader, the punch, the teletype and the switches",
             Misuse::ListAndOperator =>

@@ -99,6 +99,8 @@ pub struct Places<'a> {
     written: Vec<&'a str>,
     /// The values of `--until-read`.
     read: Vec<&'a str>,
+    /// How many of the last instructions are shown, if that is asked for.
+    last: Option<u32>,
 }
 
 /// The values of an option that may be given several times.
@@ -112,29 +114,15 @@ fn values_of<'a>(
     Ok(values)
 }
 
-/// The cells and the places that options of `run` name.
-pub(crate) fn places_of<'a>(
-    alloc: Global,
-    found: &ArgMatches<'a>,
-) -> Result<Places<'a>, AllocError> {
+/// The cells and the places that options of a run name.
+pub(crate) fn places_of<'a>(alloc: Global, found: &ArgMatches<'a>) -> Result<Places<'a>, Refused> {
+    let last = last_of(found)?;
     Ok(Places {
         show: values_of(alloc, found, "show")?,
         until: found.get_str("until"),
         written: values_of(alloc, found, "until-write")?,
         read: values_of(alloc, found, "until-read")?,
-    })
-}
-
-/// The cells that options of another command name.
-pub(crate) fn shown_of<'a>(
-    alloc: Global,
-    found: &ArgMatches<'a>,
-) -> Result<Places<'a>, AllocError> {
-    Ok(Places {
-        show: values_of(alloc, found, "show")?,
-        until: None,
-        written: Vec::new(alloc),
-        read: Vec::new(alloc),
+        last,
     })
 }
 
@@ -173,23 +161,18 @@ impl Places<'_> {
         })
     }
 
-    /// How a run is followed of which so many last instructions are shown, if it may be stopped or these are asked
-    /// for.
+    /// How a run is followed, if it may be stopped or its last instructions are asked for.
     ///
     /// # Errors
     ///
     /// What is wrong with a value.
-    pub fn stopping<C: ReadCells>(
-        &self,
-        reader: &C,
-        last: Option<u32>,
-    ) -> Result<Option<Stopping>, Misuse> {
-        if last.is_none() && !self.has_stops() {
+    pub fn stopping<C: ReadCells>(&self, reader: &C) -> Result<Option<Stopping>, Misuse> {
+        if self.last.is_none() && !self.has_stops() {
             return Ok(None);
         }
         Ok(Some(Stopping {
             stops: self.stops(reader)?,
-            last,
+            last: self.last,
         }))
     }
 
@@ -237,11 +220,11 @@ pub struct Stopping {
 }
 
 /// How many of the last instructions are shown, if that is asked for.
-pub(crate) fn last_of(found: &ArgMatches<'_>) -> Result<Option<u32>, Refused> {
+fn last_of(found: &ArgMatches<'_>) -> Result<Option<u32>, Refused> {
     let Some(text) = found.get_str("last") else {
         return Ok(None);
     };
-    if found.get_flag("trace") {
+    if found.get_flag("trace") || found.get_flag("trace-long") {
         return Err(Refused::Misuse(Misuse::LastAndTrace));
     }
     match decimal_between(1, MOST_LAST, text.as_bytes()) {
@@ -250,20 +233,21 @@ pub(crate) fn last_of(found: &ArgMatches<'_>) -> Result<Option<u32>, Refused> {
     }
 }
 
-/// Whether a run may be stopped, or its last instructions are shown.
-pub(crate) fn is_stopped(found: &ArgMatches<'_>) -> bool {
-    ["until", "last"]
-        .iter()
-        .any(|name| found.get_str(name).is_some())
-        || ["until-write", "until-read"]
-            .iter()
-            .any(|name| found.get_strs(name).is_some())
-}
-
 /// The cells that are shown of the run of a tape. Of a source they are not known yet.
 pub(crate) fn shown_on(tape: Option<&str>, places: &Places<'_>) -> Result<WordSet, Refused> {
     if tape.is_none() {
         return Ok(WordSet::empty());
     }
     Ok(places.shown(&Octal)?)
+}
+
+/// How the run of a tape is followed, if it may be stopped. Of a source that is not known yet.
+pub(crate) fn stopping_on(
+    tape: Option<&str>,
+    places: &Places<'_>,
+) -> Result<Option<Stopping>, Refused> {
+    match tape {
+        None => Ok(None),
+        Some(_) => Ok(places.stopping(&Octal)?),
+    }
 }

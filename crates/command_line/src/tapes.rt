@@ -7,9 +7,9 @@ ghost use Rattle.command_line.specs.Options.{value};
 use crate::names::FileNames;
 use crate::outputs::{Destination, emptied_destination, kept_destination, no_input, no_source};
 use crate::refused::{Misuse, Refused};
-use crate::shown::{Octal, Places, Stopping, last_of, shown_on};
+use crate::shown::{Places, Stopping, shown_on, stopping_on};
 use crate::values::{
-    has_value, is_start_named, operand_of, profile_of, read_standard_input_once, run_options,
+    has_value, is_given, is_start_named, operand_of, profile_of, read_standard_input_once, run_options,
     start_of,
 };
 use clap::ArgMatches;
@@ -29,8 +29,8 @@ pub struct RunRequest<'a> {
     pub options: RunOptions,
     /// How it is followed, if it may be stopped.
     pub stopping: Option<Stopping>,
-    /// How many of its last instructions are shown, if that is asked for.
-    pub last: Option<u32>,
+    /// Whether a long line is written for each instruction.
+    pub long: bool,
 }
 
 impl<'a> RunRequest<'a> {
@@ -55,18 +55,6 @@ pub(crate) fn tape_of<'a>(found: &ArgMatches<'a>) -> Result<Option<&'a str>, Ref
     }
 }
 
-/// Where the run of a tape is stopped, if it is. Of a source the stops are not known yet.
-fn stopping_on(
-    tape: Option<&str>,
-    places: &Places<'_>,
-    last: Option<u32>,
-) -> Result<Option<Stopping>, Refused> {
-    match tape {
-        None => Ok(None),
-        Some(_) => Ok(places.stopping(&Octal, last)?),
-    }
-}
-
 /// The run of a tape without an operator. Of a source the cells that are shown and the stops are not known yet.
 pub(crate) fn run_request<'a>(
     found: &ArgMatches<'a>,
@@ -77,16 +65,19 @@ pub(crate) fn run_request<'a>(
     let tape = tape_of(found)?;
     let events = found.get_str("events");
     read_standard_input_once(&[tape.unwrap_or(""), events.unwrap_or("")])?;
-    let last = last_of(found)?;
+    let long = is_given(found, "trace-long");
+    if long && found.get_flag("trace") {
+        return Err(Refused::Misuse(Misuse::LongTrace));
+    }
     let show = shown_on(tape, places)?;
     let options = run_options(found, show)?;
-    let stopping = stopping_on(tape, places, last)?;
+    let stopping = stopping_on(tape, places)?;
     Ok(RunRequest {
         tape,
         events,
         options,
         stopping,
-        last,
+        long,
     })
 }
 
@@ -97,6 +88,8 @@ pub struct DumpRequest<'a> {
     pub tape: Option<&'a str>,
     /// Whose names the words have.
     pub profile: Profile,
+    /// Whether memory references are written with their whole addresses; those of a source are in any case.
+    pub full: bool,
 }
 
 impl<'a> DumpRequest<'a> {
@@ -115,7 +108,12 @@ pub(crate) fn dump_request<'a>(found: &ArgMatches<'a>) -> Result<DumpRequest<'a>
 {
     let tape = tape_of(found)?;
     let profile = profile_of(found)?;
-    Ok(DumpRequest { tape, profile })
+    let full = is_given(found, "full");
+    Ok(DumpRequest {
+        tape,
+        profile,
+        full,
+    })
 }
 
 /// To write a source of a tape.

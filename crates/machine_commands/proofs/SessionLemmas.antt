@@ -553,6 +553,7 @@ operator_next old new w e is left next = record {
   on = λ p m extent es goes happens comes. Then (place_of old) w m e es is goes happens (rw (left, next) at comes);
   last = λ p extent ends. Final (place_of old) w e is ends;
   output = λ p puts. Cut (place_of old) w (record { event = e; is_due = is; puts = puts });
+  step = λ p steps. Cut (place_of old) w (rw steps at is);
 }
 
 -- the last event was an instruction
@@ -823,7 +824,7 @@ held_by comes brings options form extent image text printed punched status by he
 }
 
 -- an operator's place that is its first
-operator_comes : (plan : Plan) (o : Operator) (extent : Extent) (p : Profile) (w : WorldState) (es : List Event) → plan_of o ≡ plan → o.last ≡ None → Comes operating p extent (place_of o) w es → comes_by plan p w extent es
+pub operator_comes : (plan : Plan) (o : Operator) (extent : Extent) (p : Profile) (w : WorldState) (es : List Event) → plan_of o ≡ plan → o.last ≡ None → Comes operating p extent (place_of o) w es → comes_by plan p w extent es
 operator_comes plan o extent p w es is first comes = rw (is, first) at comes
 
 -- the inputs are good

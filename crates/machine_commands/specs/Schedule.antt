@@ -2,6 +2,7 @@
 use Rattle.std.specs.Prelude.{◌≡◌, Bool, true, false, Option, Some, None, List, [], ◌∷◌}
 use Rattle.instruct.specs.declared.Profile.{Profile}
 use Rattle.peripherals.specs.declared.Event.{Event}
+use Rattle.peripherals.specs.declared.Event.TheVariants.{Step}
 use Rattle.peripherals.specs.Devices.{WorldState}
 use Rattle.peripherals.specs.Events.{Happens}
 use Rattle.peripherals.specs.Operator.{Plan, due, left_after}
@@ -16,11 +17,12 @@ pub record Schedule (S : Type 0) : Type 0 where
   pub reads : S → WorldState → Bool
 
 -- How much of a run is told: all that comes; what comes up to an event that prints or punches; what comes up to where a frame or
--- a key is read; or what comes up to any event.
+-- a key is read; what comes up to a step; or what comes up to any event.
 pub data Extent : Type 0 where
   Whole : Extent
   UpToOutput : Extent
   UpToRead : Extent
+  UpToStep : Extent
   UpToAny : Extent
 
 -- The event that is due in a world prints or punches.
@@ -34,6 +36,7 @@ abbrev pub MayEnd : {S : Type 0} → Extent → Schedule S → S → WorldState 
 MayEnd Whole schedule s w = ⊥
 MayEnd UpToOutput schedule s w = OutputIsDue schedule s w
 MayEnd UpToRead schedule s w = schedule.reads s w ≡ true
+MayEnd UpToStep schedule s w = schedule.due s w ≡ Some Step
 MayEnd UpToAny schedule s w = Unit {0}
 
 -- From a state of a schedule and a world these events come: each is due where it comes. They are all that come in the run, or,

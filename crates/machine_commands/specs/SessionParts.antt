@@ -15,7 +15,7 @@ use Rattle.command_parts.specs.declared.options.RunOptions.{RunOptions}
 use Rattle.command_parts.specs.declared.options.SummaryForm.{SummaryForm}
 use Rattle.command_parts.specs.declared.status.Status.{Status}
 use Rattle.machine_commands.specs.Follows.{goes_on}
-use Rattle.machine_commands.specs.Schedule.{Extent, Place, Whole, UpToOutput}
+use Rattle.machine_commands.specs.Schedule.{Extent, Place, Whole, UpToOutput, UpToStep}
 use Rattle.machine_commands.specs.Session.{AppendsSome, IsHeld, character, extent_unread}
 use Rattle.machine_commands.specs.Trace.{trace_of, traced}
 
@@ -71,12 +71,13 @@ steps_in Step = 1
 steps_in _ = 0
 
 -- An event is due, and leads from one state of a schedule to the next: whatever comes after it comes with it, the run ends with
--- it where it doesn't go on, and it may break off before it where it prints or punches.
+-- it where it doesn't go on, and it may break off before it where it prints or punches, or is a step.
 pub record IsNext {S : Type 0} (comes : S → Profile → WorldState → Extent → List Event → Type 0) (s t : S) (w : WorldState) (e : Event) : Type 0 where
   pub on : (p : Profile) (m : WorldState) (extent : Extent) (es : List Event) →
       goes_on true (seen_of p w e) ≡ true → Happens p w e m → comes t p m extent es → comes s p w extent (e ∷ es)
   pub last : (p : Profile) (extent : Extent) → goes_on true (seen_of p w e) ≡ false → comes s p w extent (e ∷ [])
   pub output : (p : Profile) → puts_out w e ≡ true → comes s p w UpToOutput []
+  pub step : (p : Profile) → e ≡ Step → comes s p w UpToStep []
 
 -- The last event was an instruction.
 abbrev pub has_stepped : Option Event → Bool

@@ -3,9 +3,13 @@
 #![tactic(auto)]
 
 mod continuing;
+mod declared_run;
 pub mod follow;
+pub mod interrupted;
 pub mod last;
+pub mod last_session;
 pub mod laws;
+pub mod long_trace;
 pub mod messages;
 mod progress;
 pub mod refuting;
@@ -13,6 +17,8 @@ pub mod running;
 mod schedule;
 pub mod session;
 mod shown;
+pub mod stopped_session;
+pub mod stopped_watch;
 pub mod stopping;
 mod stops;
 pub mod summary;

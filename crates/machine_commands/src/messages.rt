@@ -209,7 +209,7 @@ fn seen_with_cells<A: Allocator + Copy, D: Allocator>(
 }
 
 /// What is told of the run of some events, by what there was to come, and the cells that are to be shown.
-fn watch_offered<A: Allocator + Copy, D: Allocator>(
+pub(crate) fn watch_offered<A: Allocator + Copy, D: Allocator>(
     alloc: A,
     image: &Image,
     declaration: &Declaration<D>,
@@ -293,7 +293,7 @@ fn continued_lines<A: Allocator + Copy, D: Allocator>(
 }
 
 /// What is told of the events of a run that goes on at declared pauses.
-fn watch_continued<A: Allocator + Copy, D: Allocator>(
+pub(crate) fn watch_continued<A: Allocator + Copy, D: Allocator>(
     alloc: A,
     image: &Image,
     declaration: &Declaration<D>,

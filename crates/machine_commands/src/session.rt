@@ -93,7 +93,7 @@ fn character_at(bytes: &[u8], index: usize) -> [u8; 1]
 
 /// Applies one event, adds its line to the trace if one is asked for, and types what it printed.
 #[inline(always)]
-fn play<A: Allocator, W: ByteSink, T: ByteSink>(
+pub(crate) fn play<A: Allocator, W: ByteSink, T: ByteSink>(
     world: &mut World<A>,
     report: &mut W,
     teletype: &mut T,

@@ -14,7 +14,7 @@ use std::alloc::Allocator;
 use wordset::WordSet;
 
 /// The first of some events, so many.
-fn first(events: &[Event], count: usize) -> &[Event]
+pub(crate) fn first(events: &[Event], count: usize) -> &[Event]
     ensures { result.now ≡ take count events.now }
 {
     if count < events.len() {
@@ -25,7 +25,7 @@ fn first(events: &[Event], count: usize) -> &[Event]
 }
 
 /// The events of a watched run that happen: all of them, or those before the one that breaks a rule.
-fn happening<'a>(watched: Watched, events: &'a [Event]) -> &'a [Event]
+pub(crate) fn happening<'a>(watched: Watched, events: &'a [Event]) -> &'a [Event]
     ensures { result.now ≡ happening watched events.now }
 {
     match watched {

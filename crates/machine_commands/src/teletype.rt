@@ -17,7 +17,7 @@ use std::alloc::Allocator;
 use streams::{ByteSink, ByteSource};
 
 /// How the tape of a session is run.
-fn run_of(options: TeletypeOptions) -> RunOptions
+pub(crate) fn run_of(options: TeletypeOptions) -> RunOptions
     ensures { result ≡ run_of options }
 {
     RunOptions {

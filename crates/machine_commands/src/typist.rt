@@ -111,6 +111,15 @@ fn complete<A: Allocator>(world: &mut World<A>)
     let _punched = world.apply(Event::PunchDone);
 }
 
+impl<F, K> Typist<F, K> {
+    /// Where the keys come from.
+    pub(crate) fn keys(&self) -> &K
+        ensures { result.now ≡ self.now.keys }
+    {
+        &self.keys
+    }
+}
+
 impl<F: ByteSource, K: ByteSource> Typist<F, K> {
     /// A typist who has this tape in the reader and these keys to strike, before the session.
     pub fn new(reader: F, keys: K, options: TeletypeOptions) -> Typist<F, K>

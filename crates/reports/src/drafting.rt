@@ -31,8 +31,8 @@ use std::alloc::{AllocError, Allocator};
 use streams::{ByteSink, ByteSource, put};
 use word12::Word;
 
-/// Why a search is stuck at an address, as lines: the condition that fails there, if one is told, and what
-/// is known of the pointer.
+/// Why a search is stuck at an address, as lines that are given, or else the condition that fails there, if one is told,
+/// and what is known of the pointer.
 fn why_lines<A: Allocator + Copy, D: Allocator, C: Allocator>(
     alloc: A,
     image: &Image,
@@ -40,8 +40,13 @@ fn why_lines<A: Allocator + Copy, D: Allocator, C: Allocator>(
     draft: &Certificate<C>,
     at: Word,
     told: &Option<(Refusal, Reason)>,
+    given: Option<&[u8]>,
 ) -> Result<Vec<u8, A>, AllocError> {
     let mut text = Vec::new(alloc);
+    if let Some(lines) = given {
+        text.extend_from_slice(lines)?;
+        return Ok(text);
+    }
     if let Some((refusal, reason)) = told {
         let (verdict, reason) = (Err(*refusal), Some(*reason));
         let telling = telling_of(draft, &verdict, &reason);
@@ -67,10 +72,11 @@ fn below_stuck<A: Allocator + Copy, D: Allocator, C: Allocator>(
     at: Word,
     form: ReportForm,
     notes: Option<&SourceNotes<A>>,
+    given: Option<&[u8]>,
 ) -> Result<Vec<u8, A>, AllocError> {
     let mut rooms = WhyRooms::boxed(alloc)?;
     let told = why_stuck(image, declaration, draft, at, &mut rooms);
-    let lines = why_lines(alloc, image, declaration, draft, at, &told)?;
+    let lines = why_lines(alloc, image, declaration, draft, at, &told, given)?;
     let failing = match &told {
         None => "",
         Some((refusal, _)) => condition_name(refusal.condition),
@@ -106,7 +112,7 @@ fn joined<A: Allocator>(
     Ok(page)
 }
 
-/// The report of a draft.
+/// The report of a draft. Where the lines that say why the search is stuck are given, it has these.
 ///
 /// # Errors
 ///
@@ -119,10 +125,11 @@ pub fn draft_page<A: Allocator + Copy, D: Allocator, C: Allocator>(
     at: Word,
     form: ReportForm,
     notes: Option<&SourceNotes<A>>,
+    given: Option<&[u8]>,
 ) -> Result<Vec<u8, A>, AllocError>
     ensures { IfOk result (λ page. IsDraftPage form at page.items) }
 {
-    let rest = below_stuck(alloc, image, declaration, draft, at, form, notes)?;
+    let rest = below_stuck(alloc, image, declaration, draft, at, form, notes, given)?;
     let page = joined(alloc, form, at, &rest)?;
     Ok(page)
 }
@@ -178,7 +185,7 @@ pub fn report_draft<A: Allocator + Copy, R: ByteSource, D: ByteSource, W: ByteSi
     match &attempt {
         Attempt::Found(_) => Ok(Status::Done),
         Attempt::Stuck(at, draft) => {
-            let page = draft_page(alloc, image, promised, draft, *at, form, notes)?;
+            let page = draft_page(alloc, image, promised, draft, *at, form, notes, None)?;
             put(out, &page)?;
             Ok(Status::Refused)
         }

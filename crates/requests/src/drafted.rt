@@ -1,15 +1,29 @@
 //! The report of a search for a certificate that is stuck.
 
 use crate::files::{finish, is_read_once, open_output};
-use crate::stuck::Stuck;
+use crate::of_sources::assembled::AssembledSource;
+use crate::of_sources::source_lines::labelled;
+use crate::stuck::{Stuck, stuck_why};
 use command_line::Destination;
 use command_parts::status::{DeviceFault, Fault, Status};
 use reports::drafting::draft_page;
-use reports::reporting::{ReportForm, SourceNotes};
-use std::alloc::Global;
+use reports::reporting::ReportForm;
+use std::alloc::{AllocError, Global};
 use std::rt::Files;
 use streams::put;
 use streams::standard::Writes;
+
+/// Why a search is stuck, with what the source says about its addresses, if there is one.
+fn why_in(
+    alloc: Global,
+    stuck: &Stuck<'_>,
+    source: Option<&AssembledSource>,
+) -> Result<Option<Vec<u8>>, AllocError> {
+    let Some(source) = source else {
+        return Ok(None);
+    };
+    Ok(Some(labelled(alloc, source, &stuck_why(alloc, stuck)?)?))
+}
 
 /// Writes to a file what a search had found when it was stuck, with what the source says about addresses, if there is
 /// one.
@@ -19,8 +33,9 @@ pub fn report_stuck<R: Files + Print>(
     alloc: Global,
     stuck: &Stuck<'_>,
     name: &str,
-    notes: Option<&SourceNotes<Global>>,
+    source: Option<&AssembledSource>,
 ) -> Result<(), Fault> {
+    let why = why_in(alloc, stuck, source)?;
     let mut file = open_output(rt, alloc, Destination::MadeLast(name))?;
     let bytes = draft_page(
         alloc,
@@ -29,7 +44,11 @@ pub fn report_stuck<R: Files + Print>(
         stuck.draft,
         stuck.at,
         ReportForm::Page,
-        notes,
+        source.map(|source| &source.notes),
+        match &why {
+            Some(lines) => Some(lines.as_slice()),
+            None => None,
+        },
     )?;
     put(&mut Writes::new(&mut file), &bytes)?;
     let _status = finish(&mut file, Status::Done)?;

@@ -7,7 +7,7 @@ mod words;
 use crate::of_files::joined::{hold_session_on, hold_teletype_session_on};
 use crate::of_files::tapes::run_on;
 use crate::of_machine::places::{Named, named_in};
-use crate::of_machine::words::words_of;
+use crate::of_machine::words::{SourceStatements, words_of};
 use crate::of_sources::assembled::{AssembledSource, described};
 use crate::of_sources::numbering::{Given, Promise, lend, machine_line, read_parts};
 use crate::of_sources::told::tell_unread;
@@ -42,11 +42,11 @@ fn run_of<'a>(run: &RunRequest<'a>, named: &Named) -> RunRequest<'a> {
             ..run.options
         },
         stopping: named.stopping,
-        last: run.last,
+        long: run.long,
     }
 }
 
-/// A run with an operator with these cells shown.
+/// A run with an operator with these cells shown and these stops.
 fn session_of<'a>(session: &Session<'a>, named: &Named) -> Session<'a> {
     Session {
         tape: session.tape,
@@ -59,10 +59,11 @@ fn session_of<'a>(session: &Session<'a>, named: &Named) -> Session<'a> {
             ..session.options
         },
         summary: session.summary,
+        stopping: named.stopping,
     }
 }
 
-/// A session at the teletype with these cells shown.
+/// A session at the teletype with these cells shown and these stops.
 fn teletype_of<'a>(session: &TeletypeSession<'a>, named: &Named) -> TeletypeSession<'a> {
     TeletypeSession {
         tape: session.tape,
@@ -73,6 +74,8 @@ fn teletype_of<'a>(session: &TeletypeSession<'a>, named: &Named) -> TeletypeSess
             ..session.options
         },
         summary: session.summary,
+        stopping: named.stopping,
+        interrupt: session.interrupt,
     }
 }
 
@@ -83,19 +86,27 @@ fn carry_out<R: Files + Input + Print + Eprint>(
     alloc: Global,
     source: &AssembledSource,
     asked: &SourcedRequest<'_>,
+    at_terminal: bool,
 ) -> Result<Status, Fault> {
-    let named = match named_in(source.numbered.map.symbols(), asked) {
+    let named = match named_in(source.numbered.map.symbols(), &asked.places) {
         Ok(named) => named,
         Err(misuse) => return Ok(tell_misuse(rt, &misuse.with_symbols())),
     };
     let mut frames = Reads::new(source.numbered.tape.as_slice());
     match &asked.task {
-        MachineTask::Run(run) => run_on(rt, alloc, &run_of(run, &named), &mut frames),
+        MachineTask::Run(run) => {
+            let statements = SourceStatements {
+                source,
+                profile: run.options.profile,
+            };
+            run_on(rt, alloc, &run_of(run, &named), &mut frames, &statements)
+        }
         MachineTask::Session(session) => {
             hold_session_on(rt, alloc, &session_of(session, &named), &mut frames)
         }
         MachineTask::Teletype(session) => {
-            hold_teletype_session_on(rt, alloc, &teletype_of(session, &named), &mut frames)
+            let session = teletype_of(session, &named);
+            hold_teletype_session_on(rt, alloc, &session, at_terminal, &mut frames)
         }
         MachineTask::Dump(dump) => {
             let text = words_of(alloc, source, dump.profile)?;
@@ -112,6 +123,7 @@ fn answer_given<R: Files + Input + Print + Eprint>(
     alloc: Global,
     given: Given,
     asked: &SourcedRequest<'_>,
+    at_terminal: bool,
 ) -> Result<Status, Fault> {
     let numbered = match numbered_of(alloc, &given) {
         Ok(numbered) => numbered,
@@ -132,7 +144,7 @@ fn answer_given<R: Files + Input + Print + Eprint>(
         Err(_) => return Err(Fault::NoMemory),
     };
     let source = described(alloc, given, numbered, &asked.parts)?;
-    let status = carry_out(rt, alloc, &source, asked)?;
+    let status = carry_out(rt, alloc, &source, asked, at_terminal)?;
     tell_unread(rt, alloc, &asked.parts, &lend(alloc, &source.given.parts)?)?;
     Ok(status)
 }
@@ -148,6 +160,7 @@ pub fn answer_sourced<R: Files + Input + Print + Eprint>(
     rt: &R,
     alloc: Global,
     asked: &SourcedRequest<'_>,
+    at_terminal: bool,
 ) -> Result<Status, Fault> {
     let mut parts = Vec::new(alloc);
     if let Err(fault) = read_parts(rt, alloc, &asked.parts, &mut parts) {
@@ -164,5 +177,5 @@ pub fn answer_sourced<R: Files + Input + Print + Eprint>(
         text,
         promise: Promise::Proposed,
     };
-    answer_given(rt, alloc, given, asked)
+    answer_given(rt, alloc, given, asked, at_terminal)
 }

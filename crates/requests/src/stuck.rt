@@ -70,6 +70,15 @@ fn stuck_reasons(alloc: Global, stuck: &Stuck<'_>) -> Result<Message<Global>, Al
     Ok(told)
 }
 
+/// Why a search is stuck, as its report says it.
+#[inline(never)]
+pub fn stuck_why(alloc: Global, stuck: &Stuck<'_>) -> Result<Message<Global>, AllocError> {
+    let (image, declaration, at) = (stuck.image, stuck.declaration, stuck.at);
+    let mut told = draft_message(alloc, image, declaration, stuck.draft, at)?;
+    push_bound(alloc, &mut told, image, declaration, stuck.draft, at)?;
+    Ok(told)
+}
+
 /// What is said about a search that is stuck: its line, and behind it why it is stuck, and what to do.
 #[inline(never)]
 pub fn stuck_message(alloc: Global, stuck: &Stuck<'_>) -> Result<Message<Global>, AllocError> {

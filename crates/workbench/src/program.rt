@@ -39,7 +39,8 @@ const WAITING: &str = "pdp8 waits for a tape on standard input; pdp8 help lists 
 /// `teletype`, and the line of `refute` whose events go to standard output, go to standard error too, and
 /// where that fails the status is 3.
 ///
-/// Where standard input is a terminal and there are no arguments, it says that it waits for a tape.
+/// Where standard input is a terminal, it says that it waits for a tape if there are no arguments, and which key ends a session
+/// at the teletype.
 ///
 /// That the status is at most 4 is proved; all else said here is tested.
 pub fn exit_status<R: Env + Files + Input + Print + Eprint + AllocGlobal>(
@@ -65,7 +66,7 @@ pub fn exit_status<R: Env + Files + Input + Print + Eprint + AllocGlobal>(
         parse_arguments(alloc, given.as_slice())
     };
     match request {
-        Ok(line) => carry_out(rt, alloc, &line).code(),
+        Ok(line) => carry_out(rt, alloc, &line, at_terminal).code(),
         Err(refused) => refuse(rt, alloc, refused).code(),
     }
 }
@@ -78,13 +79,14 @@ fn carry_out<R: Files + Input + Print + Eprint>(
     rt: &R,
     alloc: Global,
     line: &CommandLine<'_>,
+    at_terminal: bool,
 ) -> Status {
     match misused_files(rt, alloc, &line.request) {
         Ok(None) => {}
         Ok(Some(misuse)) => return tell_misuse(rt, &misuse),
         Err(_) => return tell(rt, Fault::NoMemory),
     }
-    match answer(rt, alloc, &line.request) {
+    match answer(rt, alloc, &line.request, at_terminal) {
         Ok(status) => {
             if line.explained && status == Status::Refused {
                 tell_lines(rt, refusal_lines(&line.request));
@@ -174,16 +176,17 @@ fn answer<R: Files + Input + Print + Eprint>(
     rt: &R,
     alloc: Global,
     request: &Request<'_>,
+    at_terminal: bool,
 ) -> Result<Status, Fault> {
     match request {
         Request::Run(asked) => run_from(rt, alloc, asked),
         Request::Session(session) => hold_session(rt, alloc, session),
-        Request::Teletype(session) => hold_teletype_session(rt, alloc, session),
+        Request::Teletype(session) => hold_teletype_session(rt, alloc, session, at_terminal),
         Request::Dump(asked) => dump_from(rt, alloc, asked),
         Request::Assemble(asked) => assemble_to(rt, alloc, asked),
         Request::List(asked) => list_from(rt, alloc, asked),
         Request::Source(asked) => source_from(rt, alloc, asked),
-        Request::Sourced(asked) => answer_sourced(rt, alloc, asked),
+        Request::Sourced(asked) => answer_sourced(rt, alloc, asked, at_terminal),
         Request::Program(asked) => answer_program(rt, alloc, asked),
         Request::Migrate(asked) => migrate_from(rt, alloc, asked),
         Request::Explain { code } => explain_code(rt, alloc, *code),

@@ -252,6 +252,20 @@ const TRACE: Argument = Argument {
     help: "writes a line for each instruction that is executed",
 };
 
+const FULL: Argument = Argument {
+    name: "full",
+    short: None,
+    form: Form::Flag,
+    help: "writes each memory reference with the whole address that it names, such as JMP 0202; with --source this is done anyway",
+};
+
+const TRACE_LONG: Argument = Argument {
+    name: "trace-long",
+    short: None,
+    form: Form::Flag,
+    help: "writes a longer line for each instruction that is executed: how it reads, with --source its label and its statement, and the cells that it read and wrote",
+};
+
 const READER: Argument = Argument {
     name: "reader",
     short: None,
@@ -299,6 +313,13 @@ const RAW: Argument = Argument {
     help: "strikes the bytes of keys as they come: a line feed does not become a carriage return, and channel 8 is not set",
 };
 
+const INTERRUPT: Argument = Argument {
+    name: "interrupt",
+    short: None,
+    form: Form::Value("K"),
+    help: "the key that ends the session when the program asks for one: an octal number, such as 5 for ^E, or off. Without it ^E at a terminal, and none in other cases or with --raw",
+};
+
 const SWITCHES: Argument = Argument {
     name: "switches",
     short: None,
@@ -339,6 +360,11 @@ const LAST: Argument = Argument {
     short: None,
     form: Form::Value("N"),
     help: "writes a line for each of the last N instructions that are executed, before the summary",
+};
+
+const LAST_WATCHED: Argument = Argument {
+    help: "before the verdict, writes a line for each of the last N instructions that are executed; if a rule is violated, of those before it",
+    ..LAST
 };
 
 const CROSS: Argument = Argument {
@@ -450,13 +476,14 @@ pub(crate) const VERIFY_ARGUMENTS: [Argument; 10] = [
     WHY_VERIFY,
 ];
 
-pub(crate) const RUN_ARGUMENTS: [Argument; 19] = [
+pub(crate) const RUN_ARGUMENTS: [Argument; 20] = [
     TAPE_OR_SOURCE,
     PARTS,
     START,
     ROUNDS,
     EVENTS_FILE,
     TRACE,
+    TRACE_LONG,
     PROFILE,
     READER,
     PUNCH,
@@ -472,7 +499,7 @@ pub(crate) const RUN_ARGUMENTS: [Argument; 19] = [
     WHY_INPUT,
 ];
 
-pub(crate) const TELETYPE_ARGUMENTS: [Argument; 11] = [
+pub(crate) const TELETYPE_ARGUMENTS: [Argument; 16] = [
     TAPE_BESIDE_KEYS,
     PARTS,
     START,
@@ -482,11 +509,16 @@ pub(crate) const TELETYPE_ARGUMENTS: [Argument; 11] = [
     SWITCHES,
     MARK,
     RAW,
+    INTERRUPT,
+    UNTIL,
+    UNTIL_WRITE,
+    UNTIL_READ,
+    LAST,
     SHOW,
     WHY_INPUT,
 ];
 
-pub(crate) const DUMP_ARGUMENTS: [Argument; 4] = [TAPE_OR_SOURCE, PARTS, PROFILE, WHY_INPUT];
+pub(crate) const DUMP_ARGUMENTS: [Argument; 5] = [TAPE_OR_SOURCE, PARTS, FULL, PROFILE, WHY_INPUT];
 
 pub(crate) const ASSEMBLE_ARGUMENTS: [Argument; 5] = [
     TAPE_OUT,
@@ -509,7 +541,7 @@ pub(crate) const SOURCE_ARGUMENTS: [Argument; 8] = [
     WHY_INPUT,
 ];
 
-pub(crate) const WATCH_ARGUMENTS: [Argument; 12] = [
+pub(crate) const WATCH_ARGUMENTS: [Argument; 16] = [
     TAPE_OR_SOURCE,
     DECLARATION_OR_SOURCE,
     EVENTS,
@@ -520,6 +552,10 @@ pub(crate) const WATCH_ARGUMENTS: [Argument; 12] = [
     SWITCHES,
     ROUNDS,
     CONTINUE,
+    UNTIL,
+    UNTIL_WRITE,
+    UNTIL_READ,
+    LAST_WATCHED,
     SHOW,
     WHY_WATCH,
 ];

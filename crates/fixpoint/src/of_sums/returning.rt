@@ -125,7 +125,6 @@ impl<A: Allocator + Copy> SumSearch<A> {
         room: &mut SumRooms<A>,
     ) -> Result<(), Halt> {
         let written = self.claimed(entry).writes;
-        let more = self.split.cell;
         let Some(kept) = self.table.exits.get(entry, index) else {
             return Ok(());
         };
@@ -136,7 +135,7 @@ impl<A: Allocator + Copy> SumSearch<A> {
         if !kept.sites.contains(at) || !program.has(&place.routine, to) {
             return Ok(());
         }
-        kept.put_written(&written, &more, &mut room.calls.exit);
+        kept.put_written(&written, &mut room.calls.exit);
         room.calls.put_joined(&written);
         let goal = Goal {
             from: at,

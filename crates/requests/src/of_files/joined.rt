@@ -5,12 +5,15 @@ ghost use Rattle.std.specs.Prelude.{◌≡◌, false};
 use crate::files::open_input;
 use crate::replacing::ResultFile;
 use crate::tellers::{Nowhere, open_input_if, report_to, tell_to};
-use command_line::{Session, TeletypeSession};
-use command_parts::options::SummaryForm;
+use command_line::{Interrupt, Session, Stopping, TeletypeSession};
+use command_parts::options::{SessionOptions, SummaryForm};
 use command_parts::status::{DeviceFault, Fault, Status};
 use command_parts::visible::visible_text;
 use either::Either;
+use machine_commands::interrupted::KeysUntil;
+use machine_commands::last_session::{run_session_with_last, teletype_with_last};
 use machine_commands::session::{Outputs, run_session};
+use machine_commands::stopped_session::{no_stops, run_session_with_stops, teletype_with_stops};
 use machine_commands::teletype::{Typist, teletype};
 use std::alloc::{AllocError, Global};
 use std::io::{self, Printer};
@@ -92,6 +95,40 @@ fn form_with<'n>(form: SummaryForm<'_>, name: &'n Option<String>) -> SummaryForm
     }
 }
 
+/// Runs a tape with an operator, up to where it is stopped, and shows its last instructions if that is asked for.
+fn follow_session<
+    R: ByteSource,
+    F: ByteSource,
+    K: ByteSource,
+    W: ByteSink,
+    T: ByteSink,
+    P: ByteSink,
+>(
+    alloc: Global,
+    frames: &mut R,
+    reader: &mut F,
+    keys: &mut K,
+    options: SessionOptions,
+    stopping: &Stopping,
+    form: SummaryForm<'_>,
+    out: &mut Outputs<W, T, P>,
+) -> Result<Status, Fault>
+    requires readable { R.mark frames.old ≡ false }
+    requires reader_readable { F.mark reader.old ≡ false }
+    requires keys_readable { K.mark keys.old ≡ false }
+    requires writable { W.mark out.old.report ≡ false }
+    requires typable { T.mark out.old.teletype ≡ false }
+    requires punchable { P.mark out.old.punch ≡ false }
+{
+    let stops = &stopping.stops;
+    match stopping.last {
+        None => run_session_with_stops(alloc, frames, reader, keys, options, stops, form, out),
+        Some(most) => {
+            run_session_with_last(alloc, frames, reader, keys, options, stops, most, form, out)
+        }
+    }
+}
+
 /// Runs a tape with these frames and with an operator. The files are opened in this order: the reader's frames and the
 /// keys, and then it is seen that the punch's can be made.
 ///
@@ -118,15 +155,14 @@ pub(crate) fn hold_session_on<R: Files + Input + Print + Eprint, S: ByteSource>(
         teletype: type_to(rt, joined.teletype),
         punch: Writes::new(&mut punch),
     };
-    let answer = run_session(
-        alloc,
-        frames,
-        &mut reader,
-        &mut keys,
-        session.options,
-        form,
-        &mut outputs,
-    );
+    let options = session.options;
+    let out = &mut outputs;
+    let answer = match &session.stopping {
+        None => run_session(alloc, frames, &mut reader, &mut keys, options, form, out),
+        Some(stopping) => {
+            follow_session(alloc, frames, &mut reader, &mut keys, options, stopping, form, out)
+        }
+    };
     let failed = outputs.punch.failed();
     finish_punch(&mut punch, failed, answer)
 }
@@ -145,6 +181,40 @@ pub fn hold_session<R: Files + Input + Print + Eprint>(
     hold_session_on(rt, alloc, session, &mut frames)
 }
 
+/// The key that interrupts a session at a terminal where no other is asked for: ^E.
+const USUAL_KEY: u8 = 5;
+
+/// The byte of the key that interrupts a session, if one does.
+fn interrupt_key(interrupt: Interrupt, at_terminal: bool) -> Option<u8> {
+    match interrupt {
+        Interrupt::Usual if at_terminal => Some(USUAL_KEY),
+        Interrupt::Usual | Interrupt::Off => None,
+        Interrupt::Key(byte) => Some(byte),
+    }
+}
+
+/// An octal digit of a byte, by how far right it stands.
+fn digit_of(byte: u8, shift: u32) -> char {
+    char::from(b'0' + (byte >> shift & 7))
+}
+
+/// Says which key interrupts the session, if one does.
+fn tell_key<R: Eprint>(rt: &R, key: Option<u8>) {
+    let Some(byte) = key else {
+        return;
+    };
+    let told = if byte < 0o40 {
+        let letter = char::from(byte + 0o100);
+        eprintln!(rt; "^{letter} ends the session when the program asks for a key")
+    } else {
+        let (high, middle, low) = (digit_of(byte, 6), digit_of(byte, 3), digit_of(byte, 0));
+        eprintln!(rt; "key {high}{middle}{low} ends the session when the program asks for a key")
+    };
+    match told {
+        Ok(()) | Err(_) => {}
+    }
+}
+
 /// Holds a session at the teletype with the tape of these frames: keys come from standard input, what is printed goes to
 /// standard output, and the summary to standard error. The reader's frames are opened first, and then it is seen that
 /// the punch's file can be made.
@@ -157,10 +227,15 @@ pub(crate) fn hold_teletype_session_on<R: Files + Input + Print + Eprint, S: Byt
     rt: &R,
     alloc: Global,
     session: &TeletypeSession<'_>,
+    at_terminal: bool,
     frames: &mut S,
 ) -> Result<Status, Fault>
     requires { S.mark frames.old ≡ false }
 {
+    let key = interrupt_key(session.interrupt, at_terminal);
+    if at_terminal {
+        tell_key(rt, key);
+    }
     let name = shown_name(alloc, session.punch)?;
     let form = form_with(session.summary, &name);
     let reader = open_input_if(rt, session.reader)?;
@@ -171,8 +246,23 @@ pub(crate) fn hold_teletype_session_on<R: Files + Input + Print + Eprint, S: Byt
         teletype: Writes::new(io::writer(rt)),
         punch: Writes::new(&mut punch),
     };
-    let mut typist = Typist::new(reader, keys, session.options);
-    let answer = teletype(alloc, frames, &mut typist, form, &mut outputs);
+    let mut typist = Typist::new(reader, KeysUntil::new(keys, key), session.options);
+    let out = &mut outputs;
+    let answer = match &session.stopping {
+        Some(stopping) => {
+            let stops = &stopping.stops;
+            match stopping.last {
+                None => teletype_with_stops(alloc, frames, &mut typist, stops, form, out),
+                Some(most) => {
+                    teletype_with_last(alloc, frames, &mut typist, stops, most, form, out)
+                }
+            }
+        }
+        None if key.is_some() => {
+            teletype_with_stops(alloc, frames, &mut typist, &no_stops(), form, out)
+        }
+        None => teletype(alloc, frames, &mut typist, form, out),
+    };
     let failed = outputs.punch.failed();
     finish_punch(&mut punch, failed, answer)
 }
@@ -186,7 +276,8 @@ pub fn hold_teletype_session<R: Files + Input + Print + Eprint>(
     rt: &R,
     alloc: Global,
     session: &TeletypeSession<'_>,
+    at_terminal: bool,
 ) -> Result<Status, Fault> {
     let mut frames = open_input(rt, session.tape.unwrap_or("-"))?;
-    hold_teletype_session_on(rt, alloc, session, &mut frames)
+    hold_teletype_session_on(rt, alloc, session, at_terminal, &mut frames)
 }

@@ -1,6 +1,6 @@
 //! The cells and places that options name with the symbols of a source.
 
-use command_line::{MachineTask, Misuse, ReadCells, SourcedRequest, Stopping};
+use command_line::{Misuse, Places, ReadCells, Stopping};
 use labels::address::{Cells, cells_of};
 use pal_acts::SymbolTable;
 use std::alloc::Global;
@@ -54,18 +54,11 @@ pub(crate) struct Named {
     pub(crate) stopping: Option<Stopping>,
 }
 
-/// What the options of a request name, where the source has these symbols of its own.
-pub(crate) fn named_in(
-    own: &SymbolTable<Global>,
-    asked: &SourcedRequest<'_>,
-) -> Result<Named, Misuse> {
+/// What these options name, where the source has these symbols of its own.
+pub(crate) fn named_in(own: &SymbolTable<Global>, places: &Places<'_>) -> Result<Named, Misuse> {
     let reader = Symbolic { own };
-    let last = match &asked.task {
-        MachineTask::Run(run) => run.last,
-        _ => None,
-    };
     Ok(Named {
-        show: asked.places.shown(&reader)?,
-        stopping: asked.places.stopping(&reader, last)?,
+        show: places.shown(&reader)?,
+        stopping: places.stopping(&reader)?,
     })
 }

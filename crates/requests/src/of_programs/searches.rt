@@ -52,8 +52,7 @@ fn tell_stuck<R: Files + Print + Eprint>(
         let _ = put(&mut tell_to(rt), &lines_of(alloc, source, &told)?);
     }
     if let Some(name) = report {
-        let notes = source.map(|source| &source.notes);
-        report_stuck(rt, alloc, stuck, name, notes)?;
+        report_stuck(rt, alloc, stuck, name, source)?;
     }
     if explained {
         return Ok(Status::Refused);

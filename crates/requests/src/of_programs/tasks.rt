@@ -1,7 +1,7 @@
 //! What is done with a program that is open. The other files of a command are opened before the program is read.
 
 use crate::files::{finish, open_input, open_output};
-use crate::of_machine::places::Symbolic;
+use crate::of_machine::places::{Named, named_in};
 use crate::of_programs::open::OpenProgram;
 use crate::of_programs::searches::{declared, guessed, refuted};
 use crate::of_programs::verified::verified;
@@ -9,7 +9,7 @@ use crate::of_sources::assembled::AssembledSource;
 use crate::of_sources::source_lines::lines_of;
 use crate::tellers::open_input_if;
 use crate::telling::tell_misuse;
-use command_line::{Destination, Misuse, ProgramRequest, Task, WatchedSession};
+use command_line::{Destination, Misuse, ProgramRequest, Stopping, Task, WatchedSession};
 use command_parts::inputs::{bytes_from, events_from};
 use command_parts::message::Message;
 use command_parts::options::{RunOptions, SessionOptions};
@@ -19,6 +19,9 @@ use command_parts::status::{Fault, Status};
 use diagnostics::verdicts::certificates::{Certified, certificate_from};
 use diagnostics::verdicts::messages::check_message;
 use machine_commands::messages::{watch_message, watch_session_message};
+use machine_commands::stopped_watch::{
+    Telling, watch_message_to_stop, watch_session_message_to_stop,
+};
 use reports::reporting::{ReportForm, report_of};
 use search_commands::checking::verdict_of;
 use std::alloc::Global;
@@ -90,6 +93,16 @@ fn reported<R: Files + Input + Print, I: Read + Drop>(
     finish(&mut file, status)
 }
 
+/// How a watched run is told that may be stopped.
+fn telling_of<'s>(stopping: &'s Stopping, explained: bool, show: &'s WordSet) -> Telling<'s> {
+    Telling {
+        stops: &stopping.stops,
+        last: stopping.last,
+        explained,
+        show,
+    }
+}
+
 /// Watches a run by the events of a file.
 #[inline(never)]
 fn watched<R: Files + Input + Print, I: Read + Drop>(
@@ -97,14 +110,21 @@ fn watched<R: Files + Input + Print, I: Read + Drop>(
     alloc: Global,
     opened: &mut OpenProgram<'_, I>,
     events: &str,
-    show: &WordSet,
+    named: &Named,
     explained: bool,
 ) -> Result<Status, Fault> {
     let mut list = open_input(rt, events)?;
     let source = opened.labels(explained);
     let Program { image, declaration } = opened.read(alloc)?;
     let events = events_from(alloc, &mut list)?;
-    let run = watch_message(alloc, &image, &declaration, &events, explained, show)?;
+    let show = &named.show;
+    let run = match &named.stopping {
+        None => watch_message(alloc, &image, &declaration, &events, explained, show)?,
+        Some(stopping) => {
+            let telling = telling_of(stopping, explained, show);
+            watch_message_to_stop(alloc, &image, &declaration, &events, &telling)?
+        }
+    };
     tell_lines(rt, alloc, source, &run.told)?;
     Ok(run.status)
 }
@@ -116,14 +136,14 @@ fn session_watched<R: Files + Input + Print, I: Read + Drop>(
     alloc: Global,
     opened: &mut OpenProgram<'_, I>,
     session: &WatchedSession<'_>,
-    show: &WordSet,
+    named: &Named,
 ) -> Result<Status, Fault> {
     let mut reader = open_input_if(rt, session.reader)?;
     let mut keys = open_input_if(rt, session.keys)?;
     let explained = session.explained;
     let options = &SessionOptions {
         run: RunOptions {
-            show: *show,
+            show: named.show,
             ..session.options.run
         },
         ..session.options
@@ -132,16 +152,29 @@ fn session_watched<R: Files + Input + Print, I: Read + Drop>(
     let Program { image, declaration } = opened.read(alloc)?;
     let frames = bytes_from(alloc, &mut reader, options.run.rounds)?;
     let struck = bytes_from(alloc, &mut keys, options.run.rounds)?;
-    let run = watch_session_message(
-        alloc,
-        &image,
-        &declaration,
-        &frames,
-        &struck,
-        options,
-        session.continues,
-        explained,
-    )?;
+    let continues = session.continues;
+    let run = match &named.stopping {
+        None => watch_session_message(
+            alloc,
+            &image,
+            &declaration,
+            &frames,
+            &struck,
+            options,
+            continues,
+            explained,
+        )?,
+        Some(stopping) => watch_session_message_to_stop(
+            alloc,
+            &image,
+            &declaration,
+            &frames,
+            &struck,
+            options,
+            continues,
+            &telling_of(stopping, explained, &named.show),
+        )?,
+    };
     tell_lines(rt, alloc, source, &run.told)?;
     Ok(run.status)
 }
@@ -169,17 +202,15 @@ fn report_form(text: bool) -> ReportForm {
     }
 }
 
-/// The cells that are shown when a run is over: those of a source may be named by its symbols.
-fn shown_of(
+/// What the options of a watched run name: those of a source may do so by its symbols.
+fn named_of(
     source: Option<&AssembledSource>,
     asked: &ProgramRequest<'_>,
-    show: &WordSet,
-) -> Result<WordSet, Misuse> {
+    named: Named,
+) -> Result<Named, Misuse> {
     match source {
-        None => Ok(*show),
-        Some(source) => asked.places.shown(&Symbolic {
-            own: source.numbered.map.symbols(),
-        }),
+        None => Ok(named),
+        Some(source) => named_in(source.numbered.map.symbols(), &asked.places),
     }
 }
 
@@ -204,13 +235,27 @@ pub(crate) fn carry_out<R: Files + Input + Print + Eprint, I: Read + Drop>(
             out,
             text,
         } => reported(rt, alloc, opened, certificate, *out, report_form(*text)),
-        Task::Watch { events, show } => match shown_of(opened.source, asked, show) {
-            Ok(show) => watched(rt, alloc, opened, events, &show, explained),
-            Err(misuse) => Ok(tell_misuse(rt, &misuse.with_symbols())),
-        },
+        Task::Watch {
+            events,
+            show,
+            stopping,
+        } => {
+            let named = Named {
+                show: *show,
+                stopping: *stopping,
+            };
+            match named_of(opened.source, asked, named) {
+                Ok(named) => watched(rt, alloc, opened, events, &named, explained),
+                Err(misuse) => Ok(tell_misuse(rt, &misuse.with_symbols())),
+            }
+        }
         Task::WatchSession(session) => {
-            match shown_of(opened.source, asked, &session.options.run.show) {
-                Ok(show) => session_watched(rt, alloc, opened, session, &show),
+            let named = Named {
+                show: session.options.run.show,
+                stopping: session.stopping,
+            };
+            match named_of(opened.source, asked, named) {
+                Ok(named) => session_watched(rt, alloc, opened, session, &named),
                 Err(misuse) => Ok(tell_misuse(rt, &misuse.with_symbols())),
             }
         }

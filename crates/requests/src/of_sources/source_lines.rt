@@ -117,6 +117,15 @@ fn first_line(text: &[u8]) -> &[u8]
     }
 }
 
+/// A text for people, with what the source says about its addresses.
+pub(crate) fn labelled(
+    alloc: Global,
+    source: &AssembledSource,
+    told: &Message<Global>,
+) -> Result<Vec<u8>, AllocError> {
+    rest_with_source_lines(alloc, source, told, 0)
+}
+
 /// What comes after so many bytes of a text for people, with what the source says about its addresses.
 fn rest_with_source_lines(
     alloc: Global,

@@ -4,7 +4,7 @@ use Rattle.peripherals.specs.World.{view}
 use Rattle.machine_commands.specs.Schedule.{UpToRead}
 use Rattle.machine_commands.specs.TypingParts.{Types, source}
 use Rattle.machine_commands.proofs.SessionLemmas.{or_left, or_right}
-use Rattle.machine_commands.proofs.TypistLemmas.{IsBrought, Less, brought_less, types_last, types_on, types_output, types_over, types_read}
+use Rattle.machine_commands.proofs.TypistLemmas.{IsBrought, Less, brought_less, types_last, types_on, types_output, types_over, types_read, types_step}
 use Rattle.machine_commands.proofs.typist.TypistScheduler.next_event.Goals as goal
 
 pub due-requires : goal.due-requires
@@ -47,6 +47,7 @@ returns-in-Some-clause-due g c =
       on = λ p m extent es goes happens comes. types_on t.options w m t.asked t.rounds t.last reader keys reader_after keys_after e p extent es brought goes happens (rw (c.note.ensures, c.due.ensures.same) at comes);
       last = λ p extent ends. types_last t.options w t.asked t.rounds t.last reader keys reader_after keys_after e p extent brought ends;
       output = λ p puts. types_output t.options w t.asked t.rounds t.last reader keys reader_after keys_after e p brought puts;
+      step = λ p steps. types_step t.options w t.asked t.rounds t.last reader keys reader_after keys_after e p brought steps;
     }
 
 pub returns-in-Some-clause-fewer : goal.returns-in-Some-clause-fewer

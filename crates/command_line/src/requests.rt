@@ -73,6 +73,7 @@ fn request_of<'a>(
 }
 
 /// Reads the program's arguments, its own name before them.
+#[inline(never)]
 pub fn parse_arguments<'a, S: AsStr>(
     alloc: Global,
     arguments: &'a [S],

@@ -69,6 +69,7 @@ impl<A: Allocator> ByteSink for TapeSink<A> {
 }
 
 /// The tape of an image.
+#[inline(never)]
 fn tape_of<A: Allocator>(alloc: A, image: &Image) -> Result<Vec<u8, A>, NumberingFault>
     ensures written { IfOk result (λ tape. tape.items ≡ written_tape image.now) }
     ensures has_word { IfOk result (λ tape. IsEmptyImage image.now → ⊥) }

@@ -24,6 +24,7 @@ use streams::put;
 use streams::standard::{Reads, Writes};
 
 /// The tape of a source that was read, and its lines.
+#[inline(never)]
 fn numbered_of(alloc: Global, given: &Given) -> Result<Numbered<Global>, NumberingFault> {
     match lend(alloc, &given.parts) {
         Ok(parts) => number(alloc, &parts, &given.text),
@@ -79,6 +80,7 @@ fn teletype_of<'a>(session: &TeletypeSession<'a>, named: &Named) -> TeletypeSess
 }
 
 /// Does what is asked for with the program of a source that was assembled.
+#[inline(never)]
 fn carry_out<R: Files + Input + Print + Eprint>(
     rt: &R,
     alloc: Global,

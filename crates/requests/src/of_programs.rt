@@ -20,6 +20,7 @@ use std::rt::Files;
 
 /// Carries out a command on a program that is given by its tape. The tape is opened, then the declaration, and then the
 /// other files of the command.
+#[inline(never)]
 fn answer_tape<R: Files + Input + Print + Eprint>(
     rt: &R,
     alloc: Global,
@@ -39,6 +40,7 @@ fn answer_tape<R: Files + Input + Print + Eprint>(
 
 /// Carries out a command on a program whose source was assembled, and says which of its parts are ignored, or of which
 /// line of the source a fault is.
+#[inline(never)]
 fn answer_assembled<R: Files + Input + Print + Eprint>(
     rt: &R,
     alloc: Global,
@@ -59,6 +61,7 @@ fn answer_assembled<R: Files + Input + Print + Eprint>(
 
 /// Carries out a command on a program whose source and declaration were read, or tells why they are refused. The
 /// source is assembled, and then the other files of the command are opened.
+#[inline(never)]
 fn answer_given<R: Files + Input + Print + Eprint>(
     rt: &R,
     alloc: Global,

@@ -74,6 +74,7 @@ pub fn exit_status<R: Env + Files + Input + Print + Eprint + AllocGlobal>(
 /// Carries out a command line whose files are none twice, and tells the fault that stops it: first its line, since the file that has it is
 /// looked at once more for those below, of which the last says so if it was given in the place of another. Of an answer that is no fault it
 /// says what the command doesn't.
+#[inline(never)]
 fn carry_out<R: Files + Input + Print + Eprint>(
     rt: &R,
     alloc: Global,
@@ -111,6 +112,7 @@ fn refusal_of(kind: ErrorKind) -> Refused {
 }
 
 /// Says why the command line is bad, or gives the help that it asks for.
+#[inline(never)]
 fn refuse<R: Print + Eprint>(rt: &R, alloc: Global, refused: Refused) -> Status {
     let told = match refused {
         Refused::Memory => return tell(rt, Fault::NoMemory),
@@ -169,6 +171,7 @@ fn say_error<R: Eprint>(rt: &R, alloc: Global, text: &Error) {
 
 /// Opens the files of a request, in the order of its operands, and carries it out. Each command has a
 /// frame of its own on the stack, since they are large.
+#[inline(never)]
 fn answer<R: Files + Input + Print + Eprint>(
     rt: &R,
     alloc: Global,

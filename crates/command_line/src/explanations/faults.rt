@@ -223,8 +223,8 @@ static FAULTS: [Explanation; 44] = [
     Explanation {
         code: "TooMany",
         subject: Subject::Fault("certificate: TooMany"),
-        meaning: "more than 64 routines, 1,048,576 bytes, or 64 cells or 32 equations in a fact or an exit",
-        advice: "use at most 64 routines, 64 cells and 32 equations under a line,\nand 1,048,576 bytes; let the certificate say less",
+        meaning: "more than 64 routines, 1,048,576 bytes, or 64 cells, 32 equations or `sum` lines, or 4 `func` lines in a fact or an exit",
+        advice: "use at most 64 routines, 1,048,576 bytes, and under a line 64 cells,\n32 equations or `sum` lines and 4 `func` lines; let the certificate say less",
     },
     Explanation {
         code: "Stuck",

@@ -1,7 +1,7 @@
 //! The search by the rules of sums: on from each fact until nothing grows, with targets left out that are not permitted; then back
 //! by sweeps that make the facts anew from what leads to them; and on again.
 
-ghost use Rattle.std.specs.Prelude.{◌≡◌, ◌<◌, ◌≤◌, true, IfErr, IfOk};
+ghost use Rattle.std.specs.Prelude.{◌≡◌, ◌<◌, ◌≤◌, None, true, IfErr, IfOk};
 ghost use Rattle.turns.specs.Counts.{IsSpentUp};
 
 use crate::halt::Halt;
@@ -61,7 +61,11 @@ pub struct SumSearch<A: Allocator> {
 
 impl<A: Allocator + Copy> SumSearch<A> {
     /// Before the first step.
-    pub fn new(alloc: A) -> SumSearch<A> {
+    pub fn new(alloc: A) -> SumSearch<A>
+        ensures alloc { result.alloc ≡ alloc }
+        ensures needs { result.needs ≡ None }
+        ensures left { result.left ≡ 0 }
+    {
         SumSearch {
             alloc,
             table: Table::new(alloc),
@@ -78,7 +82,9 @@ impl<A: Allocator + Copy> SumSearch<A> {
     }
 
     /// The allocator.
-    pub fn allocator(&self) -> A {
+    pub fn allocator(&self) -> A
+        ensures { result ≡ self.now.alloc }
+    {
         self.alloc
     }
 

@@ -110,6 +110,7 @@ fn as_written(alloc: Global, text: &[u8], promise: Promise) -> Result<Vec<u8>, A
 }
 
 /// The declaration in numbers of a source that has no fault and no word, and no tape.
+#[inline(never)]
 fn wordless(
     alloc: Global,
     parts: &[&[u8]],

@@ -283,6 +283,7 @@ pub fn tell_refused<R: Eprint>(
 /// # Errors
 ///
 /// `Device` if a file cannot be opened or read, and `NoMemory`.
+#[inline(never)]
 pub fn read_all<R: Files + Input + Eprint>(
     rt: &R,
     alloc: Global,

@@ -159,7 +159,17 @@ pub fn with_source_lines(
     Ok(text)
 }
 
-/// A text for people, with what a source says about its addresses if there is one.
+/// A text of its own.
+fn copy_of(alloc: Global, bytes: &[u8]) -> Result<Vec<u8>, AllocError>
+    ensures { IfOk result (λ copy. copy.items ≡ bytes.now) }
+{
+    let mut copy = Vec::new(alloc);
+    copy.extend_from_slice(bytes)?;
+    Ok(copy)
+}
+
+/// A text for people, with what a source says about its addresses if there is one. Its first line, which is that of an
+/// answer, comes first and as it is.
 ///
 /// # Errors
 ///
@@ -168,11 +178,13 @@ pub fn lines_of(
     alloc: Global,
     source: Option<&AssembledSource>,
     told: &Message<Global>,
-) -> Result<Vec<u8>, AllocError> {
+) -> Result<Vec<u8>, AllocError>
+    ensures { IfOk result (λ text. BeginsWith (first_line (plain told.now)) text.items) }
+{
     if let Some(source) = source {
         return with_source_lines(alloc, source, told);
     }
-    let mut text = Vec::new(alloc);
-    text.extend_from_slice(told.as_bytes())?;
-    Ok(text)
+    let bytes = told.as_bytes();
+    let copy = copy_of(alloc, bytes)?;
+    Ok(copy)
 }

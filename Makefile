@@ -6,9 +6,6 @@ BUILT = crates/pdp8/out/pdp8
 # How many checks the gate runs side by side: one for each processor.
 LANES ?= $(shell nproc)
 
-# The stack of the proved tests in KB: judge::certify has rooms of megabytes on the stack, and the program has them on the heap.
-STACK = 65536
-
 VERSION = 1.1
 DIST = pdp8-workbench-$(VERSION)
 
@@ -46,7 +43,7 @@ test:
 	python3 tests/definitions.py
 	python3 tests/links.py
 	python3 tests/edits.py
-	ulimit -s $(STACK) && RT_JOBS=$(LANES) rt ci
+	RT_JOBS=$(LANES) rt ci
 	python3 tests/agreement.py $(BUILT)
 	python3 tests/explained.py $(BUILT)
 	python3 tests/reports.py $(BUILT)

@@ -18,7 +18,9 @@ _pdp8() {
             return
             ;;
         --certificate)
-            COMPREPLY=($(compgen -W '2 3' -- "$word"))
+            local versions='1 2 3'
+            [ "${COMP_WORDS[1]}" = migrate ] && versions='2 3'
+            COMPREPLY=($(compgen -W "$versions" -- "$word"))
             return
             ;;
         --start | --steps | --continue | --seed | --save | --switches | --show | --until | --until-write | --until-read | --last)
@@ -40,7 +42,7 @@ _pdp8() {
         watch) options='--source --reader --keys --mark --switches --steps --continue --show --why --help' ;;
         check) options='--source --why --help' ;;
         report) options='--output --source --text --why --help' ;;
-        guess) options='--output --source --report --why --help' ;;
+        guess) options='--output --source --certificate --report --why --help' ;;
         refute) options='--output --source --steps --seed --why --help' ;;
         declare) options='--output --source --from --start --reads --profile --why --help' ;;
         place) options='--output --declaration --why --help' ;;

@@ -41,9 +41,9 @@ def said_by_uses(lines):
 
 
 def said_of_option(tag, text):
-    """What is said of an option: its tag `-h, --help` or `--start A`, and the text that explains it, `.. 0200 without it`."""
+    """What is said of an option: its tag `-h, --help` or `--start A`, and the text that explains it, `.. 0200 by default`."""
     short, option, value = OPTION.match(tag).groups()
-    default = re.search(r'(\w+) without it', text)
+    default = re.search(r'(\w+) by default', text)
     return {('value', option, value or ''), ('short', option, short or ''), ('default', option, default[1] if default else '')}
 
 
@@ -102,7 +102,7 @@ def said_by_page_options(page):
     found = set()
     for tag, commands, _, default in table_of(page, 'Option'):
         tag, default = tag.replace('`', ''), re.fullmatch(r'`(\w+)`', default)
-        found |= said_of_option(tag, f'{default[1]} without it' if default else '')
+        found |= said_of_option(tag, f'{default[1]} by default' if default else '')
         found |= {('option', command, OPTION.match(tag)[2]) for command in re.findall(r'`(\w+)`', commands)}
     return found
 

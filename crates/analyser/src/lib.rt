@@ -43,6 +43,13 @@ pub enum Attempt<A: Allocator> {
     Stuck(Word, Certificate<A>),
 }
 
+impl<A: Allocator> Attempt<A> {
+    /// Whether a certificate is found.
+    fn is_found(&self) -> bool {
+        matches!(self, Attempt::Found(_))
+    }
+}
+
 /// The version of the certificates for a machine.
 fn version_of(profile: Profile) -> Version
     ensures { result ≡ version_of profile }
@@ -377,6 +384,51 @@ pub fn guess_version<A: Allocator + Copy, D: Allocator>(
     found_within(alloc, &mut search, &program, version, &mut turns)
 }
 
+/// Looks for a certificate of version 1 or 2, or for the draft of one where the search is stuck.
+fn found_or_drafted<A: Allocator + Copy, D: Allocator>(
+    alloc: A,
+    image: &Image,
+    declaration: &Declaration<D>,
+    version: Version,
+    turns: &mut Turns,
+) -> Result<Attempt<A>, GuessFault>
+    ensures accepted { IfOk result (IsAcceptedIfFound image.now declaration.now) }
+    ensures draft { IfOk result (IsDraftIfStuck (declared declaration.now)) }
+    ensures lines { IfOk result (λ a. AreLines (meaning (claimed_by a))) }
+    ensures version { IfOk result (λ a. (meaning (claimed_by a)).version ≡ version) }
+{
+    let program = AnalysedProgram::of(image, declaration, MANY_RUNS);
+    let mut search = Search::new(alloc);
+    match found_within(alloc, &mut search, &program, version, turns) {
+        Ok(certificate) => Ok(Attempt::Found(certificate)),
+        Err(fault) => drafted_by(&mut search, &program, version, &fault),
+    }
+}
+
+/// The draft of the search for a certificate in the version of the machine, where a search for one of version 3 is stuck. Where
+/// the former finds a certificate, and for any other fault of the latter, this fault is told.
+fn drafted<A: Allocator + Copy, D: Allocator>(
+    alloc: A,
+    image: &Image,
+    declaration: &Declaration<D>,
+    fault: &GuessFault,
+    turns: &mut Turns,
+) -> Result<Attempt<A>, GuessFault>
+    ensures accepted { IfOk result (IsAcceptedIfFound image.now declaration.now) }
+    ensures draft { IfOk result (IsDraftIfStuck (declared declaration.now)) }
+    ensures lines { IfOk result (λ a. AreLines (meaning (claimed_by a))) }
+{
+    let GuessFault::Stuck(_) = fault else {
+        return Err(*fault);
+    };
+    let version = version_of(declaration.profile());
+    let attempt = found_or_drafted(alloc, image, declaration, version, turns)?;
+    if attempt.is_found() {
+        return Err(*fault);
+    }
+    Ok(attempt)
+}
+
 /// Looks for a certificate of one version as `guess_version` does, and gives a draft of one where it is stuck: in version 3 that
 /// of the search for a certificate in the version of the machine, if this is stuck too.
 ///
@@ -397,23 +449,11 @@ pub fn guess_version_or_draft<A: Allocator + Copy, D: Allocator>(
     ensures lines { IfOk result (λ a. AreLines (meaning (claimed_by a))) }
 {
     let mut turns = Turns::new(MOST_TURNS);
-    let mut sought = version;
-    let mut stuck: Option<Word> = None;
-    if version == Version::Three {
-        match found_by_sums(alloc, image, declaration, &mut turns) {
-            Ok(certificate) => return Ok(Attempt::Found(certificate)),
-            Err(GuessFault::Stuck(at)) => stuck = Some(at),
-            Err(fault) => return Err(fault),
-        }
-        sought = version_of(declaration.profile());
+    if version != Version::Three {
+        return found_or_drafted(alloc, image, declaration, version, &mut turns);
     }
-    let program = AnalysedProgram::of(image, declaration, MANY_RUNS);
-    let mut search = Search::new(alloc);
-    match found_within(alloc, &mut search, &program, sought, &mut turns) {
-        Ok(certificate) => match stuck {
-            None => Ok(Attempt::Found(certificate)),
-            Some(at) => Err(GuessFault::Stuck(at)),
-        },
-        Err(fault) => drafted_by(&mut search, &program, sought, &fault),
+    match found_by_sums(alloc, image, declaration, &mut turns) {
+        Ok(certificate) => Ok(Attempt::Found(certificate)),
+        Err(fault) => drafted(alloc, image, declaration, &fault, &mut turns),
     }
 }

@@ -50,7 +50,7 @@ const DECLARATION_OR_SOURCE: Argument = Argument {
     name: "DECLARATION",
     short: None,
     form: Form::OperandOrSource,
-    help: "the declaration, or - for standard input; with --source it may be left out, and the /: lines of the source are the declaration",
+    help: "the declaration, or - for standard input; with --source it may be left out: the /: lines of the source are then the declaration",
 };
 
 const CERTIFICATE_OR_SOURCE: Argument = Argument {
@@ -64,14 +64,14 @@ const PARTS: Argument = Argument {
     name: "source",
     short: None,
     form: Form::Values("SOURCE"),
-    help: "a part of the source that takes the place of the tape; given once for each part",
+    help: "a part of the source that is used in place of the tape; repeat the option for each part",
 };
 
 const PLACED_OUT: Argument = Argument {
     name: "OUT",
     short: None,
     form: Form::OutBeforeSources,
-    help: "where the declaration goes, or - for standard output. With -o, this operand is the first part of the source",
+    help: "where the declaration goes, or - for standard output. With -o, OUT is not an operand, and the first part of the source stands here",
 };
 
 const DECLARATION_WITH_SYMBOLS: Argument = Argument {
@@ -92,28 +92,28 @@ const VERSION_OF_CERTIFICATE: Argument = Argument {
     name: "certificate",
     short: None,
     form: Form::Value("V"),
-    help: "the version that is written, 2 or 3; 2 without it. Version 3 needs the option --declaration",
+    help: "the version that is written, 2 or 3; 2 by default. Version 3 needs the option --declaration",
 };
 
 const VERSION_OF_GUESS: Argument = Argument {
     name: "certificate",
     short: None,
     form: Form::Value("V"),
-    help: "the version of the certificate, 1, 2 or 3; without it that of the machine, and version 3 where none of that is found",
+    help: "the version of the certificate: 1, 2 or 3; by default 1 for an 8i or 2 for an 8e, and 3 if none of that version is found",
 };
 
 const DECLARATION_OF_SITES: Argument = Argument {
     name: "declaration",
     short: None,
     form: Form::Value("FILE"),
-    help: "the declaration, which says in whose body an address is, or - for standard input; only for version 3",
+    help: "the declaration, or - for standard input: it says which routine each address belongs to; only version 3 needs it",
 };
 
 const EVENTS: Argument = Argument {
     name: "EVENTS",
     short: None,
     form: Form::OptionalOperand,
-    help: "the events that happen, or - for standard input; options for an operator may take its place",
+    help: "the events that happen, or - for standard input; left out if options such as --keys or --steps say what happens",
 };
 
 const SOURCE: Argument = Argument {
@@ -134,7 +134,7 @@ const TAPE_OUT: Argument = Argument {
     name: "OUT",
     short: None,
     form: Form::OutBeforeSources,
-    help: "where the tape goes, or - for standard output; the file is emptied first. With -o, this operand is the first part of the source",
+    help: "where the tape goes, or - for standard output; the file is emptied first. With -o, OUT is not an operand, and the first part of the source stands here",
 };
 
 const OTHER_SOURCES: Argument = Argument {
@@ -169,7 +169,7 @@ const DECLARATION_FILE: Argument = Argument {
     name: "declaration",
     short: None,
     form: Form::Value("FILE"),
-    help: "a declaration whose bodies are the code, or - for standard input",
+    help: "a declaration, or - for standard input: the bodies that it names are the code",
 };
 
 const CERTIFICATE_OUT: Argument = Argument {
@@ -183,7 +183,7 @@ const GUESSED_OUT: Argument = Argument {
     name: "OUT",
     short: None,
     form: Form::ResultOrSource,
-    help: "where the certificate goes, or - for standard output; the file is emptied first, with --source later",
+    help: "where the certificate goes, or - for standard output; the file is emptied first, or with --source once the source is read",
 };
 
 const REPORT_OUT: Argument = Argument {
@@ -218,7 +218,7 @@ const OUTPUT: Argument = Argument {
     name: "output",
     short: Some('o'),
     form: Form::Value("OUT"),
-    help: "where the result goes, or - for standard output, in place of the operand OUT; the file is created when there is a result, and otherwise stays as it was",
+    help: "where the result goes, or - for standard output; OUT is then not an operand. The file is created when there is a result, and otherwise stays as it was",
 };
 
 const CODE: Argument = Argument {
@@ -232,21 +232,21 @@ const PROFILE: Argument = Argument {
     name: "profile",
     short: None,
     form: Form::Value("P"),
-    help: "the machine, 8i or 8e; 8i without it",
+    help: "the machine, 8i or 8e; 8i by default",
 };
 
 const START: Argument = Argument {
     name: "start",
     short: None,
     form: Form::Value("A"),
-    help: "the octal address of the first instruction, 0200 without it; leading zeros are allowed",
+    help: "the octal address of the first instruction, 0200 by default; leading zeros are allowed",
 };
 
 const ROUNDS: Argument = Argument {
     name: "steps",
     short: None,
     form: Form::Value("N"),
-    help: "the maximum number of rounds, each of which is one instruction and what the devices then do; 100000 without it",
+    help: "the maximum number of rounds, each of which is one instruction and what the devices then do; 100000 by default",
 };
 
 const CONTINUE: Argument = Argument {
@@ -260,7 +260,7 @@ const EVENTS_FILE: Argument = Argument {
     name: "events",
     short: None,
     form: Form::Value("FILE"),
-    help: "a file of events that happen instead of rounds, or - for standard input",
+    help: "a file of events, or - for standard input: these are the whole run, and there are no rounds",
 };
 
 const TRACE: Argument = Argument {
@@ -321,21 +321,21 @@ const SWITCHES: Argument = Argument {
     name: "switches",
     short: None,
     form: Form::Value("W"),
-    help: "the octal word that the switches show, 0000 without it; leading zeros are allowed",
+    help: "the octal word that the switches show, 0000 by default; leading zeros are allowed",
 };
 
 const SHOW: Argument = Argument {
     name: "show",
     short: None,
     form: Form::Values("R"),
-    help: "writes these cells when the run is over, such as 0324 or 0400-0417; separate several by spaces, or repeat the option. With --source they may have its symbols, as COUNT or LIST+2",
+    help: "writes these cells when the run is over: octal addresses or ranges, such as 0324 or 0400-0417, with spaces between them; the option may be repeated. With --source, symbols may be used as well, such as COUNT or LIST+2",
 };
 
 const UNTIL: Argument = Argument {
     name: "until",
     short: None,
     form: Form::Value("PLACE"),
-    help: "stops the run before the instruction at this octal address, with --source also LOOP or LOOP+2; PLACE,N stops it when the run gets there for the N-th time",
+    help: "stops the run before the instruction at this octal address, or with --source at a symbol such as LOOP or LOOP+2; PLACE,N stops it when the run gets there for the Nth time",
 };
 
 const UNTIL_WRITE: Argument = Argument {
@@ -363,7 +363,7 @@ const CROSS: Argument = Argument {
     name: "cross",
     short: None,
     form: Form::Flag,
-    help: "below the listing, writes a table of the symbols: of each where it is defined and used",
+    help: "after the listing, writes a table of the symbols, with the places where each is defined and used",
 };
 
 const READS: Argument = Argument {
@@ -377,21 +377,21 @@ const SEARCH_STEPS: Argument = Argument {
     name: "steps",
     short: None,
     form: Form::Value("N"),
-    help: "the maximum number of steps of the search for a run that violates the declaration; 20000000 without it",
+    help: "the maximum number of steps of the search for a run that violates the declaration; 20000000 by default",
 };
 
 const SEED: Argument = Argument {
     name: "seed",
     short: None,
     form: Form::Value("S"),
-    help: "the seed of the random numbers; 1 without it",
+    help: "the seed of the random numbers; 1 by default",
 };
 
 const SAVE: Argument = Argument {
     name: "save",
     short: None,
     form: Form::Value("NAME"),
-    help: "writes what is found to NAME.declaration, NAME.certificate or NAME.events",
+    help: "saves what is found as NAME.declaration, NAME.certificate or NAME.events",
 };
 
 const FORCE_SAVE: Argument = Argument {
@@ -412,14 +412,14 @@ const WHY_VERIFY: Argument = Argument {
     name: "why",
     short: Some('w'),
     form: Form::Flag,
-    help: "after a no or not known, writes why",
+    help: "if the answer is no or not known, writes why",
 };
 
 const WHY_CHECK: Argument = Argument {
     name: "why",
     short: Some('w'),
     form: Form::Flag,
-    help: "after a no, writes what the condition asks and what violates it",
+    help: "if the answer is no, writes what the condition asks and what violates it",
 };
 
 const WHY_GUESS: Argument = Argument {
@@ -437,7 +437,7 @@ const WHY_BROKEN: Argument = Argument {
 };
 
 const WHY_WATCH: Argument = Argument {
-    help: "if a rule is violated, writes what the step is about to do; after clean, writes how far the run got",
+    help: "if a rule is violated, writes what the step is about to do; if the answer is clean, writes how far the run got",
     ..WHY_BROKEN
 };
 
@@ -612,7 +612,7 @@ const VERIFY: Entry = Entry {
     name: "verify",
     usage: "pdp8 verify [OPTIONS] <TAPE> [DECLARATION]",
     about: "Says whether a program complies with its declaration: yes, no or not known",
-    after_help: "Without DECLARATION, and without /: lines in the source, a declaration is proposed for the start and the machine of --start and --profile. A declaration that is given determines both.\n\nExamples:\n  pdp8 verify hello.bin hello.declaration\n  pdp8 verify --source hello.pal --save new",
+    after_help: "Without DECLARATION, and without /: lines in the source, a declaration is proposed; --start and --profile then say where the program starts and which machine it is for. If there is a declaration, it says both.\n\nExamples:\n  pdp8 verify hello.bin hello.declaration\n  pdp8 verify --source hello.pal --save new",
 };
 
 const RUN: Entry = Entry {
@@ -633,7 +633,7 @@ const DUMP: Entry = Entry {
     name: "dump",
     usage: "pdp8 dump [OPTIONS] <TAPE>",
     about: "Writes the address, the word and its name for each word on a tape",
-    after_help: "With --source, each line ends with what the source says about the word: the tag before it, and its line.\n\nExamples:\n  pdp8 dump hello.bin\n  pdp8 dump --source hello.pal",
+    after_help: "With --source, each line ends with the place of the word in the source, as a tag such as LOOP or LOOP+2, and with its line there.\n\nExamples:\n  pdp8 dump hello.bin\n  pdp8 dump --source hello.pal",
 };
 
 const ASSEMBLE: Entry = Entry {
@@ -653,8 +653,8 @@ const LIST: Entry = Entry {
 const SOURCE_OF_TAPE: Entry = Entry {
     name: "source",
     usage: "pdp8 source [OPTIONS] <TAPE> [-o] <OUT>",
-    about: "Writes a PAL III source of a tape, from which assemble makes the same words",
-    after_help: "A file stays as it was if there is nothing to write, and so does a source that this command did not write, unless --force is given. Without a declaration, the control flow is followed from the start, for the machine of --profile. A declaration that is given determines both.\n\nExample:\n  pdp8 source hello.bin -o found.pal",
+    about: "Writes a PAL III source for a tape; assemble makes the same words from it",
+    after_help: "A file stays as it was if there is nothing to write, and so does a source that this command did not write, unless --force is given. Without a declaration, the code is found by following the control flow from the start. With one, the declaration says what is code, where the program starts and which machine it is for.\n\nExample:\n  pdp8 source hello.bin -o found.pal",
 };
 
 const WATCH: Entry = Entry {
@@ -682,7 +682,7 @@ const DECLARE: Entry = Entry {
     name: "declare",
     usage: "pdp8 declare [OPTIONS] <TAPE> [-o] <OUT>",
     about: "Proposes a declaration: what the program of a tape may do",
-    after_help: "A file stays as it was if there is nothing to write; with --source, OUT is given by -o. If no certificate is found, the declaration is written all the same, with comments that say why if there is room for them, and the status is 1.\n\nExamples:\n  pdp8 declare hello.bin -o new.declaration\n  pdp8 declare --source hello.pal -o new.declaration",
+    after_help: "A file stays as it was if there is nothing to write; with --source, OUT is given by -o. If no certificate is found, the declaration is written all the same, with comments that say why, if there is room for them, and the status is 1.\n\nExamples:\n  pdp8 declare hello.bin -o new.declaration\n  pdp8 declare --source hello.pal -o new.declaration",
 };
 
 const GUESS: Entry = Entry {
@@ -709,15 +709,15 @@ const PLACE: Entry = Entry {
 const MIGRATE: Entry = Entry {
     name: "migrate",
     usage: "pdp8 migrate [OPTIONS] <CERTIFICATE> [-o] <OUT>",
-    about: "Writes a certificate in version 2, which says what MQ may hold, or in version 3",
-    after_help: "The operand OUT is emptied before the certificate is read, even if the certificate is then refused. Version 3 also names the calls of which a routine may return. A certificate of a later version stays as it is.\n\nExamples:\n  pdp8 migrate hello.certificate -o hello-2.certificate\n  pdp8 migrate --certificate 3 --declaration hello.declaration hello.certificate -o hello-3.certificate",
+    about: "Converts a certificate to version 2, which says what MQ may hold, or to version 3",
+    after_help: "The operand OUT is emptied before the certificate is read, even if the certificate is then refused. In version 3, each fact about a routine also names the calls of the routine that it holds for. A certificate of a later version stays as it is.\n\nExamples:\n  pdp8 migrate hello.certificate -o hello-2.certificate\n  pdp8 migrate --certificate 3 --declaration hello.declaration hello.certificate -o hello-3.certificate",
 };
 
 const EXPLAIN: Entry = Entry {
     name: "explain",
     usage: "pdp8 explain [CODE]",
     about: "Writes what a condition, a rule or a fault means, and what to do",
-    after_help: "Without CODE it lists the codes. Those of `no: V5 at 0210`, `broken: event 50 rule 2` and `pdp8: source: IR 1 2` are V5, rule2 and IR.\n\nExample:\n  pdp8 explain V5",
+    after_help: "Without CODE it lists the codes. In `no: V5 at 0210`, `broken: event 50 rule 2` and `pdp8: source: IR 1 2` the codes are V5, rule2 and IR.\n\nExample:\n  pdp8 explain V5",
 };
 
 /// The commands with their arguments, in the order of the list.

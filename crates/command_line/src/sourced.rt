@@ -66,19 +66,23 @@ impl<'a> MachineTask<'a> {
             MachineTask::Dump(dump) => dump.profile,
         }
     }
-
-    /// The request for a tape.
-    fn of_tape(&self) -> Request<'a> {
-        match self {
-            MachineTask::Run(run) => Request::Run(*run),
-            MachineTask::Session(session) => Request::Session(*session),
-            MachineTask::Teletype(session) => Request::Teletype(*session),
-            MachineTask::Dump(dump) => Request::Dump(*dump),
-        }
-    }
 }
 
-/// What `run`, `teletype` or `dump` asks for.
+/// What `run`, `teletype` or `dump` asks for with a tape.
+fn tape_request<'a>(
+    command: &str,
+    found: &ArgMatches<'a>,
+    places: &Places<'a>,
+) -> Result<Request<'a>, Refused> {
+    Ok(match command {
+        "dump" => Request::Dump(dump_request(found)?),
+        "teletype" => Request::Teletype(teletype_of(found, places)?),
+        _ if has_operator(found) => Request::Session(session_of(found, places)?),
+        _ => Request::Run(run_request(found, places)?),
+    })
+}
+
+/// What `run`, `teletype` or `dump` asks for with a source.
 fn task_of<'a>(
     command: &str,
     found: &ArgMatches<'a>,
@@ -116,10 +120,10 @@ pub(crate) fn machine_request<'a>(
     found: &ArgMatches<'a>,
 ) -> Result<Request<'a>, Refused> {
     let places = places_of(alloc, found)?;
-    let task = task_of(command, found, &places)?;
     let Some(names) = found.get_strs("source") else {
-        return Ok(task.of_tape());
+        return tape_request(command, found, &places);
     };
+    let task = task_of(command, found, &places)?;
     let mut parts = Vec::new(alloc);
     parts.extend_from_slice(names)?;
     read_standard_input_once(&inputs_of(alloc, &task, &parts)?)?;

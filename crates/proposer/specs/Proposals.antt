@@ -30,7 +30,7 @@ pub record Fits {A : Type 0} (at : ℕ) (machine : Profile) (p : Proposal A) : T
   pub text : Declares p.text.items (meaning p.declaration)
   pub routines : ListsRoutines p.text.items (routines_of p.declaration)
 
--- A certificate in the version of the declared machine.
+-- A certificate in the version of the declared machine, or in version 3.
 abbrev pub IsFor : Kept → Text → Type 0
 IsFor d text = AreLines text × IsVersionFor (meaning d).profile text.version
 

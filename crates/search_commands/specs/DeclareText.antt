@@ -27,7 +27,7 @@ pub record IsDeclarationFor (options : DeclareOptions) (text : List ℕ) : Type 
 abbrev pub IsBare : DeclareOptions → List ℕ → Type 0
 IsBare options text = (is : IsDeclarationFor options text) × (is.declaration.reads ≡ None)
 
--- Every condition holds of some certificate, in the version of the declared machine; and by its facts
+-- Every condition holds of some certificate, in the version of the declared machine or in version 3; and by its facts
 -- some possible word may read each cell of the list of reads.
 pub record ListsNeeded (image : List (Option ℕ)) (d : Declaration) : Type 0 where
   pub lines : Text

@@ -13,8 +13,8 @@ use std::alloc::Allocator;
 use streams::{ByteSink, ByteSource};
 
 /// Searches for a certificate that shows that no run of a tape violates its declaration, and writes its text: of
-/// version 1 for a PDP-8/I, of version 2 for a PDP-8/E. Every condition holds for it, so `check` says yes to it; it
-/// is not promised that one is found.
+/// version 1 for a PDP-8/I, of version 2 for a PDP-8/E, of version 3 where none of these is found. Every condition
+/// holds for it, so `check` says yes to it; it is not promised that one is found.
 ///
 /// # Errors
 ///
@@ -30,8 +30,8 @@ pub fn guess<A: Allocator + Copy, R: ByteSource, D: ByteSource, W: ByteSink>(
     requires readable { R.mark tape.old ≡ false }
     requires declaration_readable { D.mark declaration.old ≡ false }
     requires writable { W.mark out.old ≡ false }
-    // What is written is the text of a certificate, in the version of the declared machine, of which
-    // every condition holds.
+    // What is written is the text of a certificate, in the version of the declared machine or in
+    // version 3, of which every condition holds.
     ensures guessed { WritesAnswer
         (OfProgram (R.remaining tape.old) (D.remaining declaration.old) IsGuessOf)
         (output (W.mark out.new) (W.taken out.old) (W.taken out.new)) result }

@@ -178,7 +178,7 @@ pub fn guess_or_explain<
     // It's done where a certificate is found, and refused where the search is stuck.
     ensures statuses { IfOk result (λ status. (status ≡ Done) ⊎ (status ≡ Refused)) }
     // What is written is the text of a certificate of which every condition holds, in the version of
-    // the declared machine,
+    // the declared machine or in version 3,
     ensures guessed { IfOk result (λ status. status ≡ Done → Writes
         (IsGuess (R.remaining tape.old) (D.remaining declaration.old))
         (W.taken out.old) (W.taken out.new)) }

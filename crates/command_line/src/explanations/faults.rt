@@ -200,7 +200,7 @@ static FAULTS: [Explanation; 43] = [
         code: "Version",
         subject: Subject::Fault("certificate: Version"),
         meaning: "the first line has an unknown version",
-        advice: "the first line must be `PDP8-CERTIFICATE 1` or `2`; if the file is\nempty, `guess` without `-o` found nothing",
+        advice: "the first line must be `PDP8-CERTIFICATE 1`, `2` or `3`; if the file is\nempty, `guess` without `-o` found nothing",
     },
     Explanation {
         code: "BadLine",
@@ -223,7 +223,7 @@ static FAULTS: [Explanation; 43] = [
     Explanation {
         code: "Stuck",
         subject: Subject::Fault("guess: Stuck 0203"),
-        meaning: "usually `check` would refuse the instruction there by what is known; in a circle of calls, this is the call with the lowest address",
+        meaning: "usually the address of an instruction that `check` would refuse by what is known there; in a circle of calls, that of the call with the lowest address",
         advice: "`--why` names the condition",
     },
     Explanation {

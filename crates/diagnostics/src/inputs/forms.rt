@@ -42,13 +42,18 @@ pub(crate) fn certificate_form(line: &[u8]) -> &'static str {
     match first_word(line) {
         b"routine" => "expected `routine E rank R sites S writes S`, with one space between words",
         b"fact" =>
-            "expected `fact A ac S link L offsets O`, in version 2 with `mq S` before `link`, with one space between words",
+            "expected `fact A ac S link L offsets O`, in version 2 with `mq S` before `link`, in version 3 also with `sites S` before `ac`, with one space between words",
         b"exit" =>
-            "expected `exit E D ac S link L`, in version 2 with `mq S` before `link`, with one space between words",
+            "expected `exit E D ac S link L`, in version 2 with `mq S` before `link`, in version 3 also with `sites S` before `ac`, with one space between words",
         b"cell" => "expected `cell A S`, below a fact or an exit, with one space between words",
-        b"equal" => "expected `equal X Y W`, below a fact or an exit, with one space between words",
+        b"equal" =>
+            "expected `equal X Y W`, below a fact or an exit of version 1 or 2, with one space between words",
+        b"sum" =>
+            "expected `sum T C T in S` or `sum T C T C T in S`, below a fact or an exit of version 3, with one space between words",
+        b"func" =>
+            "expected `func X K link L STEP..`, below a fact or an exit of version 3, with one space between words",
         b"end" => "expected `end`, a line feed, and nothing after it",
         _ =>
-            "expected routine, fact, exit, cell, equal or end at the beginning of the line; the last line is `end` with a line feed, and there are no comments",
+            "expected routine, fact, exit, cell, equal, sum, func or end at the beginning of the line; the last line is `end` with a line feed, and there are no comments",
     }
 }

@@ -5,6 +5,7 @@ use bin_tape::TapeFault;
 use peripherals::NoMemory;
 use std::alloc::Allocator;
 use std::fmt::Write;
+use word12::Word;
 
 /// Adds the lines on a fault of a tape.
 pub(crate) fn push_tape<A: Allocator>(
@@ -34,14 +35,12 @@ pub(crate) fn push_tape<A: Allocator>(
             place,
             "a word begins with a frame from 000 to 177, and its second frame is from 000 to 077; 200 ends the tape, and 300 and 377 may stand between words",
         ),
-        TapeFault::WrongField(place) => {
-            push_frame(
-                text,
-                file,
-                place,
-                "it selects a field of memory other than 0, and there is only field 0",
-            )
-        }
+        TapeFault::WrongField(place) => push_frame(
+            text,
+            file,
+            place,
+            "it selects a field of memory other than 0, and there is only field 0",
+        ),
         TapeFault::Truncated => push_said(
             text,
             file,
@@ -52,18 +51,26 @@ pub(crate) fn push_tape<A: Allocator>(
             file,
             "its last word is an origin, not a checksum; is it a RIM tape, which has no checksum?",
         ),
-        TapeFault::Checksum(read, counted) => {
-            let name = file.name;
-            let read = read.value();
-            let counted = counted.value();
-            writeln!(
-                text,
-                "{name}: its last word, the checksum, is {read:04o}, and the frames of the words before it add up to {counted:04o}: a frame was misread, or it is a RIM tape, which has no checksum"
-            )
-            .map_err(|_| NoMemory)
-        }
+        TapeFault::Checksum(read, counted) => push_checksum(text, file, read, counted),
         TapeFault::ReadFault => Ok(()),
     }
+}
+
+/// Adds the line on a checksum that was read, and another that was counted.
+fn push_checksum<A: Allocator>(
+    text: &mut String<A>,
+    file: &FaultyFile<'_>,
+    read: Word,
+    counted: Word,
+) -> Result<(), NoMemory> {
+    let name = file.name;
+    let read = read.value();
+    let counted = counted.value();
+    writeln!(
+        text,
+        "{name}: its last word, the checksum, is {read:04o}, and the frames of the words before it add up to {counted:04o}: a frame was misread, or it is a RIM tape, which has no checksum"
+    )
+    .map_err(|_| NoMemory)
 }
 
 /// Adds the line of a frame, and what may stand there.

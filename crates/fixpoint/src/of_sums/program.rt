@@ -1,5 +1,10 @@
 //! A program as the search by the rules of sums sees it.
 
+ghost use Rattle.std.specs.Prelude.{ℕ, ◌≡◌, true, IfSome, Some};
+ghost use Rattle.wordset.specs.Words.{difference};
+ghost use Rattle.wordset.specs.Lanes.{words};
+ghost use Rattle.declaration.specs.Kept.{meaning};
+
 use crate::program::{AnalysedProgram, is_reference};
 use crate::widening::{Limits, MANY_RUNS};
 use bin_tape::Image;
@@ -46,38 +51,50 @@ fn looks_at(word: Word) -> bool {
     }
 }
 
-impl<'a, D: Allocator> SumProgram<'a, D> {
-    /// A tape's words and a declaration.
-    pub fn of(image: &'a Image, declaration: &'a Declaration<D>) -> SumProgram<'a, D> {
-        let base = AnalysedProgram::of(image, declaration, MANY_RUNS);
-        let thresholds = thresholds(&base.limits);
-        let mut program = SumProgram {
-            base,
-            pointers: WordSet::empty(),
-            tested: WordSet::empty(),
-            readers: WordSet::empty(),
-            thresholds,
-        };
-        program.look_at_all();
-        program
+/// The entry of the routine whose body has an address, if it is not main's.
+fn entry_at<D: Allocator>(declaration: &Declaration<D>, at: Word) -> Option<Word>
+    ensures found { IfSome result (λ entry. (meaning declaration.now).body (Some entry) at ≡ true) }
+    ensures only { (entry : ℕ) → (meaning declaration.now).body (Some entry) at ≡ true →
+        result ≡ Some entry }
+{
+    match declaration.owner_of(at)? {
+        Owner::Main => None,
+        Owner::Routine(entry) => Some(entry),
     }
+}
 
-    /// Finds pointers, what is tested, and routines that look at their return word.
-    fn look_at_all(&mut self) {
-        for index in 0..4096usize {
-            let at = Word::from_index(index);
-            if let Some(word) = self.base.fixed_word(at) {
-                if is_reference(word) {
-                    self.look_at(at, word);
-                }
+/// What the instructions of a program do with cells: the variables that are pointers, those that are tested, and the entries of
+/// the routines that look at their return word.
+#[derive(Clone, Copy)]
+struct Uses {
+    pointers: WordSet,
+    tested: WordSet,
+    readers: WordSet,
+}
+
+/// What all memory references of a program do.
+fn uses_of<D: Allocator>(base: &AnalysedProgram<'_, D>) -> Uses {
+    let mut uses = Uses {
+        pointers: WordSet::empty(),
+        tested: WordSet::empty(),
+        readers: WordSet::empty(),
+    };
+    for index in 0..4096usize {
+        let at = Word::from_index(index);
+        if let Some(word) = base.fixed_word(at) {
+            if is_reference(word) {
+                uses.add(base.declaration, at, word);
             }
         }
     }
+    uses
+}
 
-    /// Looks at a memory reference.
-    fn look_at(&mut self, at: Word, word: Word) {
+impl Uses {
+    /// Adds what a memory reference does.
+    fn add<D: Allocator>(&mut self, declaration: &Declaration<D>, at: Word, word: Word) {
         let named = target(word, at);
-        if self.base.declaration.is_variable(named) {
+        if declaration.is_variable(named) {
             if refers_indirectly(word) {
                 self.pointers.insert(named);
             }
@@ -87,18 +104,43 @@ impl<'a, D: Allocator> SumProgram<'a, D> {
                 }
             }
         }
-        if self.owner(at) == Some(named) && looks_at(word) {
+        if entry_at(declaration, at) == Some(named) && looks_at(word) {
             self.readers.insert(named);
+        }
+    }
+}
+
+impl<'a, D: Allocator> SumProgram<'a, D> {
+    /// A tape's words and a declaration.
+    pub fn of(image: &'a Image, declaration: &'a Declaration<D>) -> SumProgram<'a, D>
+        ensures image { result.base.image.now ≡ image.now }
+        ensures declaration { result.base.declaration.now ≡ declaration.now }
+    {
+        let base = AnalysedProgram::of(image, declaration, MANY_RUNS);
+        let thresholds = thresholds(&base.limits);
+        let Uses {
+            pointers,
+            tested,
+            readers,
+        } = uses_of(&base);
+        SumProgram {
+            base,
+            pointers,
+            tested,
+            readers,
+            thresholds,
         }
     }
 
     /// The entry of the routine whose body has an address, if it is not main's.
-    pub fn owner(&self, at: Word) -> Option<Word> {
-        let owner = self.base.declaration.owner_of(at)?;
-        match owner {
-            Owner::Main => None,
-            Owner::Routine(entry) => Some(entry),
-        }
+    pub fn owner(&self, at: Word) -> Option<Word>
+        ensures found { IfSome result (λ entry.
+            (meaning self.now.base.declaration.now).body (Some entry) at ≡ true) }
+        ensures only { (entry : ℕ) →
+            (meaning self.now.base.declaration.now).body (Some entry) at ≡ true →
+            result ≡ Some entry }
+    {
+        entry_at(self.base.declaration, at)
     }
 
     /// Whether an address is in the body of a routine, or of main.
@@ -120,12 +162,16 @@ impl<'a, D: Allocator> SumProgram<'a, D> {
     }
 
     /// The routines that look at their return word.
-    pub fn readers(&self) -> &WordSet {
+    pub fn readers(&self) -> &WordSet
+        ensures { result.now ≡ self.now.readers }
+    {
         &self.readers
     }
 
     /// The variables that are added, masked or counted by name, but for pointers.
-    pub fn tested(&self) -> WordSet {
+    pub fn tested(&self) -> WordSet
+        ensures { words result ≡ difference (words self.now.tested) (words self.now.pointers) }
+    {
         self.tested.minus(&self.pointers)
     }
 

@@ -1,5 +1,9 @@
 //! How the facts at an address are told apart.
 
+ghost use Rattle.std.specs.Prelude.{◌≡◌, true, false, None, Some};
+ghost use Rattle.wordset.specs.Words.{nothing, union};
+ghost use Rattle.wordset.specs.Lanes.{words};
+
 use crate::of_sums::program::SumProgram;
 use crate::of_sums::search::SumSearch;
 use domain::{Location, ReturnOffsets};
@@ -59,7 +63,11 @@ fn only_site<F: KnownFact>(known: &F) -> Option<Word> {
 
 impl Split {
     /// One fact at an address.
-    pub fn none() -> Split {
+    pub fn none() -> Split
+        ensures called { words result.called ≡ nothing }
+        ensures links { result.links ≡ false }
+        ensures cell { result.cell ≡ None }
+    {
         Split {
             called: WordSet::empty(),
             links: false,
@@ -68,12 +76,18 @@ impl Split {
     }
 
     /// The entries of the routines whose facts are told apart by the call.
-    pub fn called(&self) -> &WordSet {
+    pub fn called(&self) -> &WordSet
+        ensures { result.now ≡ self.now.called }
+    {
         &self.called
     }
 
     /// The same, and those of the routines of some entries are told apart by the call.
-    pub fn by_calls(self, entries: &WordSet) -> Split {
+    pub fn by_calls(self, entries: &WordSet) -> Split
+        ensures called { words result.called ≡ union (words self.called) (words entries.now) }
+        ensures links { result.links ≡ self.links }
+        ensures cell { result.cell ≡ self.cell }
+    {
         Split {
             called: self.called.union(entries),
             links: self.links,
@@ -82,7 +96,11 @@ impl Split {
     }
 
     /// The same, and they are told apart by the link.
-    pub fn by_links(self) -> Split {
+    pub fn by_links(self) -> Split
+        ensures called { result.called ≡ self.called }
+        ensures links { result.links ≡ true }
+        ensures cell { result.cell ≡ self.cell }
+    {
         Split {
             called: self.called,
             links: true,
@@ -91,7 +109,11 @@ impl Split {
     }
 
     /// The same, and they are told apart by the word of a cell.
-    pub fn by_cell(self, cell: Word) -> Split {
+    pub fn by_cell(self, cell: Word) -> Split
+        ensures called { result.called ≡ self.called }
+        ensures links { result.links ≡ self.links }
+        ensures cell { result.cell ≡ Some cell }
+    {
         Split {
             called: self.called,
             links: self.links,

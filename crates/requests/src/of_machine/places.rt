@@ -13,19 +13,34 @@ pub(crate) struct Symbolic<'s> {
     pub(crate) own: &'s SymbolTable<Global>,
 }
 
+/// Cells as a set.
+fn set_of(cells: Cells) -> WordSet {
+    match cells {
+        Cells::One(at) => WordSet::one(at),
+        Cells::Range(low, high) => WordSet::range(low, high),
+    }
+}
+
+/// The address that cells are; none where they are a range.
+fn one_of(cells: Cells) -> Option<Word> {
+    match cells {
+        Cells::One(at) => Some(at),
+        Cells::Range(_, _) => None,
+    }
+}
+
 impl ReadCells for Symbolic<'_> {
     fn cells(&self, word: &[u8]) -> Option<WordSet> {
         match cells_of(self.own, word) {
-            Ok(Cells::One(at)) => Some(WordSet::one(at)),
-            Ok(Cells::Range(low, high)) => Some(WordSet::range(low, high)),
+            Ok(cells) => Some(set_of(cells)),
             Err(_) => None,
         }
     }
 
     fn place(&self, word: &[u8]) -> Option<Word> {
         match cells_of(self.own, word) {
-            Ok(Cells::One(at)) => Some(at),
-            _ => None,
+            Ok(cells) => one_of(cells),
+            Err(_) => None,
         }
     }
 }

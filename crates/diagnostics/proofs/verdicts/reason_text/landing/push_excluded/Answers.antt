@@ -1,0 +1,5 @@
+use Rattle.diagnostics.proofs.ReasonLemmas.{joined}
+use Rattle.diagnostics.proofs.verdicts.reason_text.landing.push_excluded.Goals as goal
+
+pub returns : goal.returns
+returns g c = joined _ _ _ _ _ c.in_ok-push_gap.ensures c.in_ok-push_text.ensures

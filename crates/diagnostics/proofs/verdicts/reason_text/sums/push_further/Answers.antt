@@ -1,0 +1,12 @@
+use Rattle.diagnostics.proofs.ReasonLemmas.{all_pushed, none_pushed, one_pushed}
+use Rattle.diagnostics.proofs.verdicts.reason_text.sums.push_further.Goals as goal
+
+pub loop-summand-init : goal.loop-summand-init
+loop-summand-init g c = none_pushed (g.L.Lines.text c.args.text.now)
+
+pub loop-summand-preserved : goal.loop-summand-preserved
+loop-summand-preserved g c =
+    one_pushed _ _ _ c.args.summands.now c.loop-summand.summand-index c.summand-item.result c.loop-summand-test.true c.summand-item.is c.loop-summand.invariant c.in_ok-push_summand.ensures
+
+pub returns : goal.returns
+returns g c = all_pushed _ _ c.args.summands.now c.loop-summand.summand-index c.loop-summand-test.false c.loop-summand.invariant

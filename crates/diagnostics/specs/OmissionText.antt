@@ -1,12 +1,12 @@
 -- What a declaration leaves out, as the tape and the declaration show by themselves, and the lines that say it: the cell, the
 -- address or the entry that a line names is that of the instruction.
-use Rattle.std.specs.Prelude.{ℕ, ◌≡◌, ◌+◌, ◌%◌, ◌⊎◌, ◌++◌, true, false, codes, List, [], Option, Some, None}
+use Rattle.std.specs.Prelude.{ℕ, ◌≡◌, ◌↔◌, ◌+◌, ◌%◌, ◌⊎◌, ◌++◌, Bool, true, false, codes, List, [], Option, Some, None}
 use Rattle.word12.specs.Words.{octal_text}
 use Rattle.instruct.specs.Bits.{is_indirect, named_cell}
 use Rattle.instruct.specs.Instructions.{Meaning, Isz, Dca, Jms, Jmp, instruction_of, meaning_of}
-use Rattle.instruct.specs.declared.Instruction.{Instruction}
-use Rattle.instruct.specs.declared.Instruction.TheVariants.{Memory, Unsupported}
-use Rattle.instruct.specs.declared.Profile.{Profile}
+use Rattle.instruct.specs.Operates.{is_halt}
+use Rattle.instruct.specs.declared.Instruction.TheVariants.{Memory, Operate2, Unsupported}
+use Rattle.instruct.specs.declared.Profile.TheVariants.{Pdp8E}
 use Rattle.bin_tape.specs.Image.{word_at}
 use Rattle.processor.specs.Machine.{is_auto_index}
 use Rattle.declaration.specs.Declaration.{Declaration, Routine}
@@ -50,11 +50,19 @@ pub record StepsPointer (image : List (Option ℕ)) (d : Declaration) (at cell :
   pub index : is_auto_index cell ≡ true
   pub variable : d.variable cell ≡ false
 
--- The word at an address is of this kind on a machine.
-pub record IsOfKind (image : List (Option ℕ)) (machine : Profile) (at : ℕ) (kind : Instruction) : Type 0 where
+-- The word at an address is none of the declared machine, and none of a PDP-8/E either, or it is one of a PDP-8/E alone.
+pub record IsNoInstruction (image : List (Option ℕ)) (d : Declaration) (at : ℕ) (of_8e : Bool) : Type 0 where
   pub word : ℕ
   pub is : word_at image at ≡ Some word
-  pub kind : instruction_of machine word ≡ kind
+  pub here : instruction_of d.profile word ≡ Unsupported
+  pub there : (instruction_of Pdp8E word ≡ Unsupported) ↔ (of_8e ≡ false)
+
+-- The word at an address is a HLT.
+pub record IsHalt (image : List (Option ℕ)) (d : Declaration) (at : ℕ) : Type 0 where
+  pub word : ℕ
+  pub is : word_at image at ≡ Some word
+  pub kind : instruction_of d.profile word ≡ Operate2
+  pub halts : is_halt word ≡ true
 
 -- The operator may go on behind a pause at the address, at another one, which is not in the same body.
 pub record GoesOut (d : Declaration) (at next : ℕ) : Type 0 where
@@ -62,23 +70,30 @@ pub record GoesOut (d : Declaration) (at next : ℕ) : Type 0 where
   pub pause : d.pause at ≡ true
   pub outside : InBodyOf d at next → ⊥
 
--- What is omitted of the instruction at an address is so: the cell or the address that is named is the one to which the
--- instruction refers, or at which the operator goes on.
-abbrev pub IsOmitted : List (Option ℕ) → Declaration → ℕ → Omission → Type 0
-IsOmitted image d at omission.NoWord = word_at image at ≡ None
-IsOmitted image d at omission.Unsupported = IsOfKind image d.profile at Unsupported
-IsOmitted image d at omission.OfThe8e = IsOfKind image d.profile at Unsupported
-IsOmitted image d at (omission.Stores cell) = StoresInto image d at cell
-IsOmitted image d at (omission.StoresInEntry cell) = StoresInto image d at cell
-IsOmitted image d at (omission.Steps cell) = StepsPointer image d at cell
-IsOmitted image d at (omission.Calls place) = CallsNoEntry image d at place
-IsOmitted image d at (omission.CallsIntoBody place) = CallsNoEntry image d at place
-IsOmitted image d at (omission.CallsAutoIndex place) = CallsNoEntry image d at place
-IsOmitted image d at (omission.Jumps place) = JumpsOut image d at place
-IsOmitted image d at (omission.JumpsAcross place) = JumpsOut image d at place
-IsOmitted image d at omission.Halts = (d.stop at ≡ false) × (d.pause at ≡ false)
-IsOmitted image d at (omission.GoesOn next) = GoesOut d at next
-IsOmitted image d at (omission.GoesAcross next) = GoesOut d at next
+-- What is omitted names the cell or the address to which the instruction at an address refers, or at which the operator goes on, and what
+-- is declared of it is not what the instruction needs. Which of the remedies for it is advised is only tested.
+abbrev pub IsBreach : List (Option ℕ) → Declaration → ℕ → Omission → Type 0
+IsBreach image d at omission.NoWord = word_at image at ≡ None
+IsBreach image d at omission.Unsupported = IsNoInstruction image d at false
+IsBreach image d at omission.OfThe8e = IsNoInstruction image d at true
+IsBreach image d at (omission.Stores cell) = StoresInto image d at cell × (d.entry cell ≡ false)
+IsBreach image d at (omission.StoresInEntry cell) = StoresInto image d at cell × (d.entry cell ≡ true)
+IsBreach image d at (omission.Steps cell) = StepsPointer image d at cell
+IsBreach image d at (omission.Calls place) = CallsNoEntry image d at place
+IsBreach image d at (omission.CallsIntoBody place) = CallsNoEntry image d at place
+IsBreach image d at (omission.CallsAutoIndex place) = CallsNoEntry image d at place × (is_auto_index place ≡ true)
+IsBreach image d at (omission.Jumps place) = JumpsOut image d at place
+IsBreach image d at (omission.JumpsAcross place) = JumpsOut image d at place
+IsBreach image d at omission.Halts = IsHalt image d at × (d.stop at ≡ false) × (d.pause at ≡ false)
+IsBreach image d at (omission.GoesOn next) = IsHalt image d at × GoesOut d at next
+IsBreach image d at (omission.GoesAcross next) = IsHalt image d at × GoesOut d at next
+
+-- Such an instruction stands in a body, and its cell is no variable.
+pub record IsOmitted (image : List (Option ℕ)) (d : Declaration) (at : ℕ) (o : Omission) : Type 0 where
+  pub routine : Routine
+  pub inside : d.body routine at ≡ true
+  pub variable : d.variable at ≡ false
+  pub breach : IsBreach image d at o
 
 -- A text, an address in four octal digits, and a text.
 abbrev pub around_place : List ℕ → ℕ → List ℕ → List ℕ
@@ -148,7 +163,8 @@ stuck_line at (omission.GoesOn next) = codes "if this is intended, " ++ remedy_t
 abbrev pub omission_lines : List (Option ℕ) → Declaration → ℕ → Omission → List ℕ
 omission_lines image d at o = dump_line d.profile at (word_at image at) ++ omission_line at o
 
--- A text became this one by lines on what is omitted, each of which is so, by a line before them or a line behind them, or by nothing.
+-- A text became this one by lines on what is omitted, by a heading and by a line that says that there are more. Each line on what is
+-- omitted is so; which of them are told, and in which order, is only tested.
 pub data SaysOmissions (image : List (Option ℕ)) (d : Declaration) : List ℕ → List ℕ → Type 0 where
   nothing : (text : List ℕ) → SaysOmissions image d text text
   heading : (old new : List ℕ) → SaysOmissions image d old new → SaysOmissions image d old (new ++ codes "no certificate can fix these, if a run reaches them:\n")
@@ -156,6 +172,7 @@ pub data SaysOmissions (image : List (Option ℕ)) (d : Declaration) : List ℕ 
       → SaysOmissions image d old (new ++ omission_lines image d at o)
   others : (old new : List ℕ) → SaysOmissions image d old new → SaysOmissions image d old (new ++ codes "and more\n")
 
--- A text became this one by what is said of the instruction at an address at which a search is stuck, which is so; or by nothing.
+-- A text became this one by what is said of the instruction at an address at which a search is stuck, which is so; or by nothing, and
+-- when nothing is said is only tested.
 abbrev pub SaysRemedy : List (Option ℕ) → Declaration → ℕ → List ℕ → List ℕ → Type 0
 SaysRemedy image d at old new = (new ≡ old) ⊎ ((o : Omission) × IsOmitted image d at o × (new ≡ old ++ stuck_line at o))

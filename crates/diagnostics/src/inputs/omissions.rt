@@ -9,7 +9,7 @@ ghost use Rattle.processor.specs.Machine.{is_auto_index};
 ghost use Rattle.declaration.specs.Declaration.{Declaration as Promise};
 ghost use Rattle.declaration.specs.Kept.{meaning, routine_of};
 ghost use Rattle.instruct.specs.Bits.{is_indirect};
-ghost use Rattle.diagnostics.specs.OmissionText.{CallsNoEntry, InBodyOf, IsOmitted, JumpsOut, Means, SaysOmissions, SaysRemedy, StoresInto, around_place, breach_text, omission_line, omission_lines, remedy_text, stuck_line, twice};
+ghost use Rattle.diagnostics.specs.OmissionText.{CallsNoEntry, InBodyOf, IsBreach, IsHalt, IsOmitted, JumpsOut, Means, SaysOmissions, SaysRemedy, StoresInto, around_place, breach_text, omission_line, omission_lines, remedy_text, stuck_line, twice};
 
 use bin_tape::Image;
 use command_parts::message::{Lines, push_text_and_advised};
@@ -62,7 +62,7 @@ const TESTS: u16 = 0o170;
 fn omitted_by_store<D: Allocator>(declaration: &Declaration<D>, cell: Word) -> Omission
     ensures { (image : List (Option ℕ)) (at : ℕ) →
         StoresInto image (meaning declaration.now) at cell →
-        IsOmitted image (meaning declaration.now) at result }
+        IsBreach image (meaning declaration.now) at result }
 {
     if declaration.is_entry(cell) {
         Omission::StoresInEntry(cell)
@@ -75,7 +75,7 @@ fn omitted_by_store<D: Allocator>(declaration: &Declaration<D>, cell: Word) -> O
 fn omitted_by_call<D: Allocator>(declaration: &Declaration<D>, place: Word) -> Omission
     ensures { (image : List (Option ℕ)) (at : ℕ) →
         CallsNoEntry image (meaning declaration.now) at place →
-        IsOmitted image (meaning declaration.now) at result }
+        IsBreach image (meaning declaration.now) at result }
 {
     if is_auto_index(place) {
         Omission::CallsAutoIndex(place)
@@ -95,7 +95,7 @@ fn is_elsewhere<D: Allocator>(declaration: &Declaration<D>, place: Word) -> bool
 fn omitted_by_jump<D: Allocator>(declaration: &Declaration<D>, place: Word) -> Omission
     ensures { (image : List (Option ℕ)) (at : ℕ) →
         JumpsOut image (meaning declaration.now) at place →
-        IsOmitted image (meaning declaration.now) at result }
+        IsBreach image (meaning declaration.now) at result }
 {
     if is_elsewhere(declaration, place) {
         Omission::JumpsAcross(place)
@@ -113,7 +113,7 @@ fn omitted_by_pointer<D: Allocator>(
     ensures { (image : List (Option ℕ)) → word_at image at ≡ Some word →
         instruction_of (meaning declaration.now).profile word ≡ Memory →
         is_indirect word ≡ true →
-        IfSome result (IsOmitted image (meaning declaration.now) at) }
+        IfSome result (IsBreach image (meaning declaration.now) at) }
 {
     let named = target(word, at);
     if is_auto_index(named) && !declaration.is_variable(named) {
@@ -127,7 +127,7 @@ fn omitted_by_writer<D: Allocator>(declaration: &Declaration<D>, named: Word) ->
     ensures { (image : List (Option ℕ)) (at : ℕ) →
         Means image (meaning declaration.now) at (Dca false named) ⊎
         Means image (meaning declaration.now) at (Isz false named) →
-        IfSome result (IsOmitted image (meaning declaration.now) at) }
+        IfSome result (IsBreach image (meaning declaration.now) at) }
 {
     if declaration.is_variable(named) {
         return None;
@@ -139,7 +139,7 @@ fn omitted_by_writer<D: Allocator>(declaration: &Declaration<D>, named: Word) ->
 fn omitted_by_caller<D: Allocator>(declaration: &Declaration<D>, named: Word) -> Option<Omission>
     ensures { (image : List (Option ℕ)) (at : ℕ) →
         Means image (meaning declaration.now) at (Jms false named) →
-        IfSome result (IsOmitted image (meaning declaration.now) at) }
+        IfSome result (IsBreach image (meaning declaration.now) at) }
 {
     if declaration.is_entry(named) {
         return None;
@@ -167,7 +167,7 @@ fn omitted_by_jumper<D: Allocator>(
     requires { (meaning declaration.now).body (routine_of owner) at ≡ true }
     ensures { (image : List (Option ℕ)) →
         Means image (meaning declaration.now) at (Jmp false named) →
-        IfSome result (IsOmitted image (meaning declaration.now) at) }
+        IfSome result (IsBreach image (meaning declaration.now) at) }
 {
     declaration.is_declared();
     if is_in_body(declaration, owner, named) {
@@ -186,7 +186,7 @@ fn omitted_by_reference<D: Allocator>(
     requires { (meaning declaration.now).body (routine_of owner) at ≡ true }
     ensures { (image : List (Option ℕ)) → word_at image at ≡ Some word →
         instruction_of (meaning declaration.now).profile word ≡ Memory →
-        IfSome result (IsOmitted image (meaning declaration.now) at) }
+        IfSome result (IsBreach image (meaning declaration.now) at) }
 {
     if refers_indirectly(word) {
         return omitted_by_pointer(declaration, at, word);
@@ -211,8 +211,8 @@ fn omitted_by_pause<D: Allocator>(
 ) -> Option<Omission>
     requires body { (meaning declaration.now).body (routine_of owner) at ≡ true }
     requires pause { (meaning declaration.now).pause at ≡ true }
-    ensures { (image : List (Option ℕ)) →
-        IfSome result (IsOmitted image (meaning declaration.now) at) }
+    ensures { (image : List (Option ℕ)) → IsHalt image (meaning declaration.now) at →
+        IfSome result (IsBreach image (meaning declaration.now) at) }
 {
     declaration.is_declared();
     let next = at.increment();
@@ -234,8 +234,8 @@ fn omitted_by_halt<D: Allocator>(
     word: Word,
 ) -> Option<Omission>
     requires { (meaning declaration.now).body (routine_of owner) at ≡ true }
-    ensures { (image : List (Option ℕ)) →
-        IfSome result (IsOmitted image (meaning declaration.now) at) }
+    ensures { (image : List (Option ℕ)) → IsHalt image (meaning declaration.now) at →
+        IfSome result (IsBreach image (meaning declaration.now) at) }
 {
     if declaration.is_stop(at) {
         return None;
@@ -249,15 +249,51 @@ fn omitted_by_halt<D: Allocator>(
 /// What a word that the declared machine does not have would violate.
 fn unsupported(word: Word) -> Omission
     ensures { (image : List (Option ℕ)) (d : Promise) (at : ℕ) → word_at image at ≡ Some word →
-        instruction_of d.profile word ≡ Unsupported → IsOmitted image d at result }
+        instruction_of d.profile word ≡ Unsupported → IsBreach image d at result }
 {
-    match decode(word, Profile::Pdp8E) {
-        Instruction::Unsupported => Omission::Unsupported,
-        _ => Omission::OfThe8e,
+    if decode(word, Profile::Pdp8E) == Instruction::Unsupported {
+        Omission::Unsupported
+    } else {
+        Omission::OfThe8e
     }
 }
 
-/// What the word at an address of a body would violate.
+/// What a word of a body would violate.
+fn omitted_by_word<D: Allocator>(
+    declaration: &Declaration<D>,
+    owner: Owner,
+    at: Word,
+    word: Word,
+) -> Option<Omission>
+    requires { (meaning declaration.now).body (routine_of owner) at ≡ true }
+    ensures { (image : List (Option ℕ)) → word_at image at ≡ Some word →
+        IfSome result (IsBreach image (meaning declaration.now) at) }
+{
+    match decode(word, declaration.profile()) {
+        Instruction::Memory => omitted_by_reference(declaration, owner, at, word),
+        Instruction::Unsupported => Some(unsupported(word)),
+        Instruction::Operate2 if halts(word) => omitted_by_halt(declaration, owner, at, word),
+        _ => None,
+    }
+}
+
+/// What the word at an address of a body would violate, or that none stands there.
+fn omitted_in_body<D: Allocator>(
+    image: &Image,
+    declaration: &Declaration<D>,
+    owner: Owner,
+    at: Word,
+) -> Option<Omission>
+    requires { (meaning declaration.now).body (routine_of owner) at ≡ true }
+    ensures { IfSome result (IsBreach image.now (meaning declaration.now) at) }
+{
+    match image.get(at) {
+        None => Some(Omission::NoWord),
+        Some(word) => omitted_by_word(declaration, owner, at, word),
+    }
+}
+
+/// What the instruction at an address would violate.
 fn omitted_at<D: Allocator>(
     image: &Image,
     declaration: &Declaration<D>,
@@ -271,29 +307,10 @@ fn omitted_at<D: Allocator>(
     if declaration.is_variable(at) {
         return None;
     }
-    match image.get(at) {
-        None => Some(Omission::NoWord),
-        Some(word) => omitted_by_word(declaration, owner, at, word),
-    }
-}
-
-/// What a word of a body would violate.
-fn omitted_by_word<D: Allocator>(
-    declaration: &Declaration<D>,
-    owner: Owner,
-    at: Word,
-    word: Word,
-) -> Option<Omission>
-    requires { (meaning declaration.now).body (routine_of owner) at ≡ true }
-    ensures { (image : List (Option ℕ)) → word_at image at ≡ Some word →
-        IfSome result (IsOmitted image (meaning declaration.now) at) }
-{
-    match decode(word, declaration.profile()) {
-        Instruction::Memory => omitted_by_reference(declaration, owner, at, word),
-        Instruction::Unsupported => Some(unsupported(word)),
-        Instruction::Operate2 if halts(word) => omitted_by_halt(declaration, owner, at, word),
-        _ => None,
-    }
+    let Some(omission) = omitted_in_body(image, declaration, owner, at) else {
+        return None;
+    };
+    Some(omission)
 }
 
 /// Adds an address within a line of a declaration that is advised, with what stands before it and after it.

@@ -1,7 +1,7 @@
 //! Where a source has what is named to people. It is proved that the first line of a text stays as it is; what is put
 //! behind it is tested.
 
-ghost use Rattle.std.specs.Prelude.{◌≡◌, IfOk};
+ghost use Rattle.std.specs.Prelude.{◌≡◌, IfOk, None};
 ghost use Rattle.std.specs.List.{position};
 ghost use Rattle.command_parts.specs.Messages.{BeginsWith, plain};
 ghost use Rattle.requests.specs.Told.{first_line, is_line_end};
@@ -179,7 +179,9 @@ pub fn lines_of(
     source: Option<&AssembledSource>,
     told: &Message<Global>,
 ) -> Result<Vec<u8>, AllocError>
-    ensures { IfOk result (λ text. BeginsWith (first_line (plain told.now)) text.items) }
+    ensures front { IfOk result (λ text. BeginsWith (first_line (plain told.now)) text.items) }
+    // Without a source it is the text that was told.
+    ensures whole { source.entry ≡ None → IfOk result (λ text. text.items ≡ plain told.now) }
 {
     if let Some(source) = source {
         return with_source_lines(alloc, source, told);

@@ -3,4 +3,3 @@ pub mod CertificateFaults
 pub mod CheckText
 pub mod Telling
 pub mod WhyText
-pub mod OmissionText

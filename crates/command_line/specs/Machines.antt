@@ -56,8 +56,7 @@ pub record IsSourceGiven (found : ArgMatches) (source : SourceRequest) : Type 0 
   pub start : start_given found ≡ Ok source.start
   pub machine : machine_given found ≡ Some source.profile
 
--- The certificate that is migrated and the declaration are those that are given: a declaration stands for version 3, and without one the
--- certificate is to be of version 2.
+-- The certificate that is migrated and the declaration are those that are given. Nothing is said here of the version that is asked for.
 pub record IsMigrateGiven (found : ArgMatches) (migrate : MigrateRequest) : Type 0 where
   pub certificate : migrate.certificate.now ≡ operand found (codes "CERTIFICATE")
   pub declaration : option_map (λ name. name.now) migrate.declaration ≡ value found (codes "declaration")

@@ -30,13 +30,12 @@ last_with_tape command.Report found = value found (codes "CERTIFICATE")
 last_with_tape command.Watch found = value found (codes "EVENTS")
 last_with_tape _ found = value found (codes "OUT")
 
--- The declaration that stands behind a source, where these are the two operands and the command needs its last one or not: it stands
--- before the one that is needed.
+-- The declaration among the two words behind a source: the first of two, where the command needs its last word; otherwise the first.
 abbrev pub declaration_behind : Bool → Option (List ℕ) → Option (List ℕ) → Option (List ℕ)
 declaration_behind true first second = if is_some second then first else None
 declaration_behind false first second = first
 
--- The operand that a command needs behind a source: the last one.
+-- The word that a command needs behind a source: the last one, where it needs one.
 abbrev pub last_behind : Bool → Option (List ℕ) → Option (List ℕ) → Option (List ℕ)
 last_behind true first second = if is_some second then second else first
 last_behind false first second = None

@@ -265,13 +265,18 @@ pub fn watched_session_of<'a>(
     })
 }
 
-/// How a session at the teletype is held, with these cells shown.
-fn teletype_options(found: &ArgMatches<'_>, show: WordSet) -> Result<TeletypeOptions, Refused>
+/// How a session at the teletype is held.
+fn teletype_options(
+    found: &ArgMatches<'_>,
+    tape: Option<&str>,
+    places: &Places<'_>,
+) -> Result<TeletypeOptions, Refused>
     ensures { IfOk result (AreTeletypeOptions found.now) }
 {
     let start = start_of(found)?;
     let profile = profile_of(found)?;
     let switches = switches_of(found)?;
+    let show = shown_on(tape, places)?;
     Ok(TeletypeOptions {
         start,
         profile,
@@ -308,7 +313,7 @@ pub fn teletype_of<'a>(
     let reader = found.get_str("reader");
     read_standard_input_once(&[tape.unwrap_or(""), reader.unwrap_or(""), "-"])?;
     let punch = punch_of(found, &[tape.unwrap_or("-"), reader.unwrap_or("-")])?;
-    let options = teletype_options(found, shown_on(tape, places)?)?;
+let options = teletype_options(found, tape, places)?;
     let stopping = stopping_on(tape, places)?;
     let interrupt = interrupt_of(found, options.manner.raw)?;
     Ok(TeletypeSession {

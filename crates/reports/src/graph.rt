@@ -1,10 +1,14 @@
 //! The routines as a graph: main above, and each routine below those that call it.
 
+ghost use Rattle.std.specs.Prelude.{◌≡◌};
+ghost use Rattle.wordset.specs.Lanes.{words};
+ghost use Rattle.wordset.specs.Words.{has_some, meet};
+
 use crate::map::colour_of;
 use crate::report::{Finding, Report, claimed_of};
 use crate::routines::{write_offsets, write_written};
 use crate::writer::ReportWriter;
-use declaration::{Owner, Routine};
+use declaration::Routine;
 use std::alloc::{AllocError, Allocator};
 use word12::Word;
 use wordset::WordSet;
@@ -97,25 +101,11 @@ fn box_place_at(box_places: &[BoxPlace], place: usize) -> BoxPlace {
     }
 }
 
-/// The callers of a routine: main, if it calls it, and the entries of others.
-fn callers_of<B: Allocator, D: Allocator, C: Allocator>(
-    report: &Report<'_, B, D, C>,
-    sites: &WordSet,
-) -> (bool, WordSet) {
-    let mut main = false;
-    let mut others = WordSet::empty();
-    for index in 0..4096 {
-        let site = Word::from_index(index);
-        if sites.contains(site) {
-            if let Some(owner) = report.declaration.owner_of(site) {
-                match owner {
-                    Owner::Main => main = true,
-                    Owner::Routine(entry) => others.insert(entry),
-                }
-            }
-        }
-    }
-    (main, others)
+/// Whether a routine is called from a body, where these are its sites.
+fn is_called_from(body: &WordSet, sites: &WordSet) -> bool
+    ensures { result ≡ has_some (meet (words sites.now) (words body.now)) }
+{
+    !sites.meet(body).is_empty()
 }
 
 /// Writes a line from a caller's box to a callee's.
@@ -137,12 +127,11 @@ fn write_lines<A: Allocator, B: Allocator, D: Allocator, C: Allocator>(
 ) {
     let callee = box_place_at(box_places, place);
     let claimed = claimed_of(report.certificate, routine.entry());
-    let (main, others) = callers_of(report, &claimed.sites);
-    if main {
+    if is_called_from(report.declaration.main(), &claimed.sites) {
         write_line(writer, &MAIN, &callee);
     }
     for (at, other) in report.declaration.routines().iter().enumerate() {
-        if others.contains(other.entry()) {
+        if is_called_from(other.body(), &claimed.sites) {
             write_line(writer, &box_place_at(box_places, at), &callee);
         }
     }

@@ -195,11 +195,11 @@ fn write_equation<A: Allocator>(
     let Some((left, right, more)) = equation_of(relation) else {
         return;
     };
-    let words = known.narrowed(setting.image, &left);
+    let words = known.narrowed(&setting.rules, setting.image, &left);
     let same = match above {
         Some(above) => {
             has_relation(above.relations(), relation)
-                && above.narrowed(setting.image, &left) == words
+                && above.narrowed(&setting.rules, setting.image, &left) == words
         }
         None => false,
     };

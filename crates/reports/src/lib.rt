@@ -36,7 +36,7 @@ pub fn listing_below<A: Allocator + Copy, D: Allocator, C: Allocator>(
     report: &Report<'_, A, D, C>,
 ) -> Result<Vec<u8, A>, AllocError> {
     let mut writer = ReportWriter::new(alloc, ReportForm::Text, &report.lines());
-    let mut cache = ClaimCache::boxed(alloc, report.rules)?;
+    let mut cache = ClaimCache::boxed(alloc)?;
     push_listing(&mut writer, report, &mut cache);
     writer.into_bytes()
 }

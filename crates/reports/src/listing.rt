@@ -1,7 +1,13 @@
 //! The listing: a line for each address at which something stands, with what is known there.
 
-ghost use Rattle.std.specs.Prelude.{◌≡◌, length};
+ghost use Rattle.std.specs.Prelude.{◌≡◌, [], length};
+ghost use Rattle.wordset.specs.Lanes.{words};
+ghost use Rattle.facts.specs.Landing.{fact_at};
+ghost use Rattle.peripherals.specs.Loading.{image_of};
+ghost use Rattle.declaration.specs.Kept.{meaning};
 ghost use Rattle.certificate.specs.Kept.{claims};
+ghost use Rattle.reports.specs.Kinds.{IsKind};
+ghost use Rattle.reports.specs.Shown.{ShowsFact, fact_of, is_even, unknown_of};
 
 use crate::access::{write_access, write_direct};
 use crate::cases::Apart;
@@ -12,7 +18,6 @@ use crate::routines::{write_exits, write_routine};
 use crate::source_notes::SourceNote;
 use crate::writer::ReportWriter;
 use certificate::{Certificate, RoutineClaim};
-use domain::Rules;
 use instruct::{Instruction, decode, name, refers_indirectly, target};
 use judge::Claims;
 use std::alloc::{AllocError, Allocator};
@@ -122,20 +127,51 @@ pub(crate) fn write_variable<A: Allocator, B: Allocator, D: Allocator, C: Alloca
     }
 }
 
-/// Writes what is said about an address without a fact.
+/// What is said about an address without a fact.
+#[derive(Clone, Copy, PartialEq, Eq)]
+pub(crate) enum Unknown {
+    /// No run comes there.
+    NeverReached,
+    /// There is no fact.
+    NoFact,
+    /// The words that a variable may hold.
+    Held,
+    /// Nothing.
+    Nothing,
+}
+
+/// What is said about an address of this kind without a fact.
+fn unknown_at<B: Allocator, D: Allocator, C: Allocator>(
+    report: &Report<'_, B, D, C>,
+    kind: &Kind,
+) -> Unknown
+    ensures { result ≡ unknown_of kind.now report.now.finding }
+{
+    match kind {
+        Kind::Main | Kind::Routine(_) => match report.finding {
+            Finding::Shown => Unknown::NeverReached,
+            Finding::Refused(_) | Finding::Stuck(_) => Unknown::NoFact,
+        },
+        Kind::Variable => Unknown::Held,
+        Kind::Entry | Kind::Other | Kind::Unset => Unknown::Nothing,
+    }
+}
+
+/// Writes what is said about an address without a fact. It is said of no other address that it is never reached.
 fn write_unknown<A: Allocator, B: Allocator, D: Allocator, C: Allocator>(
     writer: &mut ReportWriter<A>,
     report: &Report<'_, B, D, C>,
     kind: &Kind,
     at: Word,
-) {
-    match kind {
-        Kind::Main | Kind::Routine(_) => match report.finding {
-            Finding::Shown => writer.item(b"never reached"),
-            Finding::Refused(_) | Finding::Stuck(_) => writer.item(b"no fact"),
-        },
-        Kind::Variable => write_variable(writer, report, at),
-        Kind::Entry | Kind::Other | Kind::Unset => {}
+)
+    requires fact { (claims report.now.certificate.now).facts at ≡ [] }
+    requires kind { IsKind report.now.image.now (meaning report.now.declaration.now) at kind.now }
+{
+    match unknown_at(report, kind) {
+        Unknown::NeverReached => writer.item(b"never reached"),
+        Unknown::NoFact => writer.item(b"no fact"),
+        Unknown::Held => write_variable(writer, report, at),
+        Unknown::Nothing => {}
     }
 }
 
@@ -160,7 +196,9 @@ fn write_mark<A: Allocator, B: Allocator, D: Allocator, C: Allocator>(
 }
 
 /// Whether an address is even.
-fn is_even(at: Word) -> bool {
+fn is_even(at: Word) -> bool
+    ensures { result ≡ is_even at }
+{
     at.index() % 2 == 0
 }
 
@@ -185,19 +223,16 @@ impl ClaimCache {
     /// # Errors
     ///
     /// Memory was refused.
-    pub(crate) fn boxed<A: Allocator>(
-        alloc: A,
-        rules: Rules,
-    ) -> Result<Box<ClaimCache, A>, AllocError> {
-        Ok(Box::new(alloc, ClaimCache::new(rules))?)
+    pub(crate) fn boxed<A: Allocator>(alloc: A) -> Result<Box<ClaimCache, A>, AllocError> {
+        Ok(Box::new(alloc, ClaimCache::new())?)
     }
 
     /// A cache with nothing in it.
-    fn new(rules: Rules) -> ClaimCache {
+    fn new() -> ClaimCache {
         ClaimCache {
-            even: KnownFact::new(rules),
-            odd: KnownFact::new(rules),
-            exit: KnownFact::new(rules),
+            even: KnownFact::new(),
+            odd: KnownFact::new(),
+            exit: KnownFact::new(),
             last: None,
             routine: unclaimed(),
             entry: None,
@@ -224,22 +259,48 @@ impl ClaimCache {
         at: Word,
     )
         requires { length ((claims report.now.certificate.now).facts at) ≡ 1 }
+        ensures { let c = claims report.now.certificate.now in ShowsFact c.rules
+            (image_of report.now.image.now) (words self.old.routine.sites) (fact_at (c.facts at) 0)
+            (fact_of (is_even at) self.new) }
     {
-        let (image, certificate) = (report.image, report.certificate);
-        if is_even(at) {
-            self.even
-                .read(image, certificate, &self.routine.sites, at, 0);
-        } else {
-            self.odd
-                .read(image, certificate, &self.routine.sites, at, 0);
-        }
+        let image = report.image;
+        let certificate = report.certificate;
         self.last = Some(at);
+        let sites = self.routine.sites;
+        if is_even(at) {
+            self.even.read(image, certificate, &sites, at, 0);
+        } else {
+            self.odd.read(image, certificate, &sites, at, 0);
+        }
     }
 
     /// The fact of an even or an odd address that was read last.
-    fn fact(&self, is_even: bool) -> &KnownFact {
+    fn fact(&self, is_even: bool) -> &KnownFact
+        ensures { result.now ≡ fact_of is_even self.now }
+    {
         if is_even { &self.even } else { &self.odd }
     }
+}
+
+/// Writes what is known and done at an address with one fact, which this one shows. `claimed` is what is claimed of the
+/// routine in whose body the address is.
+fn write_shown<A: Allocator, B: Allocator, D: Allocator, C: Allocator>(
+    writer: &mut ReportWriter<A>,
+    report: &Report<'_, B, D, C>,
+    claimed: &RoutineClaim,
+    kind: &Kind,
+    known: &KnownFact,
+    above: Option<&KnownFact>,
+    at: Word,
+)
+    requires { let c = claims report.now.certificate.now in ShowsFact c.rules
+        (image_of report.now.image.now) (words claimed.now.sites) (fact_at (c.facts at) 0) known.now }
+{
+    let setting = report.setting_of(claimed);
+    write_fact(writer, &setting, known, above, &Apart::by_nothing());
+    writer.end_same();
+    write_access(writer, report, kind, known, at);
+    write_direct(writer, report, at);
 }
 
 /// Writes what is known and done at an address with one fact.
@@ -261,14 +322,11 @@ fn write_only_fact<A: Allocator, B: Allocator, D: Allocator, C: Allocator>(
     } else {
         None
     };
-    let setting = report.setting_of(&cache.routine);
-    write_fact(writer, &setting, known, above, &Apart::by_nothing());
-    writer.end_same();
-    write_access(writer, report, kind, known, at);
-    write_direct(writer, report, at);
+    write_shown(writer, report, &cache.routine, kind, known, above, at);
 }
 
 /// Writes what is known and done at an address, or how many facts there are if there are several.
+#[tactic(auto, using(crate::proofs::ShownLemmas::no_facts))]
 fn write_known<A: Allocator, B: Allocator, D: Allocator, C: Allocator>(
     writer: &mut ReportWriter<A>,
     report: &Report<'_, B, D, C>,
@@ -321,7 +379,12 @@ fn write_case<A: Allocator, B: Allocator, D: Allocator, C: Allocator>(
     apart: &Apart,
     at: Word,
     index: usize,
-) {
+)
+    // The case that is shown is the fact at that place of those at the address.
+    requires { let c = claims report.now.certificate.now in ShowsFact c.rules
+        (image_of report.now.image.now) (words cache.now.routine.sites)
+        (fact_at (c.facts at) index) cache.now.even }
+{
     let known = &cache.even;
     write_case_head(writer, known, apart, index);
     if known.is_possible {
@@ -344,7 +407,8 @@ fn write_cases<A: Allocator, B: Allocator, D: Allocator, C: Allocator>(
 )
     requires { count ≡ length ((claims report.now.certificate.now).facts at) }
 {
-    let (image, certificate) = (report.image, report.certificate);
+    let image = report.image;
+    let certificate = report.certificate;
     let sites = cache.routine.sites;
     let apart = Apart::of(
         image,
@@ -356,6 +420,7 @@ fn write_cases<A: Allocator, B: Allocator, D: Allocator, C: Allocator>(
         &mut cache.odd,
     );
     for index in 0..count {
+        let sites = cache.routine.sites;
         cache.even.read(image, certificate, &sites, at, index);
         write_case(writer, report, cache, &apart, at, index);
     }

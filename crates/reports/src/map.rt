@@ -1,5 +1,8 @@
 //! Memory as a map: 64 rows of 64 cells.
 
+ghost use Rattle.std.specs.Prelude.{◌≡◌};
+ghost use Rattle.reports.specs.Drawn.{class_is, colour_text, kind_text};
+
 use crate::report::{Kind, Report};
 use crate::writer::ReportWriter;
 use declaration::Declaration;
@@ -50,7 +53,9 @@ fn place_of<D: Allocator>(declaration: &Declaration<D>, entry: Word) -> usize {
 }
 
 /// The class of a colour for a routine.
-pub(crate) fn colour_of(place: usize) -> &'static [u8] {
+pub(crate) fn colour_of(place: usize) -> &'static [u8]
+    ensures { result.now ≡ colour_text place }
+{
     match place % COLOURS {
         0 => b"r0",
         1 => b"r1",
@@ -62,7 +67,9 @@ pub(crate) fn colour_of(place: usize) -> &'static [u8] {
 }
 
 /// The class of a cell's colour.
-fn class_of<D: Allocator>(declaration: &Declaration<D>, kind: &Kind) -> &'static [u8] {
+fn class_of<D: Allocator>(declaration: &Declaration<D>, kind: &Kind) -> &'static [u8]
+    ensures { class_is kind.now result.now }
+{
     match kind {
         Kind::Entry => b"e",
         Kind::Main => b"m",
@@ -131,7 +138,9 @@ fn write_marks<A: Allocator, B: Allocator, D: Allocator, C: Allocator>(
 }
 
 /// What is said about a cell where a pointer rests on it; of a routine's its entry stands after it.
-fn kind_text(kind: &Kind) -> &'static [u8] {
+fn kind_text(kind: &Kind) -> &'static [u8]
+    ensures { result.now ≡ kind_text kind.now }
+{
     match kind {
         Kind::Entry => b" entry",
         Kind::Main => b" main",

@@ -302,7 +302,7 @@ pub fn page_below<A: Allocator + Copy, D: Allocator, C: Allocator>(
     writer.put(listed_text(report.finding));
     write_items(&mut writer, report);
     writer.put(NAMES);
-    let mut cache = ClaimCache::boxed(alloc, report.rules)?;
+    let mut cache = ClaimCache::boxed(alloc)?;
     push_listing(&mut writer, report, &mut cache);
     writer.put(b"</table>\n</body>\n</html>\n");
     writer.into_bytes()

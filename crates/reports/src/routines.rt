@@ -1,5 +1,10 @@
 //! What is declared and claimed about a routine.
 
+ghost use Rattle.wordset.specs.Lanes.{words};
+ghost use Rattle.facts.specs.Landing.{fact_at};
+ghost use Rattle.certificate.specs.Kept.{claims};
+ghost use Rattle.reports.specs.Shown.{ShowsExit};
+
 use crate::known::write_exit;
 use crate::known_fact::KnownFact;
 use crate::report::{Report, claimed_of};
@@ -76,8 +81,14 @@ fn write_exit_line<A: Allocator, B: Allocator, D: Allocator, C: Allocator>(
     report: &Report<'_, B, D, C>,
     claimed: &Claimed,
     offset: usize,
+    index: usize,
+    entry: Word,
     exit: &KnownFact,
-) {
+)
+    // The exit that is shown is the one at that place of those for the offset.
+    requires { let c = claims report.now.certificate.now in ShowsExit c.rules
+        (words claimed.now.sites) (fact_at (c.exits entry offset) index) exit.now }
+{
     writer.mark(b"<tr><td colspan=3>");
     writer.put(b"return by ");
     writer.offset(offset);
@@ -99,7 +110,7 @@ pub(crate) fn write_exits<A: Allocator, B: Allocator, D: Allocator, C: Allocator
     for offset in 0..64usize {
         for index in 0..certificate.count_exits(entry, offset) {
             exit.read_exit(certificate, &claimed.sites, entry, offset, index);
-            write_exit_line(writer, report, &claimed, offset, exit);
+            write_exit_line(writer, report, &claimed, offset, index, entry, exit);
         }
     }
 }

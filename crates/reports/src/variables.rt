@@ -158,7 +158,7 @@ pub(crate) fn held_of<A: Allocator + Copy, D: Allocator, C: Allocator>(
     facts: &mut WordSet,
 ) -> Result<AllHeld<A>, AllocError> {
     let mut held = AllHeld::new(alloc)?;
-    let mut known = Box::new(alloc, KnownFact::new(certificate.rules()))?;
+    let mut known = Box::new(alloc, KnownFact::new())?;
     for index in 0..4096 {
         let at = Word::from_index(index);
         if held.add_facts(image, declaration, certificate, at, &mut known)? {

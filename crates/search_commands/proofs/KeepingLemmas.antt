@@ -1,23 +1,38 @@
 -- Lines that are kept, line by line.
-use Rattle.std.proofs.Common.{ℕ, ◌≡◌, ◌∷◌, ◌++◌, List, [], true, inl, length, sym, subst, arith}
+use Rattle.std.proofs.Common.{ℕ, ◌≡◌, ◌∷◌, ◌++◌, ◌==◌, List, [], true, false, inl, inr, length, refl, sym, subst, arith}
 use Rattle.std.specs.Str.{bytes_eq}
 use Rattle.std.proofs.lemmas.Slice.Eq.{bytes_eq-Decides}
-use Rattle.search_commands.specs.Keeping.{AreAdded, Grows, HasLine, IsAdded, KeepsLine, KeepsLines, first_line, mark, other_lines}
-use Rattle.search_commands.specs.Keeping.Grows.{same, marked}
+use Rattle.search_commands.specs.Keeping.{AreAdded, Grows, HasLine, IsAdded, IsCommentOrEnd, IsMark, KeepsLine, KeepsLines, first_line, other_lines}
+use Rattle.search_commands.specs.Keeping.Grows.{same, commented, marked}
 use Rattle.search_commands.specs.Keeping.AreAdded.{none, more}
 use Rattle.search_commands.specs.Keeping.KeepsLines.{unchanged, line, last, added}
 
--- nothing is left of a line, and the mark follows
-pub ends_marked : (left rest : List ℕ) → length left ≡ 0 → (r : List ℕ) × (rest ≡ mark ++ r) → Grows left rest
-ends_marked [] rest e (r, is) = let P : List ℕ → Type 0 = λ t. Grows [] t in subst P (sym is) (marked r)
-ends_marked (x ∷ xs) rest e m = absurd (omega (arith, e))
+-- nothing is left of a line but its comment, and the mark follows
+pub ends_marked : (left rest tail : List ℕ) → IsCommentOrEnd left → rest ≡ left ++ tail → IsMark tail → Grows left rest
+ends_marked left rest tail (inl empty) e m =
+    let P : List ℕ → Type 0 = λ t. Grows t (t ++ tail) in
+    let Q : List ℕ → Type 0 = λ t. Grows left t in
+    subst Q (sym e) (subst P (sym empty) (marked tail m))
+ends_marked left rest tail (inr (comment, is)) e m =
+    let P : List ℕ → Type 0 = λ t. Grows t (t ++ tail) in
+    let Q : List ℕ → Type 0 = λ t. Grows left t in
+    subst Q (sym e) (subst P (sym is) (commented comment tail m))
 
--- a byte stands at the front of what is left
-pub first_stands : (left others new : List ℕ) (first byte : ℕ) → left ≡ first ∷ others → first ≡ byte → Grows others new → Grows left (byte ∷ new)
-first_stands left others new first byte e f h =
+-- a byte stands at the front of what is left, and is no slash
+pub first_stands : (left others new : List ℕ) (first byte : ℕ) → left ≡ first ∷ others → first ≡ byte → (byte == 47) ≡ false → Grows others new → Grows left (byte ∷ new)
+first_stands left others new first byte e f slash h =
     let P : List ℕ → Type 0 = λ t. Grows t (byte ∷ new) in
-    let Q : ℕ → Type 0 = λ c. Grows (first ∷ others) (c ∷ new) in
-    subst P (sym e) (subst Q f (same first others new h))
+    let Q : ℕ → Type 0 = λ c. Grows (c ∷ others) (byte ∷ new) in
+    subst P (sym e) (subst Q (sym f) (same byte others new slash h))
+
+-- the first of what is left is a slash
+pub comment_left : (left others : List ℕ) (first : ℕ) → left ≡ first ∷ others → first ≡ 47 → IsCommentOrEnd left
+comment_left left others first e f = let P : ℕ → Type 0 = λ c. left ≡ c ∷ others in inr (others, subst P f e)
+
+-- nothing is left
+pub nothing_left : (left : List ℕ) → length left ≡ 0 → IsCommentOrEnd left
+nothing_left [] e = inl refl
+nothing_left (x ∷ xs) e = absurd (omega (arith, e))
 
 -- no line is left
 pub none_added : (text : List ℕ) → length text ≡ 0 → AreAdded text

@@ -1,9 +1,9 @@
 -- When a text keeps the lines of a text to which something is added.
-use Rattle.std.specs.Prelude.{ℕ, ◌≡◌, ◌<◌, ◌⊎◌, ◌==◌, ◌&&◌, ◌||◌, nat_le, Bool, true, IfSome, List, [], ◌∷◌, ◌++◌, Option, codes, length}
-use Rattle.std.specs.List.{before_first, after_first, position_or_len}
+use Rattle.std.specs.Prelude.{ℕ, ◌≡◌, ◌<◌, ◌⊎◌, ◌==◌, ◌&&◌, ◌||◌, nat_le, Bool, true, false, List, [], ◌∷◌, ◌++◌, codes, length}
+use Rattle.std.specs.List.{before_first, after_first, list_all, position_or_len}
 use Rattle.std.specs.Str.Lines.{strip_carriage_return}
 
--- a line feed
+-- A line feed.
 abbrev pub is_feed : ℕ → Bool
 is_feed c = c == 10
 
@@ -23,16 +23,31 @@ other_lines text = after_first is_feed text
 abbrev pub is_put : ℕ → Bool
 is_put c = nat_le 48 c && nat_le c 57 || (c == 45 || c == 32)
 
--- the comment that marks what is added
+-- The comment that marks what is added begins so.
 abbrev pub mark : List ℕ
 mark = codes " / added"
 
--- The second line is the first one with ranges and offsets put between what it has, and behind all of it the comment that marks
--- them. Whatever the first one has stands in the second in the same order.
+-- What is spelled by is_put, or a small letter: the comment names ranges and offsets, these behind the word `returns`.
+abbrev pub is_named : ℕ → Bool
+is_named c = is_put c || (nat_le 97 c && nat_le c 122)
+
+-- The comment that marks what is added, and names it.
+pub record IsMark (text : List ℕ) : Type 0 where
+  pub named : List ℕ
+  pub spelled : list_all is_named named ≡ true
+  pub is : text ≡ mark ++ named
+
+-- The second line is the first one with ranges and offsets put in before its comment, and behind all of it the comment that marks and
+-- names them. Whatever the first line has stands in the second in the same order, and its comment stays as it is.
 pub data Grows : List ℕ → List ℕ → Type 0 where
-  same : (c : ℕ) (old new : List ℕ) → Grows old new → Grows (c ∷ old) (c ∷ new)
+  same : (c : ℕ) (old new : List ℕ) → (c == 47) ≡ false → Grows old new → Grows (c ∷ old) (c ∷ new)
   put : (c : ℕ) (old new : List ℕ) → is_put c ≡ true → Grows old new → Grows old (c ∷ new)
-  marked : (rest : List ℕ) → Grows [] (mark ++ rest)
+  commented : (comment rest : List ℕ) → IsMark rest → Grows (47 ∷ comment) ((47 ∷ comment) ++ rest)
+  marked : (rest : List ℕ) → IsMark rest → Grows [] rest
+
+-- The text has nothing, or begins with the slash of a comment.
+abbrev pub IsCommentOrEnd : List ℕ → Type 0
+IsCommentOrEnd text = (text ≡ []) ⊎ ((comment : List ℕ) × (text ≡ 47 ∷ comment))
 
 -- A line is kept: it is as it was, or it has grown, its carriage return apart.
 abbrev pub KeepsLine : List ℕ → List ℕ → Type 0

@@ -317,14 +317,30 @@ fn completed<A: Allocator + Copy>(
                 alloc, bytes, promised, proposed, &text, lack, seen, unfollowed,
             )
         }
-        // Nothing is added, so nothing is by what runs did.
-        Trial::Unfit => {
-            let unfollowed = &proposal.unfollowed;
-            lacking(
-                alloc, bytes, promised, proposed, bytes, lack, None, unfollowed,
-            )
-        }
+        Trial::Unfit => as_given(alloc, given, proposed, lack, &proposal.unfollowed),
     }
+}
+
+/// What is written where nothing is added to the text that is given, so that nothing is by what runs did.
+fn as_given<A: Allocator + Copy>(
+    alloc: A,
+    given: &Given<A>,
+    proposed: &Declaration<A>,
+    lack: Lack,
+    unfollowed: &WordSet,
+) -> Result<Outcome<A>, Fault>
+    requires { Declares given.now.text.items (meaning given.now.declaration) }
+    ensures completes { (image : List (Option ℕ)) → IfOk result (λ c. Completes
+        (Some given.now.text.items) image (meaning given.now.declaration) c.status c.text.items) }
+    ensures adds { IfOk result (λ c. IsAddition (meaning given.now.declaration)
+        (meaning proposed.now) c.text.items) }
+    ensures faults { IfErr result IsMemoryFault }
+{
+    let bytes = given.text.as_slice();
+    let promised = &given.declaration;
+    lacking(
+        alloc, bytes, promised, proposed, bytes, lack, None, unfollowed,
+    )
 }
 
 /// The text that completes a declaration, and whether compliance with it is shown.

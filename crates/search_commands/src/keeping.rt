@@ -1,10 +1,10 @@
 //! Whether a text keeps the lines of a text to which something is added.
 
 ghost use Rattle.std.specs.Prelude.{◌≡◌, ◌<◌, ◌+◌, ℕ, List, ◌∷◌, ◌++◌, IfSome, Some, true, length, take, drop};
-ghost use Rattle.std.specs.List.{position};
+ghost use Rattle.std.specs.List.{list_all, position};
 ghost use Rattle.std.specs.Str.{bytes_eq};
 ghost use Rattle.std.specs.Str.Lines.{strip_carriage_return};
-ghost use Rattle.search_commands.specs.Keeping.{AreAdded, Grows, HasLine, IsAdded, KeepsLine, KeepsLines, first_line, is_feed, is_put, mark, other_lines};
+ghost use Rattle.search_commands.specs.Keeping.{AreAdded, Grows, HasLine, IsAdded, IsCommentOrEnd, IsMark, KeepsLine, KeepsLines, first_line, is_feed, is_named, is_put, mark, other_lines};
 
 /// The comment that marks what is added.
 const MARK: &[u8] = b" / added";
@@ -54,11 +54,28 @@ fn is_put(byte: u8) -> bool
     byte.is_ascii_digit() || byte == b'-' || byte == b' '
 }
 
-/// Whether a text begins with the comment that marks what is added.
-fn is_marked(text: &[u8]) -> bool
-    ensures { result ≡ true → (rest : List ℕ) × (text.now ≡ mark ++ rest) }
+/// Whether the comment that marks what is added may have a byte behind its first words.
+fn is_named(byte: u8) -> bool
+    ensures { result ≡ is_named byte }
 {
-    text.starts_with(MARK)
+    is_put(byte) || byte.is_ascii_lowercase()
+}
+
+/// Whether a text is spelled by bytes that may stand in the comment that marks what is added.
+fn are_named(text: &[u8]) -> bool
+    ensures { result ≡ list_all is_named text.now }
+{
+    text.iter().all(|byte| is_named(*byte))
+}
+
+/// Whether a text is the comment that marks what is added, and names it.
+fn is_mark(text: &[u8]) -> bool
+    ensures { result ≡ true → IsMark text.now }
+{
+    match text.strip_prefix(MARK) {
+        Some(named) => are_named(named),
+        None => false,
+    }
 }
 
 /// Whether two texts are the same.
@@ -68,13 +85,27 @@ fn is_same(left: &[u8], right: &[u8]) -> bool
     left == right
 }
 
-/// Whether a line ends here: nothing is left of it, and the comment that marks what is added follows.
+/// Whether nothing is left of a line, or its comment alone.
+fn is_comment_or_end(left: &[u8]) -> bool
+    ensures { result ≡ true → IsCommentOrEnd left.now }
+{
+    match left.split_first() {
+        Some((first, _)) => *first == b'/',
+        None => true,
+    }
+}
+
+/// Whether a line ends here: nothing is left of it but its comment, which stays, and the comment follows that marks what
+/// is added.
 fn ends_here(left: &[u8], rest: &[u8]) -> bool
     ensures { result ≡ true → Grows left.now rest.now }
 {
-    match left.split_first() {
-        None => is_marked(rest),
-        Some(_) => false,
+    if !is_comment_or_end(left) {
+        return false;
+    }
+    match rest.strip_prefix(left) {
+        Some(tail) => is_mark(tail),
+        None => false,
     }
 }
 
@@ -83,6 +114,9 @@ fn left_after(left: &[u8], byte: u8) -> Option<&[u8]>
     ensures { (new : List ℕ) → IfSome result (λ after.
         Grows after.now new → Grows left.now (byte ∷ new)) }
 {
+    if byte == b'/' {
+        return None;
+    }
     if let Some((first, others)) = left.split_first() {
         if *first == byte {
             return Some(others);

@@ -3,7 +3,6 @@ use Rattle.declaration.specs.Kept.{meaning}
 use Rattle.command_parts.specs.declared.status.Status.TheVariants.{Done}
 use Rattle.search_commands.specs.Adding.{IsAddition}
 use Rattle.search_commands.specs.CompleteText.{Completes, IsExtension}
-use Rattle.search_commands.proofs.CompleteLemmas.{own_addition, own_extension}
 use Rattle.search_commands.proofs.completing.completed.Goals as goal
 
 pub returns-in-Shown-clause-completes : goal.returns-in-Shown-clause-completes
@@ -29,11 +28,5 @@ lacking-requires-clause-adds g c =
 pub returns-in-Lacking-clause-completes : goal.returns-in-Lacking-clause-completes
 returns-in-Lacking-clause-completes g c = rw c.as_slice-bytes.ensures.value at (c.lacking.ensures.completes c.args.image.now)
 
-pub lacking-in-Unfit-requires-clause-extends : goal.lacking-in-Unfit-requires-clause-extends
-lacking-in-Unfit-requires-clause-extends g c = own_extension _ _ (rw c.as_slice-bytes.ensures.value c.requires)
-
-pub lacking-in-Unfit-requires-clause-adds : goal.lacking-in-Unfit-requires-clause-adds
-lacking-in-Unfit-requires-clause-adds g c = own_addition _ _ _ (rw c.as_slice-bytes.ensures.value c.requires)
-
 pub returns-in-Unfit-clause-completes : goal.returns-in-Unfit-clause-completes
-returns-in-Unfit-clause-completes g c = rw c.as_slice-bytes.ensures.value at (c.lacking-in-Unfit.ensures.completes c.args.image.now)
+returns-in-Unfit-clause-completes g c = c.as_given.ensures.completes c.args.image.now

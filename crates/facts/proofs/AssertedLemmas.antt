@@ -1,5 +1,5 @@
 -- What is asserted by a fact is so in each of its states.
-use Rattle.std.proofs.Common.{◌≡◌, ℕ, ◌<◌, true, arith, suc}
+use Rattle.std.proofs.Common.{◌≡◌, ℕ, ◌<◌, true, arith, zero, suc}
 use Rattle.wordset.specs.Words.{Words, IsWithin}
 use Rattle.processor.specs.Cells.{Cells}
 use Rattle.processor.specs.Machine.{State}
@@ -16,8 +16,8 @@ use Rattle.facts.proofs.StateLemmas.{ac_true, word_true}
 
 -- A link of the set is among its words.
 link_true : (links : Words) (k : ℕ) → k < 2 → links k ≡ true → link_words links k ≡ true
-link_true links 0 lt is = is
-link_true links 1 lt is = is
+link_true links zero lt is = is
+link_true links (suc zero) lt is = is
 link_true links (suc (suc k)) lt is = absurd (omega (arith, lt))
 
 module _ (pl : Place) (dd : IsDeclared pl.declaration) (start : Cells) (begun : IsBegun pl.image start) where

@@ -1,7 +1,8 @@
 -- What is to hold, line by line.
-use Rattle.std.proofs.Common.{◌≡◌, ℕ, ◌+◌, ◌<◌, ◌≤◌, ◌==◌, Bool, true, false, ◌&&◌, ◌||◌, List, [], ◌∷◌, map, drop, get_or, length, refl, sym, ap, ◌∙◌, subst, suc, arith}
-use Rattle.std.specs.Prelude.{Option, None, Some, IfNone, IfSome, IsTrue, ◌↔◌, MatchOption, not}
+use Rattle.std.proofs.Common.{◌≡◌, ℕ, ◌+◌, ◌<◌, ◌≤◌, ◌==◌, Bool, true, false, ◌&&◌, ◌||◌, List, [], ◌∷◌, map, drop, get_or, length, refl, sym, ap, ◌∙◌, subst, zero, suc, arith}
+use Rattle.std.specs.Prelude.{Option, None, Some, IfNone, IfSome, IsTrue, ◌↔◌, MatchOption, nat_lt, not}
 use Rattle.std.proofs.lemmas.Bool.{false≢true, true≢false}
+use Rattle.std.proofs.lemmas.Bool.Decides.{nat_tests}
 use Rattle.wordset.specs.Words.{Words, IsWithin, SameWords, IsFirstFrom, HasNoneFrom, difference, union}
 use Rattle.domain.specs.Facts.{Fact, Place}
 use Rattle.declaration.specs.Declaration.{Assertion, Holding, Returning}
@@ -29,9 +30,13 @@ of_neither false true = refl
 of_neither false false = refl
 
 links_are : (links : Words) (v : ℕ) → ((links 0 && (v == 0)) || (links 1 && (v == 1))) ≡ link_words links v
-links_are links 0 = of_first (links 0) (links 1)
-links_are links 1 = of_second (links 0) (links 1)
-links_are links (suc (suc v)) = of_neither (links 0) (links 1)
+links_are links zero = of_first (links 0) (links 1)
+links_are links (suc zero) = of_second (links 0) (links 1)
+links_are links (suc (suc v)) =
+    let first : (suc (suc v) == 0) ≡ false = grind (arith, nat_tests) in
+    let second : (suc (suc v) == 1) ≡ false = grind (arith, nat_tests) in
+    let past : nat_lt (suc (suc v)) 2 ≡ false = grind (arith, nat_tests) in
+    rw (first, second, past) (of_neither (links 0) (links 1))
 
 pub link_set : (links clear set both : Words) (a b : Bool) → both ≡ union clear set → clear ≡ (λ v. a && (v == 0)) → set ≡ (λ v. b && (v == 1)) → a ≡ links 0 → b ≡ links 1 → SameWords both (link_words links)
 link_set links clear set both a b is is_clear is_set first second v lt = rw (is, is_clear, is_set, first, second) (links_are links v)

@@ -1,6 +1,6 @@
 use Rattle.std.proofs.Common.{sym, ◌∙◌}
 use Rattle.wordset.proofs.IterLemmas.{of_set, one_more, one_fails, all_pass}
-use Rattle.facts.proofs.AskingLemmas.{within_reach, not_within_reach, in_reach_of}
+use Rattle.facts.proofs.AskingLemmas.{within_reach}
 use Rattle.facts.proofs.conditions.are_in_reach.Goals as goal
 
 pub loop-site-preserved : goal.loop-site-preserved

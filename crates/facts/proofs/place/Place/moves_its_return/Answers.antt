@@ -12,7 +12,7 @@ pub returns-then-not-deposits : goal.returns-then-not-deposits
 returns-then-not-deposits g c = false_iff (λ q. sym c.if-not-deposits.true ∙ c.deposits.ensures ∙ ((moves_in (place_in_code c.args.self.now) (fact_in_code c.args.fact.now) c.args.at c.args.word c.args.entry ((c.is_reference.ensures c.args.at).0 c.if-not-is_reference.false) refl refl).0 q).0)
 
 pub returns-then-refers_indirectly : goal.returns-then-refers_indirectly
-returns-then-refers_indirectly g c = false_iff (λ q. sym c.if-refers_indirectly.true ∙ c.refers_indirectly.ensures ∙ ((moves_in (place_in_code c.args.self.now) (fact_in_code c.args.fact.now) c.args.at c.args.word c.args.entry ((c.is_reference.ensures c.args.at).0 c.if-not-is_reference.false) refl refl).0 q).1)
+returns-then-refers_indirectly g c = false_iff (λ q. sym (sym c.if-refers_indirectly.true ∙ c.refers_indirectly.ensures ∙ ((moves_in (place_in_code c.args.self.now) (fact_in_code c.args.fact.now) c.args.at c.args.word c.args.entry ((c.is_reference.ensures c.args.at).0 c.if-not-is_reference.false) refl refl).0 q).1))
 
 pub returns-then-not-is_own : goal.returns-then-not-is_own
 returns-then-not-is_own g c = false_iff (λ q. sym c.if-not-is_own.true ∙ c.is_own.ensures ∙ ((moves_in (place_in_code c.args.self.now) (fact_in_code c.args.fact.now) c.args.at c.args.word c.args.entry ((c.is_reference.ensures c.args.at).0 c.if-not-is_reference.false) refl refl).0 q).2)

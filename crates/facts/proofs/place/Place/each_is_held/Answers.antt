@@ -2,7 +2,7 @@ use Rattle.declaration.specs.Kept.{holding_of}
 use Rattle.domain.specs.FactInCode.{fact_in_code}
 use Rattle.facts.specs.PlaceInCode.{place_in_code}
 use Rattle.facts.proofs.HeldLemmas.{held_all, held_more, held_not, not_so}
-use Rattle.facts.proofs.assertions.Place.each_is_held.Goals as goal
+use Rattle.facts.proofs.place.Place.each_is_held.Goals as goal
 
 pub loop-holding-preserved : goal.loop-holding-preserved
 loop-holding-preserved g c =

@@ -4,7 +4,7 @@ use Rattle.declaration.specs.Kept.{returning_of}
 use Rattle.domain.specs.FactInCode.{fact_in_code}
 use Rattle.facts.specs.Conditions.{EachIsHeldBy}
 use Rattle.facts.specs.PlaceInCode.{place_in_code}
-use Rattle.facts.proofs.assertions.Place.each_is_held_by.Given as goal
+use Rattle.facts.proofs.place.Place.each_is_held_by.Given as goal
 
 abbrev pub invariant-loop-returning : goal.invariant-loop-returning
 invariant-loop-returning g l =

@@ -4,7 +4,7 @@ use Rattle.declaration.specs.Kept.{holding_of}
 use Rattle.domain.specs.FactInCode.{fact_in_code}
 use Rattle.facts.specs.Conditions.{EachIsHeld}
 use Rattle.facts.specs.PlaceInCode.{place_in_code}
-use Rattle.facts.proofs.assertions.Place.each_is_held.Given as goal
+use Rattle.facts.proofs.place.Place.each_is_held.Given as goal
 
 abbrev pub invariant-loop-holding : goal.invariant-loop-holding
 invariant-loop-holding g l =

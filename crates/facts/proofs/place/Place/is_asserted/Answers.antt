@@ -3,7 +3,7 @@ use Rattle.declaration.specs.Kept.{assertion_of}
 use Rattle.domain.specs.FactInCode.{fact_in_code}
 use Rattle.facts.specs.PlaceInCode.{place_in_code}
 use Rattle.facts.proofs.HeldLemmas.{denied_not}
-use Rattle.facts.proofs.assertions.Place.is_asserted.Goals as goal
+use Rattle.facts.proofs.place.Place.is_asserted.Goals as goal
 
 pub returns-in-None : goal.returns-in-None
 returns-in-None g c = (λ so. c.in-None.ensures.none, λ so. refl)

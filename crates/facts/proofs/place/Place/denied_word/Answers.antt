@@ -7,7 +7,7 @@ use Rattle.domain.specs.FactInCode.{fact_in_code}
 use Rattle.facts.specs.Conditions.{may_be}
 use Rattle.facts.specs.PlaceInCode.{place_in_code}
 use Rattle.facts.proofs.HeldLemmas.{denied_by, none_by}
-use Rattle.facts.proofs.assertions.Place.denied_word.Goals as goal
+use Rattle.facts.proofs.place.Place.denied_word.Goals as goal
 
 pub returns-clause-denied : goal.returns-clause-denied
 returns-clause-denied g c =

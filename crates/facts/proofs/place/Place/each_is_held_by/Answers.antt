@@ -2,7 +2,7 @@ use Rattle.declaration.specs.Kept.{returning_of}
 use Rattle.domain.specs.FactInCode.{fact_in_code}
 use Rattle.facts.specs.PlaceInCode.{place_in_code}
 use Rattle.facts.proofs.HeldLemmas.{returned_all, returned_more, returned_not, not_so}
-use Rattle.facts.proofs.assertions.Place.each_is_held_by.Goals as goal
+use Rattle.facts.proofs.place.Place.each_is_held_by.Goals as goal
 
 pub loop-returning-preserved : goal.loop-returning-preserved
 loop-returning-preserved g c =

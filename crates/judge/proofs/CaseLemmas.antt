@@ -108,3 +108,12 @@ narrowed_roomy image g f shape cells relations is more_cells more_relations =
 
 pub narrowing_fits : {D S : ℕ} (f : SumFact D S) → HasShape (fact_in_code f) → length f.chains.items ≤ 4
 narrowing_fits f shape = let own : length f.chains.items ≡ length (fact_in_code f).chains = chain_count f (fact_in_code f).chains refl in omega (arith, own, shape.few)
+
+pub claimed_roomy : {D S : ℕ} (f : SumFact D S) → HasShape (fact_in_code f) → length (cell_sets_of f.cells) ≤ 64 → length (relations_of f.relations) ≤ 32 → IsRoomy f
+claimed_roomy f shape cells relations = record {
+  terms = shape.terms;
+  short = shape.short;
+  cells = omega (arith, cells);
+  relations = omega (arith, relations);
+  chains = omega (arith, relations, narrowing_fits f shape);
+}

@@ -22,14 +22,14 @@ use crate::rooms::{LeftRooms, WordRooms};
 use crate::sought::Sought;
 use domain::BriefSet;
 use facts::{Kind, NextFact, Outcome, Outcomes};
-use judge::{Claims, FactsAt, Point, place_of};
+use judge::{Claims, FactsAt, NarrowedPoint, place_of};
 use std::alloc::Allocator;
 use word12::Word;
 use wordset::WordSet;
 
 /// That an address is not in a routine's body, unless no state satisfies what is known. It stays as it is.
 fn misses_body<A: Allocator, C: Claims>(
-    point: &Point<'_, A, C>,
+    point: &NarrowedPoint<'_, A, C>,
     owner: &Option<Word>,
     sites: &WordSet,
     at: Word,
@@ -53,7 +53,7 @@ fn misses_body<A: Allocator, C: Claims>(
 
 /// Why what is known does not land among the facts at an address of a routine's body, if it does not. It stays as it is.
 fn misses_facts<A: Allocator, C: Claims>(
-    point: &Point<'_, A, C>,
+    point: &NarrowedPoint<'_, A, C>,
     owner: &Option<Word>,
     sites: &WordSet,
     at: Word,
@@ -95,7 +95,7 @@ fn misses_facts<A: Allocator, C: Claims>(
 /// Why what is known does not land at an address of a routine's body, with the sites of that routine, if it does not. It stays as
 /// it is.
 pub(crate) fn misses<A: Allocator, C: Claims>(
-    point: &Point<'_, A, C>,
+    point: &NarrowedPoint<'_, A, C>,
     sought: Sought,
     owner: &Option<Word>,
     sites: &WordSet,
@@ -122,7 +122,7 @@ pub(crate) fn misses<A: Allocator, C: Claims>(
 
 /// Why what is known does not land at an address of the same body, if it does not. It stays as it is.
 pub(crate) fn misses_here<A: Allocator, C: Claims>(
-    point: &Point<'_, A, C>,
+    point: &NarrowedPoint<'_, A, C>,
     sought: Sought,
     at: Word,
     known: &mut NextFact,
@@ -148,7 +148,7 @@ pub(crate) fn misses_here<A: Allocator, C: Claims>(
 
 /// The first of some addresses at which what is known does not land, and why.
 fn misses_at<A: Allocator, C: Claims>(
-    point: &Point<'_, A, C>,
+    point: &NarrowedPoint<'_, A, C>,
     sought: Sought,
     addresses: &WordSet,
     known: &mut NextFact,
@@ -170,7 +170,7 @@ fn misses_at<A: Allocator, C: Claims>(
 
 /// The same of addresses that stand in a brief set.
 fn misses_at_brief<A: Allocator, C: Claims>(
-    point: &Point<'_, A, C>,
+    point: &NarrowedPoint<'_, A, C>,
     sought: Sought,
     targets: &BriefSet,
     known: &mut NextFact,
@@ -189,7 +189,7 @@ fn misses_at_brief<A: Allocator, C: Claims>(
 
 /// The first address at which an outcome goes on and does not land, and why.
 fn outcome_misses<A: Allocator, C: Claims>(
-    point: &Point<'_, A, C>,
+    point: &NarrowedPoint<'_, A, C>,
     sought: Sought,
     outcome: &mut Outcome,
     rooms: &mut LeftRooms,
@@ -209,7 +209,7 @@ fn outcome_misses<A: Allocator, C: Claims>(
 
 /// The same of the first two of some outcomes.
 fn first_two_miss<A: Allocator, C: Claims>(
-    point: &Point<'_, A, C>,
+    point: &NarrowedPoint<'_, A, C>,
     sought: Sought,
     outcomes: &mut Outcomes,
     rooms: &mut LeftRooms,
@@ -230,7 +230,7 @@ fn first_two_miss<A: Allocator, C: Claims>(
 
 /// The same of all of some outcomes.
 fn some_miss<A: Allocator, C: Claims>(
-    point: &Point<'_, A, C>,
+    point: &NarrowedPoint<'_, A, C>,
     sought: Sought,
     outcomes: &mut Outcomes,
     rooms: &mut LeftRooms,
@@ -253,7 +253,7 @@ fn some_miss<A: Allocator, C: Claims>(
 
 /// Where a word goes on and does not land.
 pub(crate) fn goes_on<A: Allocator, C: Claims, M: Allocator>(
-    point: &Point<'_, A, C>,
+    point: &NarrowedPoint<'_, A, C>,
     sought: Sought,
     word: Word,
     rooms: &mut WordRooms<M>,

@@ -17,7 +17,7 @@ use Rattle.domain.specs.Locations.{Ac}
 use Rattle.wordset.specs.Lanes.{words}
 use Rattle.certificate.specs.declared.runs.Run.{Run}
 use Rattle.certificate.specs.declared.runs.Counts.{Counts}
-use Rattle.certificate.specs.declared.packed.PackedSum.{PackedSum}
+use Rattle.certificate.specs.declared.packed.sum.PackedSum.{PackedSum}
 use Rattle.certificate.specs.declared.packed.PackedLine.{PackedLine}
 use Rattle.certificate.specs.declared.packed.PackedLine.TheVariants as packed
 use Rattle.certificate.specs.declared.packed.KeptLine.{KeptLine}

@@ -24,7 +24,8 @@ ghost use Rattle.certificate.specs.Packed.{said_at, LiesWithin, IsNumbered};
 
 use crate::Version;
 use crate::fields::Fields;
-use crate::packed::{PackedChain, PackedExit, PackedFact, PackedLine, Steps, equation};
+use crate::packed::sum::equation;
+use crate::packed::{PackedChain, PackedExit, PackedFact, PackedLine, Steps};
 use crate::runs::{Counts, PackedRegisters, PackedRoutine, Runs};
 use domain::{Location, ReturnOffsets};
 use word12::Word;

@@ -19,9 +19,9 @@ ghost use Rattle.certificate.specs.Written.{facts_lines};
 ghost use Rattle.certificate.specs.Made.{details_of, AreDetails};
 
 use crate::RoutineClaim;
-use crate::packed::{
-    CertifiedFact, Claim, PackedLine, PackedLines, add, begin_said, packed_sum, routine_of,
-};
+use crate::packed::load::{add, begin_said, routine_of};
+use crate::packed::sum::packed_sum;
+use crate::packed::{CertifiedFact, Claim, PackedLine, PackedLines};
 use crate::progress::FIRST_FACT;
 use crate::runs::Run;
 use domain::{CellSet, Chain, Relation, Step};

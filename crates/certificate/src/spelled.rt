@@ -23,8 +23,9 @@ ghost use Rattle.certificate.specs.Spelled.{all_ended};
 
 use crate::Version;
 use crate::line_text::LineText;
+use crate::packed::sum::PackedSum;
 use crate::packed::{
-    LentLine, PackedChain, PackedExit, PackedFact, PackedLine, PackedLines, PackedSum, runs_from,
+    LentLine, PackedChain, PackedExit, PackedFact, PackedLine, PackedLines, runs_from,
 };
 use crate::runs::{PackedRegisters, Run, set_of};
 use domain::{ReturnOffsets, Step, Summand, Term, is_sign, negated};

@@ -16,7 +16,8 @@ ghost use Rattle.certificate.specs.LineOf.{is_term, is_relation, is_step};
 ghost use Rattle.certificate.specs.Packed.{third_terms, packed_sum_of};
 
 use crate::fields::Fields;
-use crate::packed::{PackedSum, Steps, is_relation, is_step};
+use crate::packed::sum::{PackedSum, is_relation};
+use crate::packed::{Steps, is_step};
 use domain::{Location, ReturnOffsets, Step, Summand, Term, is_sign, negated};
 use word12::Word;
 

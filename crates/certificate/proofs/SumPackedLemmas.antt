@@ -209,6 +209,16 @@ line_there runs steps ls i k at h all =
       within = rw (length-drop k.first runs, length-drop k.first steps) it;
     }
 
+-- The line at a place of a list is the one at the front of those from there on.
+same_head : (x y : Line) (xs ys : List Line) → x ∷ xs ≡ y ∷ ys → x ≡ y
+same_head x y xs ys e = cc
+
+pub line_is : (ls : List Line) (i : ℕ) (l : Line) → i < length ls → drop i ls ≡ l ∷ drop (i + 1) ls → get_or ls i End ≡ l
+line_is ls i l h e = same_head (get_or ls i End) l (drop (i + 1) ls) (drop (i + 1) ls) (sym (drop_more ls i End h) ∙ e)
+
+pub line_at : (ls : List Line) (i : ℕ) → i < length ls → drop i ls ≡ get_or ls i End ∷ drop (i + 1) ls
+line_at ls i h = drop_more ls i End h
+
 -- What lies behind a place, or nothing where that is past all.
 pub rest_from : {X : Type 0} (xs ys : List X) (i m : ℕ) → xs ≡ ys → m ≡ min i (length ys) → take (length xs - m) (drop m xs) ≡ drop i ys
 rest_from xs ys i m e f = elim (cases_lt i (length ys)) [

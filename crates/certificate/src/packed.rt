@@ -323,7 +323,8 @@ impl<A: Allocator> PackedLines<A> {
         requires { at < length (said_lines self.now) }
         ensures { result ≡ is_detail (get_or (said_lines self.now) at End) }
     {
-        self.list[at].line.is_detail()
+        let kept = &self.list[at];
+        kept.line.is_detail()
     }
 
     /// Adds a line that was read, or leaves what is said as it is.

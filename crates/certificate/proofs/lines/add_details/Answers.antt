@@ -8,6 +8,9 @@ use Rattle.certificate.proofs.lines.add_details.Goals as goal
 pub loop-at-init : goal.loop-at-init
 loop-at-init g c = none_sofar c.args.fact.now (drop c.args.start (said_lines c.args.lines.now))
 
+pub add_to-requires-clause-within : goal.add_to-requires-clause-within
+add_to-requires-clause-within g c = omega (arith, c.len-at-end.ensures, c.loop-at-test.true)
+
 pub add_to-requires-clause-room : goal.add_to-requires-clause-room
 add_to-requires-clause-room g c =
     room_left c.args.fact.now c.loop-at.fact (drop c.args.start (said_lines c.args.lines.now)) (drop c.loop-at.at (said_lines c.args.lines.now))

@@ -1,5 +1,5 @@
-use Rattle.std.proofs.Common.{◌≡◌, sym, ◌∙◌}
-use Rattle.wordset.specs.Words.{IsWithin, one}
+use Rattle.std.proofs.Common.{sym, ◌∙◌, subst}
+use Rattle.wordset.specs.Words.{Words, IsWithin, one}
 use Rattle.wordset.specs.Lanes.{words}
 use Rattle.wordset.proofs.WordSet.only.Goals as goal
 use Rattle.wordset.proofs.Firsts.{only_alone, only_beside, only_nothing}
@@ -16,4 +16,4 @@ returns-then-is_subset c =
 pub returns : goal.returns
 returns c =
     only_beside (words c.args.self.now) c.in-Some.word c.in-Some.ensures
-    (λ within. true_false (sym (c.is_subset.ensures.1 (rw (← c.one.ensures) at within)) ∙ c.if-is_subset.false))
+    (λ within. true_false (sym (c.is_subset.ensures.1 (subst (λ (s : Words). IsWithin (words c.args.self.now) s) (sym c.one.ensures) within)) ∙ c.if-is_subset.false))

@@ -10,16 +10,8 @@ use Rattle.judge.proofs.PointLemmas.{meant, calls_land}
 use Rattle.judge.proofs.point.Point.outcomes_land.Goals as goal
 
 pub put_outcomes-requires : goal.put_outcomes-requires
-put_outcomes-requires g c = (
-  omega (arith, c.requires.cells, c.requires.relations),
-  record {
-    cells = c.requires.roomy.cells;
-    relations = c.requires.roomy.relations;
-    chains = c.requires.roomy.chains;
-    terms = c.requires.roomy.terms;
-    short = c.requires.roomy.short;
-  },
-)
+put_outcomes-requires g c =
+    (omega (arith, c.requires.cells, c.requires.relations), c.requires.roomy.cells, c.requires.roomy.relations, c.requires.roomy.chains, c.requires.roomy.terms, c.requires.roomy.short)
 
 pub returns-then-is_call : goal.returns-then-is_call
 returns-then-is_call g c =

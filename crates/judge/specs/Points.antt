@@ -1,5 +1,5 @@
 -- A fact of which conditions are asked at an address of a body, as the code keeps it.
-use Rattle.std.specs.Prelude.{◌≡◌, ℕ, true, IfSome}
+use Rattle.std.specs.Prelude.{◌≡◌, ℕ, true, IfSome, ◌≤◌}
 use Rattle.wordset.specs.Words.{Words}
 use Rattle.wordset.specs.Lanes.{words}
 use Rattle.instruct.specs.Instructions.{meaning_of}
@@ -25,13 +25,16 @@ abbrev pub fact_asked : {A C : Type 0} {K S : ℕ} → Point A C K S → Fact
 fact_asked s = fact_in_code s.fact.now
 
 -- The address is in the body, of which the certificate's sites and writes are at hand, the place has the certificate's rules, the
--- fact leaves room for what comes of a word, and a fact that is kept for another address is the only one there.
+-- fact leaves room for what comes of a word and has itself no more room than one that is narrowed, and a fact that is kept for
+-- another address is the only one there.
 pub record IsPoint {A C : Type 0} {K S : ℕ} (claims : C → Certificate) (s : Point A C K S) : Type 0 where
   pub stands : (case_of claims s).declaration.body s.place.routine s.at ≡ true
   pub rules : rules_of s.place.rules ≡ (claims s.claims.now).rules
   pub sites : words s.body.now.claim.sites ≡ sites_of (claims s.claims.now) s.place.routine
   pub writes : words s.body.now.claim.writes ≡ writes_of (claims s.claims.now) s.place.routine
   pub roomy : IsRoomy s.fact.now
+  pub cells : K ≤ 132
+  pub relations : S ≤ 68
   pub ahead : IfSome s.following (λ f. StandsAhead (claims s.claims.now) (words s.body.now.claim.sites) f.now)
 
 -- The words that are possible there.

@@ -9,7 +9,6 @@ ghost use Rattle.facts.specs.declared.Condition.TheVariants.{V7, V8, V9, V10, V1
 ghost use Rattle.judge.specs.Landing.{called_from, LandsAfter};
 ghost use Rattle.judge.specs.Conditions.{EachTarget, MayCall, CoversCallee, MayReturn};
 ghost use Rattle.judge.specs.Callees.{HoldsOfCallee, IsBelow, LandsBy, LandsWith, ReturnsBy, ReturnsThrough};
-ghost use Rattle.judge.specs.Shapes.{IsRoomy};
 ghost use Rattle.judge.specs.Points.{IsPoint, HoldsHere, case_of, fact_asked};
 
 use crate::claims::Claims;
@@ -237,7 +236,7 @@ impl<A: Allocator, C: Claims, const K: usize, const S: usize> Point<'_, A, C, K,
 
     /// Puts the fact that holds behind the entry of a routine that is called from here into room for it.
     pub fn put_called_from(&self, next: &mut NextFact)
-        requires { IsRoomy self.now.fact.now }
+        requires { IsPoint C.claims self.now }
         ensures { fact_in_code next.new ≡ called_from self.now.at (fact_asked self.now) }
     {
         next.copy_from(self.fact);

@@ -544,6 +544,8 @@ impl<A: Allocator, C: Claims> Case<'_, A, C> {
         others: &mut Others<M>,
     ) -> usize
         requires roomy { IsRoomy fact.now }
+        requires cells { K ≤ 132 }
+        requires relations { S ≤ 68 }
         requires low { 2 ≤ limit }
         requires high { limit ≤ 15 }
         requires stands { (case_kept C.claims self.now).declaration.body body.now.routine at ≡ true }

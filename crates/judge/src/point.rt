@@ -1,6 +1,6 @@
 //! A fact of which conditions are asked at an address of a body, and room for what it is compared with.
 
-ghost use Rattle.std.specs.Prelude.{◌≡◌, true, IfSome};
+ghost use Rattle.std.specs.Prelude.{◌≡◌, ◌≤◌, true, IfSome};
 ghost use Rattle.wordset.specs.Lanes.{words};
 ghost use Rattle.judge.specs.Bodies.{Tells};
 ghost use Rattle.judge.specs.Caches.{StandsAhead};
@@ -102,6 +102,8 @@ impl<'a, A: Allocator, C: Claims, const K: usize, const S: usize> Point<'a, A, C
             body.now.routine at ≡ true }
         requires tells { Tells (C.claims claims.now) body.now }
         requires roomy { IsRoomy fact.now }
+        requires cells { K ≤ 132 }
+        requires relations { S ≤ 68 }
         requires ahead { IfSome following (λ f.
             StandsAhead (C.claims claims.now) (words body.now.claim.sites) f.now) }
         ensures point { IsPoint C.claims result }

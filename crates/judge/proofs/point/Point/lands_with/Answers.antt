@@ -5,7 +5,7 @@ use Rattle.judge.proofs.CallLemmas.{lands_if, lands_without, lands_equally, retu
 use Rattle.judge.proofs.point.Point.lands_with.Goals as goal
 
 pub take_joined-requires : goal.take_joined-requires
-take_joined-requires g c = omega (arith, c.requires.point.roomy.cells, c.is_within_room.ensures.cells, c.requires.point.roomy.relations, c.is_within_room.ensures.relations)
+take_joined-requires g c = omega (arith, c.requires.point.roomy.cells, c.is_within_room.ensures.cells, c.requires.point.roomy.relations, c.is_within_room.ensures.relations, c.requires.point.cells, c.requires.point.relations)
 
 pub returns-then-not-contains : goal.returns-then-not-contains
 returns-then-not-contains g c = lands_without _ (fact_in_code c.args.others.now.exit) c.args.self.now.at _ c.contains.ensures (c.put.ensures ∙ c.sites.ensures) c.if-not-contains.true

@@ -11,13 +11,13 @@ check_asked-requires g c = (
   omega arith,
   (
     claimed_roomy _ (sited_from _ _ _ _ c.put_sites.ensures c.requires.shape) c.is_within_room.ensures.cells c.is_within_room.ensures.relations,
-    omega arith,
-    omega arith,
-    c.requires.low,
-    c.requires.high,
-    c.requires.stands,
-    c.requires.body,
-    c.requires.ahead,
+    (
+      omega arith,
+      (
+        omega arith,
+        (c.requires.low, (c.requires.high, (c.requires.stands, (c.requires.body, c.requires.ahead)))),
+      ),
+    ),
   ),
 )
 

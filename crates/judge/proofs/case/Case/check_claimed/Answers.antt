@@ -9,14 +9,16 @@ use Rattle.judge.proofs.case.Case.check_claimed.Goals as goal
 pub check_asked-requires : goal.check_asked-requires
 check_asked-requires g c = (
   omega arith,
-  claimed_roomy _ (sited_from _ _ _ _ c.put_sites.ensures c.requires.shape) c.is_within_room.ensures.cells c.is_within_room.ensures.relations,
-  omega arith,
-  omega arith,
-  c.requires.low,
-  c.requires.high,
-  c.requires.stands,
-  c.requires.body,
-  c.requires.ahead,
+  (
+    claimed_roomy _ (sited_from _ _ _ _ c.put_sites.ensures c.requires.shape) c.is_within_room.ensures.cells c.is_within_room.ensures.relations,
+    (
+      omega arith,
+      (
+        omega arith,
+        (c.requires.low, (c.requires.high, (c.requires.stands, (c.requires.body, c.requires.ahead)))),
+      ),
+    ),
+  ),
 )
 
 pub put_asked-requires : goal.put_asked-requires

@@ -12,7 +12,7 @@ use Rattle.judge.proofs.point.Point.outcomes_land.Goals as goal
 
 pub put_outcomes-requires : goal.put_outcomes-requires
 put_outcomes-requires g c =
-    (omega (arith, c.requires.cells, c.requires.relations), c.requires.roomy.cells, c.requires.roomy.relations, c.requires.roomy.chains, c.requires.roomy.terms, c.requires.roomy.short)
+    (omega (arith, c.requires.cells, c.requires.relations), (c.requires.roomy.cells, (c.requires.roomy.relations, (c.requires.roomy.chains, (c.requires.roomy.terms, c.requires.roomy.short)))))
 
 pub returns-then-is_call : goal.returns-then-is_call
 returns-then-is_call g c =

@@ -15,7 +15,7 @@ use Rattle.certificate.specs.declared.packed.PackedLine.TheVariants as packed
 use Rattle.certificate.specs.declared.packed.KeptLine.{KeptLine}
 use Rattle.certificate.specs.FieldSpelling.{Registers}
 use Rattle.certificate.specs.Runs.{Begins, set_of_runs, added, set_at, registers_at, AreWithin}
-use Rattle.certificate.specs.Lines.{Line, is_chain}
+use Rattle.certificate.specs.Lines.{Line, is_chain, End}
 use Rattle.certificate.specs.Packed.{said_at, kept_at, LieWithin, LiesWithin, IsKept, IsPacked, run_count, step_count}
 use Rattle.certificate.proofs.PackedLemmas.{set_kept, one_kept, other_kept, registers_kept, longer, front_of, no_run}
 
@@ -208,6 +208,20 @@ line_there runs steps ls i k at h all =
           ap (λ (x : List Line). kept_at runs steps k ∷ x) (sym (drop-map (kept_at runs steps) (i + 1) ls)));
       within = rw (length-drop k.first runs, length-drop k.first steps) it;
     }
+
+-- The line at a place of a list is the one at the front of those from there on.
+same_head : (x y : Line) (xs ys : List Line) → x ∷ xs ≡ y ∷ ys → x ≡ y
+same_head x y xs ys e = cc
+
+pub line_is : (ls : List Line) (i : ℕ) (l : Line) → i < length ls → drop i ls ≡ l ∷ drop (i + 1) ls → get_or ls i End ≡ l
+line_is ls i l h e = same_head (get_or ls i End) l (drop (i + 1) ls) (drop (i + 1) ls) (sym (drop_more ls i End h) ∙ e)
+
+pub kept_there : (runs : List Run) (steps : List Step) (ks : List KeptLine) (i : ℕ) (k : KeptLine) → k ≡ get_or ks i k → i < length (map (kept_at runs steps) ks) →
+    AllByRecursion (IsKept (length runs) (length steps)) ks → get_or (map (kept_at runs steps) ks) i End ≡ kept_at runs steps k
+kept_there runs steps ks i k at h all = line_is (map (kept_at runs steps) ks) i (kept_at runs steps k) h (line_there runs steps ks i k at h all).there
+
+pub line_at : (ls : List Line) (i : ℕ) → i < length ls → drop i ls ≡ get_or ls i End ∷ drop (i + 1) ls
+line_at ls i h = drop_more ls i End h
 
 -- What lies behind a place, or nothing where that is past all.
 pub rest_from : {X : Type 0} (xs ys : List X) (i m : ℕ) → xs ≡ ys → m ≡ min i (length ys) → take (length xs - m) (drop m xs) ≡ drop i ys

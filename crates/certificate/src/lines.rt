@@ -19,7 +19,7 @@ ghost use Rattle.certificate.specs.Written.{facts_lines};
 ghost use Rattle.certificate.specs.Made.{details_of, AreDetails};
 
 use crate::RoutineClaim;
-use crate::packed::load::{add, begin_said, routine_of};
+use crate::packed::load::{begin_said, routine_of};
 use crate::packed::sum::packed_sum;
 use crate::packed::{CertifiedFact, Claim, PackedLine, PackedLines};
 use crate::progress::FIRST_FACT;
@@ -152,7 +152,7 @@ fn add_details<A: Allocator>(
     ensures end { drop result (said_lines lines.now) ≡ behind_details (drop start (said_lines lines.now)) }
 {
     for at in start..lines.len() {
-        if !add(&lines.line(at), fact) {
+        if !lines.add_to(at, fact) {
             return at;
         }
     }
@@ -193,8 +193,7 @@ pub fn end_of<A: Allocator>(lines: &PackedLines<A>, start: usize) -> usize
         return count;
     }
     for at in start + 1..count {
-        let lent = lines.line(at);
-        if !lent.line.is_detail() {
+        if !lines.is_detail(at) {
             return at;
         }
     }
@@ -212,8 +211,7 @@ pub fn behind<A: Allocator>(lines: &PackedLines<A>, start: usize) -> usize
         return count;
     }
     for at in start + 1..count {
-        let lent = lines.line(at);
-        if !lent.line.is_detail() {
+        if !lines.is_detail(at) {
             return at;
         }
     }

@@ -1,11 +1,11 @@
 //! Lines packed: each set by its runs, and the runs of all sets in one list; the steps of all chains in another.
 
-ghost use Rattle.std.specs.Prelude.{◌≡◌, ◌+◌, ◌<◌, ◌≤◌, List, [], ◌∷◌, ◌++◌, length, take, drop, true, IfOk, OnOk, OnErr, if◌then◌else◌};
+ghost use Rattle.std.specs.Prelude.{◌≡◌, ◌+◌, ◌<◌, ◌≤◌, List, [], ◌∷◌, ◌++◌, length, take, drop, get_or, true, IfOk, OnOk, OnErr, if◌then◌else◌};
 ghost use Rattle.wordset.specs.Lanes.{words};
 ghost use Rattle.domain.specs.Chains.{Operates};
 ghost use Rattle.certificate.specs.declared.runs.Run.{Run};
 ghost use Rattle.domain.specs.declared.chains.Step.{Step};
-ghost use Rattle.certificate.specs.Lines.{is_detail, is_end, is_chain, has_details};
+ghost use Rattle.certificate.specs.Lines.{End, is_detail, is_end, is_chain, has_details};
 ghost use Rattle.certificate.specs.LineOf.{is_step};
 ghost use Rattle.certificate.specs.Order.{detail_is_before};
 ghost use Rattle.certificate.specs.Packed.{said_at, said_lines, said_of, LiesWithin, IsNumbered, HasForm, run_count, step_count, claimed_line, sited_line};
@@ -316,6 +316,15 @@ impl<A: Allocator> PackedLines<A> {
             steps: steps_from(&self.steps, kept.first as usize),
             line: &kept.line,
         }
+    }
+
+    /// Whether the line at a place says more of the line before.
+    pub fn is_detail(&self, at: usize) -> bool
+        requires { at < length (said_lines self.now) }
+        ensures { result ≡ is_detail (get_or (said_lines self.now) at End) }
+    {
+        let kept = &self.list[at];
+        kept.line.is_detail()
     }
 
     /// Adds a line that was read, or leaves what is said as it is.

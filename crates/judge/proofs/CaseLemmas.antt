@@ -199,3 +199,12 @@ pub held_unasked : (j : Case) (e o : ℕ) (own : Rules) (x y : Fact) (b : Bool) 
 held_unasked j e o own x y b rules are is =
     let none : asked j.certificate.rules j.image (x ∷ []) ≡ [] = ap (λ (k : Rules). asked k j.image (x ∷ [])) (sym rules) ∙ (are ∙ ap (λ (k : Bool). if k then y ∷ [] else []) is) in
     subst (λ (ys : List Fact). IsTrue true ↔ EachFact (λ z. EachIsHeldBy (place_in j (Some e)) z e o j.declaration.returns) ys) (sym none) (λ q. tt, λ k. refl)
+
+pub claimed_roomy : {D S : ℕ} (f : SumFact D S) → HasShape (fact_in_code f) → length (cell_sets_of f.cells) ≤ 64 → length (relations_of f.relations) ≤ 32 → IsRoomy f
+claimed_roomy f shape cells relations = record {
+  terms = shape.terms;
+  short = shape.short;
+  cells = omega (arith, cells);
+  relations = omega (arith, relations);
+  chains = omega (arith, relations, narrowing_fits f shape);
+}

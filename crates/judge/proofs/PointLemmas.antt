@@ -25,16 +25,16 @@ use Rattle.judge.specs.Jumps.{SuccessorStays, SuccessorJumps, MayAbandon}
 use Rattle.judge.specs.Points.{IsPoint, case_of}
 
 -- the place at hand is the one that is meant
-pub same_place : {A C : Type 0} (claims : C → Certificate) (s : Point A C) → IsPoint claims s → place_in_code s.place ≡ place_in (case_of claims s) s.place.routine
+pub same_place : {A C : Type 0} {K S : ℕ} (claims : C → Certificate) (s : Point A C K S) → IsPoint claims s → place_in_code s.place ≡ place_in (case_of claims s) s.place.routine
 same_place claims s point =
     let with_rules : Rules → Place = λ k. record { image = image_of s.place.image.now; declaration = meaning s.place.declaration.now; routine = s.place.routine; rules = k } in
     ap with_rules point.rules
 
-pub meant : {A C : Type 0} (claims : C → Certificate) (s : Point A C) (p : Place → Type 0) → IsPoint claims s → p (place_in_code s.place) → p (place_in (case_of claims s) s.place.routine)
+pub meant : {A C : Type 0} {K S : ℕ} (claims : C → Certificate) (s : Point A C K S) (p : Place → Type 0) → IsPoint claims s → p (place_in_code s.place) → p (place_in (case_of claims s) s.place.routine)
 meant claims s p point h = subst p (same_place claims s point) h
 
 -- a place that was made of the parts at hand
-pub made_place : {A C : Type 0} (claims : C → Certificate) (s : Point A C) (p : KeptPlace A) (r : Routine) → IsPoint claims s →
+pub made_place : {A C : Type 0} {K S : ℕ} (claims : C → Certificate) (s : Point A C K S) (p : KeptPlace A) (r : Routine) → IsPoint claims s →
     p.image.now ≡ s.place.image.now → p.declaration.now ≡ s.place.declaration.now → p.routine ≡ r → p.rules ≡ s.place.rules → place_in_code p ≡ place_in (case_of claims s) r
 made_place claims s p r point image declaration routine rules = rw (image, declaration, routine, rules, point.rules) refl
 

@@ -14,7 +14,7 @@ ghost use Rattle.judge.specs.Bodies.{Tells};
 ghost use Rattle.judge.specs.Judged.{case_kept};
 ghost use Rattle.judge.specs.Caches.{Shows, StandsAhead};
 ghost use Rattle.judge.specs.Shapes.{HasShape, IsRoomy};
-ghost use Rattle.judge.specs.Asked.{HoldsBetween, FailsAtLine, IsLeastOf, IsLeastOfAll, RoutinesArePlaced};
+ghost use Rattle.judge.specs.Asked.{HoldsBetween, FailsAtLine, IsLeastOf, IsLeastOfAll, IsLeastPlace, HoldsOfFact, RoutinesArePlaced};
 ghost use Rattle.judge.specs.Conditions.{ExitsAreHeld};
 ghost use Rattle.judge.specs.Asked.{ExitIsHeld, ExitsAreHeldBy};
 
@@ -27,7 +27,7 @@ use crate::sources::FactsAt;
 use crate::words::nth;
 use bin_tape::Image;
 use declaration::{Declaration, Owner};
-use domain::Rules;
+use domain::{Rules, SumFact};
 use facts::{Condition, Fact, LandingRooms, NarrowedFact, NextFact, Outcomes};
 use std::alloc::{AllocError, Allocator};
 use word12::Word;
@@ -517,9 +517,44 @@ impl<A: Allocator, C: Claims> Case<'_, A, C> {
             return OF_LINES;
         }
         put_sites(&rules, &body.claim.sites, claimed);
-        if !put_asked(&rules, self.image, claimed, fact) {
-            return limit;
+        match rules {
+            Rules::OfEquations => {
+                claimed.is_within_room();
+                self.check_asked(at, limit, near, body, following, claimed, others)
+            }
+            Rules::OfSums => {
+                if !put_asked(&rules, self.image, claimed, fact) {
+                    return limit;
+                }
+                self.check_asked(at, limit, near, body, following, fact, others)
+            }
         }
+    }
+
+    /// The place of the first condition on words before a limit that fails of a fact of which they are asked, and the limit if
+    /// none does.
+    fn check_asked<M: Allocator, const K: usize, const S: usize>(
+        &self,
+        at: Word,
+        limit: usize,
+        near: usize,
+        body: &Body,
+        following: Option<&FactCache>,
+        fact: &SumFact<K, S>,
+        others: &mut Others<M>,
+    ) -> usize
+        requires roomy { IsRoomy fact.now }
+        requires cells { K ≤ 132 }
+        requires relations { S ≤ 68 }
+        requires low { 2 ≤ limit }
+        requires high { limit ≤ 15 }
+        requires stands { (case_kept C.claims self.now).declaration.body body.now.routine at ≡ true }
+        requires body { Tells (C.claims self.now.claims.now) body.now }
+        requires ahead { IfSome following (λ f.
+            StandsAhead (C.claims self.now.claims.now) (words body.now.claim.sites) f.now) }
+        ensures { IsLeastPlace (λ v. HoldsOfFact (case_kept C.claims self.now) v body.now.routine at
+            (fact_in_code fact.now)) limit result }
+    {
         Point::of(
             self.image,
             self.declaration,

@@ -22,7 +22,7 @@ use std::alloc::Allocator;
 use word12::Word;
 use wordset::WordSet;
 
-impl<A: Allocator, C: Claims> Point<'_, A, C> {
+impl<A: Allocator, C: Claims, const K: usize, const S: usize> Point<'_, A, C, K, S> {
     /// Whether a routine's body has an address.
     pub fn is_inside(&self, owner: &Option<Word>, at: Word) -> bool
         ensures { result ≡ (case_of C.claims self.now).declaration.body owner.now at }

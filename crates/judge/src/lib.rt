@@ -24,7 +24,7 @@ pub use certificate::RoutineClaim;
 pub use claims::Claims;
 pub use facts::Condition;
 pub use judging::{Refusal, judge};
-pub use point::{Others, Point, place_of};
+pub use point::{NarrowedPoint, Others, Point, place_of};
 pub use sited::put_sites;
 pub use sources::{ExitsFor, FactsAt};
 pub use verdict::{Certified, CertifyFault, certify};

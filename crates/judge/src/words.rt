@@ -59,7 +59,7 @@ pub(crate) fn word_of(image: &Image, at: Word) -> Option<Word>
     image.get(at)
 }
 
-impl<A: Allocator, C: Claims> Point<'_, A, C> {
+impl<A: Allocator, C: Claims, const K: usize, const S: usize> Point<'_, A, C, K, S> {
     /// The place of the first condition on words before a limit that fails of the fact, and the limit if
     /// none does.
     pub(crate) fn first_failing<M: Allocator>(&self, limit: usize, others: &mut Others<M>) -> usize

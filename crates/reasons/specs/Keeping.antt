@@ -143,19 +143,19 @@ pub record IsClaimedOf (c : Certificate) (b : Body) : Type 0 where
   pub writes : words b.claim.writes ≡ writes_of c b.routine
 
 -- The same at a fact of which it is asked.
-abbrev pub KeepsCallHere : {A C : Type 0} → Bool → (C → Certificate) → Point A C → Condition → ℕ → Type 0
+abbrev pub KeepsCallHere : {A C : Type 0} → Bool → (C → Certificate) → Point A C 132 68 → Condition → ℕ → Type 0
 KeepsCallHere lines claims s v e = KeepsCall lines (case_of claims s) s.place.routine s.at (fact_asked s) v e
 
-abbrev pub KeepsCallsHere : {A C : Type 0} → Bool → (C → Certificate) → Point A C → Condition → ℕ → Type 0
+abbrev pub KeepsCallsHere : {A C : Type 0} → Bool → (C → Certificate) → Point A C 132 68 → Condition → ℕ → Type 0
 KeepsCallsHere lines claims s v w =
     KeepsCalls lines (case_of claims s) s.place.routine s.at (fact_asked s) v (meaning_of (case_of claims s).declaration.profile s.at w)
 
-abbrev pub KeepsHere : {A C : Type 0} → Bool → (C → Certificate) → Point A C → Condition → ℕ → Type 0
+abbrev pub KeepsHere : {A C : Type 0} → Bool → (C → Certificate) → Point A C 132 68 → Condition → ℕ → Type 0
 KeepsHere lines claims s v w =
     Keeps lines (case_of claims s) s.place.routine s.at (fact_asked s) v (meaning_of (case_of claims s).declaration.profile s.at w)
 
-abbrev pub EachKeepsHere : {A C : Type 0} → Bool → (C → Certificate) → Point A C → Condition → Type 0
+abbrev pub EachKeepsHere : {A C : Type 0} → Bool → (C → Certificate) → Point A C 132 68 → Condition → Type 0
 EachKeepsHere lines claims s v = EachKeeps lines (case_of claims s) v s.place.routine s.at (fact_asked s)
 
-abbrev pub WordsKeepHere : {A C : Type 0} → Bool → (C → Certificate) → Point A C → Condition → Type 0
+abbrev pub WordsKeepHere : {A C : Type 0} → Bool → (C → Certificate) → Point A C 132 68 → Condition → Type 0
 WordsKeepHere lines claims s v = WordsKeep lines (case_of claims s) v s.place.routine s.at (fact_asked s)

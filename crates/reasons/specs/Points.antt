@@ -37,11 +37,11 @@ abbrev pub MissesAs : Sought → Case → Routine → ℕ → Fact → Landing �
 MissesAs sought j r a f l = Misses j r a f l × IsSought sought (is_landing_of_lines l)
 
 -- What the word means there.
-abbrev pub meaning_here : {A C : Type 0} → (C → Certificate) → Point A C → ℕ → Meaning
+abbrev pub meaning_here : {A C : Type 0} → (C → Certificate) → Point A C 132 68 → ℕ → Meaning
 meaning_here claims s w = meaning_of (case_of claims s).declaration.profile s.at w
 
 -- The word fails the condition there, since it breaks this.
-abbrev pub BreaksHere : {A C : Type 0} → (C → Certificate) → Point A C → Condition → ℕ → Breach → Type 0
+abbrev pub BreaksHere : {A C : Type 0} → (C → Certificate) → Point A C 132 68 → Condition → ℕ → Breach → Type 0
 BreaksHere claims s v w b =
     (condition_of b ≡ v) × Breaks (case_of claims s) s.place.routine s.at (fact_asked s) (meaning_here claims s w) b
 
@@ -50,34 +50,34 @@ abbrev pub Differs : Place → Fact → ℕ → Holding → Breach → Type 0
 Differs pl f a h (breach.MayDiffer s w) = (h.places a ≡ true) × (h.assertion.subject ≡ s) × IsDenied pl f h.assertion w
 Differs pl f a h _ = ⊥
 
-abbrev pub DiffersHere : {A C : Type 0} → (C → Certificate) → Point A C → Holding → Breach → Type 0
+abbrev pub DiffersHere : {A C : Type 0} → (C → Certificate) → Point A C 132 68 → Holding → Breach → Type 0
 DiffersHere claims s h b = Differs (place_in (case_of claims s) s.place.routine) (fact_asked s) s.at h b
 
 -- What one line says is to hold holds there, if it is to hold there.
-abbrev pub HoldsOneHere : {A C : Type 0} → (C → Certificate) → Point A C → Holding → Type 0
+abbrev pub HoldsOneHere : {A C : Type 0} → (C → Certificate) → Point A C 132 68 → Holding → Type 0
 HoldsOneHere claims s h = EachIsHeld (place_in (case_of claims s) s.place.routine) (fact_asked s) s.at (h ∷ [])
 
 -- It does, and this is one of the reasons that are looked for.
-abbrev pub BreaksAs : {A C : Type 0} → Sought → (C → Certificate) → Point A C → Condition → ℕ → Breach → Type 0
+abbrev pub BreaksAs : {A C : Type 0} → Sought → (C → Certificate) → Point A C 132 68 → Condition → ℕ → Breach → Type 0
 BreaksAs sought claims s v w b = BreaksHere claims s v w b × IsSought sought (is_word_of_lines b)
 
 -- A call of the entry fails the condition there, since it breaks this.
-abbrev pub CallBreaksHere : {A C : Type 0} → (C → Certificate) → Point A C → Condition → ℕ → CallBreach → Type 0
+abbrev pub CallBreaksHere : {A C : Type 0} → (C → Certificate) → Point A C 132 68 → Condition → ℕ → CallBreach → Type 0
 CallBreaksHere claims s v e b =
     (condition_of_call b ≡ v) × CallBreaks (case_of claims s) s.place.routine s.at (fact_asked s) e b
 
-abbrev pub CallBreaksAs : {A C : Type 0} → Sought → (C → Certificate) → Point A C → Condition → ℕ → CallBreach → Type 0
+abbrev pub CallBreaksAs : {A C : Type 0} → Sought → (C → Certificate) → Point A C 132 68 → Condition → ℕ → CallBreach → Type 0
 CallBreaksAs sought claims s v e b = CallBreaksHere claims s v e b × IsSought sought (is_call_of_lines b)
 
 -- A return through the entry breaks this there, which is one of the reasons that are looked for.
-abbrev pub ReturnBreaksAs : {A C : Type 0} → Sought → (C → Certificate) → Point A C → ℕ → ReturnBreach → Type 0
+abbrev pub ReturnBreaksAs : {A C : Type 0} → Sought → (C → Certificate) → Point A C 132 68 → ℕ → ReturnBreach → Type 0
 ReturnBreaksAs sought claims s e b =
     ReturnBreaks (case_of claims s) s.place.routine (fact_asked s) e b × IsSought sought (is_return_of_lines b)
 
 -- By the fact, which is the one at this place of those at the address, more than 64 words are possible, or this word is and breaks
 -- this.
-abbrev pub IsWrongHere : {A C : Type 0} → (C → Certificate) → Point A C → ℕ → Condition → Reason → Type 0
+abbrev pub IsWrongHere : {A C : Type 0} → (C → Certificate) → Point A C 132 68 → ℕ → Condition → Reason → Type 0
 IsWrongHere claims s i v reason = IsWrongWord (case_of claims s) s.place.routine s.at (fact_asked s) i v reason
 
-abbrev pub IsWrongAs : {A C : Type 0} → Sought → (C → Certificate) → Point A C → ℕ → Condition → Reason → Type 0
+abbrev pub IsWrongAs : {A C : Type 0} → Sought → (C → Certificate) → Point A C 132 68 → ℕ → Condition → Reason → Type 0
 IsWrongAs sought claims s i v reason = IsWrongHere claims s i v reason × IsSought sought (is_of_lines reason)

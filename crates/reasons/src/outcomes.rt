@@ -22,14 +22,14 @@ use crate::rooms::{LeftRooms, WordRooms};
 use crate::sought::Sought;
 use domain::{BriefSet, ReturnOffsets};
 use facts::{Kind, NextFact, Outcome, Outcomes};
-use judge::{Claims, FactsAt, Point, place_of};
+use judge::{Claims, FactsAt, NarrowedPoint, place_of};
 use std::alloc::Allocator;
 use word12::Word;
 use wordset::WordSet;
 
 /// That an address is not in a routine's body, unless no state satisfies what is known. It stays as it is.
 fn misses_body<A: Allocator, C: Claims>(
-    point: &Point<'_, A, C>,
+    point: &NarrowedPoint<'_, A, C>,
     owner: &Option<Word>,
     sites: &WordSet,
     at: Word,
@@ -53,7 +53,7 @@ fn misses_body<A: Allocator, C: Claims>(
 
 /// Why what is known does not land among the facts at an address of a routine's body, if it does not. It stays as it is.
 fn misses_facts<A: Allocator, C: Claims>(
-    point: &Point<'_, A, C>,
+    point: &NarrowedPoint<'_, A, C>,
     owner: &Option<Word>,
     sites: &WordSet,
     at: Word,
@@ -95,7 +95,7 @@ fn misses_facts<A: Allocator, C: Claims>(
 /// Why what is known does not land at an address of a routine's body, with the sites of that routine, if it does not. It stays as
 /// it is.
 pub(crate) fn misses<A: Allocator, C: Claims>(
-    point: &Point<'_, A, C>,
+    point: &NarrowedPoint<'_, A, C>,
     sought: Sought,
     owner: &Option<Word>,
     sites: &WordSet,
@@ -122,7 +122,7 @@ pub(crate) fn misses<A: Allocator, C: Claims>(
 
 /// Why what is known does not land at an address of the same body, if it does not. It stays as it is.
 pub(crate) fn misses_here<A: Allocator, C: Claims>(
-    point: &Point<'_, A, C>,
+    point: &NarrowedPoint<'_, A, C>,
     sought: Sought,
     at: Word,
     known: &mut NextFact,
@@ -148,7 +148,7 @@ pub(crate) fn misses_here<A: Allocator, C: Claims>(
 
 /// The first of some addresses at which what is known does not land, and why.
 fn misses_at<A: Allocator, C: Claims>(
-    point: &Point<'_, A, C>,
+    point: &NarrowedPoint<'_, A, C>,
     sought: Sought,
     addresses: &WordSet,
     known: &mut NextFact,
@@ -170,7 +170,7 @@ fn misses_at<A: Allocator, C: Claims>(
 
 /// The first of some addresses of main's body at which what is known does not land, and why.
 fn misses_in_main<A: Allocator, C: Claims>(
-    point: &Point<'_, A, C>,
+    point: &NarrowedPoint<'_, A, C>,
     sought: Sought,
     addresses: &WordSet,
     known: &mut NextFact,
@@ -193,7 +193,7 @@ fn misses_in_main<A: Allocator, C: Claims>(
 /// The first of some addresses, which stand in a brief set, at which what is known does not land, and why: in main's body, as
 /// one of main's facts, where all calls are abandoned for the address; else in the same body.
 fn misses_beyond<A: Allocator, C: Claims>(
-    point: &Point<'_, A, C>,
+    point: &NarrowedPoint<'_, A, C>,
     sought: Sought,
     beyond: &WordSet,
     targets: &BriefSet,
@@ -220,7 +220,7 @@ fn misses_beyond<A: Allocator, C: Claims>(
 
 /// The first address at which an outcome goes on and does not land, and why. All calls are abandoned for some addresses.
 fn outcome_misses<A: Allocator, C: Claims>(
-    point: &Point<'_, A, C>,
+    point: &NarrowedPoint<'_, A, C>,
     sought: Sought,
     beyond: &WordSet,
     outcome: &mut Outcome,
@@ -248,7 +248,7 @@ fn outcome_misses<A: Allocator, C: Claims>(
 
 /// The same of the first two of some outcomes.
 fn first_two_miss<A: Allocator, C: Claims>(
-    point: &Point<'_, A, C>,
+    point: &NarrowedPoint<'_, A, C>,
     sought: Sought,
     beyond: &WordSet,
     outcomes: &mut Outcomes,
@@ -270,7 +270,7 @@ fn first_two_miss<A: Allocator, C: Claims>(
 
 /// The same of all of some outcomes.
 fn some_miss<A: Allocator, C: Claims>(
-    point: &Point<'_, A, C>,
+    point: &NarrowedPoint<'_, A, C>,
     sought: Sought,
     beyond: &WordSet,
     outcomes: &mut Outcomes,
@@ -294,7 +294,7 @@ fn some_miss<A: Allocator, C: Claims>(
 
 /// The addresses for which the running routine abandons all open calls by a word: where it is not main and the word is a JMP
 /// they are the declared ones, and else there are none.
-fn abandoned_by<A: Allocator, C: Claims>(point: &Point<'_, A, C>, word: Word) -> WordSet
+fn abandoned_by<A: Allocator, C: Claims>(point: &NarrowedPoint<'_, A, C>, word: Word) -> WordSet
     requires { IsPoint C.claims point.now }
     ensures { words result ≡ abandons (case_of C.claims point.now).declaration point.now.place.routine
         (meaning_here C.claims point.now word) }
@@ -310,7 +310,7 @@ fn abandoned_by<A: Allocator, C: Claims>(point: &Point<'_, A, C>, word: Word) ->
 
 /// Where a word goes on and does not land.
 pub(crate) fn goes_on<A: Allocator, C: Claims, M: Allocator>(
-    point: &Point<'_, A, C>,
+    point: &NarrowedPoint<'_, A, C>,
     sought: Sought,
     word: Word,
     rooms: &mut WordRooms<M>,

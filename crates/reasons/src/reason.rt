@@ -29,7 +29,9 @@ use crate::words::first_breach;
 use bin_tape::Image;
 use declaration::{Declaration, Owner, Returning, Subject};
 use facts::{Condition, Fact, NarrowedFact, Place};
-use judge::{Body, Case, Claims, Point, Refusal, RoutineClaim, place_of, put_asked, put_sites};
+use judge::{
+    Body, Case, Claims, NarrowedPoint, Point, Refusal, RoutineClaim, place_of, put_asked, put_sites,
+};
 use std::alloc::Allocator;
 use word12::Word;
 use wordset::WordSet;
@@ -103,7 +105,7 @@ fn point_of<'a, A: Allocator, C: Claims>(
     body: &'a Body,
     at: Word,
     fact: &'a NarrowedFact,
-) -> Point<'a, A, C>
+) -> NarrowedPoint<'a, A, C>
     requires stands { (judged image.now declaration.now (C.claims claims.now)).declaration.body
         body.now.routine at ≡ true }
     requires body { IsClaimedOf (C.claims claims.now) body.now }

@@ -20,7 +20,7 @@ use crate::rooms::WordRooms;
 use crate::sought::Sought;
 use declaration::Holding;
 use facts::Condition;
-use judge::{Claims, Point};
+use judge::{Claims, NarrowedPoint};
 use std::alloc::Allocator;
 use word12::Word;
 use wordset::WordSet;
@@ -31,7 +31,7 @@ const MOST_WORDS: usize = 64;
 /// The first possible word that breaks a condition by a fact, which is the one at this place of those at the address, and what it
 /// breaks; or how many words are possible, where they are too many.
 pub(crate) fn first_breach<A: Allocator, C: Claims, M: Allocator>(
-    point: &Point<'_, A, C>,
+    point: &NarrowedPoint<'_, A, C>,
     sought: Sought,
     index: usize,
     condition: Condition,
@@ -50,7 +50,7 @@ pub(crate) fn first_breach<A: Allocator, C: Claims, M: Allocator>(
 
 /// How many words are possible, where they are too many; else the first that is not supported.
 fn too_many<A: Allocator, C: Claims, M: Allocator>(
-    point: &Point<'_, A, C>,
+    point: &NarrowedPoint<'_, A, C>,
     sought: Sought,
     index: usize,
     possible: &WordSet,
@@ -70,7 +70,7 @@ fn too_many<A: Allocator, C: Claims, M: Allocator>(
 
 /// The first possible word that breaks a condition, and what it breaks.
 fn first_word<A: Allocator, C: Claims, M: Allocator>(
-    point: &Point<'_, A, C>,
+    point: &NarrowedPoint<'_, A, C>,
     sought: Sought,
     index: usize,
     condition: Condition,
@@ -92,7 +92,7 @@ fn first_word<A: Allocator, C: Claims, M: Allocator>(
 
 /// What a word breaks of a condition.
 fn breach<A: Allocator, C: Claims, M: Allocator>(
-    point: &Point<'_, A, C>,
+    point: &NarrowedPoint<'_, A, C>,
     sought: Sought,
     condition: Condition,
     word: Word,
@@ -121,7 +121,10 @@ fn breach<A: Allocator, C: Claims, M: Allocator>(
 }
 
 /// That a word is not supported.
-fn is_not_supported<A: Allocator, C: Claims>(point: &Point<'_, A, C>, word: Word) -> Option<Breach>
+fn is_not_supported<A: Allocator, C: Claims>(
+    point: &NarrowedPoint<'_, A, C>,
+    word: Word,
+) -> Option<Breach>
     requires { IsPoint C.claims point.now }
     ensures found { IfSome result (BreaksHere C.claims point.now V3 word) }
     ensures by_word { IfSome result (λ b. is_word_of_lines b ≡ false) }
@@ -134,7 +137,10 @@ fn is_not_supported<A: Allocator, C: Claims>(point: &Point<'_, A, C>, word: Word
 }
 
 /// That a word halts where no halt is declared.
-fn halts_undeclared<A: Allocator, C: Claims>(point: &Point<'_, A, C>, word: Word) -> Option<Breach>
+fn halts_undeclared<A: Allocator, C: Claims>(
+    point: &NarrowedPoint<'_, A, C>,
+    word: Word,
+) -> Option<Breach>
     requires { IsPoint C.claims point.now }
     ensures found { IfSome result (BreaksHere C.claims point.now V13 word) }
     ensures by_word { IfSome result (λ b. is_word_of_lines b ≡ false) }
@@ -147,7 +153,7 @@ fn halts_undeclared<A: Allocator, C: Claims>(point: &Point<'_, A, C>, word: Word
 }
 
 /// The cells that a word may write.
-fn written<A: Allocator, C: Claims>(point: &Point<'_, A, C>, word: Word) -> WordSet
+fn written<A: Allocator, C: Claims>(point: &NarrowedPoint<'_, A, C>, word: Word) -> WordSet
     requires { IsPoint C.claims point.now }
     ensures { words result ≡ may_write (place_in (case_of C.claims point.now) point.now.place.routine)
         (fact_asked point.now) (meaning_here C.claims point.now word) }
@@ -160,7 +166,10 @@ fn written<A: Allocator, C: Claims>(point: &Point<'_, A, C>, word: Word) -> Word
 }
 
 /// The first of some cells that is not an entry.
-fn first_other<A: Allocator, C: Claims>(point: &Point<'_, A, C>, cells: &WordSet) -> Option<Word>
+fn first_other<A: Allocator, C: Claims>(
+    point: &NarrowedPoint<'_, A, C>,
+    cells: &WordSet,
+) -> Option<Word>
     ensures found { IfSome result (λ cell. (cell < 4096) × (words cells.now cell ≡ true) ×
         ((case_of C.claims point.now).declaration.entry cell ≡ false)) }
     ensures none { IfNone result ((a : ℕ) → a < 4096 → words cells.now a ≡ true →
@@ -175,7 +184,10 @@ fn first_other<A: Allocator, C: Claims>(point: &Point<'_, A, C>, cells: &WordSet
 }
 
 /// A cell that a word may write and that is neither a variable nor an entry.
-fn writes_undeclared<A: Allocator, C: Claims>(point: &Point<'_, A, C>, word: Word) -> Option<Breach>
+fn writes_undeclared<A: Allocator, C: Claims>(
+    point: &NarrowedPoint<'_, A, C>,
+    word: Word,
+) -> Option<Breach>
     requires { IsPoint C.claims point.now }
     ensures found { IfSome result (BreaksHere C.claims point.now V5 word) }
     ensures by_word { IfSome result (λ b. is_word_of_lines b ≡ false) }
@@ -189,7 +201,10 @@ fn writes_undeclared<A: Allocator, C: Claims>(point: &Point<'_, A, C>, word: Wor
 }
 
 /// The first entry of some cells.
-fn first_entry<A: Allocator, C: Claims>(point: &Point<'_, A, C>, cells: &WordSet) -> Option<Word>
+fn first_entry<A: Allocator, C: Claims>(
+    point: &NarrowedPoint<'_, A, C>,
+    cells: &WordSet,
+) -> Option<Word>
     ensures found { IfSome result (λ cell. (cell < 4096) × (words cells.now cell ≡ true) ×
         ((case_of C.claims point.now).declaration.entry cell ≡ true)) }
     ensures none { IfNone result ((a : ℕ) → a < 4096 → words cells.now a ≡ true →
@@ -204,7 +219,10 @@ fn first_entry<A: Allocator, C: Claims>(point: &Point<'_, A, C>, cells: &WordSet
 }
 
 /// An entry that a word may write, save where it counts the running routine's own.
-fn writes_entry<A: Allocator, C: Claims>(point: &Point<'_, A, C>, word: Word) -> Option<Breach>
+fn writes_entry<A: Allocator, C: Claims>(
+    point: &NarrowedPoint<'_, A, C>,
+    word: Word,
+) -> Option<Breach>
     requires { IsPoint C.claims point.now }
     ensures found { IfSome result (BreaksHere C.claims point.now V14 word) }
     ensures by_word { IfSome result (λ b. is_word_of_lines b ≡ false) }
@@ -221,7 +239,7 @@ fn writes_entry<A: Allocator, C: Claims>(point: &Point<'_, A, C>, word: Word) ->
 
 /// A cell that a word may write and the running routine may not.
 fn writes_unlisted<A: Allocator, C: Claims>(
-    point: &Point<'_, A, C>,
+    point: &NarrowedPoint<'_, A, C>,
     sought: Sought,
     word: Word,
 ) -> Option<Breach>
@@ -242,7 +260,10 @@ fn writes_unlisted<A: Allocator, C: Claims>(
 
 /// A cell that a word may read and that is not on the list of reads, nor the running routine's
 /// entry.
-fn reads_unlisted<A: Allocator, C: Claims>(point: &Point<'_, A, C>, word: Word) -> Option<Breach>
+fn reads_unlisted<A: Allocator, C: Claims>(
+    point: &NarrowedPoint<'_, A, C>,
+    word: Word,
+) -> Option<Breach>
     requires { IsPoint C.claims point.now }
     ensures found { IfSome result (BreaksHere C.claims point.now V15 word) }
     ensures by_word { IfSome result (λ b. is_word_of_lines b ≡ false) }
@@ -263,7 +284,10 @@ fn reads_unlisted<A: Allocator, C: Claims>(point: &Point<'_, A, C>, word: Word) 
 
 /// A subject and a word that it may have where the word is not among those that it is declared to have, whatever word is
 /// executed.
-fn may_differ<A: Allocator, C: Claims>(point: &Point<'_, A, C>, word: Word) -> Option<Breach>
+fn may_differ<A: Allocator, C: Claims>(
+    point: &NarrowedPoint<'_, A, C>,
+    word: Word,
+) -> Option<Breach>
     requires { IsPoint C.claims point.now }
     ensures found { IfSome result (BreaksHere C.claims point.now V16 word) }
     ensures by_word { IfSome result (λ b. is_word_of_lines b ≡ false) }
@@ -279,7 +303,7 @@ fn may_differ<A: Allocator, C: Claims>(point: &Point<'_, A, C>, word: Word) -> O
 
 /// The subject of one assertion and a word that it may have here and is not declared to have.
 fn differs_from<A: Allocator, C: Claims>(
-    point: &Point<'_, A, C>,
+    point: &NarrowedPoint<'_, A, C>,
     holding: &Holding,
 ) -> Option<Breach>
     requires { IsPoint C.claims point.now }

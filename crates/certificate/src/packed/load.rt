@@ -1,7 +1,7 @@
 //! How a packed line is unpacked: what it says of a fact is written into a fact that is lent, and what it says of a
 //! routine is given.
 
-ghost use Rattle.std.specs.Prelude.{◌≡◌, ◌+◌, ◌<◌, ◌≤◌, [], ◌∷◌, ◌++◌, length, map, take, drop, true, false, is_some, IfSome};
+ghost use Rattle.std.specs.Prelude.{◌≡◌, ◌+◌, ◌<◌, ◌≤◌, [], ◌∷◌, ◌++◌, length, map, take, drop, get_or, true, false, is_some, IfSome};
 ghost use Rattle.wordset.specs.Words.{nothing};
 ghost use Rattle.wordset.specs.Links.{links_of};
 ghost use Rattle.domain.specs.Locations.{Ac};
@@ -11,17 +11,20 @@ ghost use Rattle.domain.specs.Offsets.{offsets_in};
 ghost use Rattle.domain.specs.CellsInCode.{cell_sets_of};
 ghost use Rattle.domain.specs.FactInCode.{fact_in_code, names_words};
 ghost use Rattle.certificate.specs.Runs.{set_at, registers_at};
-ghost use Rattle.certificate.specs.Lines.{is_detail, has_details, is_routine};
+ghost use Rattle.certificate.specs.Lines.{End, is_detail, has_details, is_routine};
 ghost use Rattle.certificate.specs.Reading.{fact_said};
-ghost use Rattle.certificate.specs.Packed.{packed_sum_of, said_of, LiesWithin, LieWithin};
+ghost use Rattle.certificate.specs.Packed.{packed_sum_of, said_of, said_lines, LiesWithin, LieWithin};
 ghost use Rattle.certificate.specs.Adding.{Adds, HasRoomFor};
 ghost use Rattle.certificate.specs.Found.{IsSaid, IsRoutineLine};
 
 use crate::RoutineClaim;
 use crate::packed::sum::PackedSum;
-use crate::packed::{CertifiedFact, LentLine, PackedChain, PackedLine};
+use crate::packed::{
+    CertifiedFact, LentLine, PackedChain, PackedLine, PackedLines, runs_from, steps_from,
+};
 use crate::runs::{PackedRegisters, Run, put_runs, set_in};
 use domain::{Chain, ReturnOffsets, Step, Sum};
+use std::alloc::Allocator;
 use word12::Word;
 use wordset::WordSet;
 
@@ -231,27 +234,36 @@ fn chain(steps: &[Step], packed: &PackedChain, fact: &mut CertifiedFact)
     fact.add_chain(&chain);
 }
 
-/// Whether a line is a detail, which the lent fact then says too.
-pub fn add(lent: &LentLine<'_>, fact: &mut CertifiedFact) -> bool
-    requires within { LiesWithin (length lent.now.runs.now) (length lent.now.steps.now) lent.now.line.now }
-    requires room { HasRoomFor fact.old (said_of lent.now) }
-    ensures detail { result ≡ is_detail (said_of lent.now) }
-    ensures says { Adds fact.old fact.new (said_of lent.now) }
-{
-    match lent.line {
-        PackedLine::Cell(cell, count) => {
-            track(lent.runs, *cell, usize::from(*count), fact);
-            true
+impl<A: Allocator> PackedLines<A> {
+    /// Whether the line at a place is a detail, which the lent fact then says too: it is taken up where it is kept.
+    pub fn add_to(&self, at: usize, fact: &mut CertifiedFact) -> bool
+        requires within { at < length (said_lines self.now) }
+        requires room { HasRoomFor fact.old (get_or (said_lines self.now) at End) }
+        ensures detail { result ≡ is_detail (get_or (said_lines self.now) at End) }
+        ensures says { Adds fact.old fact.new (get_or (said_lines self.now) at End) }
+    {
+        let kept = &self.list[at];
+        let first = kept.first as usize;
+        match &kept.line {
+            PackedLine::Cell(cell, count) => {
+                track(
+                    runs_from(&self.runs, first),
+                    *cell,
+                    usize::from(*count),
+                    fact,
+                );
+                true
+            }
+            PackedLine::Sum(sum, count) => {
+                relate(runs_from(&self.runs, first), sum, usize::from(*count), fact);
+                true
+            }
+            PackedLine::Chain(packed) => {
+                chain(steps_from(&self.steps, first), packed, fact);
+                true
+            }
+            _ => false,
         }
-        PackedLine::Sum(sum, count) => {
-            relate(lent.runs, sum, usize::from(*count), fact);
-            true
-        }
-        PackedLine::Chain(packed) => {
-            chain(lent.steps, packed, fact);
-            true
-        }
-        _ => false,
     }
 }
 

@@ -1,5 +1,7 @@
-use Rattle.std.proofs.Common.{◌≡◌, ◌+◌, ◌∙◌, refl, sym, arith}
-use Rattle.certificate.specs.Packed.{said_of, said_lines}
+use Rattle.std.proofs.Common.{◌≡◌, ◌+◌, ◌∙◌, refl, sym, arith, get_or}
+use Rattle.certificate.specs.Lines.{End}
+use Rattle.certificate.specs.Packed.{said_lines}
+use Rattle.certificate.proofs.SumPackedLemmas.{line_at}
 use Rattle.certificate.proofs.SumSkipLemmas.{passed_on, stops_here, ends_here}
 use Rattle.certificate.proofs.lines.behind.Goals as goal
 
@@ -13,8 +15,8 @@ pub loop-at-preserved : goal.loop-at-preserved
 loop-at-preserved g c = record {
   few = omega (arith, c.len-count.ensures, c.loop-at-test.true);
   past = omega (arith, c.loop-at.invariant.past);
-  same = passed_on (said_lines c.args.lines.now) c.loop-at.at (said_of c.line-lent.result) c.line-lent.ensures.there
-      (sym (c.is_detail.ensures c.line-lent.result.runs.now c.line-lent.result.steps.now) ∙ c.if-not-is_detail.false) ∙ c.loop-at.invariant.same;
+  same = passed_on (said_lines c.args.lines.now) c.loop-at.at (get_or (said_lines c.args.lines.now) c.loop-at.at End) (line_at (said_lines c.args.lines.now) c.loop-at.at (omega (arith, c.len-count.ensures, c.loop-at-test.true)))
+      (sym c.is_detail.ensures ∙ c.if-not-is_detail.false) ∙ c.loop-at.invariant.same;
 }
 
 pub returns-then-not-is_detail-clause-after : goal.returns-then-not-is_detail-clause-after
@@ -22,8 +24,8 @@ returns-then-not-is_detail-clause-after g c = λ lt. omega (arith, c.loop-at.inv
 
 pub returns-then-not-is_detail-clause-is : goal.returns-then-not-is_detail-clause-is
 returns-then-not-is_detail-clause-is g c =
-    stops_here (said_lines c.args.lines.now) c.loop-at.at (said_of c.line-lent.result) c.line-lent.ensures.there
-    (sym (c.is_detail.ensures c.line-lent.result.runs.now c.line-lent.result.steps.now) ∙ c.if-not-is_detail.true) ∙ c.loop-at.invariant.same
+    stops_here (said_lines c.args.lines.now) c.loop-at.at (get_or (said_lines c.args.lines.now) c.loop-at.at End) (line_at (said_lines c.args.lines.now) c.loop-at.at (omega (arith, c.len-count.ensures, c.loop-at-test.true)))
+    (sym c.is_detail.ensures ∙ c.if-not-is_detail.true) ∙ c.loop-at.invariant.same
 
 pub returns-clause-is : goal.returns-clause-is
 returns-clause-is g c =

@@ -1,5 +1,7 @@
-use Rattle.std.proofs.Common.{◌≡◌, ◌∙◌, refl, sym, arith}
-use Rattle.certificate.specs.Packed.{said_of, said_lines}
+use Rattle.std.proofs.Common.{◌≡◌, ◌∙◌, refl, sym, arith, get_or}
+use Rattle.certificate.specs.Lines.{End}
+use Rattle.certificate.specs.Packed.{said_lines}
+use Rattle.certificate.proofs.SumPackedLemmas.{line_at}
 use Rattle.certificate.proofs.SumDetailLemmas.{detail_passed, other_line, no_line, first_ended, none_first}
 use Rattle.certificate.proofs.lines.end_of.Goals as goal
 
@@ -12,15 +14,15 @@ loop-at-init g c = record { few = omega (arith, c.len-count.ensures); ends = ref
 pub loop-at-preserved : goal.loop-at-preserved
 loop-at-preserved g c = record {
   few = omega (arith, c.len-count.ensures, c.loop-at-test.true);
-  ends = detail_passed (said_lines c.args.lines.now) c.loop-at.at (said_of c.line-lent.result) c.line-lent.ensures.there
-      (sym (c.is_detail.ensures c.line-lent.result.runs.now c.line-lent.result.steps.now) ∙ c.if-not-is_detail.false) ∙ c.loop-at.invariant.ends;
+  ends = detail_passed (said_lines c.args.lines.now) c.loop-at.at (get_or (said_lines c.args.lines.now) c.loop-at.at End) (line_at (said_lines c.args.lines.now) c.loop-at.at (omega (arith, c.len-count.ensures, c.loop-at-test.true)))
+      (sym c.is_detail.ensures ∙ c.if-not-is_detail.false) ∙ c.loop-at.invariant.ends;
 }
 
 pub returns-then-not-is_detail-clause-is : goal.returns-then-not-is_detail-clause-is
 returns-then-not-is_detail-clause-is g c =
     first_ended (said_lines c.args.lines.now) c.args.start c.loop-at.at (omega (arith, c.len-count.ensures, c.if-start-count.false))
-    (sym (other_line (said_lines c.args.lines.now) c.loop-at.at (said_of c.line-lent.result) c.line-lent.ensures.there
-    (sym (c.is_detail.ensures c.line-lent.result.runs.now c.line-lent.result.steps.now) ∙ c.if-not-is_detail.true)) ∙ c.loop-at.invariant.ends)
+    (sym (other_line (said_lines c.args.lines.now) c.loop-at.at (get_or (said_lines c.args.lines.now) c.loop-at.at End) (line_at (said_lines c.args.lines.now) c.loop-at.at (omega (arith, c.len-count.ensures, c.loop-at-test.true)))
+    (sym c.is_detail.ensures ∙ c.if-not-is_detail.true)) ∙ c.loop-at.invariant.ends)
 
 pub returns-clause-is : goal.returns-clause-is
 returns-clause-is g c =

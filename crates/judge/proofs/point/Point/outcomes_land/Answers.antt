@@ -3,12 +3,16 @@ use Rattle.facts.specs.Outcomes.{Successor}
 use Rattle.facts.specs.Operations.{outcomes_of}
 use Rattle.facts.specs.PlaceInCode.{place_in_code, meaning_in}
 use Rattle.judge.specs.Landing.{EachSuccessor, SuccessorLands}
-use Rattle.std.proofs.Common.{sym, ◌∙◌, subst}
+use Rattle.std.proofs.Common.{sym, ◌∙◌, subst, arith}
 use Rattle.instruct.specs.Instructions.{meaning_of}
 use Rattle.judge.specs.Points.{case_of, fact_asked}
 use Rattle.judge.specs.Jumps.{MayAbandon}
 use Rattle.judge.proofs.PointLemmas.{meant, calls_land, told_of, each_same, stays_lands, jumps_land}
 use Rattle.judge.proofs.point.Point.outcomes_land.Goals as goal
+
+pub put_outcomes-requires : goal.put_outcomes-requires
+put_outcomes-requires g c =
+    (omega (arith, c.requires.cells, c.requires.relations), (c.requires.roomy.cells, (c.requires.roomy.relations, (c.requires.roomy.chains, (c.requires.roomy.terms, c.requires.roomy.short)))))
 
 pub returns-then-is_call : goal.returns-then-is_call
 returns-then-is_call g c =

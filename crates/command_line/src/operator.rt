@@ -313,7 +313,7 @@ pub fn teletype_of<'a>(
     let reader = found.get_str("reader");
     read_standard_input_once(&[tape.unwrap_or(""), reader.unwrap_or(""), "-"])?;
     let punch = punch_of(found, &[tape.unwrap_or("-"), reader.unwrap_or("-")])?;
-let options = teletype_options(found, tape, places)?;
+    let options = teletype_options(found, tape, places)?;
     let stopping = stopping_on(tape, places)?;
     let interrupt = interrupt_of(found, options.manner.raw)?;
     Ok(TeletypeSession {

@@ -11,6 +11,7 @@ Without names all comparisons are made. The exit status is 1 if anything differs
 import argparse
 import os
 import re
+import resource
 import shutil
 import subprocess
 import sys
@@ -21,6 +22,10 @@ TOP = Path(__file__).resolve().parent.parent
 SPEED = TOP / 'crates' / 'speed' / 'out' / 'speed'
 # The crates over which tests/facts/cases.rattle is built.
 FACTS = 'word12 instruct wordset processor streams bin_tape peripherals declaration policy domain facts testing'.split()
+
+
+# The stack of a program that is built with checks, in bytes: each of its frames is larger than in a proved program.
+CHECKED_STACK = 128 << 20
 
 
 class Missing(Exception):
@@ -54,6 +59,12 @@ def call(*words, **how):
 def worker(script, *words):
     """Runs a script of tests/; whether it finds no difference."""
     return call(sys.executable, TOP / 'tests' / script, *words)
+
+
+def allow_checked_stack():
+    """Raises the limit on the stack of a process that runs a program built with checks."""
+    most = resource.getrlimit(resource.RLIMIT_STACK)[1]
+    resource.setrlimit(resource.RLIMIT_STACK, (CHECKED_STACK if most == resource.RLIM_INFINITY else min(CHECKED_STACK, most), most))
 
 
 def write_fullest_tape(file):
@@ -90,7 +101,8 @@ def compare_facts(asked, folder):
     if not worker('facts.py', 'make', cases, count, asked.seed):
         return False
     with open(folder / 'printed', 'wb') as printed:
-        ran = subprocess.run(['rt', 'try', '--seconds', '600', '--cases', cases], cwd=home, stdout=printed, stderr=subprocess.PIPE, check=False)
+        ran = subprocess.run(['rt', 'try', '--seconds', '600', '--cases', cases], cwd=home, stdout=printed, stderr=subprocess.PIPE, check=False,
+                             preexec_fn=allow_checked_stack)
     if ran.returncode:
         sys.stderr.buffer.write(ran.stderr)
         return False
